@@ -1,0 +1,159 @@
+-- The key and the base64 of a line that holds a key.
+use Rattle.std.proofs.Common.{◌≡◌, ◌≢◌, ℕ, zero, suc, ◌+◌, ◌*◌, ◌/◌, ◌%◌, Bool, true, false, not, ◌==◌, inl, inr, List, [], ◌∷◌, ◌++◌, length, replicate, slice_index, bytes_eq, Ok, refl, sym, ap, ◌∙◌, append_assoc, append-nil}
+use Rattle.std.specs.List.{list_all}
+use Rattle.std.proofs.lemmas.Bool.{cases_Bool, and_parts, and_from}
+use Rattle.base64.specs.GeneralPurpose.{IsBytes}
+use Rattle.base64.specs.Rfc4648.{encode_symbols, padding_len}
+use Rattle.base64.specs.Engines.{standard}
+use Rattle.ssh_keys.specs.declared.kind.KeyKind.{KeyKind}
+use Rattle.ssh_keys.specs.declared.kind.KeyKind.TheVariants.{Rsa, P256, P384, P521, Ed25519, SkP256, SkEd25519}
+use Rattle.ssh_keys.specs.Names.{name_of}
+use Rattle.ssh_keys.specs.PublicKey.{PublicKey}
+use Rattle.ssh_keys.specs.KeyReading.{key_in, blob_at}
+use Rattle.ssh_wire.specs.Reading.{string_at}
+use Rattle.ssh_audit.specs.KeyLine.{is_blank, AreBlanks, begins_with_blank, base64, without_cr}
+use Rattle.ssh_audit.proofs.TextLemmas.{HasNoBlank, ends_word, without_cr-behind}
+
+abbrev pub is_empty : List ℕ → Bool
+is_empty [] = true
+is_empty (c ∷ cs) = false
+
+-- ---- base64 has no blanks
+
+pub index-passes : (test : ℕ → Bool) (xs : List ℕ) (i : ℕ) → test 0 ≡ true → list_all test xs ≡ true → test (slice_index xs i) ≡ true
+index-passes test [] i z h = z
+index-passes test (x ∷ xs) zero z h = (and_parts (test x) (list_all test xs) h).0
+index-passes test (x ∷ xs) (suc i) z h = index-passes test xs i z (and_parts (test x) (list_all test xs) h).1
+
+abbrev pub is_no_blank : ℕ → Bool
+is_no_blank c = not (is_blank c)
+
+no_blank-from_test : (c : ℕ) → is_no_blank c ≡ true → is_blank c ≡ false
+no_blank-from_test c h = elim (cases_Bool (is_blank c)) [ inl e ↦ let f : false ≡ true = rw e at h in cc | inr e ↦ e ]
+
+pub HasNoBlank-from_test : (xs : List ℕ) → list_all is_no_blank xs ≡ true → HasNoBlank xs
+HasNoBlank-from_test [] h = tt
+HasNoBlank-from_test (c ∷ cs) h =
+    let parts = and_parts (is_no_blank c) (list_all is_no_blank cs) h in
+    (no_blank-from_test c parts.0, HasNoBlank-from_test cs parts.1)
+
+pub HasNoBlank-append : (a b : List ℕ) → HasNoBlank a → HasNoBlank b → HasNoBlank (a ++ b)
+HasNoBlank-append [] b h k = k
+HasNoBlank-append (c ∷ a) b h k = (h.0, HasNoBlank-append a b h.1 k)
+
+HasNoBlank-replicate : (n : ℕ) → HasNoBlank (replicate n 61)
+HasNoBlank-replicate zero = tt
+HasNoBlank-replicate (suc n) = (refl, HasNoBlank-replicate n)
+
+symbol : (i : ℕ) → is_blank (slice_index standard.encode_table i) ≡ false
+symbol i = no_blank-from_test (slice_index standard.encode_table i) (index-passes is_no_blank standard.encode_table i refl refl)
+
+symbols : (m : List ℕ) → HasNoBlank (encode_symbols standard.encode_table m)
+unfolding encode_symbols
+symbols [] = tt
+symbols (a ∷ []) = (symbol (a / 4), (symbol (a % 4 * 16), tt))
+symbols (a ∷ b ∷ []) = (symbol (a / 4), (symbol (a % 4 * 16 + b / 16), (symbol (b % 16 * 4), tt)))
+symbols (a ∷ b ∷ c ∷ rest) =
+    (symbol (a / 4), (symbol (a % 4 * 16 + b / 16), (symbol (b % 16 * 4 + c / 64), (symbol (c % 64), symbols rest))))
+
+pub base64-no_blank : (m : List ℕ) → HasNoBlank (base64 m)
+base64-no_blank m = HasNoBlank-append (encode_symbols standard.encode_table m) (replicate (padding_len (length m)) 61) (symbols m) (HasNoBlank-replicate (padding_len (length m)))
+
+-- ---- names
+
+pub name-no_blank : (kind : KeyKind) → HasNoBlank (name_of kind)
+name-no_blank Rsa = HasNoBlank-from_test (name_of Rsa) refl
+name-no_blank P256 = HasNoBlank-from_test (name_of P256) refl
+name-no_blank P384 = HasNoBlank-from_test (name_of P384) refl
+name-no_blank P521 = HasNoBlank-from_test (name_of P521) refl
+name-no_blank Ed25519 = HasNoBlank-from_test (name_of Ed25519) refl
+name-no_blank SkP256 = HasNoBlank-from_test (name_of SkP256) refl
+name-no_blank SkEd25519 = HasNoBlank-from_test (name_of SkEd25519) refl
+
+pub name-some : (kind : KeyKind) → is_empty (name_of kind) ≡ false
+name-some Rsa = refl
+name-some P256 = refl
+name-some P384 = refl
+name-some P521 = refl
+name-some Ed25519 = refl
+name-some SkP256 = refl
+name-some SkEd25519 = refl
+
+pub name-same : (kind : KeyKind) → bytes_eq (name_of kind) (name_of kind) ≡ true
+name-same Rsa = refl
+name-same P256 = refl
+name-same P384 = refl
+name-same P521 = refl
+name-same Ed25519 = refl
+name-same SkP256 = refl
+name-same SkEd25519 = refl
+
+-- ---- the key part
+
+-- no blob is empty
+pub spelling-some : (key : PublicKey) (blob : List ℕ) → key_in blob ≡ Ok key → is_empty blob ≡ false
+unfolding key_in blob_at string_at
+spelling-some key [] h = cc
+spelling-some key (b ∷ bs) h = refl
+
+pub base64-some : (m : List ℕ) → is_empty m ≡ false → is_empty (base64 m) ≡ false
+unfolding encode_symbols
+base64-some [] h = h
+base64-some (a ∷ []) h = refl
+base64-some (a ∷ b ∷ []) h = refl
+base64-some (a ∷ b ∷ c ∷ rest) h = refl
+
+pub begins-word : (word rest : List ℕ) → is_empty word ≡ false → HasNoBlank word → begins_with_blank (word ++ rest) ≡ false
+begins-word [] rest e h = cc
+begins-word (c ∷ word) rest e h = h.0
+
+pub ends-gap : (gap rest : List ℕ) → gap ≢ [] → AreBlanks gap → ends_word (gap ++ rest) ≡ true
+ends-gap [] rest e h = absurd (e refl)
+ends-gap (c ∷ gap) rest e h = h.0
+
+-- ---- base64 has no CR
+
+pub list_all-append : (test : ℕ → Bool) (a b : List ℕ) → list_all test a ≡ true → list_all test b ≡ true → list_all test (a ++ b) ≡ true
+list_all-append test [] b h k = k
+list_all-append test (c ∷ a) b h k =
+    let parts = and_parts (test c) (list_all test a) h in
+    and_from (test c) (list_all test (a ++ b)) parts.0 (list_all-append test a b parts.1 k)
+
+pub replicate-passes : (test : ℕ → Bool) (n : ℕ) → test 61 ≡ true → list_all test (replicate n 61) ≡ true
+replicate-passes test zero p = refl
+replicate-passes test (suc n) p = and_from (test 61) (list_all test (replicate n 61)) p (replicate-passes test n p)
+
+abbrev pub is_no_cr : ℕ → Bool
+is_no_cr c = not (c == 13)
+
+no_cr-symbol : (i : ℕ) → is_no_cr (slice_index standard.encode_table i) ≡ true
+no_cr-symbol i = index-passes is_no_cr standard.encode_table i refl refl
+
+no_cr-symbols : (m : List ℕ) → list_all is_no_cr (encode_symbols standard.encode_table m) ≡ true
+unfolding encode_symbols
+no_cr-symbols [] = refl
+no_cr-symbols (a ∷ []) = rw (no_cr-symbol (a / 4), no_cr-symbol (a % 4 * 16)) refl
+no_cr-symbols (a ∷ b ∷ []) = rw (no_cr-symbol (a / 4), no_cr-symbol (a % 4 * 16 + b / 16), no_cr-symbol (b % 16 * 4)) refl
+no_cr-symbols (a ∷ b ∷ c ∷ rest) =
+    rw (no_cr-symbol (a / 4), no_cr-symbol (a % 4 * 16 + b / 16), no_cr-symbol (b % 16 * 4 + c / 64), no_cr-symbol (c % 64)) (no_cr-symbols rest)
+
+pub base64-no_cr : (m : List ℕ) → list_all is_no_cr (base64 m) ≡ true
+base64-no_cr m =
+    list_all-append is_no_cr (encode_symbols standard.encode_table m) (replicate (padding_len (length m)) 61) (no_cr-symbols m)
+    (replicate-passes is_no_cr (padding_len (length m)) refl)
+
+without_cr-none : (text : List ℕ) → list_all is_no_cr text ≡ true → without_cr text ≡ text
+without_cr-none [] h = refl
+without_cr-none (c ∷ []) h =
+    elim (cases_Bool (c == 13)) [ inl e ↦ let f : false ≡ true = rw e at h in cc | inr e ↦ rw e refl ]
+without_cr-none (c ∷ d ∷ cs) h = ap (λ s. c ∷ s) (without_cr-none (d ∷ cs) (and_parts (is_no_cr c) (list_all is_no_cr (d ∷ cs)) h).1)
+
+-- a CR at the end of a line stands behind its base64 field
+pub without_cr-at : (front field tail : List ℕ) → is_empty field ≡ false → list_all is_no_cr field ≡ true
+    → without_cr (front ++ (field ++ tail)) ≡ front ++ (field ++ without_cr tail)
+without_cr-at front [] tail s h = cc
+without_cr-at front (c ∷ cs) [] s h =
+    ap (λ t. without_cr (front ++ t)) (append-nil (c ∷ cs)) ∙ without_cr-behind front c cs
+    ∙ ap (λ t. front ++ t) (without_cr-none (c ∷ cs) h ∙ sym (append-nil (c ∷ cs)))
+without_cr-at front (c ∷ cs) (x ∷ xs) s h =
+    without_cr-behind front c (cs ++ x ∷ xs) ∙ ap (λ t. front ++ t) (without_cr-behind (c ∷ cs) x xs)

@@ -1,0 +1,10 @@
+mod LineLemmas
+mod WordLemmas
+mod CandidateLemmas
+mod DecodedBytes
+mod KeyNames
+mod TextLemmas
+mod KeyLemmas
+mod KeyLineLemmas
+mod VouchingLemmas
+mod MeaningLemmas

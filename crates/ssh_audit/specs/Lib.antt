@@ -1,0 +1,10 @@
+pub mod Query
+pub mod FileLines
+pub mod KeyLine
+pub mod Offer
+pub mod Vouching
+pub mod Decision
+pub mod Answer
+pub mod Findings
+pub mod Claim
+pub mod Candidate
