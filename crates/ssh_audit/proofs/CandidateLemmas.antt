@@ -1,5 +1,5 @@
 -- The scan for a candidate, line by line.
-use Rattle.std.proofs.Common.{◌≡◌, ℕ, zero, suc, ◌+◌, ◌≤◌, ◌<◌, Bool, true, false, cond, ltb, List, [], ◌∷◌, ◌++◌, length, take, map, Option, Some, None, refl, sym, ap, ◌∙◌, arith}
+use Rattle.std.proofs.Common.{◌≡◌, ℕ, suc, ◌+◌, ◌≤◌, Bool, true, false, cond, ltb, List, [], ◌∷◌, ◌++◌, length, take, map, Option, Some, None, refl, sym, ap, ◌∙◌, arith}
 use Rattle.std.specs.List.{position_from, position_or_len}
 use Rattle.std.specs.Str.{bytes_eq}
 use Rattle.std.proofs.lemmas.Bool.{ltb-true, ltb-false}
@@ -13,7 +13,7 @@ use Rattle.ssh_audit.specs.declared.key_line.Finding.TheVariants as finding
 use Rattle.ssh_audit.specs.FileLines.{lines_of}
 use Rattle.ssh_audit.specs.KeyLine.{Said, silent, holds, broken, line_said}
 use Rattle.ssh_audit.specs.Findings.{finding_of}
-use Rattle.ssh_audit.specs.Decision.{has_key, reasons_from, said}
+use Rattle.ssh_audit.specs.Decision.{has_key, reasons_from}
 use Rattle.ssh_audit.specs.Candidate.{is_hold, noted, scan_of}
 
 -- ---- one line

@@ -18,10 +18,10 @@ use Rattle.ssh_keys.specs.PublicKey.{PublicKey, kind_of, key_blob, IsKey, IsKeyB
 use Rattle.ssh_keys.specs.KeyReading.{key_in}
 use Rattle.ssh_keys.specs.KeyLaws.{key_takes, key_again}
 use Rattle.ssh_audit.specs.declared.error.LineCause.TheVariants.{TypeMismatch, TooLong}
-use Rattle.ssh_audit.specs.KeyLine.{line_limit, is_blank, AreBlanks, begins_with_blank, base64, IsTail, SpellsKey, Said, silent, holds, broken, without_cr, skip_blanks, first_word, after_word, next_word, said_by_key, said_by_blob, said_by_class, said_by_field, said_by_fields, said_by_text, line_said}
+use Rattle.ssh_audit.specs.KeyLine.{line_limit, AreBlanks, begins_with_blank, base64, IsTail, SpellsKey, Said, silent, holds, broken, without_cr, skip_blanks, first_word, after_word, next_word, said_by_key, said_by_blob, said_by_class, said_by_field, said_by_fields, said_by_text, line_said}
 use Rattle.ssh_audit.proofs.DecodedBytes.{decoded-bytes}
 use Rattle.ssh_audit.proofs.KeyNames.{class-of_name}
-use Rattle.ssh_audit.proofs.TextLemmas.{HasNoBlank, ends_word, skip_blanks-behind, skip_blanks-at_word, first_word-at, after_word-at, Skipped, skipped, skip_blanks-begins, word-cut, after_word-ends, IsCr, CrCut, cr_cut, AreBytes, IsBytes-from_all, AreBytes-front, AreBytes-back}
+use Rattle.ssh_audit.proofs.TextLemmas.{ends_word, skip_blanks-behind, skip_blanks-at_word, first_word-at, after_word-at, skipped, skip_blanks-begins, word-cut, after_word-ends, IsCr, cr_cut, AreBytes, IsBytes-from_all, AreBytes-front, AreBytes-back}
 use Rattle.ssh_audit.proofs.KeyLemmas.{is_empty, name-no_blank, name-same, base64-no_blank, base64-some, base64-no_cr, spelling-some, begins-word, ends-gap, without_cr-at}
 
 -- ======== a line that spells a key says it

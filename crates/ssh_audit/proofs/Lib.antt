@@ -8,3 +8,13 @@ mod KeyLemmas
 mod KeyLineLemmas
 mod VouchingLemmas
 mod MeaningLemmas
+mod PlainCommand
+mod WrittenText
+mod Reading
+mod PartReading
+mod ValueLemmas
+mod PieceLemmas
+mod VouchedLemmas
+mod LineReading
+mod CommandLineLemmas
+mod ResponseLemmas

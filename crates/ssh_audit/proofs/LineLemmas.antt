@@ -2,7 +2,7 @@
 use Rattle.std.proofs.Common.{◌≡◌, ◌≢◌, ℕ, suc, ◌+◌, ◌<◌, ◌≤◌, Bool, true, false, ◌==◌, if◌then◌else◌, inl, inr, List, [], ◌∷◌, ◌++◌, length, take, drop, refl, sym, ap, ◌∙◌, arith}
 use Rattle.std.specs.List.{onto_first, position_or_len, AllByRecursion}
 use Rattle.std.proofs.lemmas.Bool.{cases_Bool, eqb-true, eqb-false, ne_eqb}
-use Rattle.ssh_audit.specs.FileLines.{is_lf, lines_of, AreLines, IsLineAt}
+use Rattle.ssh_audit.specs.FileLines.{is_lf, lines_of, AreLines}
 
 abbrev HasNoNewline : List ℕ → Type 0
 HasNoNewline line = AllByRecursion (λ c. c ≢ 10) line

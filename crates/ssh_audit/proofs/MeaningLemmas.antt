@@ -1,23 +1,19 @@
 -- A decision means what is said of granted and denied logins.
-use Rattle.std.proofs.Common.{◌≡◌, ◌∙◌, ◌+◌, ◌-◌, ◌≤◌, ◌<◌, ◌⊎◌, cond, ℕ, zero, suc, Bool, true, false, List, [], ◌∷◌, ◌++◌, length, map, Option, Some, None, Result, Ok, Err, ap, subst, sym, refl, inl, inr, arith, nat_lt}
-use Rattle.std.specs.Prelude.{slice_get, option_map, unwrap_or}
-use Rattle.std.specs.List.{position_from, AllByRecursion}
-use Rattle.std.specs.Str.{bytes_eq}
-use Rattle.std.proofs.lemmas.Bool.{cases_Bool}
+use Rattle.std.proofs.Common.{◌≡◌, ◌∙◌, ◌+◌, ◌-◌, ◌<◌, cond, ℕ, zero, suc, Bool, true, false, List, [], ◌∷◌, length, map, Option, Some, None, Result, Ok, Err, ap, subst, sym, refl, inl, inr, arith, nat_lt}
+use Rattle.std.specs.Prelude.{slice_get}
+use Rattle.std.specs.List.{position_from}
 use Rattle.std.proofs.lemmas.Slice.Eq.{bytes_eq-Decides}
 use Rattle.ssh_keys.specs.PublicKey.{PublicKey, key_blob, IsKey}
 use Rattle.ssh_keys.specs.KeyReading.{key_in}
 use Rattle.ssh_keys.specs.KeyLaws.{key_again}
-use Rattle.ssh_audit.specs.declared.decision.Cause.TheVariants.{NoLine, TouchMissing, NotVouched}
 use Rattle.ssh_audit.specs.declared.decision.Decision.{Decision}
-use Rattle.ssh_audit.specs.declared.decision.Reason.{Reason}
 use Rattle.ssh_audit.specs.declared.error.AuditError.TheVariants.{FileTooLong}
 use Rattle.ssh_audit.specs.declared.query.Signed.{Signed}
 use Rattle.ssh_audit.specs.FileLines.{AreLines, IsLineAt, lines_of}
 use Rattle.ssh_audit.specs.KeyLine.{SpellsKey, Said, silent, holds, broken, line_said}
 use Rattle.ssh_audit.specs.Offer.{LoginClaim, login_evidence}
-use Rattle.ssh_audit.specs.Vouching.{AllVouched, first_unvouched}
-use Rattle.ssh_audit.specs.Decision.{IsCandidate, IsGrant, LoginMeans, all_rights, candidate_of, decided, has_key, is_touched, login_cause, login_decision, reasons_of, said, vouching_cause}
+use Rattle.ssh_audit.specs.Vouching.{first_unvouched}
+use Rattle.ssh_audit.specs.Decision.{IsCandidate, LoginMeans, candidate_of, decided, has_key, is_touched, login_cause, login_decision, reasons_of, said}
 use Rattle.ssh_audit.specs.declared.error.AuditError.{AuditError}
 use Rattle.ssh_audit.specs.Answer.{OfClaim, login_answer, file_limit}
 use Rattle.ssh_audit.proofs.LineLemmas.{lines_of-are, lines_of-only}

@@ -1,8 +1,8 @@
 -- All evidence is vouched for exactly where no index lacks it.
-use Rattle.std.proofs.Common.{◌≡◌, ◌∙◌, ◌+◌, ◌&&◌, ◌||◌, ◌≤◌, ◌<◌, not, nat_lt, cond, ℕ, suc, Bool, true, false, List, [], ◌∷◌, length, Option, Some, None, ap, sym, refl, arith, inl, inr}
-use Rattle.std.specs.List.{list_any, position, position_or_len, prefix_len}
+use Rattle.std.proofs.Common.{◌≡◌, ◌∙◌, ◌+◌, ◌&&◌, ◌||◌, ◌≤◌, not, cond, ℕ, suc, Bool, true, false, List, [], ◌∷◌, length, Some, None, ap, refl, arith, inl, inr}
+use Rattle.std.specs.List.{position_or_len}
 use Rattle.std.specs.Str.{bytes_eq}
-use Rattle.std.proofs.lemmas.Bool.{cases_Bool, ltb-true, ltb-false, le-ltb}
+use Rattle.std.proofs.lemmas.Bool.{cases_Bool, ltb-false, le-ltb}
 use Rattle.std.proofs.lemmas.Slice.Eq.{bytes_eq-Decides}
 use Rattle.ssh_audit.specs.declared.query.Signed.{Signed}
 use Rattle.ssh_audit.specs.Vouching.{Has, AllVouched, is_same, is_vouched, first_unvouched}

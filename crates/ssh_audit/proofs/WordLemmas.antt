@@ -1,5 +1,5 @@
 -- Words and blanks at the front of a text, by where the first element is that passes a test.
-use Rattle.std.proofs.Common.{◌≡◌, ℕ, zero, suc, slice_index, eq-eqb, [], ◌∷◌, ◌+◌, ◌-◌, ◌≤◌, ◌<◌, ◌==◌, Bool, true, false, cond, ltb, List, length, take, drop, Option, Some, None, refl, sym, ap, ◌∙◌, arith, not, rules, inl, inr}
+use Rattle.std.proofs.Common.{◌≡◌, ℕ, zero, suc, slice_index, eq-eqb, [], ◌∷◌, ◌+◌, ◌-◌, ◌≤◌, ◌<◌, Bool, true, false, cond, ltb, List, length, take, drop, Option, Some, None, refl, ap, ◌∙◌, arith, not, inl, inr}
 use Rattle.std.specs.Prelude.{unwrap_or}
 use Rattle.std.specs.List.{position, position_or_len, prefix_len}
 use Rattle.std.proofs.lemmas.Bool.{ltb-false, cases_Bool, ne_eqb}

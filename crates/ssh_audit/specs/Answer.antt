@@ -1,5 +1,5 @@
 -- What a login is answered, refusals and want of memory included.
-use Rattle.std.specs.Prelude.{◌≡◌, ◌<◌, ◌≤◌, ℕ, nat_lt, List, length, Result, Ok, Err, if◌then◌else◌, ⊤}
+use Rattle.std.specs.Prelude.{◌≡◌, ℕ, nat_lt, List, length, Result, Ok, Err, if◌then◌else◌, ⊤}
 use Rattle.ssh_audit.specs.declared.decision.Decision.{Decision}
 use Rattle.ssh_audit.specs.declared.error.AuditError.{AuditError}
 use Rattle.ssh_audit.specs.declared.error.AuditError.TheVariants.{FileTooLong, Memory}

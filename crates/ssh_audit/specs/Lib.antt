@@ -8,3 +8,17 @@ pub mod Answer
 pub mod Findings
 pub mod Claim
 pub mod Candidate
+pub mod Shelf
+pub mod Parts
+pub mod Values
+pub mod Texts
+pub mod Tallying
+pub mod Writing
+pub mod Responses
+pub mod Vouched
+pub mod CommandLine
+pub mod Requests
+pub mod Printing
+pub mod Loading
+pub mod Parsing
+pub mod LoginValues

@@ -1,5 +1,5 @@
 -- What is offered for a login, the tests of an offer before any line is read, and what has to be vouched for.
-use Rattle.std.specs.Prelude.{◌≡◌, ℕ, Bool, true, false, ◌||◌, List, [], ◌∷◌, ◌++◌, codes, Option, Some, None, Result, Ok, Err, if◌then◌else◌}
+use Rattle.std.specs.Prelude.{ℕ, Bool, true, false, ◌||◌, List, [], ◌∷◌, ◌++◌, codes, Result, Ok, Err, if◌then◌else◌}
 use Rattle.std.specs.Str.{bytes_eq}
 use Rattle.ssh_wire.specs.Spelling.{string}
 use Rattle.ssh_wire.specs.Reading.{◌>>=◌}

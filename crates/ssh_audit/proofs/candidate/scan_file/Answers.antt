@@ -1,6 +1,5 @@
-use Rattle.std.proofs.Common.{◌≡◌, ◌∙◌, ◌+◌, ◌<◌, [], ◌∷◌, length, true, false, sym, ap, arith}
+use Rattle.std.proofs.Common.{◌∙◌, length, sym, ap, arith}
 use Rattle.ssh_audit.specs.FileLines.{lines_of}
-use Rattle.ssh_audit.specs.Candidate.{is_hold, noted, scan_of}
 use Rattle.ssh_audit.proofs.LineLemmas.{length-lines_of}
 use Rattle.ssh_audit.proofs.CandidateLemmas.{scan_found, scan_goes_on, scan_ended, scanned-scan_of}
 use Rattle.ssh_audit.proofs.candidate.scan_file.Goals as goal

@@ -1,0 +1,69 @@
+-- The command line, as `clap` reads it.
+use Rattle.std.specs.Prelude.{Bool, true, false, List, [], ◌∷◌, Option, Some, None, codes, fold, option_and_then, option_map, if◌then◌else◌}
+use Rattle.std.specs.Str.{bytes_eq}
+use Rattle.clap.specs.Words.{App, Row, Rule, Text, first_of, new_app, new_rule, subcommand_of, with_rule, with_subcommand}
+use Rattle.clap.specs.Faults.{fault_of}
+use Rattle.clap.specs.declared.error.ErrorKind.{ErrorKind}
+use Rattle.clap.specs.Simple.{on_top}
+
+-- an option with a value, `--name value`, which may be required
+abbrev pub option_rule : Text × Bool → Rule
+option_rule o = record (new_rule o.0) { long = Some o.0; required = o.1 }
+
+-- a command of these options
+abbrev pub with_options : App → List (Text × Bool) → App
+with_options = fold (λ a o. with_rule a (option_rule o))
+
+abbrev pub login_options : List (Text × Bool)
+login_options = (codes "file", true) ∷ (codes "offer", true) ∷ (codes "signature", true) ∷ (codes "algorithm", true) ∷ (codes "session", true)
+    ∷ (codes "user", true) ∷ (codes "address", true) ∷ (codes "now", true) ∷ (codes "vouch", false) ∷ []
+
+unfoldable pub login_app : App
+login_app = with_options (new_app (codes "login")) login_options
+
+-- the program's command line: the words begin with a subcommand, which has to be there
+abbrev pub command_line : App
+command_line = on_top (λ s. record s { no_binary_name = true; subcommand_required = true }) (with_subcommand (new_app (codes "ssh_audit")) login_app.top)
+
+-- the texts of the options of `login`
+pub record LoginWords : Type 0 where
+  pub file : Text
+  pub offer : Text
+  pub signature : Text
+  pub algorithm : Text
+  pub session : Text
+  pub user : Text
+  pub address : Text
+  pub now : Text
+  pub vouch : Option Text
+
+-- what the words may ask for
+pub data Request : Type 0 where
+  login : LoginWords → Request
+
+infixl 10 ◌>>=◌
+abbrev pub ◌>>=◌ : {A B : Type 0} → Option A → (A → Option B) → Option B
+o >>= f = option_and_then f o
+
+unfoldable pub login_words : List Row → Option LoginWords
+login_words rows = do
+  file ← first_of (codes "file") rows
+  offer ← first_of (codes "offer") rows
+  signature ← first_of (codes "signature") rows
+  algorithm ← first_of (codes "algorithm") rows
+  session ← first_of (codes "session") rows
+  user ← first_of (codes "user") rows
+  address ← first_of (codes "address") rows
+  now ← first_of (codes "now") rows
+  Some (record { file = file; offer = offer; signature = signature; algorithm = algorithm; session = session; user = user; address = address; now = now; vouch = first_of (codes "vouch") rows })
+
+abbrev pub request_in : Text × List Row → Option Request
+request_in p = if bytes_eq p.0 (codes "login") then option_map (λ w. login w) (login_words p.1) else None
+
+-- what the words ask for, where they have no fault: the values that the command line gives to the options
+abbrev pub spelled : List Text → List ErrorKind → Option Request
+spelled words [] = option_and_then request_in (subcommand_of command_line words)
+spelled words (k ∷ ks) = None
+
+abbrev pub request_of : List Text → Option Request
+request_of words = spelled words (fault_of command_line words)

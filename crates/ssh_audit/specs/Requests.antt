@@ -1,0 +1,138 @@
+-- What is answered to words, over the files of a source.
+use Rattle.std.specs.Prelude.{◌≡◌, ◌⊎◌, ◌<◌, ◌^◌, ℕ, List, [], ◌∷◌, Option, Some, None, Result, Ok, Err, codes, length, nat_lt, option_and_then, if◌then◌else◌}
+use Rattle.base64.specs.Engines.{standard}
+use Rattle.base64.specs.GeneralPurpose.{decoded_of}
+use Rattle.ssh_wire.specs.Reading.{◌>>=◌}
+use Rattle.ssh_audit.specs.declared.decision.Decision.{Decision}
+use Rattle.ssh_audit.specs.declared.error.AuditError.{AuditError}
+use Rattle.ssh_audit.specs.declared.error.AuditError.TheVariants.{Read}
+use Rattle.ssh_audit.specs.declared.query.Signed.{Signed}
+use Rattle.ssh_audit.specs.Query.{Login}
+use Rattle.ssh_audit.specs.Offer.{LoginClaim, login_claim}
+use Rattle.ssh_audit.specs.Answer.{file_limit, login_answer}
+use Rattle.ssh_audit.specs.CommandLine.{LoginWords, Request, login, request_of}
+use Rattle.ssh_audit.specs.Shelf.{Shelf, bytes_at}
+use Rattle.ssh_audit.specs.Parts.{part_at, after_part, first_line, after_line}
+use Rattle.ssh_audit.specs.Values.{hex_bytes, number_below, vouched_of, words_in}
+use Rattle.ssh_audit.specs.Texts.{Response, decision_response, no_file_response, out_of_memory, refused_response, usage_response, value_response, vouch_response}
+
+-- ---- values
+
+-- a value that was spelled, or the answer that the option of this name has none
+abbrev pub or_value_fault : {A : Type 0} → List ℕ → Option A → Result A Response
+or_value_fault name (Some x) = Ok x
+or_value_fault name None = Err (value_response name)
+
+-- a string of the login bytes has fewer than 2^32 bytes (RFC 4251 section 5)
+abbrev pub short_bytes : List ℕ → Option (List ℕ)
+short_bytes bytes = if nat_lt (length bytes) (2 ^ 32) then Some bytes else None
+
+abbrev pub short_hex : List ℕ → Option (List ℕ)
+short_hex text = option_and_then short_bytes (hex_bytes text)
+
+-- the login that the options spell, or the first value that is none, in the order of the options
+unfoldable pub login_spelled : LoginWords → Result Login Response
+login_spelled w = do
+  offered ← or_value_fault (codes "offer") (decoded_of standard w.offer)
+  signature ← or_value_fault (codes "signature") (hex_bytes w.signature)
+  session ← or_value_fault (codes "session") (short_hex w.session)
+  user ← or_value_fault (codes "user") (short_bytes w.user)
+  now ← or_value_fault (codes "now") (number_below (2 ^ 64) w.now)
+  Ok (record { offered = offered; signature = signature; algorithm = w.algorithm; session = session; user = user; address = w.address; now = now })
+
+-- ---- files
+
+-- the bytes of a file, where there are no more than it may have
+abbrev pub within_limit : Option (List ℕ) → Option (List ℕ)
+within_limit None = None
+within_limit (Some bytes) = if nat_lt file_limit (length bytes) then None else Some bytes
+
+abbrev pub or_vouch_fault : Result (List Signed) ℕ → Result (List Signed) Response
+or_vouch_fault (Ok vouched) = Ok vouched
+or_vouch_fault (Err n) = Err (vouch_response n)
+
+abbrev pub vouched_or_fault : List ℕ → Option (List ℕ) → Result (List Signed) Response
+vouched_or_fault name None = Err (no_file_response name)
+vouched_or_fault name (Some bytes) = or_vouch_fault (vouched_of bytes)
+
+-- the signatures of the vouch file, or the answer that it tells none
+abbrev pub vouched_in : Option (List ℕ) → Shelf → Result (List Signed) Response
+vouched_in None s = Ok []
+vouched_in (Some name) s = vouched_or_fault name (within_limit (part_at s name))
+
+-- the source after the vouch file was read
+abbrev pub after_vouching : Option (List ℕ) → Shelf → Shelf
+after_vouching None s = s
+after_vouching (Some name) s = after_part s name
+
+-- ---- answers
+
+-- the answer to a login by the whole bytes of a trust file
+abbrev pub answer_claimed : Result LoginClaim AuditError → List ℕ → List Signed → Result Decision AuditError
+answer_claimed (Err e) file vouched = Err e
+answer_claimed (Ok claim) file vouched = login_answer file claim vouched
+
+-- A trust file that is not there, or that cannot be read, is told before the offer is tested.
+abbrev pub answer_over : Login → List Signed → Option (List ℕ) → Result Decision AuditError
+answer_over q vouched None = Err Read
+answer_over q vouched (Some file) = answer_claimed (login_claim q) file vouched
+
+abbrev pub login_over : Login → List Signed → Option (List ℕ) → Response
+login_over q vouched file = decision_response (answer_over q vouched file)
+
+abbrev pub login_vouched : LoginWords → Login → Shelf → Result (List Signed) Response → Response
+login_vouched w q s (Err r) = r
+login_vouched w q s (Ok vouched) = login_over q vouched (bytes_at s w.file)
+
+abbrev pub login_asked : LoginWords → Shelf → Result Login Response → Response
+login_asked w s (Err r) = r
+login_asked w s (Ok q) = login_vouched w q (after_vouching w.vouch s) (vouched_in w.vouch s)
+
+abbrev pub login_response : LoginWords → Shelf → Response
+login_response w s = login_asked w s (login_spelled w)
+
+abbrev pub answer_in : Shelf → Option Request → Response
+answer_in s None = usage_response
+answer_in s (Some (login w)) = login_response w s
+
+-- where no word is given, the words are those of the first line of standard input
+abbrev pub asked : List (List ℕ) → Shelf → List (List ℕ)
+asked [] s = words_in (first_line s)
+asked (w ∷ words) s = w ∷ words
+
+abbrev pub source_of : List (List ℕ) → Shelf → Shelf
+source_of [] s = after_line s
+source_of (w ∷ words) s = s
+
+-- the answer to these words over this source
+abbrev pub answer : List (List ℕ) → Shelf → Response
+answer words s = answer_in (source_of words s) (request_of (asked words s))
+
+-- ---- failed reads
+
+-- a read failed between the two
+abbrev pub SomeReadFailed : Shelf → Option Shelf → Type 0
+SomeReadFailed s None = ⊥
+SomeReadFailed s (Some t) = s.failures < t.failures
+
+-- no read failed between the two
+abbrev pub NoReadFailed : Shelf → Option Shelf → Type 0
+NoReadFailed s None = ⊥
+NoReadFailed s (Some t) = t.failures ≡ s.failures
+
+-- the fault of a file that was asked for: the trust file, or the vouch file
+abbrev pub IsFileFault : Option Request → Response → Type 0
+IsFileFault None r = ⊥
+IsFileFault (Some (login w)) r = (r ≡ refused_response Read) ⊎ ((name : List ℕ) × (w.vouch ≡ Some name) × (r ≡ no_file_response name))
+
+-- the response is this one; or a read failed, and it is the fault of a file that was asked for
+abbrev pub RespondsBy : Option Request → Response → Shelf → Option Shelf → Response → Type 0
+RespondsBy q wanted s t r = (NoReadFailed s t × (r ≡ wanted)) ⊎ (SomeReadFailed s t × IsFileFault q r)
+
+-- the same of words, where the first line of standard input may be what was not read
+abbrev pub Responds : List (List ℕ) → Shelf → Option Shelf → Response → Type 0
+Responds words s t r = RespondsBy (request_of (asked words s)) (answer words s) s t r ⊎ (SomeReadFailed s t × (words ≡ []) × (r ≡ usage_response))
+
+-- the response is the answer where no read failed, and a read's fault where one did, unless memory was refused
+abbrev pub Answers : List (List ℕ) → Shelf → Option Shelf → Response → Type 0
+Answers words s t r = Responds words s t r ⊎ (r ≡ out_of_memory)

@@ -1,0 +1,48 @@
+//! The command line.
+
+ghost use Rattle.std.specs.Prelude.{◌≡◌, IfOk};
+ghost use Rattle.clap.specs.Words.{app_of, with_rule};
+ghost use Rattle.ssh_audit.specs.CommandLine.{command_line, option_rule, login_app};
+
+use clap::{Arg, Command};
+use std::alloc::{AllocError, Global};
+
+/// The command with one more option, which takes a value.
+fn with_option<'a>(
+    alloc: Global,
+    command: Command<'a>,
+    name: &'a str,
+    required: bool,
+) -> Result<Command<'a>, AllocError>
+    ensures { IfOk result (λ c. app_of c ≡ with_rule (app_of command.entry) (option_rule (name.entry.now, required))) }
+{
+    let option = Arg::new(alloc, name).long(name).required(required);
+    command.arg(option)
+}
+
+/// The subcommand `login`.
+#[tactic(auto, unfolding(crate::specs::CommandLine::login_app))]
+fn login_command<'a>(alloc: Global) -> Result<Command<'a>, AllocError>
+    ensures { IfOk result (λ c. app_of c ≡ login_app) }
+{
+    let command = Command::new(alloc, "login");
+    let command = with_option(alloc, command, "file", true)?;
+    let command = with_option(alloc, command, "offer", true)?;
+    let command = with_option(alloc, command, "signature", true)?;
+    let command = with_option(alloc, command, "algorithm", true)?;
+    let command = with_option(alloc, command, "session", true)?;
+    let command = with_option(alloc, command, "user", true)?;
+    let command = with_option(alloc, command, "address", true)?;
+    let command = with_option(alloc, command, "now", true)?;
+    let command = with_option(alloc, command, "vouch", false)?;
+    Ok(command)
+}
+
+/// The program's command line.
+pub fn program<'a>(alloc: Global) -> Result<Command<'a>, AllocError>
+    ensures { IfOk result (λ c. app_of c ≡ command_line) }
+{
+    let login = login_command(alloc)?;
+    let program = Command::new(alloc, "ssh_audit").subcommand(login)?;
+    Ok(program.no_binary_name(true).subcommand_required(true))
+}

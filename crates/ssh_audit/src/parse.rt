@@ -1,0 +1,75 @@
+//! From words to a request.
+
+ghost use Rattle.std.specs.Prelude.{◌≡◌, map, option_map, option_and_then};
+ghost use Rattle.clap.specs.Words.{first_of, found_of, rows_of, subcommand_rows_of};
+ghost use Rattle.ssh_audit.specs.CommandLine.{login_words, request_in};
+ghost use Rattle.ssh_audit.specs.Parsing.{FaultIs, Parses, request_in_memory, texts_of};
+
+use crate::command::program;
+use crate::request::{LoginWords, Request, WordsFault};
+use clap::error::ErrorKind;
+use clap::{ArgMatches, Error};
+use std::alloc::Global;
+use std::convert::AsStr;
+
+fn words_fault(error: &Error) -> WordsFault
+    ensures { FaultIs error.now result }
+{
+    if error.kind() == ErrorKind::OutOfMemory {
+        WordsFault::Memory
+    } else {
+        WordsFault::Usage
+    }
+}
+
+/// The value of an option.
+fn value<'a>(matches: &ArgMatches<'a>, name: &str) -> Option<&'a str>
+    ensures { option_map (λ s. s.now) result ≡ first_of name.now (rows_of (found_of matches.now)) }
+{
+    matches.get_str(name)
+}
+
+/// The texts of the options of `login`.
+#[tactic(auto, unfolding(crate::specs::CommandLine::login_words))]
+fn login_words<'a>(matches: &ArgMatches<'a>) -> Option<LoginWords<'a>>
+    ensures { option_map texts_of result ≡ login_words (rows_of (found_of matches.now)) }
+{
+    Some(LoginWords {
+        file: value(matches, "file")?,
+        offer: value(matches, "offer")?,
+        signature: value(matches, "signature")?,
+        algorithm: value(matches, "algorithm")?,
+        session: value(matches, "session")?,
+        user: value(matches, "user")?,
+        address: value(matches, "address")?,
+        now: value(matches, "now")?,
+        vouch: value(matches, "vouch"),
+    })
+}
+
+/// The request of the subcommand.
+fn request<'a>(matches: &ArgMatches<'a>) -> Option<Request<'a>>
+    ensures { option_map request_in_memory result ≡ option_and_then request_in (subcommand_rows_of matches.now) }
+{
+    match matches.subcommand() {
+        Some((name, found)) if name == "login" => match login_words(found) {
+            Some(words) => Some(Request::Login(words)),
+            None => None,
+        },
+        _ => None,
+    }
+}
+
+/// The request that the words spell.
+pub fn parse<'a, S: AsStr>(alloc: Global, words: &'a [S]) -> Result<Request<'a>, WordsFault>
+    ensures { Parses (map S.text words.entry.now) result }
+{
+    let command = match program(alloc) {
+        Ok(command) => command,
+        Err(_) => return Err(WordsFault::Memory),
+    };
+    match command.try_get_matches_from(words) {
+        Ok(matches) => request(&matches).ok_or(WordsFault::Usage),
+        Err(error) => Err(words_fault(&error)),
+    }
+}

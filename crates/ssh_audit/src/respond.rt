@@ -1,0 +1,213 @@
+//! From words and files to what is printed.
+
+ghost use Rattle.std.specs.Prelude.{◌≡◌, ◌<◌, ◌^◌, ◌≤◌, [], length, map, IfOk, Some};
+ghost use Rattle.ssh_audit.specs.Query.{login_of};
+ghost use Rattle.ssh_audit.specs.Offer.{login_claim};
+ghost use Rattle.ssh_audit.specs.CommandLine.{login, request_of};
+ghost use Rattle.ssh_audit.specs.Requests.{Responds, RespondsBy, after_vouching, answer_claimed, answer_in, login_over, login_response, login_vouched, or_vouch_fault, vouched_in};
+ghost use Rattle.ssh_audit.specs.Answer.{Gives};
+ghost use Rattle.ssh_audit.specs.Loading.{AnswersFile, IsFaultOf, is_memory};
+ghost use Rattle.ssh_audit.specs.Parsing.{request_in_memory, texts_of};
+ghost use Rattle.ssh_audit.specs.Responses.{response};
+ghost use Rattle.ssh_audit.specs.Shelf.{IfTells, bytes_at};
+ghost use Rattle.ssh_audit.specs.Values.{vouched_of};
+
+use crate::answer::{decision_response, file_fault, usage_fault, value_fault, vouch_fault};
+use crate::decision::Decision;
+use crate::error::AuditError;
+use crate::files::Files;
+use crate::login::login;
+use crate::login_values::{ValueFault, read_login_values};
+use crate::parse::parse;
+use crate::query::{LoginQuery, Signed};
+use crate::read::{ReadFault, gather, read_first_line, read_vouch_file};
+use crate::request::{LoginWords, Request, WordsFault};
+use crate::response::Response;
+use crate::vouch::{VouchFault, read_vouched};
+use crate::words::read_words;
+use std::alloc::{AllocError, Global};
+use std::convert::AsStr;
+
+/// The decision on a login by the bytes of a trust file.
+fn decide(
+    alloc: Global,
+    file: &[u8],
+    query: &LoginQuery<'_>,
+    vouched: &[Signed],
+) -> Result<Decision, AuditError>
+    requires session { length query.now.session.now < 2 ^ 32 }
+    requires user { length query.now.user.now < 2 ^ 32 }
+    ensures { Gives (answer_claimed (login_claim (login_of query.entry.now)) file.now vouched.now) result }
+{
+    let decision = login(alloc, file, query, vouched)?;
+    Ok(decision)
+}
+
+/// The decision on a login by the trust file of this name.
+fn decide_by_file<F: Files>(
+    alloc: Global,
+    name: &str,
+    query: &LoginQuery<'_>,
+    vouched: &[Signed],
+    files: &mut F,
+) -> Result<Decision, AuditError>
+    requires session { length query.now.session.now < 2 ^ 32 }
+    requires user { length query.now.user.now < 2 ^ 32 }
+    ensures { IfTells (F.shelf files.old) (λ s. AnswersFile (login_of query.entry.now) vouched.now (bytes_at s name.now) s (F.shelf files.new) result) }
+{
+    match gather(alloc, files, name) {
+        Ok(file) => decide(alloc, &file, query, vouched),
+        Err(ReadFault::Memory) => Err(AuditError::Memory),
+        Err(_) => Err(AuditError::Read),
+    }
+}
+
+fn is_memory(answer: &Result<Decision, AuditError>) -> bool
+    ensures { result ≡ is_memory answer.now }
+{
+    matches!(answer, Err(AuditError::Memory))
+}
+
+/// The response to a login, after the signatures that are vouched for were read.
+fn respond_vouched<F: Files>(
+    alloc: Global,
+    words: &LoginWords<'_>,
+    query: &LoginQuery<'_>,
+    vouched: &[Signed],
+    files: &mut F,
+) -> Result<Response, AllocError>
+    requires session { length query.now.session.now < 2 ^ 32 }
+    requires user { length query.now.user.now < 2 ^ 32 }
+    ensures { IfTells (F.shelf files.old) (λ s. IfOk result (λ r.
+        RespondsBy (Some (login (texts_of words.entry.now))) (login_over (login_of query.entry.now) vouched.now (bytes_at s words.entry.now.file.now)) s (F.shelf files.new) (response r))) }
+{
+    let answer = decide_by_file(alloc, words.file, query, vouched, files);
+    if is_memory(&answer) {
+        return Err(AllocError);
+    }
+    decision_response(alloc, &answer)
+}
+
+/// The response to a vouch file that gives no bytes.
+fn unread(alloc: Global, name: &str, fault: ReadFault) -> Result<Response, AllocError>
+    ensures { IfOk result (λ r. IsFaultOf name.now fault (response r)) }
+{
+    match fault {
+        ReadFault::Memory => Err(AllocError),
+        _ => file_fault(alloc, name),
+    }
+}
+
+/// The response to a login, after the bytes of its vouch file were read.
+fn respond_bytes<F: Files>(
+    alloc: Global,
+    words: &LoginWords<'_>,
+    query: &LoginQuery<'_>,
+    bytes: &[u8],
+    files: &mut F,
+) -> Result<Response, AllocError>
+    requires session { length query.now.session.now < 2 ^ 32 }
+    requires user { length query.now.user.now < 2 ^ 32 }
+    requires short { length bytes.now ≤ 67108864 }
+    ensures { IfTells (F.shelf files.old) (λ s. IfOk result (λ r.
+        RespondsBy (Some (login (texts_of words.entry.now))) (login_vouched (texts_of words.entry.now) (login_of query.entry.now) s (or_vouch_fault (vouched_of bytes.now))) s (F.shelf files.new) (response r))) }
+{
+    match read_vouched(alloc, bytes) {
+        Ok(vouched) => respond_vouched(alloc, words, query, &vouched, files),
+        Err(VouchFault::Line(number)) => vouch_fault(alloc, number),
+        Err(VouchFault::Memory) => Err(AllocError),
+    }
+}
+
+/// The response to a login, after the values of its options were read.
+fn respond_query<F: Files>(
+    alloc: Global,
+    words: &LoginWords<'_>,
+    query: &LoginQuery<'_>,
+    files: &mut F,
+) -> Result<Response, AllocError>
+    requires session { length query.now.session.now < 2 ^ 32 }
+    requires user { length query.now.user.now < 2 ^ 32 }
+    ensures { IfTells (F.shelf files.old) (λ s. IfOk result (λ r.
+        RespondsBy (Some (login (texts_of words.entry.now))) (login_vouched (texts_of words.entry.now) (login_of query.entry.now) (after_vouching (texts_of words.entry.now).vouch s) (vouched_in (texts_of words.entry.now).vouch s)) s (F.shelf files.new) (response r))) }
+{
+    match words.vouch {
+        None => respond_vouched(alloc, words, query, &[], files),
+        Some(name) => match read_vouch_file(alloc, files, name) {
+            Ok(bytes) => respond_bytes(alloc, words, query, &bytes, files),
+            Err(fault) => unread(alloc, name, fault),
+        },
+    }
+}
+
+/// The response to a login.
+fn respond_login<F: Files>(
+    alloc: Global,
+    words: &LoginWords<'_>,
+    files: &mut F,
+) -> Result<Response, AllocError>
+    ensures { IfTells (F.shelf files.old) (λ s. IfOk result (λ r.
+        RespondsBy (Some (login (texts_of words.entry.now))) (login_response (texts_of words.entry.now) s) s (F.shelf files.new) (response r))) }
+{
+    match read_login_values(alloc, words) {
+        Ok(values) => {
+            let query = LoginQuery {
+                offered: values.offered.as_slice(),
+                signature: values.signature.as_slice(),
+                algorithm: words.algorithm.as_bytes(),
+                session: values.session.as_slice(),
+                user: words.user.as_bytes(),
+                address: words.address.as_bytes(),
+                now: values.now,
+            };
+            respond_query(alloc, words, &query, files)
+        }
+        Err(ValueFault::Value(name)) => value_fault(alloc, name),
+        Err(ValueFault::Memory) => Err(AllocError),
+    }
+}
+
+/// The response to words, of which there are some.
+fn respond_words<S: AsStr, F: Files>(
+    alloc: Global,
+    words: &[S],
+    files: &mut F,
+) -> Result<Response, AllocError>
+    ensures { IfTells (F.shelf files.old) (λ s. IfOk result (λ r.
+        RespondsBy (request_of (map S.text words.now)) (answer_in s (request_of (map S.text words.now))) s (F.shelf files.new) (response r))) }
+{
+    match parse(alloc, words) {
+        Ok(Request::Login(words)) => respond_login(alloc, &words, files),
+        Err(WordsFault::Usage) => usage_fault(alloc),
+        Err(WordsFault::Memory) => Err(AllocError),
+    }
+}
+
+/// The response to the words of the first line of standard input.
+fn respond_line<F: Files>(alloc: Global, files: &mut F) -> Result<Response, AllocError>
+    ensures { IfTells (F.shelf files.old) (λ s. IfOk result (λ r. Responds [] s (F.shelf files.new) (response r))) }
+{
+    match read_first_line(alloc, files) {
+        Ok(line) => {
+            let words = read_words(alloc, &line)?;
+            respond_words(alloc, words.as_slice(), files)
+        }
+        Err(ReadFault::Memory) => Err(AllocError),
+        Err(_) => usage_fault(alloc),
+    }
+}
+
+/// The response to the words; where there are none, to those of the first line of standard input.
+pub fn respond<S: AsStr, F: Files>(
+    alloc: Global,
+    words: &[S],
+    files: &mut F,
+) -> Result<Response, AllocError>
+    ensures { IfTells (F.shelf files.old) (λ s. IfOk result (λ r. Responds (map S.text words.now) s (F.shelf files.new) (response r))) }
+{
+    if words.is_empty() {
+        respond_line(alloc, files)
+    } else {
+        respond_words(alloc, words, files)
+    }
+}
