@@ -1,0 +1,5 @@
+use Rattle.ssh_keys.specs.Samples.{fingerprint_samples}
+use Rattle.ssh_keys.proofs.samples.fingerprints_as_told.Goals as goal
+
+pub returns : goal.returns
+returns c = fingerprint_samples
