@@ -30,12 +30,12 @@ use Rattle.ssh_certs.proofs.PackedLists.{as_fault_ok, packed_takes, packed_again
 -- ---- the blob by its parts
 
 -- the fields one after the other
-abbrev laid_out : Certificate → List ℕ
+abbrev pub laid_out : Certificate → List ℕ
 laid_out c = string (certificate_name_of (kind_of c.key)) ++ (string c.nonce ++ (concat (fields_of c.key) ++ (uint64 c.serial ++ (uint32 c.kind_number ++ (string c.key_id
     ++ (string (packed_names c.principals) ++ (uint64 c.after ++ (uint64 c.before ++ (string (packed_options c.critical) ++ (string (packed_options c.extensions)
     ++ (string c.reserved ++ (string (key_blob c.signer) ++ (string (signature_blob c.signature) ++ [])))))))))))))
 
-laid_out_is : (c : Certificate) → certificate_blob c ≡ laid_out c
+pub laid_out_is : (c : Certificate) → certificate_blob c ≡ laid_out c
 unfolding certificate_blob
 laid_out_is c =
     let last = string (signature_blob c.signature) ∷ [] in

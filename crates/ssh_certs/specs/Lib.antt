@@ -10,8 +10,11 @@ pub use Rattle.ssh_keys.specs.KeyOf
 pub mod Certificate
 pub mod CertificateReading
 pub mod Packed
+pub mod Parts
 pub mod Left
+pub mod Row
 pub mod Rules
 pub mod View
+pub mod Writing
 pub mod CertificateOf
 pub mod Samples

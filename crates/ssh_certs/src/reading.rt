@@ -150,14 +150,14 @@ pub fn read_cert(bytes: &[u8]) -> Result<CertView<'_>, CertError>
     ensures exact { Gives certificate_of result (certificate_in bytes.now) }
 {
     match certificate_fields(bytes) {
-        Ok(fields) => {
-            let key = KeyView::of_fields(fields.key);
-            Ok(CertView {
+        Ok(fields) => match KeyView::from_fields(fields.key) {
+            Ok(key) => Ok(CertView {
                 blob: bytes,
                 key,
                 fields,
-            })
-        }
+            }),
+            Err(e) => Err(CertError::Key(e)),
+        },
         Err(e) => Err(e),
     }
 }

@@ -1,0 +1,4 @@
+pub mod Blobs
+pub mod Ranges
+pub mod Bits
+pub mod Texts

@@ -1,0 +1,149 @@
+//! What no clause says: values from outside, and that calls that take memory can succeed.
+
+use crate::{
+    Fit, Key, KeyError, KeyFields, KeyKind, KeyView, digest_text, fingerprint, fits, read_key,
+    read_signature, rsa_bits, same_key, write_key, write_signature,
+};
+use ssh_wire::{WireCause, WireError};
+use std::test::Fail;
+
+/// An Ed25519 key of 32 zero bytes.
+const K0: &[u8] =
+    b"\0\0\0\x0bssh-ed25519\0\0\0\x20\0\0\0\0\0\0\0\0\0\0\0\0\0\0\0\0\0\0\0\0\0\0\0\0\0\0\0\0\0\0\0\0";
+
+/// An RSA key of eight bits.
+const RSA: &[u8] = b"\0\0\0\x07ssh-rsa\0\0\0\x03\x01\0\x01\0\0\0\x02\0\x80";
+
+/// A security key's Ed25519 key.
+const SK: &[u8] =
+    b"\0\0\0\x1ask-ssh-ed25519@openssh.com\0\0\0\x20abcdefghijklmnopqrstuvwxyz012345\0\0\0\x04ssh:";
+
+/// A signature of one byte.
+const S0: &[u8] = b"\0\0\0\x0bssh-ed25519\0\0\0\x01\xaa";
+
+/// A security key's signature of one byte, with the flag of presence and the counter 7.
+const SK_SIGNATURE: &[u8] = b"\0\0\0\x1ask-ssh-ed25519@openssh.com\0\0\0\x01\xaa\x01\0\0\0\x07";
+
+fn fault(place: usize, cause: WireCause) -> WireError {
+    WireError { place, cause }
+}
+
+/// Key blobs and the first fault of each.
+#[test]
+fn refuses_keys(rt: HostRuntime) {
+    let rows: [(&[u8], KeyError); 6] = [
+        (
+            b"\0\0\0\x07ssh-rsa\0\0\0\0\0\0\0\x02\0\x80",
+            KeyError::Wire(fault(11, WireCause::Value)),
+        ),
+        (
+            b"\0\0\0\x07ssh-rsa\0\0\0\x03\x01\0\x01\0\0\0\x02\0\x01",
+            KeyError::Wire(fault(18, WireCause::MpintNotMinimal)),
+        ),
+        (
+            b"\0\0\0\x13ecdsa-sha2-nistp256\0\0\0\x08nistp256\0\0\0\x41\x020123456789abcdef0123456789abcdef0123456789abcdef0123456789abcdef",
+            KeyError::Point,
+        ),
+        (b"\0\0\0\x07ssh-dss", KeyError::RetiredType),
+        (
+            b"\0\0\0\x20ssh-ed25519-cert-v01@openssh.com",
+            KeyError::IsCertificate,
+        ),
+        (b"\0\0\0\x05ssh-x", KeyError::UnknownType),
+    ];
+    for (blob, want) in rows {
+        assert_eq!(rt; read_key(blob).map(|_| ()), Err(want));
+    }
+}
+
+/// A key cut at each length, and with a byte too many.
+#[test]
+fn cuts_a_key(rt: HostRuntime) -> Result<(), Fail> {
+    for (n, _) in K0.iter().enumerate() {
+        let place = if n < 15 { 0 } else { 15 };
+        let want = KeyError::Wire(fault(place, WireCause::Short));
+        assert_eq!(rt; read_key(&K0[..n]).map(|_| ()), Err(want), "at {n}");
+    }
+    let mut longer = Vec::from_slice(rt.alloc(), K0)?;
+    longer.push(0)?;
+    let want = KeyError::Wire(fault(51, WireCause::Trailing));
+    assert_eq!(rt; read_key(&longer).map(|_| ()), Err(want));
+    Ok(())
+}
+
+/// A signature cut, and with a byte too many.
+#[test]
+fn cuts_signatures(rt: HostRuntime) -> Result<(), Fail> {
+    let mut longer = Vec::from_slice(rt.alloc(), S0)?;
+    longer.push(0)?;
+    let rows = [
+        (&S0[..14], fault(0, WireCause::Short)),
+        (&S0[..19], fault(15, WireCause::Short)),
+        (longer.as_slice(), fault(20, WireCause::Trailing)),
+        (&SK_SIGNATURE[..39], fault(36, WireCause::Short)),
+    ];
+    for (blob, want) in rows {
+        assert_eq!(rt; read_signature(blob).map(|_| ()), Err(want));
+    }
+    Ok(())
+}
+
+/// Keys and signatures, read and written back.
+#[test]
+fn writes_what_was_read(rt: HostRuntime) -> Result<(), Fail> {
+    for blob in [K0, RSA, SK] {
+        let view = read_key(blob)?;
+        let mut out = Vec::new(rt.alloc());
+        write_key(&view, &mut out)?;
+        assert_eq!(rt; out.as_slice(), blob);
+        assert!(rt; same_key(&view, &KeyView::from_fields(view.fields())?));
+        let key = Key::read(out)?;
+        assert_eq!(rt; key.blob(), blob);
+        assert_eq!(rt; key.view().kind(), view.kind());
+    }
+    for blob in [S0, SK_SIGNATURE] {
+        let mut out = Vec::new(rt.alloc());
+        write_signature(&read_signature(blob)?, &mut out)?;
+        assert_eq!(rt; out.as_slice(), blob);
+    }
+    Ok(())
+}
+
+/// Texts of digests, and what is told of keys.
+#[test]
+fn tells_of_keys(rt: HostRuntime) -> Result<(), Fail> {
+    let digest = [
+        0xba, 0x78, 0x16, 0xbf, 0x8f, 0x01, 0xcf, 0xea, 0x41, 0x41, 0x40, 0xde, 0x5d, 0xae, 0x22,
+        0x23, 0xb0, 0x03, 0x61, 0xa3, 0x96, 0x17, 0x7a, 0x9c, 0xb4, 0x10, 0xff, 0x61, 0xf2, 0x00,
+        0x15, 0xad,
+    ];
+    let text = digest_text(rt.alloc(), &digest)?;
+    assert_eq!(rt; &text, b"ungWv48Bz+pBQUDeXa4iI7ADYaOWF3qctBD/YfIAFa0");
+    let text = fingerprint(rt.alloc(), &read_key(K0)?)?;
+    assert_eq!(rt; &text, b"kmYcvdi2GkPeWxB6XLjrZB8JHsy2Hm8luHMFp9GMvqk");
+    assert_eq!(rt; rsa_bits(&read_key(RSA)?), Some(8));
+    assert_eq!(rt; rsa_bits(&read_key(K0)?), None);
+    let short = KeyFields::Ed25519 { public: b"abc" };
+    assert_eq!(rt;
+        KeyView::from_fields(short).map(|_| ()),
+        Err(KeyError::Length)
+    );
+    assert_eq!(rt; fits(KeyKind::Rsa, b"ssh-rsa"), Fit::Weak);
+    Ok(())
+}
+
+/// The longest blobs that are read, and one byte more.
+#[test]
+fn keeps_the_limit(rt: HostRuntime) -> Result<(), Fail> {
+    let long = vec![in rt.alloc(); 255; 262_145]?;
+    assert_eq!(rt; read_key(&long).map(|_| ()), Err(KeyError::TooLong));
+    assert_eq!(rt;
+        read_signature(&long).map(|_| ()),
+        Err(fault(0, WireCause::Value))
+    );
+    let longest = &long[1..];
+    let short = fault(0, WireCause::Short);
+    assert_eq!(rt; read_key(longest).map(|_| ()), Err(KeyError::Wire(short)));
+    assert_eq!(rt; read_signature(longest).map(|_| ()), Err(short));
+    Ok(())
+}

@@ -1,0 +1,5 @@
+use Rattle.ssh_wire.specs.MpintLaws.{shortest}
+use Rattle.ssh_wire.proofs.samples.least_bytes_are_shortest.Goals as goal
+
+pub returns : goal.returns
+returns c = shortest
