@@ -4,7 +4,7 @@ ghost use Rattle.std.specs.Prelude.{◌≡◌, IsOk};
 ghost use Rattle.ssh_wire.specs.Reading.{string_at};
 ghost use Rattle.ssh_keys.specs.KeyOf.{key_of};
 ghost use Rattle.ssh_keys.specs.PublicKey.{key_blob};
-ghost use Rattle.ssh_keys.specs.Signature.{signature_of, signature_blob as spelled_signature};
+ghost use Rattle.ssh_keys.specs.Signature.{signature_of, signature_blob};
 ghost use Rattle.ssh_certs.specs.CertificateReading.{items_in, option_at};
 
 use ssh_keys::{KeyFields, KeyView, SignatureView};
@@ -24,12 +24,12 @@ pub(crate) struct CertFields<'a> {
     pub(crate) extensions: &'a [u8],
     pub(crate) reserved: &'a [u8],
     pub(crate) signer: KeyView<'a>,
-    pub(crate) signer_blob: &'a [u8],
+    pub(crate) raw_signer: &'a [u8],
     pub(crate) signature: SignatureView<'a>,
-    pub(crate) signature_blob: &'a [u8],
+    pub(crate) raw_signature: &'a [u8],
     ghost principals_read: { IsOk (items_in string_at principals.now) },
     ghost critical_read: { IsOk (items_in option_at critical.now) },
     ghost extensions_read: { IsOk (items_in option_at extensions.now) },
-    ghost signer_spelled: { signer_blob.now ≡ key_blob (key_of signer) },
-    ghost signature_spelled: { signature_blob.now ≡ spelled_signature (signature_of signature) },
+    ghost signer_spelled: { raw_signer.now ≡ key_blob (key_of signer) },
+    ghost signature_spelled: { raw_signature.now ≡ signature_blob (signature_of signature) },
 }

@@ -9,6 +9,8 @@ mod reading;
 mod row;
 mod samples;
 mod spelled;
+#[cfg(test)]
+mod tests;
 mod view;
 mod writing;
 

@@ -108,8 +108,8 @@ fn fields_in(blob: &[u8]) -> Result<CertFields<'_>, CertError>
     let critical = take_options(&mut cursor)?;
     let extensions = take_options(&mut cursor)?;
     let reserved = cursor.take_string()?;
-    let (signer, signer_blob) = take_signer(&mut cursor)?;
-    let (signature, signature_blob) = take_signature(&mut cursor)?;
+    let (signer, raw_signer) = take_signer(&mut cursor)?;
+    let (signature, raw_signature) = take_signature(&mut cursor)?;
     cursor.end()?;
     Ok(CertFields {
         nonce,
@@ -124,9 +124,9 @@ fn fields_in(blob: &[u8]) -> Result<CertFields<'_>, CertError>
         extensions,
         reserved,
         signer,
-        signer_blob,
+        raw_signer,
         signature,
-        signature_blob,
+        raw_signature,
     })
 }
 

@@ -33,7 +33,7 @@ impl<'a> CertView<'a> {
     ghost use Rattle.ssh_certs.specs.Left.{principals_left, options_left};
     ghost use Rattle.ssh_certs.specs.Rules.{time_of, HasPrincipal};
     ghost use Rattle.ssh_keys.specs.PublicKey.{key_blob};
-    ghost use Rattle.ssh_keys.specs.Signature.{signature_of, signature_blob};
+    ghost use Rattle.ssh_keys.specs.Signature.{IsSignature, signature_of, signature_blob};
 
     /// The nonce: any bytes that the signer chose.
     pub fn nonce(&self) -> &'a [u8]
@@ -123,12 +123,13 @@ impl<'a> CertView<'a> {
     pub fn signer_blob(&self) -> &'a [u8]
         ensures { result.now ≡ key_blob (certificate_of self.now).signer }
     {
-        self.fields.signer_blob
+        self.fields.raw_signer
     }
 
     /// The signer's signature. It is not verified here.
     pub fn signature(&self) -> SignatureView<'a>
-        ensures { signature_of result ≡ (certificate_of self.now).signature }
+        ensures value { signature_of result ≡ (certificate_of self.now).signature }
+        ensures is_signature { IsSignature (signature_of result) }
     {
         self.fields.signature
     }
@@ -137,14 +138,14 @@ impl<'a> CertView<'a> {
     pub fn signature_blob(&self) -> &'a [u8]
         ensures { result.now ≡ signature_blob (certificate_of self.now).signature }
     {
-        self.fields.signature_blob
+        self.fields.raw_signature
     }
 
     /// What the signer signed: every byte up to and with the signature key field.
     pub fn signed_part(&self) -> &'a [u8]
         ensures { result.now ≡ signed_part (certificate_of self.now) }
     {
-        let signature_field = 4 + self.fields.signature_blob.len();
+        let signature_field = 4 + self.fields.raw_signature.len();
         &self.blob[..self.blob.len() - signature_field]
     }
 
