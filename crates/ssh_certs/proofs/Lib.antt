@@ -1,0 +1,5 @@
+pub mod CertificateLaws
+pub mod Items
+pub mod PackedLists
+pub mod RowLaws
+pub mod Written

@@ -1,0 +1,13 @@
+-- What stands at the end of a vector, and how long it is.
+use Rattle.std.proofs.Common.{◌≡◌, ℕ, ◌≤◌, List, [], ◌++◌, length, take, refl, sym, ap, ◌∙◌, arith}
+use Rattle.std.proofs.lemmas.List.{append-nil, length-append, take_at, take-take}
+use Rattle.ssh_certs.specs.Writing.{Keeps}
+
+pub keeps_same : (old new : List ℕ) → new ≡ old → Keeps old new
+keeps_same old new e = ap (λ (t : List ℕ). take (length old) t) (e ∙ sym (append-nil old)) ∙ take_at old [] (length old) refl
+
+-- what is kept behind more is kept
+pub keeps_more : (old more middle new : List ℕ) → middle ≡ old ++ more → Keeps middle new → Keeps old new
+keeps_more old more middle new e keeps =
+    let long : length old ≤ length middle = omega (arith, ap length e, length-append old more) in
+    sym (take-take (length old) (length middle) new long) ∙ ap (λ (t : List ℕ). take (length old) t) (keeps ∙ e) ∙ take_at old more (length old) refl

@@ -1,0 +1,10 @@
+use Rattle.std.proofs.Common.{length}
+use Rattle.ssh_wire.specs.Reading.{string_at}
+use Rattle.ssh_certs.proofs.Items.{GoesOn}
+use Rattle.ssh_certs.proofs.packed.check_principals.Given as goal
+
+abbrev pub invariant-loop-cursor : goal.invariant-loop-cursor
+invariant-loop-cursor l = GoesOn string_at l.packed l.cursor
+
+abbrev pub decreases-loop-cursor : goal.decreases-loop-cursor
+decreases-loop-cursor l = length l.cursor.rest

@@ -1,0 +1,126 @@
+-- Reading a certificate field by field, with the first fault.
+use Rattle.std.specs.Prelude.{ℕ, zero, suc, ◌+◌, List, [], ◌∷◌, length, Result, Ok, Err, nat_lt, if◌then◌else◌}
+use Rattle.std.specs.Int.{w32, w64}
+use Rattle.ssh_wire.specs.declared.error.WireError.{WireError}
+use Rattle.ssh_wire.specs.Position.{Position, start}
+use Rattle.ssh_wire.specs.Reading.{◌>>=◌, Read, number_at, string_at, end_at}
+use Rattle.ssh_keys.specs.declared.kind.KeyKind.{KeyKind}
+use Rattle.ssh_keys.specs.declared.kind.NameClass.{NameClass}
+use Rattle.ssh_keys.specs.declared.kind.NameClass.TheVariants.{Plain, Certificate as CertificateOf, Retired, Other}
+use Rattle.ssh_keys.specs.declared.error.KeyError.{KeyError}
+use Rattle.ssh_keys.specs.declared.error.KeyError.TheVariants as key_errors
+use Rattle.ssh_keys.specs.Names.{class_of}
+use Rattle.ssh_keys.specs.PublicKey.{PublicKey, longest}
+use Rattle.ssh_keys.specs.KeyReading.{fields_at, key_in}
+use Rattle.ssh_keys.specs.Signature.{Signature, signature_in}
+use Rattle.ssh_certs.specs.declared.error.CertError.{CertError}
+use Rattle.ssh_certs.specs.declared.error.CertError.TheVariants as errors
+use Rattle.ssh_certs.specs.Certificate.{Certificate, CertOption}
+
+-- the same result, with its fault seen as another's
+abbrev pub as_fault : {A E F : Type 0} → (E → F) → Result A E → Result A F
+as_fault f (Ok x) = Ok x
+as_fault f (Err e) = Err (f e)
+
+-- the kind of key whose certificates have this type name
+abbrev pub kind_from : NameClass → Result KeyKind CertError
+kind_from (CertificateOf kind) = Ok kind
+kind_from (Plain kind) = Err errors.UnknownType
+kind_from Retired = Err errors.UnknownType
+kind_from Other = Err errors.UnknownType
+
+-- Items one after the other to the end of the bytes. (An item takes bytes, so that as many turns as
+-- there are bytes suffice.)
+unfoldable pub items_within : {A : Type 0} → (Position → Read A) → ℕ → Position → Result (List A) WireError
+items_within item zero at = Ok []
+items_within item (suc turns) at = elim at.rest [
+  | [] ↦ Ok []
+  | b ∷ rest ↦ (item at >>= λ first. items_within item turns first.1 >>= λ others. Ok (first.0 ∷ others))
+]
+
+-- the items of a string; a fault's place counts from the string's first byte
+abbrev pub items_in : {A : Type 0} → (Position → Read A) → List ℕ → Result (List A) WireError
+items_in item text = items_within item (length text) (start text)
+
+abbrev pub option_at : Position → Read CertOption
+option_at at = do
+  name ← string_at at
+  value ← string_at name.1
+  Ok (record { name = name.0; value = value.0 }, value.1)
+
+abbrev pub ReadCert : Type 0 → Type 0
+ReadCert A = Result (A × Position) CertError
+
+abbrev pub of_wire : {A : Type 0} → Result A WireError → Result A CertError
+of_wire r = as_fault errors.Wire r
+
+-- a packed list; a string in it that passes the end is told by its place in the whole blob
+unfoldable pub packed_at : {A : Type 0} → (Position → Read A) → (ℕ → CertError) → Position → ReadCert (List A)
+packed_at item list_fault at = do
+  text ← of_wire (string_at at)
+  items ← as_fault (λ e. list_fault (at.place + 4 + e.place)) (items_in item text.0)
+  Ok (items, text.1)
+
+abbrev pub names_at : Position → ReadCert (List (List ℕ))
+names_at at = packed_at string_at errors.Principals at
+
+abbrev pub options_at : Position → ReadCert (List CertOption)
+options_at at = packed_at option_at errors.Options at
+
+-- a certificate cannot sign
+abbrev pub signer_fault : KeyError → CertError
+signer_fault key_errors.IsCertificate = errors.ChainedSigner
+signer_fault e = errors.Signer e
+
+-- the signature key, a plain key's blob, whose places count from its own first byte
+unfoldable pub signer_at : Position → ReadCert PublicKey
+signer_at at = do
+  blob ← of_wire (string_at at)
+  key ← as_fault signer_fault (key_in blob.0)
+  Ok (key, blob.1)
+
+-- the signature, whose places count from its own first byte
+unfoldable pub signature_at : Position → ReadCert Signature
+signature_at at = do
+  blob ← of_wire (string_at at)
+  signature ← as_fault errors.Signature (signature_in blob.0)
+  Ok (signature, blob.1)
+
+-- a blob that is short enough
+unfoldable pub certificate_at : Position → Result Certificate CertError
+certificate_at at = do
+  name ← of_wire (string_at at)
+  kind ← kind_from (class_of name.0)
+  nonce ← of_wire (string_at name.1)
+  key ← as_fault errors.Key (fields_at kind nonce.1)
+  serial ← of_wire (number_at w64 key.1)
+  kind_number ← of_wire (number_at w32 serial.1)
+  key_id ← of_wire (string_at kind_number.1)
+  principals ← names_at key_id.1
+  after ← of_wire (number_at w64 principals.1)
+  before ← of_wire (number_at w64 after.1)
+  critical ← options_at before.1
+  extensions ← options_at critical.1
+  reserved ← of_wire (string_at extensions.1)
+  signer ← signer_at reserved.1
+  signature ← signature_at signer.1
+  _ ← of_wire (end_at signature.1)
+  Ok (record {
+    nonce = nonce.0;
+    key = key.0;
+    serial = serial.0;
+    kind_number = kind_number.0;
+    key_id = key_id.0;
+    principals = principals.0;
+    after = after.0;
+    before = before.0;
+    critical = critical.0;
+    extensions = extensions.0;
+    reserved = reserved.0;
+    signer = signer.0;
+    signature = signature.0;
+  })
+
+-- the certificate that a blob spells, or the first fault
+unfoldable pub certificate_in : List ℕ → Result Certificate CertError
+certificate_in bytes = if nat_lt longest (length bytes) then Err errors.TooLong else certificate_at (start bytes)

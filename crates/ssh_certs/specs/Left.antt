@@ -1,0 +1,14 @@
+-- What an iterator over a packed list has left.
+use Rattle.std.specs.Prelude.{ℕ, List}
+use Rattle.ssh_certs.specs.declared.packed.Principals.{Principals}
+use Rattle.ssh_certs.specs.declared.packed.CertOptions.{CertOptions}
+use Rattle.ssh_certs.specs.Certificate.{CertOption}
+use Rattle.ssh_certs.specs.Packed.{names_of, options_of}
+
+-- the principals that are still to come
+abbrev pub principals_left : Principals → List (List ℕ)
+principals_left names = names_of names.packed.now
+
+-- the options that are still to come
+abbrev pub options_left : CertOptions → List CertOption
+options_left options = options_of options.packed.now

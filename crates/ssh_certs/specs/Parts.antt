@@ -1,0 +1,24 @@
+-- The certificate of its parts.
+use Rattle.std.specs.Prelude.{map}
+use Rattle.ssh_keys.specs.KeyOf.{key_of}
+use Rattle.ssh_keys.specs.Signature.{signature_of}
+use Rattle.ssh_certs.specs.declared.parts.CertParts.{CertParts}
+use Rattle.ssh_certs.specs.Certificate.{Certificate}
+use Rattle.ssh_certs.specs.Packed.{option_of}
+
+abbrev pub certificate_of_parts : CertParts → Certificate
+certificate_of_parts v = record {
+  nonce = v.nonce.now;
+  key = key_of v.key;
+  serial = v.serial;
+  kind_number = v.kind_number;
+  key_id = v.key_id.now;
+  principals = map (λ name. name.now) v.principals.now;
+  after = v.after;
+  before = v.before;
+  critical = map option_of v.critical.now;
+  extensions = map option_of v.extensions.now;
+  reserved = v.reserved.now;
+  signer = key_of v.signer;
+  signature = signature_of v.signature;
+}

@@ -1,0 +1,69 @@
+//! Why bytes are no certificate, and why one could not be written.
+
+ghost use Rattle.std.specs.Prelude.{◌≡◌};
+ghost use Rattle.ssh_certs.specs.declared.error.CertError.TheVariants.{Wire};
+ghost use Rattle.ssh_certs.specs.declared.error.WriteError.TheVariants.{Memory};
+
+use ssh_keys::KeyError;
+use ssh_wire::WireError;
+use std::alloc::AllocError;
+use thiserror::Error;
+
+/// The first fault of a certificate's blob. A place counts bytes from the blob's first byte, but inside
+/// the signature key and the signature from the first byte of that inner blob.
+#[derive(Clone, Copy, Debug, PartialEq, Eq, Error)]
+pub enum CertError {
+    /// A field passes the end, or bytes stand after the signature.
+    #[error("{0}")]
+    Wire(WireError),
+    /// A fault of the certified public key.
+    #[error("public key: {0}")]
+    Key(KeyError),
+    /// A fault of the signature key.
+    #[error("signature key: {0}")]
+    Signer(KeyError),
+    /// The signature key is itself a certificate.
+    #[error("the signature key is a certificate")]
+    ChainedSigner,
+    /// A principal, which begins at this place, passes the end of the principals.
+    #[error("a principal at byte {0} passes the end of the principals")]
+    Principals(usize),
+    /// The name or the data of an option, which begins at this place, passes the end of the options.
+    #[error("an option at byte {0} passes the end of the options")]
+    Options(usize),
+    /// A fault of the signature.
+    #[error("signature: {0}")]
+    Signature(WireError),
+    /// The type name is no certificate's.
+    #[error("the type is no certificate's")]
+    UnknownType,
+    /// The blob has more than 262,144 bytes.
+    #[error("the blob is too long")]
+    TooLong,
+}
+
+impl From<WireError> for CertError {
+    ghost from_gives = { λ e c. c ≡ Wire e };
+
+    fn from(e: WireError) -> CertError {
+        CertError::Wire(e)
+    }
+}
+
+/// Why a certificate could not be written.
+#[derive(Clone, Copy, Debug, PartialEq, Eq, Error)]
+pub enum WriteError {
+    /// The blob would have more than 262,144 bytes.
+    #[error("the blob would be too long")]
+    TooLong,
+    #[error("out of memory")]
+    Memory(AllocError),
+}
+
+impl From<AllocError> for WriteError {
+    ghost from_gives = { λ e w. w ≡ Memory e };
+
+    fn from(e: AllocError) -> WriteError {
+        WriteError::Memory(e)
+    }
+}

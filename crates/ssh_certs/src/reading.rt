@@ -1,0 +1,163 @@
+//! Reading certificates.
+
+ghost use Rattle.std.specs.Prelude.{◌≡◌, IfOk, IsOk, IsOkAnd};
+ghost use Rattle.ssh_wire.specs.Position.{start};
+ghost use Rattle.ssh_wire.specs.Reading.{Gives, Reads, string_at};
+ghost use Rattle.ssh_keys.specs.KeyOf.{key_of};
+ghost use Rattle.ssh_keys.specs.KeyReading.{fields_at};
+ghost use Rattle.ssh_keys.specs.Names.{class_of};
+ghost use Rattle.ssh_keys.specs.PublicKey.{key_blob};
+ghost use Rattle.ssh_keys.specs.Signature.{signature_of, signature_blob};
+ghost use Rattle.ssh_keys.specs.View.{public_key};
+ghost use Rattle.ssh_certs.specs.Certificate.{Certificate, IsCertificateBlob};
+ghost use Rattle.ssh_certs.specs.CertificateReading.{as_fault, kind_from, names_at, options_at, signer_at, signature_at, items_in, option_at, certificate_at, certificate_in};
+ghost use Rattle.ssh_certs.specs.CertificateOf.{certificate_of};
+ghost use Rattle.ssh_certs.specs.Packed.{names_of, options_of};
+ghost use Rattle.ssh_certs.specs.View.{certificate_from};
+
+use crate::error::CertError;
+use crate::fields::CertFields;
+use crate::packed::{check_options, check_principals};
+use crate::view::CertView;
+use ssh_keys::{
+    KeyError, KeyKind, KeyView, LONGEST, NameClass, SignatureView, name_class, read_key,
+    read_signature, take_fields,
+};
+use ssh_wire::Cursor;
+
+/// The kind of key whose certificates have this type name.
+fn kind_named(name: &[u8]) -> Result<KeyKind, CertError>
+    ensures { result ≡ kind_from (class_of name.now) }
+{
+    match name_class(name) {
+        NameClass::Certificate(kind) => Ok(kind),
+        NameClass::Plain(_) | NameClass::Retired | NameClass::Other => Err(CertError::UnknownType),
+    }
+}
+
+/// Takes packed principals.
+#[tactic(auto, unfolding(crate::specs::CertificateReading::packed_at))]
+fn take_principals<'a>(cursor: &mut Cursor<'a>) -> Result<&'a [u8], CertError>
+    ensures exact { Reads (λ packed. names_of packed.now) names_at cursor.old result cursor.new }
+    ensures read { IfOk result (λ packed. IsOk (items_in string_at packed.now)) }
+{
+    let packed = cursor.take_string()?;
+    let first = cursor.place() - packed.len();
+    match check_principals(packed) {
+        Ok(()) => Ok(packed),
+        Err(e) => Err(CertError::Principals(first + e.place)),
+    }
+}
+
+/// Takes packed options.
+#[tactic(auto, unfolding(crate::specs::CertificateReading::packed_at))]
+fn take_options<'a>(cursor: &mut Cursor<'a>) -> Result<&'a [u8], CertError>
+    ensures exact { Reads (λ packed. options_of packed.now) options_at cursor.old result cursor.new }
+    ensures read { IfOk result (λ packed. IsOk (items_in option_at packed.now)) }
+{
+    let packed = cursor.take_string()?;
+    let first = cursor.place() - packed.len();
+    match check_options(packed) {
+        Ok(()) => Ok(packed),
+        Err(e) => Err(CertError::Options(first + e.place)),
+    }
+}
+
+/// Takes the signature key, and gives its blob too.
+#[tactic(auto, unfolding(crate::specs::CertificateReading::signer_at))]
+fn take_signer<'a>(cursor: &mut Cursor<'a>) -> Result<(KeyView<'a>, &'a [u8]), CertError>
+    ensures exact { Reads (λ signer. key_of signer.0) signer_at cursor.old result cursor.new }
+    ensures spelled { IfOk result (λ signer. signer.1.now ≡ key_blob (key_of signer.0)) }
+{
+    let blob = cursor.take_string()?;
+    match read_key(blob) {
+        Ok(key) => Ok((key, blob)),
+        Err(KeyError::IsCertificate) => Err(CertError::ChainedSigner),
+        Err(e) => Err(CertError::Signer(e)),
+    }
+}
+
+/// Takes the signature, and gives its blob too.
+#[tactic(auto, unfolding(crate::specs::CertificateReading::signature_at))]
+fn take_signature<'a>(cursor: &mut Cursor<'a>) -> Result<(SignatureView<'a>, &'a [u8]), CertError>
+    ensures exact { Reads (λ signature. signature_of signature.0) signature_at cursor.old result cursor.new }
+    ensures spelled { IfOk result (λ signature. signature.1.now ≡ signature_blob (signature_of signature.0)) }
+{
+    let blob = cursor.take_string()?;
+    match read_signature(blob) {
+        Ok(signature) => Ok((signature, blob)),
+        Err(e) => Err(CertError::Signature(e)),
+    }
+}
+
+/// The fields of a certificate whose blob is short enough.
+#[tactic(auto, unfolding(crate::specs::CertificateReading::certificate_at))]
+fn fields_in(blob: &[u8]) -> Result<CertFields<'_>, CertError>
+    ensures { Gives certificate_from result (certificate_at (start blob.now)) }
+{
+    let mut cursor = Cursor::new(blob);
+    let kind = kind_named(cursor.take_string()?)?;
+    let nonce = cursor.take_string()?;
+    let key = take_fields(kind, &mut cursor).map_err(CertError::Key)?;
+    let serial = cursor.take_u64()?;
+    let kind_number = cursor.take_u32()?;
+    let key_id = cursor.take_string()?;
+    let principals = take_principals(&mut cursor)?;
+    let after = cursor.take_u64()?;
+    let before = cursor.take_u64()?;
+    let critical = take_options(&mut cursor)?;
+    let extensions = take_options(&mut cursor)?;
+    let reserved = cursor.take_string()?;
+    let (signer, raw_signer) = take_signer(&mut cursor)?;
+    let (signature, raw_signature) = take_signature(&mut cursor)?;
+    cursor.end()?;
+    Ok(CertFields {
+        nonce,
+        key,
+        serial,
+        kind_number,
+        key_id,
+        principals,
+        after,
+        before,
+        critical,
+        extensions,
+        reserved,
+        signer,
+        raw_signer,
+        signature,
+        raw_signature,
+    })
+}
+
+#[tactic(auto, unfolding(crate::specs::CertificateReading::certificate_in))]
+fn certificate_fields(bytes: &[u8]) -> Result<CertFields<'_>, CertError>
+    ensures { Gives certificate_from result (certificate_in bytes.now) }
+{
+    if bytes.len() > LONGEST {
+        return Err(CertError::TooLong);
+    }
+    fields_in(bytes)
+}
+
+/// The certificate that a blob spells, all of the bytes.
+pub fn read_cert(bytes: &[u8]) -> Result<CertView<'_>, CertError>
+    // What is read is the blob of the certificate.
+    ensures found { IfOk result (λ view. IsCertificateBlob (certificate_of view) bytes.now) }
+    // The blob of a certificate is read as that certificate.
+    ensures only { (certificate : Certificate) → IsCertificateBlob certificate bytes.now → IsOkAnd result (λ view. certificate_of view ≡ certificate) }
+    // The first fault.
+    ensures exact { Gives certificate_of result (certificate_in bytes.now) }
+{
+    match certificate_fields(bytes) {
+        Ok(fields) => match KeyView::from_fields(fields.key) {
+            Ok(key) => Ok(CertView {
+                blob: bytes,
+                key,
+                fields,
+            }),
+            Err(e) => Err(CertError::Key(e)),
+        },
+        Err(e) => Err(e),
+    }
+}

@@ -1,0 +1,171 @@
+//! A certificate in its blob.
+
+ghost use Rattle.std.specs.Prelude.{◌≡◌, ◌↔◌, IsTrue};
+ghost use Rattle.ssh_certs.specs.Certificate.{signed_part, IsCertificateBlob};
+ghost use Rattle.ssh_certs.specs.View.{certificate_from};
+ghost use Rattle.ssh_keys.specs.KeyOf.{key_of};
+ghost use Rattle.ssh_keys.specs.View.{public_key};
+
+use crate::fields::CertFields;
+use crate::packed::{CertOptions, Principals};
+use ssh_keys::{KeyView, SignatureView};
+
+/// Where a moment lies in a certificate's time.
+#[derive(Clone, Copy, Debug, PartialEq, Eq)]
+pub enum Time {
+    Early,
+    Now,
+    Late,
+}
+
+/// A certificate in its blob. Its lists are slices of the blob.
+#[derive(Clone, Copy, Debug)]
+pub struct CertView<'a> {
+    pub(crate) blob: &'a [u8],
+    pub(crate) key: KeyView<'a>,
+    pub(crate) fields: CertFields<'a>,
+    ghost is_key: { key_of key ≡ public_key fields.key },
+    ghost spelled: { IsCertificateBlob (certificate_from fields) blob.now },
+}
+
+impl<'a> CertView<'a> {
+    ghost use Rattle.ssh_certs.specs.CertificateOf.{certificate_of};
+    ghost use Rattle.ssh_certs.specs.Left.{principals_left, options_left};
+    ghost use Rattle.ssh_certs.specs.Rules.{time_of, HasPrincipal};
+    ghost use Rattle.ssh_keys.specs.PublicKey.{key_blob};
+    ghost use Rattle.ssh_keys.specs.Signature.{IsSignature, signature_of, signature_blob};
+
+    /// The nonce: any bytes that the signer chose.
+    pub fn nonce(&self) -> &'a [u8]
+        ensures { result.now ≡ (certificate_of self.now).nonce }
+    {
+        self.fields.nonce
+    }
+
+    /// The certified public key.
+    pub fn key(&self) -> KeyView<'a>
+        ensures { key_of result ≡ (certificate_of self.now).key }
+    {
+        self.key
+    }
+
+    /// The serial number: 0 where the signer counts none.
+    pub fn serial(&self) -> u64
+        ensures { result ≡ (certificate_of self.now).serial }
+    {
+        self.fields.serial
+    }
+
+    /// 1 for a user's certificate, 2 for a host's. No number is refused here.
+    pub fn kind_number(&self) -> u32
+        ensures { result ≡ (certificate_of self.now).kind_number }
+    {
+        self.fields.kind_number
+    }
+
+    /// The signer's name for the certificate: any bytes.
+    pub fn key_id(&self) -> &'a [u8]
+        ensures { result.now ≡ (certificate_of self.now).key_id }
+    {
+        self.fields.key_id
+    }
+
+    /// The names that the certificate is for, in the order of the blob.
+    pub fn principals(&self) -> Principals<'a>
+        ensures { principals_left result ≡ (certificate_of self.now).principals }
+    {
+        Principals::new(self.fields.principals)
+    }
+
+    /// The first second in force, counted from 1970-01-01 in UTC.
+    pub fn after(&self) -> u64
+        ensures { result ≡ (certificate_of self.now).after }
+    {
+        self.fields.after
+    }
+
+    /// The first second no longer in force, counted from 1970-01-01 in UTC.
+    pub fn before(&self) -> u64
+        ensures { result ≡ (certificate_of self.now).before }
+    {
+        self.fields.before
+    }
+
+    /// The options that a verifier must know, in the order of the blob.
+    pub fn critical(&self) -> CertOptions<'a>
+        ensures { options_left result ≡ (certificate_of self.now).critical }
+    {
+        CertOptions::new(self.fields.critical)
+    }
+
+    /// The options that a verifier may pass over, in the order of the blob.
+    pub fn extensions(&self) -> CertOptions<'a>
+        ensures { options_left result ≡ (certificate_of self.now).extensions }
+    {
+        CertOptions::new(self.fields.extensions)
+    }
+
+    /// Reserved bytes. They mean nothing.
+    pub fn reserved(&self) -> &'a [u8]
+        ensures { result.now ≡ (certificate_of self.now).reserved }
+    {
+        self.fields.reserved
+    }
+
+    /// The key that signed the certificate.
+    pub fn signer(&self) -> KeyView<'a>
+        ensures { key_of result ≡ (certificate_of self.now).signer }
+    {
+        self.fields.signer
+    }
+
+    /// The blob of the key that signed the certificate.
+    pub fn signer_blob(&self) -> &'a [u8]
+        ensures { result.now ≡ key_blob (certificate_of self.now).signer }
+    {
+        self.fields.raw_signer
+    }
+
+    /// The signer's signature. It is not verified here.
+    pub fn signature(&self) -> SignatureView<'a>
+        ensures value { signature_of result ≡ (certificate_of self.now).signature }
+        ensures is_signature { IsSignature (signature_of result) }
+    {
+        self.fields.signature
+    }
+
+    /// The blob of the signature.
+    pub fn signature_blob(&self) -> &'a [u8]
+        ensures { result.now ≡ signature_blob (certificate_of self.now).signature }
+    {
+        self.fields.raw_signature
+    }
+
+    /// What the signer signed: every byte up to and with the signature key field.
+    pub fn signed_part(&self) -> &'a [u8]
+        ensures { result.now ≡ signed_part (certificate_of self.now) }
+    {
+        let signature_field = 4 + self.fields.raw_signature.len();
+        &self.blob[..self.blob.len() - signature_field]
+    }
+
+    /// Where the moment lies: in force from `after` on, and no longer at `before`.
+    pub fn in_time(&self, now: u64) -> Time
+        ensures { result ≡ time_of (certificate_of self.now) now }
+    {
+        if now < self.fields.after {
+            Time::Early
+        } else if self.fields.before <= now {
+            Time::Late
+        } else {
+            Time::Now
+        }
+    }
+
+    /// Whether the name is one of the principals, byte for byte: `*` is an ordinary byte.
+    pub fn has_principal(&self, name: &[u8]) -> bool
+        ensures { IsTrue result ↔ HasPrincipal (certificate_of self.now) name.now }
+    {
+        self.principals().any(|principal| principal == name)
+    }
+}
