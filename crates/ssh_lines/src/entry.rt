@@ -1,0 +1,39 @@
+//! What a line of an authorized_keys file says.
+
+use crate::bytes::Bytes;
+use crate::cause::LineCause;
+use crate::key::LineKey;
+use crate::option::AuthOption;
+use std::marker::Model;
+
+/// The options of a line, in their order. Contracts see them as the list.
+#[derive(Debug, Drop)]
+pub struct Options {
+    kept: Vec<AuthOption>,
+}
+
+impl Model for Options {
+    ghost use Rattle.std.specs.Prelude.{List};
+    ghost use Rattle.ssh_lines.specs.declared.option.AuthOption.{AuthOption};
+
+    ghost Value = { List AuthOption };
+
+    ghost view = { λ o. o.kept.items };
+}
+
+/// A key that may log in, with what its line says of it.
+#[derive(Debug, Drop)]
+pub struct AuthEntry {
+    pub options: Options,
+    pub key: LineKey,
+    pub comment: Bytes,
+}
+
+/// What a line of an authorized_keys file says.
+#[derive(Debug, Drop)]
+pub enum AuthLine {
+    Blank,
+    Comment,
+    Entry(AuthEntry),
+    Unreadable(LineCause),
+}

@@ -1,0 +1,18 @@
+//! The lines of authorized_keys files, and the expiry times that they name.
+#![tactic(auto)]
+
+mod bytes;
+mod cause;
+mod entry;
+mod file;
+mod key;
+mod laws;
+mod option;
+
+pub use bytes::Bytes;
+pub use cause::LineCause;
+pub use entry::{AuthEntry, AuthLine, Options};
+pub use file::Lines;
+pub use key::LineKey;
+pub use laws::{entry_rule, lines_rule};
+pub use option::{AuthOption, Flag, ValueName};
