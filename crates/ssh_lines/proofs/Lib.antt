@@ -1,6 +1,7 @@
 pub mod LineLemmas
 pub mod ValueLemmas
 pub mod TextLemmas
+pub mod EndLemmas
 pub mod KeyNames
 pub mod DecodedBytes
 pub mod KeyLemmas

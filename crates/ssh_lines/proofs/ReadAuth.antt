@@ -8,7 +8,8 @@ use Rattle.ssh_lines.specs.declared.entry.AuthEntry.{AuthEntry}
 use Rattle.ssh_lines.specs.declared.entry.AuthLine.TheVariants.{Comment, Entry, Unreadable}
 use Rattle.ssh_lines.specs.Text.{line_limit, body_of, skip_blanks, without_cr, AreBlanks}
 use Rattle.ssh_lines.specs.OptionText.{SpellsItems, AreAllowed, option_text_of, options_of}
-use Rattle.ssh_lines.specs.KeyPart.{KeyPart, SpellsKey, begins_with_type, key_part_of}
+use Rattle.ssh_lines.specs.declared.key_part.KeyPart.{KeyPart}
+use Rattle.ssh_lines.specs.KeyPart.{SpellsKey, begins_with_type, key_part_of}
 use Rattle.ssh_lines.specs.AuthGrammar.{SpellsEntry, SpellsOptions, auth_line, line_of_body, entry_of, entry_of_key, entry_after_options}
 use Rattle.ssh_lines.proofs.TextLemmas.{ends_word}
 use Rattle.ssh_lines.proofs.ReadText.{skipped, skip_blanks-begins, cr_cut, IsCr, AreBytes, AreBytes-front, AreBytes-back}

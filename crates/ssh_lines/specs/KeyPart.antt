@@ -10,14 +10,10 @@ use Rattle.ssh_keys.specs.declared.error.KeyError.{KeyError}
 use Rattle.ssh_keys.specs.Names.{name_of, plain_kind, certificate_kind, class_of}
 use Rattle.ssh_keys.specs.PublicKey.{PublicKey, kind_of, key_blob, IsKey}
 use Rattle.ssh_keys.specs.KeyReading.{key_in}
+use Rattle.ssh_lines.specs.declared.key_part.KeyPart.{KeyPart}
 use Rattle.ssh_lines.specs.declared.cause.LineCause.{LineCause}
 use Rattle.ssh_lines.specs.declared.cause.LineCause.TheVariants as causes
 use Rattle.ssh_lines.specs.Text.{first_word, next_field, after_word, comment_of, AreBlanks, SpellsTail, IsComment}
-
--- a key and the comment behind it
-pub record KeyPart : Type 0 where
-  pub key : PublicKey
-  pub comment : List ℕ
 
 -- the base64 of bytes, in the standard alphabet with padding (RFC 4648, section 4)
 abbrev pub base64 : List ℕ → List ℕ

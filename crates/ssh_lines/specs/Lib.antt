@@ -3,6 +3,7 @@ pub mod OptionNames
 pub mod Expiry
 pub mod OptionText
 pub mod Settings
+pub mod Fault
 pub mod LineKey
 pub mod KeyPart
 pub mod AuthGrammar

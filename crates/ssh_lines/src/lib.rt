@@ -4,10 +4,13 @@
 mod bytes;
 mod cause;
 mod entry;
+mod fault;
 mod file;
 mod key;
+mod key_part;
 mod laws;
 mod option;
+mod text;
 
 pub use bytes::Bytes;
 pub use cause::LineCause;
