@@ -2,8 +2,8 @@
 use Rattle.std.proofs.Common.{◌≡◌, ℕ, ◌+◌, ◌-◌, ◌<◌, ◌≤◌, true, false, ◌==◌, List, [], ◌∷◌, ◌++◌, length, take, slice_index, refl, sym, ap, ◌∙◌, arith, append-nil}
 use Rattle.std.proofs.lemmas.Bool.{ne_eqb, eq-eqb}
 use Rattle.std.proofs.lemmas.List.{take_more, take_all}
-use Rattle.ssh_lines.specs.Text.{without_cr, is_trailing, before_trailing, without_trailing}
-use Rattle.ssh_lines.proofs.TextLemmas.{without_cr-behind, without_trailing-behind}
+use Rattle.ssh_lines.specs.Text.{without_last, ends_with, is_trailing, before_trailing, without_trailing}
+use Rattle.ssh_lines.proofs.TextLemmas.{without_trailing-behind}
 
 abbrev last : List ℕ → ℕ
 last s = slice_index s (length s - 1)
@@ -17,20 +17,33 @@ last_cut s some =
     let one : length s - 1 + 1 ≡ length s = omega arith in
     sym (take_more s (length s - 1) 0 (omega arith)) ∙ ap (λ n. take n s) one ∙ take_all (length s) s (omega arith)
 
-pub without_cr-last : (s : List ℕ) → 0 < length s → last s ≡ 13 → front s ≡ without_cr s
-without_cr-last s some is =
-    let test : (last s == 13) ≡ true = eq-eqb (last s) 13 is in
-    let one : without_cr (last s ∷ []) ≡ [] = rw test refl in
-    sym (ap without_cr (sym (last_cut s some)) ∙ without_cr-behind (front s) (last s) [] ∙ ap (λ t. front s ++ t) one ∙ append-nil (front s))
+without_last-behind : (b : ℕ) (front : List ℕ) (x : ℕ) (xs : List ℕ) → without_last b (front ++ x ∷ xs) ≡ front ++ without_last b (x ∷ xs)
+without_last-behind b [] x xs = refl
+without_last-behind b (c ∷ []) x xs = refl
+without_last-behind b (c ∷ d ∷ front) x xs = ap (λ s. c ∷ s) (without_last-behind b (d ∷ front) x xs)
 
-pub without_cr-other : (s : List ℕ) → (last s ≡ 13 → ⊥) → s ≡ without_cr s
-without_cr-other [] no_cr = refl
-without_cr-other (c ∷ cs) no_cr =
+pub without_last-is : (b : ℕ) (s : List ℕ) → 0 < length s → last s ≡ b → front s ≡ without_last b s
+without_last-is b s some is =
+    let test : (last s == b) ≡ true = eq-eqb (last s) b is in
+    let one : without_last b (last s ∷ []) ≡ [] = rw test refl in
+    sym (ap (without_last b) (sym (last_cut s some)) ∙ without_last-behind b (front s) (last s) [] ∙ ap (λ t. front s ++ t) one ∙ append-nil (front s))
+
+pub without_last-other : (b : ℕ) (s : List ℕ) → (last s ≡ b → ⊥) → s ≡ without_last b s
+without_last-other b [] other = refl
+without_last-other b (c ∷ cs) other =
     let s = c ∷ cs in
-    let test : (last s == 13) ≡ false = ne_eqb (last s) 13 no_cr in
-    let one : without_cr (last s ∷ []) ≡ last s ∷ [] = rw test refl in
+    let test : (last s == b) ≡ false = ne_eqb (last s) b other in
+    let one : without_last b (last s ∷ []) ≡ last s ∷ [] = rw test refl in
     let cut = last_cut s (omega arith) in
-    sym (ap without_cr (sym cut) ∙ without_cr-behind (front s) (last s) [] ∙ ap (λ t. front s ++ t) one ∙ cut)
+    sym (ap (without_last b) (sym cut) ∙ without_last-behind b (front s) (last s) [] ∙ ap (λ t. front s ++ t) one ∙ cut)
+
+ends_with-behind : (b : ℕ) (front : List ℕ) (x : ℕ) → ends_with b (front ++ x ∷ []) ≡ (x == b)
+ends_with-behind b [] x = refl
+ends_with-behind b (c ∷ []) x = refl
+ends_with-behind b (c ∷ d ∷ front) x = ends_with-behind b (d ∷ front) x
+
+pub ends_with-last : (b : ℕ) (s : List ℕ) → 0 < length s → ends_with b s ≡ (last s == b)
+ends_with-last b s some = ap (ends_with b) (sym (last_cut s some)) ∙ ends_with-behind b (front s) (last s)
 
 stops : (s : List ℕ) (c : ℕ) → is_trailing c ≡ false → without_trailing (s ++ c ∷ []) ≡ s ++ c ∷ []
 stops [] c h = rw h refl

@@ -5,6 +5,8 @@ pub mod EndLemmas
 pub mod KeyNames
 pub mod DecodedBytes
 pub mod KeyLemmas
+pub mod ExpiryLemmas
+pub mod ItemLemmas
 pub mod OptionLemmas
 pub mod AuthLemmas
 pub mod ReadText

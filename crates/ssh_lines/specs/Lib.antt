@@ -2,6 +2,7 @@ pub mod Text
 pub mod OptionNames
 pub mod Expiry
 pub mod OptionText
+pub mod OptionTexts
 pub mod Settings
 pub mod Fault
 pub mod LineKey

@@ -41,11 +41,21 @@ IsLineAt file i line = (0 < i) × (slice_get (lines_of file) (i - 1) ≡ Some li
 abbrev pub is_blank : ℕ → Bool
 is_blank c = (c == 32) || (c == 9)
 
+-- the text without this byte at its end, if it ends with it
+abbrev pub without_last : ℕ → List ℕ → List ℕ
+without_last b [] = []
+without_last b (c ∷ []) = if c == b then [] else c ∷ []
+without_last b (c ∷ d ∷ cs) = c ∷ without_last b (d ∷ cs)
+
+-- whether the text ends with this byte
+abbrev pub ends_with : ℕ → List ℕ → Bool
+ends_with b [] = false
+ends_with b (c ∷ []) = c == b
+ends_with b (c ∷ d ∷ cs) = ends_with b (d ∷ cs)
+
 -- the line without the one CR at its end, if it has one
 abbrev pub without_cr : List ℕ → List ℕ
-without_cr [] = []
-without_cr (c ∷ []) = if c == 13 then [] else c ∷ []
-without_cr (c ∷ d ∷ cs) = c ∷ without_cr (d ∷ cs)
+without_cr line = without_last 13 line
 
 -- the text without the blanks at its front
 abbrev pub skip_blanks : List ℕ → List ℕ

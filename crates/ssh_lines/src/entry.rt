@@ -1,9 +1,12 @@
 //! What a line of an authorized_keys file says.
 
+ghost use Rattle.std.specs.Prelude.{◌≡◌, [], ◌++◌, ◌∷◌, OnOk, OnErr};
+
 use crate::bytes::Bytes;
 use crate::cause::LineCause;
 use crate::key::LineKey;
 use crate::option::AuthOption;
+use std::alloc::{AllocError, Global};
 use std::marker::Model;
 
 /// The options of a line, in their order. Contracts see them as the list.
@@ -19,6 +22,33 @@ impl Model for Options {
     ghost Value = { List AuthOption };
 
     ghost view = { λ o. o.kept.items };
+}
+
+impl Options {
+    /// No options.
+    pub fn new(alloc: Global) -> Options
+        ensures { result ≡ [] }
+    {
+        Options {
+            kept: Vec::new(alloc),
+        }
+    }
+
+    /// Adds an option at the end; where memory is refused, nothing changes.
+    pub fn push(&mut self, option: AuthOption) -> Result<(), AllocError>
+        ensures ok { OnOk result (self.new ≡ self.old ++ option ∷ []) }
+        ensures err { OnErr result (self.new ≡ self.old) }
+    {
+        self.kept.push(option)?;
+        Ok(())
+    }
+
+    /// The options.
+    pub fn as_slice(&self) -> &[AuthOption]
+        ensures { result.now ≡ self.now }
+    {
+        &self.kept
+    }
 }
 
 /// A key that may log in, with what its line says of it.

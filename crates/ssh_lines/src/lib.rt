@@ -4,12 +4,15 @@
 mod bytes;
 mod cause;
 mod entry;
+mod expiry_text;
 mod fault;
 mod file;
 mod key;
 mod key_part;
 mod laws;
 mod option;
+mod option_list;
+mod option_text;
 mod text;
 
 pub use bytes::Bytes;

@@ -1,7 +1,7 @@
 //! The parts of a line: its words, its blanks and its comment.
 
 ghost use Rattle.std.specs.Prelude.{◌≡◌, ◌≤◌, length, take, drop};
-ghost use Rattle.ssh_lines.specs.Text.{is_blank, is_trailing, without_cr, skip_blanks, first_word, after_word, without_trailing, comment_of};
+ghost use Rattle.ssh_lines.specs.Text.{is_blank, is_trailing, without_last, ends_with, skip_blanks, first_word, after_word, without_trailing, comment_of};
 
 /// A space or a tab.
 pub(crate) fn is_blank(byte: u8) -> bool
@@ -17,14 +17,24 @@ fn is_trailing(byte: u8) -> bool
     is_blank(byte) || byte == b'\r'
 }
 
-/// The line without the one CR at its end.
-pub(crate) fn without_cr(line: &[u8]) -> &[u8]
-    ensures { result.now ≡ without_cr line.now }
+/// The text without this byte at its end, if it ends with it.
+pub(crate) fn without_last(byte: u8, text: &[u8]) -> &[u8]
+    ensures { result.now ≡ without_last byte text.now }
 {
-    match line {
-        [text @ .., last] if *last == b'\r' => text,
-        _ => line,
-    }
+    let [front @ .., last] = text else {
+        return text;
+    };
+    if *last == byte { front } else { text }
+}
+
+/// The text ends with this byte.
+pub(crate) fn ends_with(byte: u8, text: &[u8]) -> bool
+    ensures { result ≡ ends_with byte text.now }
+{
+    let [.., last] = text else {
+        return false;
+    };
+    *last == byte
 }
 
 /// The text without the blanks at its front.
