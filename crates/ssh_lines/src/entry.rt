@@ -1,11 +1,13 @@
 //! What a line of an authorized_keys file says.
 
 ghost use Rattle.std.specs.Prelude.{◌≡◌, [], ◌++◌, ◌∷◌, OnOk, OnErr};
+ghost use Rattle.ssh_lines.specs.Settings.{has_flag, settings};
 
 use crate::bytes::Bytes;
 use crate::cause::LineCause;
 use crate::key::LineKey;
-use crate::option::AuthOption;
+use crate::option::{AuthOption, Flag, ValueName};
+use crate::settings::{Settings, has_flag};
 use std::alloc::{AllocError, Global};
 use std::marker::Model;
 
@@ -57,6 +59,29 @@ pub struct AuthEntry {
     pub options: Options,
     pub key: LineKey,
     pub comment: Bytes,
+}
+
+impl AuthEntry {
+    /// Whether the flag is among the options.
+    pub fn has_flag(&self, flag: Flag) -> bool
+        ensures { result ≡ has_flag flag self.now.options }
+    {
+        has_flag(flag, self.options.as_slice())
+    }
+
+    /// The values of the option with this name, in their order.
+    pub fn settings(&self, name: ValueName) -> Settings<'_>
+        ensures { result ≡ settings name self.now.options }
+    {
+        Settings::new(name, self.options.as_slice())
+    }
+
+    /// The texts of the expiry times, in their order.
+    pub fn expiry_texts(&self) -> Settings<'_>
+        ensures { result ≡ settings ValueName.ExpiryTime self.now.options }
+    {
+        self.settings(ValueName::ExpiryTime)
+    }
 }
 
 /// What a line of an authorized_keys file says.

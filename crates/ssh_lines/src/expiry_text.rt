@@ -19,7 +19,11 @@ fn digit(byte: u8) -> u8
 fn behind(text: &[u8], place: usize) -> &[u8]
     ensures { result.now ≡ drop place text.now }
 {
-    if place < text.len() { &text[place..] } else { &[] }
+    if place < text.len() {
+        &text[place..]
+    } else {
+        &[]
+    }
 }
 
 /// The number of the two digits at a place; what is missing at the end is left out.

@@ -38,7 +38,12 @@ pub(crate) fn begins_with_type(text: &[u8]) -> bool
 }
 
 /// The key of a blob, whose type field named this kind.
-fn key_in_blob(alloc: Global, kind: KeyKind, blob: Vec<u8>, comment: &[u8]) -> Result<KeyPart, Fault>
+fn key_in_blob(
+    alloc: Global,
+    kind: KeyKind,
+    blob: Vec<u8>,
+    comment: &[u8],
+) -> Result<KeyPart, Fault>
     ensures { Says (λ p. p) result (key_of_kind kind comment.now (key_in blob.items)) }
 {
     let key = match LineKey::read(blob) {
@@ -53,7 +58,12 @@ fn key_in_blob(alloc: Global, kind: KeyKind, blob: Vec<u8>, comment: &[u8]) -> R
 }
 
 /// The key of a base64 field.
-fn key_in_field(alloc: Global, class: NameClass, field: &[u8], rest: &[u8]) -> Result<KeyPart, Fault>
+fn key_in_field(
+    alloc: Global,
+    class: NameClass,
+    field: &[u8],
+    rest: &[u8],
+) -> Result<KeyPart, Fault>
     ensures { Says (λ p. p) result (key_by_class class field.now rest.now) }
 {
     let kind = match class {

@@ -1,6 +1,7 @@
 //! The lines of authorized_keys files, and the expiry times that they name.
 #![tactic(auto)]
 
+mod auth_line;
 mod bytes;
 mod cause;
 mod entry;
@@ -13,8 +14,10 @@ mod laws;
 mod option;
 mod option_list;
 mod option_text;
+mod settings;
 mod text;
 
+pub use auth_line::{LINE_LIMIT, read_auth_line};
 pub use bytes::Bytes;
 pub use cause::LineCause;
 pub use entry::{AuthEntry, AuthLine, Options};
@@ -22,3 +25,4 @@ pub use file::Lines;
 pub use key::LineKey;
 pub use laws::{entry_rule, lines_rule};
 pub use option::{AuthOption, Flag, ValueName};
+pub use settings::Settings;

@@ -91,7 +91,9 @@ impl Flag {
         ensures { result ≡ flag_named name.now }
     {
         let all = Flag::ALL;
-        all.iter().copied().find(|flag| same_name(name, flag.name()))
+        all.iter()
+            .copied()
+            .find(|flag| same_name(name, flag.name()))
     }
 }
 
@@ -129,7 +131,9 @@ impl ValueName {
         ensures { result ≡ value_named name.now }
     {
         let all = ValueName::ALL;
-        all.iter().copied().find(|value| same_name(name, value.name()))
+        all.iter()
+            .copied()
+            .find(|value| same_name(name, value.name()))
     }
 
     /// It may stand once in a line (this project's rule).

@@ -127,7 +127,11 @@ fn before_quote(text: &[u8]) -> Option<&[u8]>
     let mut last = b'"';
     for (i, byte) in text.iter().enumerate() {
         if is_open_quote(last, *byte) {
-            return if i + 1 == text.len() { Some(&text[..i]) } else { None };
+            return if i + 1 == text.len() {
+                Some(&text[..i])
+            } else {
+                None
+            };
         }
         last = *byte;
     }
