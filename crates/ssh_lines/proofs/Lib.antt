@@ -6,6 +6,7 @@ pub mod KeyNames
 pub mod DecodedBytes
 pub mod KeyLemmas
 pub mod ExpiryLemmas
+pub mod MomentLemmas
 pub mod ItemLemmas
 pub mod OptionLemmas
 pub mod AuthLemmas

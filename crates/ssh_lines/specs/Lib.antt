@@ -1,6 +1,8 @@
 pub mod Text
 pub mod OptionNames
 pub mod Expiry
+pub mod CivilFacts
+pub mod Moment
 pub mod OptionText
 pub mod OptionTexts
 pub mod Settings
