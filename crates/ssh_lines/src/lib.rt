@@ -16,6 +16,8 @@ mod option;
 mod option_list;
 mod option_text;
 mod settings;
+#[cfg(test)]
+mod tests;
 mod text;
 
 pub use auth_line::{LINE_LIMIT, read_auth_line};
