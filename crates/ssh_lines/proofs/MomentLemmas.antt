@@ -82,20 +82,21 @@ unfolding moment_of is_expiry_text
 moment-some text zone = by-some text zone (is_civil_text (without_z text)) refl
 
 by-is : (text : List ℕ) (zone : TimeZone) (is : Bool) (e : is_civil_text (without_z text) ≡ is) (moment : ℤ) → moment_by text zone is e ≡ Some moment → IsMoment text zone moment
+unfolding is_expiry_text
 by-is text zone false e moment h = cc
 by-is text zone true e moment h =
     let facts = civil-facts (without_z text) e in
     let same : moment_at text zone (clock_of (without_z text) facts) ≡ moment = cc in
-    (clock_of (without_z text) facts, clock-shown (without_z text) facts, sym same)
+    (e, (clock_of (without_z text) facts, clock-shown (without_z text) facts, sym same))
 
 pub moment-is : (text : List ℕ) (zone : TimeZone) (moment : ℤ) → moment_of text zone ≡ Some moment → IsMoment text zone moment
 unfolding moment_of
 moment-is text zone moment h = by-is text zone (is_civil_text (without_z text)) refl moment h
 
 -- a text has one moment at most
-pub moment-only : (text : List ℕ) (zone : TimeZone) (moment : ℤ) → is_expiry_text text ≡ true → IsMoment text zone moment → moment_of text zone ≡ Some moment
+pub moment-only : (text : List ℕ) (zone : TimeZone) (moment : ℤ) → IsMoment text zone moment → moment_of text zone ≡ Some moment
 unfolding is_expiry_text
-moment-only text zone moment t (shown, s, e) = moment-shown text zone shown t s ∙ ap Some (sym e)
+moment-only text zone moment (t, (shown, s, e)) = moment-shown text zone shown t s ∙ ap Some (sym e)
 
 pub moment-found : (text : List ℕ) (zone : TimeZone) (moment : Option ℤ) → moment ≡ moment_of text zone → IfSome moment (IsMoment text zone)
 moment-found text zone None e = tt

@@ -10,3 +10,4 @@ pub mod Fault
 pub mod LineKey
 pub mod KeyPart
 pub mod AuthGrammar
+pub mod Samples

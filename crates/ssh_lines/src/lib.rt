@@ -15,6 +15,7 @@ mod moment;
 mod option;
 mod option_list;
 mod option_text;
+mod samples;
 mod settings;
 #[cfg(test)]
 mod tests;
@@ -29,4 +30,5 @@ pub use key::LineKey;
 pub use laws::{entry_rule, lines_rule};
 pub use moment::expiry;
 pub use option::{AuthOption, Flag, ValueName};
+pub use samples::line_samples;
 pub use settings::Settings;

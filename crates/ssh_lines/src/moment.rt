@@ -1,6 +1,6 @@
 //! The moment of an expiry time.
 
-ghost use Rattle.std.specs.Prelude.{◌≡◌, pos, neg_ℤ, ◌-ℤ◌, IfOk, IfSome, is_some, Ok};
+ghost use Rattle.std.specs.Prelude.{◌≡◌, pos, neg_ℤ, ◌-ℤ◌, ℤ, IfOk, IfSome, is_some, Ok, Some};
 ghost use Rattle.jiff.specs.Words.{plain_zone, civil_nanos, civil_seconds, ambiguous_at, compatible_offset, IsWithin, IsBetween};
 ghost use Rattle.ssh_lines.specs.Expiry.{IsMoment, IsShown, without_z, is_expiry_text, is_utc, offset_seconds};
 ghost use Rattle.ssh_lines.specs.Moment.{moment_of};
@@ -61,10 +61,12 @@ fn offset_of(text: &[u8], zone: &TimeZone<'_>, shown: DateTime) -> i64
 pub fn expiry(_alloc: Global, text: &[u8], zone: &TimeZone<'_>) -> Result<Option<i64>, AllocError>
     // The moment, or none.
     ensures exact { result ≡ Ok (moment_of text.now (plain_zone zone.now)) }
-    // A moment is answered exactly for texts of the form.
-    ensures some { IfOk result (λ moment. is_some moment ≡ is_expiry_text text.now) }
-    // It is what a clock shows, less the clock's offset.
+    // What is answered is the moment that the text says.
     ensures found { IfOk result (λ moment. IfSome moment (IsMoment text.now (plain_zone zone.now))) }
+    // The moment that the text says is answered.
+    ensures only { (moment : ℤ) → IsMoment text.now (plain_zone zone.now) moment → result ≡ Ok (Some moment) }
+    // Each text of the form has one.
+    ensures some { IfOk result (λ moment. is_some moment ≡ is_expiry_text text.now) }
 {
     let moment = moment_of(text, zone);
     Ok(moment)
