@@ -1,0 +1,16 @@
+pub mod LineLemmas
+pub mod ValueLemmas
+pub mod TextLemmas
+pub mod EndLemmas
+pub mod KeyNames
+pub mod DecodedBytes
+pub mod KeyLemmas
+pub mod ExpiryLemmas
+pub mod MomentLemmas
+pub mod ItemLemmas
+pub mod OptionLemmas
+pub mod AuthLemmas
+pub mod ReadText
+pub mod ReadKey
+pub mod ReadOptions
+pub mod ReadAuth

@@ -1,0 +1,74 @@
+-- Key type, base64 key and comment, the part that the lines of both files share (sshd(8)).
+use Rattle.std.specs.Prelude.{◌≡◌, ℕ, Bool, true, false, ◌||◌, if◌then◌else◌, List, [], ◌∷◌, ◌++◌, bytes_eq, Result, Ok, Err}
+use Rattle.base64.specs.GeneralPurpose.{encode_of, decode_of, IsBytes}
+use Rattle.base64.specs.Engines.{standard}
+use Rattle.base64.specs.declared.decode.DecodeError.{DecodeError}
+use Rattle.ssh_keys.specs.declared.kind.KeyKind.{KeyKind}
+use Rattle.ssh_keys.specs.declared.kind.NameClass.{NameClass}
+use Rattle.ssh_keys.specs.declared.kind.NameClass.TheVariants.{Plain, Certificate, Retired, Other}
+use Rattle.ssh_keys.specs.declared.error.KeyError.{KeyError}
+use Rattle.ssh_keys.specs.Names.{name_of, plain_kind, certificate_kind, class_of}
+use Rattle.ssh_keys.specs.PublicKey.{PublicKey, kind_of, key_blob, IsKey}
+use Rattle.ssh_keys.specs.KeyReading.{key_in}
+use Rattle.ssh_lines.specs.declared.key_part.KeyPart.{KeyPart}
+use Rattle.ssh_lines.specs.declared.cause.LineCause.{LineCause}
+use Rattle.ssh_lines.specs.declared.cause.LineCause.TheVariants as causes
+use Rattle.ssh_lines.specs.Text.{first_word, next_field, after_word, comment_of, AreBlanks, SpellsTail, IsComment}
+
+-- the base64 of bytes, in the standard alphabet with padding (RFC 4648, section 4)
+abbrev pub base64 : List ℕ → List ℕ
+base64 bytes = encode_of standard bytes
+
+-- ---- spelling
+
+-- the key's type string, blanks, the base64 of its blob, and the comment behind them
+abbrev pub SpellsKey : PublicKey → List ℕ → List ℕ → Type 0
+SpellsKey key comment text =
+    (gap tail : List ℕ) × (bytes_eq gap [] ≡ false) × AreBlanks gap × IsBytes (key_blob key) × IsKey key
+    × IsComment comment × SpellsTail comment tail
+    × (text ≡ name_of (kind_of key) ++ gap ++ base64 (key_blob key) ++ tail)
+
+-- ---- reading
+
+abbrev pub is_empty : List ℕ → Bool
+is_empty [] = true
+is_empty (c ∷ cs) = false
+
+abbrev pub is_type : NameClass → Bool
+is_type (Plain kind) = true
+is_type (Certificate kind) = true
+is_type Retired = true
+is_type Other = false
+
+-- whether the text begins with the word of a key type: plain, retired or certificate
+abbrev pub begins_with_type : List ℕ → Bool
+begins_with_type text = is_type (class_of (first_word text))
+
+-- the type or the base64 field is missing
+abbrev pub lacks_key : List ℕ → Bool
+lacks_key text = is_empty (first_word text) || is_empty (first_word (next_field text))
+
+abbrev pub key_of_kind : KeyKind → List ℕ → Result PublicKey KeyError → Result KeyPart LineCause
+key_of_kind kind comment (Err e) = Err (causes.KeyBlob e)
+key_of_kind kind comment (Ok key) =
+    if bytes_eq (name_of kind) (name_of (kind_of key)) then Ok (record { key = key; comment = comment }) else Err causes.TypeMismatch
+
+abbrev pub key_of_blob : KeyKind → List ℕ → Result (List ℕ) DecodeError → Result KeyPart LineCause
+key_of_blob kind comment (Err e) = Err causes.Base64
+key_of_blob kind comment (Ok blob) = key_of_kind kind comment (key_in blob)
+
+-- the key of a type field, a base64 field and what follows them
+abbrev pub key_by_class : NameClass → List ℕ → List ℕ → Result KeyPart LineCause
+key_by_class Other field rest = Err causes.KeyType
+key_by_class Retired field rest = Err causes.RetiredType
+key_by_class (Certificate kind) field rest = Err causes.CertificateOnLine
+key_by_class (Plain kind) field rest = key_of_blob kind (comment_of rest) (decode_of standard field)
+
+-- what the text says after NoKey has been tested
+abbrev pub key_after_fields : List ℕ → Result KeyPart LineCause
+key_after_fields text =
+    key_by_class (class_of (first_word text)) (first_word (next_field text)) (after_word (next_field text))
+
+-- what a text of type, base64 and comment says, or its first fault
+unfoldable pub key_part_of : List ℕ → Result KeyPart LineCause
+key_part_of text = if lacks_key text then Err causes.NoKey else key_after_fields text

@@ -1,0 +1,13 @@
+pub mod Text
+pub mod OptionNames
+pub mod Expiry
+pub mod CivilFacts
+pub mod Moment
+pub mod OptionText
+pub mod OptionTexts
+pub mod Settings
+pub mod Fault
+pub mod LineKey
+pub mod KeyPart
+pub mod AuthGrammar
+pub mod Samples

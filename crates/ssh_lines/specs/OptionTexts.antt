@@ -1,0 +1,18 @@
+-- What is seen of items that lie in the text of a line.
+use Rattle.std.specs.Prelude.{◌≡◌, ℕ, false, List, [], ◌∷◌, Option, Some, None, option_map, option_copied}
+use Rattle.ssh_lines.specs.declared.option_text.ItemText.{ItemText}
+use Rattle.ssh_lines.specs.OptionText.{Item, items_of, unescaped}
+
+-- the first item of a text, and what follows the comma behind it
+abbrev pub AreCut : List ℕ → List ℕ → Option (List ℕ) → Type 0
+AreCut text first None = items_of false 0 text ≡ first ∷ []
+AreCut text first (Some rest) = items_of false 0 text ≡ first ∷ items_of false 0 rest
+
+-- the items of a text that is left, if one is
+abbrev pub texts_left : Option (List ℕ) → List (List ℕ)
+texts_left None = []
+texts_left (Some text) = items_of false 0 text
+
+-- an item by its name and its value
+abbrev pub said : ItemText → Item
+said item = record { name = item.name.now; value = option_map unescaped (option_copied item.value) }

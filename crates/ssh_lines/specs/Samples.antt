@@ -1,0 +1,109 @@
+-- Worked lines, as the definitions read them.
+use Rattle.std.specs.Prelude.{◌≡◌, ℕ, List, [], ◌∷◌, ◌++◌, codes, refl, replicate, true, false}
+use Rattle.base64.proofs.OnLiterals.{base64_on_literals}
+use Rattle.ssh_wire.specs.declared.error.WireCause.TheVariants.{Short}
+use Rattle.ssh_wire.specs.Reading.{string_at}
+use Rattle.ssh_keys.specs.declared.error.KeyError.TheVariants.{Wire}
+use Rattle.ssh_keys.specs.Names.{plain_kind, certificate_kind}
+use Rattle.ssh_keys.specs.PublicKey.{PublicKey, ed25519}
+use Rattle.ssh_keys.specs.KeyReading.{key_in, blob_at, fields_at, public_at}
+use Rattle.ssh_lines.specs.declared.cause.LineCause.TheVariants as causes
+use Rattle.ssh_lines.specs.declared.option.Flag.TheVariants.{Pty}
+use Rattle.ssh_lines.specs.declared.option.ValueName.TheVariants.{Command, ExpiryTime}
+use Rattle.ssh_lines.specs.declared.option.AuthOption.TheVariants.{Switch, Setting}
+use Rattle.ssh_lines.specs.declared.entry.AuthLine.TheVariants.{Blank, Comment, Entry, Unreadable}
+use Rattle.ssh_lines.specs.Text.{lines_of, numbered}
+use Rattle.ssh_lines.specs.Expiry.{is_expiry_text}
+use Rattle.ssh_lines.specs.OptionText.{options_of}
+use Rattle.ssh_lines.specs.KeyPart.{key_part_of}
+use Rattle.ssh_lines.specs.AuthGrammar.{auth_line}
+
+-- an Ed25519 key of 32 zero bytes, in base64 and in a line
+abbrev pub zero_key : PublicKey
+zero_key = ed25519 (replicate 32 0)
+
+abbrev pub zero_text : List ℕ
+zero_text = codes "AAAAC3NzaC1lZDI1NTE5AAAAI" ++ replicate 43 65
+
+abbrev pub zero_line : List ℕ
+zero_line = codes "ssh-ed25519 " ++ zero_text
+
+-- lines that say something
+abbrev pub EntrySamplesRead : Type 0
+EntrySamplesRead =
+    (auth_line (zero_line ++ codes " me") ≡ Entry (record { options = []; key = zero_key; comment = codes "me" }))
+    × (auth_line (codes "PTY,command=\"a \\\"b\\\" c\" " ++ zero_line ++ codes " x y ") ≡ Entry (record { options = Switch Pty ∷ Setting Command (codes "a \"b\" c") ∷ []; key = zero_key; comment = codes "x y" }))
+    × (auth_line (codes "expiry-time=\"20240229Z\" " ++ zero_line ++ 13 ∷ []) ≡ Entry (record { options = Setting ExpiryTime (codes "20240229Z") ∷ []; key = zero_key; comment = [] }))
+    × (auth_line (32 ∷ 9 ∷ 13 ∷ []) ≡ Blank)
+    × (auth_line (codes "  # a comment") ≡ Comment)
+
+pub entry_samples_read : EntrySamplesRead
+unfolding auth_line options_of key_part_of is_expiry_text key_in blob_at fields_at public_at string_at plain_kind certificate_kind base64_on_literals
+entry_samples_read = (refl, refl, refl, refl, refl)
+
+-- lines with a fault: in their options, in the order of the tests
+abbrev pub OptionFaultsRead : Type 0
+OptionFaultsRead =
+    (auth_line (codes "pty,,restrict " ++ zero_line) ≡ Unreadable causes.OptionSyntax)
+    × (auth_line (codes "pty, " ++ zero_line) ≡ Unreadable causes.OptionSyntax)
+    × (auth_line (codes "command=\"a " ++ zero_line) ≡ Unreadable causes.OptionSyntax)
+    × (auth_line (codes "command=\"a\\\" " ++ zero_line) ≡ Unreadable causes.OptionSyntax)
+    × (auth_line (codes "nosuch,,pty " ++ zero_line) ≡ Unreadable causes.OptionSyntax)
+    × (auth_line (codes "nosuch " ++ zero_line) ≡ Unreadable causes.UnknownOption)
+    × (auth_line (codes "pty=\"x\" " ++ zero_line) ≡ Unreadable causes.OptionValue)
+    × (auth_line (codes "command " ++ zero_line) ≡ Unreadable causes.OptionValue)
+    × (auth_line (codes "nosuch,pty=\"x\" " ++ zero_line) ≡ Unreadable causes.UnknownOption)
+    × (auth_line (codes "from=\"a\",from=\"a\" " ++ zero_line) ≡ Unreadable causes.RepeatedOption)
+    × (auth_line (codes "expiry-time=\"2024022924\" " ++ zero_line) ≡ Unreadable causes.ExpiryText)
+    × (auth_line (codes "expiry-time=\"202402292400Z\" " ++ zero_line) ≡ Unreadable causes.ExpiryText)
+    × (auth_line (codes "expiry-time=\"20230229Z\" " ++ zero_line) ≡ Unreadable causes.ExpiryText)
+
+pub option_faults_read : OptionFaultsRead
+unfolding auth_line options_of key_part_of is_expiry_text key_in blob_at fields_at public_at string_at plain_kind certificate_kind base64_on_literals
+option_faults_read = (refl, refl, refl, refl, refl, refl, refl, refl, refl, refl, refl, refl, refl)
+
+-- and in their keys
+abbrev pub KeyFaultsRead : Type 0
+KeyFaultsRead =
+    (auth_line (codes "ssh-ed25519") ≡ Unreadable causes.NoKey)
+    × (auth_line (codes "pty") ≡ Unreadable causes.NoKey)
+    × (auth_line (codes "ssh-dss") ≡ Unreadable causes.NoKey)
+    × (auth_line (codes "pty frob " ++ zero_text) ≡ Unreadable causes.KeyType)
+    × (auth_line (codes "ssh-dss AAAA") ≡ Unreadable causes.RetiredType)
+    × (auth_line (codes "ssh-ed25519-cert-v01@openssh.com " ++ zero_text) ≡ Unreadable causes.CertificateOnLine)
+    × (auth_line (zero_line ++ codes "*") ≡ Unreadable causes.Base64)
+    × (auth_line (zero_line ++ 13 ∷ 13 ∷ []) ≡ Unreadable causes.Base64)
+    × (auth_line (codes "ssh-ed25519 AAAA") ≡ Unreadable (causes.KeyBlob (Wire (record { place = 0; cause = Short }))))
+    × (auth_line (codes "ssh-rsa " ++ zero_text) ≡ Unreadable causes.TypeMismatch)
+
+pub key_faults_read : KeyFaultsRead
+unfolding auth_line options_of key_part_of is_expiry_text key_in blob_at fields_at public_at string_at plain_kind certificate_kind base64_on_literals
+key_faults_read = (refl, refl, refl, refl, refl, refl, refl, refl, refl, refl)
+
+-- the longest line, and one byte more
+abbrev pub LongLinesRead : Type 0
+LongLinesRead =
+    (auth_line (zero_line ++ codes " " ++ replicate 65455 120) ≡ Entry (record { options = []; key = zero_key; comment = replicate 65455 120 }))
+    × (auth_line (zero_line ++ codes " " ++ replicate 65456 120) ≡ Unreadable causes.TooLong)
+
+pub long_lines_read : LongLinesRead
+unfolding auth_line options_of key_part_of is_expiry_text key_in blob_at fields_at public_at string_at plain_kind certificate_kind base64_on_literals
+long_lines_read = (refl, refl)
+
+-- which texts are expiry times, and the lines of a file
+abbrev pub TextSamplesRead : Type 0
+TextSamplesRead =
+    (is_expiry_text (codes "20240229") ≡ true)
+    × (is_expiry_text (codes "20240229235959Z") ≡ true)
+    × (is_expiry_text (codes "20240229235960Z") ≡ false)
+    × (is_expiry_text (codes "19000229") ≡ false)
+    × (is_expiry_text (codes "00000229") ≡ true)
+    × (is_expiry_text (codes "20240229z") ≡ false)
+    × (is_expiry_text (codes "20240229ZZ") ≡ false)
+    × (numbered 1 (lines_of (codes "a\n\nb")) ≡ (1, codes "a") ∷ (2, []) ∷ (3, codes "b") ∷ [])
+    × (numbered 1 (lines_of (codes "a\n")) ≡ (1, codes "a") ∷ [])
+    × (numbered 1 (lines_of []) ≡ [])
+
+pub text_samples_read : TextSamplesRead
+unfolding is_expiry_text
+text_samples_read = (refl, refl, refl, refl, refl, refl, refl, refl, refl, refl)

@@ -1,0 +1,77 @@
+//! Reading a line of an authorized_keys file.
+
+ghost use Rattle.std.specs.Prelude.{◌≡◌, List, IfOk};
+ghost use Rattle.ssh_lines.specs.declared.entry.AuthEntry.{AuthEntry};
+ghost use Rattle.ssh_lines.specs.AuthGrammar.{SpellsEntry, auth_line, entry_of, entry_of_key};
+ghost use Rattle.ssh_lines.specs.KeyPart.{key_part_of};
+ghost use Rattle.ssh_lines.specs.Fault.{SaysEntry};
+
+use crate::cause::LineCause;
+use crate::entry::{AuthEntry, AuthLine, Options};
+use crate::fault::Fault;
+use crate::key_part::{begins_with_type, read_key_part};
+use crate::option_list::read_options;
+use crate::option_text::split_option_text;
+use crate::text::{skip_blanks, without_last};
+use std::alloc::{AllocError, Global};
+
+/// The most bytes that a line may have, without its LF and with its CR.
+pub const LINE_LIMIT: usize = 65_536;
+
+/// The entry of the options, and of the key that a text spells.
+fn entry_with(alloc: Global, options: Options, text: &[u8]) -> Result<AuthEntry, Fault>
+    ensures { SaysEntry result (entry_of_key options (key_part_of text.now)) }
+{
+    let part = read_key_part(alloc, text)?;
+    Ok(AuthEntry {
+        options,
+        key: part.key,
+        comment: part.comment,
+    })
+}
+
+/// The entry of a line that is neither blank nor a comment, without the blanks at its front.
+fn entry_in(alloc: Global, body: &[u8]) -> Result<AuthEntry, Fault>
+    ensures { SaysEntry result (entry_of body.now) }
+{
+    if begins_with_type(body) {
+        return entry_with(alloc, Options::new(alloc), body);
+    }
+    let (text, rest) = split_option_text(body);
+    let options = read_options(alloc, text)?;
+    entry_with(alloc, options, skip_blanks(rest))
+}
+
+#[tactic(auto, unfolding(crate::specs::AuthGrammar::auth_line))]
+fn read_line(alloc: Global, line: &[u8]) -> Result<AuthLine, AllocError>
+    ensures { IfOk result (λ read. read ≡ auth_line line.now) }
+{
+    if line.len() > LINE_LIMIT {
+        return Ok(AuthLine::Unreadable(LineCause::TooLong));
+    }
+    let body = skip_blanks(without_last(b'\r', line));
+    match body {
+        [] => Ok(AuthLine::Blank),
+        [b'#', ..] => Ok(AuthLine::Comment),
+        _ => match entry_in(alloc, body) {
+            Ok(entry) => Ok(AuthLine::Entry(entry)),
+            Err(Fault::Cause(cause)) => Ok(AuthLine::Unreadable(cause)),
+            Err(Fault::Memory) => Err(AllocError),
+        },
+    }
+}
+
+/// What a line of an authorized_keys file says (sshd(8), AUTHORIZED_KEYS FILE FORMAT). The line is
+/// given without its LF; one CR at its end counts for nothing. `Err` is want of memory, and nothing
+/// else.
+pub fn read_auth_line(alloc: Global, line: &[u8]) -> Result<AuthLine, AllocError>
+    // An entry that is read is one that the line spells.
+    ensures found { IfOk result (λ read. (entry : AuthEntry) → read ≡ AuthLine.Entry entry → SpellsEntry entry line.now) }
+    // An entry that the line spells is the one that is read.
+    ensures only { IfOk result (λ read. (entry : AuthEntry) → SpellsEntry entry line.now → read ≡ AuthLine.Entry entry) }
+    // Else the line is blank, a comment, or has this first fault.
+    ensures exact { IfOk result (λ read. read ≡ auth_line line.now) }
+{
+    let read = read_line(alloc, line)?;
+    Ok(read)
+}

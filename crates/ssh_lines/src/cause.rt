@@ -1,0 +1,48 @@
+//! Why a line has no reading.
+
+use ssh_keys::KeyError;
+use thiserror::Error;
+
+/// The first fault of a line of an authorized_keys file: its length, its options, then its key.
+#[derive(Debug, Clone, Copy, PartialEq, Eq, Error)]
+pub enum LineCause {
+    /// L1: more than 65,536 bytes.
+    #[error("the line is too long")]
+    TooLong,
+    /// L2: the option text is no list of names and quoted values.
+    #[error("the options are no list of names and quoted values")]
+    OptionSyntax,
+    /// L3
+    #[error("an option is not known")]
+    UnknownOption,
+    /// L4: a flag with a value, or another option without one.
+    #[error("an option has a value that it may not have, or lacks one")]
+    OptionValue,
+    /// L5: a second `command`, `from` or `principals`.
+    #[error("an option stands twice that may stand once")]
+    RepeatedOption,
+    /// L6
+    #[error("an expiry time is none")]
+    ExpiryText,
+    /// L7: no key type, or no base64 field behind it.
+    #[error("the key type or the key is missing")]
+    NoKey,
+    /// L8
+    #[error("the key type is not known")]
+    KeyType,
+    /// L9
+    #[error("the key type is retired")]
+    RetiredType,
+    /// L10: the key field is not the one spelling of some bytes.
+    #[error("the key is not in canonical base64")]
+    Base64,
+    /// L11
+    #[error("{0}")]
+    KeyBlob(KeyError),
+    /// L12: the key is of another type than the field before it says.
+    #[error("the key is of another type")]
+    TypeMismatch,
+    /// L13
+    #[error("the key type is a certificate's")]
+    CertificateOnLine,
+}

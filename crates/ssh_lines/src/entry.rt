@@ -1,0 +1,94 @@
+//! What a line of an authorized_keys file says.
+
+ghost use Rattle.std.specs.Prelude.{◌≡◌, [], ◌++◌, ◌∷◌, OnOk, OnErr};
+ghost use Rattle.ssh_lines.specs.Settings.{has_flag, settings};
+
+use crate::bytes::Bytes;
+use crate::cause::LineCause;
+use crate::key::LineKey;
+use crate::option::{AuthOption, Flag, ValueName};
+use crate::settings::{Settings, has_flag};
+use std::alloc::{AllocError, Global};
+use std::marker::Model;
+
+/// The options of a line, in their order. Contracts see them as the list.
+#[derive(Debug, Drop)]
+pub struct Options {
+    kept: Vec<AuthOption>,
+}
+
+impl Model for Options {
+    ghost use Rattle.std.specs.Prelude.{List};
+    ghost use Rattle.ssh_lines.specs.declared.option.AuthOption.{AuthOption};
+
+    ghost Value = { List AuthOption };
+
+    ghost view = { λ o. o.kept.items };
+}
+
+impl Options {
+    /// No options.
+    pub fn new(alloc: Global) -> Options
+        ensures { result ≡ [] }
+    {
+        Options {
+            kept: Vec::new(alloc),
+        }
+    }
+
+    /// Adds an option at the end; where memory is refused, nothing changes.
+    pub fn push(&mut self, option: AuthOption) -> Result<(), AllocError>
+        ensures ok { OnOk result (self.new ≡ self.old ++ option ∷ []) }
+        ensures err { OnErr result (self.new ≡ self.old) }
+    {
+        self.kept.push(option)?;
+        Ok(())
+    }
+
+    /// The options.
+    pub fn as_slice(&self) -> &[AuthOption]
+        ensures { result.now ≡ self.now }
+    {
+        &self.kept
+    }
+}
+
+/// A key that may log in, with what its line says of it.
+#[derive(Debug, Drop)]
+pub struct AuthEntry {
+    pub options: Options,
+    pub key: LineKey,
+    pub comment: Bytes,
+}
+
+impl AuthEntry {
+    /// Whether the flag is among the options.
+    pub fn has_flag(&self, flag: Flag) -> bool
+        ensures { result ≡ has_flag flag self.now.options }
+    {
+        has_flag(flag, self.options.as_slice())
+    }
+
+    /// The values of the option with this name, in their order.
+    pub fn settings(&self, name: ValueName) -> Settings<'_>
+        ensures { result ≡ settings name self.now.options }
+    {
+        Settings::new(name, self.options.as_slice())
+    }
+
+    /// The texts of the expiry times, in their order.
+    pub fn expiry_texts(&self) -> Settings<'_>
+        ensures { result ≡ settings ValueName.ExpiryTime self.now.options }
+    {
+        self.settings(ValueName::ExpiryTime)
+    }
+}
+
+/// What a line of an authorized_keys file says.
+#[derive(Debug, Drop)]
+pub enum AuthLine {
+    Blank,
+    Comment,
+    Entry(AuthEntry),
+    Unreadable(LineCause),
+}
