@@ -1,0 +1,10 @@
+//! Patterns, addresses, nets and the lists that are made of them. Nothing here takes memory.
+#![tactic(auto)]
+
+mod address;
+mod error;
+mod pattern;
+
+pub use address::Address;
+pub use error::PatternError;
+pub use pattern::matches;
