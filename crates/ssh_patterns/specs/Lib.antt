@@ -1,2 +1,3 @@
 pub mod Matching
-pub mod AddressText
+pub mod Cut
+pub mod Digits

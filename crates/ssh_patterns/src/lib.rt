@@ -4,6 +4,7 @@
 mod address;
 mod error;
 mod pattern;
+mod text;
 
 pub use address::Address;
 pub use error::PatternError;
