@@ -1,7 +1,8 @@
 -- Where a text is cut, as a loop over its bytes finds it.
-use Rattle.std.proofs.Common.{◌≡◌, ◌≢◌, ℕ, suc, arith, ◌+◌, ◌<◌, ◌==◌, Bool, true, false, if◌then◌else◌, List, [], ◌∷◌, ◌++◌, length, take, drop, get_or, Option, Some, None, refl, sym, ap, ◌∙◌, add-one, append_assoc, eqb-true, eq-eqb, option_map}
+use Rattle.std.proofs.Common.{◌≡◌, ◌≢◌, ℕ, suc, arith, ◌+◌, ◌<◌, ◌==◌, Bool, true, false, if◌then◌else◌, cond, List, [], ◌∷◌, ◌++◌, length, take, drop, get_or, Option, Some, None, refl, sym, ap, ◌∙◌, add-one, append_assoc, eqb-true, eq-eqb, option_map}
 use Rattle.std.proofs.Math.Seq.{take-suc, drop-cons}
 use Rattle.std.proofs.lemmas.List.{append-nil}
+use Rattle.std.specs.List.{slice_split, onto_first}
 use Rattle.ssh_patterns.specs.Cut.{after_mark, cut_here, cut_at}
 
 pub after_mark-front : (mark rest : List ℕ) → after_mark mark (mark ++ rest) ≡ Some rest
@@ -59,3 +60,50 @@ pub cut-here : (mark text after front : List ℕ) → 0 < length mark → text �
 cut-here [] text after front some e = absurd (omega arith)
 cut-here (m ∷ ms) text after front some e =
     rw (e, after_mark-front (m ∷ ms) after) (ap (λ s. Some (s, after)) (append-nil front))
+
+-- a cut at one byte, against all the parts
+abbrev pub parts_at : ℕ → List ℕ → List (List ℕ)
+parts_at byte text = slice_split (λ b. b == byte) text
+
+pub record CutFacts (byte : ℕ) (text front back : List ℕ) : Type 0 where
+  pub whole : text ≡ front ++ byte ∷ back
+  pub parts : parts_at byte text ≡ front ∷ parts_at byte back
+  pub shorter : length back < length text
+
+uncut-by : (b : Bool) (byte c : ℕ) (cs : List ℕ) (later : Option (List ℕ × List ℕ)) → (c == byte) ≡ b
+    → cut_here (if b then Some cs else None) c later ≡ None → (later ≡ None → parts_at byte cs ≡ cs ∷ [])
+    → cond b ([] ∷ parts_at byte cs) (onto_first c (parts_at byte cs)) ≡ (c ∷ cs) ∷ []
+uncut-by true byte c cs later e h ih = cc
+uncut-by false byte c cs None e h ih = rw (ih refl) refl
+uncut-by false byte c cs (Some cut) e h ih = cc
+
+pub parts-uncut : (byte : ℕ) (text : List ℕ) → cut_at (byte ∷ []) text ≡ None → parts_at byte text ≡ text ∷ []
+parts-uncut byte [] h = refl
+parts-uncut byte (c ∷ cs) h =
+    uncut-by (c == byte) byte c cs (cut_at (byte ∷ []) cs) refl h (parts-uncut byte cs)
+
+cut-by : (b : Bool) (byte c : ℕ) (cs front back : List ℕ) (later : Option (List ℕ × List ℕ)) → (c == byte) ≡ b
+    → cut_here (if b then Some cs else None) c later ≡ Some (front, back)
+    → ((f : List ℕ) → later ≡ Some (f, back) → CutFacts byte cs f back)
+    → (c ∷ cs ≡ front ++ byte ∷ back)
+    × (cond b ([] ∷ parts_at byte cs) (onto_first c (parts_at byte cs)) ≡ front ∷ parts_at byte back)
+    × (length back < length (c ∷ cs))
+cut-by true byte c cs front back later e h ih =
+    let same = eqb-true c byte e in
+    let pair : ◌≡◌ {A = List ℕ × List ℕ} ([], cs) (front, back) = cc in
+    let none : [] ≡ front = ap (λ p. p.0) pair in
+    let rest : cs ≡ back = ap (λ p. p.1) pair in
+    rw (← none, ← rest, same) (refl, refl, omega arith)
+cut-by false byte c cs front back None e h ih = cc
+cut-by false byte c cs front back (Some cut) e h ih =
+    let pair : ◌≡◌ {A = List ℕ × List ℕ} (c ∷ cut.0, cut.1) (front, back) = cc in
+    let first : c ∷ cut.0 ≡ front = ap (λ p. p.0) pair in
+    let rest : cut.1 ≡ back = ap (λ p. p.1) pair in
+    let facts = ih cut.0 (ap (λ r. Some (cut.0, r)) rest) in
+    rw (← first) (ap (λ s. c ∷ s) facts.whole, rw facts.parts refl, omega (arith, facts.shorter))
+
+pub parts-cut : (byte : ℕ) (text front back : List ℕ) → cut_at (byte ∷ []) text ≡ Some (front, back) → CutFacts byte text front back
+parts-cut byte [] front back h = cc
+parts-cut byte (c ∷ cs) front back h =
+    let facts = cut-by (c == byte) byte c cs front back (cut_at (byte ∷ []) cs) refl h (λ f e. parts-cut byte cs f back e) in
+    record { whole = facts.0; parts = facts.1; shorter = facts.2 }

@@ -1,13 +1,15 @@
 -- Numbers in digits, as a loop over the bytes reads them.
-use Rattle.std.proofs.Common.{◌≡◌, ℕ, ◌+◌, ◌*◌, ◌^◌, ◌<◌, ◌≤◌, ◌==◌, Bool, true, false, ◌&&◌, if◌then◌else◌, List, [], ◌∷◌, length, drop, get_or, Option, Some, None, nat_lt, refl, ap, suc, add-one, arith}
+use Rattle.std.proofs.Common.{◌≡◌, ℕ, ◌+◌, ◌*◌, ◌^◌, ◌<◌, ◌≤◌, ◌==◌, Bool, true, false, ◌&&◌, if◌then◌else◌, List, [], ◌∷◌, length, drop, get_or, Option, Some, None, nat_lt, refl, sym, ap, suc, add-one, arith}
 use Rattle.std.proofs.Math.Seq.{drop-cons}
-use Rattle.std.proofs.Math.Nat.{mul-le-mul_left}
-use Rattle.std.proofs.lemmas.Bool.{lt-ltb, le-ltb}
+use Rattle.std.proofs.Math.Nat.{mul-le-mul_left, pow-le-pow_right}
+use Rattle.std.proofs.lemmas.Bool.{lt-ltb, le-ltb, ltb-true, le-leb, and_parts}
 use Rattle.std.proofs.lemmas.Nat.{mul-le}
 use Rattle.std.specs.List.{list_all}
 use Rattle.std.specs.Char.{is_digit, digit_value}
-use Rattle.std.specs.Str.Parse.{digits_value_after}
+use Rattle.std.specs.Str.Parse.{digits_value, digits_value_after, AllDigits}
+use Rattle.std.proofs.lemmas.Int.Digits.{digits_value-lt}
 use Rattle.ssh_patterns.specs.Digits.{number_of, decimal_of, below}
+use Rattle.ssh_patterns.specs.AddressReading.{group_of}
 
 -- the number that these digits spell after those of n
 abbrev pub number_after : ℕ → ℕ → List ℕ → Option ℕ
@@ -52,3 +54,27 @@ pub past-limit : (radix limit n i d : ℕ) (text : List ℕ) → 1 ≤ radix →
 past-limit radix limit n i d text some inside digit is past =
     rw (number_after-at radix n i text inside, number_after-digit radix n (get_or text i 0) (drop (i + 1) text) digit)
     (number_after-large radix limit (n * radix + digit_value (get_or text i 0)) (drop (i + 1) text) some (omega arith))
+
+AllDigits-from : (radix : ℕ) (ds : List ℕ) → list_all (λ c. is_digit c radix) ds ≡ true → AllDigits radix ds
+AllDigits-from radix [] h = tt
+AllDigits-from radix (c ∷ ds) h =
+    let parts = and_parts (is_digit c radix) (list_all (λ c. is_digit c radix) ds) h in
+    (ltb-true (digit_value c) radix parts.0, AllDigits-from radix ds parts.1)
+
+below-by : (b : Bool) (limit n : ℕ) → (b ≡ true → n < limit)
+    → below limit (if b then Some n else None) ≡ (if b then Some n else None)
+below-by true limit n h = below-small limit n (h refl)
+below-by false limit n h = refl
+
+-- four hexadecimal digits spell less than a group may be
+hexadecimal-fits : (ds : List ℕ) → length ds ≤ 4 → below 65536 (number_of 16 ds) ≡ number_of 16 ds
+hexadecimal-fits ds few =
+    below-by (list_all (λ c. is_digit c 16) ds) 65536 (digits_value 16 ds)
+    (λ all. let small = digits_value-lt 16 ds (AllDigits-from 16 ds all) in
+    let most : 16 ^ length ds ≤ 16 ^ 4 = pow-le-pow_right (omega arith) few in
+    omega arith)
+
+pub group-below : (ds : List ℕ) → 1 ≤ length ds → length ds ≤ 4 → group_of ds ≡ below 65536 (number_of 16 ds)
+unfolding group_of
+group-below ds some few =
+    rw (le-leb 1 (length ds) some, le-leb (length ds) 4 few) (sym (hexadecimal-fits ds few))

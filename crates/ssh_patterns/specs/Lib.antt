@@ -1,3 +1,6 @@
 pub mod Matching
 pub mod Cut
 pub mod Digits
+pub mod AddressText
+pub mod Groups
+pub mod AddressReading

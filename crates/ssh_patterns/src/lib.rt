@@ -3,9 +3,10 @@
 
 mod address;
 mod error;
+mod groups;
 mod pattern;
 mod text;
 
-pub use address::Address;
+pub use address::{Address, parse_address};
 pub use error::PatternError;
 pub use pattern::matches;
