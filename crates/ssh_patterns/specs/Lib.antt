@@ -4,3 +4,5 @@ pub mod Digits
 pub mod AddressText
 pub mod Groups
 pub mod AddressReading
+pub mod Block
+pub mod Nets
