@@ -6,3 +6,4 @@ pub mod Groups
 pub mod AddressReading
 pub mod Block
 pub mod Nets
+pub mod Lists

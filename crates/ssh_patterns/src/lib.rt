@@ -4,11 +4,18 @@
 mod address;
 mod error;
 mod groups;
+mod hosts;
+mod list;
 mod net;
 mod pattern;
+mod permit;
+mod sources;
 mod text;
 
 pub use address::{Address, parse_address};
 pub use error::PatternError;
+pub use hosts::host_list;
 pub use net::{Net, contains, parse_net};
 pub use pattern::matches;
+pub use permit::Permit;
+pub use sources::{cidr_list, source_list};
