@@ -55,7 +55,7 @@ past-limit radix limit n i d text some inside digit is past =
     rw (number_after-at radix n i text inside, number_after-digit radix n (get_or text i 0) (drop (i + 1) text) digit)
     (number_after-large radix limit (n * radix + digit_value (get_or text i 0)) (drop (i + 1) text) some (omega arith))
 
-AllDigits-from : (radix : ℕ) (ds : List ℕ) → list_all (λ c. is_digit c radix) ds ≡ true → AllDigits radix ds
+pub AllDigits-from : (radix : ℕ) (ds : List ℕ) → list_all (λ c. is_digit c radix) ds ≡ true → AllDigits radix ds
 AllDigits-from radix [] h = tt
 AllDigits-from radix (c ∷ ds) h =
     let parts = and_parts (is_digit c radix) (list_all (λ c. is_digit c radix) ds) h in

@@ -12,6 +12,9 @@ mod permit;
 mod sources;
 mod text;
 
+#[cfg(test)]
+mod tests;
+
 pub use address::{Address, parse_address};
 pub use error::PatternError;
 pub use hosts::host_list;
