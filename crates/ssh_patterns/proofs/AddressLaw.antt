@@ -1,9 +1,10 @@
 -- The address that is computed from a text is the one that its grammar gives it, both ways.
-use Rattle.std.proofs.Common.{◌≡◌, ◌≢◌, ℕ, zero, suc, ◌+◌, ◌-◌, ◌<◌, ◌≤◌, ◌==◌, Bool, true, false, ◌||◌, ◌⊎◌, inl, inr, if◌then◌else◌, nat_lt, List, [], ◌∷◌, ◌++◌, length, codes, replicate, Option, Some, None, option_and_then, option_map, refl, sym, ap, ◌∙◌, append_assoc, length-append, lit≤, arith}
+use Rattle.std.proofs.Common.{◌≡◌, ◌≢◌, ℕ, zero, suc, ◌+◌, ◌-◌, ◌<◌, ◌≤◌, ◌==◌, Bool, true, false, ◌||◌, ◌⊎◌, inl, inr, if◌then◌else◌, nat_lt, List, [], ◌∷◌, ◌++◌, length, codes, replicate, Option, Some, None, option_and_then, option_map, IfOk, ok_or, refl, sym, ap, ◌∙◌, append_assoc, length-append, lit≤, arith}
 use Rattle.std.specs.List.{list_any}
 use Rattle.std.proofs.lemmas.Bool.{lt-ltb, ltb-true, eqb-true, eq-eqb}
 use Rattle.std.proofs.lemmas.List.{append-nil, length-replicate}
 use Rattle.ssh_patterns.specs.declared.address.Address.{Address}
+use Rattle.ssh_patterns.specs.declared.error.PatternError.{PatternError}
 use Rattle.ssh_patterns.specs.declared.address.Address.TheVariants.{V4, V6}
 use Rattle.ssh_patterns.specs.AddressText.{AreOctets, dotted, colon, IsGroup, AreGroups, AreGroupsAtEnd, before_dotted, pairs, AreEightGroups, IsAddressText}
 use Rattle.ssh_patterns.specs.AddressReading.{groups_of, octets_of, filled, by_cut, eight_groups_of, address_of}
@@ -203,3 +204,8 @@ some-by false a text h =
 pub address-some : (a : Address) (text : List ℕ) → address_of text ≡ Some a → IsAddressText a text
 unfolding address_of
 address-some a text h = some-by (list_any (λ c. c == colon) text) a text h
+
+pub ok-address : (read : Option Address) (text : List ℕ) (fault : PatternError) → read ≡ address_of text
+    → IfOk (ok_or read fault) (λ a. IsAddressText a text)
+ok-address None text fault e = tt
+ok-address (Some a) text fault e = address-some a text (sym e)

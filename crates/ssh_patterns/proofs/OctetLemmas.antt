@@ -60,11 +60,6 @@ decimal-alone a small h = elim (cases_lt 0 a) [
     | inr none ↦ let zero_is : a ≡ 0 = omega arith in rw zero_is (ap length (decimal_digit 0 (omega arith)))
     ]
 
-pub octet_of-decimal : (a : ℕ) → a < 256 → octet_of (decimal a) ≡ Some a
-octet_of-decimal a small =
-    let numeral = decimal_is_IsNumeral a (omega arith) in
-    rw (decimal_of-digits (decimal a) numeral.0.1 numeral.0.0 (decimal-alone a small), numeral.1) (below-small 256 a small)
-
 below-by : (b : Bool) (limit n a : ℕ) → nat_lt n limit ≡ b → (if b then Some n else None) ≡ Some a → (n < limit) × (n ≡ a)
 below-by true limit n a e h = (ltb-true n limit e, cc)
 below-by false limit n a e h = cc
@@ -102,12 +97,23 @@ decimal_of-some : (ds : List ℕ) (a : ℕ) → decimal_of ds ≡ Some a → IsD
 decimal_of-some [] a h = cc
 decimal_of-some (c ∷ cs) a h = lead-by ((length cs == 0) || not (c == 48)) c cs a refl h
 
-pub octet_of-some : (ds : List ℕ) (a : ℕ) → octet_of ds ≡ Some a → (a < 256) × (ds ≡ decimal a)
-octet_of-some ds a h =
-    let read = below-some 256 (decimal_of ds) a h in
+pub limited-decimal : (limit a : ℕ) → limit ≤ 256 → a < limit → below limit (decimal_of (decimal a)) ≡ Some a
+limited-decimal limit a most small =
+    let numeral = decimal_is_IsNumeral a (omega arith) in
+    rw (decimal_of-digits (decimal a) numeral.0.1 numeral.0.0 (decimal-alone a (omega arith)), numeral.1) (below-small limit a small)
+
+pub octet_of-decimal : (a : ℕ) → a < 256 → octet_of (decimal a) ≡ Some a
+octet_of-decimal a small = limited-decimal 256 a (omega arith) small
+
+pub limited-some : (limit : ℕ) (ds : List ℕ) (a : ℕ) → limit ≤ 256 → below limit (decimal_of ds) ≡ Some a → (a < limit) × (ds ≡ decimal a)
+limited-some limit ds a most h =
+    let read = below-some limit (decimal_of ds) a h in
     let is = decimal_of-some ds a read.0 in
     (read.1, sym (decimal-digits_value (numerals_by_value (AllDigits 10) tells_digits) ds is.all is.some is.alone (omega (arith, is.value, read.1)))
     ∙ ap decimal is.value)
+
+pub octet_of-some : (ds : List ℕ) (a : ℕ) → octet_of ds ≡ Some a → (a < 256) × (ds ≡ decimal a)
+octet_of-some ds a h = limited-some 256 ds a (omega arith) h
 
 pub neither : (a b : Bool) → (a || b) ≡ false → (a ≡ false) × (b ≡ false)
 neither true b h = cc

@@ -1,13 +1,37 @@
 -- Which addresses lie in a net, and the texts of nets (RFC 4632, section 3.1; RFC 4291, section 2.3).
-use Rattle.std.specs.Prelude.{ℕ, ◌+◌, ◌/◌, ◌%◌, Bool, true, false, ◌&&◌, ◌==◌, if◌then◌else◌, List, codes, Option, Result, Ok, Err, ok_or}
+use Rattle.std.specs.Prelude.{◌≡◌, ℕ, ◌∷◌, ◌++◌, decimal, ◌+◌, ◌/◌, ◌%◌, Bool, true, false, ◌&&◌, ◌==◌, if◌then◌else◌, List, codes, Option, Result, Ok, Err, ok_or}
 use Rattle.ssh_patterns.specs.declared.address.Address.{Address}
 use Rattle.ssh_patterns.specs.declared.address.Address.TheVariants.{V4, V6}
 use Rattle.ssh_patterns.specs.declared.error.PatternError.{PatternError}
 use Rattle.ssh_patterns.specs.declared.error.PatternError.TheVariants as errors
+use Rattle.ssh_patterns.specs.AddressText.{IsAddressText}
 use Rattle.ssh_patterns.specs.AddressReading.{address_of}
-use Rattle.ssh_patterns.specs.Block.{Block, width, number, size}
+use Rattle.ssh_patterns.specs.Block.{Block, IsBlock, width, number, size}
 use Rattle.ssh_patterns.specs.Cut.{cut_at}
 use Rattle.ssh_patterns.specs.Digits.{below, decimal_of}
+
+-- `/`
+abbrev pub slash : ℕ
+slash = 47
+
+-- The text spells the net: the text of its base, a slash, and its length in decimal without leading zeros, where no bit of the base past the length is set.
+pub record IsNetText (net : Block) (text : List ℕ) : Type 0 where
+  pub base_text : List ℕ
+  pub whole : text ≡ base_text ++ slash ∷ decimal net.prefix
+  pub spelled : IsAddressText net.base base_text
+  pub block : IsBlock net
+
+-- the two addresses are of one family
+abbrev pub AreOfOneFamily : Address → Address → Type 0
+AreOfOneFamily (V4 m) (V4 n) = Unit {0}
+AreOfOneFamily (V4 m) (V6 n) = ⊥
+AreOfOneFamily (V6 m) (V4 n) = ⊥
+AreOfOneFamily (V6 m) (V6 n) = Unit {0}
+
+-- The address lies in the net: it is of the family of its base, and has the same quotient by the net's size.
+pub record LiesIn (net : Block) (address : Address) : Type 0 where
+  pub family : AreOfOneFamily net.base address
+  pub first_bits : number address / size net.base net.prefix ≡ number net.base / size net.base net.prefix
 
 -- whether two addresses are of one family
 abbrev pub same_family : Address → Address → Bool

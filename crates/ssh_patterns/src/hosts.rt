@@ -1,7 +1,7 @@
 //! Lists of host name patterns (ssh_config(5), PATTERNS).
 
-ghost use Rattle.std.specs.Prelude.{◌≡◌};
-ghost use Rattle.ssh_patterns.specs.Lists.{host_list};
+ghost use Rattle.std.specs.Prelude.{◌≡◌, ◌↔◌, IsTrue};
+ghost use Rattle.ssh_patterns.specs.Lists.{MatchesInLowerCase, Permits, host_list};
 
 use crate::list::{Asked, permit};
 use crate::pattern::{Case, matches_in};
@@ -38,6 +38,7 @@ impl<'a> Asked for HostName<'a> {
 /// other item does. Items are the pieces between commas, and are compared in ASCII lower case
 /// (ssh_config(5), PATTERNS). An empty item matches the empty name alone.
 pub fn host_list(list: &[u8], name: &[u8]) -> bool
+    ensures rule { IsTrue result ↔ Permits (MatchesInLowerCase name.now) list.now }
     ensures value { result ≡ host_list list.now name.now }
 {
     permit(list, &HostName { name }).is_yes()

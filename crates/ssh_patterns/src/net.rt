@@ -1,8 +1,8 @@
 //! Nets: the addresses of one family that share their first bits (RFC 4632, section 3.1).
 
-ghost use Rattle.std.specs.Prelude.{◌≡◌, ◌/◌, ◌%◌, ◌^◌, ◌==◌};
-ghost use Rattle.ssh_patterns.specs.Block.{width, number};
-ghost use Rattle.ssh_patterns.specs.Nets.{in_net, net_of, prefix_of};
+ghost use Rattle.std.specs.Prelude.{◌≡◌, ◌↔◌, IsTrue, IfOk, Ok, ◌/◌, ◌%◌, ◌^◌, ◌==◌};
+ghost use Rattle.ssh_patterns.specs.Block.{Block, width, number};
+ghost use Rattle.ssh_patterns.specs.Nets.{IsNetText, LiesIn, in_net, net_of, prefix_of};
 
 use crate::address::{Address, read_address};
 use crate::error::PatternError;
@@ -72,12 +72,9 @@ fn prefix(base: Address, text: &[u8]) -> Option<u8>
     decimal(text).filter(|prefix| *prefix <= width(base))
 }
 
-/// The net that a text spells: an address, a slash and the net's length in decimal without leading
-/// zeros, up to 32 or 128 by the address's family (RFC 4632, section 3.1; RFC 4291, section 2.3).
-/// Without a slash, or without an address before the first one, the fault is `Address`; then comes
-/// `Length`; then `HostBits`, where a bit past the length is set.
+/// The net that a text spells, or the first fault.
 #[tactic(auto, unfolding(crate::specs::Nets::net_of))]
-pub fn parse_net(text: &[u8]) -> Result<Net, PatternError>
+fn read_net(text: &[u8]) -> Result<Net, PatternError>
     ensures { result ≡ net_of text.now }
 {
     let (base, length) = split_once(text, b"/").ok_or(PatternError::Address)?;
@@ -89,9 +86,25 @@ pub fn parse_net(text: &[u8]) -> Result<Net, PatternError>
     Ok(Net { base, prefix })
 }
 
+/// The net that a text spells: an address, a slash and the net's length in decimal without leading
+/// zeros, up to 32 or 128 by the address's family (RFC 4632, section 3.1; RFC 4291, section 2.3).
+/// Without a slash, or without an address before the first one, the fault is `Address`; then comes
+/// `Length`; then `HostBits`, where a bit past the length is set.
+pub fn parse_net(text: &[u8]) -> Result<Net, PatternError>
+    // What is read is spelled by the text.
+    ensures spelled { IfOk result (λ net. IsNetText net text.now) }
+    // What the text spells is read, so it spells one net at most.
+    ensures only { (net : Block) → IsNetText net text.now → result ≡ Ok net }
+    // Else the first fault.
+    ensures value { result ≡ net_of text.now }
+{
+    read_net(text)
+}
+
 /// Whether the address is of the net's family and shares its first bits.
 pub fn contains(net: &Net, address: &Address) -> bool
-    ensures { result ≡ in_net net.now address.now }
+    ensures rule { IsTrue result ↔ LiesIn net.now address.now }
+    ensures value { result ≡ in_net net.now address.now }
 {
     let bits = u32::from(width(net.base) - net.prefix);
     width(net.base) == width(*address)
