@@ -4,11 +4,11 @@ use Rattle.std.proofs.lemmas.Bool.{or_cases, and_parts, and_from, eqb-true, eq-e
 use Rattle.ssh_patterns.specs.Matching.{Matches, is_match, some_rest, first_and_rest, star, question, folded}
 use Rattle.ssh_patterns.specs.declared.pattern.Case.TheVariants.{Exact}
 
-or_right : (a b : Bool) → b ≡ true → (a || b) ≡ true
+pub or_right : (a b : Bool) → b ≡ true → (a || b) ≡ true
 or_right true b h = refl
 or_right false b h = h
 
-or_left : (a b : Bool) → a ≡ true → (a || b) ≡ true
+pub or_left : (a b : Bool) → a ≡ true → (a || b) ≡ true
 or_left true b h = refl
 or_left false b h = cc
 

@@ -48,7 +48,7 @@ end-has_no groups text (inr ([], octets, before, are, h, whole, is)) = rw whole 
 end-has_no groups text (inr (f ∷ front, octets, before, are, h, whole, is)) =
     rw whole (joined-has_no before (dotted octets) colon refl (groups-has_no (f ∷ front) before h) (dotted-has_no octets are))
 
-address-has_no : (a : Address) (text : List ℕ) → IsAddressText a text → list_any (λ b. b == slash) text ≡ false
+pub address-has_no : (a : Address) (text : List ℕ) → IsAddressText a text → list_any (λ b. b == slash) text ≡ false
 address-has_no (V4 n) text (octets, are, whole, is) = rw whole (dotted-has_no octets are)
 address-has_no (V6 n) text (groups, (len, inl h), is) = end-has_no groups text h
 address-has_no (V6 n) text (groups, (len, inr (front, back, before, after, hf, hb, whole, room, eq)), is) =

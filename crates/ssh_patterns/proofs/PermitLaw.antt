@@ -19,7 +19,7 @@ any-tells p P tells xs =
     (λ h. Any-map (λ x. p x ≡ true) P xs (λ x q. (tells x).0 q) (Any-from_list_any p xs h),
     λ h. list_any-from_Any p xs (Any-map P (λ x. p x ≡ true) xs (λ x q. (tells x).1 q) h))
 
-not-true : (b : Bool) → not b ≡ true → b ≡ false
+pub not-true : (b : Bool) → not b ≡ true → b ≡ false
 not-true true h = cc
 not-true false h = refl
 

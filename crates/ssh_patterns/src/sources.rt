@@ -1,8 +1,9 @@
 //! Lists of the sources of a login: of a `from` option and of a certificate's `source-address`.
 
-ghost use Rattle.std.specs.Prelude.{◌≡◌, IsSome, option_copied};
+ghost use Rattle.std.specs.Prelude.{◌≡◌, ◌↔◌, IsSome, option_copied};
+ghost use Rattle.std.specs.List.{Any};
 ghost use Rattle.ssh_patterns.specs.AddressReading.{address_of};
-ghost use Rattle.ssh_patterns.specs.Lists.{is_address, host_matches, source_list, cidr_list};
+ghost use Rattle.ssh_patterns.specs.Lists.{is_address, host_matches, items_of, Permits, FitsSource, IsBadSource, source_list, FitsAddress, IsBadCidr, cidr_list};
 
 use crate::address::{Address, read_address};
 use crate::list::{Asked, permit};
@@ -101,6 +102,10 @@ impl Asked for Address {
 /// net (this project's rule).
 pub fn source_list(list: &[u8], host: Option<&[u8]>, address_text: &[u8]) -> Permit
     requires { IsSome (address_of address_text.now) }
+    // Some item cannot stand in such a list.
+    ensures bad { (result ≡ Permit.Bad) ↔ Any IsBadSource (items_of list.now) }
+    // Else no negated item fits the source, and some other does.
+    ensures yes { (result ≡ Permit.Yes) ↔ ((¬ Any IsBadSource (items_of list.now)) × Permits (FitsSource (record { host = option_copied host.entry; text = address_text.now })) list.now) }
     ensures value { result ≡ source_list list.now (option_copied host.entry) address_text.now }
 {
     match read_address(address_text) {
@@ -120,6 +125,10 @@ pub fn source_list(list: &[u8], host: Option<&[u8]>, address_text: &[u8]) -> Per
 /// it is an item, or lies in the net that an item spells. It is `Bad` where an item is negated, or is
 /// neither a net nor an address (this project's rule).
 pub fn cidr_list(list: &[u8], address: &Address) -> Permit
+    // Some item cannot stand in such a list.
+    ensures bad { (result ≡ Permit.Bad) ↔ Any IsBadCidr (items_of list.now) }
+    // Else some item fits the address.
+    ensures yes { (result ≡ Permit.Yes) ↔ ((¬ Any IsBadCidr (items_of list.now)) × Permits (FitsAddress address.now) list.now) }
     ensures value { result ≡ cidr_list list.now address.now }
 {
     permit(list, address)
