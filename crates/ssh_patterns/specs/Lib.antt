@@ -7,3 +7,4 @@ pub mod AddressReading
 pub mod Block
 pub mod Nets
 pub mod Lists
+pub mod Samples

@@ -9,6 +9,7 @@ mod list;
 mod net;
 mod pattern;
 mod permit;
+mod samples;
 mod sources;
 mod text;
 
@@ -21,4 +22,5 @@ pub use hosts::host_list;
 pub use net::{Net, contains, parse_net};
 pub use pattern::matches;
 pub use permit::Permit;
+pub use samples::read_samples;
 pub use sources::{cidr_list, source_list};
