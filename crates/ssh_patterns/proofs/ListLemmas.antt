@@ -1,0 +1,38 @@
+-- Lists, piece by piece.
+use Rattle.std.proofs.Common.{◌≡◌, ℕ, ◌+◌, ◌<◌, Bool, true, false, not, ◌||◌, ◌&&◌, ◌==◌, if◌then◌else◌, List, [], ◌∷◌, map, length, drop, get_or, Option, Some, None, refl, sym, ap, ◌∙◌, add-one, arith}
+use Rattle.std.proofs.Math.Seq.{drop-cons}
+use Rattle.std.specs.List.{list_any}
+use Rattle.ssh_patterns.specs.declared.permit.Permit.{Permit}
+use Rattle.ssh_patterns.specs.declared.permit.Permit.TheVariants.{Yes, No, Bad}
+use Rattle.ssh_patterns.specs.Lists.{Item, item_of, items_of, pieces, permit, permits, permit_of, is_yes}
+
+-- what the pieces that are left say after some items were refused or matched
+abbrev pub verdict_after : (Item → Bool) → (List ℕ → Bool) → Bool → Bool → List (List ℕ) → Permit
+verdict_after is_bad matches refused matched left =
+    permit (list_any is_bad (map item_of left))
+    (not (refused || list_any (λ item. item.negated && matches item.text) (map item_of left))
+    && (matched || list_any (λ item. not item.negated && matches item.text) (map item_of left)))
+
+pub verdict-start : (is_bad : Item → Bool) (matches : List ℕ → Bool) (list : List ℕ)
+    → verdict_after is_bad matches false false (pieces list) ≡ permit_of is_bad matches list
+unfolding permit_of
+verdict-start is_bad matches list = refl
+
+-- how much is left of a list, with its end
+abbrev pub length_left : Option (List ℕ) → ℕ
+length_left None = 0
+length_left (Some left) = length left + 1
+
+none_bad : (items : List Item) → list_any (λ item. false) items ≡ false
+none_bad [] = refl
+none_bad (item ∷ items) = none_bad items
+
+yes-by : (p : Bool) → is_yes (permit false p) ≡ p
+yes-by true = refl
+yes-by false = refl
+
+-- where no item is bad, a list says yes or no
+pub yes-permits : (matches : List ℕ → Bool) (list : List ℕ)
+    → is_yes (permit_of (λ item. false) matches list) ≡ permits matches (items_of list)
+unfolding permit_of
+yes-permits matches list = rw (none_bad (items_of list)) (yes-by (permits matches (items_of list)))

@@ -1,0 +1,131 @@
+-- The net that is computed from a text is the one that its grammar gives it, both ways.
+use Rattle.std.proofs.Common.{◌≡◌, ◌≢◌, ℕ, ◌+◌, ◌/◌, ◌%◌, ◌<◌, ◌≤◌, ◌==◌, ◌↔◌, IsTrue, Bool, true, false, ◌||◌, ◌&&◌, inl, inr, if◌then◌else◌, List, [], ◌∷◌, ◌++◌, length, decimal, codes, Option, Some, None, Result, Ok, Err, IfOk, ok_or, refl, sym, ap, ◌∙◌, lit≤, arith}
+use Rattle.std.specs.List.{list_any}
+use Rattle.std.specs.Char.{digit_value}
+use Rattle.std.proofs.lemmas.Bool.{eqb-true, eq-eqb, and_parts}
+use Rattle.std.proofs.lemmas.List.Folds.{list_any-append}
+use Rattle.ssh_patterns.specs.declared.address.Address.{Address}
+use Rattle.ssh_patterns.specs.declared.address.Address.TheVariants.{V4, V6}
+use Rattle.ssh_patterns.specs.declared.error.PatternError.{PatternError}
+use Rattle.ssh_patterns.specs.declared.error.PatternError.TheVariants as errors
+use Rattle.ssh_patterns.specs.AddressText.{AreOctets, dotted, colon, IsGroup, AreGroups, AreGroupsAtEnd, before_dotted, AreEightGroups, IsAddressText}
+use Rattle.ssh_patterns.specs.AddressReading.{address_of}
+use Rattle.ssh_patterns.specs.Block.{Block, IsBlock, width, number, size}
+use Rattle.ssh_patterns.specs.Cut.{cut_at}
+use Rattle.ssh_patterns.specs.Digits.{below, decimal_of}
+use Rattle.ssh_patterns.specs.Nets.{slash, IsNetText, AreOfOneFamily, LiesIn, same_family, in_net, prefix_of, ◌>>=◌, net_of}
+use Rattle.ssh_patterns.proofs.CutLemmas.{parts-cut}
+use Rattle.ssh_patterns.proofs.OctetLemmas.{limited-decimal, limited-some, decimal-has_no, cut_at-front}
+use Rattle.ssh_patterns.proofs.SpelledLemmas.{group-has_no}
+use Rattle.ssh_patterns.proofs.AddressLaw.{address-read, address-some}
+
+-- ---- no slash stands in an address
+
+joined-has_no : (front back : List ℕ) (c : ℕ) → (c == slash) ≡ false → list_any (λ b. b == slash) front ≡ false
+    → list_any (λ b. b == slash) back ≡ false → list_any (λ b. b == slash) (front ++ c ∷ back) ≡ false
+joined-has_no front back c other hf hb = rw (list_any-append (λ b. b == slash) front (c ∷ back), hf, other, hb) refl
+
+dotted-has_no : (octets : List ℕ) → AreOctets octets → list_any (λ b. b == slash) (dotted octets) ≡ false
+dotted-has_no (a ∷ b ∷ c ∷ d ∷ []) (len, (ha, (hb, (hc, (hd, _))))) =
+    joined-has_no (decimal a) (decimal b ++ 46 ∷ (decimal c ++ 46 ∷ decimal d)) 46 refl (decimal-has_no slash a (lit≤ tt) ha)
+    (joined-has_no (decimal b) (decimal c ++ 46 ∷ decimal d) 46 refl (decimal-has_no slash b (lit≤ tt) hb)
+    (joined-has_no (decimal c) (decimal d) 46 refl (decimal-has_no slash c (lit≤ tt) hc) (decimal-has_no slash d (lit≤ tt) hd)))
+dotted-has_no [] h = absurd (omega (arith, h.0))
+dotted-has_no (a ∷ []) h = absurd (omega (arith, h.0))
+dotted-has_no (a ∷ b ∷ []) h = absurd (omega (arith, h.0))
+dotted-has_no (a ∷ b ∷ c ∷ []) h = absurd (omega (arith, h.0))
+dotted-has_no (a ∷ b ∷ c ∷ d ∷ e ∷ more) h = absurd (omega (arith, h.0))
+
+groups-has_no : (groups text : List ℕ) → AreGroups groups text → list_any (λ b. b == slash) text ≡ false
+groups-has_no [] text h = rw h refl
+groups-has_no (g ∷ []) text h = group-has_no slash text g (lit≤ tt) h
+groups-has_no (g ∷ next ∷ groups) text (first, rest, whole, h, more) =
+    rw whole (joined-has_no first rest colon refl (group-has_no slash first g (lit≤ tt) h) (groups-has_no (next ∷ groups) rest more))
+
+end-has_no : (groups text : List ℕ) → AreGroupsAtEnd groups text → list_any (λ b. b == slash) text ≡ false
+end-has_no groups text (inl h) = groups-has_no groups text h
+end-has_no groups text (inr ([], octets, before, are, h, whole, is)) = rw whole (dotted-has_no octets are)
+end-has_no groups text (inr (f ∷ front, octets, before, are, h, whole, is)) =
+    rw whole (joined-has_no before (dotted octets) colon refl (groups-has_no (f ∷ front) before h) (dotted-has_no octets are))
+
+pub address-has_no : (a : Address) (text : List ℕ) → IsAddressText a text → list_any (λ b. b == slash) text ≡ false
+address-has_no (V4 n) text (octets, are, whole, is) = rw whole (dotted-has_no octets are)
+address-has_no (V6 n) text (groups, (len, inl h), is) = end-has_no groups text h
+address-has_no (V6 n) text (groups, (len, inr (front, back, before, after, hf, hb, whole, room, eq)), is) =
+    rw whole (joined-has_no before (colon ∷ after) colon refl (groups-has_no front before hf) (end-has_no back after hb))
+
+-- ---- from a step that found something
+
+bind-ok : {A B : Type 0} (read : Result A PatternError) (next : A → Result B PatternError) (b : B) → (read >>= next) ≡ Ok b
+    → (a : A) × (read ≡ Ok a) × (next a ≡ Ok b)
+bind-ok (Ok a) next b h = (a, refl, h)
+bind-ok (Err e) next b h = cc
+
+ok-is : {A : Type 0} {x y : A} → ◌≡◌ {A = Result A PatternError} (Ok x) (Ok y) → x ≡ y
+ok-is {A} {x} {y} h = cc
+
+found : {A : Type 0} (o : Option A) (e : PatternError) (a : A) → ok_or o e ≡ Ok a → o ≡ Some a
+found None e a h = cc
+found (Some x) e a h = ap (λ r. Some r) (ok-is h)
+
+small-width : (base : Address) → width base + 1 ≤ 256
+small-width (V4 n) = omega arith
+small-width (V6 n) = omega arith
+
+block-by : (b : Bool) (base : Address) (prefix : ℕ) (net : Block) → (number base % size base prefix == 0) ≡ b
+    → (if b then Ok (record { base = base; prefix = prefix }) else Err errors.HostBits) ≡ Ok net
+    → (number base % size base prefix ≡ 0) × (record { base = base; prefix = prefix } ≡ net)
+block-by true base prefix net e h = (eqb-true (number base % size base prefix) 0 e, ok-is h)
+block-by false base prefix net e h = cc
+
+pub net-some : (net : Block) (text : List ℕ) → net_of text ≡ Ok net → IsNetText net text
+unfolding net_of
+net-some net text h =
+    let cut = bind-ok (ok_or (cut_at (codes "/") text) errors.Address) _ net h in
+    let base = bind-ok (ok_or (address_of cut.0.0) errors.Address) _ net cut.2 in
+    let prefix = bind-ok (ok_or (prefix_of base.0 cut.0.1) errors.Length) _ net base.2 in
+    let whole = (parts-cut slash text cut.0.0 cut.0.1 (found (cut_at (codes "/") text) errors.Address cut.0 cut.1)).whole in
+    let spelled = address-some base.0 cut.0.0 (found (address_of cut.0.0) errors.Address base.0 base.1) in
+    let short = limited-some (width base.0 + 1) cut.0.1 prefix.0 (small-width base.0)
+            (found (prefix_of base.0 cut.0.1) errors.Length prefix.0 prefix.1) in
+    let block = block-by (number base.0 % size base.0 prefix.0 == 0) base.0 prefix.0 net refl prefix.2 in
+    rw (← block.1) (record {
+      base_text = cut.0.0;
+      whole = whole ∙ ap (λ s. cut.0.0 ++ slash ∷ s) short.1;
+      spelled = spelled;
+      block = record { within = omega (arith, short.0); no_host_bits = block.0 };
+    })
+
+pub net-read : (net : Block) (text : List ℕ) → IsNetText net text → net_of text ≡ Ok net
+unfolding net_of
+net-read net text h =
+    rw (h.whole,
+    cut_at-front slash h.base_text (decimal net.prefix) (address-has_no net.base h.base_text h.spelled),
+    address-read net.base h.base_text h.spelled,
+    limited-decimal (width net.base + 1) net.prefix (small-width net.base) (omega (arith, h.block.within)),
+    h.block.no_host_bits) refl
+
+pub ok-net : (result : Result Block PatternError) (text : List ℕ) → result ≡ net_of text → IfOk result (λ net. IsNetText net text)
+ok-net (Ok net) text e = net-some net text (sym e)
+ok-net (Err fault) text e = tt
+
+-- ---- nets and addresses
+
+family-by : (a b : Address) → same_family a b ≡ true → AreOfOneFamily a b
+family-by (V4 m) (V4 n) h = tt
+family-by (V4 m) (V6 n) h = cc
+family-by (V6 m) (V4 n) h = cc
+family-by (V6 m) (V6 n) h = tt
+
+same-by : (a b : Address) → AreOfOneFamily a b → same_family a b ≡ true
+same-by (V4 m) (V4 n) h = refl
+same-by (V4 m) (V6 n) h = absurd h
+same-by (V6 m) (V4 n) h = absurd h
+same-by (V6 m) (V6 n) h = refl
+
+pub lies-in : (net : Block) (address : Address) → IsTrue (in_net net address) ↔ LiesIn net address
+lies-in net address =
+    let bits : ℕ = size net.base net.prefix in
+    (λ h. let parts = and_parts (same_family net.base address) (number address / bits == number net.base / bits) h in
+    record { family = family-by net.base address parts.0; first_bits = eqb-true (number address / bits) (number net.base / bits) parts.1 },
+    λ h. rw (same-by net.base address h.family) (eq-eqb (number address / bits) (number net.base / bits) h.first_bits))

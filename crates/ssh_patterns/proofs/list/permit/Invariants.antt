@@ -1,0 +1,12 @@
+use Rattle.std.proofs.Common.{◌≡◌, option_copied}
+use Rattle.ssh_patterns.specs.Lists.{pieces_left, permit_of}
+use Rattle.ssh_patterns.proofs.ListLemmas.{verdict_after, length_left}
+use Rattle.ssh_patterns.proofs.list.permit.Given as goal
+
+abbrev pub invariant-loop-rest : goal.invariant-loop-rest
+invariant-loop-rest g l =
+    verdict_after (g.A.Asked.is_bad l.asked) (g.A.Asked.is_match l.asked) l.refused l.matched (pieces_left (option_copied l.rest))
+    ≡ permit_of (g.A.Asked.is_bad l.asked) (g.A.Asked.is_match l.asked) l.list
+
+abbrev pub decreases-loop-rest : goal.decreases-loop-rest
+decreases-loop-rest g l = length_left (option_copied l.rest)

@@ -1,0 +1,6 @@
+use Rattle.std.proofs.Common.{arith}
+use Rattle.ssh_patterns.proofs.NetLemmas.{all_bits}
+use Rattle.ssh_patterns.proofs.net.has_last_clear.Goals as goal
+
+pub returns-in-None : goal.returns-in-None
+returns-in-None c = let k = c.in-None in all_bits c.args.number c.args.bits (omega arith) (omega arith)

@@ -1,0 +1,9 @@
+use Rattle.std.proofs.Common.{◌∙◌}
+use Rattle.ssh_patterns.proofs.NetLaw.{net-read, ok-net}
+use Rattle.ssh_patterns.proofs.net.parse_net.Goals as goal
+
+pub returns-clause-spelled : goal.returns-clause-spelled
+returns-clause-spelled c = ok-net c.read_net.result c.args.text.now c.read_net.ensures
+
+pub returns-clause-only : goal.returns-clause-only
+returns-clause-only c = λ net h. c.read_net.ensures ∙ net-read net c.args.text.now h

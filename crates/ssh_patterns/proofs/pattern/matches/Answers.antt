@@ -1,0 +1,13 @@
+use Rattle.std.proofs.Common.{◌≡◌, refl}
+use Rattle.ssh_patterns.specs.Matching.{is_match}
+use Rattle.ssh_patterns.proofs.MatchLemmas.{folded-Exact, is_match-tests}
+use Rattle.ssh_patterns.proofs.pattern.matches.Goals as goal
+
+pub returns-clause-value : goal.returns-clause-value
+returns-clause-value c =
+    rw (folded-Exact c.args.pattern.now, folded-Exact c.args.text.now) at c.matches_in.ensures
+
+pub returns-clause-rule : goal.returns-clause-rule
+returns-clause-rule c =
+    rw (rw (folded-Exact c.args.pattern.now, folded-Exact c.args.text.now) at c.matches_in.ensures)
+    (is_match-tests c.args.pattern.now c.args.text.now)

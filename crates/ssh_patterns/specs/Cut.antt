@@ -1,0 +1,18 @@
+-- Texts that are cut at a mark.
+use Rattle.std.specs.Prelude.{ℕ, ◌==◌, if◌then◌else◌, List, [], ◌∷◌, Option, Some, None, option_map}
+
+-- what follows the mark at the front of a text
+abbrev pub after_mark : List ℕ → List ℕ → Option (List ℕ)
+after_mark [] text = Some text
+after_mark (m ∷ ms) [] = None
+after_mark (m ∷ ms) (c ∷ cs) = if c == m then after_mark ms cs else None
+
+-- a mark at the front, or else the cut of what follows the first byte
+abbrev pub cut_here : Option (List ℕ) → ℕ → Option (List ℕ × List ℕ) → Option (List ℕ × List ℕ)
+cut_here (Some after) c later = Some ([], after)
+cut_here None c later = option_map (λ cut. (c ∷ cut.0, cut.1)) later
+
+-- what stands before and after the first mark of one byte or more
+abbrev pub cut_at : List ℕ → List ℕ → Option (List ℕ × List ℕ)
+cut_at mark [] = None
+cut_at mark (c ∷ cs) = cut_here (after_mark mark (c ∷ cs)) c (cut_at mark cs)

@@ -1,0 +1,50 @@
+-- Which texts a pattern matches (ssh_config(5), PATTERNS).
+use Rattle.std.specs.Prelude.{◌≡◌, ℕ, Bool, true, false, ◌||◌, ◌&&◌, ◌==◌, if◌then◌else◌, List, [], ◌∷◌, ◌++◌, MatchBool}
+use Rattle.std.specs.Char.{to_ascii_lowercase}
+use Rattle.ssh_patterns.specs.declared.pattern.Case.{Case}
+use Rattle.ssh_patterns.specs.declared.pattern.Case.TheVariants.{Exact, Lower}
+
+-- `*`
+abbrev pub star : ℕ
+star = 42
+
+-- `?`
+abbrev pub question : ℕ
+question = 63
+
+-- The empty pattern matches the empty text alone. `*` stands for any bytes at the front of the text,
+-- `?` for its first byte whatever that is, and any other byte for itself (ssh_config(5), PATTERNS).
+abbrev pub Matches : List ℕ → List ℕ → Type 0
+Matches [] text = text ≡ []
+Matches (c ∷ pattern) text =
+    MatchBool (c == star)
+    ((front rest : List ℕ) × (text ≡ front ++ rest) × Matches pattern rest)
+    (MatchBool (c == question)
+    ((first : ℕ) × (rest : List ℕ) × (text ≡ first ∷ rest) × Matches pattern rest)
+    ((rest : List ℕ) × (text ≡ c ∷ rest) × Matches pattern rest))
+
+-- whether what is left passes the test after some bytes are taken from the front
+abbrev pub some_rest : (List ℕ → Bool) → List ℕ → Bool
+some_rest test [] = test []
+some_rest test (x ∷ xs) = test (x ∷ xs) || some_rest test xs
+
+-- whether the text has a first byte that passes one test and a rest that passes the other
+abbrev pub first_and_rest : (ℕ → Bool) → (List ℕ → Bool) → List ℕ → Bool
+first_and_rest first rest [] = false
+first_and_rest first rest (x ∷ xs) = first x && rest xs
+
+abbrev pub is_empty : List ℕ → Bool
+is_empty [] = true
+is_empty (x ∷ xs) = false
+
+-- `Matches` as a test
+abbrev pub is_match : List ℕ → List ℕ → Bool
+is_match [] text = is_empty text
+is_match (c ∷ pattern) text =
+    if c == star then some_rest (is_match pattern) text
+    else first_and_rest (λ x. (c == question) || (c == x)) (is_match pattern) text
+
+-- a byte as it is compared: itself, or its ASCII lower case
+abbrev pub folded : Case → ℕ → ℕ
+folded Exact c = c
+folded Lower c = to_ascii_lowercase c

@@ -1,0 +1,66 @@
+-- Which addresses lie in a net, and the texts of nets (RFC 4632, section 3.1; RFC 4291, section 2.3).
+use Rattle.std.specs.Prelude.{◌≡◌, ℕ, ◌∷◌, ◌++◌, decimal, ◌+◌, ◌/◌, ◌%◌, Bool, true, false, ◌&&◌, ◌==◌, if◌then◌else◌, List, codes, Option, Result, Ok, Err, ok_or}
+use Rattle.ssh_patterns.specs.declared.address.Address.{Address}
+use Rattle.ssh_patterns.specs.declared.address.Address.TheVariants.{V4, V6}
+use Rattle.ssh_patterns.specs.declared.error.PatternError.{PatternError}
+use Rattle.ssh_patterns.specs.declared.error.PatternError.TheVariants as errors
+use Rattle.ssh_patterns.specs.AddressText.{IsAddressText}
+use Rattle.ssh_patterns.specs.AddressReading.{address_of}
+use Rattle.ssh_patterns.specs.Block.{Block, IsBlock, width, number, size}
+use Rattle.ssh_patterns.specs.Cut.{cut_at}
+use Rattle.ssh_patterns.specs.Digits.{below, decimal_of}
+
+-- `/`
+abbrev pub slash : ℕ
+slash = 47
+
+-- The text spells the net: the text of its base, a slash, and its length in decimal without leading zeros, where no bit of the base past the length is set.
+pub record IsNetText (net : Block) (text : List ℕ) : Type 0 where
+  pub base_text : List ℕ
+  pub whole : text ≡ base_text ++ slash ∷ decimal net.prefix
+  pub spelled : IsAddressText net.base base_text
+  pub block : IsBlock net
+
+-- the two addresses are of one family
+abbrev pub AreOfOneFamily : Address → Address → Type 0
+AreOfOneFamily (V4 m) (V4 n) = Unit {0}
+AreOfOneFamily (V4 m) (V6 n) = ⊥
+AreOfOneFamily (V6 m) (V4 n) = ⊥
+AreOfOneFamily (V6 m) (V6 n) = Unit {0}
+
+-- The address lies in the net: it is of the family of its base, and has the same quotient by the net's size.
+pub record LiesIn (net : Block) (address : Address) : Type 0 where
+  pub family : AreOfOneFamily net.base address
+  pub first_bits : number address / size net.base net.prefix ≡ number net.base / size net.base net.prefix
+
+-- whether two addresses are of one family
+abbrev pub same_family : Address → Address → Bool
+same_family (V4 m) (V4 n) = true
+same_family (V4 m) (V6 n) = false
+same_family (V6 m) (V4 n) = false
+same_family (V6 m) (V6 n) = true
+
+-- An address lies in a net of its own family whose first bits it shares: its quotient by the size of the net is that of the base.
+abbrev pub in_net : Block → Address → Bool
+in_net net address =
+    same_family net.base address && (number address / size net.base net.prefix == number net.base / size net.base net.prefix)
+
+abbrev pub same_address : Address → Address → Bool
+same_address a b = same_family a b && (number a == number b)
+
+-- the length of a net: a decimal number without leading zeros, at most the bits of the family
+abbrev pub prefix_of : Address → List ℕ → Option ℕ
+prefix_of base text = below (width base + 1) (decimal_of text)
+
+infixl 10 ◌>>=◌
+abbrev pub ◌>>=◌ : {A B : Type 0} → Result A PatternError → (A → Result B PatternError) → Result B PatternError
+Ok value >>= next = next value
+Err fault >>= next = Err fault
+
+-- The net that a text spells: an address, a slash (the first), and a length with no bit of the address past it. Else the first fault.
+unfoldable pub net_of : List ℕ → Result Block PatternError
+net_of text = do
+  cut ← ok_or (cut_at (codes "/") text) errors.Address
+  base ← ok_or (address_of cut.0) errors.Address
+  prefix ← ok_or (prefix_of base cut.1) errors.Length
+  if number base % size base prefix == 0 then Ok (record { base = base; prefix = prefix }) else Err errors.HostBits

@@ -1,0 +1,26 @@
+//! Patterns, addresses, nets and the lists that are made of them. Nothing here takes memory.
+#![tactic(auto)]
+
+mod address;
+mod error;
+mod groups;
+mod hosts;
+mod list;
+mod net;
+mod pattern;
+mod permit;
+mod samples;
+mod sources;
+mod text;
+
+#[cfg(test)]
+mod tests;
+
+pub use address::{Address, parse_address};
+pub use error::PatternError;
+pub use hosts::host_list;
+pub use net::{Net, contains, parse_net};
+pub use pattern::matches;
+pub use permit::Permit;
+pub use samples::read_samples;
+pub use sources::{cidr_list, source_list};

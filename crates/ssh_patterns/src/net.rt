@@ -1,0 +1,112 @@
+//! Nets: the addresses of one family that share their first bits (RFC 4632, section 3.1).
+
+ghost use Rattle.std.specs.Prelude.{◌≡◌, ◌↔◌, IsTrue, IfOk, Ok, ◌/◌, ◌%◌, ◌^◌, ◌==◌};
+ghost use Rattle.ssh_patterns.specs.Block.{Block, width, number};
+ghost use Rattle.ssh_patterns.specs.Nets.{IsNetText, LiesIn, in_net, net_of, prefix_of};
+
+use crate::address::{Address, read_address};
+use crate::error::PatternError;
+use crate::text::{decimal, split_once};
+use std::marker::Model;
+
+/// A net: the addresses of one family that share the first bits of its base, in which no later bit
+/// is set.
+#[derive(Clone, Copy, Debug, PartialEq, Eq)]
+pub struct Net {
+    base: Address,
+    prefix: u8,
+}
+
+impl Model for Net {
+    ghost use Rattle.ssh_patterns.specs.Block.{Block, IsBlock};
+
+    ghost Value = { Block };
+
+    ghost view = { λ n. record { base = n.base; prefix = n.prefix } };
+
+    ghost invariant = { λ n. IsBlock (record { base = n.base; prefix = n.prefix }) };
+
+    ghost inverse = { λ b. record { base = b.base; prefix = b.prefix } };
+}
+
+/// The bits of an address of this family.
+fn width(address: Address) -> u8
+    ensures { result ≡ width address }
+{
+    match address {
+        Address::V4(_) => 32,
+        Address::V6(_) => 128,
+    }
+}
+
+fn number(address: Address) -> u128
+    ensures { result ≡ number address }
+{
+    match address {
+        Address::V4(number) => u128::from(number),
+        Address::V6(number) => number,
+    }
+}
+
+/// The number without its last bits.
+fn without_last(number: u128, bits: u32) -> u128
+    ensures { result ≡ number / 2 ^ bits }
+{
+    number.unbounded_shr(bits)
+}
+
+/// Whether none of the last bits is set.
+fn has_last_clear(number: u128, bits: u32) -> bool
+    ensures { result ≡ (number % 2 ^ bits == 0) }
+{
+    match 1u128.checked_shl(bits) {
+        Some(size) => number % size == 0,
+        None => number == 0,
+    }
+}
+
+/// The length of a net of this family.
+fn prefix(base: Address, text: &[u8]) -> Option<u8>
+    ensures { result ≡ prefix_of base text.now }
+{
+    decimal(text).filter(|prefix| *prefix <= width(base))
+}
+
+/// The net that a text spells, or the first fault.
+#[tactic(auto, unfolding(crate::specs::Nets::net_of))]
+fn read_net(text: &[u8]) -> Result<Net, PatternError>
+    ensures { result ≡ net_of text.now }
+{
+    let (base, length) = split_once(text, b"/").ok_or(PatternError::Address)?;
+    let base = read_address(base).ok_or(PatternError::Address)?;
+    let prefix = prefix(base, length).ok_or(PatternError::Length)?;
+    if !has_last_clear(number(base), u32::from(width(base) - prefix)) {
+        return Err(PatternError::HostBits);
+    }
+    Ok(Net { base, prefix })
+}
+
+/// The net that a text spells: an address, a slash and the net's length in decimal without leading
+/// zeros, up to 32 or 128 by the address's family (RFC 4632, section 3.1; RFC 4291, section 2.3).
+/// Without a slash, or without an address before the first one, the fault is `Address`; then comes
+/// `Length`; then `HostBits`, where a bit past the length is set.
+pub fn parse_net(text: &[u8]) -> Result<Net, PatternError>
+    // What is read is spelled by the text.
+    ensures spelled { IfOk result (λ net. IsNetText net text.now) }
+    // What the text spells is read, so it spells one net at most.
+    ensures only { (net : Block) → IsNetText net text.now → result ≡ Ok net }
+    // Else the first fault.
+    ensures value { result ≡ net_of text.now }
+{
+    read_net(text)
+}
+
+/// Whether the address is of the net's family and shares its first bits.
+pub fn contains(net: &Net, address: &Address) -> bool
+    ensures rule { IsTrue result ↔ LiesIn net.now address.now }
+    ensures value { result ≡ in_net net.now address.now }
+{
+    let bits = u32::from(width(net.base) - net.prefix);
+    width(net.base) == width(*address)
+        && without_last(number(*address), bits) == without_last(number(net.base), bits)
+}
