@@ -42,15 +42,18 @@ items_within item (suc turns) at = elim at.rest [
 abbrev pub items_in : {A : Type 0} → (Position → Read A) → List ℕ → Result (List A) WireError
 items_in item text = items_within item (length text) (start text)
 
+-- an option's name and its data
 abbrev pub option_at : Position → Read CertOption
 option_at at = do
   name ← string_at at
   value ← string_at name.1
   Ok (record { name = name.0; value = value.0 }, value.1)
 
+-- what reading a field of a certificate gives
 abbrev pub ReadCert : Type 0 → Type 0
 ReadCert A = Result (A × Position) CertError
 
+-- a fault of a value is one of the certificate's
 abbrev pub of_wire : {A : Type 0} → Result A WireError → Result A CertError
 of_wire r = as_fault errors.Wire r
 
@@ -61,9 +64,11 @@ packed_at item list_fault at = do
   items ← as_fault (λ e. list_fault (at.place + 4 + e.place)) (items_in item text.0)
   Ok (items, text.1)
 
+-- the principals
 abbrev pub names_at : Position → ReadCert (List (List ℕ))
 names_at at = packed_at string_at errors.Principals at
 
+-- the critical options, or the extensions
 abbrev pub options_at : Position → ReadCert (List CertOption)
 options_at at = packed_at option_at errors.Options at
 

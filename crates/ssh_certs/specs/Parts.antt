@@ -6,6 +6,7 @@ use Rattle.ssh_certs.specs.declared.parts.CertParts.{CertParts}
 use Rattle.ssh_certs.specs.Certificate.{Certificate}
 use Rattle.ssh_certs.specs.Packed.{option_of}
 
+-- each part is the field of its name
 abbrev pub certificate_of_parts : CertParts → Certificate
 certificate_of_parts v = record {
   nonce = v.nonce.now;

@@ -59,7 +59,13 @@ SampleReads = (length sample_blob ≡ 213) × (length sample_signed ≡ 189)
     × (certificate_in (take 212 sample_blob) ≡ Err (errors.Wire (record { place = 189; cause = Short })))
     × (certificate_in (sample_blob ++ 0 ∷ []) ≡ Err (errors.Wire (record { place = 213; cause = Trailing })))
     × (certificate_in (take 99 sample_blob ++ 0 ∷ 0 ∷ 0 ∷ 4 ∷ drop 103 sample_blob) ≡ Err (errors.Principals 99))
+    × (certificate_in (take 122 sample_blob ++ 0 ∷ 0 ∷ 0 ∷ 5 ∷ 0 ∷ 0 ∷ 0 ∷ 1 ∷ 0x61 ∷ drop 126 sample_blob) ≡ Err (errors.Options 131))
+    × (certificate_in (take 134 sample_blob ++ 0 ∷ 0 ∷ 0 ∷ 50 ∷ (take 50 (sample_key 1) ++ drop 189 sample_blob)) ≡ Err (errors.Signer (key_errors.Wire (record { place = 15; cause = Short }))))
+    × (certificate_in (take 134 sample_blob ++ 0 ∷ 0 ∷ 0 ∷ 213 ∷ (sample_blob ++ drop 189 sample_blob)) ≡ Err errors.ChainedSigner)
+    × (certificate_in (take 189 sample_blob ++ 0 ∷ 0 ∷ 0 ∷ 19 ∷ take 19 sample_signature) ≡ Err (errors.Signature (record { place = 15; cause = Short })))
+    × (certificate_in (sample_key 0) ≡ Err errors.UnknownType)
+    × (certificate_in (replicate 262145 255) ≡ Err errors.TooLong)
 
 pub sample_reads : SampleReads
 unfolding string_at boolean_at mpint_at plain_kind certificate_kind key_blob positive_at point_at public_at fields_at blob_at key_in signature_blob sk_at signature_at signature_in signed_part certificate_blob items_within packed_at signer_at certificate_signature_at certificate_at certificate_in
-sample_reads = (refl, refl, refl, refl, refl, refl, refl, refl, refl, refl, refl, refl, refl)
+sample_reads = (refl, refl, refl, refl, refl, refl, refl, refl, refl, refl, refl, refl, refl, refl, refl, refl, refl, refl, refl)

@@ -6,6 +6,7 @@ use Rattle.ssh_certs.specs.declared.fields.CertFields.{CertFields}
 use Rattle.ssh_certs.specs.Certificate.{Certificate}
 use Rattle.ssh_certs.specs.Packed.{names_of, options_of}
 
+-- the lists are what their packed strings spell
 abbrev pub certificate_from : CertFields → Certificate
 certificate_from v = record {
   nonce = v.nonce.now;
