@@ -126,3 +126,13 @@ pub printed_through : {W : Type 0} (contents : W → Option (List ℕ)) (words :
     → IfTells o (λ s. (x : Shown) × Answers words s t x × PrintsUnseen (contents first) (contents ended) x status)
 printed_through contents words o t first begun left ended before after status begins ends prints =
     rw (ends, ← begins) (printed words o t (contents begun) (contents left) before after status prints)
+
+-- a fault is printed with its status, whether a write failed or not
+pub refused_through : {W : Type 0} (contents : W → Option (List ℕ)) (first begun left ended : W) (before after put : Bool) (r : Shown)
+    → r.status ≡ 2 → begun ≡ first → ended ≡ left → Puts (contents begun) (contents left) before after r.text put
+    → PrintsUnseen (contents first) (contents ended) r 2
+refused_through contents first begun left ended before after put r status begins ends puts = rw (ends, ← begins) (by_put put puts)
+  where
+    by_put : (put : Bool) → Puts (contents begun) (contents left) before after r.text put → PrintsUnseen (contents begun) (contents left) r 2
+    by_put true puts = inl (puts.0, sym status)
+    by_put false puts = inr (refl, puts.1, puts.2, puts.3)

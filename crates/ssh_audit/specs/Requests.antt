@@ -7,6 +7,8 @@ use Rattle.ssh_audit.specs.declared.decision.Decision.{Decision}
 use Rattle.ssh_audit.specs.declared.error.AuditError.{AuditError}
 use Rattle.ssh_audit.specs.declared.error.AuditError.TheVariants.{Read}
 use Rattle.ssh_audit.specs.declared.query.Signed.{Signed}
+use Rattle.ssh_audit.specs.declared.request.WordsFault.{WordsFault}
+use Rattle.ssh_audit.specs.declared.request.WordsFault.TheVariants.{Usage, Memory}
 use Rattle.ssh_audit.specs.Query.{Login}
 use Rattle.ssh_audit.specs.Offer.{LoginClaim, login_claim}
 use Rattle.ssh_audit.specs.Answer.{file_limit, login_answer}
@@ -136,3 +138,10 @@ Responds words s t r = RespondsBy (request_of (asked words s)) (answer words s) 
 -- the response is the answer where no read failed, and a read's fault where one did, unless memory was refused
 abbrev pub Answers : List (List ℕ) → Shelf → Option Shelf → Response → Type 0
 Answers words s t r = Responds words s t r ⊎ (r ≡ out_of_memory)
+
+-- ---- words that cannot be had
+
+-- what is answered where the program's own words cannot be read
+abbrev pub words_response : WordsFault → Response
+words_response Usage = usage_response
+words_response Memory = out_of_memory

@@ -24,24 +24,39 @@ mod response;
 mod run;
 mod system;
 mod tallied;
+#[cfg(test)]
+mod tests;
 mod text;
 mod values;
 mod vouch;
 mod words;
 
-use run::run;
-use std::io::Result;
+use request::WordsFault;
+use run::{refuse, run};
+use std::alloc::Global;
+use std::io::{ErrorKind, Result};
 use std::process::ExitCode;
 use std::{env, io};
 use system::SystemFiles;
 
-fn main(rt: HostRuntime) -> Result<ExitCode> {
+/// The program's words after its own name.
+fn read_words(rt: &HostRuntime) -> Result<Vec<String<Global>>> {
     let mut words = Vec::new(rt.alloc());
-    for word in env::args(&rt)?.skip(1) {
+    for word in env::args(rt)?.skip(1) {
         words.push(word)?;
     }
+    Ok(words)
+}
+
+fn main(rt: HostRuntime) -> ExitCode {
     let mut files = SystemFiles::new(&rt);
     let mut writer = io::writer(&rt);
-    let status = run(rt.alloc(), words.as_slice(), &mut files, &mut writer);
-    Ok(ExitCode::from(status))
+    let status = match read_words(&rt) {
+        Ok(words) => run(rt.alloc(), words.as_slice(), &mut files, &mut writer),
+        Err(error) if error.kind() == ErrorKind::OutOfMemory => {
+            refuse(WordsFault::Memory, &mut writer)
+        }
+        Err(_) => refuse(WordsFault::Usage, &mut writer),
+    };
+    ExitCode::from(status)
 }

@@ -2,11 +2,12 @@
 
 ghost use Rattle.std.specs.Prelude.{◌≡◌, map};
 ghost use Rattle.ssh_audit.specs.Texts.{Response as Shown};
-ghost use Rattle.ssh_audit.specs.Requests.{Answers};
+ghost use Rattle.ssh_audit.specs.Requests.{Answers, words_response};
 ghost use Rattle.ssh_audit.specs.Printing.{Prints, PrintsUnseen};
 ghost use Rattle.ssh_audit.specs.Shelf.{IfTells};
 
 use crate::files::Files;
+use crate::request::WordsFault;
 use crate::respond::respond;
 use crate::response::FAULT;
 use crate::tallied::{Tallied, put_out};
@@ -58,4 +59,24 @@ pub fn run<S: AsStr, F: Files, W: Write>(
 {
     let mut tallied = Tallied::new(writer);
     print_answer(alloc, words, files, &mut tallied)
+}
+
+/// What is printed where the program's own words cannot be read.
+fn fault_text<'a>(fault: WordsFault) -> &'a [u8]
+    ensures { result.now ≡ (words_response fault).text }
+{
+    match fault {
+        WordsFault::Usage => b"fault usage\n",
+        WordsFault::Memory => b"fault A8\n",
+    }
+}
+
+/// Prints that the program's own words cannot be read, since one is not in UTF-8 or memory was
+/// refused, and returns the status 2.
+pub fn refuse<W: Write>(fault: WordsFault, writer: &mut W) -> u8
+    ensures { PrintsUnseen (W.contents writer.old) (W.contents writer.new) (words_response fault) result }
+{
+    let mut tallied = Tallied::new(writer);
+    let _ = put_out(&mut tallied, fault_text(fault));
+    FAULT
 }

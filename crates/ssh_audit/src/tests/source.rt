@@ -1,0 +1,134 @@
+//! Sources in memory: one that tells its files, and one that fails.
+
+ghost use Rattle.std.specs.Prelude.{Some, None, refl, if◌then◌else◌, Option, List, ℕ};
+ghost use Rattle.std.specs.Str.{bytes_eq};
+ghost use Rattle.ssh_audit.specs.Shelf.{Shelf, Chosen, nothing, standard_input, named_file, left_of};
+ghost use Rattle.ssh_audit.specs.declared.tests.source.Place.TheVariants.{Nowhere, Input, File};
+
+use crate::files::Files;
+use std::io::{Error, ErrorKind, Read, Result};
+
+/// What is being read.
+#[derive(Clone, Copy, Debug, PartialEq, Eq)]
+pub enum Place {
+    Nowhere,
+    Input,
+    File,
+}
+
+/// One file, and standard input, with a count of failed reads.
+#[derive(Drop)]
+pub struct OneFile<'a> {
+    name: &'a str,
+    bytes: &'a [u8],
+    left: &'a [u8],
+    input: &'a [u8],
+    place: Place,
+    failures: u64,
+}
+
+impl<'a> OneFile<'a> {
+    /// A file of this name, and standard input.
+    pub fn new(name: &'a str, bytes: &'a [u8], input: &'a [u8]) -> Self {
+        OneFile {
+            name,
+            bytes,
+            left: b"",
+            input,
+            place: Place::Nowhere,
+            failures: 0,
+        }
+    }
+}
+
+impl Read for OneFile<'_> {
+    ghost remaining = { λ m. Some (left_of (record {
+      named = λ name. if bytes_eq name m.name.now then Some m.bytes.now else None;
+      input = m.input.now;
+      chosen = elim m.place [ Nowhere ↦ nothing | Input ↦ standard_input | File ↦ named_file m.left.now ];
+      failures = m.failures;
+    })) };
+
+    fn read(&mut self, buf: &mut [u8]) -> Result<usize> {
+        self.read_chosen(buf)
+    }
+}
+
+impl Files for OneFile<'_> {
+    ghost shelf = { λ m. Some (record {
+      named = λ name. if bytes_eq name m.name.now then Some m.bytes.now else None;
+      input = m.input.now;
+      chosen = elim m.place [ Nowhere ↦ nothing | Input ↦ standard_input | File ↦ named_file m.left.now ];
+      failures = m.failures;
+    }) };
+
+    ghost tells = { λ x. refl };
+
+    fn choose(&mut self, name: &str) -> bool {
+        if name == "-" {
+            self.place = Place::Input;
+            true
+        } else if name == self.name {
+            self.left = self.bytes;
+            self.place = Place::File;
+            true
+        } else {
+            self.place = Place::Nowhere;
+            false
+        }
+    }
+
+    fn read_chosen(&mut self, buf: &mut [u8]) -> Result<usize> {
+        match self.place {
+            Place::Nowhere => {
+                self.failures = self.failures.saturating_add(1);
+                Err(Error::from(ErrorKind::NotFound))
+            }
+            Place::Input => self.input.read(buf),
+            Place::File => self.left.read(buf),
+        }
+    }
+}
+
+/// A source whose reads fail from one of them on, and that tells nothing.
+#[derive(Drop)]
+pub struct FailsAt<'a> {
+    source: OneFile<'a>,
+    index: u64,
+    reads: u64,
+}
+
+impl<'a> FailsAt<'a> {
+    /// The source, of which the read of this index fails, and every later one.
+    pub fn new(source: OneFile<'a>, index: u64) -> Self {
+        FailsAt {
+            source,
+            index,
+            reads: 0,
+        }
+    }
+}
+
+impl Read for FailsAt<'_> {
+    fn read(&mut self, buf: &mut [u8]) -> Result<usize> {
+        self.read_chosen(buf)
+    }
+}
+
+impl Files for FailsAt<'_> {
+    ghost shelf = { λ _. None };
+
+    ghost tells = { λ x. tt };
+
+    fn choose(&mut self, name: &str) -> bool {
+        self.source.choose(name)
+    }
+
+    fn read_chosen(&mut self, buf: &mut [u8]) -> Result<usize> {
+        self.reads = self.reads.saturating_add(1);
+        if self.reads >= self.index {
+            return Err(Error::from(ErrorKind::Interrupted));
+        }
+        self.source.read_chosen(buf)
+    }
+}
