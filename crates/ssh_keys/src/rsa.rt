@@ -1,6 +1,6 @@
 //! The size of RSA keys.
 
-ghost use Rattle.std.specs.Prelude.{◌≡◌, ◌≤◌, IsTrue, length};
+ghost use Rattle.std.specs.Prelude.{◌≤◌, IsTrue, length};
 ghost use Rattle.ssh_wire.specs.Spelling.{natural, is_least};
 ghost use Rattle.ssh_keys.specs.Fingerprint.{IsBitCount, IsRsaSize};
 ghost use Rattle.ssh_keys.specs.PublicKey.{longest};
