@@ -15,7 +15,7 @@ use Rattle.ssh_lines.specs.declared.entry.AuthLine.TheVariants.{Entry}
 use Rattle.ssh_lines.specs.Text.{line_limit, is_blank, skip_blanks, first_word, without_cr, AreBlanks, begins_with_blank, IsComment, SpellsTail}
 use Rattle.ssh_lines.specs.OptionText.{name_part, is_name_byte, option_text_of, SpellsItems, AreAllowed}
 use Rattle.ssh_lines.specs.AuthGrammar.{SpellsEntry, SpellsOptions, auth_line, line_of_body, entry_of, entry_of_key}
-use Rattle.ssh_lines.proofs.TextLemmas.{ends_word, skip_blanks-behind, skip_blanks-at_word, comment_of-cr, comment_of-tail}
+use Rattle.ssh_lines.proofs.TextLemmas.{ends_word, gap-test, skip_blanks-behind, skip_blanks-at_word, comment_of-cr, comment_of-tail}
 use Rattle.ssh_lines.proofs.KeyLemmas.{base64-no_cr, base64-some, spelling-some, name-no_blank, first_field-at, key_part-at, without_cr-at}
 use Rattle.ssh_lines.proofs.OptionLemmas.{is_option_name, stops_name, AreNameBytes, BeginsWithName, begins-items, other_byte, plain-from_name_byte, name_part-at, text_of-items, options_of-spelled, quotable}
 use Rattle.ssh_keys.specs.KeyLaws.{key_again}
@@ -129,8 +129,8 @@ ends_word-cr (c ∷ d ∷ cs) h = h
 tail-ends : (comment tail : List ℕ) → SpellsTail comment tail → ends_word (without_cr tail) ≡ true
 tail-ends comment tail (inl (none, inl e)) = rw e refl
 tail-ends comment tail (inl (none, inr e)) = rw e refl
-tail-ends comment tail (inr (gap, after, some, g, a, e)) =
-    ap (λ t. ends_word (without_cr t)) e ∙ ends_word-cr (gap ++ comment ++ after) (ap ends_word (append_assoc gap comment after) ∙ gap_ends gap (comment ++ after) some g)
+tail-ends comment tail (inr (gap, after, g, a, e)) =
+    ap (λ t. ends_word (without_cr t)) e ∙ ends_word-cr (gap ++ comment ++ after) (ap ends_word (append_assoc gap comment after) ∙ gap_ends gap (comment ++ after) g.some g.blanks)
   where
     gap_ends : (gap rest : List ℕ) → gap ≢ [] → AreBlanks gap → ends_word (gap ++ rest) ≡ true
     gap_ends [] rest s g = absurd (s refl)
@@ -208,7 +208,9 @@ spelled-body : (entry : AuthEntry) (options : List AuthOption) (text front key :
 spelled-body entry [] text front key e o f k b =
     ap (λ t. line_of_body (skip_blanks (front ++ t ++ key))) o ∙ ap (λ t. line_of_body (skip_blanks (t ++ key))) (append-nil front)
     ∙ ap line_of_body (skip_blanks-behind front key f ∙ skip_blanks-at_word key b) ∙ body-with_key entry key e k
-spelled-body entry (option ∷ options) text front key e (items, gap, h, some, g, a, whole) f k b =
+spelled-body entry (option ∷ options) text front key e (items, gap, h, v, a, whole) f k b =
+    let some = gap-test gap v.some in
+    let g = v.blanks in
     let regroup : front ++ text ++ key ≡ front ++ (items ++ (gap ++ key)) = ap (λ t. front ++ t ++ key) whole ∙ simp append_assoc in
     let Spelled : List AuthOption → Type 0 = λ x. SpellsItems x items in
     let Allowed : List AuthOption → Type 0 = λ x. AreAllowed [] x in
@@ -227,7 +229,9 @@ key-begins kind gap rest = ap begins_with_blank (append_assoc (name_of kind) gap
 -- A line that spells an entry is read as it.
 pub auth_line-spelled : (entry : AuthEntry) (line : List ℕ) → SpellsEntry entry line → auth_line line ≡ Entry entry
 unfolding auth_line
-auth_line-spelled entry line (short, (front, options, text, f, o, (gap, tail, some, g, b, is, c, t, key_whole), whole)) =
+auth_line-spelled entry line (short, (front, options, text, f, o, (gap, tail, v, b, is, c, t, key_whole), whole)) =
+    let some = gap-test gap v.some in
+    let g = v.blanks in
     let k : key_in (key_blob entry.key) ≡ Ok entry.key = key_again entry.key is in
     let cut : without_cr line ≡ front ++ options ++ (name_of (kind_of entry.key) ++ gap ++ (base64 (key_blob entry.key) ++ without_cr tail)) =
     ap without_cr (whole ∙ ap (λ x. front ++ options ++ x) key_whole) ∙ line-without_cr entry.key (front ++ options) gap tail k in

@@ -7,6 +7,7 @@ use Rattle.std.specs.Str.Parse.{digits_value}
 use Rattle.std.proofs.lemmas.Bool.{and_parts, and_from, or_cases, eqb-true, leb-true, le-leb}
 use Rattle.std.proofs.lemmas.Int.{ints}
 use Rattle.jiff.specs.Words.{IsDate, IsTime, days_in_month}
+use Rattle.ssh_lines.specs.CivilFacts.{form-long}
 use Rattle.ssh_lines.specs.Expiry.{number_at, year_of, month_of, day_of, hour_of, minute_of, second_of, has_form, is_date, is_time, is_civil_text}
 
 date-true : (y m d : ℕ) → y ≤ 9999 → is_date y m d ≡ true → IsDate (pos y) (pos m) (pos d)
@@ -74,16 +75,6 @@ year-cut (a ∷ []) long = absurd (omega arith)
 year-cut (a ∷ b ∷ []) long = absurd (omega arith)
 year-cut (a ∷ b ∷ c ∷ []) long = absurd (omega arith)
 year-cut (a ∷ b ∷ c ∷ d ∷ rest) long = omega arith
-
-form-long : (digits : List ℕ) → has_form digits ≡ true → 4 ≤ length digits
-form-long digits h =
-    elim (or_cases ((length digits == 8) || (length digits == 12)) (length digits == 14) ((and_parts _ (list_all is_ascii_digit digits) h).0)) [
-      | inl few ↦ elim (or_cases (length digits == 8) (length digits == 12) few) [
-        | inl eight ↦ let e : length digits ≡ 8 = eqb-true (length digits) 8 eight in omega arith
-        | inr twelve ↦ let e : length digits ≡ 12 = eqb-true (length digits) 12 twelve in omega arith
-      ]
-      | inr fourteen ↦ let e : length digits ≡ 14 = eqb-true (length digits) 14 fourteen in omega arith
-    ]
 
 pub year-read : (digits : List ℕ) (hundreds years : ℕ) → has_form digits ≡ true → hundreds ≡ number_at digits 0 2 → years ≡ number_at digits 2 2
     → hundreds * 100 + years ≡ year_of digits

@@ -6,12 +6,12 @@ use Rattle.ssh_lines.specs.declared.cause.LineCause.TheVariants as causes
 use Rattle.ssh_lines.specs.declared.option.AuthOption.{AuthOption}
 use Rattle.ssh_lines.specs.declared.entry.AuthEntry.{AuthEntry}
 use Rattle.ssh_lines.specs.declared.entry.AuthLine.TheVariants.{Comment, Entry, Unreadable}
-use Rattle.ssh_lines.specs.Text.{line_limit, body_of, skip_blanks, without_cr, AreBlanks}
+use Rattle.ssh_lines.specs.Text.{line_limit, body_of, skip_blanks, without_cr, AreBlanks, IsGap}
 use Rattle.ssh_lines.specs.OptionText.{SpellsItems, AreAllowed, option_text_of, options_of}
 use Rattle.ssh_lines.specs.declared.key_part.KeyPart.{KeyPart}
 use Rattle.ssh_lines.specs.KeyPart.{SpellsKey, begins_with_type, key_part_of}
 use Rattle.ssh_lines.specs.AuthGrammar.{SpellsEntry, SpellsOptions, auth_line, line_of_body, entry_of, entry_of_key, entry_after_options}
-use Rattle.ssh_lines.proofs.TextLemmas.{ends_word}
+use Rattle.ssh_lines.proofs.TextLemmas.{ends_word, gap-differs}
 use Rattle.ssh_lines.proofs.ReadText.{skipped, skip_blanks-begins, cr_cut, IsCr, AreBytes, AreBytes-front, AreBytes-back}
 use Rattle.ssh_lines.proofs.ReadKey.{gap-some, key_part-facts, key_part-spells}
 use Rattle.ssh_lines.proofs.ReadOptions.{ReadOptions, read_options, text_cut}
@@ -36,7 +36,7 @@ part-by options text entry (Ok part) k h =
 spells-options : (options : List AuthOption) (items gap : List ℕ) → SpellsItems options items → AreAllowed [] options
     → bytes_eq gap [] ≡ false → AreBlanks gap → SpellsOptions options (items ++ gap)
 spells-options [] items gap h a e g = absurd h
-spells-options (option ∷ options) items gap h a e g = (items, gap, h, e, g, a, refl)
+spells-options (option ∷ options) items gap h a e g = (items, gap, h, record { some = gap-differs gap e; blanks = g }, a, refl)
 
 -- the key behind options
 behind-options : (options : List AuthOption) (text rest body cr : List ℕ) (entry : AuthEntry)

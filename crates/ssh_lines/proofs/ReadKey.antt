@@ -13,13 +13,13 @@ use Rattle.ssh_keys.specs.Names.{name_of, plain_kind, certificate_kind, class_of
 use Rattle.ssh_keys.specs.PublicKey.{PublicKey, kind_of, key_blob, IsKey, IsKeyBlob}
 use Rattle.ssh_keys.specs.KeyReading.{key_in}
 use Rattle.ssh_lines.specs.declared.cause.LineCause.TheVariants as causes
-use Rattle.ssh_lines.specs.Text.{first_word, after_word, next_field, comment_of, begins_with_blank}
+use Rattle.ssh_lines.specs.Text.{first_word, after_word, next_field, comment_of, begins_with_blank, IsGap}
 use Rattle.ssh_lines.specs.declared.key_part.KeyPart.{KeyPart}
 use Rattle.ssh_lines.specs.KeyPart.{base64, is_empty, lacks_key, SpellsKey, key_by_class, key_of_blob, key_of_kind, key_after_fields, key_part_of}
 use Rattle.ssh_keys.specs.KeyLaws.{key_takes}
 use Rattle.ssh_lines.proofs.DecodedBytes.{decoded-bytes}
 use Rattle.ssh_lines.proofs.KeyNames.{plain-name}
-use Rattle.ssh_lines.proofs.TextLemmas.{ends_word}
+use Rattle.ssh_lines.proofs.TextLemmas.{ends_word, gap-differs}
 use Rattle.ssh_lines.proofs.ReadText.{skipped, skip_blanks-begins, word-cut, after_word-ends, IsCr, spells-tail, comment_of-is, AreBytes, IsBytes-from_all, AreBytes-front, AreBytes-back}
 
 -- what is known where a key part is read
@@ -124,8 +124,7 @@ key_part-spells text cr part bytes is h =
     ∙ simp append_assoc in (
       skip.gap,
       after_word next ++ cr,
-      some,
-      skip.blanks,
+      record { some = gap-differs skip.gap some; blanks = skip.blanks },
       key_bytes,
       taken.is_key,
       rw facts.comment (comment_of-is (after_word next)),

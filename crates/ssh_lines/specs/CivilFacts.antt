@@ -25,7 +25,8 @@ digit-small c h =
     let high : c ≤ 57 = leb-true c 57 parts.1 in
     omega (arith, digit_value_digit c (low, high))
 
-form-long : (digits : List ℕ) → has_form digits ≡ true → 4 ≤ length digits
+-- the digits have a year
+pub form-long : (digits : List ℕ) → has_form digits ≡ true → 4 ≤ length digits
 form-long digits h =
     elim (or_cases ((length digits == 8) || (length digits == 12)) (length digits == 14) ((and_parts _ (list_all is_ascii_digit digits) h).0)) [
       | inl few ↦ elim (or_cases (length digits == 8) (length digits == 12) few) [

@@ -108,6 +108,11 @@ abbrev pub begins_with_blank : List ℕ → Bool
 begins_with_blank [] = false
 begins_with_blank (c ∷ cs) = is_blank c
 
+-- one or more blanks
+pub record IsGap (gap : List ℕ) : Type 0 where
+  pub some : gap ≢ []
+  pub blanks : AreBlanks gap
+
 -- a comment neither begins with a blank nor ends with a space, a tab or a CR
 pub record IsComment (comment : List ℕ) : Type 0 where
   pub front : begins_with_blank comment ≡ false
@@ -117,5 +122,5 @@ pub record IsComment (comment : List ℕ) : Type 0 where
 abbrev pub SpellsTail : List ℕ → List ℕ → Type 0
 SpellsTail comment tail =
     ((comment ≡ []) × ((tail ≡ []) ⊎ (tail ≡ 13 ∷ [])))
-    ⊎ ((gap after : List ℕ) × (gap ≢ []) × AreBlanks gap × AllByRecursion (λ c. is_trailing c ≡ true) after
+    ⊎ ((gap after : List ℕ) × IsGap gap × AllByRecursion (λ c. is_trailing c ≡ true) after
     × (tail ≡ gap ++ comment ++ after))

@@ -20,7 +20,7 @@ impl Model for Bytes {
 
 impl Bytes {
     /// Keeps the bytes.
-    pub fn new(kept: Vec<u8>) -> Bytes
+    pub(crate) fn new(kept: Vec<u8>) -> Bytes
         ensures { result ≡ kept.items }
     {
         Bytes { kept }

@@ -12,7 +12,7 @@ pub enum LineCause {
     /// L2: the option text is no list of names and quoted values.
     #[error("the options are no list of names and quoted values")]
     OptionSyntax,
-    /// L3
+    /// L3: a name that sshd(8) does not list.
     #[error("an option is not known")]
     UnknownOption,
     /// L4: a flag with a value, or another option without one.
@@ -21,28 +21,28 @@ pub enum LineCause {
     /// L5: a second `command`, `from` or `principals`.
     #[error("an option stands twice that may stand once")]
     RepeatedOption,
-    /// L6
+    /// L6: a text of another form, or a date or a time of day that does not exist.
     #[error("an expiry time is none")]
     ExpiryText,
     /// L7: no key type, or no base64 field behind it.
     #[error("the key type or the key is missing")]
     NoKey,
-    /// L8
+    /// L8: a word that names no type of key.
     #[error("the key type is not known")]
     KeyType,
-    /// L9
+    /// L9: the type of DSA keys.
     #[error("the key type is retired")]
     RetiredType,
     /// L10: the key field is not the one spelling of some bytes.
     #[error("the key is not in canonical base64")]
     Base64,
-    /// L11
+    /// L11: the bytes are the blob of no key.
     #[error("{0}")]
     KeyBlob(KeyError),
     /// L12: the key is of another type than the field before it says.
     #[error("the key is of another type")]
     TypeMismatch,
-    /// L13
+    /// L13: a certificate's type, which a line cannot hold.
     #[error("the key type is a certificate's")]
     CertificateOnLine,
 }

@@ -28,7 +28,7 @@ impl Model for Options {
 
 impl Options {
     /// No options.
-    pub fn new(alloc: Global) -> Options
+    pub(crate) fn new(alloc: Global) -> Options
         ensures { result ≡ [] }
     {
         Options {
@@ -37,7 +37,7 @@ impl Options {
     }
 
     /// Adds an option at the end; where memory is refused, nothing changes.
-    pub fn push(&mut self, option: AuthOption) -> Result<(), AllocError>
+    pub(crate) fn push(&mut self, option: AuthOption) -> Result<(), AllocError>
         ensures ok { OnOk result (self.new ≡ self.old ++ option ∷ []) }
         ensures err { OnErr result (self.new ≡ self.old) }
     {

@@ -7,7 +7,7 @@ use crate::cause::LineCause;
 use std::alloc::AllocError;
 
 /// The line's first fault, or want of memory.
-#[derive(Debug, Drop)]
+#[derive(Drop)]
 pub(crate) enum Fault {
     Memory,
     Cause(LineCause),

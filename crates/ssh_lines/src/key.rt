@@ -29,7 +29,7 @@ impl LineKey {
     ghost use Rattle.ssh_keys.specs.KeyOf.{key_of};
 
     /// The key that a blob spells, all of the bytes; or the first fault, and the blob is dropped.
-    pub fn read(blob: Vec<u8>) -> Result<LineKey, KeyError>
+    pub(crate) fn read(blob: Vec<u8>) -> Result<LineKey, KeyError>
         ensures { result ≡ key_in blob.items }
     {
         match read_key(&blob) {

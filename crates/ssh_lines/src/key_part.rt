@@ -20,7 +20,7 @@ use ssh_keys::{KeyKind, NameClass, name_class};
 use std::alloc::{AllocError, Global};
 
 /// A key and the comment behind it.
-#[derive(Debug, Drop)]
+#[derive(Drop)]
 pub(crate) struct KeyPart {
     pub(crate) key: LineKey,
     pub(crate) comment: Bytes,

@@ -63,7 +63,7 @@ fn split_item(text: &[u8]) -> (&[u8], Option<&[u8]>)
 }
 
 /// The items of an option text, each by its bytes.
-#[derive(Debug, Drop)]
+#[derive(Drop)]
 pub(crate) struct ItemTexts<'a> {
     rest: Option<&'a [u8]>,
 }
@@ -93,7 +93,7 @@ impl<'a> Iterator for ItemTexts<'a> {
 }
 
 /// An item: its name, and its value if it has one, as it stands between the quotes.
-#[derive(Debug, Clone, Copy)]
+#[derive(Clone, Copy)]
 pub(crate) struct ItemText<'a> {
     pub(crate) name: &'a [u8],
     pub(crate) value: Option<&'a [u8]>,
