@@ -1,12 +1,12 @@
 -- The address that is computed from a text is the one that its grammar gives it, both ways.
-use Rattle.std.proofs.Common.{◌≡◌, ◌≢◌, ℕ, zero, suc, ◌+◌, ◌-◌, ◌<◌, ◌≤◌, ◌==◌, Bool, true, false, ◌||◌, ◌⊎◌, inl, inr, if◌then◌else◌, nat_lt, List, [], ◌∷◌, ◌++◌, length, codes, replicate, Option, Some, None, option_and_then, option_map, IfOk, ok_or, refl, sym, ap, ◌∙◌, append_assoc, length-append, lit≤, arith}
+use Rattle.std.proofs.Common.{◌≡◌, ℕ, ◌+◌, ◌-◌, ◌<◌, ◌==◌, Bool, true, false, inl, inr, if◌then◌else◌, nat_lt, List, [], ◌∷◌, ◌++◌, length, codes, replicate, Option, Some, None, option_map, IfOk, ok_or, refl, sym, ap, ◌∙◌, append_assoc, length-append, lit≤, arith}
 use Rattle.std.specs.List.{list_any}
-use Rattle.std.proofs.lemmas.Bool.{lt-ltb, ltb-true, eqb-true, eq-eqb}
+use Rattle.std.proofs.lemmas.Bool.{lt-ltb, ltb-true, eqb-true}
 use Rattle.std.proofs.lemmas.List.{append-nil, length-replicate}
 use Rattle.ssh_patterns.specs.declared.address.Address.{Address}
 use Rattle.ssh_patterns.specs.declared.error.PatternError.{PatternError}
 use Rattle.ssh_patterns.specs.declared.address.Address.TheVariants.{V4, V6}
-use Rattle.ssh_patterns.specs.AddressText.{AreOctets, dotted, colon, IsGroup, AreGroups, AreGroupsAtEnd, before_dotted, pairs, AreEightGroups, IsAddressText}
+use Rattle.ssh_patterns.specs.AddressText.{AreOctets, dotted, colon, IsGroup, AreGroups, AreGroupsAtEnd, pairs, AreEightGroups, IsAddressText}
 use Rattle.ssh_patterns.specs.AddressReading.{groups_of, octets_of, filled, by_cut, eight_groups_of, address_of}
 use Rattle.ssh_patterns.specs.Cut.{after_mark, cut_here, cut_at}
 use Rattle.ssh_patterns.specs.Digits.{number_to_base}
@@ -71,11 +71,14 @@ pass : (groups text rest : List ℕ) → AreGroups groups text → 0 < length gr
 pass [] text rest h some = absurd (omega arith)
 pass (g ∷ []) text rest h some = skip text rest (group-has_no colon text g (lit≤ tt) h)
 pass (g ∷ next ∷ groups) text rest (first, more, whole, h, are) some =
-    rw (whole, append_assoc first (colon ∷ more) rest,
-    skip first (colon ∷ (more ++ rest)) (group-has_no colon first g (lit≤ tt) h),
-    colon-over (more ++ rest) (starts-append more rest (groups-start (next ∷ groups) more are (omega arith))),
-    pass (next ∷ groups) more rest are (omega arith),
-    behind-append (colon ∷ []) more (cut_at double rest))
+    rw (
+      whole,
+      append_assoc first (colon ∷ more) rest,
+      skip first (colon ∷ (more ++ rest)) (group-has_no colon first g (lit≤ tt) h),
+      colon-over (more ++ rest) (starts-append more rest (groups-start (next ∷ groups) more are (omega arith))),
+      pass (next ∷ groups) more rest are (omega arith),
+      behind-append (colon ∷ []) more (cut_at double rest),
+    )
     (behind-append first (colon ∷ more) (cut_at double rest))
 
 dotted-starts : (octets : List ℕ) → AreOctets octets → Starts (dotted octets)
@@ -93,8 +96,12 @@ end-uncut [] text (inl h) = rw h refl
 end-uncut (g ∷ groups) text (inl h) = alone text (pass (g ∷ groups) text [] h (omega arith))
 end-uncut groups text (inr ([], octets, before, are, h, whole, is)) = rw whole (dotted-uncut octets are)
 end-uncut groups text (inr (f ∷ front, octets, before, are, h, whole, is)) =
-    rw (whole, pass (f ∷ front) before (colon ∷ dotted octets) h (omega arith),
-    colon-over (dotted octets) (dotted-starts octets are), dotted-uncut octets are) refl
+    rw (
+      whole,
+      pass (f ∷ front) before (colon ∷ dotted octets) h (omega arith),
+      colon-over (dotted octets) (dotted-starts octets are),
+      dotted-uncut octets are,
+    ) refl
 
 around-cut : (front before after : List ℕ) → AreGroups front before → cut_at double (before ++ colon ∷ colon ∷ after) ≡ Some (before, after)
 around-cut [] before after h = rw h refl
@@ -108,8 +115,14 @@ unfolding eight_groups_of filled
 eight-read groups text (len, inl h) =
     rw (end-uncut groups text h, groups_of-end groups text h, len) refl
 eight-read groups text (len, inr (front, back, before, after, hf, hb, whole, room, is)) =
-    rw (whole, around-cut front before after hf, groups_of-groups false front before hf, groups_of-end back after hb,
-    lt-ltb (length front + length back) 8 room, is) refl
+    rw (
+      whole,
+      around-cut front before after hf,
+      groups_of-groups false front before hf,
+      groups_of-end back after hb,
+      lt-ltb (length front + length back) 8 room,
+      is,
+    ) refl
 
 if-eight : (b : Bool) (g groups : List ℕ) → (length g == 8) ≡ b → (if b then Some g else None) ≡ Some groups → (length g ≡ 8) × (g ≡ groups)
 if-eight true g groups e h = (eqb-true (length g) 8 e, some-is h)
@@ -154,10 +167,20 @@ eight-by None text groups e h =
 eight-by (Some cut) text groups e h =
     let front = and_then-some (groups_of false cut.0) _ groups h in
     let back = and_then-some (groups_of true cut.1) _ groups front.2 in
-    let parts = filled-by (nat_lt (length front.0 + length back.0) 8) front.0 back.0 groups refl back.2 in
-    (ap length parts.1 ∙ filled-length front.0 back.0 parts.0,
-    inr (front.0, back.0, cut.0, cut.1, groups_of-some cut.0 front.0 front.1, groups_of-some_at_end cut.1 back.0 back.1,
-    cut_at-whole double text cut.0 cut.1 e, parts.0, parts.1))
+    let parts = filled-by (nat_lt (length front.0 + length back.0) 8) front.0 back.0 groups refl back.2 in (
+      ap length parts.1 ∙ filled-length front.0 back.0 parts.0,
+      inr (
+        front.0,
+        back.0,
+        cut.0,
+        cut.1,
+        groups_of-some cut.0 front.0 front.1,
+        groups_of-some_at_end cut.1 back.0 back.1,
+        cut_at-whole double text cut.0 cut.1 e,
+        parts.0,
+        parts.1,
+      ),
+    )
 
 pub eight-some : (groups text : List ℕ) → eight_groups_of text ≡ Some groups → AreEightGroups groups text
 unfolding eight_groups_of

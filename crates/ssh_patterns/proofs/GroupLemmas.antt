@@ -1,7 +1,7 @@
 -- Groups of 16 bits, kept as one number.
-use Rattle.std.proofs.Common.{◌≡◌, ℕ, zero, suc, ◌+◌, ◌*◌, ◌/◌, ◌%◌, ◌^◌, ◌<◌, ◌≤◌, nat_lt, nat_le, if◌then◌else◌, List, [], ◌∷◌, ◌++◌, length, replicate, Option, Some, None, refl, sym, ap, inl, inr, ◌∙◌, add-zero, add-suc, add-one, append_assoc, length-append, arith}
-use Rattle.std.proofs.Math.Nat.{pow-suc, pow-zero, mod-eq_of_lt, mul-add-mod_self_right, div-lt_iff_lt-mul, pow-le-pow_right, one-le-pow}
-use Rattle.std.proofs.lemmas.Nat.{pow-add, mul-add-lt, mul-le}
+use Rattle.std.proofs.Common.{◌≡◌, ℕ, zero, suc, ◌+◌, ◌*◌, ◌/◌, ◌%◌, ◌^◌, ◌<◌, ◌≤◌, nat_lt, if◌then◌else◌, List, [], ◌∷◌, ◌++◌, length, replicate, Some, None, refl, sym, ap, inl, inr, ◌∙◌, add-zero, add-suc, add-one, append_assoc, length-append, arith}
+use Rattle.std.proofs.Math.Nat.{pow-suc, mod-eq_of_lt, pow-le-pow_right, one-le-pow}
+use Rattle.std.proofs.lemmas.Nat.{pow-add, mul-add-lt}
 use Rattle.std.proofs.lemmas.List.{replicate_more, append-nil}
 use Rattle.std.proofs.lemmas.Bool.{lt-ltb, le-ltb, lt-leb, le-leb, cases_lt}
 use Rattle.ssh_patterns.specs.Digits.{number_to_base}
@@ -49,8 +49,13 @@ groups_in-append k zero m n h =
     let none : n ≡ 0 = omega arith in
     rw (add-zero, none) (ap (λ x. groups_in k x) (omega arith) ∙ sym (append-nil (groups_in k m)))
 groups_in-append k (suc j) m n h =
-    rw (add-suc k j, pow-suc 65536 j, first_groups m n (65536 ^ j), last_group m n (65536 ^ j),
-    groups_in-append k j m (n / 65536) (shorter j n h))
+    rw (
+      add-suc k j,
+      pow-suc 65536 j,
+      first_groups m n (65536 ^ j),
+      last_group m n (65536 ^ j),
+      groups_in-append k j m (n / 65536) (shorter j n h),
+    )
     (append_assoc (groups_in k m) (groups_in j (n / 65536)) (n % 65536 ∷ []))
 
 -- the powers of both bases
@@ -70,13 +75,13 @@ no_more k j m h room =
 pub shifted : (k j m : ℕ) → m < 65536 ^ k → k + j ≤ 8
     → (if nat_lt (16 * j) 128 then (m * 2 ^ (16 * j)) % 2 ^ 128 else 0) ≡ m * 65536 ^ j
 shifted k j m h room = elim (cases_lt j 8) [
-    | inr all ↦
+  | inr all ↦
       let none : k ≡ 0 = omega arith in
       let nothing : m ≡ 0 = let h' : m < 65536 ^ 0 = rw none at h in omega arith in
       rw (le-ltb (16 * j) 128 (omega arith), nothing) (omega arith)
-    | inl some ↦
+  | inl some ↦
       rw (lt-ltb (16 * j) 128 (omega arith), power j) (mod-eq_of_lt (no_more k j m h room))
-    ]
+]
 
 -- the groups are a few
 pub few-yes : (groups : List ℕ) → length groups ≤ 8 → few groups ≡ Some groups

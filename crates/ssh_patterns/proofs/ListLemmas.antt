@@ -1,9 +1,7 @@
 -- Lists, piece by piece.
-use Rattle.std.proofs.Common.{◌≡◌, ℕ, ◌+◌, ◌<◌, Bool, true, false, not, ◌||◌, ◌&&◌, ◌==◌, if◌then◌else◌, List, [], ◌∷◌, map, length, drop, get_or, Option, Some, None, refl, sym, ap, ◌∙◌, add-one, arith}
-use Rattle.std.proofs.Math.Seq.{drop-cons}
+use Rattle.std.proofs.Common.{◌≡◌, ℕ, ◌+◌, Bool, true, false, not, ◌||◌, ◌&&◌, List, [], ◌∷◌, map, length, Option, Some, None, refl}
 use Rattle.std.specs.List.{list_any}
 use Rattle.ssh_patterns.specs.declared.permit.Permit.{Permit}
-use Rattle.ssh_patterns.specs.declared.permit.Permit.TheVariants.{Yes, No, Bad}
 use Rattle.ssh_patterns.specs.Lists.{Item, item_of, items_of, pieces, permit, permits, permit_of, is_yes}
 
 -- what the pieces that are left say after some items were refused or matched

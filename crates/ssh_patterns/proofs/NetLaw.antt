@@ -1,18 +1,16 @@
 -- The net that is computed from a text is the one that its grammar gives it, both ways.
-use Rattle.std.proofs.Common.{◌≡◌, ◌≢◌, ℕ, ◌+◌, ◌/◌, ◌%◌, ◌<◌, ◌≤◌, ◌==◌, ◌↔◌, IsTrue, Bool, true, false, ◌||◌, ◌&&◌, inl, inr, if◌then◌else◌, List, [], ◌∷◌, ◌++◌, length, decimal, codes, Option, Some, None, Result, Ok, Err, IfOk, ok_or, refl, sym, ap, ◌∙◌, lit≤, arith}
+use Rattle.std.proofs.Common.{◌≡◌, ℕ, ◌+◌, ◌/◌, ◌%◌, ◌≤◌, ◌==◌, ◌↔◌, IsTrue, Bool, true, false, inl, inr, if◌then◌else◌, List, [], ◌∷◌, ◌++◌, decimal, codes, Option, Some, None, Result, Ok, Err, IfOk, ok_or, refl, sym, ap, ◌∙◌, lit≤, arith}
 use Rattle.std.specs.List.{list_any}
-use Rattle.std.specs.Char.{digit_value}
 use Rattle.std.proofs.lemmas.Bool.{eqb-true, eq-eqb, and_parts}
 use Rattle.std.proofs.lemmas.List.Folds.{list_any-append}
 use Rattle.ssh_patterns.specs.declared.address.Address.{Address}
 use Rattle.ssh_patterns.specs.declared.address.Address.TheVariants.{V4, V6}
 use Rattle.ssh_patterns.specs.declared.error.PatternError.{PatternError}
 use Rattle.ssh_patterns.specs.declared.error.PatternError.TheVariants as errors
-use Rattle.ssh_patterns.specs.AddressText.{AreOctets, dotted, colon, IsGroup, AreGroups, AreGroupsAtEnd, before_dotted, AreEightGroups, IsAddressText}
+use Rattle.ssh_patterns.specs.AddressText.{AreOctets, dotted, colon, AreGroups, AreGroupsAtEnd, IsAddressText}
 use Rattle.ssh_patterns.specs.AddressReading.{address_of}
-use Rattle.ssh_patterns.specs.Block.{Block, IsBlock, width, number, size}
+use Rattle.ssh_patterns.specs.Block.{Block, width, number, size}
 use Rattle.ssh_patterns.specs.Cut.{cut_at}
-use Rattle.ssh_patterns.specs.Digits.{below, decimal_of}
 use Rattle.ssh_patterns.specs.Nets.{slash, IsNetText, AreOfOneFamily, LiesIn, same_family, in_net, prefix_of, ◌>>=◌, net_of}
 use Rattle.ssh_patterns.proofs.CutLemmas.{parts-cut}
 use Rattle.ssh_patterns.proofs.OctetLemmas.{limited-decimal, limited-some, decimal-has_no, cut_at-front}
@@ -87,7 +85,7 @@ net-some net text h =
     let whole = (parts-cut slash text cut.0.0 cut.0.1 (found (cut_at (codes "/") text) errors.Address cut.0 cut.1)).whole in
     let spelled = address-some base.0 cut.0.0 (found (address_of cut.0.0) errors.Address base.0 base.1) in
     let short = limited-some (width base.0 + 1) cut.0.1 prefix.0 (small-width base.0)
-            (found (prefix_of base.0 cut.0.1) errors.Length prefix.0 prefix.1) in
+    (found (prefix_of base.0 cut.0.1) errors.Length prefix.0 prefix.1) in
     let block = block-by (number base.0 % size base.0 prefix.0 == 0) base.0 prefix.0 net refl prefix.2 in
     rw (← block.1) (record {
       base_text = cut.0.0;
@@ -99,11 +97,13 @@ net-some net text h =
 pub net-read : (net : Block) (text : List ℕ) → IsNetText net text → net_of text ≡ Ok net
 unfolding net_of
 net-read net text h =
-    rw (h.whole,
-    cut_at-front slash h.base_text (decimal net.prefix) (address-has_no net.base h.base_text h.spelled),
-    address-read net.base h.base_text h.spelled,
-    limited-decimal (width net.base + 1) net.prefix (small-width net.base) (omega (arith, h.block.within)),
-    h.block.no_host_bits) refl
+    rw (
+      h.whole,
+      cut_at-front slash h.base_text (decimal net.prefix) (address-has_no net.base h.base_text h.spelled),
+      address-read net.base h.base_text h.spelled,
+      limited-decimal (width net.base + 1) net.prefix (small-width net.base) (omega (arith, h.block.within)),
+      h.block.no_host_bits,
+    ) refl
 
 pub ok-net : (result : Result Block PatternError) (text : List ℕ) → result ≡ net_of text → IfOk result (λ net. IsNetText net text)
 ok-net (Ok net) text e = net-some net text (sym e)
@@ -125,7 +125,8 @@ same-by (V6 m) (V6 n) h = refl
 
 pub lies-in : (net : Block) (address : Address) → IsTrue (in_net net address) ↔ LiesIn net address
 lies-in net address =
-    let bits : ℕ = size net.base net.prefix in
-    (λ h. let parts = and_parts (same_family net.base address) (number address / bits == number net.base / bits) h in
-    record { family = family-by net.base address parts.0; first_bits = eqb-true (number address / bits) (number net.base / bits) parts.1 },
-    λ h. rw (same-by net.base address h.family) (eq-eqb (number address / bits) (number net.base / bits) h.first_bits))
+    let bits : ℕ = size net.base net.prefix in (
+      λ h. let parts = and_parts (same_family net.base address) (number address / bits == number net.base / bits) h in
+          record { family = family-by net.base address parts.0; first_bits = eqb-true (number address / bits) (number net.base / bits) parts.1 },
+      λ h. rw (same-by net.base address h.family) (eq-eqb (number address / bits) (number net.base / bits) h.first_bits),
+    )

@@ -1,5 +1,5 @@
 -- The first bits of a number, and the last ones.
-use Rattle.std.proofs.Common.{◌≡◌, ℕ, ◌+◌, ◌*◌, ◌/◌, ◌%◌, ◌^◌, ◌<◌, ◌≤◌, ◌==◌, nat_lt, if◌then◌else◌, refl, sym, ap, ◌∙◌, inl, inr, arith}
+use Rattle.std.proofs.Common.{◌≡◌, ℕ, ◌/◌, ◌%◌, ◌^◌, ◌<◌, ◌≤◌, ◌==◌, nat_lt, if◌then◌else◌, refl, sym, ap, inl, inr, arith}
 use Rattle.std.proofs.Math.Nat.{mod-eq_of_lt, div-eq_of_lt}
 use Rattle.std.proofs.Math.Pow.{pow_mono}
 use Rattle.std.proofs.lemmas.Bool.{lt-ltb, le-ltb, cases_lt}
@@ -10,9 +10,9 @@ small n bits h many = let most : 2 ^ 128 ≤ 2 ^ bits = pow_mono many in omega a
 
 pub first_bits : (n bits : ℕ) → n < 2 ^ 128 → (if nat_lt bits 128 then n / 2 ^ bits else 0) ≡ n / 2 ^ bits
 first_bits n bits h = elim (cases_lt bits 128) [
-    | inl few ↦ rw (lt-ltb bits 128 few) refl
-    | inr many ↦ rw (le-ltb bits 128 many) (sym (div-eq_of_lt (small n bits h many)))
-    ]
+  | inl few ↦ rw (lt-ltb bits 128 few) refl
+  | inr many ↦ rw (le-ltb bits 128 many) (sym (div-eq_of_lt (small n bits h many)))
+]
 
 pub all_bits : (n bits : ℕ) → n < 2 ^ 128 → 128 ≤ bits → (n == 0) ≡ (n % 2 ^ bits == 0)
 all_bits n bits h many = ap (λ m. m == 0) (sym (mod-eq_of_lt (small n bits h many)))

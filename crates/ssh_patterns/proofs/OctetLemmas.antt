@@ -1,15 +1,14 @@
 -- Octets in decimal with dots, and their numbers.
-use Rattle.std.proofs.Common.{◌≡◌, ◌≢◌, ℕ, zero, suc, ◌+◌, ◌<◌, ◌≤◌, ◌==◌, Bool, true, false, not, ◌||◌, ◌&&◌, if◌then◌else◌, nat_lt, List, [], ◌∷◌, ◌++◌, length, get_or, lit≤, map, decimal, codes, Option, Some, None, option_and_then, refl, sym, ap, ◌∙◌, subst, inl, inr, arith}
-use Rattle.std.specs.List.{list_any, list_all, AllByRecursion, join_with_byte}
+use Rattle.std.proofs.Common.{◌≡◌, ℕ, ◌<◌, ◌≤◌, ◌==◌, Bool, true, false, not, ◌||◌, if◌then◌else◌, nat_lt, List, [], ◌∷◌, ◌++◌, length, get_or, lit≤, decimal, codes, Option, Some, None, option_and_then, refl, sym, ap, ◌∙◌, inl, inr, arith}
+use Rattle.std.specs.List.{list_any, list_all}
 use Rattle.std.specs.Char.{is_digit, digit_value}
 use Rattle.std.specs.Str.Parse.{AllDigits, digits_value}
-use Rattle.std.proofs.lemmas.Bool.{lt-ltb, ltb-true, and_parts, cases_lt, eqb-true, eq-eqb, ne_eqb, false≢true}
-use Rattle.std.proofs.lemmas.List.Folds.{list_any-append}
+use Rattle.std.proofs.lemmas.Bool.{lt-ltb, ltb-true, cases_lt, eqb-true, eq-eqb, ne_eqb, false≢true}
 use Rattle.std.proofs.lemmas.Fmt.{decimal_is_IsNumeral, decimal_digit, first_decimal, decimal-digits_value}
 use Rattle.std.proofs.lemmas.Str.Parse.{numerals_by_value, tells_digits}
 use Rattle.ssh_patterns.specs.AddressText.{AreOctets, dotted}
 use Rattle.ssh_patterns.specs.AddressReading.{octet_of, octets_of}
-use Rattle.ssh_patterns.specs.Cut.{after_mark, cut_here, cut_at}
+use Rattle.ssh_patterns.specs.Cut.{cut_at}
 use Rattle.ssh_patterns.specs.Digits.{number_of, decimal_of, below}
 use Rattle.ssh_patterns.proofs.DigitLemmas.{AllDigits-from, below-small}
 use Rattle.ssh_patterns.proofs.CutLemmas.{parts-cut}
@@ -56,9 +55,9 @@ decimal_of-digits (c ∷ cs) all some alone = rw (alone-by (c == 48) c cs refl a
 
 decimal-alone : (a : ℕ) → a < 256 → IsAlone (decimal a)
 decimal-alone a small h = elim (cases_lt 0 a) [
-    | inl some ↦ absurd (omega (arith, first_decimal a some (omega arith), h))
-    | inr none ↦ let zero_is : a ≡ 0 = omega arith in rw zero_is (ap length (decimal_digit 0 (omega arith)))
-    ]
+  | inl some ↦ absurd (omega (arith, first_decimal a some (omega arith), h))
+  | inr none ↦ let zero_is : a ≡ 0 = omega arith in rw zero_is (ap length (decimal_digit 0 (omega arith)))
+]
 
 below-by : (b : Bool) (limit n a : ℕ) → nat_lt n limit ≡ b → (if b then Some n else None) ≡ Some a → (n < limit) × (n ≡ a)
 below-by true limit n a e h = (ltb-true n limit e, cc)
@@ -108,9 +107,11 @@ octet_of-decimal a small = limited-decimal 256 a (omega arith) small
 pub limited-some : (limit : ℕ) (ds : List ℕ) (a : ℕ) → limit ≤ 256 → below limit (decimal_of ds) ≡ Some a → (a < limit) × (ds ≡ decimal a)
 limited-some limit ds a most h =
     let read = below-some limit (decimal_of ds) a h in
-    let is = decimal_of-some ds a read.0 in
-    (read.1, sym (decimal-digits_value (numerals_by_value (AllDigits 10) tells_digits) ds is.all is.some is.alone (omega (arith, is.value, read.1)))
-    ∙ ap decimal is.value)
+    let is = decimal_of-some ds a read.0 in (
+      read.1,
+      sym (decimal-digits_value (numerals_by_value (AllDigits 10) tells_digits) ds is.all is.some is.alone (omega (arith, is.value, read.1)))
+          ∙ ap decimal is.value,
+    )
 
 pub octet_of-some : (ds : List ℕ) (a : ℕ) → octet_of ds ≡ Some a → (a < 256) × (ds ≡ decimal a)
 octet_of-some ds a h = limited-some 256 ds a (omega arith) h
@@ -137,8 +138,15 @@ dot_behind a rest small = cut_at-front 46 (decimal a) rest (decimal-has_no 46 a 
 pub octets_of-dotted : (octets : List ℕ) → AreOctets octets → octets_of (dotted octets) ≡ Some octets
 unfolding octets_of
 octets_of-dotted (a ∷ b ∷ c ∷ d ∷ []) (len, (ha, (hb, (hc, (hd, _))))) =
-    rw (dot_behind a (decimal b ++ 46 ∷ (decimal c ++ 46 ∷ decimal d)) ha, dot_behind b (decimal c ++ 46 ∷ decimal d) hb, dot_behind c (decimal d) hc,
-    octet_of-decimal a ha, octet_of-decimal b hb, octet_of-decimal c hc, octet_of-decimal d hd) refl
+    rw (
+      dot_behind a (decimal b ++ 46 ∷ (decimal c ++ 46 ∷ decimal d)) ha,
+      dot_behind b (decimal c ++ 46 ∷ decimal d) hb,
+      dot_behind c (decimal d) hc,
+      octet_of-decimal a ha,
+      octet_of-decimal b hb,
+      octet_of-decimal c hc,
+      octet_of-decimal d hd,
+    ) refl
 octets_of-dotted [] h = absurd (omega (arith, h.0))
 octets_of-dotted (a ∷ []) h = absurd (omega (arith, h.0))
 octets_of-dotted (a ∷ b ∷ []) h = absurd (omega (arith, h.0))
@@ -173,7 +181,7 @@ octets_of-some text octets h =
     let as_c = octet_of-some third.0.0 c.0 c.1 in
     let as_d = octet_of-some third.0.1 d.0 d.1 in
     let whole : text ≡ dotted (a.0 ∷ b.0 ∷ c.0 ∷ d.0 ∷ []) =
-        joined text first.0.0 first.0.1 second.0.0 second.0.1 third.0.0 third.0.1 (decimal a.0) (decimal b.0) (decimal c.0) (decimal d.0)
-        (parts-cut 46 text first.0.0 first.0.1 first.1).whole (parts-cut 46 first.0.1 second.0.0 second.0.1 second.1).whole
-        (parts-cut 46 second.0.1 third.0.0 third.0.1 third.1).whole as_a.1 as_b.1 as_c.1 as_d.1 in
+    joined text first.0.0 first.0.1 second.0.0 second.0.1 third.0.0 third.0.1 (decimal a.0) (decimal b.0) (decimal c.0) (decimal d.0)
+    (parts-cut 46 text first.0.0 first.0.1 first.1).whole (parts-cut 46 first.0.1 second.0.0 second.0.1 second.1).whole
+    (parts-cut 46 second.0.1 third.0.0 third.0.1 third.1).whole as_a.1 as_b.1 as_c.1 as_d.1 in
     rw (← is) ((refl {a = 4}, (as_a.0, (as_b.0, (as_c.0, (as_d.0, tt))))), whole)

@@ -1,7 +1,6 @@
 -- Groups between colons, part by part.
-use Rattle.std.proofs.Common.{◌≡◌, ℕ, ◌+◌, ◌<◌, ◌≤◌, Bool, true, false, List, [], ◌∷◌, ◌++◌, length, codes, ◌==◌, nat_le, if◌then◌else◌, Option, Some, None, option_and_then, refl, sym, ap, ◌∙◌, append_assoc, length-append, arith}
+use Rattle.std.proofs.Common.{◌≡◌, ℕ, ◌+◌, ◌<◌, ◌≤◌, Bool, true, false, List, [], ◌∷◌, ◌++◌, length, codes, ◌==◌, nat_le, if◌then◌else◌, Option, Some, None, option_and_then, refl, sym, ap, append_assoc, length-append, arith}
 use Rattle.std.proofs.lemmas.Bool.{leb-false, le-ltb, ne_eqb}
-use Rattle.std.proofs.lemmas.List.{append-nil}
 use Rattle.std.specs.List.{slice_split}
 use Rattle.ssh_patterns.specs.AddressReading.{group_of, last_groups_of, groups_of_parts, groups_of, filled, eight_groups_of}
 use Rattle.ssh_patterns.specs.AddressText.{colon}

@@ -1,5 +1,5 @@
 -- What a list permits, item by item.
-use Rattle.std.proofs.Common.{◌≡◌, ◌≢◌, ℕ, ◌<◌, ◌↔◌, IsTrue, Bool, true, false, not, ◌||◌, ◌&&◌, List, [], ◌∷◌, length, refl, sym, ap, ◌∙◌, arith}
+use Rattle.std.proofs.Common.{◌≡◌, ℕ, ◌↔◌, IsTrue, Bool, true, false, not, ◌&&◌, List, refl, sym, ap, ◌∙◌}
 use Rattle.std.specs.List.{Any, list_any}
 use Rattle.std.specs.Str.{str_to_ascii_lowercase}
 use Rattle.std.proofs.lemmas.Bool.{and_parts, and_from, false≢true}
@@ -15,9 +15,10 @@ Any-map : {X : Type 0} (P Q : X → Type 0) (xs : List X) → ((x : X) → P x �
 Any-map P Q xs f (k, x, inside, is, holds) = (k, x, inside, is, f x holds)
 
 pub any-tells : {X : Type 0} (p : X → Bool) (P : X → Type 0) → Tells p P → (xs : List X) → IsTrue (list_any p xs) ↔ Any P xs
-any-tells p P tells xs =
-    (λ h. Any-map (λ x. p x ≡ true) P xs (λ x q. (tells x).0 q) (Any-from_list_any p xs h),
-    λ h. list_any-from_Any p xs (Any-map P (λ x. p x ≡ true) xs (λ x q. (tells x).1 q) h))
+any-tells p P tells xs = (
+  λ h. Any-map (λ x. p x ≡ true) P xs (λ x q. (tells x).0 q) (Any-from_list_any p xs h),
+  λ h. list_any-from_Any p xs (Any-map P (λ x. p x ≡ true) xs (λ x q. (tells x).1 q) h),
+)
 
 pub not-true : (b : Bool) → not b ≡ true → b ≡ false
 not-true true h = cc
@@ -29,29 +30,32 @@ from-not false h = refl
 
 refuses : (matches : List ℕ → Bool) (Fits : List ℕ → Type 0) → Tells matches Fits
     → Tells (λ (item : Item). item.negated && matches item.text) (λ item. (item.negated ≡ true) × Fits item.text)
-refuses matches Fits tells item =
-    (λ h. let parts = and_parts item.negated (matches item.text) h in (parts.0, (tells item.text).0 parts.1),
-    λ h. and_from item.negated (matches item.text) h.0 ((tells item.text).1 h.1))
+refuses matches Fits tells item = (
+  λ h. let parts = and_parts item.negated (matches item.text) h in (parts.0, (tells item.text).0 parts.1),
+  λ h. and_from item.negated (matches item.text) h.0 ((tells item.text).1 h.1),
+)
 
 accepts : (matches : List ℕ → Bool) (Fits : List ℕ → Type 0) → Tells matches Fits
     → Tells (λ (item : Item). not item.negated && matches item.text) (λ item. (item.negated ≡ false) × Fits item.text)
-accepts matches Fits tells item =
-    (λ h. let parts = and_parts (not item.negated) (matches item.text) h in (not-true item.negated parts.0, (tells item.text).0 parts.1),
-    λ h. and_from (not item.negated) (matches item.text) (ap not h.0) ((tells item.text).1 h.1))
+accepts matches Fits tells item = (
+  λ h. let parts = and_parts (not item.negated) (matches item.text) h in (not-true item.negated parts.0, (tells item.text).0 parts.1),
+  λ h. and_from (not item.negated) (matches item.text) (ap not h.0) ((tells item.text).1 h.1),
+)
 
 pub permits-tells : (matches : List ℕ → Bool) (Fits : List ℕ → Type 0) → Tells matches Fits → (list : List ℕ)
     → IsTrue (permits matches (items_of list)) ↔ Permits Fits list
 permits-tells matches Fits tells list =
     let refused = any-tells (λ (item : Item). item.negated && matches item.text) _ (refuses matches Fits tells) (items_of list) in
-    let accepted = any-tells (λ (item : Item). not item.negated && matches item.text) _ (accepts matches Fits tells) (items_of list) in
-    (λ h. let parts = and_parts (not (list_any (λ item. item.negated && matches item.text) (items_of list))) _ h in
-    record {
-      none_refuses = λ any. absurd (false≢true (sym (not-true (list_any (λ item. item.negated && matches item.text) (items_of list)) parts.0) ∙ refused.1 any));
-      some_matches = accepted.0 parts.1;
-    },
-    λ h. and_from (not (list_any (λ item. item.negated && matches item.text) (items_of list))) _
-    (from-not (list_any (λ item. item.negated && matches item.text) (items_of list)) (λ e. h.none_refuses (refused.0 e)))
-    (accepted.1 h.some_matches))
+    let accepted = any-tells (λ (item : Item). not item.negated && matches item.text) _ (accepts matches Fits tells) (items_of list) in (
+      λ h. let parts = and_parts (not (list_any (λ item. item.negated && matches item.text) (items_of list))) _ h in
+          record {
+            none_refuses = λ any. absurd (false≢true (sym (not-true (list_any (λ item. item.negated && matches item.text) (items_of list)) parts.0) ∙ refused.1 any));
+            some_matches = accepted.0 parts.1;
+          },
+      λ h. and_from (not (list_any (λ item. item.negated && matches item.text) (items_of list))) _
+          (from-not (list_any (λ item. item.negated && matches item.text) (items_of list)) (λ e. h.none_refuses (refused.0 e)))
+          (accepted.1 h.some_matches),
+    )
 
 pub lower-tells : (text : List ℕ) → Tells (is_match_in_lower_case text) (MatchesInLowerCase text)
 lower-tells text pattern = is_match-tests (str_to_ascii_lowercase pattern) (str_to_ascii_lowercase text)

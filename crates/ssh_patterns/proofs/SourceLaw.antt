@@ -1,19 +1,18 @@
 -- What lists of nets and addresses say, item by item.
-use Rattle.std.proofs.Common.{◌≡◌, ◌≢◌, ℕ, ◌<◌, ◌==◌, ◌↔◌, ◌⊎◌, IsTrue, Bool, true, false, not, ◌||◌, ◌&&◌, if◌then◌else◌, inl, inr, List, [], ◌∷◌, ◌++◌, decimal, Option, Some, None, is_some, Result, Ok, Err, is_ok, refl, sym, ap, ◌∙◌, arith}
+use Rattle.std.proofs.Common.{◌≡◌, ℕ, ◌==◌, ◌↔◌, Bool, true, false, not, ◌||◌, ◌&&◌, if◌then◌else◌, inl, inr, List, [], ◌∷◌, decimal, Option, Some, None, is_some, Result, Ok, Err, is_ok, refl, sym, ap, ◌∙◌}
 use Rattle.std.specs.List.{Any, list_any}
 use Rattle.std.proofs.lemmas.Bool.{and_parts, and_from, or_cases, eqb-true, eq-eqb, false≢true}
 use Rattle.std.proofs.lemmas.List.Folds.{list_any-append}
 use Rattle.ssh_patterns.specs.declared.address.Address.{Address}
 use Rattle.ssh_patterns.specs.declared.address.Address.TheVariants.{V4, V6}
 use Rattle.ssh_patterns.specs.declared.error.PatternError.{PatternError}
-use Rattle.ssh_patterns.specs.declared.permit.Permit.{Permit}
-use Rattle.ssh_patterns.specs.declared.permit.Permit.TheVariants.{Yes, No, Bad}
+use Rattle.ssh_patterns.specs.declared.permit.Permit.TheVariants.{Yes, Bad}
 use Rattle.ssh_patterns.specs.AddressText.{IsAddressText}
 use Rattle.ssh_patterns.specs.AddressReading.{address_of}
-use Rattle.ssh_patterns.specs.Block.{Block, number}
+use Rattle.ssh_patterns.specs.Block.{Block}
 use Rattle.ssh_patterns.specs.Matching.{is_empty}
-use Rattle.ssh_patterns.specs.Nets.{slash, IsNetText, LiesIn, same_family, same_address, net_of}
-use Rattle.ssh_patterns.specs.Lists.{Item, items_of, Permits, permit, permits, permit_of, has_slash, net_has, is_address, host_matches, OnHost, is_match_in_lower_case, MatchesInLowerCase, Source, FitsAddress, FitsSource, IsBadSource, is_bad_source, source_item, cidr_item, IsBadCidr, is_bad_cidr, source_list, address_in, address_equals}
+use Rattle.ssh_patterns.specs.Nets.{slash, IsNetText, same_address, net_of}
+use Rattle.ssh_patterns.specs.Lists.{Item, items_of, Permits, permit, permits, permit_of, has_slash, net_has, is_address, host_matches, OnHost, is_match_in_lower_case, Source, FitsAddress, FitsSource, IsBadSource, is_bad_source, source_item, cidr_item, IsBadCidr, is_bad_cidr}
 use Rattle.ssh_patterns.proofs.MatchLemmas.{or_left, or_right}
 use Rattle.ssh_patterns.proofs.OctetLemmas.{or_true, some-is}
 use Rattle.ssh_patterns.proofs.AddressLaw.{address-read, address-some}
@@ -49,10 +48,11 @@ pub says-yes : (is_bad : Item → Bool) (IsBad : Item → Type 0) (matches : Lis
 unfolding permit_of
 says-yes is_bad IsBad matches Fits list bad fits =
     let any = any-tells is_bad IsBad bad (items_of list) in
-    let rule = permits-tells matches Fits fits list in
-    (λ h. let parts = yes-by (list_any is_bad (items_of list)) (permits matches (items_of list)) h in
-    (λ some. absurd (false≢true (sym parts.0 ∙ any.1 some)), rule.0 parts.1),
-    λ h. rw (none-by (list_any is_bad (items_of list)) (λ e. h.0 (any.0 e)), rule.1 h.1) refl)
+    let rule = permits-tells matches Fits fits list in (
+      λ h. let parts = yes-by (list_any is_bad (items_of list)) (permits matches (items_of list)) h in
+          (λ some. absurd (false≢true (sym parts.0 ∙ any.1 some)), rule.0 parts.1),
+      λ h. rw (none-by (list_any is_bad (items_of list)) (λ e. h.0 (any.0 e)), rule.1 h.1) refl,
+    )
 
 -- ---- nets and addresses
 
@@ -110,12 +110,14 @@ missing None item e h = refl
 
 neither-by : (b : Bool) (item : List ℕ) → has_slash item ≡ b → not (if b then is_ok (net_of item) else is_some (address_of item)) ≡ true
     → ((net : Block) → ¬ IsNetText net item) × ((a : Address) → ¬ IsAddressText a item)
-neither-by true item e h =
-    (no-net (net_of item) item refl (not-true (is_ok (net_of item)) h),
-    λ a spelled. false≢true (sym (address-has_no a item spelled) ∙ e))
-neither-by false item e h =
-    (λ net spelled. false≢true (sym e ∙ net-has_slash net item spelled),
-    no-address (address_of item) item refl (not-true (is_some (address_of item)) h))
+neither-by true item e h = (
+  no-net (net_of item) item refl (not-true (is_ok (net_of item)) h),
+  λ a spelled. false≢true (sym (address-has_no a item spelled) ∙ e),
+)
+neither-by false item e h = (
+  λ net spelled. false≢true (sym e ∙ net-has_slash net item spelled),
+  no-address (address_of item) item refl (not-true (is_some (address_of item)) h),
+)
 
 other-by : (b : Bool) (item : List ℕ) → ((net : Block) → ¬ IsNetText net item) → ((a : Address) → ¬ IsAddressText a item)
     → not (if b then is_ok (net_of item) else is_some (address_of item)) ≡ true
@@ -129,12 +131,13 @@ bad_cidr-from item (inr (net, address)) =
     (other-by (has_slash item.text) item.text net address)
 
 pub bad_cidr-tells : Tells is_bad_cidr IsBadCidr
-bad_cidr-tells item =
-    (λ h. elim (or_cases item.negated (not (if has_slash item.text then is_ok (net_of item.text) else is_some (address_of item.text))) h) [
-      | inl negated ↦ inl negated
-      | inr other ↦ inr (neither-by (has_slash item.text) item.text refl other)
-    ],
-    λ h. bad_cidr-from item h)
+bad_cidr-tells item = (
+  λ h. elim (or_cases item.negated (not (if has_slash item.text then is_ok (net_of item.text) else is_some (address_of item.text))) h) [
+    | inl negated ↦ inl negated
+    | inr other ↦ inr (neither-by (has_slash item.text) item.text refl other)
+  ],
+  λ h. bad_cidr-from item h,
+)
 
 -- ---- the sources of logins
 
@@ -149,14 +152,15 @@ bad_source-from item (inr (slashed, none)) =
     (and_from (has_slash item.text) (not (is_ok (net_of item.text))) slashed (faulty (net_of item.text) item.text refl none))
 
 pub bad_source-tells : Tells is_bad_source IsBadSource
-bad_source-tells item =
-    (λ h. elim (or_cases (is_empty item.text) (has_slash item.text && not (is_ok (net_of item.text))) h) [
-      | inl empty ↦ inl (empty-is item.text empty)
-      | inr other ↦
+bad_source-tells item = (
+  λ h. elim (or_cases (is_empty item.text) (has_slash item.text && not (is_ok (net_of item.text))) h) [
+    | inl empty ↦ inl (empty-is item.text empty)
+    | inr other ↦
         let parts = and_parts (has_slash item.text) (not (is_ok (net_of item.text))) other in
         inr (parts.0, no-net (net_of item.text) item.text refl (not-true (is_ok (net_of item.text)) parts.1))
-    ],
-    λ h. bad_source-from item h)
+  ],
+  λ h. bad_source-from item h,
+)
 
 host-tells : (host : Option (List ℕ)) → Tells (host_matches host) (OnHost host)
 host-tells None item = (λ h. cc, λ h. absurd h)

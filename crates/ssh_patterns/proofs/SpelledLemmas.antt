@@ -1,19 +1,17 @@
 -- What the groups of a text are, in the terms of its grammar.
-use Rattle.std.proofs.Common.{◌≡◌, ◌≢◌, ℕ, zero, suc, ◌+◌, ◌-◌, ◌<◌, ◌≤◌, ◌==◌, Bool, true, false, not, ◌||◌, ◌&&◌, ◌⊎◌, inl, inr, if◌then◌else◌, nat_lt, nat_le, List, [], ◌∷◌, ◌++◌, length, map, decimal, codes, replicate, Option, Some, None, option_and_then, option_map, refl, sym, ap, ◌∙◌, subst, append_assoc, length-append, lit≤, arith}
-use Rattle.std.specs.List.{list_any, list_all, slice_split, join_with_byte}
-use Rattle.std.specs.Char.{is_digit, digit_value}
-use Rattle.std.specs.Str.Parse.{AllDigits, digits_value}
-use Rattle.std.proofs.lemmas.Bool.{lt-ltb, ltb-true, leb-true, le-leb, and_parts, cases_lt, eqb-true, eq-eqb, ne_eqb, false≢true}
-use Rattle.std.proofs.lemmas.List.{append-nil, length-replicate}
+use Rattle.std.proofs.Common.{◌≡◌, ℕ, ◌<◌, ◌≤◌, ◌==◌, Bool, true, false, ◌&&◌, ◌⊎◌, inl, inr, if◌then◌else◌, nat_le, List, [], ◌∷◌, ◌++◌, length, decimal, Option, Some, None, option_map, refl, sym, ap, ◌∙◌, append_assoc, lit≤, arith}
+use Rattle.std.specs.List.{list_any, join_with_byte}
+use Rattle.std.specs.Char.{digit_value}
+use Rattle.std.proofs.lemmas.Bool.{leb-true, le-leb, and_parts}
 use Rattle.std.proofs.lemmas.List.Folds.{list_any-append}
 use Rattle.std.proofs.lemmas.List.Splits.{join_with_byte-slice_split, length-slice_split}
-use Rattle.ssh_patterns.specs.AddressText.{AreOctets, dotted, dot, colon, IsGroup, AreGroups, AreGroupsAtEnd, before_dotted, pairs, AreEightGroups}
-use Rattle.ssh_patterns.specs.AddressReading.{group_of, last_groups_of, groups_of_parts, groups_of, octets_of, filled, by_cut, eight_groups_of}
-use Rattle.ssh_patterns.specs.Cut.{after_mark, cut_here, cut_at}
+use Rattle.ssh_patterns.specs.AddressText.{AreOctets, dotted, dot, colon, IsGroup, AreGroups, AreGroupsAtEnd, before_dotted, pairs}
+use Rattle.ssh_patterns.specs.AddressReading.{group_of, last_groups_of, groups_of_parts, groups_of, octets_of}
+use Rattle.ssh_patterns.specs.Cut.{cut_at}
 use Rattle.ssh_patterns.specs.Digits.{number_of}
 use Rattle.ssh_patterns.proofs.DigitLemmas.{AllDigits-from}
-use Rattle.ssh_patterns.proofs.CutLemmas.{parts-cut, parts-uncut, behind}
-use Rattle.ssh_patterns.proofs.PartLemmas.{colon_parts, parts-first, after_first}
+use Rattle.ssh_patterns.proofs.CutLemmas.{parts-cut, parts-uncut}
+use Rattle.ssh_patterns.proofs.PartLemmas.{colon_parts, parts-first}
 use Rattle.ssh_patterns.proofs.OctetLemmas.{octets_of-dotted, octets_of-some, number_of-digits, number_of-some, list_all-from, no_byte, neither, cut_at-front, decimal-has_no, and_then-some, or_true, some-is}
 
 -- ---- one group
@@ -47,10 +45,15 @@ group-has_no byte text g other h = no_byte 16 byte text other (AllDigits-from 16
 
 pub dotted-has_no_colon : (octets : List ℕ) → AreOctets octets → list_any (λ c. c == colon) (dotted octets) ≡ false
 dotted-has_no_colon (a ∷ b ∷ c ∷ d ∷ []) (len, (ha, (hb, (hc, (hd, _))))) =
-    rw (list_any-append (λ c. c == colon) (decimal a) (46 ∷ (decimal b ++ 46 ∷ (decimal c ++ 46 ∷ decimal d))),
-    list_any-append (λ c. c == colon) (decimal b) (46 ∷ (decimal c ++ 46 ∷ decimal d)),
-    list_any-append (λ c. c == colon) (decimal c) (46 ∷ decimal d),
-    decimal-has_no colon a (lit≤ tt) ha, decimal-has_no colon b (lit≤ tt) hb, decimal-has_no colon c (lit≤ tt) hc, decimal-has_no colon d (lit≤ tt) hd) refl
+    rw (
+      list_any-append (λ c. c == colon) (decimal a) (46 ∷ (decimal b ++ 46 ∷ (decimal c ++ 46 ∷ decimal d))),
+      list_any-append (λ c. c == colon) (decimal b) (46 ∷ (decimal c ++ 46 ∷ decimal d)),
+      list_any-append (λ c. c == colon) (decimal c) (46 ∷ decimal d),
+      decimal-has_no colon a (lit≤ tt) ha,
+      decimal-has_no colon b (lit≤ tt) hb,
+      decimal-has_no colon c (lit≤ tt) hc,
+      decimal-has_no colon d (lit≤ tt) hd,
+    ) refl
 dotted-has_no_colon [] h = absurd (omega (arith, h.0))
 dotted-has_no_colon (a ∷ []) h = absurd (omega (arith, h.0))
 dotted-has_no_colon (a ∷ b ∷ []) h = absurd (omega (arith, h.0))
@@ -89,8 +92,12 @@ pub first_group : (dotted_too : Bool) (front back groups : List ℕ) (g : ℕ) �
     → groups_of_parts dotted_too (colon_parts back) ≡ Some groups
     → groups_of_parts dotted_too (colon_parts (front ++ colon ∷ back)) ≡ Some (g ∷ groups)
 first_group dotted_too front back groups g h more =
-    rw (first_part front back (group-has_no colon front g (lit≤ tt) h),
-    parts-first dotted_too front (colon_parts back) (some_parts back), group_of-group front g h, more) refl
+    rw (
+      first_part front back (group-has_no colon front g (lit≤ tt) h),
+      parts-first dotted_too front (colon_parts back) (some_parts back),
+      group_of-group front g h,
+      more,
+    ) refl
 
 last_group-by : (d b : Bool) (text : List ℕ) (g : ℕ) → b ≡ false → group_of text ≡ Some g
     → (if d && b then option_map pairs (octets_of text) else option_map (λ group. group ∷ []) (group_of text)) ≡ Some (g ∷ [])
@@ -142,8 +149,15 @@ cons-end groups front back g h (inl (more, some)) = inl (cons-are groups front b
 cons-end groups front back g h (inr ([], octets, before, are, none, whole, is)) =
     inr (g ∷ [], octets, front, are, h, ap (λ s. front ++ colon ∷ s) whole, ap (λ s. g ∷ s) is)
 cons-end groups front back g h (inr (f ∷ fs, octets, before, are, more, whole, is)) =
-    inr (g ∷ f ∷ fs, octets, front ++ colon ∷ before, are, (front, before, refl, h, more),
-    ap (λ s. front ++ colon ∷ s) whole ∙ sym (append_assoc front (colon ∷ before) (colon ∷ dotted octets)), ap (λ s. g ∷ s) is)
+    inr (
+      g ∷ f ∷ fs,
+      octets,
+      front ++ colon ∷ before,
+      are,
+      (front, before, refl, h, more),
+      ap (λ s. front ++ colon ∷ s) whole ∙ sym (append_assoc front (colon ∷ before) (colon ∷ dotted octets)),
+      ap (λ s. g ∷ s) is,
+    )
 
 one-spelled : (text groups : List ℕ) → option_map (λ g. g ∷ []) (group_of text) ≡ Some groups → AreGroups groups text × (0 < length groups)
 one-spelled text groups h =

@@ -7,6 +7,7 @@ use Rattle.ssh_patterns.specs.AddressText.{dot, colon, pairs}
 use Rattle.ssh_patterns.specs.Cut.{cut_at}
 use Rattle.ssh_patterns.specs.Digits.{number_of, decimal_of, below, number_to_base}
 
+-- a step, and what comes after it where the step found something
 infixl 10 ◌>>=◌
 abbrev pub ◌>>=◌ : {A B : Type 0} → Option A → (A → Option B) → Option B
 found >>= next = option_and_then next found
@@ -57,6 +58,7 @@ filled front back =
     if nat_lt (length front + length back) 8 then Some (front ++ replicate (8 - length front - length back) 0 ++ back)
     else None
 
+-- the eight groups of a text: on both sides of a cut, or without one
 abbrev pub by_cut : Option (List ℕ × List ℕ) → List ℕ → Option (List ℕ)
 by_cut None text = do
   groups ← groups_of true text

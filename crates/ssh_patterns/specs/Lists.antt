@@ -17,6 +17,7 @@ pub record Item : Type 0 where
   pub negated : Bool
   pub text : List ℕ
 
+-- the item of a piece
 abbrev pub item_of : List ℕ → Item
 item_of [] = record { negated = false; text = [] }
 item_of (c ∷ cs) = if c == 33 then record { negated = true; text = cs } else record { negated = false; text = c ∷ cs }
@@ -30,6 +31,7 @@ abbrev pub pieces_left : Option (List ℕ) → List (List ℕ)
 pieces_left None = []
 pieces_left (Some list) = pieces list
 
+-- the items of a list, in their order
 abbrev pub items_of : List ℕ → List Item
 items_of list = map item_of (pieces list)
 
@@ -44,11 +46,13 @@ pub record Permits (Fits : List ℕ → Type 0) (list : List ℕ) : Type 0 where
   pub none_refuses : ¬ Any (λ item. (item.negated ≡ true) × Fits item.text) (items_of list)
   pub some_matches : Any (λ item. (item.negated ≡ false) × Fits item.text) (items_of list)
 
+-- what a list says by whether some item makes it bad, and whether it permits
 abbrev pub permit : Bool → Bool → Permit
 permit true permitted = Bad
 permit false true = Yes
 permit false false = No
 
+-- whether a list permits
 abbrev pub is_yes : Permit → Bool
 is_yes Yes = true
 is_yes No = false
@@ -70,25 +74,31 @@ MatchesInLowerCase text pattern = Matches (str_to_ascii_lowercase pattern) (str_
 abbrev pub host_list : List ℕ → List ℕ → Bool
 host_list list name = permits (is_match_in_lower_case name) (items_of list)
 
+-- whether a slash stands in the text
 abbrev pub has_slash : List ℕ → Bool
 has_slash text = list_any (λ c. c == 47) text
 
+-- whether a net was read in which the address lies
 abbrev pub net_has : Result Block PatternError → Address → Bool
 net_has (Ok net) address = in_net net address
 net_has (Err e) address = false
 
+-- whether the address was read
 abbrev pub is_address : Option Address → Address → Bool
 is_address None address = false
 is_address (Some a) address = same_address a address
 
+-- whether the host name, where one is known, matches the pattern
 abbrev pub host_matches : Option (List ℕ) → List ℕ → Bool
 host_matches None pattern = false
 host_matches (Some host) pattern = is_match_in_lower_case host pattern
 
+-- whether the item spells the address that was read
 abbrev pub address_equals : Option Address → List ℕ → Bool
 address_equals None item = false
 address_equals (Some address) item = is_address (address_of item) address
 
+-- whether the item is a net in which the address that was read lies
 abbrev pub address_in : Option Address → List ℕ → Bool
 address_in None item = false
 address_in (Some address) item = net_has (net_of item) address
@@ -110,7 +120,7 @@ source_item source item =
     if has_slash item then address_in (address_of source.text) item
     else address_equals (address_of source.text) item || host_matches source.host item || is_match_in_lower_case source.text item
 
--- the address is the text's, and lies in the net that the item spells, or is the item's too
+-- The item spells a net in which the address lies, or it spells the address itself.
 abbrev pub FitsAddress : Address → List ℕ → Type 0
 FitsAddress address item =
     ((net : Block) × IsNetText net item × LiesIn net address) ⊎ IsAddressText address item

@@ -33,6 +33,7 @@ abbrev pub first_and_rest : (ℕ → Bool) → (List ℕ → Bool) → List ℕ 
 first_and_rest first rest [] = false
 first_and_rest first rest (x ∷ xs) = first x && rest xs
 
+-- whether the text is empty
 abbrev pub is_empty : List ℕ → Bool
 is_empty [] = true
 is_empty (x ∷ xs) = false

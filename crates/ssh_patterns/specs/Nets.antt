@@ -45,6 +45,7 @@ abbrev pub in_net : Block → Address → Bool
 in_net net address =
     same_family net.base address && (number address / size net.base net.prefix == number net.base / size net.base net.prefix)
 
+-- whether two addresses are one
 abbrev pub same_address : Address → Address → Bool
 same_address a b = same_family a b && (number a == number b)
 
@@ -52,6 +53,7 @@ same_address a b = same_family a b && (number a == number b)
 abbrev pub prefix_of : Address → List ℕ → Option ℕ
 prefix_of base text = below (width base + 1) (decimal_of text)
 
+-- a step, and what comes after it: a fault ends the reading
 infixl 10 ◌>>=◌
 abbrev pub ◌>>=◌ : {A B : Type 0} → Result A PatternError → (A → Result B PatternError) → Result B PatternError
 Ok value >>= next = next value

@@ -11,10 +11,9 @@ mod pattern;
 mod permit;
 mod samples;
 mod sources;
-mod text;
-
 #[cfg(test)]
 mod tests;
+mod text;
 
 pub use address::{Address, parse_address};
 pub use error::PatternError;

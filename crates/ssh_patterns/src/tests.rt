@@ -1,4 +1,7 @@
-use crate::{Address, PatternError, Permit, cidr_list, contains, host_list, matches, parse_address, parse_net, source_list};
+use crate::{
+    Address, PatternError, Permit, cidr_list, contains, host_list, matches, parse_address,
+    parse_net, source_list,
+};
 
 /// `source_list`, once the address text is seen to be one.
 fn from_list(list: &[u8], host: Option<&[u8]>, address_text: &[u8]) -> Option<Permit> {
@@ -35,7 +38,10 @@ fn addresses(rt: HostRuntime) {
             Ok(Address::V6(0x0001_0002_0003_0004_0005_0006_0007_0000)),
         ),
         (b"::".as_slice(), Ok(Address::V6(0))),
-        (b"::ffff:192.0.2.1".as_slice(), Ok(Address::V6(0xffff_c000_0201))),
+        (
+            b"::ffff:192.0.2.1".as_slice(),
+            Ok(Address::V6(0xffff_c000_0201)),
+        ),
     ] {
         assert_eq!(rt; parse_address(text), want);
     }
@@ -57,10 +63,17 @@ fn nets(rt: HostRuntime) {
         (b"10.0.0.0/8".as_slice(), Address::V4(0x0b00_0000), false),
         (b"0.0.0.0/0".as_slice(), Address::V4(0x0a00_0001), true),
         (b"::/0".as_slice(), Address::V4(0x0a00_0001), false),
-        (b"::ffff:0:0/96".as_slice(), Address::V6(0xffff_0a00_0001), true),
+        (
+            b"::ffff:0:0/96".as_slice(),
+            Address::V6(0xffff_0a00_0001),
+            true,
+        ),
         (b"::1/128".as_slice(), Address::V6(1), true),
     ] {
-        assert_eq!(rt; parse_net(text).map(|net| contains(&net, &address)), Ok(want));
+        assert_eq!(rt;
+            parse_net(text).map(|net| contains(&net, &address)),
+            Ok(want)
+        );
     }
 }
 
@@ -87,17 +100,67 @@ fn lists(rt: HostRuntime) {
 fn sources(rt: HostRuntime) {
     let hosts = b"*.example.org,!bad.example.org".as_slice();
     for (list, host, address, want) in [
-        (b"!10.0.0.1,10.0.0.0/8".as_slice(), None, b"10.0.0.1".as_slice(), Permit::No),
-        (b"!10.0.0.1,10.0.0.0/8".as_slice(), None, b"10.0.0.2".as_slice(), Permit::Yes),
-        (b"2001:DB8::1".as_slice(), None, b"2001:db8:0:0:0:0:0:1".as_slice(), Permit::Yes),
-        (b"a,,b".as_slice(), None, b"10.0.0.1".as_slice(), Permit::Bad),
-        (b"10.0.0.1/8".as_slice(), None, b"10.0.0.1".as_slice(), Permit::Bad),
-        (b"0.0.0.0/0".as_slice(), None, b"10.0.0.1".as_slice(), Permit::Yes),
+        (
+            b"!10.0.0.1,10.0.0.0/8".as_slice(),
+            None,
+            b"10.0.0.1".as_slice(),
+            Permit::No,
+        ),
+        (
+            b"!10.0.0.1,10.0.0.0/8".as_slice(),
+            None,
+            b"10.0.0.2".as_slice(),
+            Permit::Yes,
+        ),
+        (
+            b"2001:DB8::1".as_slice(),
+            None,
+            b"2001:db8:0:0:0:0:0:1".as_slice(),
+            Permit::Yes,
+        ),
+        (
+            b"a,,b".as_slice(),
+            None,
+            b"10.0.0.1".as_slice(),
+            Permit::Bad,
+        ),
+        (
+            b"10.0.0.1/8".as_slice(),
+            None,
+            b"10.0.0.1".as_slice(),
+            Permit::Bad,
+        ),
+        (
+            b"0.0.0.0/0".as_slice(),
+            None,
+            b"10.0.0.1".as_slice(),
+            Permit::Yes,
+        ),
         (b"::/0".as_slice(), None, b"10.0.0.1".as_slice(), Permit::No),
-        (b"10.0.0.1".as_slice(), None, b"::ffff:10.0.0.1".as_slice(), Permit::No),
-        (hosts, Some(b"bad.example.org".as_slice()), b"192.0.2.1".as_slice(), Permit::No),
-        (hosts, Some(b"BAD.example.org".as_slice()), b"192.0.2.1".as_slice(), Permit::No),
-        (hosts, Some(b"good.example.org".as_slice()), b"192.0.2.1".as_slice(), Permit::Yes),
+        (
+            b"10.0.0.1".as_slice(),
+            None,
+            b"::ffff:10.0.0.1".as_slice(),
+            Permit::No,
+        ),
+        (
+            hosts,
+            Some(b"bad.example.org".as_slice()),
+            b"192.0.2.1".as_slice(),
+            Permit::No,
+        ),
+        (
+            hosts,
+            Some(b"BAD.example.org".as_slice()),
+            b"192.0.2.1".as_slice(),
+            Permit::No,
+        ),
+        (
+            hosts,
+            Some(b"good.example.org".as_slice()),
+            b"192.0.2.1".as_slice(),
+            Permit::Yes,
+        ),
     ] {
         assert_eq!(rt; from_list(list, host, address), Some(want));
     }

@@ -1,6 +1,5 @@
-use Rattle.std.proofs.Common.{◌≡◌, ◌∙◌, sym, ap, Some, ◌++◌, length, eqb-true, arith}
+use Rattle.std.proofs.Common.{◌∙◌, sym, ap, Some, length, eqb-true, arith}
 use Rattle.std.proofs.lemmas.Bool.{eqb-false}
-use Rattle.ssh_patterns.specs.Groups.{few}
 use Rattle.ssh_patterns.proofs.CutLemmas.{parts-cut}
 use Rattle.ssh_patterns.proofs.PartLemmas.{groups-empty, groups-start, turn-none, turn-full, turn-next, turn-last}
 use Rattle.ssh_patterns.proofs.address.groups.Goals as goal
@@ -45,11 +44,11 @@ returns-in_err-last_groups c =
     let uncut = rw c.in_default.is at c.split_once.ensures in
     c.from_residual-in_err-last_groups.ensures
     ∙ rw (← c.in_err-last_groups.ensures) at
-        (sym (turn-last c.args.dotted_too c.loop-part.groups c.loop-part.rest.now uncut) ∙ c.loop-part.invariant)
+    (sym (turn-last c.args.dotted_too c.loop-part.groups c.loop-part.rest.now uncut) ∙ c.loop-part.invariant)
 
 pub returns : goal.returns
 returns c =
     let uncut = rw c.in_default.is at c.split_once.ensures in
     c.followed_by-2.ensures
     ∙ rw (← c.in_ok-last_groups.ensures) at
-        (sym (turn-last c.args.dotted_too c.loop-part.groups c.loop-part.rest.now uncut) ∙ c.loop-part.invariant)
+    (sym (turn-last c.args.dotted_too c.loop-part.groups c.loop-part.rest.now uncut) ∙ c.loop-part.invariant)

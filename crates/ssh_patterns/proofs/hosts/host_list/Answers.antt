@@ -1,4 +1,4 @@
-use Rattle.std.proofs.Common.{◌≡◌, ◌∙◌, ap}
+use Rattle.std.proofs.Common.{◌∙◌, ap}
 use Rattle.ssh_patterns.specs.Lists.{is_yes, is_match_in_lower_case, MatchesInLowerCase}
 use Rattle.ssh_patterns.proofs.ListLemmas.{yes-permits}
 use Rattle.ssh_patterns.proofs.PermitLaw.{permits-tells, lower-tells}

@@ -1,4 +1,4 @@
-use Rattle.std.proofs.Common.{sym, arith}
+use Rattle.std.proofs.Common.{sym}
 use Rattle.ssh_patterns.proofs.CutLemmas.{parts-cut, parts-uncut}
 use Rattle.ssh_patterns.proofs.list.first_piece.Goals as goal
 

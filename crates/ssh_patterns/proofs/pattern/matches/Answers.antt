@@ -1,5 +1,3 @@
-use Rattle.std.proofs.Common.{◌≡◌, refl}
-use Rattle.ssh_patterns.specs.Matching.{is_match}
 use Rattle.ssh_patterns.proofs.MatchLemmas.{folded-Exact, is_match-tests}
 use Rattle.ssh_patterns.proofs.pattern.matches.Goals as goal
 

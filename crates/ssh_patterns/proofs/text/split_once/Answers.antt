@@ -1,4 +1,4 @@
-use Rattle.std.proofs.Common.{◌≡◌, ◌∙◌, sym, take, drop, arith}
+use Rattle.std.proofs.Common.{◌∙◌, sym, take, drop, arith}
 use Rattle.std.proofs.lemmas.Bool.Decides.{Decides-eqb}
 use Rattle.std.proofs.lemmas.Slice.Eq.{strip_prefix_is}
 use Rattle.ssh_patterns.proofs.CutLemmas.{after_mark-none, cut-later, cut-here}

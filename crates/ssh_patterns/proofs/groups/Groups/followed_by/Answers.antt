@@ -10,13 +10,15 @@ returns-then-count-gt8 c =
 pub overflow_add-result : goal.overflow_add-result
 overflow_add-result c =
     let whole = joined c.self.inside.count c.after.inside.count c.self.inside.number c.after.inside.number c.unbounded_shl.result
-        c.self.invariant.1 c.after.invariant.1 (omega arith) c.unbounded_shl.ensures in
+    c.self.invariant.1 c.after.invariant.1 (omega arith) c.unbounded_shl.ensures in
     omega (arith, whole.small)
 
 pub invariant_of-result : goal.invariant_of-result
-invariant_of-result c =
-    (omega arith, (joined c.self.inside.count c.after.inside.count c.self.inside.number c.after.inside.number _
-    c.self.invariant.1 c.after.invariant.1 (omega arith) c.unbounded_shl.ensures).fits)
+invariant_of-result c = (
+  omega arith,
+  (joined c.self.inside.count c.after.inside.count c.self.inside.number c.after.inside.number _
+      c.self.invariant.1 c.after.invariant.1 (omega arith) c.unbounded_shl.ensures).fits,
+)
 
 pub returns : goal.returns
 returns c =
