@@ -1,0 +1,68 @@
+#!/usr/bin/env python3
+"""Runs the program once for each growth of memory that it asks for, with that growth refused, alone and with all later
+ones. Each run has to print the row's own answer, or `fault A8` with status 2. Needs gcc and the built program, which may
+be given as an argument."""
+import os
+import pathlib
+import subprocess
+import sys
+import tempfile
+
+HERE = pathlib.Path(__file__).resolve().parent
+CRATE = HERE.parent / "crates" / "ssh_audit"
+PROGRAM = pathlib.Path(sys.argv[1] if len(sys.argv) > 1 else CRATE / "out" / "ssh_audit")
+OUT_OF_MEMORY = (2, b"fault A8\n")
+
+
+def run(words, stdin, preload=None, index=0, later=False):
+    environment = dict(os.environ)
+    if preload is not None:
+        environment["LD_PRELOAD"] = str(preload)
+        environment["REFUSED"] = str(index)
+        if later:
+            environment["REFUSED_ON"] = "1"
+    done = subprocess.run([str(PROGRAM), *words], input=stdin, capture_output=True, env=environment, check=False)
+    return (done.returncode, done.stdout), b"refused" in done.stderr
+
+
+def rows():
+    """The stored run, and the same login over files and vouch files that show reasons, a denial and faults."""
+    stored = (CRATE / "stdin").read_bytes()
+    words, vouched, rest = stored.split(b"\n", 2)
+    key = next(line for line in rest.split(b"\n") if line.startswith(b"ssh-"))
+    yield "stored run", [], stored
+    yield "bad lines before", [], b"\n".join([words, vouched, b"", b"ssh-dss AAAA", b"no-pty " + key, b"ssh-rsa AAAA", key, b""])
+    yield "no line", [], b"\n".join([words, vouched, b"", b"ssh-dss AAAA", b"ssh-ed25519 AAAA", b""])
+    yield "nothing vouched", [], b"\n".join([words, b"", b"ssh-dss AAAA", key, b""])
+    yield "bad vouch line", [], b"\n".join([words, b"zz", b"", key, b""])
+    yield "bad words", [], b"login --file\n"
+    yield "words of the command line", words.decode().split(" "), stored.split(b"\n", 1)[1]
+
+
+def check(preload, name, words, stdin):
+    own, _ = run(words, stdin)
+    growths = 0
+    for later in (False, True):
+        index = 1
+        while True:
+            answer, refused = run(words, stdin, preload, index, later)
+            if answer not in (own, OUT_OF_MEMORY):
+                print(f"{name}: growth {index} refused: {answer}, and not {own}")
+                return False
+            if not refused:
+                break
+            growths += 1
+            index += 1
+    print(f"{name}: status {own[0]}, {growths} runs with a growth refused")
+    return True
+
+
+def main():
+    with tempfile.TemporaryDirectory() as folder:
+        preload = pathlib.Path(folder) / "refuse_growth.so"
+        subprocess.run(["gcc", "-O2", "-Wall", "-shared", "-fPIC", "-o", str(preload), str(HERE / "refuse_growth.c"), "-ldl"], check=True)
+        results = [check(preload, *row) for row in rows()]
+    sys.exit(0 if all(results) else 1)
+
+
+main()
