@@ -2,7 +2,7 @@
 
 ghost use Rattle.ssh_keys.specs.Signature.{IsSignature, signature_of};
 
-use crate::{CertError, CertParts, CertView, Time, WriteError, plain_blob, read_cert, write_cert};
+use crate::{CertError, CertParts, CertView, Time, plain_blob, read_cert, write_cert};
 use ssh_keys::KeyError;
 use ssh_wire::{WireCause, WireError};
 use std::test::Fail;
@@ -205,31 +205,6 @@ fn reads_what_openssh_makes(rt: HostRuntime) -> Result<(), Fail> {
         &mut out,
     )?;
     assert_eq!(rt; out.as_slice(), MADE);
-    Ok(())
-}
-
-/// A blob of 262,144 bytes is written and read, and a longer one is not.
-#[test]
-fn keeps_the_limit(rt: HostRuntime) -> Result<(), Fail> {
-    let view = read_cert(X0)?;
-    let reserved = vec![in rt.alloc(); 255u8; 261_932]?;
-    let parts = parts_of(&view, &[b"ann"], &[], &[]);
-    let mut out = Vec::new(rt.alloc());
-    let longer = CertParts {
-        reserved: &reserved,
-        ..parts
-    };
-    assert_eq!(rt; write_cert(&longer, &mut out), Err(WriteError::TooLong));
-    assert_eq!(rt; out.len(), 0);
-    let longest = CertParts {
-        reserved: &reserved[1..],
-        ..parts
-    };
-    write_cert(&longest, &mut out)?;
-    assert_eq!(rt; out.len(), 262_144);
-    assert_eq!(rt; read_cert(&out)?.reserved(), &reserved[1..]);
-    out.push(0)?;
-    assert_eq!(rt; read_cert(&out).map(|_| ()), Err(CertError::TooLong));
     Ok(())
 }
 

@@ -13,8 +13,11 @@ use ssh_keys::{KeyView, SignatureView};
 /// Where a moment lies in a certificate's time.
 #[derive(Clone, Copy, Debug, PartialEq, Eq)]
 pub enum Time {
+    /// Before its first second.
     Early,
+    /// In force.
     Now,
+    /// At its end or after it.
     Late,
 }
 
