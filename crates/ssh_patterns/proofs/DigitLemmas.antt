@@ -3,7 +3,6 @@ use Rattle.std.proofs.Common.{◌≡◌, ℕ, ◌+◌, ◌*◌, ◌^◌, ◌<◌
 use Rattle.std.proofs.Math.Seq.{drop-cons}
 use Rattle.std.proofs.Math.Nat.{mul-le-mul_left, pow-le-pow_right}
 use Rattle.std.proofs.lemmas.Bool.{lt-ltb, le-ltb, ltb-true, le-leb, and_parts}
-use Rattle.std.proofs.lemmas.Nat.{mul-le}
 use Rattle.std.specs.List.{list_all}
 use Rattle.std.specs.Char.{is_digit, digit_value}
 use Rattle.std.specs.Str.Parse.{digits_value, digits_value_after, AllDigits}
@@ -18,9 +17,6 @@ number_after radix n ds = if list_all (λ c. is_digit c radix) ds then Some (dig
 pub number_after-digit : (radix n c : ℕ) (ds : List ℕ) → digit_value c < radix
     → number_after radix n (c ∷ ds) ≡ number_after radix (n * radix + digit_value c) ds
 number_after-digit radix n c ds h = rw (lt-ltb (digit_value c) radix h) refl
-
-pub number_after-other : (radix n c : ℕ) (ds : List ℕ) → radix ≤ digit_value c → number_after radix n (c ∷ ds) ≡ None
-number_after-other radix n c ds h = rw (le-ltb (digit_value c) radix h) refl
 
 no-less : (radix n : ℕ) (ds : List ℕ) → 1 ≤ radix → n ≤ digits_value_after radix n ds
 no-less radix n [] h = omega arith
@@ -43,9 +39,6 @@ number_after-at radix n i text h = rw (add-one, drop-cons text i 0 h) refl
 
 pub below-small : (limit n : ℕ) → n < limit → below limit (Some n) ≡ Some n
 below-small limit n h = rw (lt-ltb n limit h) refl
-
-pub product-fits : (n radix limit : ℕ) → n < limit → limit ≤ 2 ^ 16 → radix ≤ 16 → n * radix ≤ 2 ^ 20
-product-fits n radix limit h few small = omega (arith, mul-le n radix (2 ^ 16) 16 (omega arith) small)
 
 -- the next digit takes the number past the limit
 pub past-limit : (radix limit n i d : ℕ) (text : List ℕ) → 1 ≤ radix → i < length text

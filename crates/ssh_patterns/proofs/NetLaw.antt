@@ -66,7 +66,7 @@ found : {A : Type 0} (o : Option A) (e : PatternError) (a : A) → ok_or o e ≡
 found None e a h = cc
 found (Some x) e a h = ap (λ r. Some r) (ok-is h)
 
-small-width : (base : Address) → width base + 1 ≤ 256
+pub small-width : (base : Address) → width base + 1 ≤ 256
 small-width (V4 n) = omega arith
 small-width (V6 n) = omega arith
 

@@ -1,6 +1,6 @@
 -- Groups between colons, part by part.
 use Rattle.std.proofs.Common.{◌≡◌, ℕ, ◌+◌, ◌<◌, ◌≤◌, Bool, true, false, List, [], ◌∷◌, ◌++◌, length, codes, ◌==◌, nat_le, if◌then◌else◌, Option, Some, None, option_and_then, refl, sym, ap, append_assoc, length-append, arith}
-use Rattle.std.proofs.lemmas.Bool.{leb-false, le-ltb, ne_eqb}
+use Rattle.std.proofs.lemmas.Bool.{leb-false, le-ltb}
 use Rattle.std.specs.List.{slice_split}
 use Rattle.ssh_patterns.specs.AddressReading.{group_of, last_groups_of, groups_of_parts, groups_of, filled, eight_groups_of}
 use Rattle.ssh_patterns.specs.AddressText.{colon}
@@ -150,22 +150,3 @@ pub around-cut : (text front back : List ℕ) → Some (front, back) ≡ cut_at 
     → filled_of (few_of (groups_of false front)) (few_of (groups_of true back)) ≡ eight_groups_of text
 unfolding eight_groups_of
 around-cut text front back cut = rw (← cut) (filled_of-few (groups_of false front) (groups_of true back))
-
-abbrev pub if_eight : Option (List ℕ) → Option (List ℕ)
-if_eight groups = option_and_then (λ g. if length g == 8 then Some g else None) groups
-
-if_eight-by : (a : Bool) (groups : List ℕ) → nat_le (length groups) 8 ≡ a
-    → if_eight (if a then Some groups else None) ≡ (if length groups == 8 then Some groups else None)
-if_eight-by true groups e = refl
-if_eight-by false groups e =
-    let many = leb-false (length groups) 8 e in rw (ne_eqb (length groups) 8 (λ (q : length groups ≡ 8). omega arith)) refl
-
-if_eight-few : (groups : Option (List ℕ)) → if_eight (few_of groups) ≡ if_eight groups
-if_eight-few None = refl
-if_eight-few (Some groups) = if_eight-by (nat_le (length groups) 8) groups refl
-
--- the groups of a text without a cut
-pub uncut-groups : (text : List ℕ) → None ≡ cut_at (codes "::") text
-    → if_eight (few_of (groups_of true text)) ≡ eight_groups_of text
-unfolding eight_groups_of
-uncut-groups text uncut = rw (← uncut) (if_eight-few (groups_of true text))

@@ -1,5 +1,5 @@
 -- Which addresses lie in a net, and the texts of nets (RFC 4632, section 3.1; RFC 4291, section 2.3).
-use Rattle.std.specs.Prelude.{◌≡◌, ℕ, ◌∷◌, ◌++◌, decimal, ◌+◌, ◌/◌, ◌%◌, Bool, true, false, ◌&&◌, ◌==◌, if◌then◌else◌, List, codes, Option, Result, Ok, Err, ok_or}
+use Rattle.std.specs.Prelude.{◌≡◌, ◌≢◌, ◌≤◌, ℕ, ◌∷◌, ◌++◌, decimal, ◌+◌, ◌/◌, ◌%◌, Bool, true, false, ◌&&◌, ◌==◌, if◌then◌else◌, List, codes, Option, Result, Ok, Err, ok_or}
 use Rattle.ssh_patterns.specs.declared.address.Address.{Address}
 use Rattle.ssh_patterns.specs.declared.address.Address.TheVariants.{V4, V6}
 use Rattle.ssh_patterns.specs.declared.error.PatternError.{PatternError}
@@ -20,6 +20,24 @@ pub record IsNetText (net : Block) (text : List ℕ) : Type 0 where
   pub whole : text ≡ base_text ++ slash ∷ decimal net.prefix
   pub spelled : IsAddressText net.base base_text
   pub block : IsBlock net
+
+-- An address stands before a slash of the text.
+pub record HasBase (text : List ℕ) : Type 0 where
+  pub base : Address
+  pub front : List ℕ
+  pub back : List ℕ
+  pub whole : text ≡ front ++ slash ∷ back
+  pub spelled : IsAddressText base front
+
+-- The text would spell a net, but for a bit of the address that is set past the length.
+pub record HasHostBits (text : List ℕ) : Type 0 where
+  pub base : Address
+  pub prefix : ℕ
+  pub base_text : List ℕ
+  pub whole : text ≡ base_text ++ slash ∷ decimal prefix
+  pub spelled : IsAddressText base base_text
+  pub within : prefix ≤ width base
+  pub set : number base % size base prefix ≢ 0
 
 -- the two addresses are of one family
 abbrev pub AreOfOneFamily : Address → Address → Type 0

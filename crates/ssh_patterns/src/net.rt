@@ -1,8 +1,8 @@
 //! Nets: the addresses of one family that share their first bits (RFC 4632, section 3.1).
 
-ghost use Rattle.std.specs.Prelude.{◌≡◌, ◌↔◌, IsTrue, IfOk, Ok, ◌/◌, ◌%◌, ◌^◌, ◌==◌};
+ghost use Rattle.std.specs.Prelude.{◌≡◌, ◌↔◌, IsTrue, IfOk, Ok, Err, ◌/◌, ◌%◌, ◌^◌, ◌==◌};
 ghost use Rattle.ssh_patterns.specs.Block.{Block, width, number};
-ghost use Rattle.ssh_patterns.specs.Nets.{IsNetText, LiesIn, in_net, net_of, prefix_of};
+ghost use Rattle.ssh_patterns.specs.Nets.{IsNetText, HasBase, HasHostBits, LiesIn, in_net, net_of, prefix_of};
 
 use crate::address::{Address, read_address};
 use crate::error::PatternError;
@@ -95,7 +95,11 @@ pub fn parse_net(text: &[u8]) -> Result<Net, PatternError>
     ensures spelled { IfOk result (λ net. IsNetText net text.now) }
     // What the text spells is read, so it spells one net at most.
     ensures only { (net : Block) → IsNetText net text.now → result ≡ Ok net }
-    // Else the first fault.
+    // No address stands before a slash.
+    ensures address { (result ≡ Err PatternError.Address) ↔ (¬ HasBase text.now) }
+    // It would be a net, but for its bits past the length.
+    ensures host_bits { (result ≡ Err PatternError.HostBits) ↔ HasHostBits text.now }
+    // What it is, or the first fault.
     ensures value { result ≡ net_of text.now }
 {
     read_net(text)
