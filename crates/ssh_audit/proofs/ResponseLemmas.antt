@@ -3,15 +3,20 @@ use Rattle.std.proofs.Common.{◌≡◌, ◌∙◌, ◌<◌, ℕ, Bool, true, fa
 use Rattle.std.specs.Prelude.{IfOk}
 use Rattle.std.specs.Str.{bytes_eq}
 use Rattle.ssh_audit.specs.Shelf.{IfTells, Shelf, bytes_at, dash}
-use Rattle.ssh_audit.specs.Parts.{cut_at_empty, after_line}
-use Rattle.ssh_audit.specs.CommandLine.{Request, login, request_of}
+use Rattle.ssh_audit.specs.Parts.{cut_at_empty, after_line, first_line}
+use Rattle.ssh_audit.specs.CommandLine.{Request, login, show, request_of}
 use Rattle.ssh_audit.specs.Values.{words_in}
 use Rattle.ssh_audit.specs.Texts.{Response as Shown, out_of_memory}
-use Rattle.ssh_audit.specs.Requests.{Answers, NoReadFailed, Responds, RespondsBy, SomeReadFailed, after_vouching, answer_in, login_asked, login_spelled, login_vouched, vouched_in}
+use Rattle.ssh_audit.specs.Requests.{Answers, IsWanted, NoReadFailed, Responds, RespondsBy, SomeReadFailed, after_vouching, answer_in, login_asked, login_spelled, login_vouched, vouched_in}
 use Rattle.ssh_audit.specs.declared.query.Signed.{Signed}
 use Rattle.ssh_audit.specs.Query.{Login}
 use Rattle.ssh_audit.specs.CommandLine.{LoginWords}
-use Rattle.ssh_audit.specs.Loading.{LoadsLine}
+use Rattle.std.proofs.lemmas.Bool.{lt-leb}
+use Rattle.ssh_audit.specs.declared.read.ReadFault.{ReadFault}
+use Rattle.ssh_audit.specs.declared.read.ReadFault.TheVariants as fault
+use Rattle.ssh_audit.specs.Loading.{FailsLine, IsUsageOf, LoadsLine}
+use Rattle.ssh_audit.proofs.CommandLineLemmas.{none_asked}
+use Rattle.ssh_audit.proofs.PieceLemmas.{words_long}
 use Rattle.ssh_audit.specs.Printing.{Prints, PrintsUnseen}
 use Rattle.ssh_audit.specs.Tallying.{Puts}
 
@@ -43,7 +48,8 @@ asked-same w a b (Ok q) n i =
 
 answers-same : (a b : Shelf) (q : Option Request) → a.named ≡ b.named → a.input ≡ b.input → answer_in a q ≡ answer_in b q
 answers-same a b None n i = refl
-answers-same a b (Some (login w)) n i = asked-same w a b (login_spelled w) n i
+answers-same a b (Some (login w)) n i = ap (λ r. Some r) (asked-same w a b (login_spelled w) n i)
+answers-same a b (Some (show w)) n i = rw (n, i) refl
 
 none-failed : (s t : Shelf) (u : Option Shelf) → t.failures ≡ s.failures → NoReadFailed t u → NoReadFailed s u
 none-failed s t None e h = h
@@ -55,7 +61,7 @@ some-failed s t (Some x) e h = omega (arith, e, h)
 
 shifted : (q : Option Request) (s t : Shelf) (u : Option Shelf) (r : Shown) → t.named ≡ (after_line s).named → t.input ≡ (after_line s).input → t.failures ≡ s.failures
     → RespondsBy q (answer_in t q) t u r → RespondsBy q (answer_in (after_line s) q) s u r
-shifted q s t u r n i f (inl h) = inl (none-failed s t u f h.0, h.1 ∙ answers-same t (after_line s) q n i)
+shifted q s t u r n i f (inl h) = inl (none-failed s t u f h.0, subst (λ (o : Option Shown). IsWanted o r) (answers-same t (after_line s) q n i) h.1)
 shifted q s t u r n i f (inr h) = inr (some-failed s t u f h.0, h.1)
 
 -- ---- words
@@ -81,6 +87,21 @@ line_responds view bytes words (Some s) (Some t) u line res is loads h = λ coun
     let load = loads counts in
     let same = load.1.2 in
     lined view bytes s t u line res load (rw is at (h (omega (arith, counts, same))))
+
+unread : (s : Shelf) (u : Option Shelf) (e : ReadFault) (r : Shown) → FailsLine s u e → IsUsageOf e r → Responds [] s u r
+unread s u fault.Missing r fails is = absurd fails
+unread s u fault.Failed r fails is = inr (fails, refl, is)
+unread s u fault.Memory r fails is = absurd is
+unread s u fault.TooLong r fails is =
+    let none : words_in (first_line s) ≡ [] = sym (words_long (first_line s) (lt-leb (length (first_line s)) 65536 fails.0)) in
+    inl (inl (fails.1, subst (λ (q : Option Request). IsWanted (answer_in (after_line s) q) r) (sym (ap request_of none ∙ none_asked)) is))
+
+-- a first line of standard input that gives no words
+pub unread_responds : {R E : Type 0} (view : R → Shown) (o u : Option Shelf) (e : ReadFault) (res : Result R E)
+    → IfTells o (λ s. FailsLine s u e) → IfOk res (λ r. IsUsageOf e (view r)) → IfTells o (λ s. IfOk res (λ r. Responds [] s u (view r)))
+unread_responds view None u e res fails is = tt
+unread_responds view (Some s) u e (Err x) fails is = λ counts. tt
+unread_responds view (Some s) u e (Ok r) fails is = λ counts. unread s u e (view r) (fails counts) is
 
 given : {R E : Type 0} (view : R → Shown) (word : List ℕ) (words : List (List ℕ)) (s : Shelf) (u : Option Shelf) (res : Result R E)
     → IfOk res (λ r. RespondsBy (request_of (word ∷ words)) (answer_in s (request_of (word ∷ words))) s u (view r))

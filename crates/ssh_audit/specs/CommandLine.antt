@@ -21,9 +21,15 @@ login_options = (codes "file", true) ∷ (codes "offer", true) ∷ (codes "signa
 unfoldable pub login_app : App
 login_app = with_options (new_app (codes "login")) login_options
 
+abbrev pub show_options : List (Text × Bool)
+show_options = (codes "kind", true) ∷ (codes "file", true) ∷ []
+
+unfoldable pub show_app : App
+show_app = with_options (new_app (codes "show")) show_options
+
 -- the program's command line: the words begin with a subcommand, which has to be there
 abbrev pub command_line : App
-command_line = on_top (λ s. record s { no_binary_name = true; subcommand_required = true }) (with_subcommand (new_app (codes "ssh_audit")) login_app.top)
+command_line = on_top (λ s. record s { no_binary_name = true; subcommand_required = true }) (with_subcommand (with_subcommand (new_app (codes "ssh_audit")) show_app.top) login_app.top)
 
 -- the texts of the options of `login`
 pub record LoginWords : Type 0 where
@@ -37,9 +43,15 @@ pub record LoginWords : Type 0 where
   pub now : Text
   pub vouch : Option Text
 
+-- the texts of the options of `show`
+pub record ShowWords : Type 0 where
+  pub kind : Text
+  pub file : Text
+
 -- what the words may ask for
 pub data Request : Type 0 where
   login : LoginWords → Request
+  show : ShowWords → Request
 
 infixl 10 ◌>>=◌
 abbrev pub ◌>>=◌ : {A B : Type 0} → Option A → (A → Option B) → Option B
@@ -57,8 +69,16 @@ login_words rows = do
   now ← first_of (codes "now") rows
   Some (record { file = file; offer = offer; signature = signature; algorithm = algorithm; session = session; user = user; address = address; now = now; vouch = first_of (codes "vouch") rows })
 
+unfoldable pub show_words : List Row → Option ShowWords
+show_words rows = do
+  kind ← first_of (codes "kind") rows
+  file ← first_of (codes "file") rows
+  Some (record { kind = kind; file = file })
+
 abbrev pub request_in : Text × List Row → Option Request
-request_in p = if bytes_eq p.0 (codes "login") then option_map (λ w. login w) (login_words p.1) else None
+request_in p = if bytes_eq p.0 (codes "login") then option_map (λ w. login w) (login_words p.1)
+    else if bytes_eq p.0 (codes "show") then option_map (λ w. show w) (show_words p.1)
+    else None
 
 -- what the words ask for, where they have no fault: the values that the command line gives to the options
 abbrev pub spelled : List Text → List ErrorKind → Option Request

@@ -22,3 +22,4 @@ pub mod Printing
 pub mod Loading
 pub mod Parsing
 pub mod LoginValues
+pub mod Showing

@@ -10,7 +10,7 @@ use Rattle.ssh_audit.specs.declared.error.AuditError.{AuditError}
 use Rattle.ssh_audit.specs.declared.error.AuditError.TheVariants.{Read, Memory}
 use Rattle.ssh_audit.specs.declared.query.Signed.{Signed}
 use Rattle.ssh_audit.specs.Requests.{answer_over, NoReadFailed, SomeReadFailed, within_limit}
-use Rattle.ssh_audit.specs.Texts.{Response, no_file_response}
+use Rattle.ssh_audit.specs.Texts.{Response, no_file_response, usage_response}
 use Rattle.ssh_audit.specs.declared.read.ReadFault.{ReadFault}
 use Rattle.ssh_audit.specs.declared.read.ReadFault.TheVariants as fault
 
@@ -43,18 +43,27 @@ Loads view bytes rest s t (Err fault.TooLong) = IsTooLong bytes × NoReadFailed 
 Loads view bytes rest s t (Err fault.Failed) = SomeReadFailed s t
 Loads view bytes rest s t (Err fault.Memory) = ⊤
 
+-- why the first line of standard input was not read
+abbrev pub FailsLine : Shelf → Option Shelf → ReadFault → Type 0
+FailsLine s t fault.Missing = ⊥
+FailsLine s t fault.TooLong = (line_limit < length (first_line s)) × NoReadFailed s t
+FailsLine s t fault.Failed = SomeReadFailed s t
+FailsLine s t fault.Memory = ⊤
+
 -- what a reading of the first line of standard input answers
 abbrev pub LoadsLine : {V : Type 0} → (V → List ℕ) → Shelf → Option Shelf → Result V ReadFault → Type 0
 LoadsLine view s t (Ok v) = (first_line s ≡ view v) × IsLeft s (after_line s) t
-LoadsLine view s t (Err fault.Missing) = ⊥
-LoadsLine view s t (Err fault.TooLong) = (line_limit < length (first_line s)) × NoReadFailed s t
-LoadsLine view s t (Err fault.Failed) = SomeReadFailed s t
-LoadsLine view s t (Err fault.Memory) = ⊤
+LoadsLine view s t (Err e) = FailsLine s t e
 
--- the response to a vouch file that gives no bytes
+-- the response to a file that gives no bytes, and is no trust file
 abbrev pub IsFaultOf : List ℕ → ReadFault → Response → Type 0
 IsFaultOf name fault.Memory r = ⊥
 IsFaultOf name e r = r ≡ no_file_response name
+
+-- the response to a first line that gives no words
+abbrev pub IsUsageOf : ReadFault → Response → Type 0
+IsUsageOf fault.Memory r = ⊥
+IsUsageOf e r = r ≡ usage_response
 
 -- what a login is answered by a trust file of these bytes: memory was refused, or a read failed, or it is the answer
 abbrev pub AnswersFile : Login → List Signed → Option (List ℕ) → Shelf → Option Shelf → Result Decision AuditError → Type 0

@@ -3,10 +3,11 @@ use Rattle.std.specs.Prelude.{◌≡◌, ◌≢◌, ℕ, List, Some, None, Resul
 use Rattle.clap.specs.Words.{kind_of}
 use Rattle.clap.specs.declared.error.Error.{Error}
 use Rattle.clap.specs.declared.error.ErrorKind.TheVariants.{OutOfMemory}
-use Rattle.ssh_audit.specs.CommandLine.{LoginWords as LoginTexts, Request as Asked, login, request_of}
+use Rattle.ssh_audit.specs.CommandLine.{LoginWords as LoginTexts, ShowWords as ShowTexts, Request as Asked, login, show, request_of}
 use Rattle.ssh_audit.specs.declared.request.LoginWords.{LoginWords}
 use Rattle.ssh_audit.specs.declared.request.Request.{Request}
-use Rattle.ssh_audit.specs.declared.request.Request.TheVariants.{Login}
+use Rattle.ssh_audit.specs.declared.request.Request.TheVariants.{Login, Show}
+use Rattle.ssh_audit.specs.declared.request.ShowWords.{ShowWords}
 use Rattle.ssh_audit.specs.declared.request.WordsFault.{WordsFault}
 use Rattle.ssh_audit.specs.declared.request.WordsFault.TheVariants.{Usage, Memory}
 
@@ -24,8 +25,12 @@ texts_of w = record {
   vouch = option_map (λ s. s.now) w.vouch;
 }
 
+abbrev pub show_texts_of : ShowWords → ShowTexts
+show_texts_of w = record { kind = w.kind.now; file = w.file.now }
+
 abbrev pub request_in_memory : Request → Asked
 request_in_memory (Login w) = login (texts_of w)
+request_in_memory (Show w) = show (show_texts_of w)
 
 -- the request that the words spell, or a usage fault where they spell none, unless memory was refused
 abbrev pub Parses : List (List ℕ) → Result Request WordsFault → Type 0

@@ -1,5 +1,6 @@
 -- What is answered to words, over the files of a source.
-use Rattle.std.specs.Prelude.{◌≡◌, ◌⊎◌, ◌<◌, ◌^◌, ℕ, List, [], ◌∷◌, Option, Some, None, Result, Ok, Err, codes, length, nat_lt, option_and_then, if◌then◌else◌}
+use Rattle.std.specs.Prelude.{◌≡◌, ◌⊎◌, ◌<◌, ◌^◌, ◌||◌, ℕ, Bool, List, [], ◌∷◌, Option, Some, None, Result, Ok, Err, codes, length, nat_lt, option_and_then, if◌then◌else◌}
+use Rattle.std.specs.Str.{bytes_eq}
 use Rattle.base64.specs.Engines.{standard}
 use Rattle.base64.specs.GeneralPurpose.{decoded_of}
 use Rattle.ssh_wire.specs.Reading.{◌>>=◌}
@@ -12,7 +13,7 @@ use Rattle.ssh_audit.specs.declared.request.WordsFault.TheVariants.{Usage, Memor
 use Rattle.ssh_audit.specs.Query.{Login}
 use Rattle.ssh_audit.specs.Offer.{LoginClaim, login_claim}
 use Rattle.ssh_audit.specs.Answer.{file_limit, login_answer}
-use Rattle.ssh_audit.specs.CommandLine.{LoginWords, Request, login, request_of}
+use Rattle.ssh_audit.specs.CommandLine.{LoginWords, Request, ShowWords, login, show, request_of}
 use Rattle.ssh_audit.specs.Shelf.{Shelf, bytes_at}
 use Rattle.ssh_audit.specs.Parts.{part_at, after_part, first_line, after_line}
 use Rattle.ssh_audit.specs.Values.{hex_bytes, number_below, vouched_of, words_in}
@@ -93,9 +94,24 @@ login_asked w s (Ok q) = login_vouched w q (after_vouching w.vouch s) (vouched_i
 abbrev pub login_response : LoginWords → Shelf → Response
 login_response w s = login_asked w s (login_spelled w)
 
-abbrev pub answer_in : Shelf → Option Request → Response
-answer_in s None = usage_response
-answer_in s (Some (login w)) = login_response w s
+-- the kinds that `show` knows
+abbrev pub is_shown : List ℕ → Bool
+is_shown kind = bytes_eq kind (codes "key") || bytes_eq kind (codes "cert")
+
+-- What `show` prints of a file's bytes is left to tests.
+abbrev pub show_over : List ℕ → Option (List ℕ) → Option Response
+show_over name None = Some (no_file_response name)
+show_over name (Some bytes) = None
+
+-- the answer to `show`, where it is not left open
+abbrev pub show_response : ShowWords → Shelf → Option Response
+show_response w s = if is_shown w.kind then show_over w.file (within_limit (bytes_at s w.file)) else Some (value_response (codes "kind"))
+
+-- the answer to a request, where it is not left open: that to `login` never is
+abbrev pub answer_in : Shelf → Option Request → Option Response
+answer_in s None = Some usage_response
+answer_in s (Some (login w)) = Some (login_response w s)
+answer_in s (Some (show w)) = show_response w s
 
 -- where no word is given, the words are those of the first line of standard input
 abbrev pub asked : List (List ℕ) → Shelf → List (List ℕ)
@@ -106,8 +122,8 @@ abbrev pub source_of : List (List ℕ) → Shelf → Shelf
 source_of [] s = after_line s
 source_of (w ∷ words) s = s
 
--- the answer to these words over this source
-abbrev pub answer : List (List ℕ) → Shelf → Response
+-- the answer to these words over this source, where it is not left open
+abbrev pub answer : List (List ℕ) → Shelf → Option Response
 answer words s = answer_in (source_of words s) (request_of (asked words s))
 
 -- ---- failed reads
@@ -122,14 +138,24 @@ abbrev pub NoReadFailed : Shelf → Option Shelf → Type 0
 NoReadFailed s None = ⊥
 NoReadFailed s (Some t) = t.failures ≡ s.failures
 
--- the fault of a file that was asked for: the trust file, or the vouch file
+-- the fault of a file that was asked for: the trust file, the vouch file, or the file that is shown
 abbrev pub IsFileFault : Option Request → Response → Type 0
 IsFileFault None r = ⊥
 IsFileFault (Some (login w)) r = (r ≡ refused_response Read) ⊎ ((name : List ℕ) × (w.vouch ≡ Some name) × (r ≡ no_file_response name))
+IsFileFault (Some (show w)) r = r ≡ no_file_response w.file
 
--- the response is this one; or a read failed, and it is the fault of a file that was asked for
-abbrev pub RespondsBy : Option Request → Response → Shelf → Option Shelf → Response → Type 0
-RespondsBy q wanted s t r = (NoReadFailed s t × (r ≡ wanted)) ⊎ (SomeReadFailed s t × IsFileFault q r)
+-- something was printed, or a fault
+abbrev pub IsDone : Response → Type 0
+IsDone r = (r.status ≡ 0) ⊎ (r.status ≡ 2)
+
+-- the response is this one; where none is defined, its status alone is known
+abbrev pub IsWanted : Option Response → Response → Type 0
+IsWanted None r = IsDone r
+IsWanted (Some wanted) r = r ≡ wanted
+
+-- the response is the wanted one; or a read failed, and it is the fault of a file that was asked for
+abbrev pub RespondsBy : Option Request → Option Response → Shelf → Option Shelf → Response → Type 0
+RespondsBy q wanted s t r = (NoReadFailed s t × IsWanted wanted r) ⊎ (SomeReadFailed s t × IsFileFault q r)
 
 -- the same of words, where the first line of standard input may be what was not read
 abbrev pub Responds : List (List ℕ) → Shelf → Option Shelf → Response → Type 0

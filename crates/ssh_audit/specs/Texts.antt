@@ -7,6 +7,8 @@ use Rattle.ssh_wire.specs.declared.error.WireCause.TheVariants as wire
 use Rattle.ssh_wire.specs.declared.error.WireError.{WireError}
 use Rattle.ssh_keys.specs.declared.error.KeyError.{KeyError}
 use Rattle.ssh_keys.specs.declared.error.KeyError.TheVariants as key
+use Rattle.ssh_certs.specs.declared.error.CertError.{CertError}
+use Rattle.ssh_certs.specs.declared.error.CertError.TheVariants as cert
 use Rattle.ssh_audit.specs.declared.decision.Cause.{Cause}
 use Rattle.ssh_audit.specs.declared.decision.Cause.TheVariants as cause
 use Rattle.ssh_audit.specs.declared.decision.Decision.{Decision}
@@ -69,6 +71,17 @@ key_codes key.Curve = codes " K5"
 key_codes key.Point = codes " K6"
 key_codes key.Length = codes " K7"
 key_codes key.TooLong = codes " K8"
+
+abbrev pub cert_codes : CertError → List ℕ
+cert_codes (cert.Wire e) = codes " C1" ++ wire_codes e
+cert_codes (cert.Key e) = codes " C2" ++ key_codes e
+cert_codes (cert.Signer e) = codes " C3" ++ key_codes e
+cert_codes cert.ChainedSigner = codes " C4"
+cert_codes (cert.Principals place) = codes " C5" ++ spaced (decimal place)
+cert_codes (cert.Options place) = codes " C6" ++ spaced (decimal place)
+cert_codes (cert.Signature e) = codes " C7" ++ wire_codes e
+cert_codes cert.UnknownType = codes " C8"
+cert_codes cert.TooLong = codes " C9"
 
 abbrev pub line_codes : LineCause → List ℕ
 line_codes line_cause.TooLong = codes " L1"

@@ -2,7 +2,7 @@
 
 ghost use Rattle.std.specs.Prelude.{◌≡◌, IfOk};
 ghost use Rattle.clap.specs.Words.{app_of, with_rule};
-ghost use Rattle.ssh_audit.specs.CommandLine.{command_line, option_rule, login_app};
+ghost use Rattle.ssh_audit.specs.CommandLine.{command_line, option_rule, login_app, show_app};
 
 use clap::{Arg, Command};
 use std::alloc::{AllocError, Global};
@@ -38,11 +38,24 @@ fn login_command<'a>(alloc: Global) -> Result<Command<'a>, AllocError>
     Ok(command)
 }
 
+/// The subcommand `show`.
+#[tactic(auto, unfolding(crate::specs::CommandLine::show_app))]
+fn show_command<'a>(alloc: Global) -> Result<Command<'a>, AllocError>
+    ensures { IfOk result (λ c. app_of c ≡ show_app) }
+{
+    let command = Command::new(alloc, "show");
+    let command = with_option(alloc, command, "kind", true)?;
+    let command = with_option(alloc, command, "file", true)?;
+    Ok(command)
+}
+
 /// The program's command line.
 pub fn program<'a>(alloc: Global) -> Result<Command<'a>, AllocError>
     ensures { IfOk result (λ c. app_of c ≡ command_line) }
 {
+    let show = show_command(alloc)?;
     let login = login_command(alloc)?;
-    let program = Command::new(alloc, "ssh_audit").subcommand(login)?;
+    let showing = Command::new(alloc, "ssh_audit").subcommand(show)?;
+    let program = showing.subcommand(login)?;
     Ok(program.no_binary_name(true).subcommand_required(true))
 }

@@ -38,14 +38,14 @@ pub enum Finding {
     Unreadable(LineCause),
 }
 
-fn is_blank(byte: u8) -> bool
+pub fn is_blank(byte: u8) -> bool
     ensures { result ≡ is_blank byte }
 {
     byte == b' ' || byte == b'\t'
 }
 
 #[tactic(auto, using(crate::proofs::WordLemmas::skip_blanks_drop))]
-fn skip_blanks(text: &[u8]) -> &[u8]
+pub fn skip_blanks(text: &[u8]) -> &[u8]
     ensures { result.now ≡ skip_blanks text.now }
 {
     let (_, rest) = text.split_at(blanks_len(text));
@@ -84,7 +84,7 @@ fn find_blank(text: &[u8]) -> Option<usize>
 
 /// The first word, and what follows it.
 #[tactic(auto, using(crate::proofs::WordLemmas::first_word_take, crate::proofs::WordLemmas::after_word_drop))]
-fn split_word(text: &[u8]) -> (&[u8], &[u8])
+pub fn split_word(text: &[u8]) -> (&[u8], &[u8])
     ensures word { result.0.now ≡ first_word text.now }
     ensures rest { result.1.now ≡ after_word text.now }
 {
@@ -92,7 +92,7 @@ fn split_word(text: &[u8]) -> (&[u8], &[u8])
 }
 
 #[tactic(auto, using(crate::proofs::WordLemmas::without_cr_take, crate::proofs::WordLemmas::without_cr_same, crate::proofs::WordLemmas::without_cr_none))]
-fn without_cr(line: &[u8]) -> &[u8]
+pub fn without_cr(line: &[u8]) -> &[u8]
     ensures { result.now ≡ without_cr line.now }
 {
     let len = line.len();

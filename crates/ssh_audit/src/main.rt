@@ -5,6 +5,7 @@ mod answer;
 mod candidate;
 mod claim;
 mod command;
+mod date;
 mod decision;
 mod error;
 mod evidence;
@@ -22,6 +23,13 @@ mod request;
 mod respond;
 mod response;
 mod run;
+mod show;
+mod show_cert;
+mod show_fault;
+mod show_key;
+mod show_line;
+#[cfg(test)]
+mod show_tests;
 mod system;
 mod tallied;
 #[cfg(test)]

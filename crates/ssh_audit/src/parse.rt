@@ -2,11 +2,11 @@
 
 ghost use Rattle.std.specs.Prelude.{◌≡◌, map, option_map, option_and_then};
 ghost use Rattle.clap.specs.Words.{first_of, found_of, rows_of, subcommand_rows_of};
-ghost use Rattle.ssh_audit.specs.CommandLine.{login_words, request_in};
-ghost use Rattle.ssh_audit.specs.Parsing.{FaultIs, Parses, request_in_memory, texts_of};
+ghost use Rattle.ssh_audit.specs.CommandLine.{login_words, show_words, request_in};
+ghost use Rattle.ssh_audit.specs.Parsing.{FaultIs, Parses, request_in_memory, texts_of, show_texts_of};
 
 use crate::command::program;
-use crate::request::{LoginWords, Request, WordsFault};
+use crate::request::{LoginWords, Request, ShowWords, WordsFault};
 use clap::error::ErrorKind;
 use clap::{ArgMatches, Error};
 use std::alloc::Global;
@@ -47,6 +47,17 @@ fn login_words<'a>(matches: &ArgMatches<'a>) -> Option<LoginWords<'a>>
     })
 }
 
+/// The texts of the options of `show`.
+#[tactic(auto, unfolding(crate::specs::CommandLine::show_words))]
+fn show_words<'a>(matches: &ArgMatches<'a>) -> Option<ShowWords<'a>>
+    ensures { option_map show_texts_of result ≡ show_words (rows_of (found_of matches.now)) }
+{
+    Some(ShowWords {
+        kind: value(matches, "kind")?,
+        file: value(matches, "file")?,
+    })
+}
+
 /// The request of the subcommand.
 fn request<'a>(matches: &ArgMatches<'a>) -> Option<Request<'a>>
     ensures { option_map request_in_memory result ≡ option_and_then request_in (subcommand_rows_of matches.now) }
@@ -54,6 +65,10 @@ fn request<'a>(matches: &ArgMatches<'a>) -> Option<Request<'a>>
     match matches.subcommand() {
         Some((name, found)) if name == "login" => match login_words(found) {
             Some(words) => Some(Request::Login(words)),
+            None => None,
+        },
+        Some((name, found)) if name == "show" => match show_words(found) {
+            Some(words) => Some(Request::Show(words)),
             None => None,
         },
         _ => None,

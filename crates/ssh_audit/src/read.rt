@@ -45,7 +45,7 @@ pub fn gather<F: Files>(alloc: Global, files: &mut F, name: &str) -> Result<Vec<
 }
 
 /// The bytes of the file of this name, which may not pass the limit.
-fn read_whole<F: Files>(alloc: Global, files: &mut F, name: &str) -> Result<Vec<u8>, ReadFault>
+pub fn read_whole<F: Files>(alloc: Global, files: &mut F, name: &str) -> Result<Vec<u8>, ReadFault>
     ensures short { IfOk result (λ v. length v.items ≤ 67108864) }
     ensures bytes { IfTells (F.shelf files.old) (λ s. Loads (λ v. v.items) (bytes_at s name.now) (after_whole s name.now) s (F.shelf files.new) result) }
 {

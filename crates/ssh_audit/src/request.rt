@@ -14,10 +14,18 @@ pub struct LoginWords<'a> {
     pub vouch: Option<&'a str>,
 }
 
+/// The texts of the options of `show`.
+#[derive(Clone, Copy, Debug)]
+pub struct ShowWords<'a> {
+    pub kind: &'a str,
+    pub file: &'a str,
+}
+
 /// What is asked for.
 #[derive(Clone, Copy, Debug)]
 pub enum Request<'a> {
     Login(LoginWords<'a>),
+    Show(ShowWords<'a>),
 }
 
 /// Why words give no request.

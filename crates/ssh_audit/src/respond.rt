@@ -3,11 +3,11 @@
 ghost use Rattle.std.specs.Prelude.{◌≡◌, ◌<◌, ◌^◌, ◌≤◌, [], length, map, IfOk, Some};
 ghost use Rattle.ssh_audit.specs.Query.{login_of};
 ghost use Rattle.ssh_audit.specs.Offer.{login_claim};
-ghost use Rattle.ssh_audit.specs.CommandLine.{login, request_of};
-ghost use Rattle.ssh_audit.specs.Requests.{Responds, RespondsBy, after_vouching, answer_claimed, answer_in, login_over, login_response, login_vouched, or_vouch_fault, vouched_in};
+ghost use Rattle.ssh_audit.specs.CommandLine.{login, show, request_of};
+ghost use Rattle.ssh_audit.specs.Requests.{Responds, RespondsBy, after_vouching, answer_claimed, answer_in, login_over, login_response, login_vouched, or_vouch_fault, show_response, vouched_in};
 ghost use Rattle.ssh_audit.specs.Answer.{Gives};
-ghost use Rattle.ssh_audit.specs.Loading.{AnswersFile, IsFaultOf, is_memory};
-ghost use Rattle.ssh_audit.specs.Parsing.{request_in_memory, texts_of};
+ghost use Rattle.ssh_audit.specs.Loading.{AnswersFile, IsFaultOf, IsUsageOf, is_memory};
+ghost use Rattle.ssh_audit.specs.Parsing.{request_in_memory, show_texts_of, texts_of};
 ghost use Rattle.ssh_audit.specs.Responses.{response};
 ghost use Rattle.ssh_audit.specs.Shelf.{IfTells, bytes_at};
 ghost use Rattle.ssh_audit.specs.Values.{vouched_of};
@@ -20,9 +20,10 @@ use crate::login::login;
 use crate::login_values::{ValueFault, read_login_values};
 use crate::parse::parse;
 use crate::query::{LoginQuery, Signed};
-use crate::read::{ReadFault, gather, read_first_line, read_vouch_file};
-use crate::request::{LoginWords, Request, WordsFault};
+use crate::read::{ReadFault, gather, read_first_line, read_vouch_file, read_whole};
+use crate::request::{LoginWords, Request, ShowWords, WordsFault};
 use crate::response::Response;
+use crate::show::{show, show_kind};
 use crate::vouch::{VouchFault, read_vouched};
 use crate::words::read_words;
 use std::alloc::{AllocError, Global};
@@ -79,7 +80,7 @@ fn respond_vouched<F: Files>(
     requires session { length query.now.session.now < 2 ^ 32 }
     requires user { length query.now.user.now < 2 ^ 32 }
     ensures { IfTells (F.shelf files.old) (λ s. IfOk result (λ r.
-        RespondsBy (Some (login (texts_of words.entry.now))) (login_over (login_of query.entry.now) vouched.now (bytes_at s words.entry.now.file.now)) s (F.shelf files.new) (response r))) }
+        RespondsBy (Some (login (texts_of words.entry.now))) (Some (login_over (login_of query.entry.now) vouched.now (bytes_at s words.entry.now.file.now))) s (F.shelf files.new) (response r))) }
 {
     let answer = decide_by_file(alloc, words.file, query, vouched, files);
     if is_memory(&answer) {
@@ -88,7 +89,7 @@ fn respond_vouched<F: Files>(
     decision_response(alloc, &answer)
 }
 
-/// The response to a vouch file that gives no bytes.
+/// The response to a file that gives no bytes, and is no trust file.
 fn unread(alloc: Global, name: &str, fault: ReadFault) -> Result<Response, AllocError>
     ensures { IfOk result (λ r. IsFaultOf name.now fault (response r)) }
 {
@@ -110,7 +111,7 @@ fn respond_bytes<F: Files>(
     requires user { length query.now.user.now < 2 ^ 32 }
     requires short { length bytes.now ≤ 67108864 }
     ensures { IfTells (F.shelf files.old) (λ s. IfOk result (λ r.
-        RespondsBy (Some (login (texts_of words.entry.now))) (login_vouched (texts_of words.entry.now) (login_of query.entry.now) s (or_vouch_fault (vouched_of bytes.now))) s (F.shelf files.new) (response r))) }
+        RespondsBy (Some (login (texts_of words.entry.now))) (Some (login_vouched (texts_of words.entry.now) (login_of query.entry.now) s (or_vouch_fault (vouched_of bytes.now)))) s (F.shelf files.new) (response r))) }
 {
     match read_vouched(alloc, bytes) {
         Ok(vouched) => respond_vouched(alloc, words, query, &vouched, files),
@@ -129,7 +130,7 @@ fn respond_query<F: Files>(
     requires session { length query.now.session.now < 2 ^ 32 }
     requires user { length query.now.user.now < 2 ^ 32 }
     ensures { IfTells (F.shelf files.old) (λ s. IfOk result (λ r.
-        RespondsBy (Some (login (texts_of words.entry.now))) (login_vouched (texts_of words.entry.now) (login_of query.entry.now) (after_vouching (texts_of words.entry.now).vouch s) (vouched_in (texts_of words.entry.now).vouch s)) s (F.shelf files.new) (response r))) }
+        RespondsBy (Some (login (texts_of words.entry.now))) (Some (login_vouched (texts_of words.entry.now) (login_of query.entry.now) (after_vouching (texts_of words.entry.now).vouch s) (vouched_in (texts_of words.entry.now).vouch s))) s (F.shelf files.new) (response r))) }
 {
     match words.vouch {
         None => respond_vouched(alloc, words, query, &[], files),
@@ -147,7 +148,7 @@ fn respond_login<F: Files>(
     files: &mut F,
 ) -> Result<Response, AllocError>
     ensures { IfTells (F.shelf files.old) (λ s. IfOk result (λ r.
-        RespondsBy (Some (login (texts_of words.entry.now))) (login_response (texts_of words.entry.now) s) s (F.shelf files.new) (response r))) }
+        RespondsBy (Some (login (texts_of words.entry.now))) (Some (login_response (texts_of words.entry.now) s)) s (F.shelf files.new) (response r))) }
 {
     match read_login_values(alloc, words) {
         Ok(values) => {
@@ -167,6 +168,24 @@ fn respond_login<F: Files>(
     }
 }
 
+/// The response to `show`.
+fn respond_show<F: Files>(
+    alloc: Global,
+    words: &ShowWords<'_>,
+    files: &mut F,
+) -> Result<Response, AllocError>
+    ensures { IfTells (F.shelf files.old) (λ s. IfOk result (λ r.
+        RespondsBy (Some (show (show_texts_of words.entry.now))) (show_response (show_texts_of words.entry.now) s) s (F.shelf files.new) (response r))) }
+{
+    let Some(kind) = show_kind(words.kind) else {
+        return value_fault(alloc, "kind");
+    };
+    match read_whole(alloc, files, words.file) {
+        Ok(file) => show(alloc, kind, &file),
+        Err(fault) => unread(alloc, words.file, fault),
+    }
+}
+
 /// The response to words, of which there are some.
 fn respond_words<S: AsStr, F: Files>(
     alloc: Global,
@@ -178,8 +197,19 @@ fn respond_words<S: AsStr, F: Files>(
 {
     match parse(alloc, words) {
         Ok(Request::Login(words)) => respond_login(alloc, &words, files),
+        Ok(Request::Show(words)) => respond_show(alloc, &words, files),
         Err(WordsFault::Usage) => usage_fault(alloc),
         Err(WordsFault::Memory) => Err(AllocError),
+    }
+}
+
+/// The response to a first line of standard input that gives no words.
+fn unread_line(alloc: Global, fault: ReadFault) -> Result<Response, AllocError>
+    ensures { IfOk result (λ r. IsUsageOf fault (response r)) }
+{
+    match fault {
+        ReadFault::Memory => Err(AllocError),
+        _ => usage_fault(alloc),
     }
 }
 
@@ -192,8 +222,7 @@ fn respond_line<F: Files>(alloc: Global, files: &mut F) -> Result<Response, Allo
             let words = read_words(alloc, &line)?;
             respond_words(alloc, words.as_slice(), files)
         }
-        Err(ReadFault::Memory) => Err(AllocError),
-        Err(_) => usage_fault(alloc),
+        Err(fault) => unread_line(alloc, fault),
     }
 }
 

@@ -8,5 +8,8 @@ pub struct Response {
     pub text: Vec<u8>,
 }
 
+/// The status of what was granted or done.
+pub const DONE: u8 = 0;
+
 /// The status of a fault.
 pub const FAULT: u8 = 2;

@@ -40,7 +40,7 @@ fn push_pairs(out: &mut Vec<u8>, bytes: &[u8]) -> Result<(), AllocError>
 }
 
 /// Lower case hexadecimal, `-` for no bytes.
-fn push_hex(out: &mut Vec<u8>, bytes: &[u8]) -> Result<(), AllocError>
+pub fn push_hex(out: &mut Vec<u8>, bytes: &[u8]) -> Result<(), AllocError>
     ensures { OnOk result (out.new.items ≡ out.old.items ++ hex_text bytes.now) }
 {
     if bytes.is_empty() {
@@ -99,7 +99,7 @@ fn wire_code(cause: WireCause) -> &'static [u8]
     }
 }
 
-fn push_wire_codes(alloc: Global, out: &mut Vec<u8>, error: WireError) -> Result<(), AllocError>
+pub fn push_wire_codes(alloc: Global, out: &mut Vec<u8>, error: WireError) -> Result<(), AllocError>
     ensures { OnOk result (out.new.items ≡ out.old.items ++ wire_codes error) }
 {
     out.extend_from_slice(wire_code(error.cause))?;
@@ -108,7 +108,7 @@ fn push_wire_codes(alloc: Global, out: &mut Vec<u8>, error: WireError) -> Result
     Ok(())
 }
 
-fn push_key_codes(alloc: Global, out: &mut Vec<u8>, error: KeyError) -> Result<(), AllocError>
+pub fn push_key_codes(alloc: Global, out: &mut Vec<u8>, error: KeyError) -> Result<(), AllocError>
     ensures { OnOk result (out.new.items ≡ out.old.items ++ key_codes error) }
 {
     match error {
@@ -127,7 +127,7 @@ fn push_key_codes(alloc: Global, out: &mut Vec<u8>, error: KeyError) -> Result<(
     Ok(())
 }
 
-fn push_line_codes(alloc: Global, out: &mut Vec<u8>, cause: LineCause) -> Result<(), AllocError>
+pub fn push_line_codes(alloc: Global, out: &mut Vec<u8>, cause: LineCause) -> Result<(), AllocError>
     ensures { OnOk result (out.new.items ≡ out.old.items ++ line_codes cause) }
 {
     match cause {
