@@ -42,8 +42,11 @@ has-no-fault : (text : List ℕ) → HasBase text → net_of text ≢ Err errors
 unfolding net_of
 has-no-fault text has h =
     other-prefix has.base (prefix_of has.base has.back)
-    (rw (has.whole, cut_at-front slash has.front has.back (address-has_no has.base has.front has.spelled),
-    address-read has.base has.front has.spelled) at h)
+    (rw (
+      has.whole,
+      cut_at-front slash has.front has.back (address-has_no has.base has.front has.spelled),
+      address-read has.base has.front has.spelled,
+    ) at h)
 
 no-base : (base : Option Address) (text front back : List ℕ) → address_of front ≡ base → text ≡ front ++ slash ∷ back
     → ¬ HasBase text → of_base base back ≡ Err errors.Address
@@ -98,10 +101,13 @@ from-cut (Some cut) text e h =
 set-read : (text : List ℕ) → HasHostBits text → net_of text ≡ Err errors.HostBits
 unfolding net_of
 set-read text h =
-    rw (h.whole, cut_at-front slash h.base_text (decimal h.prefix) (address-has_no h.base h.base_text h.spelled),
-    address-read h.base h.base_text h.spelled,
-    limited-decimal (width h.base + 1) h.prefix (small-width h.base) (omega (arith, h.within)),
-    ne_eqb (number h.base % size h.base h.prefix) 0 h.set) refl
+    rw (
+      h.whole,
+      cut_at-front slash h.base_text (decimal h.prefix) (address-has_no h.base h.base_text h.spelled),
+      address-read h.base h.base_text h.spelled,
+      limited-decimal (width h.base + 1) h.prefix (small-width h.base) (omega (arith, h.within)),
+      ne_eqb (number h.base % size h.base h.prefix) 0 h.set,
+    ) refl
 
 pub bits-past : (text : List ℕ) → (net_of text ≡ Err errors.HostBits) ↔ HasHostBits text
 unfolding net_of
