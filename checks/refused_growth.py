@@ -26,7 +26,7 @@ def run(words, stdin, preload=None, index=0, later=False):
 
 
 def rows():
-    """The stored run, and the same login over files and vouch files that show reasons, a denial and faults."""
+    """The stored run, the same login over files and vouch files that give reasons, a denial and faults, and `show`."""
     stored = (CRATE / "stdin").read_bytes()
     words, vouched, rest = stored.split(b"\n", 2)
     key = next(line for line in rest.split(b"\n") if line.startswith(b"ssh-"))
@@ -36,6 +36,8 @@ def rows():
     yield "nothing vouched", [], b"\n".join([words, b"", b"ssh-dss AAAA", key, b""])
     yield "bad vouch line", [], b"\n".join([words, b"zz", b"", key, b""])
     yield "bad words", [], b"login --file\n"
+    yield "show", ["show", "--kind", "key", "--file", "-"], key + b"\n"
+    yield "show a bad line", ["show", "--kind", "key", "--file", "-"], b"ssh-rsa AAAA\n"
     yield "words of the command line", words.decode().split(" "), stored.split(b"\n", 1)[1]
 
 
