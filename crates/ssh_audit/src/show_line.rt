@@ -1,9 +1,10 @@
 //! The first line of a file that is shown, and its fields.
 
-ghost use Rattle.std.specs.Prelude.{◌≡◌, IfOk, Some};
+ghost use Rattle.std.specs.Prelude.{◌≡◌, IfErr, IfOk, Some};
 ghost use Rattle.base64.specs.Engines.{standard};
 ghost use Rattle.base64.specs.GeneralPurpose.{decoded_of};
-ghost use Rattle.ssh_audit.specs.Showing.{base64_field, field_fault, type_field};
+ghost use Rattle.ssh_audit.specs.FileLines.{lines_of};
+ghost use Rattle.ssh_audit.specs.Showing.{IsBlobFault, base64_field, field_fault, first_of_lines, type_field};
 
 use crate::error::LineCause;
 use crate::key_line::{decode, is_blank, skip_blanks, split_word, without_cr};
@@ -22,7 +23,9 @@ pub struct ShownLine<'a> {
 }
 
 /// The first line of a file, of any length, without its LF; of an empty file no bytes.
-pub fn first_line(file: &[u8]) -> &[u8] {
+pub fn first_line(file: &[u8]) -> &[u8]
+    ensures { result.now ≡ first_of_lines (lines_of file.now) }
+{
     let mut lines = Lines::new(file);
     lines.next().unwrap_or(&[])
 }
@@ -66,7 +69,8 @@ pub fn field_fault(base64: &[u8], type_fault: Option<LineCause>) -> Option<LineC
 
 /// The blob that a base64 field spells.
 pub fn read_blob(alloc: Global, base64: &[u8]) -> Result<Vec<u8>, ShowFault>
-    ensures { IfOk result (λ blob. decoded_of standard base64.now ≡ Some blob.items) }
+    ensures found { IfOk result (λ blob. decoded_of standard base64.now ≡ Some blob.items) }
+    ensures none { IfErr result (IsBlobFault base64.now) }
 {
     match decode(alloc, base64)? {
         Some(blob) => Ok(blob),
