@@ -38,12 +38,14 @@ pub enum Finding {
     Unreadable(LineCause),
 }
 
+/// Whether a byte is a space or a tab, which part the fields of a line (sshd(8)).
 pub fn is_blank(byte: u8) -> bool
     ensures { result ≡ is_blank byte }
 {
     byte == b' ' || byte == b'\t'
 }
 
+/// The text without the blanks in front.
 #[tactic(auto, using(crate::proofs::WordLemmas::skip_blanks_drop))]
 pub fn skip_blanks(text: &[u8]) -> &[u8]
     ensures { result.now ≡ skip_blanks text.now }
@@ -91,6 +93,7 @@ pub fn split_word(text: &[u8]) -> (&[u8], &[u8])
     text.split_at(word_len(text))
 }
 
+/// The line without one CR at its end, if it ends with one.
 #[tactic(auto, using(crate::proofs::WordLemmas::without_cr_take, crate::proofs::WordLemmas::without_cr_same, crate::proofs::WordLemmas::without_cr_none))]
 pub fn without_cr(line: &[u8]) -> &[u8]
     ensures { result.now ≡ without_cr line.now }

@@ -1,9 +1,10 @@
 //! The first line of a file that is shown, and its fields.
 
-ghost use Rattle.std.specs.Prelude.{◌≡◌, IfErr, IfOk, Some};
+ghost use Rattle.std.specs.Prelude.{◌≡◌, ◌++◌, IfErr, IfOk, OnOk, Some, codes};
 ghost use Rattle.base64.specs.Engines.{standard};
 ghost use Rattle.base64.specs.GeneralPurpose.{decoded_of};
 ghost use Rattle.ssh_audit.specs.FileLines.{lines_of};
+ghost use Rattle.ssh_audit.specs.Texts.{escaped};
 ghost use Rattle.ssh_audit.specs.Showing.{IsBlobFault, base64_field, field_fault, first_of_lines, type_field};
 
 use crate::error::LineCause;
@@ -79,7 +80,9 @@ pub fn read_blob(alloc: Global, base64: &[u8]) -> Result<Vec<u8>, ShowFault>
 }
 
 /// A line of the output: a word with a space behind it, and a text.
-pub fn push_text_line(out: &mut Vec<u8>, word: &[u8], text: &[u8]) -> Result<(), AllocError> {
+pub fn push_text_line(out: &mut Vec<u8>, word: &[u8], text: &[u8]) -> Result<(), AllocError>
+    ensures { OnOk result (out.new.items ≡ out.old.items ++ word.now ++ escaped text.now ++ codes "\n") }
+{
     out.extend_from_slice(word)?;
     push_escaped(out, text)?;
     out.push(b'\n')?;

@@ -79,6 +79,7 @@ pub fn push_escaped(out: &mut Vec<u8>, text: &[u8]) -> Result<(), AllocError>
     Ok(())
 }
 
+/// A number in decimal digits, without leading zeros.
 pub fn push_number(alloc: Global, out: &mut Vec<u8>, number: u64) -> Result<(), AllocError>
     ensures { OnOk result (out.new.items ≡ out.old.items ++ decimal number) }
 {
@@ -99,6 +100,7 @@ fn wire_code(cause: WireCause) -> &'static [u8]
     }
 }
 
+/// The code of a wire fault, `V1` to `V5`, and its place, each behind a space.
 pub fn push_wire_codes(alloc: Global, out: &mut Vec<u8>, error: WireError) -> Result<(), AllocError>
     ensures { OnOk result (out.new.items ≡ out.old.items ++ wire_codes error) }
 {
@@ -108,6 +110,7 @@ pub fn push_wire_codes(alloc: Global, out: &mut Vec<u8>, error: WireError) -> Re
     Ok(())
 }
 
+/// The codes of a key fault, `K1` to `K8`; behind `K1` those of its wire fault.
 pub fn push_key_codes(alloc: Global, out: &mut Vec<u8>, error: KeyError) -> Result<(), AllocError>
     ensures { OnOk result (out.new.items ≡ out.old.items ++ key_codes error) }
 {
@@ -127,6 +130,7 @@ pub fn push_key_codes(alloc: Global, out: &mut Vec<u8>, error: KeyError) -> Resu
     Ok(())
 }
 
+/// The codes of a line's cause, `L1` to `L13`; behind `L11` those of its key fault.
 pub fn push_line_codes(alloc: Global, out: &mut Vec<u8>, cause: LineCause) -> Result<(), AllocError>
     ensures { OnOk result (out.new.items ≡ out.old.items ++ line_codes cause) }
 {
