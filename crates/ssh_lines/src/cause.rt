@@ -3,7 +3,8 @@
 use ssh_keys::KeyError;
 use thiserror::Error;
 
-/// The first fault of a line of an authorized_keys file: its length, its options, then its key.
+/// The first fault of a line: its length, its options, then its key. L14 to L16 are causes of
+/// known_hosts lines alone.
 #[derive(Debug, Clone, Copy, PartialEq, Eq, Error)]
 pub enum LineCause {
     /// L1: more than 65,536 bytes.
@@ -45,4 +46,14 @@ pub enum LineCause {
     /// L13: a certificate's type, which a line cannot hold.
     #[error("the key type is a certificate's")]
     CertificateOnLine,
+    /// L14: the first word begins with `@` and is neither `@cert-authority` nor `@revoked`.
+    #[error("the marker is not known")]
+    Marker,
+    /// L15: the names begin with `|` and are no hashed name: `|1|`, a salt and a hash of 20 bytes
+    /// each in base64, with `|` between them.
+    #[error("a hashed name is none")]
+    HashedName,
+    /// L16: an item of the list of names is empty.
+    #[error("an item among the names is empty")]
+    Names,
 }
