@@ -1,18 +1,19 @@
 -- A line that spells an entry is read as that entry, so it spells no other.
-use Rattle.std.proofs.Common.{◌≡◌, ◌≢◌, ℕ, Bool, true, false, not, ◌==◌, inl, inr, List, [], ◌∷◌, ◌++◌, length, bytes_eq, codes, Option, Some, None, find, Ok, refl, sym, ap, subst, ◌∙◌, append_assoc, append-nil}
+use Rattle.std.proofs.Common.{◌≡◌, ◌≢◌, ℕ, Bool, true, false, not, ◌==◌, inl, inr, List, [], ◌∷◌, ◌++◌, length, bytes_eq, codes, Option, Some, None, Ok, refl, sym, ap, subst, ◌∙◌, append_assoc, append-nil}
 use Rattle.std.proofs.lemmas.Bool.{cases_Bool, le-ltb}
 use Rattle.std.proofs.lemmas.Slice.Eq.{bytes_eq-Decides}
 use Rattle.std.proofs.Math.Seq.{drop-append_seam}
 use Rattle.base64.specs.GeneralPurpose.{IsBytes}
 use Rattle.ssh_keys.specs.declared.kind.KeyKind.{KeyKind}
 use Rattle.ssh_keys.specs.declared.kind.KeyKind.TheVariants.{Rsa, P256, P384, P521, Ed25519, SkP256, SkEd25519}
-use Rattle.ssh_keys.specs.Names.{kinds, name_of, certificate_name_of, plain_kind, certificate_kind, class_by, class_of}
-use Rattle.ssh_keys.specs.PublicKey.{PublicKey, kind_of, key_blob, IsKey, IsKeyBlob}
+use Rattle.ssh_keys.specs.Names.{name_of, certificate_name_of, plain_kind, certificate_kind, class_by, class_of}
+use Rattle.ssh_keys.specs.PublicKey.{PublicKey, kind_of, key_blob}
 use Rattle.ssh_keys.specs.KeyReading.{key_in}
 use Rattle.ssh_lines.specs.declared.option.AuthOption.{AuthOption}
 use Rattle.ssh_lines.specs.declared.entry.AuthEntry.{AuthEntry}
 use Rattle.ssh_lines.specs.declared.entry.AuthLine.TheVariants.{Entry}
 use Rattle.ssh_lines.specs.Text.{line_limit, is_blank, skip_blanks, first_word, without_cr, AreBlanks, begins_with_blank, IsComment, SpellsTail}
+use Rattle.ssh_lines.specs.OptionNames.{row_named}
 use Rattle.ssh_lines.specs.OptionText.{name_part, is_name_byte, option_text_of, SpellsItems, AreAllowed}
 use Rattle.ssh_lines.specs.AuthGrammar.{SpellsEntry, SpellsOptions, auth_line, line_of_body, entry_of, entry_of_key}
 use Rattle.ssh_lines.proofs.TextLemmas.{ends_word, gap-test, skip_blanks-behind, skip_blanks-at_word, comment_of-cr, comment_of-tail}
@@ -25,6 +26,7 @@ use Rattle.ssh_lines.specs.KeyPart.{base64, is_type, begins_with_type, key_part_
 -- ---- no option list begins as a key type
 
 plain-no_option : (kind : KeyKind) → is_option_name (name_part (name_of kind)) ≡ false
+unfolding row_named
 plain-no_option Rsa = refl
 plain-no_option P256 = refl
 plain-no_option P384 = refl
@@ -34,6 +36,7 @@ plain-no_option SkP256 = refl
 plain-no_option SkEd25519 = refl
 
 certificate-no_option : (kind : KeyKind) → is_option_name (name_part (certificate_name_of kind)) ≡ false
+unfolding row_named
 certificate-no_option Rsa = refl
 certificate-no_option P256 = refl
 certificate-no_option P384 = refl
@@ -42,12 +45,16 @@ certificate-no_option Ed25519 = refl
 certificate-no_option SkP256 = refl
 certificate-no_option SkEd25519 = refl
 
+retired-no_option : is_option_name (name_part (codes "ssh-dss")) ≡ false
+unfolding row_named
+retired-no_option = refl
+
 by_class-no_option : (word : List ℕ) (plain certificate : Option KeyKind) (retired : Bool)
     → plain_kind word ≡ plain → certificate_kind word ≡ certificate → bytes_eq word (codes "ssh-dss") ≡ retired
     → is_type (class_by plain certificate retired) ≡ true → is_option_name (name_part word) ≡ false
 by_class-no_option word (Some kind) certificate retired p c r t = rw (plain_kind-named word kind p) (plain-no_option kind)
 by_class-no_option word None (Some kind) retired p c r t = rw (certificate_kind-named word kind c) (certificate-no_option kind)
-by_class-no_option word None None true p c r t = rw ((bytes_eq-Decides word (codes "ssh-dss")).0 r) refl
+by_class-no_option word None None true p c r t = rw ((bytes_eq-Decides word (codes "ssh-dss")).0 r) retired-no_option
 by_class-no_option word None None false p c r t = cc
 
 -- a key type begins with no option's name

@@ -8,6 +8,7 @@ pub mod KeyLemmas
 pub mod ExpiryLemmas
 pub mod MomentLemmas
 pub mod ItemLemmas
+pub mod RowLemmas
 pub mod OptionLemmas
 pub mod AuthLemmas
 pub mod ReadText

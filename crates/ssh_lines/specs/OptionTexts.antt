@@ -1,6 +1,10 @@
--- What is seen of items that lie in the text of a line.
+-- What is seen of items that lie in the text of a line, and of the rows of the table in memory.
 use Rattle.std.specs.Prelude.{◌≡◌, ℕ, false, List, [], ◌∷◌, Option, Some, None, option_map, option_copied}
+use Rattle.std.specs.Borrow.{Bor}
 use Rattle.ssh_lines.specs.declared.option_text.ItemText.{ItemText}
+use Rattle.ssh_lines.specs.declared.option.OptionName.{OptionName}
+use Rattle.ssh_lines.specs.declared.option.Times.{Times}
+use Rattle.ssh_lines.specs.OptionNames.{OptionRow}
 use Rattle.ssh_lines.specs.OptionText.{Item, items_of, unescaped}
 
 -- the first item of a text, and what follows the comma behind it
@@ -16,3 +20,10 @@ texts_left (Some text) = items_of false 0 text
 -- an item by its name and its value
 abbrev pub said : ItemText → Item
 said item = record { name = item.name.now; value = option_map unescaped (option_copied item.value) }
+
+-- a row of the table, in memory and by its fields
+abbrev pub TableRow : Type 0
+TableRow = Bor (List ℕ) × OptionName × Times
+
+abbrev pub row_said : TableRow → OptionRow
+row_said row = record { name = row.0.now; option = row.1; times = row.2 }

@@ -14,6 +14,7 @@ use Rattle.ssh_lines.specs.declared.option.AuthOption.TheVariants.{Switch, Setti
 use Rattle.ssh_lines.specs.declared.entry.AuthLine.TheVariants.{Blank, Comment, Entry, Unreadable}
 use Rattle.ssh_lines.specs.Text.{lines_of, numbered}
 use Rattle.ssh_lines.specs.Expiry.{is_expiry_text}
+use Rattle.ssh_lines.specs.OptionNames.{row_of, row_named}
 use Rattle.ssh_lines.specs.OptionText.{options_of}
 use Rattle.ssh_lines.specs.KeyPart.{key_part_of}
 use Rattle.ssh_lines.specs.AuthGrammar.{auth_line}
@@ -38,7 +39,7 @@ EntrySamplesRead =
     × (auth_line (codes "  # a comment") ≡ Comment)
 
 pub entry_samples_read : EntrySamplesRead
-unfolding auth_line options_of key_part_of is_expiry_text key_in blob_at fields_at public_at string_at plain_kind certificate_kind base64_on_literals
+unfolding auth_line options_of row_of row_named key_part_of is_expiry_text key_in blob_at fields_at public_at string_at plain_kind certificate_kind base64_on_literals
 entry_samples_read = (refl, refl, refl, refl, refl)
 
 -- lines with a fault: in their options, in the order of the tests
@@ -59,7 +60,7 @@ OptionFaultsRead =
     × (auth_line (codes "expiry-time=\"20230229Z\" " ++ zero_line) ≡ Unreadable causes.ExpiryText)
 
 pub option_faults_read : OptionFaultsRead
-unfolding auth_line options_of key_part_of is_expiry_text key_in blob_at fields_at public_at string_at plain_kind certificate_kind base64_on_literals
+unfolding auth_line options_of row_of row_named key_part_of is_expiry_text key_in blob_at fields_at public_at string_at plain_kind certificate_kind base64_on_literals
 option_faults_read = (refl, refl, refl, refl, refl, refl, refl, refl, refl, refl, refl, refl, refl)
 
 -- and in their keys
@@ -77,7 +78,7 @@ KeyFaultsRead =
     × (auth_line (codes "ssh-rsa " ++ zero_text) ≡ Unreadable causes.TypeMismatch)
 
 pub key_faults_read : KeyFaultsRead
-unfolding auth_line options_of key_part_of is_expiry_text key_in blob_at fields_at public_at string_at plain_kind certificate_kind base64_on_literals
+unfolding auth_line options_of row_of row_named key_part_of is_expiry_text key_in blob_at fields_at public_at string_at plain_kind certificate_kind base64_on_literals
 key_faults_read = (refl, refl, refl, refl, refl, refl, refl, refl, refl, refl)
 
 -- the longest line, and one byte more
@@ -87,7 +88,7 @@ LongLinesRead =
     × (auth_line (zero_line ++ codes " " ++ replicate 65456 120) ≡ Unreadable causes.TooLong)
 
 pub long_lines_read : LongLinesRead
-unfolding auth_line options_of key_part_of is_expiry_text key_in blob_at fields_at public_at string_at plain_kind certificate_kind base64_on_literals
+unfolding auth_line options_of row_of row_named key_part_of is_expiry_text key_in blob_at fields_at public_at string_at plain_kind certificate_kind base64_on_literals
 long_lines_read = (refl, refl)
 
 -- which texts are expiry times, and the lines of a file

@@ -4,7 +4,7 @@ ghost use Rattle.std.specs.Prelude.{◌≡◌, ◌+◌, List, IfOk, Result, Ok, 
 ghost use Rattle.std.specs.Prelude.{[], ◌++◌, ◌∷◌, OnOk};
 ghost use Rattle.ssh_lines.specs.Fault.{Says};
 ghost use Rattle.ssh_lines.specs.Expiry.{is_expiry_text};
-ghost use Rattle.ssh_lines.specs.OptionText.{has_setting, repeats, is_expiry_name, has_bad_expiry, option_of, and_option, and_item, options_of};
+ghost use Rattle.ssh_lines.specs.OptionText.{has_setting, repeats, has_bad_expiry, option_of, and_option, and_item, options_of};
 ghost use Rattle.ssh_lines.specs.OptionTexts.{said};
 
 use crate::bytes::Bytes;
@@ -12,7 +12,7 @@ use crate::cause::LineCause;
 use crate::entry::Options;
 use crate::expiry_text::is_expiry_text;
 use crate::fault::Fault;
-use crate::option::{AuthOption, Flag, ValueName, same_name};
+use crate::option::{AuthOption, OptionName, ValueName, option_named};
 use crate::option_text::{ItemText, ItemTexts, read_item, unescape};
 use std::alloc::{AllocError, Global};
 
@@ -20,28 +20,23 @@ use std::alloc::{AllocError, Global};
 fn option_of(alloc: Global, item: ItemText<'_>) -> Result<AuthOption, Fault>
     ensures { Says (λ o. o) result (option_of (said item.entry)) }
 {
-    if let Some(flag) = Flag::named(item.name) {
-        return match item.value {
-            None => Ok(AuthOption::Switch(flag)),
-            Some(_) => Err(Fault::Cause(LineCause::OptionValue)),
-        };
-    }
-    let Some(name) = ValueName::named(item.name) else {
-        return Err(Fault::Cause(LineCause::UnknownOption));
-    };
-    match item.value {
-        None => Err(Fault::Cause(LineCause::OptionValue)),
-        Some(quoted) => Ok(AuthOption::Setting(name, unescape(alloc, quoted)?)),
+    match (option_named(item.name), item.value) {
+        (None, _) => Err(Fault::Cause(LineCause::UnknownOption)),
+        (Some(OptionName::Switch(flag)), None) => Ok(AuthOption::Switch(flag)),
+        (Some(OptionName::Setting(name)), Some(quoted)) => {
+            Ok(AuthOption::Setting(name, unescape(alloc, quoted)?))
+        }
+        _ => Err(Fault::Cause(LineCause::OptionValue)),
     }
 }
 
 /// A setting of this name is among the options.
-fn has_setting(name: &[u8], options: &[AuthOption]) -> bool
-    ensures { result ≡ has_setting name.now options.now }
+fn has_setting(name: ValueName, options: &[AuthOption]) -> bool
+    ensures { result ≡ has_setting name options.now }
 {
     for option in options {
         if let AuthOption::Setting(other, _) = option
-            && same_name(other.name(), name)
+            && *other == name
         {
             return true;
         }
@@ -55,7 +50,7 @@ fn repeats(before: &[AuthOption], option: &AuthOption) -> bool
 {
     match option {
         AuthOption::Switch(_) => false,
-        AuthOption::Setting(name, _) => name.is_single() && has_setting(name.name(), before),
+        AuthOption::Setting(name, _) => name.is_single() && has_setting(*name, before),
     }
 }
 
@@ -64,8 +59,10 @@ fn has_bad_expiry(option: &AuthOption) -> bool
     ensures { result ≡ has_bad_expiry option.now }
 {
     match option {
-        AuthOption::Setting(ValueName::ExpiryTime, value) => !is_expiry_text(value.as_slice()),
-        _ => false,
+        AuthOption::Switch(_) => false,
+        AuthOption::Setting(name, value) => {
+            *name == ValueName::ExpiryTime && !is_expiry_text(value.as_slice())
+        }
     }
 }
 

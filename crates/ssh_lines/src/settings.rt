@@ -55,7 +55,7 @@ fn next_value(name: ValueName, options: &[AuthOption]) -> Option<(&[u8], &[AuthO
 {
     for (i, option) in options.iter().enumerate() {
         if let AuthOption::Setting(other, value) = option
-            && other.name() == name.name()
+            && *other == name
         {
             return Some((value.as_slice(), &options[i + 1..]));
         }
@@ -69,7 +69,7 @@ pub(crate) fn has_flag(flag: Flag, options: &[AuthOption]) -> bool
 {
     for option in options {
         if let AuthOption::Switch(other) = option
-            && other.name() == flag.name()
+            && *other == flag
         {
             return true;
         }
