@@ -20,7 +20,7 @@ use crate::fields::CertFields;
 use crate::packed::{check_options, check_principals};
 use crate::view::CertView;
 use ssh_keys::{
-    KeyError, KeyKind, KeyView, LONGEST, NameClass, SignatureView, name_class, read_key,
+    KeyError, KeyKind, KeyView, MAX_BLOB_LEN, NameClass, SignatureView, name_class, read_key,
     read_signature, take_fields,
 };
 use ssh_wire::Cursor;
@@ -134,7 +134,7 @@ fn fields_in(blob: &[u8]) -> Result<CertFields<'_>, CertError>
 fn certificate_fields(bytes: &[u8]) -> Result<CertFields<'_>, CertError>
     ensures { Gives certificate_from result (certificate_in bytes.now) }
 {
-    if bytes.len() > LONGEST {
+    if bytes.len() > MAX_BLOB_LEN {
         return Err(CertError::TooLong);
     }
     fields_in(bytes)

@@ -14,7 +14,7 @@ use crate::parts::CertParts;
 use crate::row::{Field, SpelledSignature};
 use crate::spelled::{put_all, total_len};
 use crate::view::CertView;
-use ssh_keys::{LONGEST, write_key};
+use ssh_keys::{MAX_BLOB_LEN, write_key};
 use std::alloc::{AllocError, Global};
 
 /// The row of all fields (PROTOCOL.certkeys).
@@ -59,7 +59,7 @@ pub fn write_cert(parts: &CertParts<'_>, out: &mut Vec<u8>) -> Result<(), WriteE
     ensures err { OnErr result (out.new.items ≡ out.old.items) }
 {
     let row = row(parts);
-    if total_len(&row) > LONGEST {
+    if total_len(&row) > MAX_BLOB_LEN {
         return Err(WriteError::TooLong);
     }
     let start = out.len();

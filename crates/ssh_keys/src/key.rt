@@ -1,34 +1,43 @@
 //! A key that keeps its blob.
 
-ghost use Rattle.std.specs.Prelude.{◌≡◌, IfOk, IfErr, IsOk, IsOkAnd, Ok, Err};
+ghost use Rattle.std.specs.Prelude.{◌≡◌, IfOk, Ok};
 ghost use Rattle.ssh_keys.specs.KeyReading.{key_in};
-ghost use Rattle.ssh_keys.specs.PublicKey.{PublicKey, IsKeyBlob};
-ghost use Rattle.ssh_keys.specs.KeyOf.{key_of};
+ghost use Rattle.ssh_keys.specs.PublicKey.{PublicKey, IsKeyBlob, key_blob};
 
 use crate::error::KeyError;
 use crate::reading::read_key;
 use crate::view::KeyView;
+use std::marker::Model;
 
-/// A key that owns its blob.
+/// A public key that keeps its blob. Contracts see it as the key.
 #[derive(Debug, Drop)]
 pub struct Key {
     blob: Vec<u8>,
-    ghost is_blob: { IsOk (key_in blob.items) },
+}
+
+impl Model for Key {
+    ghost use Rattle.ssh_keys.specs.Key.{key_or_none};
+    ghost use Rattle.ssh_keys.specs.KeyReading.{key_in};
+    ghost use Rattle.ssh_keys.specs.PublicKey.{PublicKey, IsKeyBlob};
+
+    ghost Value = { PublicKey };
+
+    ghost view = { λ k. key_or_none (key_in k.blob.items) };
+
+    ghost invariant = { λ k. IsKeyBlob (key_or_none (key_in k.blob.items)) k.blob.items };
 }
 
 impl Key {
-    ghost use Rattle.ssh_keys.specs.Key.{blob_of};
+    ghost use Rattle.ssh_keys.specs.KeyOf.{key_of};
 
     /// The key that a blob spells, all of the bytes. It keeps the blob; a refusal drops it.
     pub fn read(blob: Vec<u8>) -> Result<Key, KeyError>
-        // The blob is kept as it was handed in.
-        ensures kept { IfOk result (λ key. blob_of key ≡ blob.items) }
-        // It is the blob of a key.
-        ensures found { IfOk result (λ key. (value : PublicKey) × IsKeyBlob value blob.items) }
+        // The key whose blob these bytes are.
+        ensures found { IfOk result (λ key. IsKeyBlob key blob.items) }
         // The blob of a key is read.
-        ensures only { (value : PublicKey) → IsKeyBlob value blob.items → IsOkAnd result (λ key. blob_of key ≡ blob.items) }
-        // The first fault of a blob that is none.
-        ensures refused { IfErr result (λ e. key_in blob.items ≡ Err e) }
+        ensures only { (key : PublicKey) → IsKeyBlob key blob.items → result ≡ Ok key }
+        // The key, or the first fault.
+        ensures exact { result ≡ key_in blob.items }
     {
         match read_key(&blob) {
             Ok(_) => Ok(Key { blob }),
@@ -36,9 +45,9 @@ impl Key {
         }
     }
 
-    /// The key in its blob.
+    /// The key's fields in its blob.
     pub fn view(&self) -> KeyView<'_>
-        ensures { key_in (blob_of self.now) ≡ Ok (key_of result) }
+        ensures { key_of result ≡ self.now }
     {
         match read_key(&self.blob) {
             Ok(view) => view,
@@ -48,7 +57,7 @@ impl Key {
 
     /// The blob.
     pub fn blob(&self) -> &[u8]
-        ensures { result.now ≡ blob_of self.now }
+        ensures { result.now ≡ key_blob self.now }
     {
         &self.blob
     }

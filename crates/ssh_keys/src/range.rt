@@ -12,7 +12,7 @@ ghost use Rattle.ssh_keys.specs.View.{public_key};
 use crate::curve::Curve;
 use crate::error::KeyError;
 use crate::fields::{KeyFields, is_point};
-use crate::view::LONGEST;
+use crate::view::MAX_BLOB_LEN;
 use ssh_wire::{Mpint, WireCause, WireError};
 
 /// The first fault of the fields of a key. It has no place but 0.
@@ -20,7 +20,7 @@ use ssh_wire::{Mpint, WireCause, WireError};
 pub(crate) fn check_fields(fields: &KeyFields<'_>) -> Result<(), KeyError>
     ensures { Gives (λ _. public_key fields.now) result (key_from (public_key fields.now)) }
 {
-    if blob_len(fields) > LONGEST as u128 {
+    if blob_len(fields) > MAX_BLOB_LEN as u128 {
         return Err(KeyError::TooLong);
     }
     check_ranges(fields)
