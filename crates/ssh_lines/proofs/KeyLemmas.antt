@@ -8,8 +8,8 @@ use Rattle.base64.specs.Engines.{standard}
 use Rattle.base64.proofs.EngineFacts.{decode_of-encode_of}
 use Rattle.ssh_keys.specs.declared.kind.KeyKind.{KeyKind}
 use Rattle.ssh_keys.specs.declared.kind.KeyKind.TheVariants.{Rsa, P256, P384, P521, Ed25519, SkP256, SkEd25519}
-use Rattle.ssh_keys.specs.Names.{name_of, plain_kind, certificate_kind, class_of}
-use Rattle.ssh_keys.specs.PublicKey.{PublicKey, kind_of, key_blob, IsKey, IsKeyBlob}
+use Rattle.ssh_keys.specs.Names.{name_of, class_of}
+use Rattle.ssh_keys.specs.PublicKey.{PublicKey, kind_of, key_blob}
 use Rattle.ssh_keys.specs.KeyReading.{key_in, blob_at}
 use Rattle.ssh_wire.specs.Reading.{string_at}
 use Rattle.ssh_lines.proofs.KeyNames.{class-of_name}

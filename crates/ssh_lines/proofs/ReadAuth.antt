@@ -6,7 +6,7 @@ use Rattle.ssh_lines.specs.declared.cause.LineCause.TheVariants as causes
 use Rattle.ssh_lines.specs.declared.option.AuthOption.{AuthOption}
 use Rattle.ssh_lines.specs.declared.entry.AuthEntry.{AuthEntry}
 use Rattle.ssh_lines.specs.declared.entry.AuthLine.TheVariants.{Comment, Entry, Unreadable}
-use Rattle.ssh_lines.specs.Text.{line_limit, body_of, skip_blanks, without_cr, AreBlanks, IsGap}
+use Rattle.ssh_lines.specs.Text.{line_limit, body_of, skip_blanks, without_cr, AreBlanks}
 use Rattle.ssh_lines.specs.OptionText.{SpellsItems, AreAllowed, option_text_of, options_of}
 use Rattle.ssh_lines.specs.declared.key_part.KeyPart.{KeyPart}
 use Rattle.ssh_lines.specs.KeyPart.{SpellsKey, begins_with_type, key_part_of}

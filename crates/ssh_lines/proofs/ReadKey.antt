@@ -9,11 +9,11 @@ use Rattle.ssh_keys.specs.declared.kind.KeyKind.{KeyKind}
 use Rattle.ssh_keys.specs.declared.kind.NameClass.{NameClass}
 use Rattle.ssh_keys.specs.declared.kind.NameClass.TheVariants.{Plain, Certificate, Retired, Other}
 use Rattle.ssh_keys.specs.declared.error.KeyError.{KeyError}
-use Rattle.ssh_keys.specs.Names.{name_of, plain_kind, certificate_kind, class_of}
-use Rattle.ssh_keys.specs.PublicKey.{PublicKey, kind_of, key_blob, IsKey, IsKeyBlob}
+use Rattle.ssh_keys.specs.Names.{name_of, class_of}
+use Rattle.ssh_keys.specs.PublicKey.{PublicKey, kind_of, key_blob, IsKeyBlob}
 use Rattle.ssh_keys.specs.KeyReading.{key_in}
 use Rattle.ssh_lines.specs.declared.cause.LineCause.TheVariants as causes
-use Rattle.ssh_lines.specs.Text.{first_word, after_word, next_field, comment_of, begins_with_blank, IsGap}
+use Rattle.ssh_lines.specs.Text.{first_word, after_word, next_field, comment_of, begins_with_blank}
 use Rattle.ssh_lines.specs.declared.key_part.KeyPart.{KeyPart}
 use Rattle.ssh_lines.specs.KeyPart.{base64, is_empty, lacks_key, SpellsKey, key_by_class, key_of_blob, key_of_kind, key_after_fields, key_part_of}
 use Rattle.ssh_keys.specs.KeyLaws.{key_takes}

@@ -7,7 +7,7 @@ use Rattle.ssh_keys.specs.declared.kind.KeyKind.{KeyKind}
 use Rattle.ssh_keys.specs.declared.kind.NameClass.{NameClass}
 use Rattle.ssh_keys.specs.declared.kind.NameClass.TheVariants.{Plain, Certificate, Retired, Other}
 use Rattle.ssh_keys.specs.declared.error.KeyError.{KeyError}
-use Rattle.ssh_keys.specs.Names.{name_of, plain_kind, certificate_kind, class_of}
+use Rattle.ssh_keys.specs.Names.{name_of, class_of}
 use Rattle.ssh_keys.specs.PublicKey.{PublicKey, kind_of, key_blob, IsKey}
 use Rattle.ssh_keys.specs.KeyReading.{key_in}
 use Rattle.ssh_lines.specs.declared.key_part.KeyPart.{KeyPart}

@@ -6,8 +6,8 @@ pub mod Moment
 pub mod OptionText
 pub mod OptionTexts
 pub mod Settings
+pub mod KeyText
 pub mod Fault
-pub mod LineKey
 pub mod KeyPart
 pub mod AuthGrammar
 pub mod Samples

@@ -1,7 +1,7 @@
 -- The moment of an expiry text.
 use Rattle.std.proofs.Common.{lit<}
 use Rattle.std.specs.Prelude.{◌≡◌, ℕ, ℤ, pos, ◌-ℤ◌, Bool, true, false, List, Option, Some, None, refl}
-use Rattle.jiff.specs.Types.{Date, DateTime, Time, TimeZone}
+use Rattle.jiff.specs.Types.{DateTime, TimeZone}
 use Rattle.jiff.specs.Words.{civil_seconds}
 use Rattle.ssh_lines.specs.Expiry.{without_z, is_civil_text, year_of, month_of, day_of, hour_of, minute_of, second_of, is_utc, offset_seconds}
 use Rattle.ssh_lines.specs.CivilFacts.{CivilFacts, civil-facts}

@@ -5,9 +5,9 @@ ghost use Rattle.ssh_lines.specs.Settings.{has_flag, settings};
 
 use crate::bytes::Bytes;
 use crate::cause::LineCause;
-use crate::key::LineKey;
 use crate::option::{AuthOption, Flag, ValueName};
 use crate::settings::{Settings, has_flag};
+use ssh_keys::Key;
 use std::alloc::{AllocError, Global};
 use std::marker::Model;
 
@@ -57,7 +57,7 @@ impl Options {
 #[derive(Debug, Drop)]
 pub struct AuthEntry {
     pub options: Options,
-    pub key: LineKey,
+    pub key: Key,
     pub comment: Bytes,
 }
 

@@ -12,17 +12,17 @@ ghost use Rattle.ssh_lines.specs.KeyPart.{key_of_kind, key_by_class, key_part_of
 use crate::bytes::Bytes;
 use crate::cause::LineCause;
 use crate::fault::Fault;
-use crate::key::LineKey;
-use crate::text::{comment_in, skip_blanks, split_word};
+use crate::key_line::split_fields;
+use crate::text::{comment_in, split_word};
 use base64::DecodeAllocError;
 use base64::engine::general_purpose::STANDARD;
-use ssh_keys::{KeyKind, NameClass, name_class};
+use ssh_keys::{Key, KeyKind, NameClass, name_class};
 use std::alloc::{AllocError, Global};
 
 /// A key and the comment behind it.
 #[derive(Drop)]
 pub(crate) struct KeyPart {
-    pub(crate) key: LineKey,
+    pub(crate) key: Key,
     pub(crate) comment: Bytes,
 }
 
@@ -46,7 +46,7 @@ fn key_in_blob(
 ) -> Result<KeyPart, Fault>
     ensures { Says (λ p. p) result (key_of_kind kind comment.now (key_in blob.items)) }
 {
-    let key = match LineKey::read(blob) {
+    let key = match Key::read(blob) {
         Ok(key) => key,
         Err(e) => return Err(Fault::Cause(LineCause::KeyBlob(e))),
     };
@@ -84,8 +84,7 @@ fn key_in_field(
 pub(crate) fn read_key_part(alloc: Global, text: &[u8]) -> Result<KeyPart, Fault>
     ensures { Says (λ p. p) result (key_part_of text.now) }
 {
-    let (word, behind) = split_word(text);
-    let (field, rest) = split_word(skip_blanks(behind));
+    let (word, field, rest) = split_fields(text);
     if word.is_empty() || field.is_empty() {
         return Err(Fault::Cause(LineCause::NoKey));
     }

@@ -11,8 +11,8 @@ use jiff::civil::{DateTime, datetime};
 use jiff::tz::{AmbiguousOffset, TimeZone};
 use std::alloc::{AllocError, Global};
 
-/// The start of 1970, from which moments are counted.
-fn epoch() -> DateTime
+/// What a clock in UTC shows at the start of 1970, from which moments are counted.
+pub fn epoch() -> DateTime
     ensures { civil_nanos result ≡ pos 0 }
 {
     datetime(1970, 1, 1, 0, 0, 0, 0)

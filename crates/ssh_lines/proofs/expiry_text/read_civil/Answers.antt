@@ -1,7 +1,6 @@
-use Rattle.std.proofs.Common.{◌∙◌, sym, arith, FitsSigned, w8, w16, w32}
-use Rattle.std.specs.Prelude.{pos}
+use Rattle.std.proofs.Common.{◌∙◌, sym, arith, FitsSigned, w8, w16}
 use Rattle.std.specs.Result.{is_ok}
-use Rattle.std.proofs.lemmas.Int.{ints, to_z-of_z}
+use Rattle.std.proofs.lemmas.Int.{to_z-of_z}
 use Rattle.jiff.proofs.SpanFacts.{signed_arith}
 use Rattle.ssh_lines.proofs.ExpiryLemmas.{is-civil-read}
 use Rattle.ssh_lines.proofs.expiry_text.read_civil.Goals as goal

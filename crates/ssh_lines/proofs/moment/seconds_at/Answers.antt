@@ -1,7 +1,6 @@
 use Rattle.std.proofs.Common.{◌∙◌, arith, FitsSigned, w64}
 use Rattle.std.proofs.lemmas.Int.{to_z-of_z}
 use Rattle.jiff.proofs.SpanFacts.{signed_arith}
-use Rattle.jiff.specs.Words.{civil_seconds}
 use Rattle.ssh_lines.proofs.MomentLemmas.{clock-seconds, clock-range}
 use Rattle.ssh_lines.proofs.moment.seconds_at.Goals as goal
 
