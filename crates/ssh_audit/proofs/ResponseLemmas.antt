@@ -7,7 +7,7 @@ use Rattle.ssh_audit.specs.Parts.{cut_at_empty, after_line, first_line}
 use Rattle.ssh_audit.specs.CommandLine.{Request, login, show, request_of}
 use Rattle.ssh_audit.specs.Values.{words_in}
 use Rattle.ssh_audit.specs.Texts.{Response as Shown, out_of_memory}
-use Rattle.ssh_audit.specs.Requests.{Answers, IsWanted, NoReadFailed, Responds, RespondsBy, SomeReadFailed, after_vouching, answer_in, login_asked, login_spelled, login_vouched, vouched_in}
+use Rattle.ssh_audit.specs.Requests.{Answer, exactly, Answers, IsAnswer, NoReadFailed, Responds, RespondsBy, SomeReadFailed, after_vouching, answer_in, login_asked, login_spelled, login_vouched, vouched_in}
 use Rattle.ssh_audit.specs.declared.query.Signed.{Signed}
 use Rattle.ssh_audit.specs.Query.{Login}
 use Rattle.ssh_audit.specs.CommandLine.{LoginWords}
@@ -48,7 +48,7 @@ asked-same w a b (Ok q) n i =
 
 answers-same : (a b : Shelf) (q : Option Request) → a.named ≡ b.named → a.input ≡ b.input → answer_in a q ≡ answer_in b q
 answers-same a b None n i = refl
-answers-same a b (Some (login w)) n i = ap (λ r. Some r) (asked-same w a b (login_spelled w) n i)
+answers-same a b (Some (login w)) n i = ap (λ r. exactly r) (asked-same w a b (login_spelled w) n i)
 answers-same a b (Some (show w)) n i = rw (n, i) refl
 
 none-failed : (s t : Shelf) (u : Option Shelf) → t.failures ≡ s.failures → NoReadFailed t u → NoReadFailed s u
@@ -61,7 +61,7 @@ some-failed s t (Some x) e h = omega (arith, e, h)
 
 shifted : (q : Option Request) (s t : Shelf) (u : Option Shelf) (r : Shown) → t.named ≡ (after_line s).named → t.input ≡ (after_line s).input → t.failures ≡ s.failures
     → RespondsBy q (answer_in t q) t u r → RespondsBy q (answer_in (after_line s) q) s u r
-shifted q s t u r n i f (inl h) = inl (none-failed s t u f h.0, subst (λ (o : Option Shown). IsWanted o r) (answers-same t (after_line s) q n i) h.1)
+shifted q s t u r n i f (inl h) = inl (none-failed s t u f h.0, subst (λ (o : Answer). IsAnswer o r) (answers-same t (after_line s) q n i) h.1)
 shifted q s t u r n i f (inr h) = inr (some-failed s t u f h.0, h.1)
 
 -- ---- words
@@ -94,7 +94,7 @@ unread s u fault.Failed r fails is = inr (fails, refl, is)
 unread s u fault.Memory r fails is = absurd is
 unread s u fault.TooLong r fails is =
     let none : words_in (first_line s) ≡ [] = sym (words_long (first_line s) (lt-leb (length (first_line s)) 65536 fails.0)) in
-    inl (inl (fails.1, subst (λ (q : Option Request). IsWanted (answer_in (after_line s) q) r) (sym (ap request_of none ∙ none_asked)) is))
+    inl (inl (fails.1, subst (λ (q : Option Request). IsAnswer (answer_in (after_line s) q) r) (sym (ap request_of none ∙ none_asked)) is))
 
 -- a first line of standard input that gives no words
 pub unread_responds : {R E : Type 0} (view : R → Shown) (o u : Option Shelf) (e : ReadFault) (res : Result R E)

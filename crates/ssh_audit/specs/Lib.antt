@@ -17,9 +17,11 @@ pub mod Writing
 pub mod Responses
 pub mod Vouched
 pub mod CommandLine
+pub mod ShownTexts
+pub mod Showing
 pub mod Requests
 pub mod Printing
 pub mod Loading
 pub mod Parsing
 pub mod LoginValues
-pub mod Showing
+pub mod ShownLines

@@ -1,6 +1,5 @@
 -- What is answered to words, over the files of a source.
-use Rattle.std.specs.Prelude.{◌≡◌, ◌⊎◌, ◌<◌, ◌^◌, ◌||◌, ℕ, Bool, List, [], ◌∷◌, Option, Some, None, Result, Ok, Err, codes, length, nat_lt, option_and_then, if◌then◌else◌}
-use Rattle.std.specs.Str.{bytes_eq}
+use Rattle.std.specs.Prelude.{◌≡◌, ◌⊎◌, ◌<◌, ◌^◌, ℕ, List, [], ◌∷◌, Option, Some, None, Result, Ok, Err, codes, length, nat_lt, option_and_then, if◌then◌else◌}
 use Rattle.base64.specs.Engines.{standard}
 use Rattle.base64.specs.GeneralPurpose.{decoded_of}
 use Rattle.ssh_wire.specs.Reading.{◌>>=◌}
@@ -15,6 +14,9 @@ use Rattle.ssh_audit.specs.Offer.{LoginClaim, login_claim}
 use Rattle.ssh_audit.specs.Answer.{file_limit, login_answer}
 use Rattle.ssh_audit.specs.CommandLine.{LoginWords, Request, ShowWords, login, show, request_of}
 use Rattle.ssh_audit.specs.Shelf.{Shelf, bytes_at}
+use Rattle.ssh_audit.specs.declared.show.ShowKind.{ShowKind}
+use Rattle.ssh_audit.specs.FileLines.{lines_of}
+use Rattle.ssh_audit.specs.Showing.{ShowsLine, first_of_lines, show_kind}
 use Rattle.ssh_audit.specs.Parts.{part_at, after_part, first_line, after_line}
 use Rattle.ssh_audit.specs.Values.{hex_bytes, number_below, vouched_of, words_in}
 use Rattle.ssh_audit.specs.Texts.{Response, decision_response, no_file_response, out_of_memory, refused_response, usage_response, value_response, vouch_response}
@@ -94,24 +96,33 @@ login_asked w s (Ok q) = login_vouched w q (after_vouching w.vouch s) (vouched_i
 abbrev pub login_response : LoginWords → Shelf → Response
 login_response w s = login_asked w s (login_spelled w)
 
--- the kinds that `show` knows
-abbrev pub is_shown : List ℕ → Bool
-is_shown kind = bytes_eq kind (codes "key") || bytes_eq kind (codes "cert")
+-- what is to be answered: this response, or what a line is shown as
+pub data Answer : Type 0 where
+  exactly : Response → Answer
+  shown : ShowKind → List ℕ → Answer
 
--- What `show` prints of a file's bytes is left to tests.
-abbrev pub show_over : List ℕ → Option (List ℕ) → Option Response
-show_over name None = Some (no_file_response name)
-show_over name (Some bytes) = None
+-- the response is that answer
+abbrev pub IsAnswer : Answer → Response → Type 0
+IsAnswer (exactly wanted) r = r ≡ wanted
+IsAnswer (shown kind line) r = ShowsLine kind line r
 
--- the answer to `show`, where it is not left open
-abbrev pub show_response : ShowWords → Shelf → Option Response
-show_response w s = if is_shown w.kind then show_over w.file (within_limit (bytes_at s w.file)) else Some (value_response (codes "kind"))
+-- the first line of a file, whatever its length
+abbrev pub show_over : ShowKind → List ℕ → Option (List ℕ) → Answer
+show_over kind name None = exactly (no_file_response name)
+show_over kind name (Some bytes) = shown kind (first_of_lines (lines_of bytes))
 
--- the answer to a request, where it is not left open: that to `login` never is
-abbrev pub answer_in : Shelf → Option Request → Option Response
-answer_in s None = Some usage_response
-answer_in s (Some (login w)) = Some (login_response w s)
-answer_in s (Some (show w)) = show_response w s
+abbrev pub show_by_kind : Option ShowKind → List ℕ → Option (List ℕ) → Answer
+show_by_kind None name file = exactly (value_response (codes "kind"))
+show_by_kind (Some kind) name file = show_over kind name (within_limit file)
+
+abbrev pub show_answer : ShowWords → Shelf → Answer
+show_answer w s = show_by_kind (show_kind w.kind) w.file (bytes_at s w.file)
+
+-- the answer to a request
+abbrev pub answer_in : Shelf → Option Request → Answer
+answer_in s None = exactly usage_response
+answer_in s (Some (login w)) = exactly (login_response w s)
+answer_in s (Some (show w)) = show_answer w s
 
 -- where no word is given, the words are those of the first line of standard input
 abbrev pub asked : List (List ℕ) → Shelf → List (List ℕ)
@@ -122,8 +133,8 @@ abbrev pub source_of : List (List ℕ) → Shelf → Shelf
 source_of [] s = after_line s
 source_of (w ∷ words) s = s
 
--- the answer to these words over this source, where it is not left open
-abbrev pub answer : List (List ℕ) → Shelf → Option Response
+-- the answer to these words over this source
+abbrev pub answer : List (List ℕ) → Shelf → Answer
 answer words s = answer_in (source_of words s) (request_of (asked words s))
 
 -- ---- failed reads
@@ -144,18 +155,9 @@ IsFileFault None r = ⊥
 IsFileFault (Some (login w)) r = (r ≡ refused_response Read) ⊎ ((name : List ℕ) × (w.vouch ≡ Some name) × (r ≡ no_file_response name))
 IsFileFault (Some (show w)) r = r ≡ no_file_response w.file
 
--- something was printed, or a fault
-abbrev pub IsDone : Response → Type 0
-IsDone r = (r.status ≡ 0) ⊎ (r.status ≡ 2)
-
--- the response is this one; where none is defined, its status alone is known
-abbrev pub IsWanted : Option Response → Response → Type 0
-IsWanted None r = IsDone r
-IsWanted (Some wanted) r = r ≡ wanted
-
 -- the response is the wanted one; or a read failed, and it is the fault of a file that was asked for
-abbrev pub RespondsBy : Option Request → Option Response → Shelf → Option Shelf → Response → Type 0
-RespondsBy q wanted s t r = (NoReadFailed s t × IsWanted wanted r) ⊎ (SomeReadFailed s t × IsFileFault q r)
+abbrev pub RespondsBy : Option Request → Answer → Shelf → Option Shelf → Response → Type 0
+RespondsBy q wanted s t r = (NoReadFailed s t × IsAnswer wanted r) ⊎ (SomeReadFailed s t × IsFileFault q r)
 
 -- the same of words, where the first line of standard input may be what was not read
 abbrev pub Responds : List (List ℕ) → Shelf → Option Shelf → Response → Type 0

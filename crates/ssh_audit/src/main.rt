@@ -30,6 +30,7 @@ mod show_key;
 mod show_line;
 #[cfg(test)]
 mod show_tests;
+mod show_text;
 mod system;
 mod tallied;
 #[cfg(test)]

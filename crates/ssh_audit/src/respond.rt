@@ -4,7 +4,7 @@ ghost use Rattle.std.specs.Prelude.{◌≡◌, ◌<◌, ◌^◌, ◌≤◌, [], 
 ghost use Rattle.ssh_audit.specs.Query.{login_of};
 ghost use Rattle.ssh_audit.specs.Offer.{login_claim};
 ghost use Rattle.ssh_audit.specs.CommandLine.{login, show, request_of};
-ghost use Rattle.ssh_audit.specs.Requests.{Responds, RespondsBy, after_vouching, answer_claimed, answer_in, login_over, login_response, login_vouched, or_vouch_fault, show_response, vouched_in};
+ghost use Rattle.ssh_audit.specs.Requests.{Responds, RespondsBy, after_vouching, answer_claimed, answer_in, login_over, login_response, login_vouched, or_vouch_fault, show_answer, vouched_in, exactly};
 ghost use Rattle.ssh_audit.specs.Answer.{Gives};
 ghost use Rattle.ssh_audit.specs.Loading.{AnswersFile, IsFaultOf, IsUsageOf, is_memory};
 ghost use Rattle.ssh_audit.specs.Parsing.{request_in_memory, show_texts_of, texts_of};
@@ -80,7 +80,7 @@ fn respond_vouched<F: Files>(
     requires session { length query.now.session.now < 2 ^ 32 }
     requires user { length query.now.user.now < 2 ^ 32 }
     ensures { IfTells (F.shelf files.old) (λ s. IfOk result (λ r.
-        RespondsBy (Some (login (texts_of words.entry.now))) (Some (login_over (login_of query.entry.now) vouched.now (bytes_at s words.entry.now.file.now))) s (F.shelf files.new) (response r))) }
+        RespondsBy (Some (login (texts_of words.entry.now))) (exactly (login_over (login_of query.entry.now) vouched.now (bytes_at s words.entry.now.file.now))) s (F.shelf files.new) (response r))) }
 {
     let answer = decide_by_file(alloc, words.file, query, vouched, files);
     if is_memory(&answer) {
@@ -111,7 +111,7 @@ fn respond_bytes<F: Files>(
     requires user { length query.now.user.now < 2 ^ 32 }
     requires short { length bytes.now ≤ 67108864 }
     ensures { IfTells (F.shelf files.old) (λ s. IfOk result (λ r.
-        RespondsBy (Some (login (texts_of words.entry.now))) (Some (login_vouched (texts_of words.entry.now) (login_of query.entry.now) s (or_vouch_fault (vouched_of bytes.now)))) s (F.shelf files.new) (response r))) }
+        RespondsBy (Some (login (texts_of words.entry.now))) (exactly (login_vouched (texts_of words.entry.now) (login_of query.entry.now) s (or_vouch_fault (vouched_of bytes.now)))) s (F.shelf files.new) (response r))) }
 {
     match read_vouched(alloc, bytes) {
         Ok(vouched) => respond_vouched(alloc, words, query, &vouched, files),
@@ -130,7 +130,7 @@ fn respond_query<F: Files>(
     requires session { length query.now.session.now < 2 ^ 32 }
     requires user { length query.now.user.now < 2 ^ 32 }
     ensures { IfTells (F.shelf files.old) (λ s. IfOk result (λ r.
-        RespondsBy (Some (login (texts_of words.entry.now))) (Some (login_vouched (texts_of words.entry.now) (login_of query.entry.now) (after_vouching (texts_of words.entry.now).vouch s) (vouched_in (texts_of words.entry.now).vouch s))) s (F.shelf files.new) (response r))) }
+        RespondsBy (Some (login (texts_of words.entry.now))) (exactly (login_vouched (texts_of words.entry.now) (login_of query.entry.now) (after_vouching (texts_of words.entry.now).vouch s) (vouched_in (texts_of words.entry.now).vouch s))) s (F.shelf files.new) (response r))) }
 {
     match words.vouch {
         None => respond_vouched(alloc, words, query, &[], files),
@@ -148,7 +148,7 @@ fn respond_login<F: Files>(
     files: &mut F,
 ) -> Result<Response, AllocError>
     ensures { IfTells (F.shelf files.old) (λ s. IfOk result (λ r.
-        RespondsBy (Some (login (texts_of words.entry.now))) (Some (login_response (texts_of words.entry.now) s)) s (F.shelf files.new) (response r))) }
+        RespondsBy (Some (login (texts_of words.entry.now))) (exactly (login_response (texts_of words.entry.now) s)) s (F.shelf files.new) (response r))) }
 {
     match read_login_values(alloc, words) {
         Ok(values) => {
@@ -175,7 +175,7 @@ fn respond_show<F: Files>(
     files: &mut F,
 ) -> Result<Response, AllocError>
     ensures { IfTells (F.shelf files.old) (λ s. IfOk result (λ r.
-        RespondsBy (Some (show (show_texts_of words.entry.now))) (show_response (show_texts_of words.entry.now) s) s (F.shelf files.new) (response r))) }
+        RespondsBy (Some (show (show_texts_of words.entry.now))) (show_answer (show_texts_of words.entry.now) s) s (F.shelf files.new) (response r))) }
 {
     let Some(kind) = show_kind(words.kind) else {
         return value_fault(alloc, "kind");

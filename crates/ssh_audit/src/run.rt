@@ -52,8 +52,8 @@ pub fn run<S: AsStr, F: Files, W: Write>(
     writer: &mut W,
 ) -> u8
     // Where the source tells its files: the answer's text was written whole, with its status; or a
-    // proper front of it, with status 2. The answer is the defined one (of what `show` prints of a file,
-    // its status alone is defined), or want of memory, or after a failed read that read's own fault.
+    // proper front of it, with status 2. The answer is the defined one, or want of memory, or after a
+    // failed read that read's own fault.
     ensures { IfTells (F.shelf files.old) (λ s. (r : Shown) × Answers (map S.text words.now) s (F.shelf files.new) r
         × PrintsUnseen (W.contents writer.old) (W.contents writer.new) r result) }
 {

@@ -1,8 +1,10 @@
 //! The request `show`.
 
-ghost use Rattle.std.specs.Prelude.{◌≡◌, IfOk, is_some};
-ghost use Rattle.ssh_audit.specs.Requests.{IsDone, is_shown};
+ghost use Rattle.std.specs.Prelude.{◌≡◌, IfOk};
+ghost use Rattle.ssh_audit.specs.FileLines.{lines_of};
 ghost use Rattle.ssh_audit.specs.Responses.{response};
+ghost use Rattle.ssh_audit.specs.Showing.{ShowsLine, first_of_lines, show_kind};
+ghost use Rattle.ssh_audit.specs.ShownLines.{PrintsLine};
 
 use crate::response::{DONE, Response};
 use crate::show_cert::show_cert;
@@ -20,7 +22,7 @@ pub enum ShowKind {
 
 /// The kind that a word names, if it names one.
 pub fn show_kind(word: &str) -> Option<ShowKind>
-    ensures { is_some result ≡ is_shown word.now }
+    ensures { result ≡ show_kind word.now }
 {
     if word == "key" {
         Some(ShowKind::Key)
@@ -31,19 +33,22 @@ pub fn show_kind(word: &str) -> Option<ShowKind>
     }
 }
 
-/// What is printed of a file, or why it is not shown.
-fn shown(alloc: Global, kind: ShowKind, file: &[u8]) -> Result<Vec<u8>, ShowFault> {
+/// What is printed of a line, or why it is not shown.
+fn shown(alloc: Global, kind: ShowKind, line: &[u8]) -> Result<Vec<u8>, ShowFault>
+    ensures { PrintsLine (λ text. text.items) kind line.now result }
+{
     match kind {
-        ShowKind::Key => show_key(alloc, first_line(file)),
-        ShowKind::Cert => show_cert(alloc, first_line(file)),
+        ShowKind::Key => show_key(alloc, line),
+        ShowKind::Cert => show_cert(alloc, line),
     }
 }
 
-/// The response to `show` of a file of these bytes: what it holds as this kind, or its fault.
+/// The response to `show` of a file of these bytes: what its first line holds as this kind, or its
+/// fault.
 pub fn show(alloc: Global, kind: ShowKind, file: &[u8]) -> Result<Response, AllocError>
-    ensures { IfOk result (λ r. IsDone (response r)) }
+    ensures { IfOk result (λ r. ShowsLine kind (first_of_lines (lines_of file.now)) (response r)) }
 {
-    match shown(alloc, kind, file) {
+    match shown(alloc, kind, first_line(file)) {
         Ok(text) => Ok(Response { status: DONE, text }),
         Err(ShowFault::Line(cause)) => line_fault(alloc, cause),
         Err(ShowFault::Cert(error)) => cert_fault(alloc, error),

@@ -1,6 +1,6 @@
 //! What no clause says: what `show` prints, line by line, and its faults.
 
-use crate::date::push_date;
+use crate::date::date_text;
 use crate::show::{ShowKind, show};
 use std::test::Fail;
 
@@ -169,8 +169,7 @@ fn dates_moments(rt: HostRuntime) -> Result<(), Fail> {
         (18_446_744_073_709_551_615, b"-"),
     ];
     for (moment, want) in rows {
-        let mut text = Vec::new(rt.alloc());
-        push_date(rt.alloc(), &mut text, moment)?;
+        let text = date_text(rt.alloc(), moment)?;
         assert_eq!(rt; text.as_slice(), want);
     }
     Ok(())
