@@ -18,3 +18,4 @@ mod VouchedLemmas
 mod LineReading
 mod CommandLineLemmas
 mod ResponseLemmas
+mod ShowLemmas

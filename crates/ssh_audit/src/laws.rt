@@ -7,7 +7,10 @@ ghost use Rattle.ssh_audit.specs.declared.query.Signed.{Signed as SignedValue};
 ghost use Rattle.ssh_audit.specs.Decision.{LoginMeans, login_decision};
 ghost use Rattle.ssh_audit.specs.Offer.{LoginClaim};
 ghost use Rattle.ssh_audit.specs.FileLines.{AreLines, lines_of};
+ghost use Rattle.ssh_audit.specs.declared.show.ShowKind.{ShowKind};
 ghost use Rattle.ssh_audit.specs.KeyLine.{SpellsKey, holds, line_said};
+ghost use Rattle.ssh_audit.specs.Showing.{ShowsLine};
+ghost use Rattle.ssh_audit.specs.Texts.{Response};
 
 /// The lines of a file are those between its LFs, and no others.
 pub fn lines_rule()
@@ -25,4 +28,9 @@ pub fn key_rule()
 pub fn decision_rule()
     ensures { (file : List ℕ) (claim : LoginClaim) (vouched : List SignedValue) → IsKey claim.key → AllByRecursion (λ c. c < 256) file →
         LoginMeans file claim vouched (login_decision file claim vouched) }
+{}
+
+/// What is answered to `show` of a line is one response.
+pub fn show_rule()
+    ensures { (kind : ShowKind) (line : List ℕ) (a b : Response) → ShowsLine kind line a → ShowsLine kind line b → a ≡ b }
 {}
