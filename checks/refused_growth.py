@@ -12,6 +12,14 @@ HERE = pathlib.Path(__file__).resolve().parent
 CRATE = HERE.parent / "crates" / "ssh_audit"
 PROGRAM = pathlib.Path(sys.argv[1] if len(sys.argv) > 1 else CRATE / "out" / "ssh_audit")
 OUT_OF_MEMORY = (2, b"fault A8\n")
+# A certificate with two principals, a critical option and an extension.
+CERTIFICATE = (
+    b"ssh-ed25519-cert-v01@openssh.com "
+    b"AAAAIHNzaC1lZDI1NTE5LWNlcnQtdjAxQG9wZW5zc2guY29tAAAAAQcAAAAgAAAAAAAAAAAAAAAAAAAAAAAAAAAAAAAAAAAA"
+    b"AAAAAAAAAAAAAAAABQAAAAMAAAACaWQAAAAPAAAAA2FubgAAAARhXGL/AAAAAAAAAAD//////////wAAACAAAAANZm9yY2Ut"
+    b"Y29tbWFuZAAAAAsAAAAHYSAiYiIgYwAAABIAAAAKcGVybWl0LXB0eQAAAAAAAAAAAAAAMwAAAAtzc2gtZWQyNTUxOQAAACAA"
+    b"AAAAAAAAAAAAAAAAAAAAAAAAAAAAAAAAAAAAAAAAAQAAABQAAAALc3NoLWVkMjU1MTkAAAABqg=="
+)
 
 
 def run(words, stdin, preload=None, index=0, later=False):
@@ -37,6 +45,7 @@ def rows():
     yield "bad vouch line", [], b"\n".join([words, b"zz", b"", key, b""])
     yield "bad words", [], b"login --file\n"
     yield "show", ["show", "--kind", "key", "--file", "-"], key + b"\n"
+    yield "show a certificate", ["show", "--kind", "cert", "--file", "-"], CERTIFICATE + b"\n"
     yield "show a bad line", ["show", "--kind", "key", "--file", "-"], b"ssh-rsa AAAA\n"
     yield "words of the command line", words.decode().split(" "), stored.split(b"\n", 1)[1]
 

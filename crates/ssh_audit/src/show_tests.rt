@@ -1,4 +1,4 @@
-//! What no clause says: what `show` prints, line by line, and its faults.
+//! `show` on worked lines: what it prints letter by letter, and its faults.
 
 use crate::date::date_text;
 use crate::show::{ShowKind, show};
