@@ -28,7 +28,7 @@ none-by (Some rest) mark text e h = absurd (h rest (after_mark-whole mark text r
 pub after_mark-none : (mark text : List ℕ) → ((rest : List ℕ) → text ≢ mark ++ rest) → after_mark mark text ≡ None
 after_mark-none mark text h = none-by (after_mark mark text) mark text refl h
 
--- a cut behind these bytes
+-- a cut after these bytes
 abbrev pub behind : List ℕ → Option (List ℕ × List ℕ) → Option (List ℕ × List ℕ)
 behind front cut = option_map (λ c. (front ++ c.0, c.1)) cut
 

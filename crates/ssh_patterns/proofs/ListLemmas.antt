@@ -1,6 +1,7 @@
 -- Lists, piece by piece.
-use Rattle.std.proofs.Common.{◌≡◌, ℕ, ◌+◌, Bool, true, false, not, ◌||◌, ◌&&◌, List, [], ◌∷◌, map, length, Option, Some, None, refl}
+use Rattle.std.proofs.Common.{◌≡◌, ℕ, ◌+◌, ◌*◌, ◌≤◌, ◌++◌, ◌∙◌, ap, arith, length-append, Bool, true, false, not, ◌||◌, ◌&&◌, List, [], ◌∷◌, map, length, refl}
 use Rattle.std.specs.List.{list_any}
+use Rattle.std.proofs.lemmas.Nat.{mul-le}
 use Rattle.ssh_patterns.specs.declared.permit.Permit.{Permit}
 use Rattle.ssh_patterns.specs.Lists.{Item, item_of, items_of, pieces, permit, permits, permit_of, is_yes}
 
@@ -16,10 +17,18 @@ pub verdict-start : (is_bad : Item → Bool) (matches : List ℕ → Bool) (list
 unfolding permit_of
 verdict-start is_bad matches list = refl
 
--- how much is left of a list, with its end
-abbrev pub length_left : Option (List ℕ) → ℕ
-length_left None = 0
-length_left (Some left) = length left + 1
+-- a piece, its comma and what is left are the list
+pub piece-lengths : (comma : ℕ) (list piece left : List ℕ) → list ≡ piece ++ comma ∷ left
+    → length piece + 1 + (length left + 1) ≤ length list + 1
+piece-lengths comma list piece left e =
+    let whole : length list ≡ length piece + length (comma ∷ left) = ap length e ∙ length-append piece (comma ∷ left) in
+    omega (arith, whole)
+
+-- The turns for one more item: its bytes and its end are among those of the list.
+pub more-turns : (turns taken item piece left pieces whole width : ℕ) → turns + (pieces + 1) * width ≤ whole
+    → taken ≤ (item + 1) * width → item ≤ piece → piece + 1 + left ≤ pieces + 1 → turns + taken + left * width ≤ whole
+more-turns turns taken item piece left pieces whole width now here short parts =
+    omega (arith, now, here, mul-le (item + 1 + left) width (pieces + 1) width (omega (arith, short, parts)) (omega arith))
 
 none_bad : (items : List Item) → list_any (λ item. false) items ≡ false
 none_bad [] = refl

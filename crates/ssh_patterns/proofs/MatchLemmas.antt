@@ -12,7 +12,7 @@ pub or_left : (a b : Bool) → a ≡ true → (a || b) ≡ true
 or_left true b h = refl
 or_left false b h = cc
 
--- what passes behind some front is found
+-- what passes after some front is found
 some_rest-behind : (test : List ℕ → Bool) (front rest : List ℕ) → test rest ≡ true → some_rest test (front ++ rest) ≡ true
 some_rest-behind test [] [] h = h
 some_rest-behind test [] (x ∷ xs) h = or_left (test (x ∷ xs)) (some_rest test xs) h

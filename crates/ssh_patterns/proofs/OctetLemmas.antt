@@ -120,7 +120,7 @@ pub neither : (a b : Bool) → (a || b) ≡ false → (a ≡ false) × (b ≡ fa
 neither true b h = cc
 neither false b h = (refl, h)
 
--- where the front has no such byte, the cut is behind it
+-- where the front has no such byte, the cut is after it
 pub cut_at-front : (byte : ℕ) (front back : List ℕ) → list_any (λ c. c == byte) front ≡ false
     → cut_at (byte ∷ []) (front ++ byte ∷ back) ≡ Some (front, back)
 cut_at-front byte [] back h = rw (eq-eqb byte byte refl) refl

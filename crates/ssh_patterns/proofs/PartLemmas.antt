@@ -33,7 +33,7 @@ more-none groups more g h =
     let many = few-none (groups ++ g ∷ []) h in
     few-no (groups ++ g ∷ more) (simp length-append (omega (arith, simp length-append at many)))
 
--- the groups behind a first one
+-- the groups after a first one
 abbrev pub after_first : ℕ → Option (List ℕ) → Option (List ℕ)
 after_first g more = option_and_then (λ groups. Some (g ∷ groups)) more
 

@@ -87,7 +87,7 @@ first_part front back h = (parts-cut colon (front ++ colon ∷ back) front back 
 some_parts : (text : List ℕ) → 0 < length (colon_parts text)
 some_parts text = omega (arith, length-slice_split (λ b. b == colon) text)
 
--- the groups of a first part and of those behind it
+-- the groups of a first part and of those after it
 pub first_group : (dotted_too : Bool) (front back groups : List ℕ) (g : ℕ) → IsGroup g front
     → groups_of_parts dotted_too (colon_parts back) ≡ Some groups
     → groups_of_parts dotted_too (colon_parts (front ++ colon ∷ back)) ≡ Some (g ∷ groups)

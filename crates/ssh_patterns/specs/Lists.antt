@@ -1,5 +1,5 @@
 -- Lists of patterns, nets and addresses (ssh_config(5), PATTERNS; sshd(8), from=; PROTOCOL.certkeys, source-address).
-use Rattle.std.specs.Prelude.{◌≡◌, ◌⊎◌, ℕ, Bool, true, false, not, ◌||◌, ◌&&◌, ◌==◌, if◌then◌else◌, List, [], ◌∷◌, map, is_ok, is_some, Option, Some, None, Result, Ok, Err}
+use Rattle.std.specs.Prelude.{◌≡◌, ◌⊎◌, ℕ, ◌+◌, length, Bool, true, false, not, ◌||◌, ◌&&◌, ◌==◌, if◌then◌else◌, List, [], ◌∷◌, map, is_ok, is_some, Option, Some, None, Result, Ok, Err}
 use Rattle.std.specs.List.{Any, list_any, slice_split}
 use Rattle.std.specs.Str.{str_to_ascii_lowercase}
 use Rattle.ssh_patterns.specs.declared.address.Address.{Address}
@@ -31,6 +31,11 @@ abbrev pub pieces_left : Option (List ℕ) → List (List ℕ)
 pieces_left None = []
 pieces_left (Some list) = pieces list
 
+-- the length of what is left of a list, its end with it
+abbrev pub length_left : Option (List ℕ) → ℕ
+length_left None = 0
+length_left (Some list) = length list + 1
+
 -- the items of a list, in their order
 abbrev pub items_of : List ℕ → List Item
 items_of list = map item_of (pieces list)
@@ -41,7 +46,7 @@ permits matches items =
     not (list_any (λ item. item.negated && matches item.text) items)
     && list_any (λ item. not item.negated && matches item.text) items
 
--- A list permits where no item behind a `!` matches, and some item without one does (ssh_config(5), PATTERNS).
+-- A list permits where no item after a `!` matches, and some item without one does (ssh_config(5), PATTERNS).
 pub record Permits (Fits : List ℕ → Type 0) (list : List ℕ) : Type 0 where
   pub none_refuses : ¬ Any (λ item. (item.negated ≡ true) × Fits item.text) (items_of list)
   pub some_matches : Any (λ item. (item.negated ≡ false) × Fits item.text) (items_of list)
@@ -92,6 +97,11 @@ is_address (Some a) address = same_address a address
 abbrev pub host_matches : Option (List ℕ) → List ℕ → Bool
 host_matches None pattern = false
 host_matches (Some host) pattern = is_match_in_lower_case host pattern
+
+-- the bytes of the host name, none where no host name is known
+abbrev pub host_length : Option (List ℕ) → ℕ
+host_length None = 0
+host_length (Some host) = length host
 
 -- whether the item spells the address that was read
 abbrev pub address_equals : Option Address → List ℕ → Bool

@@ -1,5 +1,5 @@
 -- Which texts a pattern matches (ssh_config(5), PATTERNS).
-use Rattle.std.specs.Prelude.{◌≡◌, ℕ, Bool, true, false, ◌||◌, ◌&&◌, ◌==◌, if◌then◌else◌, List, [], ◌∷◌, ◌++◌, MatchBool}
+use Rattle.std.specs.Prelude.{◌≡◌, ℕ, Bool, true, false, ◌||◌, ◌&&◌, ◌==◌, if◌then◌else◌, List, [], ◌∷◌, ◌++◌, MatchBool, Option, Some, None}
 use Rattle.std.specs.Char.{to_ascii_lowercase}
 use Rattle.ssh_patterns.specs.declared.pattern.Case.{Case}
 use Rattle.ssh_patterns.specs.declared.pattern.Case.TheVariants.{Exact, Lower}
@@ -44,6 +44,17 @@ is_match [] text = is_empty text
 is_match (c ∷ pattern) text =
     if c == star then some_rest (is_match pattern) text
     else first_and_rest (λ x. (c == question) || (c == x)) (is_match pattern) text
+
+-- what stands after a star at the front of a pattern
+abbrev pub after_star : List ℕ → Option (List ℕ)
+after_star [] = None
+after_star (c ∷ pattern) = if c == star then Some pattern else None
+
+-- what stands after the first bytes of a pattern and of a text, where the first is `?` or they are the same
+abbrev pub after_byte : List ℕ → List ℕ → Option (List ℕ × List ℕ)
+after_byte [] text = None
+after_byte (c ∷ pattern) [] = None
+after_byte (c ∷ pattern) (x ∷ text) = if (c == question) || (c == x) then Some (pattern, text) else None
 
 -- a byte as it is compared: itself, or its ASCII lower case
 abbrev pub folded : Case → ℕ → ℕ

@@ -13,9 +13,11 @@ MatchingSamples = (is_match (codes "a?c") (codes "ac") ≡ false)
     × (is_match (codes "?") [] ≡ false)
     × (is_match (codes "*") [] ≡ true)
     × (is_match (codes "*b*") (codes "abc") ≡ true)
+    × (is_match (codes "*ab") (codes "aab") ≡ true)
+    × (is_match (codes "a*b*c") (codes "acbb") ≡ false)
 
 pub matching_samples : MatchingSamples
-matching_samples = (refl, refl, refl, refl)
+matching_samples = (refl, refl, refl, refl, refl, refl)
 
 abbrev pub AddressSamples : Type 0
 AddressSamples = (address_of (codes "01.2.3.4") ≡ None)

@@ -8,7 +8,7 @@ pub enum PatternError {
     /// The text, or what stands before its first slash, is no address; or a net has no slash.
     #[error("not an address")]
     Address,
-    /// What stands behind the slash is no length of the address's family.
+    /// What stands after the slash is no length of the address's family.
     #[error("not the length of a net")]
     Length,
     /// The address has a bit set past the net's length.

@@ -17,9 +17,8 @@ mod text;
 
 pub use address::{Address, parse_address};
 pub use error::PatternError;
-pub use hosts::host_list;
+pub use hosts::{host_list, host_list_counted};
 pub use net::{Net, contains, parse_net};
-pub use pattern::matches;
+pub use pattern::{matches, matches_counted};
 pub use permit::Permit;
-pub use samples::read_samples;
-pub use sources::{cidr_list, source_list};
+pub use sources::{cidr_list, source_list, source_list_counted};

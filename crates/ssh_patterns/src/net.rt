@@ -29,6 +29,22 @@ impl Model for Net {
     ghost inverse = { λ b. record { base = b.base; prefix = b.prefix } };
 }
 
+impl Net {
+    /// The base: the first address of the net.
+    pub fn base(&self) -> Address
+        ensures { result ≡ self.now.base }
+    {
+        self.base
+    }
+
+    /// The length: how many first bits the addresses of the net share.
+    pub fn prefix(&self) -> u8
+        ensures { result ≡ self.now.prefix }
+    {
+        self.prefix
+    }
+}
+
 /// The bits of an address of this family.
 fn width(address: Address) -> u8
     ensures { result ≡ width address }

@@ -1,9 +1,10 @@
-//! Worked examples of the definitions.
+//! Worked examples of the definitions. No call needs these functions: the check proves what they
+//! ensure.
 
 ghost use Rattle.ssh_patterns.specs.Samples.{MatchingSamples, AddressSamples, NetSamples, ListSamples};
 
 /// Patterns, addresses, nets and lists, as the definitions read them.
-pub fn read_samples()
+fn read_samples()
     ensures matching { MatchingSamples }
     ensures addresses { AddressSamples }
     ensures nets { NetSamples }

@@ -1,9 +1,9 @@
 //! Lists of the sources of a login: of a `from` option and of a certificate's `source-address`.
 
-ghost use Rattle.std.specs.Prelude.{◌≡◌, ◌↔◌, IsSome, option_copied};
+ghost use Rattle.std.specs.Prelude.{◌≡◌, ◌↔◌, ◌≤◌, ◌+◌, ◌*◌, ◌||◌, IsSome, length, option_copied};
 ghost use Rattle.std.specs.List.{Any};
 ghost use Rattle.ssh_patterns.specs.AddressReading.{address_of};
-ghost use Rattle.ssh_patterns.specs.Lists.{is_address, host_matches, items_of, Permits, FitsSource, IsBadSource, source_list, FitsAddress, IsBadCidr, cidr_list};
+ghost use Rattle.ssh_patterns.specs.Lists.{is_address, host_matches, is_match_in_lower_case, items_of, Permits, FitsSource, IsBadSource, host_length, source_list, FitsAddress, IsBadCidr, cidr_list};
 
 use crate::address::{Address, read_address};
 use crate::list::{Asked, permit};
@@ -22,14 +22,30 @@ fn is_address(item: &[u8], address: Address) -> bool
     }
 }
 
-/// Whether a host name, if one is known, matches a pattern in ASCII lower case.
-fn host_matches(host: Option<&[u8]>, pattern: &[u8]) -> bool
-    ensures { result ≡ host_matches (option_copied host.entry) pattern.now }
+/// Whether a host name, if one is known, matches a pattern in ASCII lower case, and the turns that
+/// this took.
+fn host_matches(host: Option<&[u8]>, pattern: &[u8]) -> (bool, u128)
+    ensures value { result.0 ≡ host_matches (option_copied host.entry) pattern.now }
+    ensures most { result.1 ≤ (length pattern.now + 1) * (host_length (option_copied host.entry) + 1) }
 {
     match host {
         Some(host) => matches_in(Case::Lower, pattern, host),
-        None => false,
+        None => (false, 0),
     }
+}
+
+/// Whether a host name, if one is known, or else the text of an address matches a pattern in ASCII
+/// lower case, and the turns that this took.
+fn name_matches(host: Option<&[u8]>, text: &[u8], pattern: &[u8]) -> (bool, u128)
+    ensures value { result.0 ≡ (host_matches (option_copied host.entry) pattern.now || is_match_in_lower_case text.now pattern.now) }
+    ensures most { result.1 ≤ (length pattern.now + 1) * (host_length (option_copied host.entry) + length text.now + 2) }
+{
+    let (on_host, turns) = host_matches(host, pattern);
+    if on_host {
+        return (true, turns);
+    }
+    let (on_text, more) = matches_in(Case::Lower, pattern, text);
+    (on_text, turns + more)
 }
 
 /// What the list of a `from` option is asked about. The address is that of the text.
@@ -53,25 +69,29 @@ impl<'a> Model for Source<'a> {
 }
 
 impl<'a> Asked for Source<'a> {
-    ghost use Rattle.ssh_patterns.specs.Lists.{is_bad_source, source_item};
+    ghost use Rattle.std.specs.Prelude.{length, ◌+◌};
+    ghost use Rattle.ssh_patterns.specs.Lists.{is_bad_source, source_item, host_length};
 
     ghost is_bad = { λ source item. is_bad_source item };
 
     ghost is_match = { λ source item. source_item source item };
 
-    fn judge(&self, _negated: bool, item: &[u8]) -> Option<bool> {
+    ghost most_turns = { λ source. host_length source.host + length source.text + 2 };
+
+    ghost least_turns = { λ source. 0 };
+
+    fn judge(&self, _negated: bool, item: &[u8]) -> Option<(bool, u128)> {
         if item.is_empty() {
             return None;
         }
         if item.contains(&b'/') {
             let net = parse_net(item).ok()?;
-            return Some(contains(&net, &self.address));
+            return Some((contains(&net, &self.address), 0));
         }
-        Some(
-            is_address(item, self.address)
-                || host_matches(self.host, item)
-                || matches_in(Case::Lower, item, self.text),
-        )
+        if is_address(item, self.address) {
+            return Some((true, 0));
+        }
+        Some(name_matches(self.host, self.text, item))
     }
 }
 
@@ -82,31 +102,34 @@ impl Asked for Address {
 
     ghost is_match = { λ address item. cidr_item address item };
 
-    fn judge(&self, negated: bool, item: &[u8]) -> Option<bool> {
+    ghost most_turns = { λ address. 0 };
+
+    ghost least_turns = { λ address. 0 };
+
+    fn judge(&self, negated: bool, item: &[u8]) -> Option<(bool, u128)> {
         if negated {
             return None;
         }
         if item.contains(&b'/') {
             let net = parse_net(item).ok()?;
-            return Some(contains(&net, self));
+            return Some((contains(&net, self), 0));
         }
         let address = read_address(item)?;
-        Some(address == *self)
+        Some((address == *self, 0))
     }
 }
 
-/// What the list of a `from` option says of a login's source: a host name, where one is known, and
-/// the text of an address (sshd(8), AUTHORIZED_KEYS FILE FORMAT). An item with a slash matches an
-/// address in its net. One without matches the same address, and as a pattern the host name and the
-/// address text, in ASCII lower case. It is `Bad` where an item is empty, or has a slash and is no
-/// net (this project's rule).
-pub fn source_list(list: &[u8], host: Option<&[u8]>, address_text: &[u8]) -> Permit
+/// `source_list`, and the turns of the matching loop over all its items, as `matches_counted` counts
+/// them: none for an item that is a net or the address, and at most
+/// `(list.len() + 1) * (host.len() + address_text.len() + 2)`, where no host counts as an empty one.
+pub fn source_list_counted(list: &[u8], host: Option<&[u8]>, address_text: &[u8]) -> (Permit, u128)
     requires { IsSome (address_of address_text.now) }
     // Some item cannot stand in such a list.
-    ensures bad { (result ≡ Permit.Bad) ↔ Any IsBadSource (items_of list.now) }
+    ensures bad { (result.0 ≡ Permit.Bad) ↔ Any IsBadSource (items_of list.now) }
     // Else no negated item fits the source, and some other does.
-    ensures yes { (result ≡ Permit.Yes) ↔ ((¬ Any IsBadSource (items_of list.now)) × Permits (FitsSource (record { host = option_copied host.entry; text = address_text.now })) list.now) }
-    ensures value { result ≡ source_list list.now (option_copied host.entry) address_text.now }
+    ensures yes { (result.0 ≡ Permit.Yes) ↔ ((¬ Any IsBadSource (items_of list.now)) × Permits (FitsSource (record { host = option_copied host.entry; text = address_text.now })) list.now) }
+    ensures value { result.0 ≡ source_list list.now (option_copied host.entry) address_text.now }
+    ensures most { result.1 ≤ (length list.now + 1) * (host_length (option_copied host.entry) + length address_text.now + 2) }
 {
     match read_address(address_text) {
         Some(address) => permit(
@@ -117,13 +140,32 @@ pub fn source_list(list: &[u8], host: Option<&[u8]>, address_text: &[u8]) -> Per
                 address,
             },
         ),
-        None => Permit::No,
+        None => (Permit::No, 0),
     }
+}
+
+/// What the list of a `from` option says of a login's source: a host name, where one is known, and
+/// the text of an address (sshd(8), AUTHORIZED_KEYS FILE FORMAT). An item with a slash matches an
+/// address in its net. One without matches the same address, and as a pattern the host name and the
+/// address text, in ASCII lower case. It is `Bad` where an item is empty, or has a slash and is no
+/// net (this project's rule). The matching loop takes at most
+/// `(list.len() + 1) * (host.len() + address_text.len() + 2)` turns over all items, as
+/// `source_list_counted` counts them.
+pub fn source_list(list: &[u8], host: Option<&[u8]>, address_text: &[u8]) -> Permit
+    requires { IsSome (address_of address_text.now) }
+    // Some item cannot stand in such a list.
+    ensures bad { (result ≡ Permit.Bad) ↔ Any IsBadSource (items_of list.now) }
+    // Else no negated item fits the source, and some other does.
+    ensures yes { (result ≡ Permit.Yes) ↔ ((¬ Any IsBadSource (items_of list.now)) × Permits (FitsSource (record { host = option_copied host.entry; text = address_text.now })) list.now) }
+    ensures value { result ≡ source_list list.now (option_copied host.entry) address_text.now }
+{
+    source_list_counted(list, host, address_text).0
 }
 
 /// What the list of a certificate's `source-address` says of an address (PROTOCOL.certkeys): whether
 /// it is an item, or lies in the net that an item spells. It is `Bad` where an item is negated, or is
-/// neither a net nor an address (this project's rule).
+/// neither a net nor an address (this project's rule). One pass over the list; nothing is matched as a
+/// pattern.
 pub fn cidr_list(list: &[u8], address: &Address) -> Permit
     // Some item cannot stand in such a list.
     ensures bad { (result ≡ Permit.Bad) ↔ Any IsBadCidr (items_of list.now) }
@@ -131,5 +173,5 @@ pub fn cidr_list(list: &[u8], address: &Address) -> Permit
     ensures yes { (result ≡ Permit.Yes) ↔ ((¬ Any IsBadCidr (items_of list.now)) × Permits (FitsAddress address.now) list.now) }
     ensures value { result ≡ cidr_list list.now address.now }
 {
-    permit(list, address)
+    permit(list, address).0
 }

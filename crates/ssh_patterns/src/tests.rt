@@ -1,12 +1,24 @@
 use crate::{
-    Address, PatternError, Permit, cidr_list, contains, host_list, matches, parse_address,
-    parse_net, source_list,
+    Address, PatternError, Permit, cidr_list, contains, host_list, host_list_counted, matches,
+    matches_counted, parse_address, parse_net, source_list, source_list_counted,
 };
 
 /// `source_list`, once the address text is seen to be one.
 fn from_list(list: &[u8], host: Option<&[u8]>, address_text: &[u8]) -> Option<Permit> {
     match parse_address(address_text) {
         Ok(_) => Some(source_list(list, host, address_text)),
+        Err(_) => None,
+    }
+}
+
+/// `source_list_counted`, once the address text is seen to be one.
+fn from_list_counted(
+    list: &[u8],
+    host: Option<&[u8]>,
+    address_text: &[u8],
+) -> Option<(Permit, u128)> {
+    match parse_address(address_text) {
+        Ok(_) => Some(source_list_counted(list, host, address_text)),
         Err(_) => None,
     }
 }
@@ -18,9 +30,55 @@ fn patterns(rt: HostRuntime) {
         (b"?".as_slice(), b"".as_slice(), false),
         (b"*".as_slice(), b"".as_slice(), true),
         (b"*b*".as_slice(), b"abc".as_slice(), true),
+        (b"*ab".as_slice(), b"aab".as_slice(), true),
+        (b"*a?*ab".as_slice(), b"aabaabab".as_slice(), true),
+        (b"*a?*ab".as_slice(), b"aabaaba".as_slice(), false),
+        (b"a*b*c".as_slice(), b"abcbc".as_slice(), true),
+        (b"a*b*c".as_slice(), b"acbb".as_slice(), false),
+        (b"**".as_slice(), b"".as_slice(), true),
+        (b"*?".as_slice(), b"".as_slice(), false),
     ] {
         assert_eq!(rt; matches(pattern, text), want);
+        assert_eq!(rt; matches_counted(pattern, text).0, want);
     }
+}
+
+#[test]
+fn turns(rt: HostRuntime) {
+    let text = [b'a'; 1_000];
+    let (matched, turns) = matches_counted(b"*a*a*a*b", &text);
+    assert_eq!(rt; matched, false);
+    assert_eq!(rt; turns <= 9_009, true);
+    let (permitted, turns) = host_list_counted(b"*a*a*a*b,a", &text);
+    assert_eq!(rt; permitted, false);
+    assert_eq!(rt; turns <= 11_011, true);
+    let (matched, turns) = matches_counted(b"abc", b"abc");
+    assert_eq!(rt; (matched, turns >= 3), (true, true));
+    let (permitted, turns) = host_list_counted(b"abc", b"abc");
+    assert_eq!(rt; (permitted, turns >= 3), (true, true));
+    match from_list_counted(b"abc", Some(b"abc"), b"::1") {
+        Some((permit, turns)) => assert_eq!(rt; (permit, turns >= 3), (Permit::Yes, true)),
+        None => assert!(rt; false),
+    }
+}
+
+#[test]
+fn many_stars(rt: HostRuntime) {
+    let stars = [b'*'; 65_000];
+    let text = [b'a'; 65_000];
+    assert_eq!(rt; matches(&stars, &text), true);
+    assert_eq!(rt; host_list(&stars, &text), true);
+}
+
+#[test]
+fn long_patterns(rt: HostRuntime) {
+    let mut pattern = [b'a'; 262_144];
+    let text = [b'a'; 262_144];
+    assert_eq!(rt; matches(&pattern, &text), true);
+    pattern[0] = b'*';
+    assert_eq!(rt; matches(&pattern, &text), true);
+    pattern[262_143] = b'b';
+    assert_eq!(rt; matches(&pattern, &text), false);
 }
 
 #[test]
@@ -58,6 +116,10 @@ fn nets(rt: HostRuntime) {
     ] {
         assert_eq!(rt; parse_net(text).err(), Some(want));
     }
+    assert_eq!(rt;
+        parse_net(b"10.0.0.0/8").map(|net| (net.base(), net.prefix())),
+        Ok((Address::V4(0x0a00_0000), 8))
+    );
     for (text, address, want) in [
         (b"10.0.0.0/8".as_slice(), Address::V4(0x0aff_ffff), true),
         (b"10.0.0.0/8".as_slice(), Address::V4(0x0b00_0000), false),

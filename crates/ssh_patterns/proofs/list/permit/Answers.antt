@@ -1,5 +1,32 @@
-use Rattle.ssh_patterns.proofs.ListLemmas.{verdict-start}
+use Rattle.std.proofs.Common.{◌≡◌, true, false, not, sym, ap, ◌∙◌, length, option_copied, arith, inl, inr}
+use Rattle.std.proofs.lemmas.Grind.{common_steps}
+use Rattle.std.proofs.lemmas.Bool.{or_cases, false≢true}
+use Rattle.ssh_patterns.specs.Lists.{length_left}
+use Rattle.ssh_patterns.proofs.ListLemmas.{verdict-start, more-turns}
+use Rattle.ssh_patterns.proofs.list.permit.Goals.{then-not-negated, else-not-negated}
 use Rattle.ssh_patterns.proofs.list.permit.Goals as goal
 
 pub loop-rest-init : goal.loop-rest-init
-loop-rest-init g c = verdict-start (g.A.Asked.is_bad c.args.asked.now) (g.A.Asked.is_match c.args.asked.now) c.args.list.now
+loop-rest-init g c = (
+  verdict-start (g.A.Asked.is_bad c.args.asked.now) (g.A.Asked.is_match c.args.asked.now) c.args.list.now,
+  omega arith,
+  λ h. cc,
+)
+
+pub loop-rest-preserved : goal.loop-rest-preserved
+loop-rest-preserved g c =
+    let before = c.loop-rest.invariant in
+    let turns = rw c.in-Some.is at before.1 in
+    let least = c.in-Some-judge.ensures.least in (
+      grind (arith, common_steps),
+      more-turns c.loop-rest.turns c.in-Some-judge.taken (length c.item_of-negated.result.1.now) (length c.first_piece.result.0.now)
+          (length_left (option_copied c.first_piece.result.1)) (length c.in-Some.pieces.now) _ _ turns
+          c.in-Some-judge.ensures.most c.item_of-negated.ensures.length c.first_piece.ensures.lengths,
+      λ h. elim (or_cases c.loop-rest.matched c.if-not-negated.matched h) [
+        | inl earlier ↦ let e = before.2 earlier in omega (arith, e)
+        | inr here ↦ elim c.if-not-negated.branch [
+          | then-not-negated w ↦ let e = least (sym w.matched-is ∙ here) in omega (arith, e)
+          | else-not-negated w ↦ let no : false ≡ true = ap not (sym w.if-not-negated.false) ∙ sym w.matched-is ∙ here in absurd (false≢true no)
+        ]
+      ],
+    )

@@ -2,11 +2,11 @@ use Rattle.std.proofs.Common.{◌∙◌, ap}
 use Rattle.ssh_patterns.specs.Lists.{is_yes, is_match_in_lower_case, MatchesInLowerCase}
 use Rattle.ssh_patterns.proofs.ListLemmas.{yes-permits}
 use Rattle.ssh_patterns.proofs.PermitLaw.{permits-tells, lower-tells}
-use Rattle.ssh_patterns.proofs.hosts.host_list.Goals as goal
+use Rattle.ssh_patterns.proofs.hosts.host_list_counted.Goals as goal
 
 pub returns-clause-value : goal.returns-clause-value
 returns-clause-value c =
-    c.is_yes.ensures ∙ ap is_yes c.permit.ensures ∙ yes-permits (is_match_in_lower_case c.args.name.now) c.args.list.now
+    c.is_yes.ensures ∙ ap is_yes c.permit-permit.ensures.value ∙ yes-permits (is_match_in_lower_case c.args.name.now) c.args.list.now
 
 pub returns-clause-rule : goal.returns-clause-rule
 returns-clause-rule c =
