@@ -142,7 +142,7 @@ after_step : {A B E P : Type 0} (r : Result A E) (f : A → Result B E) (y : B) 
 after_step (Ok x) f y e go = go x refl e
 after_step (Err d) f y e go = absurd cc
 
--- the bytes behind a text, spelled further
+-- the bytes after a text, spelled further
 joins : (x : List ℕ) {a b c : List ℕ} → a ≡ x ++ b → b ≡ c → a ≡ x ++ c
 joins x e g = e ∙ ap (λ (t : List ℕ). x ++ t) g
 

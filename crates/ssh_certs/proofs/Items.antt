@@ -173,7 +173,7 @@ module _ {A : Type 0} (spelling : A → List ℕ) (Fits : A → Type 0) (item : 
     pub first : items_of item text ≡ x ∷ items_of item behind
     pub read : IsOk (items_in item behind)
 
-  -- the first item, and the text behind it
+  -- the first item, and the text after it
   pub next_left : (text : List ℕ) (at : Position) (x : A) (after : Position) → at ≡ start text → IsBytes text → IsOk (items_in item text) → item at ≡ Ok (x, after) → Next text x after.rest
   next_left text at x after begin fits read found =
       let first : item (start text) ≡ Ok (x, after) = sym (ap item begin) ∙ found in
@@ -228,7 +228,7 @@ module _ {A : Type 0} (spelling : A → List ℕ) (Fits : A → Type 0) (item : 
         fits = t.0.rest_fits;
       }
 
-  -- fewer bytes are left behind an item
+  -- fewer bytes are left after an item
   pub shorter : (text : List ℕ) (at : Position) (x : A) (after : Position) → item at ≡ Ok (x, after) → GoesOn item text at → length after.rest < length at.rest
   shorter text at x after read on =
       let t = is.takes at x after on.fits read in

@@ -20,7 +20,7 @@ pub as_fault_ok : {A E F : Type 0} (f : E → F) (r : Result A E) (y : A) → as
 as_fault_ok {A} {E} {F} f (Ok x) y e = ap (λ (z : A). fine z) (ok_is {E = F} x y e)
 as_fault_ok f (Err d) y e = absurd cc
 
--- a string lies behind its four bytes of length
+-- a string lies after its four bytes of length
 pub string_after : (at : Position) (text : List ℕ) (after : Position) → string_at at ≡ Ok (text, after) → after.place ≡ at.place + 4 + length text
 unfolding string_at
 string_after at text after e =

@@ -6,7 +6,7 @@ use Rattle.ssh_certs.specs.Writing.{Keeps}
 pub keeps_same : (old new : List ℕ) → new ≡ old → Keeps old new
 keeps_same old new e = ap (λ (t : List ℕ). take (length old) t) (e ∙ sym (append-nil old)) ∙ take_at old [] (length old) refl
 
--- what is kept behind more is kept
+-- what is kept after more is kept
 pub keeps_more : (old more middle new : List ℕ) → middle ≡ old ++ more → Keeps middle new → Keeps old new
 keeps_more old more middle new e keeps =
     let long : length old ≤ length middle = omega (arith, ap length e, length-append old more) in

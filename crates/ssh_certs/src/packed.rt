@@ -79,7 +79,7 @@ impl<'a> Iterator for CertOptions<'a> {
     }
 }
 
-/// The first name, and what is packed behind it.
+/// The first name, and what is packed after it.
 fn split_name(packed: &[u8]) -> Option<(&[u8], &[u8])>
     requires { IsOk (items_in string_at packed.now) }
     ensures first { MatchOption result (names_of packed.now ≡ []) (λ x. names_of packed.now ≡ x.0.now ∷ names_of x.1.now) }
@@ -92,7 +92,7 @@ fn split_name(packed: &[u8]) -> Option<(&[u8], &[u8])>
     }
 }
 
-/// The first option, and what is packed behind it.
+/// The first option, and what is packed after it.
 fn split_option(packed: &[u8]) -> Option<((&[u8], &[u8]), &[u8])>
     requires { IsOk (items_in option_at packed.now) }
     ensures first { MatchOption result (options_of packed.now ≡ []) (λ x. options_of packed.now ≡ option_of x.0 ∷ options_of x.1.now) }

@@ -58,7 +58,7 @@ counted_above n rest b above j l is size below high low =
     let over : above * 2 ^ j ≤ above * b = mul-le-mul_left above high in
     counted n (l * 8 + j) (l * 8 + suc j) (omega arith) (omega arith) (omega arith)
 
--- behind a leading 00 the sign bit is set
+-- after a leading 00 the sign bit is set
 behind_zero : (c : ℕ) (rest : List ℕ) → is_least (0 ∷ c ∷ rest) ≡ true → 128 ≤ c
 behind_zero c rest least = elim (cases_lt c 128) [
   | inl lt ↦ absurd (let small : nat_lt c 128 ≡ true = lt-ltb c 128 lt in let none : false ≡ true = sym (rw small refl) ∙ least in cc)
@@ -85,7 +85,7 @@ zero_first (c ∷ rest) fits least =
     subst (λ (k : ℕ). IsBitCount (natural (0 ∷ c ∷ rest)) k) count
     (counted_above (natural (0 ∷ c ∷ rest)) (natural rest) c (256 ^ length rest) 7 (length rest) same (bytes-bits (length rest)) (natural_below rest (λ i. fits (suc (suc i)))) high byte)
 
--- the bits of a first byte, and eight for each byte behind it
+-- the bits of a first byte, and eight for each byte after it
 pub bits_of_bytes : (bytes : List ℕ) → 1 ≤ length bytes → IsBytes bytes → is_least bytes ≡ true
     → IsBitCount (natural bytes) (length (take (length bytes - 1) (drop 1 bytes)) * 8 + (8 - count_leading_zeros 8 (get_or bytes 0 0)))
 bits_of_bytes [] len fits least = absurd (omega arith)

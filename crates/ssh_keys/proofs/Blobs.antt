@@ -34,7 +34,7 @@ joined-is (ed25519 a) = sym (append-nil (string a))
 joined-is (sk_p256 q s) = ap (λ (t : List ℕ). string (codes "nistp256") ++ (string q ++ t)) (sym (append-nil (string s)))
 joined-is (sk_ed25519 a s) = ap (λ (t : List ℕ). string a ++ t) (sym (append-nil (string s)))
 
--- what was written behind the old bytes is the blob of the key
+-- what was written after the old bytes is the blob of the key
 pub wrote : {E : Type 0} (r : Result (Unit {0}) E) (new old text : List ℕ) (view key : PublicKey) (name : List ℕ)
     → view ≡ key → name ≡ name_of (kind_of key) → text ≡ string name ++ joined view
     → OnOk r (new ≡ old ++ text) → OnOk r (new ≡ old ++ key_blob key)

@@ -438,7 +438,7 @@ begins_none bytes e refused where_is =
     (stops_renamed named_row NamedFits row_of IsSpelled (λ x. x.1) unnamed bytes 0
     (stops_first (λ kind. string (name_of kind)) Any (λ p. blind (kind_at p)) (λ _. fields_of) OfKind kind_back (Ed25519, ed25519 (replicate 32 0)) (tt, some_key) (start bytes) (record { place = 0; cause = Value }) (ap blind refused)))
 
--- bytes behind the last field
+-- bytes after the last field
 goes_on : (bytes : List ℕ) (e : KeyError) (kind : KeyKind) (key : PublicKey) (rest : List ℕ) (place : ℕ) → OfKind kind key → bytes ≡ string (name_of kind) ++ (concat (fields_of key) ++ rest)
     → place ≡ length (string (name_of kind)) + length (concat (fields_of key)) → of_wire (end_at (record { place = place; rest = rest })) ≡ Err e → IsFirstFault bytes e
 goes_on bytes e kind key [] place is parts far h = absurd cc

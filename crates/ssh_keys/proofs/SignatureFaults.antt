@@ -136,7 +136,7 @@ stopped : (bytes : List ℕ) (e : WireError) (place : ℕ) → e ≡ record { pl
 stopped bytes e place is s =
     subst (λ (x : WireError). IsSignatureFault bytes x) (sym is) (stops_renamed parts_row PartsFit signature_row IsSpelledSignature made signatures bytes place s)
 
--- bytes behind the last field
+-- bytes after the last field
 goes_on : (bytes : List ℕ) (e : WireError) (algorithm text : List ℕ) (sk : Option (ℕ × ℕ)) (middle rest : List ℕ) (place : ℕ) → Text algorithm → Text text → SkFits (is_sk_algorithm algorithm) sk
     → bytes ≡ string algorithm ++ middle → middle ≡ string text ++ (concat (sk_row sk) ++ rest)
     → place ≡ length (string algorithm) + (length (string text) + length (concat (sk_row sk))) → end_at (record { place = place; rest = rest }) ≡ Err e → IsSignatureFault bytes e

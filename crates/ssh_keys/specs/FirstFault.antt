@@ -7,7 +7,7 @@ use Rattle.ssh_keys.specs.declared.error.KeyError.{KeyError}
 use Rattle.ssh_keys.specs.declared.error.KeyError.TheVariants.{Wire, UnknownType, RetiredType, IsCertificate, Curve, Point, Length, TooLong}
 use Rattle.ssh_keys.specs.PublicKey.{PublicKey, fields_of, row_of, is_in_range, longest}
 
--- each field has fewer than 2^32 bytes behind its length
+-- each field has fewer than 2^32 bytes after its length
 abbrev pub AreShort : List (List ℕ) → Type 0
 AreShort [] = Unit {0}
 AreShort (field ∷ fields) = (length field < 2 ^ 32 + 4) × AreShort fields
@@ -17,7 +17,7 @@ pub record IsSpelled (key : PublicKey) : Type 0 where
   pub in_range : IsTrue (is_in_range key)
   pub short : AreShort (fields_of key)
 
--- bytes are left behind all fields of a key, or else a field stands in no key behind those that stand
+-- bytes are left after all fields of a key, or else a field stands in no key after those that stand
 abbrev pub IsWireFault : List ℕ → ℕ → WireCause → Type 0
 IsWireFault bytes place Trailing = GoesOnAt row_of IsSpelled bytes place
 IsWireFault bytes place Short = StopsAt row_of IsSpelled bytes place

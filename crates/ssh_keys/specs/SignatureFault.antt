@@ -14,8 +14,8 @@ pub record IsSpelledSignature (s : Signature) : Type 0 where
   pub ranges : IsTrue (is_sk_in_range s.sk)
   pub short : AreShort (signature_row s)
 
--- The bytes pass the limit; or bytes are left behind all fields of a signature; or a field stands in no
--- signature behind those that stand.
+-- The bytes pass the limit; or bytes are left after all fields of a signature; or a field stands in no
+-- signature after those that stand.
 abbrev pub IsFaultBy : List ℕ → ℕ → WireCause → Type 0
 IsFaultBy bytes place Value = (longest < length bytes) × (place ≡ 0)
 IsFaultBy bytes place Trailing = GoesOnAt signature_row IsSpelledSignature bytes place
