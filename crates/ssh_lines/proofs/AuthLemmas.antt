@@ -9,16 +9,16 @@ use Rattle.ssh_keys.specs.declared.kind.KeyKind.TheVariants.{Rsa, P256, P384, P5
 use Rattle.ssh_keys.specs.Names.{name_of, certificate_name_of, plain_kind, certificate_kind, class_by, class_of}
 use Rattle.ssh_keys.specs.PublicKey.{PublicKey, kind_of, key_blob}
 use Rattle.ssh_keys.specs.KeyReading.{key_in}
-use Rattle.ssh_lines.specs.declared.option.AuthOption.{AuthOption}
+use Rattle.ssh_options.specs.declared.option.AuthOption.{AuthOption}
 use Rattle.ssh_lines.specs.declared.entry.AuthEntry.{AuthEntry}
 use Rattle.ssh_lines.specs.declared.entry.AuthLine.TheVariants.{Entry}
-use Rattle.ssh_lines.specs.Text.{line_limit, is_blank, skip_blanks, first_word, without_cr, AreBlanks, begins_with_blank, IsComment, SpellsTail}
-use Rattle.ssh_lines.specs.OptionNames.{row_named}
-use Rattle.ssh_lines.specs.OptionText.{name_part, is_name_byte, option_text_of, SpellsItems, AreAllowed}
+use Rattle.ssh_text.specs.Text.{line_limit, is_blank, skip_blanks, first_word, without_cr, AreBlanks, begins_with_blank, IsComment, SpellsTail}
+use Rattle.ssh_options.specs.OptionNames.{row_named}
+use Rattle.ssh_options.specs.OptionText.{name_part, is_name_byte, option_text_of, SpellsItems, AreAllowed}
 use Rattle.ssh_lines.specs.AuthGrammar.{SpellsEntry, SpellsOptions, auth_line, line_of_body, entry_of, entry_of_key}
-use Rattle.ssh_lines.proofs.TextLemmas.{ends_word, gap-test, skip_blanks-behind, skip_blanks-at_word, comment_of-cr, comment_of-tail}
+use Rattle.ssh_text.proofs.TextLemmas.{ends_word, gap-test, skip_blanks-behind, skip_blanks-at_word, comment_of-cr, comment_of-tail}
 use Rattle.ssh_lines.proofs.KeyLemmas.{base64-no_cr, base64-some, spelling-some, name-no_blank, first_field-at, key_part-at, without_cr-at}
-use Rattle.ssh_lines.proofs.OptionLemmas.{is_option_name, stops_name, AreNameBytes, BeginsWithName, begins-items, other_byte, plain-from_name_byte, name_part-at, text_of-items, options_of-spelled, quotable}
+use Rattle.ssh_options.proofs.OptionLemmas.{is_option_name, stops_name, AreNameBytes, BeginsWithName, begins-items, other_byte, plain-from_name_byte, name_part-at, text_of-items, options_of-spelled, quotable}
 use Rattle.ssh_keys.specs.KeyLaws.{key_again}
 use Rattle.ssh_lines.proofs.KeyNames.{class-of_name, plain_kind-named, certificate_kind-named}
 use Rattle.ssh_lines.specs.KeyPart.{base64, is_type, begins_with_type, key_part_of}
@@ -143,7 +143,7 @@ tail-ends comment tail (inr (gap, after, g, a, e)) =
     gap_ends [] rest s g = absurd (s refl)
     gap_ends (c ∷ gap) rest s g = g.0
 
--- what a text with the key behind the options says
+-- what a text with the key after the options says
 pub record KeyText (entry : AuthEntry) (text : List ℕ) : Type 0 where
   pub gap : List ℕ
   pub rest : List ℕ
@@ -197,7 +197,7 @@ key_text-at entry gap tail e g b k c t = record {
       ∙ ap (λ s. Ok (record { key = entry.key; comment = s })) (comment_of-cr tail ∙ comment_of-tail entry.comment tail c t);
 }
 
--- a line without the CR at its end: the CR stands behind the base64 field
+-- a line without the CR at its end: the CR stands after the base64 field
 pub line-without_cr : (key : PublicKey) (front gap tail : List ℕ) → key_in (key_blob key) ≡ Ok key
     → without_cr (front ++ (name_of (kind_of key) ++ gap ++ base64 (key_blob key) ++ tail))
     ≡ front ++ (name_of (kind_of key) ++ gap ++ (base64 (key_blob key) ++ without_cr tail))

@@ -13,8 +13,8 @@ use Rattle.ssh_keys.specs.PublicKey.{PublicKey, kind_of, key_blob}
 use Rattle.ssh_keys.specs.KeyReading.{key_in, blob_at}
 use Rattle.ssh_wire.specs.Reading.{string_at}
 use Rattle.ssh_lines.proofs.KeyNames.{class-of_name}
-use Rattle.ssh_lines.specs.Text.{is_blank, HasNoBlank, AreBlanks, begins_with_blank, first_word, next_field, skip_blanks, comment_of, without_cr}
-use Rattle.ssh_lines.proofs.TextLemmas.{ends_word, skip_blanks-behind, skip_blanks-at_word, first_word-at, after_word-at, without_cr-behind}
+use Rattle.ssh_text.specs.Text.{is_blank, HasNoBlank, AreBlanks, begins_with_blank, first_word, next_field, skip_blanks, comment_of, without_cr}
+use Rattle.ssh_text.proofs.TextLemmas.{ends_word, skip_blanks-behind, skip_blanks-at_word, first_word-at, after_word-at, without_cr-behind}
 use Rattle.ssh_lines.specs.KeyPart.{base64, key_part_of, key_by_class, is_empty}
 
 -- ---- base64 has no blanks
@@ -110,7 +110,7 @@ pub ends-gap : (gap rest : List ℕ) → bytes_eq gap [] ≡ false → AreBlanks
 ends-gap [] rest e h = cc
 ends-gap (c ∷ gap) rest e h = h.0
 
--- the field behind a word and a gap
+-- the field after a word and a gap
 pub next_field-at : (word gap rest : List ℕ) → HasNoBlank word → bytes_eq gap [] ≡ false → AreBlanks gap
     → begins_with_blank rest ≡ false → next_field (word ++ gap ++ rest) ≡ rest
 next_field-at word gap rest w e g b =
@@ -186,7 +186,7 @@ without_cr-none (c ∷ []) h =
     elim (cases_Bool (c == 13)) [ inl e ↦ let f : false ≡ true = rw e at h in cc | inr e ↦ rw e refl ]
 without_cr-none (c ∷ d ∷ cs) h = ap (λ s. c ∷ s) (without_cr-none (d ∷ cs) (and_parts (is_no_cr c) (list_all is_no_cr (d ∷ cs)) h).1)
 
--- a CR at the end of a line stands behind its base64 field
+-- a CR at the end of a line stands after its base64 field
 pub without_cr-at : (front field tail : List ℕ) → is_empty field ≡ false → list_all is_no_cr field ≡ true
     → without_cr (front ++ (field ++ tail)) ≡ front ++ (field ++ without_cr tail)
 without_cr-at front [] tail s h = cc

@@ -1,22 +1,23 @@
 -- A line that is read as an entry spells it.
 use Rattle.std.proofs.Common.{◌≡◌, ℕ, ◌≤◌, nat_lt, Bool, true, false, ◌==◌, if◌then◌else◌, List, [], ◌∷◌, ◌++◌, length, drop, bytes_eq, Result, Ok, Err, refl, sym, ap, subst, ◌∙◌, append_assoc}
 use Rattle.std.proofs.lemmas.Bool.{ltb-false}
-use Rattle.ssh_lines.specs.declared.cause.LineCause.{LineCause}
-use Rattle.ssh_lines.specs.declared.cause.LineCause.TheVariants as causes
-use Rattle.ssh_lines.specs.declared.option.AuthOption.{AuthOption}
+use Rattle.ssh_options.specs.declared.cause.LineCause.{LineCause}
+use Rattle.ssh_options.specs.declared.cause.LineCause.TheVariants as causes
+use Rattle.ssh_options.specs.declared.option.AuthOption.{AuthOption}
 use Rattle.ssh_lines.specs.declared.entry.AuthEntry.{AuthEntry}
 use Rattle.ssh_lines.specs.declared.entry.AuthLine.TheVariants.{Comment, Entry, Unreadable}
-use Rattle.ssh_lines.specs.Text.{line_limit, body_of, skip_blanks, without_cr, AreBlanks}
-use Rattle.ssh_lines.specs.OptionText.{SpellsItems, AreAllowed, option_text_of, options_of}
+use Rattle.ssh_text.specs.Text.{line_limit, body_of, skip_blanks, without_cr, AreBlanks}
+use Rattle.ssh_options.specs.OptionText.{SpellsItems, AreAllowed, option_text_of, options_of}
 use Rattle.ssh_lines.specs.declared.key_part.KeyPart.{KeyPart}
 use Rattle.ssh_lines.specs.KeyPart.{SpellsKey, begins_with_type, key_part_of}
 use Rattle.ssh_lines.specs.AuthGrammar.{SpellsEntry, SpellsOptions, auth_line, line_of_body, entry_of, entry_of_key, entry_after_options}
-use Rattle.ssh_lines.proofs.TextLemmas.{ends_word, gap-differs}
-use Rattle.ssh_lines.proofs.ReadText.{skipped, skip_blanks-begins, cr_cut, IsCr, AreBytes, AreBytes-front, AreBytes-back}
+use Rattle.ssh_text.proofs.TextLemmas.{ends_word, gap-differs}
+use Rattle.ssh_text.proofs.ReadText.{skipped, skip_blanks-begins, cr_cut, IsCr}
+use Rattle.ssh_lines.proofs.ByteLemmas.{AreBytes, AreBytes-front, AreBytes-back}
 use Rattle.ssh_lines.proofs.ReadKey.{gap-some, key_part-facts, key_part-spells}
-use Rattle.ssh_lines.proofs.ReadOptions.{ReadOptions, read_options, text_cut}
+use Rattle.ssh_options.proofs.ReadOptions.{ReadOptions, read_options, text_cut}
 
--- a body spells an entry, with a CR behind it or not
+-- a body spells an entry, with a CR after it or not
 abbrev SpellsBody : AuthEntry → List ℕ → Type 0
 SpellsBody entry text =
     (options key : List ℕ) × SpellsOptions entry.options options × SpellsKey entry.key entry.comment key × (text ≡ options ++ key)
@@ -38,7 +39,7 @@ spells-options : (options : List AuthOption) (items gap : List ℕ) → SpellsIt
 spells-options [] items gap h a e g = absurd h
 spells-options (option ∷ options) items gap h a e g = (items, gap, h, record { some = gap-differs gap e; blanks = g }, a, refl)
 
--- the key behind options
+-- the key after options
 behind-options : (options : List AuthOption) (text rest body cr : List ℕ) (entry : AuthEntry)
     → ReadOptions text options → body ≡ text ++ rest → ends_word rest ≡ true → AreBytes body → IsCr cr
     → ReadPart options (skip_blanks rest) entry → SpellsBody entry (body ++ cr)

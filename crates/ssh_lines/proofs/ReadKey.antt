@@ -12,15 +12,16 @@ use Rattle.ssh_keys.specs.declared.error.KeyError.{KeyError}
 use Rattle.ssh_keys.specs.Names.{name_of, class_of}
 use Rattle.ssh_keys.specs.PublicKey.{PublicKey, kind_of, key_blob, IsKeyBlob}
 use Rattle.ssh_keys.specs.KeyReading.{key_in}
-use Rattle.ssh_lines.specs.declared.cause.LineCause.TheVariants as causes
-use Rattle.ssh_lines.specs.Text.{first_word, after_word, next_field, comment_of, begins_with_blank}
+use Rattle.ssh_options.specs.declared.cause.LineCause.TheVariants as causes
+use Rattle.ssh_text.specs.Text.{first_word, after_word, next_field, comment_of, begins_with_blank}
 use Rattle.ssh_lines.specs.declared.key_part.KeyPart.{KeyPart}
 use Rattle.ssh_lines.specs.KeyPart.{base64, is_empty, lacks_key, SpellsKey, key_by_class, key_of_blob, key_of_kind, key_after_fields, key_part_of}
 use Rattle.ssh_keys.specs.KeyLaws.{key_takes}
 use Rattle.ssh_lines.proofs.DecodedBytes.{decoded-bytes}
 use Rattle.ssh_lines.proofs.KeyNames.{plain-name}
-use Rattle.ssh_lines.proofs.TextLemmas.{ends_word, gap-differs}
-use Rattle.ssh_lines.proofs.ReadText.{skipped, skip_blanks-begins, word-cut, after_word-ends, IsCr, spells-tail, comment_of-is, AreBytes, IsBytes-from_all, AreBytes-front, AreBytes-back}
+use Rattle.ssh_text.proofs.TextLemmas.{ends_word, gap-differs}
+use Rattle.ssh_text.proofs.ReadText.{skipped, skip_blanks-begins, word-cut, after_word-ends, IsCr, spells-tail, comment_of-is}
+use Rattle.ssh_lines.proofs.ByteLemmas.{AreBytes, IsBytes-from_all, AreBytes-front, AreBytes-back}
 
 -- what is known where a key part is read
 pub record KeyFacts (word field rest : List ℕ) (part : KeyPart) : Type 0 where
@@ -94,7 +95,7 @@ gap-some [] [] e b w = cc
 gap-some [] (c ∷ cs) e b w = let f : true ≡ false = sym e ∙ b in cc
 gap-some (c ∷ gap) rest e b w = refl
 
--- A text that is read as a key spells it, with a CR behind it or not.
+-- A text that is read as a key spells it, with a CR after it or not.
 pub key_part-spells : (text cr : List ℕ) (part : KeyPart) → AreBytes text → IsCr cr
     → key_part_of text ≡ Ok part → SpellsKey part.key part.comment (text ++ cr)
 key_part-spells text cr part bytes is h =

@@ -11,9 +11,9 @@ use Rattle.ssh_keys.specs.Names.{name_of, class_of}
 use Rattle.ssh_keys.specs.PublicKey.{PublicKey, kind_of, key_blob, IsKey}
 use Rattle.ssh_keys.specs.KeyReading.{key_in}
 use Rattle.ssh_lines.specs.declared.key_part.KeyPart.{KeyPart}
-use Rattle.ssh_lines.specs.declared.cause.LineCause.{LineCause}
-use Rattle.ssh_lines.specs.declared.cause.LineCause.TheVariants as causes
-use Rattle.ssh_lines.specs.Text.{first_word, next_field, after_word, comment_of, IsGap, SpellsTail, IsComment}
+use Rattle.ssh_options.specs.declared.cause.LineCause.{LineCause}
+use Rattle.ssh_options.specs.declared.cause.LineCause.TheVariants as causes
+use Rattle.ssh_text.specs.Text.{first_word, next_field, after_word, comment_of, IsGap, SpellsTail, IsComment}
 
 -- the base64 of bytes, in the standard alphabet with padding (RFC 4648, section 4)
 abbrev pub base64 : List ℕ → List ℕ
@@ -21,7 +21,7 @@ base64 bytes = encode_of standard bytes
 
 -- ---- spelling
 
--- the key's type string, blanks, the base64 of its blob, and the comment behind them
+-- the key's type string, blanks, the base64 of its blob, and the comment after them
 abbrev pub SpellsKey : PublicKey → List ℕ → List ℕ → Type 0
 SpellsKey key comment text =
     (gap tail : List ℕ) × IsGap gap × IsBytes (key_blob key) × IsKey key

@@ -1,6 +1,6 @@
 -- The fields of a line that has no options, as of a public key file (sshd(8)). What is missing is empty.
 use Rattle.std.specs.Prelude.{ℕ, List}
-use Rattle.ssh_lines.specs.Text.{after_word, body_of, comment_of, first_word, next_field}
+use Rattle.ssh_text.specs.Text.{after_word, body_of, comment_of, first_word, next_field}
 
 abbrev pub type_field : List ℕ → List ℕ
 type_field line = first_word (body_of line)

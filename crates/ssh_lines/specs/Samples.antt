@@ -1,5 +1,5 @@
 -- Worked lines, as the definitions read them.
-use Rattle.std.specs.Prelude.{◌≡◌, ℕ, List, [], ◌∷◌, ◌++◌, codes, refl, replicate, true, false}
+use Rattle.std.specs.Prelude.{◌≡◌, ℕ, List, [], ◌∷◌, ◌++◌, codes, refl, replicate}
 use Rattle.base64.proofs.OnLiterals.{base64_on_literals}
 use Rattle.ssh_wire.specs.declared.error.WireCause.TheVariants.{Short}
 use Rattle.ssh_wire.specs.Reading.{string_at}
@@ -7,15 +7,14 @@ use Rattle.ssh_keys.specs.declared.error.KeyError.TheVariants.{Wire}
 use Rattle.ssh_keys.specs.Names.{plain_kind, certificate_kind}
 use Rattle.ssh_keys.specs.PublicKey.{PublicKey, ed25519}
 use Rattle.ssh_keys.specs.KeyReading.{key_in, blob_at, fields_at, public_at}
-use Rattle.ssh_lines.specs.declared.cause.LineCause.TheVariants as causes
-use Rattle.ssh_lines.specs.declared.option.Flag.TheVariants.{Pty}
-use Rattle.ssh_lines.specs.declared.option.ValueName.TheVariants.{Command, ExpiryTime}
-use Rattle.ssh_lines.specs.declared.option.AuthOption.TheVariants.{Switch, Setting}
+use Rattle.ssh_options.specs.declared.cause.LineCause.TheVariants as causes
+use Rattle.ssh_options.specs.declared.option.Flag.TheVariants.{Pty}
+use Rattle.ssh_options.specs.declared.option.ValueName.TheVariants.{Command, ExpiryTime}
+use Rattle.ssh_options.specs.declared.option.AuthOption.TheVariants.{Switch, Setting}
 use Rattle.ssh_lines.specs.declared.entry.AuthLine.TheVariants.{Blank, Comment, Entry, Unreadable}
-use Rattle.ssh_lines.specs.Text.{lines_of, numbered}
-use Rattle.ssh_lines.specs.Expiry.{is_expiry_text}
-use Rattle.ssh_lines.specs.OptionNames.{row_of, row_named}
-use Rattle.ssh_lines.specs.OptionText.{options_of}
+use Rattle.ssh_expiry.specs.Expiry.{is_expiry_text}
+use Rattle.ssh_options.specs.OptionNames.{row_of, row_named}
+use Rattle.ssh_options.specs.OptionText.{options_of}
 use Rattle.ssh_lines.specs.KeyPart.{key_part_of}
 use Rattle.ssh_lines.specs.AuthGrammar.{auth_line}
 
@@ -58,10 +57,13 @@ OptionFaultsRead =
     × (auth_line (codes "expiry-time=\"2024022924\" " ++ zero_line) ≡ Unreadable causes.ExpiryText)
     × (auth_line (codes "expiry-time=\"202402292400Z\" " ++ zero_line) ≡ Unreadable causes.ExpiryText)
     × (auth_line (codes "expiry-time=\"20230229Z\" " ++ zero_line) ≡ Unreadable causes.ExpiryText)
+    × (auth_line (codes "from=\"a\",from=\"b\",expiry-time=\"x\" " ++ zero_line) ≡ Unreadable causes.RepeatedOption)
+    × (auth_line (codes "from=\"a\",expiry-time=\"x\",from=\"b\" " ++ zero_line) ≡ Unreadable causes.ExpiryText)
+    × (auth_line (codes "nosuch") ≡ Unreadable causes.UnknownOption)
 
 pub option_faults_read : OptionFaultsRead
 unfolding auth_line options_of row_of row_named key_part_of is_expiry_text key_in blob_at fields_at public_at string_at plain_kind certificate_kind base64_on_literals
-option_faults_read = (refl, refl, refl, refl, refl, refl, refl, refl, refl, refl, refl, refl, refl)
+option_faults_read = (refl, refl, refl, refl, refl, refl, refl, refl, refl, refl, refl, refl, refl, refl, refl, refl)
 
 -- and in their keys
 abbrev pub KeyFaultsRead : Type 0
@@ -69,42 +71,28 @@ KeyFaultsRead =
     (auth_line (codes "ssh-ed25519") ≡ Unreadable causes.NoKey)
     × (auth_line (codes "pty") ≡ Unreadable causes.NoKey)
     × (auth_line (codes "ssh-dss") ≡ Unreadable causes.NoKey)
+    × (auth_line (codes "pty frob") ≡ Unreadable causes.NoKey)
     × (auth_line (codes "pty frob " ++ zero_text) ≡ Unreadable causes.KeyType)
-    × (auth_line (codes "ssh-dss AAAA") ≡ Unreadable causes.RetiredType)
-    × (auth_line (codes "ssh-ed25519-cert-v01@openssh.com " ++ zero_text) ≡ Unreadable causes.CertificateOnLine)
+    × (auth_line (codes "ssh-dss *") ≡ Unreadable causes.RetiredType)
+    × (auth_line (codes "ssh-ed25519-cert-v01@openssh.com *") ≡ Unreadable causes.CertificateOnLine)
     × (auth_line (zero_line ++ codes "*") ≡ Unreadable causes.Base64)
     × (auth_line (zero_line ++ 13 ∷ 13 ∷ []) ≡ Unreadable causes.Base64)
     × (auth_line (codes "ssh-ed25519 AAAA") ≡ Unreadable (causes.KeyBlob (Wire (record { place = 0; cause = Short }))))
+    × (auth_line (codes "ssh-rsa AAAA") ≡ Unreadable (causes.KeyBlob (Wire (record { place = 0; cause = Short }))))
     × (auth_line (codes "ssh-rsa " ++ zero_text) ≡ Unreadable causes.TypeMismatch)
 
 pub key_faults_read : KeyFaultsRead
 unfolding auth_line options_of row_of row_named key_part_of is_expiry_text key_in blob_at fields_at public_at string_at plain_kind certificate_kind base64_on_literals
-key_faults_read = (refl, refl, refl, refl, refl, refl, refl, refl, refl, refl)
+key_faults_read = (refl, refl, refl, refl, refl, refl, refl, refl, refl, refl, refl, refl)
 
 -- the longest line, and one byte more
 abbrev pub LongLinesRead : Type 0
 LongLinesRead =
     (auth_line (zero_line ++ codes " " ++ replicate 65455 120) ≡ Entry (record { options = []; key = zero_key; comment = replicate 65455 120 }))
     × (auth_line (zero_line ++ codes " " ++ replicate 65456 120) ≡ Unreadable causes.TooLong)
+    × (auth_line (codes "#" ++ replicate 65535 120) ≡ Comment)
+    × (auth_line (codes "#" ++ replicate 65536 120) ≡ Unreadable causes.TooLong)
 
 pub long_lines_read : LongLinesRead
 unfolding auth_line options_of row_of row_named key_part_of is_expiry_text key_in blob_at fields_at public_at string_at plain_kind certificate_kind base64_on_literals
-long_lines_read = (refl, refl)
-
--- which texts are expiry times, and the lines of a file
-abbrev pub TextSamplesRead : Type 0
-TextSamplesRead =
-    (is_expiry_text (codes "20240229") ≡ true)
-    × (is_expiry_text (codes "20240229235959Z") ≡ true)
-    × (is_expiry_text (codes "20240229235960Z") ≡ false)
-    × (is_expiry_text (codes "19000229") ≡ false)
-    × (is_expiry_text (codes "00000229") ≡ true)
-    × (is_expiry_text (codes "20240229z") ≡ false)
-    × (is_expiry_text (codes "20240229ZZ") ≡ false)
-    × (numbered 1 (lines_of (codes "a\n\nb")) ≡ (1, codes "a") ∷ (2, []) ∷ (3, codes "b") ∷ [])
-    × (numbered 1 (lines_of (codes "a\n")) ≡ (1, codes "a") ∷ [])
-    × (numbered 1 (lines_of []) ≡ [])
-
-pub text_samples_read : TextSamplesRead
-unfolding is_expiry_text
-text_samples_read = (refl, refl, refl, refl, refl, refl, refl, refl, refl, refl)
+long_lines_read = (refl, refl, refl, refl)

@@ -2,44 +2,25 @@
 
 ghost use Rattle.std.specs.Prelude.{◌≡◌, List, IfOk};
 ghost use Rattle.ssh_lines.specs.declared.entry.AuthEntry.{AuthEntry};
-ghost use Rattle.ssh_lines.specs.AuthGrammar.{SpellsEntry, auth_line, entry_of, entry_of_key};
-ghost use Rattle.ssh_lines.specs.KeyPart.{key_part_of};
+ghost use Rattle.ssh_lines.specs.AuthGrammar.{SpellsEntry, auth_line, entry_of};
 ghost use Rattle.ssh_lines.specs.Fault.{SaysEntry};
 
-use crate::cause::LineCause;
-use crate::entry::{AuthEntry, AuthLine, Options};
+use crate::entry::{AuthEntry, AuthLine};
 use crate::fault::Fault;
-use crate::key_part::{begins_with_type, read_key_part};
-use crate::option_list::read_options;
-use crate::option_text::split_option_text;
-use crate::text::{skip_blanks, without_last};
+use crate::line_view::view_entry;
+use base64::decoded_len_estimate;
+use ssh_options::LineCause;
+use ssh_text::{LINE_LIMIT, skip_blanks, without_last};
 use std::alloc::{AllocError, Global};
-
-/// The most bytes that a line may have, without its LF and with its CR.
-pub const LINE_LIMIT: usize = 65_536;
-
-/// The entry of the options, and of the key that a text spells.
-fn entry_with(alloc: Global, options: Options, text: &[u8]) -> Result<AuthEntry, Fault>
-    ensures { SaysEntry result (entry_of_key options (key_part_of text.now)) }
-{
-    let part = read_key_part(alloc, text)?;
-    Ok(AuthEntry {
-        options,
-        key: part.key,
-        comment: part.comment,
-    })
-}
 
 /// The entry of a line that is neither blank nor a comment, without the blanks at its front.
 fn entry_in(alloc: Global, body: &[u8]) -> Result<AuthEntry, Fault>
     ensures { SaysEntry result (entry_of body.now) }
 {
-    if begins_with_type(body) {
-        return entry_with(alloc, Options::new(alloc), body);
-    }
-    let (text, rest) = split_option_text(body);
-    let options = read_options(alloc, text)?;
-    entry_with(alloc, options, skip_blanks(rest))
+    let mut buffer = vec![in alloc; 0u8; decoded_len_estimate(body.len())]?;
+    let view = view_entry(body, buffer.as_mut_slice())?;
+    let entry = view.to_entry(alloc)?;
+    Ok(entry)
 }
 
 #[tactic(auto, unfolding(crate::specs::AuthGrammar::auth_line))]
@@ -62,7 +43,7 @@ fn read_line(alloc: Global, line: &[u8]) -> Result<AuthLine, AllocError>
 }
 
 /// What a line of an authorized_keys file says (sshd(8), AUTHORIZED_KEYS FILE FORMAT). The line is
-/// given without its LF; one CR at its end counts for nothing. `Err` is want of memory, and nothing
+/// given without its LF; one CR at its end counts for nothing. `Err` means out of memory, and nothing
 /// else.
 pub fn read_auth_line(alloc: Global, line: &[u8]) -> Result<AuthLine, AllocError>
     // An entry that is read is one that the line spells.

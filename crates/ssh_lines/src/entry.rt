@@ -1,57 +1,11 @@
 //! What a line of an authorized_keys file says.
 
-ghost use Rattle.std.specs.Prelude.{◌≡◌, [], ◌++◌, ◌∷◌, OnOk, OnErr};
-ghost use Rattle.ssh_lines.specs.Settings.{has_flag, settings};
+ghost use Rattle.std.specs.Prelude.{◌≡◌};
+ghost use Rattle.ssh_options.specs.Settings.{has_flag, settings};
 
-use crate::bytes::Bytes;
-use crate::cause::LineCause;
-use crate::option::{AuthOption, Flag, ValueName};
-use crate::settings::{Settings, has_flag};
 use ssh_keys::Key;
-use std::alloc::{AllocError, Global};
-use std::marker::Model;
-
-/// The options of a line, in their order. Contracts see them as the list.
-#[derive(Debug, Drop)]
-pub struct Options {
-    kept: Vec<AuthOption>,
-}
-
-impl Model for Options {
-    ghost use Rattle.std.specs.Prelude.{List};
-    ghost use Rattle.ssh_lines.specs.declared.option.AuthOption.{AuthOption};
-
-    ghost Value = { List AuthOption };
-
-    ghost view = { λ o. o.kept.items };
-}
-
-impl Options {
-    /// No options.
-    pub(crate) fn new(alloc: Global) -> Options
-        ensures { result ≡ [] }
-    {
-        Options {
-            kept: Vec::new(alloc),
-        }
-    }
-
-    /// Adds an option at the end; where memory is refused, nothing changes.
-    pub(crate) fn push(&mut self, option: AuthOption) -> Result<(), AllocError>
-        ensures ok { OnOk result (self.new ≡ self.old ++ option ∷ []) }
-        ensures err { OnErr result (self.new ≡ self.old) }
-    {
-        self.kept.push(option)?;
-        Ok(())
-    }
-
-    /// The options.
-    pub fn as_slice(&self) -> &[AuthOption]
-        ensures { result.now ≡ self.now }
-    {
-        &self.kept
-    }
-}
+use ssh_options::{Flag, LineCause, Options, Settings, ValueName};
+use ssh_text::Bytes;
 
 /// A key that may log in, with what its line says of it.
 #[derive(Debug, Drop)]
@@ -66,14 +20,14 @@ impl AuthEntry {
     pub fn has_flag(&self, flag: Flag) -> bool
         ensures { result ≡ has_flag flag self.now.options }
     {
-        has_flag(flag, self.options.as_slice())
+        self.options.has_flag(flag)
     }
 
     /// The values of the option with this name, in their order.
     pub fn settings(&self, name: ValueName) -> Settings<'_>
         ensures { result ≡ settings name self.now.options }
     {
-        Settings::new(name, self.options.as_slice())
+        self.options.settings(name)
     }
 
     /// The texts of the expiry times, in their order.

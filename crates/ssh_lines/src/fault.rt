@@ -3,10 +3,10 @@
 ghost use Rattle.std.specs.Prelude.{◌≡◌};
 ghost use Rattle.ssh_lines.specs.declared.fault.Fault.TheVariants.{Memory, Cause};
 
-use crate::cause::LineCause;
+use ssh_options::LineCause;
 use std::alloc::AllocError;
 
-/// The line's first fault, or want of memory.
+/// The line's first fault, or out of memory.
 #[derive(Drop)]
 pub(crate) enum Fault {
     Memory,

@@ -2,9 +2,9 @@
 
 ghost use Rattle.std.specs.Prelude.{◌≡◌};
 ghost use Rattle.ssh_lines.specs.KeyText.{base64_field, comment_field, type_field};
-ghost use Rattle.ssh_lines.specs.Text.{after_word, first_word, next_field};
+ghost use Rattle.ssh_text.specs.Text.{after_word, first_word, next_field};
 
-use crate::text::{comment_in, skip_blanks, split_word, without_last};
+use ssh_text::{comment_in, skip_blanks, split_word, without_last};
 
 /// The fields of a line that has no options, as slices of it; what is missing is empty.
 #[derive(Clone, Copy, Debug, PartialEq, Eq)]
@@ -20,8 +20,8 @@ pub(crate) fn split_fields(text: &[u8]) -> (&[u8], &[u8], &[u8])
     ensures base64 { result.1.now ≡ first_word (next_field text.now) }
     ensures rest { result.2.now ≡ after_word (next_field text.now) }
 {
-    let (type_name, behind) = split_word(text);
-    let (base64, rest) = split_word(skip_blanks(behind));
+    let (type_name, after) = split_word(text);
+    let (base64, rest) = split_word(skip_blanks(after));
     (type_name, base64, rest)
 }
 

@@ -4,14 +4,7 @@ ghost use Rattle.std.specs.Prelude.{◌≡◌, ◌<◌, ℕ, List};
 ghost use Rattle.std.specs.List.{AllByRecursion};
 ghost use Rattle.ssh_lines.specs.declared.entry.AuthEntry.{AuthEntry};
 ghost use Rattle.ssh_lines.specs.declared.entry.AuthLine.TheVariants.{Entry};
-ghost use Rattle.ssh_lines.specs.Text.{lines_of, AreLines};
 ghost use Rattle.ssh_lines.specs.AuthGrammar.{SpellsEntry, auth_line};
-
-/// The lines of a file are those between its LFs, and no others.
-pub fn lines_rule()
-    ensures are { (file : List ℕ) → AreLines (lines_of file) file }
-    ensures only { (lines : List (List ℕ)) (file : List ℕ) → AreLines lines file → lines ≡ lines_of file }
-{}
 
 /// A line spells at most one entry, and says an entry exactly if it spells that entry.
 pub fn entry_rule()

@@ -1,34 +1,33 @@
-//! The lines of authorized_keys files, and the expiry times that they name.
+//! The lines of authorized_keys files.
 #![tactic(auto)]
 
 mod auth_line;
-mod bytes;
-mod cause;
+mod auth_view;
+mod blob;
 mod entry;
-mod expiry_text;
 mod fault;
-mod file;
+mod key_buffer;
 mod key_line;
 mod key_part;
+mod key_view;
 mod laws;
-mod moment;
-mod option;
-mod option_list;
-mod option_text;
+mod line_view;
 mod samples;
-mod settings;
 #[cfg(test)]
 mod tests;
-mod text;
 
-pub use auth_line::{LINE_LIMIT, read_auth_line};
-pub use bytes::Bytes;
-pub use cause::LineCause;
-pub use entry::{AuthEntry, AuthLine, Options};
-pub use file::Lines;
+pub use auth_line::read_auth_line;
+pub use auth_view::AuthEntryView;
+pub use entry::{AuthEntry, AuthLine};
+pub use key_buffer::KeyBuffer;
 pub use key_line::{KeyText, key_text};
-pub use laws::{entry_rule, lines_rule};
-pub use moment::{epoch, expiry};
-pub use option::{AuthOption, Flag, ValueName};
-pub use samples::line_samples;
-pub use settings::Settings;
+pub use laws::entry_rule;
+pub use line_view::{AuthLineView, read_auth_view};
+pub use ssh_expiry::{epoch, expiry};
+pub use ssh_options::{
+    AuthOption, Flag, LineCause, OptionView, Options, OptionsView, SettingViews, Settings,
+    ValueBytes, ValueName, ValueView,
+};
+pub use ssh_text::{
+    Bytes, LINE_LIMIT, Line, Lines, Scanner, lines_rule, pieces_rule, scanned_rule,
+};

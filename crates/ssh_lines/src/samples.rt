@@ -1,12 +1,12 @@
-//! Worked examples of the definitions.
+//! Worked examples of the definitions. No call needs these functions: the check proves what they
+//! ensure.
 
-ghost use Rattle.ssh_lines.specs.Samples.{EntrySamplesRead, OptionFaultsRead, KeyFaultsRead, LongLinesRead, TextSamplesRead};
+ghost use Rattle.ssh_lines.specs.Samples.{EntrySamplesRead, OptionFaultsRead, KeyFaultsRead, LongLinesRead};
 
-/// Lines, expiry texts and files, as the definitions read them.
-pub fn line_samples()
+/// Lines, as the definitions read them.
+fn lines_as_read()
     ensures entries { EntrySamplesRead }
     ensures options { OptionFaultsRead }
     ensures keys { KeyFaultsRead }
     ensures long { LongLinesRead }
-    ensures texts { TextSamplesRead }
 {}

@@ -1,9 +1,9 @@
-//! What no clause says: worked lines and moments, and that calls that take memory can succeed.
+//! What no clause says: worked lines, and that calls that take memory can succeed.
 
 use crate::{
-    AuthLine, AuthOption, Flag, LINE_LIMIT, LineCause, Lines, ValueName, expiry, read_auth_line,
+    AuthLine, AuthLineView, AuthOption, Flag, KeyBuffer, LINE_LIMIT, LineCause, OptionView,
+    ValueName, read_auth_line, read_auth_view,
 };
-use jiff::tz::TimeZone;
 use ssh_keys::KeyError;
 use ssh_wire::{WireCause, WireError};
 use std::alloc::{AllocError, Global};
@@ -12,7 +12,7 @@ use std::test::Fail;
 /// The base64 of an Ed25519 key of 32 zero bytes.
 const KEY: &[u8] = b"AAAAC3NzaC1lZDI1NTE5AAAAIAAAAAAAAAAAAAAAAAAAAAAAAAAAAAAAAAAAAAAAAAAA";
 
-/// The key behind its type.
+/// The key after its type.
 const ENTRY: &[u8] =
     b"ssh-ed25519 AAAAC3NzaC1lZDI1NTE5AAAAIAAAAAAAAAAAAAAAAAAAAAAAAAAAAAAAAAAAAAAAAAAA";
 
@@ -96,6 +96,35 @@ fn reads_an_entry(rt: HostRuntime) -> Result<(), Fail> {
 }
 
 #[test]
+fn reads_an_entry_in_its_line(rt: HostRuntime) -> Result<(), Fail> {
+    let mut buffer = KeyBuffer::new(rt.alloc())?;
+    let first = joined(
+        rt.alloc(),
+        b"from=\"*.a\",pty,command=\"a \\\"b\\\"\" ",
+        ENTRY,
+    )?;
+    let first = joined(rt.alloc(), &first, b" x y ")?;
+    assert!(rt; matches!(read_auth_view(b"# x", &mut buffer), AuthLineView::Comment));
+    let AuthLineView::Entry(entry) = read_auth_view(&first, &mut buffer) else {
+        return Err(Fail::new("no entry"));
+    };
+    assert!(rt; entry.has_flag(Flag::Pty) && !entry.has_flag(Flag::Restrict));
+    assert_eq!(rt; entry.comment(), b"x y".as_slice());
+    assert_eq!(rt; entry.blob().len(), 51);
+    assert!(rt; entry.has_blob(entry.blob()) && !entry.has_blob(b"x"));
+    assert!(rt; entry.expiry_texts().next().is_none());
+    assert!(rt; entry.settings(ValueName::Command).next().is_some());
+    assert!(rt;
+        matches!(
+            entry.options().next(),
+            Some(OptionView::Setting(ValueName::From, _))
+        )
+    );
+    assert_eq!(rt; entry.to_entry(rt.alloc())?.options.as_slice().len(), 3);
+    Ok(())
+}
+
+#[test]
 fn reads_up_to_the_limit(rt: HostRuntime) -> Result<(), Fail> {
     let mut line = joined(rt.alloc(), ENTRY, b" me")?;
     line.resize(LINE_LIMIT, b'e')?;
@@ -103,34 +132,4 @@ fn reads_up_to_the_limit(rt: HostRuntime) -> Result<(), Fail> {
     line.push(b'e')?;
     assert_eq!(rt; cause(rt.alloc(), &line)?, Some(LineCause::TooLong));
     Ok(())
-}
-
-#[test]
-fn converts_expiry_times(rt: HostRuntime) -> Result<(), Fail> {
-    let europe = TimeZone::posix("CET-1CEST,M3.5.0,M10.5.0/3")?;
-    let rows: [(&[u8], Option<i64>); 6] = [
-        (b"20240229Z", Some(1_709_164_800)),
-        // a fold
-        (b"202410270230", Some(1_729_989_000)),
-        // a gap
-        (b"202403310230", Some(1_711_848_600)),
-        (b"99991231", Some(253_402_214_400)),
-        (b"20230229Z", None),
-        (b"2024022924", None),
-    ];
-    for (text, want) in rows {
-        assert_eq!(rt; expiry(rt.alloc(), text, &europe)?, want);
-    }
-    Ok(())
-}
-
-#[test]
-fn numbers_lines(rt: HostRuntime) {
-    let mut lines = Lines::new(b"a\n\nb");
-    let wanted: [(u64, &[u8]); 3] = [(1, b"a"), (2, b""), (3, b"b")];
-    for (number, want) in wanted {
-        let found = lines.next();
-        assert!(rt; found.is_some_and(|line| line.0 == number && line.1 == want));
-    }
-    assert!(rt; lines.next().is_none());
 }

@@ -1,0 +1,2 @@
+pub mod ExpiryLemmas
+pub mod MomentLemmas

@@ -1,0 +1,4 @@
+pub mod Expiry
+pub mod CivilFacts
+pub mod Moment
+pub mod Samples

@@ -1,0 +1,24 @@
+//! What no clause says: worked moments, and that a call that may take memory succeeds.
+
+use crate::expiry;
+use jiff::tz::TimeZone;
+use std::test::Fail;
+
+#[test]
+fn converts_expiry_times(rt: HostRuntime) -> Result<(), Fail> {
+    let europe = TimeZone::posix("CET-1CEST,M3.5.0,M10.5.0/3")?;
+    let rows: [(&[u8], Option<i64>); 6] = [
+        (b"20240229Z", Some(1_709_164_800)),
+        // a fold
+        (b"202410270230", Some(1_729_989_000)),
+        // a gap
+        (b"202403310230", Some(1_711_848_600)),
+        (b"99991231", Some(253_402_214_400)),
+        (b"20230229Z", None),
+        (b"2024022924", None),
+    ];
+    for (text, want) in rows {
+        assert_eq!(rt; expiry(rt.alloc(), text, &europe)?, want);
+    }
+    Ok(())
+}

@@ -1,0 +1,12 @@
+use Rattle.std.proofs.Common.{arith, sym, ◌∙◌}
+use Rattle.ssh_lines.proofs.ByteLemmas.{AreBytes-from}
+use Rattle.ssh_lines.proofs.ReadAuth.{auth_line-spells}
+use Rattle.ssh_lines.proofs.AuthLemmas.{auth_line-spelled}
+use Rattle.ssh_lines.proofs.line_view.read_auth_view.Goals as goal
+
+pub returns-clause-found : goal.returns-clause-found
+returns-clause-found c =
+    λ entry is. auth_line-spells c.args.line.now entry (AreBytes-from c.args.line.now (λ i. omega (arith, c.type_inv.line i))) (sym c.view_line.ensures ∙ is)
+
+pub returns-clause-only : goal.returns-clause-only
+returns-clause-only c = λ entry spells. c.view_line.ensures ∙ auth_line-spelled entry c.args.line.now spells

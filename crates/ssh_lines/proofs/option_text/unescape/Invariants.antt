@@ -1,6 +1,0 @@
-use Rattle.std.proofs.Common.{◌≡◌, ◌++◌, drop}
-use Rattle.ssh_lines.specs.OptionText.{unescaped}
-use Rattle.ssh_lines.proofs.option_text.unescape.Given as goal
-
-abbrev pub invariant-loop-i : goal.invariant-loop-i
-invariant-loop-i l = unescaped l.quoted ≡ l.value.items ++ unescaped (drop l.i l.quoted)

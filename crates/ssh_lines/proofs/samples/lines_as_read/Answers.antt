@@ -1,0 +1,10 @@
+use Rattle.ssh_lines.specs.Samples.{entry_samples_read, option_faults_read, key_faults_read, long_lines_read}
+use Rattle.ssh_lines.proofs.samples.lines_as_read.Goals as goal
+
+pub returns : goal.returns
+returns c = record {
+  entries = entry_samples_read;
+  options = option_faults_read;
+  keys = key_faults_read;
+  long = long_lines_read;
+}

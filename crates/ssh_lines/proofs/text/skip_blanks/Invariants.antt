@@ -1,6 +1,0 @@
-use Rattle.std.proofs.Common.{◌≡◌, drop}
-use Rattle.ssh_lines.specs.Text.{skip_blanks}
-use Rattle.ssh_lines.proofs.text.skip_blanks.Given as goal
-
-abbrev pub invariant-loop-i : goal.invariant-loop-i
-invariant-loop-i l = skip_blanks l.text ≡ skip_blanks (drop l.i l.text)

@@ -1,9 +1,0 @@
-use Rattle.std.proofs.Common.{◌≡◌, length}
-use Rattle.ssh_lines.specs.Text.{without_trailing}
-use Rattle.ssh_lines.proofs.text.without_trailing.Given as goal
-
-abbrev pub invariant-loop-kept : goal.invariant-loop-kept
-invariant-loop-kept l = without_trailing l.kept ≡ without_trailing l.text
-
-abbrev pub decreases-loop-kept : goal.decreases-loop-kept
-decreases-loop-kept l = length l.kept

@@ -1,0 +1,129 @@
+//! Key type, base64 key and comment of a line, in place.
+
+ghost use Rattle.std.specs.Prelude.{◌≡◌, ◌≤◌, length, IfOk};
+ghost use Rattle.base64.specs.Decode.{decoded_estimate};
+ghost use Rattle.ssh_wire.specs.Reading.{Gives};
+ghost use Rattle.ssh_keys.specs.KeyOf.{key_of};
+ghost use Rattle.ssh_keys.specs.KeyReading.{key_in};
+ghost use Rattle.ssh_keys.specs.PublicKey.{key_blob};
+ghost use Rattle.ssh_lines.specs.KeyPart.{key_of_kind, key_by_class, key_part_of};
+
+use crate::blob::decode_into;
+use crate::key_line::split_fields;
+use crate::key_part::KeyPart;
+use ssh_keys::{Key, KeyKind, KeyView, NameClass, name_class, read_key};
+use ssh_options::LineCause;
+use ssh_text::{Bytes, comment_in};
+use std::alloc::{AllocError, Global};
+use std::marker::Model;
+
+/// A key in its blob, and the comment after it. Contracts see the key and the comment.
+#[derive(Debug, Drop)]
+pub(crate) struct KeyPartView<'a> {
+    key: KeyView<'a>,
+    blob: &'a [u8],
+    comment: &'a [u8],
+}
+
+impl<'a> Model for KeyPartView<'a> {
+    ghost use Rattle.ssh_keys.specs.KeyOf.{key_of};
+    ghost use Rattle.ssh_keys.specs.PublicKey.{IsKeyBlob};
+    ghost use Rattle.ssh_lines.specs.declared.key_part.KeyPart.{KeyPart};
+
+    ghost Value = { KeyPart };
+
+    ghost view = { λ v. record { key = key_of v.key; comment = v.comment.now } };
+
+    ghost invariant = { λ v. IsKeyBlob (key_of v.key) v.blob.now };
+}
+
+impl<'a> KeyPartView<'a> {
+    /// The key.
+    pub(crate) fn key(&self) -> KeyView<'a>
+        ensures { key_of result ≡ self.now.key }
+    {
+        self.key
+    }
+
+    /// The key's blob.
+    pub(crate) fn blob(&self) -> &'a [u8]
+        ensures { result.now ≡ key_blob self.now.key }
+    {
+        self.blob
+    }
+
+    /// The key with its blob and the comment, copied.
+    pub(crate) fn to_part(&self, alloc: Global) -> Result<KeyPart, AllocError>
+        ensures { IfOk result (λ part. part ≡ self.now) }
+    {
+        let comment = Bytes::new(self.comment.to_vec(alloc)?);
+        match Key::read(self.blob.to_vec(alloc)?) {
+            Ok(key) => Ok(KeyPart { key, comment }),
+            Err(_) => unreachable!(),
+        }
+    }
+
+    /// The comment.
+    pub(crate) fn comment(&self) -> &'a [u8]
+        ensures { result.now ≡ self.now.comment }
+    {
+        self.comment
+    }
+}
+
+/// The key of a blob, whose type field named this kind.
+fn key_in_blob<'a>(
+    kind: KeyKind,
+    blob: &'a [u8],
+    comment: &'a [u8],
+) -> Result<KeyPartView<'a>, LineCause>
+    ensures { Gives (λ p. p) result (key_of_kind kind comment.entry.now (key_in blob.entry.now)) }
+{
+    let key = match read_key(blob) {
+        Ok(key) => key,
+        Err(e) => return Err(LineCause::KeyBlob(e)),
+    };
+    if kind.name() != key.kind().name() {
+        return Err(LineCause::TypeMismatch);
+    }
+    Ok(KeyPartView { key, blob, comment })
+}
+
+/// The key of a base64 field, decoded into the buffer.
+fn key_in_field<'a>(
+    class: NameClass,
+    field: &[u8],
+    rest: &'a [u8],
+    buffer: &'a mut [u8],
+) -> Result<KeyPartView<'a>, LineCause>
+    requires { decoded_estimate (length field.now) ≤ length buffer.old }
+    ensures { Gives (λ p. p) result (key_by_class class field.now rest.entry.now) }
+{
+    let kind = match class {
+        NameClass::Plain(kind) => kind,
+        NameClass::Other => return Err(LineCause::KeyType),
+        NameClass::Retired => return Err(LineCause::RetiredType),
+        NameClass::Certificate(_) => return Err(LineCause::CertificateOnLine),
+    };
+    match decode_into(field, buffer) {
+        Ok(blob) => key_in_blob(kind, blob, comment_in(rest)),
+        Err(_) => Err(LineCause::Base64),
+    }
+}
+
+/// The key and the comment that a text spells, or its first fault. The key is decoded into the
+/// buffer.
+#[tactic(auto, unfolding(crate::specs::KeyPart::key_part_of), using(crate::proofs::LengthLemmas::length_field))]
+pub(crate) fn view_key_part<'a>(
+    text: &'a [u8],
+    buffer: &'a mut [u8],
+) -> Result<KeyPartView<'a>, LineCause>
+    requires { decoded_estimate (length text.now) ≤ length buffer.old }
+    ensures { Gives (λ p. p) result (key_part_of text.entry.now) }
+{
+    let (word, field, rest) = split_fields(text);
+    if word.is_empty() || field.is_empty() {
+        return Err(LineCause::NoKey);
+    }
+    key_in_field(name_class(word), field, rest, buffer)
+}

@@ -1,0 +1,88 @@
+//! Reading a line of an authorized_keys file in place.
+
+ghost use Rattle.std.specs.Prelude.{◌≡◌, ◌≤◌, List, length};
+ghost use Rattle.base64.specs.Decode.{decoded_estimate};
+ghost use Rattle.ssh_wire.specs.Reading.{Gives};
+ghost use Rattle.ssh_lines.specs.declared.entry.AuthEntry.{AuthEntry};
+ghost use Rattle.ssh_lines.specs.declared.entry.AuthLine.{AuthLine};
+ghost use Rattle.ssh_lines.specs.AuthGrammar.{SpellsEntry, auth_line, entry_of, entry_of_key};
+ghost use Rattle.ssh_lines.specs.KeyPart.{key_part_of};
+ghost use Rattle.ssh_lines.specs.LineView.{SaysView, line_seen};
+
+use crate::auth_view::AuthEntryView;
+use crate::key_buffer::KeyBuffer;
+use crate::key_part::begins_with_type;
+use crate::key_view::view_key_part;
+use ssh_options::{LineCause, OptionsView, split_option_text};
+use ssh_text::{LINE_LIMIT, skip_blanks, without_last};
+
+/// What a line of an authorized_keys file says, in the line.
+#[derive(Debug, Drop)]
+pub enum AuthLineView<'a> {
+    Blank,
+    Comment,
+    Entry(AuthEntryView<'a>),
+    Unreadable(LineCause),
+}
+
+/// The entry of the options, and of the key that a text spells.
+fn entry_with<'a>(
+    options: OptionsView<'a>,
+    text: &'a [u8],
+    buffer: &'a mut [u8],
+) -> Result<AuthEntryView<'a>, LineCause>
+    requires { decoded_estimate (length text.now) ≤ length buffer.old }
+    ensures { SaysView result (entry_of_key options.entry (key_part_of text.entry.now)) }
+{
+    let part = view_key_part(text, buffer)?;
+    Ok(AuthEntryView::new(options, part))
+}
+
+/// The entry of a line that is neither blank nor a comment, without the blanks at its front.
+pub(crate) fn view_entry<'a>(
+    body: &'a [u8],
+    buffer: &'a mut [u8],
+) -> Result<AuthEntryView<'a>, LineCause>
+    requires { decoded_estimate (length body.now) ≤ length buffer.old }
+    ensures { SaysView result (entry_of body.entry.now) }
+{
+    if begins_with_type(body) {
+        return entry_with(OptionsView::none(), body, buffer);
+    }
+    let (text, rest) = split_option_text(body);
+    let options = OptionsView::read(text)?;
+    entry_with(options, skip_blanks(rest), buffer)
+}
+
+#[tactic(auto, unfolding(crate::specs::AuthGrammar::auth_line))]
+fn view_line<'a>(line: &'a [u8], buffer: &'a mut [u8]) -> AuthLineView<'a>
+    requires { 49152 ≤ length buffer.old }
+    ensures { line_seen result ≡ auth_line line.entry.now }
+{
+    if line.len() > LINE_LIMIT {
+        return AuthLineView::Unreadable(LineCause::TooLong);
+    }
+    let body = skip_blanks(without_last(b'\r', line));
+    match body {
+        [] => AuthLineView::Blank,
+        [b'#', ..] => AuthLineView::Comment,
+        _ => match view_entry(body, buffer) {
+            Ok(entry) => AuthLineView::Entry(entry),
+            Err(cause) => AuthLineView::Unreadable(cause),
+        },
+    }
+}
+
+/// What a line of an authorized_keys file says (sshd(8), AUTHORIZED_KEYS FILE FORMAT), in the line. The
+/// line is given without its LF; one CR at its end counts for nothing. The key is decoded into the
+/// buffer.
+pub fn read_auth_view<'a>(line: &'a [u8], buffer: &'a mut KeyBuffer) -> AuthLineView<'a>
+    // An entry that is read is one that the line spells.
+    ensures found { (entry : AuthEntry) → line_seen result ≡ AuthLine.Entry entry → SpellsEntry entry line.entry.now }
+    // An entry that the line spells is the one that is read.
+    ensures only { (entry : AuthEntry) → SpellsEntry entry line.entry.now → line_seen result ≡ AuthLine.Entry entry }
+    // Else the line is blank, a comment, or has this first fault.
+    ensures exact { line_seen result ≡ auth_line line.entry.now }
+{
+    view_line(line, buffer.as_mut_slice())
+}

@@ -1,0 +1,54 @@
+-- The rows of the list of options, in memory and in the definitions.
+use Rattle.std.proofs.Common.{◌≡◌, Bool, true, inl, inr, List, [], ◌∷◌, map, Option, Some, None, is_some, option_map, find, refl, sym, ap, ◌∙◌}
+use Rattle.std.proofs.lemmas.Bool.{cases_Bool}
+use Rattle.ssh_options.specs.declared.option.Flag.TheVariants.{AgentForwarding, CertAuthority, NoAgentForwarding, NoPortForwarding, NoPty, NoUserRc, NoX11Forwarding, PortForwarding, Pty, NoTouchRequired, VerifyRequired, Restrict, UserRc, X11Forwarding}
+use Rattle.ssh_options.specs.declared.option.ValueName.TheVariants.{Command, Environment, ExpiryTime, From, PermitListen, PermitOpen, Principals, Tunnel}
+use Rattle.ssh_options.specs.declared.option.OptionName.{OptionName}
+use Rattle.ssh_options.specs.declared.option.OptionName.TheVariants.{Switch, Setting}
+use Rattle.ssh_options.specs.OptionNames.{OptionRow, options, row_of}
+use Rattle.ssh_options.specs.OptionTexts.{TableRow, row_said}
+
+found-said : (test : OptionRow → Bool) (rows : List TableRow)
+    → option_map row_said (find (λ row. test (row_said row)) rows) ≡ find test (map row_said rows)
+found-said test [] = refl
+found-said test (row ∷ rows) =
+    elim (cases_Bool (test (row_said row))) [ inl e ↦ rw e refl | inr e ↦ rw e (found-said test rows) ]
+
+-- what is found among rows that are those of the definitions
+pub row-found : (test : OptionRow → Bool) (rows : List TableRow) (row : Option TableRow) → map row_said rows ≡ options
+    → option_map (λ r. r) row ≡ find (λ r. test (row_said r)) rows → option_map row_said row ≡ find test options
+row-found test rows None said h = ap (option_map row_said) h ∙ found-said test rows ∙ ap (find test) said
+row-found test rows (Some row) said h = ap (option_map row_said) h ∙ found-said test rows ∙ ap (find test) said
+
+-- each option has a row
+has_row : (option : OptionName) → is_some (row_of option) ≡ true
+unfolding row_of
+has_row (Switch AgentForwarding) = refl
+has_row (Switch CertAuthority) = refl
+has_row (Switch NoAgentForwarding) = refl
+has_row (Switch NoPortForwarding) = refl
+has_row (Switch NoPty) = refl
+has_row (Switch NoUserRc) = refl
+has_row (Switch NoX11Forwarding) = refl
+has_row (Switch PortForwarding) = refl
+has_row (Switch Pty) = refl
+has_row (Switch NoTouchRequired) = refl
+has_row (Switch VerifyRequired) = refl
+has_row (Switch Restrict) = refl
+has_row (Switch UserRc) = refl
+has_row (Switch X11Forwarding) = refl
+has_row (Setting Command) = refl
+has_row (Setting Environment) = refl
+has_row (Setting ExpiryTime) = refl
+has_row (Setting From) = refl
+has_row (Setting PermitListen) = refl
+has_row (Setting PermitOpen) = refl
+has_row (Setting Principals) = refl
+has_row (Setting Tunnel) = refl
+
+said-some : (row : Option TableRow) → is_some (option_map row_said row) ≡ is_some row
+said-some None = refl
+said-some (Some row) = refl
+
+pub some_row : (option : OptionName) (row : Option TableRow) → option_map row_said row ≡ row_of option → is_some row ≡ true
+some_row option row h = sym (said-some row) ∙ ap is_some h ∙ has_row option

@@ -1,0 +1,114 @@
+-- Options that are read where they stand are those that their text says.
+use Rattle.std.proofs.Common.{◌≡◌, ℕ, Bool, true, false, cond, List, [], ◌∷◌, ◌++◌, Option, Some, None, Result, Ok, Err, refl, sym, ap, ◌∙◌, append_assoc, append-nil}
+use Rattle.ssh_options.specs.declared.option.AuthOption.{AuthOption}
+use Rattle.ssh_options.specs.declared.cause.LineCause.{LineCause}
+use Rattle.ssh_options.specs.declared.cause.LineCause.TheVariants as causes
+use Rattle.ssh_options.specs.OptionText.{Item, items_of, item_of, each_item, option_of, repeats, has_bad_expiry, and_option, and_item, options_from, options_of}
+use Rattle.ssh_options.specs.OptionTexts.{AreCut, texts_left}
+use Rattle.ssh_options.specs.OptionsInPlace.{fault_in}
+use Rattle.ssh_options.specs.OptionsSaid.{option_at, each_option, or_none, options_in}
+use Rattle.ssh_options.proofs.ItemLemmas.{from_texts, from_texts_all, from_texts-next, from_texts-refused}
+
+-- the options of the items, after those before them
+record AreSaid (before options : List AuthOption) (texts : List (List ℕ)) : Type 0 where
+  rest : List AuthOption
+  each : each_option texts ≡ Some rest
+  whole : options ≡ before ++ rest
+
+same-ok : (a b : List AuthOption) (x y : Result (List AuthOption) LineCause) → x ≡ Ok a → y ≡ Ok b → x ≡ y → a ≡ b
+same-ok a b x y p q h = cc
+
+fault-stays : (cause : LineCause) (items : List Item) → options_from (Err cause) items ≡ Err cause
+fault-stays cause [] = refl
+fault-stays cause (item ∷ items) = fault-stays cause items
+
+fault-texts : (cause : LineCause) (items : Option (List Item)) (texts : List (List ℕ)) (options : List AuthOption)
+    → each_item texts ≡ items → Ok options ≡ from_texts (Err cause) texts → ⊥
+fault-texts cause None texts options e h = let f = rw e at h in cc
+fault-texts cause (Some items) texts options e h = let f = rw (e, fault-stays cause items) at h in cc
+
+joined : (before rest options : List AuthOption) (option : AuthOption) → options ≡ (before ++ option ∷ []) ++ rest → options ≡ before ++ option ∷ rest
+joined before rest options option h = h ∙ append_assoc before (option ∷ []) rest
+
+abbrev Said : List (List ℕ) → Type 0
+Said texts = (before options : List AuthOption) → Ok options ≡ from_texts (Ok before) texts → AreSaid before options texts
+
+said-by : (again bad : Bool) (option : AuthOption) (item : Item) (text : List ℕ) (texts : List (List ℕ)) (before options : List AuthOption)
+    → Said texts → Ok option ≡ option_of item → Some item ≡ item_of text
+    → Ok options ≡ from_texts (cond again (Err causes.RepeatedOption) (cond bad (Err causes.ExpiryText) (Ok (before ++ option ∷ [])))) texts
+    → AreSaid before options (text ∷ texts)
+said-by true bad option item text texts before options more is read h = absurd (fault-texts causes.RepeatedOption (each_item texts) texts options refl h)
+said-by false true option item text texts before options more is read h = absurd (fault-texts causes.ExpiryText (each_item texts) texts options refl h)
+said-by false false option item text texts before options more is read h =
+    let later = more (before ++ option ∷ []) options h in
+    record {
+      rest = option ∷ later.rest;
+      each = rw (← read, ← is, later.each) refl;
+      whole = joined before later.rest options option later.whole;
+    }
+
+said-option : (said : Result AuthOption LineCause) (item : Item) (text : List ℕ) (texts : List (List ℕ)) (before options : List AuthOption)
+    → Said texts → said ≡ option_of item → Some item ≡ item_of text → Ok options ≡ from_texts (and_option before said) texts → AreSaid before options (text ∷ texts)
+said-option (Err cause) item text texts before options more is read h = absurd (fault-texts cause (each_item texts) texts options refl h)
+said-option (Ok option) item text texts before options more is read h =
+    said-by (repeats before option) (has_bad_expiry option) option item text texts before options more is read h
+
+said-item : (item : Option Item) (text : List ℕ) (texts : List (List ℕ)) (before options : List AuthOption)
+    → Said texts → item ≡ item_of text → Ok options ≡ from_texts (Ok before) (text ∷ texts) → AreSaid before options (text ∷ texts)
+said-item None text texts before options more read h =
+    let f = from_texts-refused (Ok options) (Ok before) (text ∷ texts) texts text refl read h in cc
+said-item (Some item) text texts before options more read h =
+    said-option (option_of item) item text texts before options more refl read
+    (from_texts-next (Ok options) (Ok before) (and_item (Ok before) item) (text ∷ texts) texts text item refl read refl h)
+
+said-from : (texts : List (List ℕ)) → Said texts
+said-from [] before options h = record { rest = []; each = refl; whole = same-ok options before (Ok options) (Ok before) refl refl h ∙ sym (append-nil before) }
+said-from (text ∷ texts) before options h = said-item (item_of text) text texts before options (said-from texts) refl h
+
+no-fault : (options : Result (List AuthOption) LineCause) → None ≡ fault_in options → (kept : List AuthOption) × (options ≡ Ok kept)
+no-fault (Ok options) h = (options, refl)
+no-fault (Err cause) h = cc
+
+found : (text : List ℕ) → None ≡ fault_in (options_of text) → (kept : List AuthOption) × (options_of text ≡ Ok kept) × (each_option (items_of false 0 text) ≡ Some kept)
+found text h =
+    let kept = no-fault (options_of text) h in
+    let said = said-from (items_of false 0 text) [] kept.0 (sym kept.1 ∙ from_texts_all text) in
+    (kept.0, kept.1, said.each ∙ ap (λ o. Some o) (sym said.whole))
+
+-- a text without a fault says the options of its items
+pub said_options : (text : List ℕ) → None ≡ fault_in (options_of text) → options_of text ≡ Ok (options_in (items_of false 0 text))
+said_options text h = let f = found text h in f.1 ∙ ap (λ o. Ok (or_none o)) (sym f.2)
+
+pub said_each : (text : List ℕ) → None ≡ fault_in (options_of text) → each_option (items_of false 0 text) ≡ Some (options_in (items_of false 0 text))
+said_each text h = let f = found text h in f.2 ∙ ap (λ o. Some (or_none o)) (sym f.2)
+
+-- ---- one option after the other
+
+cut-left : (text first : List ℕ) (rest : Option (List ℕ)) → AreCut text first rest → items_of false 0 text ≡ first ∷ texts_left rest
+cut-left text first None h = h
+cut-left text first (Some rest) h = h
+
+each-next : (first : List ℕ) (option : AuthOption) (more : Option (List AuthOption)) (texts : List (List ℕ)) → Some option ≡ option_at first → each_option texts ≡ more
+    → each_option (first ∷ texts) ≡ Some (options_in (first ∷ texts))
+    → (each_option texts ≡ Some (options_in texts)) × (options_in (first ∷ texts) ≡ option ∷ options_in texts)
+each-next first option None texts is e h = let f = rw (← is, e) at h in cc
+each-next first option (Some options) texts is e h = (rw e refl, rw (← is, e) refl)
+
+each-none : (first : List ℕ) (texts : List (List ℕ)) (whole : List AuthOption) → None ≡ option_at first → each_option (first ∷ texts) ≡ Some whole → ⊥
+each-none first texts whole is h = let f = rw (← is) at h in cc
+
+-- what is left after the first option
+pub next_left : (text first : List ℕ) (rest : Option (List ℕ)) (option : AuthOption) → AreCut text first rest → Some option ≡ option_at first
+    → each_option (items_of false 0 text) ≡ Some (options_in (items_of false 0 text)) → each_option (texts_left rest) ≡ Some (options_in (texts_left rest))
+next_left text first rest option cut is h =
+    (each-next first option (each_option (texts_left rest)) (texts_left rest) is refl (rw (cut-left text first rest cut) at h)).0
+
+pub next_first : (text first : List ℕ) (rest : Option (List ℕ)) (option : AuthOption) → AreCut text first rest → Some option ≡ option_at first
+    → each_option (items_of false 0 text) ≡ Some (options_in (items_of false 0 text)) → options_in (items_of false 0 text) ≡ option ∷ options_in (texts_left rest)
+next_first text first rest option cut is h =
+    rw (cut-left text first rest cut)
+    (each-next first option (each_option (texts_left rest)) (texts_left rest) is refl (rw (cut-left text first rest cut) at h)).1
+
+pub next_there : (text first : List ℕ) (rest : Option (List ℕ)) → AreCut text first rest → None ≡ option_at first
+    → each_option (items_of false 0 text) ≡ Some (options_in (items_of false 0 text)) → ⊥
+next_there text first rest cut is h = each-none first (texts_left rest) (options_in (items_of false 0 text)) is (sym (ap each_option (cut-left text first rest cut)) ∙ h)

@@ -1,0 +1,128 @@
+-- The first fault of options, found with only what may not stand again in mind.
+use Rattle.std.proofs.Common.{◌≡◌, ℕ, Bool, true, false, ◌||◌, cond, List, [], ◌∷◌, ◌++◌, Option, Some, None, Result, Ok, Err, refl, sym, ap, ◌∙◌}
+use Rattle.std.specs.Prelude.{option_map, option_and_then}
+use Rattle.ssh_options.specs.declared.option.ValueName.{ValueName}
+use Rattle.ssh_options.specs.declared.option.ValueName.TheVariants.{Command, Environment, ExpiryTime, From, PermitListen, PermitOpen, Principals, Tunnel}
+use Rattle.ssh_options.specs.declared.option.AuthOption.{AuthOption}
+use Rattle.ssh_options.specs.declared.option.AuthOption.TheVariants.{Switch, Setting}
+use Rattle.ssh_options.specs.declared.option_check.Seen.{Seen}
+use Rattle.ssh_options.specs.declared.cause.LineCause.{LineCause}
+use Rattle.ssh_options.specs.declared.cause.LineCause.TheVariants as causes
+use Rattle.ssh_options.specs.OptionNames.{same_value_name, row_of}
+use Rattle.ssh_options.specs.OptionText.{Item, items_of, item_of, each_item, has_setting, repeats, has_bad_expiry, option_of, and_option, and_item, options_from, options_of_items, options_of}
+use Rattle.ssh_options.specs.OptionsInPlace.{seen_of, none_seen, stood, with_name, and_said_seen, and_item_seen, fault_in}
+
+-- ---- what has stood
+
+or-behind : (a b : Bool) (c : Bool) → (a || (b || c)) ≡ ((a || b) || c)
+or-behind true b c = refl
+or-behind false b c = refl
+
+or-false : (a : Bool) → (a || false) ≡ a
+or-false true = refl
+or-false false = refl
+
+setting-behind : (name other : ValueName) (value : List ℕ) (before : List AuthOption)
+    → has_setting name (before ++ Setting other value ∷ []) ≡ has_setting name before || same_value_name other name
+setting-behind name other value [] = or-false (same_value_name other name)
+setting-behind name other value (Switch flag ∷ before) = setting-behind name other value before
+setting-behind name other value (Setting first text ∷ before) =
+    ap (λ b. same_value_name first name || b) (setting-behind name other value before)
+    ∙ or-behind (same_value_name first name) (has_setting name before) (same_value_name other name)
+
+flag-behind : (name : ValueName) (flag : _) (before : List AuthOption) → has_setting name (before ++ Switch flag ∷ []) ≡ has_setting name before
+flag-behind name flag [] = refl
+flag-behind name flag (Switch other ∷ before) = flag-behind name flag before
+flag-behind name flag (Setting first text ∷ before) = ap (λ b. same_value_name first name || b) (flag-behind name flag before)
+
+seen-flag : (flag : _) (before : List AuthOption) → seen_of (before ++ Switch flag ∷ []) ≡ seen_of before
+seen-flag flag before = rw (flag-behind Command flag before, flag-behind From flag before, flag-behind Principals flag before) refl
+
+seen-setting : (name : ValueName) (value : List ℕ) (before : List AuthOption) → seen_of (before ++ Setting name value ∷ []) ≡ with_name (seen_of before) name
+seen-setting name value before = rw (setting-behind Command name value before, setting-behind From name value before, setting-behind Principals name value before) refl
+
+stood-repeats : (name : ValueName) (value : List ℕ) (before : List AuthOption) → repeats before (Setting name value) ≡ stood (seen_of before) name
+unfolding row_of
+stood-repeats Command value before = refl
+stood-repeats Environment value before = refl
+stood-repeats ExpiryTime value before = refl
+stood-repeats From value before = refl
+stood-repeats PermitListen value before = refl
+stood-repeats PermitOpen value before = refl
+stood-repeats Principals value before = refl
+stood-repeats Tunnel value before = refl
+
+-- ---- one more option
+
+-- the same options, by what has stood
+abbrev pub seen_in : Result (List AuthOption) LineCause → Result Seen LineCause
+seen_in (Err cause) = Err cause
+seen_in (Ok options) = Ok (seen_of options)
+
+by-tests : (again bad : Bool) (options : List AuthOption) (seen : Seen) → seen_of options ≡ seen
+    → seen_in (cond again (Err causes.RepeatedOption) (cond bad (Err causes.ExpiryText) (Ok options))) ≡ cond again (Err causes.RepeatedOption) (cond bad (Err causes.ExpiryText) (Ok seen))
+by-tests true bad options seen h = refl
+by-tests false true options seen h = refl
+by-tests false false options seen h = ap (λ s. Ok s) h
+
+option-seen : (before : List AuthOption) (said : Result AuthOption LineCause) → seen_in (and_option before said) ≡ and_said_seen (seen_of before) said
+option-seen before (Err cause) = refl
+option-seen before (Ok (Switch flag)) = ap (λ s. Ok s) (seen-flag flag before)
+option-seen before (Ok (Setting name value)) =
+    rw (stood-repeats name value before)
+    (by-tests (stood (seen_of before) name) (has_bad_expiry (Setting name value)) (before ++ Setting name value ∷ []) (with_name (seen_of before) name) (seen-setting name value before))
+
+item-seen : (so_far : Result (List AuthOption) LineCause) (item : Item) → seen_in (and_item so_far item) ≡ and_item_seen (seen_in so_far) item
+item-seen (Err cause) item = refl
+item-seen (Ok before) item = option-seen before (option_of item)
+
+abbrev seen_from : Result Seen LineCause → List Item → Result Seen LineCause
+seen_from so_far [] = so_far
+seen_from so_far (item ∷ items) = seen_from (and_item_seen so_far item) items
+
+items-seen : (so_far : Result (List AuthOption) LineCause) (items : List Item) → seen_in (options_from so_far items) ≡ seen_from (seen_in so_far) items
+items-seen so_far [] = refl
+items-seen so_far (item ∷ items) = items-seen (and_item so_far item) items ∙ ap (λ s. seen_from s items) (item-seen so_far item)
+
+fault-seen : (so_far : Result (List AuthOption) LineCause) → fault_in so_far ≡ fault_in (seen_in so_far)
+fault-seen (Err cause) = refl
+fault-seen (Ok options) = refl
+
+-- ---- the items of a text, one by one
+
+abbrev fault_by : Result Seen LineCause → Option (List Item) → Option LineCause
+fault_by so_far None = Some causes.OptionSyntax
+fault_by so_far (Some items) = fault_in (seen_from so_far items)
+
+-- the first fault of the options so far and of the items that are left
+abbrev pub fault_from : Result Seen LineCause → List (List ℕ) → Option LineCause
+fault_from so_far texts = fault_by so_far (each_item texts)
+
+pub fault_from_all : (text : List ℕ) → fault_in (options_of text) ≡ fault_from (Ok none_seen) (items_of false 0 text)
+unfolding options_of
+fault_from_all text = by-items (each_item (items_of false 0 text))
+  where
+    by-items : (items : Option (List Item)) → fault_in (options_of_items items) ≡ fault_by (Ok none_seen) items
+    by-items None = refl
+    by-items (Some items) = fault-seen (options_from (Ok []) items) ∙ ap fault_in (items-seen (Ok []) items)
+
+onto-items : (so_far : Result Seen LineCause) (item : Item) (items : Option (List Item))
+    → fault_by so_far (option_map (λ more. item ∷ more) items) ≡ fault_by (and_item_seen so_far item) items
+onto-items so_far item None = refl
+onto-items so_far item (Some items) = refl
+
+pub fault_from-next : (whole : Option LineCause) (so_far after : Result Seen LineCause) (texts later : List (List ℕ)) (text : List ℕ) (item : Item)
+    → texts ≡ text ∷ later → Some item ≡ item_of text → after ≡ and_item_seen so_far item → whole ≡ fault_from so_far texts → whole ≡ fault_from after later
+fault_from-next whole so_far after texts later text item cut read with held =
+    held ∙ ap (fault_from so_far) cut
+    ∙ ap (λ i. fault_by so_far (option_and_then (λ x. option_map (λ more. x ∷ more) (each_item later)) i)) (sym read)
+    ∙ onto-items so_far item (each_item later) ∙ ap (λ r. fault_from r later) (sym with)
+
+pub fault_from-refused : (whole : Option LineCause) (so_far : Result Seen LineCause) (texts later : List (List ℕ)) (text : List ℕ)
+    → texts ≡ text ∷ later → None ≡ item_of text → whole ≡ fault_from so_far texts → whole ≡ Some causes.OptionSyntax
+fault_from-refused whole so_far texts later text cut read held =
+    held ∙ ap (fault_from so_far) cut
+    ∙ ap (λ i. fault_by so_far (option_and_then (λ x. option_map (λ more. x ∷ more) (each_item later)) i)) (sym read)
+
+pub fault_from-ended : (whole : Option LineCause) (so_far : Result Seen LineCause) (texts : List (List ℕ)) → texts ≡ [] → whole ≡ fault_from so_far texts → whole ≡ fault_in so_far
+fault_from-ended whole so_far texts none held = held ∙ ap (fault_from so_far) none

@@ -1,0 +1,6 @@
+pub mod OptionNames
+pub mod OptionText
+pub mod OptionTexts
+pub mod OptionsInPlace
+pub mod OptionsSaid
+pub mod Settings

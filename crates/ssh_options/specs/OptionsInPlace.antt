@@ -1,0 +1,79 @@
+-- Options that are read where they stand in a line: quotes that are escaped, and what may not stand again.
+use Rattle.std.specs.Prelude.{ℕ, Bool, false, ◌||◌, ◌&&◌, ◌==◌, if◌then◌else◌, List, [], ◌∷◌, Option, Some, None, Result, Ok, Err}
+use Rattle.ssh_options.specs.declared.option.ValueName.{ValueName}
+use Rattle.ssh_options.specs.declared.option.ValueName.TheVariants.{Command, Environment, ExpiryTime, From, PermitListen, PermitOpen, Principals, Tunnel}
+use Rattle.ssh_options.specs.declared.option.AuthOption.{AuthOption}
+use Rattle.ssh_options.specs.declared.option.AuthOption.TheVariants.{Switch, Setting}
+use Rattle.ssh_options.specs.declared.option_check.Seen.{Seen}
+use Rattle.ssh_options.specs.declared.cause.LineCause.{LineCause}
+use Rattle.ssh_options.specs.declared.cause.LineCause.TheVariants as causes
+use Rattle.ssh_options.specs.OptionNames.{same_value_name}
+use Rattle.ssh_options.specs.OptionText.{Item, begins_with_quote, has_setting, has_bad_expiry, option_of}
+
+-- an escaped quote stands between the quotes
+abbrev pub has_escape : List ℕ → Bool
+has_escape [] = false
+has_escape (c ∷ cs) = ((c == 92) && begins_with_quote cs) || has_escape cs
+
+-- a quote is among the bytes
+abbrev pub has_quote : List ℕ → Bool
+has_quote [] = false
+has_quote (c ∷ cs) = (c == 34) || has_quote cs
+
+-- the byte in front is a backslash that escapes a quote
+abbrev pub escapes_first : List ℕ → Bool
+escapes_first [] = false
+escapes_first (c ∷ cs) = (c == 92) && begins_with_quote cs
+
+-- ---- what may stand once
+
+-- which of the options that may stand once are among the options
+abbrev pub seen_of : List AuthOption → Seen
+seen_of options = record {
+  command = has_setting Command options;
+  from = has_setting From options;
+  principals = has_setting Principals options;
+}
+
+abbrev pub none_seen : Seen
+none_seen = record { command = false; from = false; principals = false }
+
+-- an option of this name may stand once, and has stood
+abbrev pub stood : Seen → ValueName → Bool
+stood seen Command = seen.command
+stood seen From = seen.from
+stood seen Principals = seen.principals
+stood seen Environment = false
+stood seen ExpiryTime = false
+stood seen PermitListen = false
+stood seen PermitOpen = false
+stood seen Tunnel = false
+
+abbrev pub with_name : Seen → ValueName → Seen
+with_name seen name = record {
+  command = seen.command || same_value_name name Command;
+  from = seen.from || same_value_name name From;
+  principals = seen.principals || same_value_name name Principals;
+}
+
+-- ---- the first fault, where of the options before an item only that is known
+
+abbrev pub and_seen : Seen → AuthOption → Result Seen LineCause
+and_seen seen (Switch flag) = Ok seen
+and_seen seen (Setting name value) =
+    if stood seen name then Err causes.RepeatedOption
+    else if has_bad_expiry (Setting name value) then Err causes.ExpiryText
+    else Ok (with_name seen name)
+
+abbrev pub and_said_seen : Seen → Result AuthOption LineCause → Result Seen LineCause
+and_said_seen seen (Err cause) = Err cause
+and_said_seen seen (Ok option) = and_seen seen option
+
+abbrev pub and_item_seen : Result Seen LineCause → Item → Result Seen LineCause
+and_item_seen (Err cause) item = Err cause
+and_item_seen (Ok seen) item = and_said_seen seen (option_of item)
+
+-- the fault, where there is one
+abbrev pub fault_in : {A : Type 0} → Result A LineCause → Option LineCause
+fault_in (Ok x) = None
+fault_in (Err cause) = Some cause

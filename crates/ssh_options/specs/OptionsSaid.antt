@@ -1,0 +1,30 @@
+-- What is seen of options that are read where they stand in a line.
+use Rattle.std.specs.Prelude.{ℕ, List, [], ◌∷◌, Option, Some, None, option_map, option_and_then}
+use Rattle.std.specs.Result.{result_ok}
+use Rattle.ssh_options.specs.declared.option.AuthOption.{AuthOption}
+use Rattle.ssh_options.specs.declared.option.AuthOption.TheVariants.{Switch, Setting}
+use Rattle.ssh_options.specs.declared.option_view.OptionView.{OptionView}
+use Rattle.ssh_options.specs.declared.option_view.OptionView.TheVariants as views
+use Rattle.ssh_options.specs.OptionText.{item_of, option_of}
+
+-- an option in its line, by its name and its value
+abbrev pub option_said : OptionView → AuthOption
+option_said (views.Switch flag) = Switch flag
+option_said (views.Setting name value) = Setting name value
+
+-- the option of an item by itself, if it is one
+abbrev pub option_at : List ℕ → Option AuthOption
+option_at text = option_and_then (λ item. result_ok (option_of item)) (item_of text)
+
+-- the options of items, if each is one
+abbrev pub each_option : List (List ℕ) → Option (List AuthOption)
+each_option [] = Some []
+each_option (text ∷ texts) = option_and_then (λ option. option_map (λ options. option ∷ options) (each_option texts)) (option_at text)
+
+-- the options that were read; items that are none are not kept, so what stands for them is of no account
+abbrev pub or_none : Option (List AuthOption) → List AuthOption
+or_none None = []
+or_none (Some options) = options
+
+abbrev pub options_in : List (List ℕ) → List AuthOption
+options_in texts = or_none (each_option texts)

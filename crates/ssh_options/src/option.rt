@@ -1,0 +1,177 @@
+//! The options of an authorized_keys line.
+
+ghost use Rattle.std.specs.Prelude.{◌≡◌, Some, option_map, map};
+ghost use Rattle.ssh_options.specs.OptionNames.{options, row_of, row_named, option_named, flag_name, flag_named, value_name, value_named, is_single, same_name};
+ghost use Rattle.ssh_options.specs.OptionTexts.{row_said};
+
+use OptionName::{Setting, Switch};
+use Times::{Any, Once};
+use ssh_text::Bytes;
+
+/// An option without a value (sshd(8), AUTHORIZED_KEYS FILE FORMAT).
+#[derive(Debug, Clone, Copy, PartialEq, Eq)]
+pub enum Flag {
+    AgentForwarding,
+    CertAuthority,
+    NoAgentForwarding,
+    NoPortForwarding,
+    NoPty,
+    NoUserRc,
+    NoX11Forwarding,
+    PortForwarding,
+    Pty,
+    NoTouchRequired,
+    VerifyRequired,
+    Restrict,
+    UserRc,
+    X11Forwarding,
+}
+
+/// The name of an option with a value (sshd(8), AUTHORIZED_KEYS FILE FORMAT).
+#[derive(Debug, Clone, Copy, PartialEq, Eq)]
+pub enum ValueName {
+    Command,
+    Environment,
+    ExpiryTime,
+    From,
+    PermitListen,
+    PermitOpen,
+    Principals,
+    Tunnel,
+}
+
+/// An option of an authorized_keys line.
+#[derive(Debug, Drop)]
+pub enum AuthOption {
+    Switch(Flag),
+    /// The value as it is meant: `\"` of the line is a quote.
+    Setting(ValueName, Bytes),
+}
+
+/// What a name stands for.
+#[derive(Clone, Copy, PartialEq, Eq)]
+pub(crate) enum OptionName {
+    Switch(Flag),
+    Setting(ValueName),
+}
+
+/// How often an option may stand in a line.
+#[derive(Clone, Copy, PartialEq, Eq)]
+pub(crate) enum Times {
+    Once,
+    Any,
+}
+
+/// A row of the list of options: a name, what it stands for, and how often that may stand in a line.
+type Row = (&'static [u8], OptionName, Times);
+
+/// The options, as sshd(8) lists and spells them. What may stand once is this project's rule.
+const OPTIONS: [Row; 22] = [
+    (b"agent-forwarding", Switch(Flag::AgentForwarding), Any),
+    (b"cert-authority", Switch(Flag::CertAuthority), Any),
+    (b"no-agent-forwarding", Switch(Flag::NoAgentForwarding), Any),
+    (b"no-port-forwarding", Switch(Flag::NoPortForwarding), Any),
+    (b"no-pty", Switch(Flag::NoPty), Any),
+    (b"no-user-rc", Switch(Flag::NoUserRc), Any),
+    (b"no-X11-forwarding", Switch(Flag::NoX11Forwarding), Any),
+    (b"port-forwarding", Switch(Flag::PortForwarding), Any),
+    (b"pty", Switch(Flag::Pty), Any),
+    (b"no-touch-required", Switch(Flag::NoTouchRequired), Any),
+    (b"verify-required", Switch(Flag::VerifyRequired), Any),
+    (b"restrict", Switch(Flag::Restrict), Any),
+    (b"user-rc", Switch(Flag::UserRc), Any),
+    (b"X11-forwarding", Switch(Flag::X11Forwarding), Any),
+    (b"command", Setting(ValueName::Command), Once),
+    (b"environment", Setting(ValueName::Environment), Any),
+    (b"expiry-time", Setting(ValueName::ExpiryTime), Any),
+    (b"from", Setting(ValueName::From), Once),
+    (b"permitlisten", Setting(ValueName::PermitListen), Any),
+    (b"permitopen", Setting(ValueName::PermitOpen), Any),
+    (b"principals", Setting(ValueName::Principals), Once),
+    (b"tunnel", Setting(ValueName::Tunnel), Any),
+];
+
+/// The rows of the list.
+fn options() -> &'static [Row]
+    ensures { map row_said result.now ≡ options }
+{
+    &OPTIONS
+}
+
+/// The row of an option: each has one.
+fn row_of(option: OptionName) -> Row
+    ensures { row_of option ≡ Some (row_said result) }
+{
+    options()
+        .iter()
+        .copied()
+        .find(|row| row.1 == option)
+        .unwrap()
+}
+
+/// The row with this name, in any ASCII case.
+fn row_named(name: &[u8]) -> Option<Row>
+    ensures { option_map row_said result ≡ row_named name.now }
+{
+    options().iter().copied().find(|row| same_name(name, row.0))
+}
+
+/// What the name stands for, in any ASCII case.
+pub(crate) fn option_named(name: &[u8]) -> Option<OptionName>
+    ensures { result ≡ option_named name.now }
+{
+    let row = row_named(name)?;
+    Some(row.1)
+}
+
+impl Flag {
+    /// The name, as sshd(8) spells it.
+    pub fn name(self) -> &'static [u8]
+        ensures { result.now ≡ flag_name self }
+    {
+        row_of(OptionName::Switch(self)).0
+    }
+
+    /// The flag with this name, in any ASCII case.
+    pub fn named(name: &[u8]) -> Option<Flag>
+        ensures { result ≡ flag_named name.now }
+    {
+        match option_named(name)? {
+            OptionName::Switch(flag) => Some(flag),
+            OptionName::Setting(_) => None,
+        }
+    }
+}
+
+impl ValueName {
+    /// The name, as sshd(8) spells it.
+    pub fn name(self) -> &'static [u8]
+        ensures { result.now ≡ value_name self }
+    {
+        row_of(OptionName::Setting(self)).0
+    }
+
+    /// The option with this name, in any ASCII case.
+    pub fn named(name: &[u8]) -> Option<ValueName>
+        ensures { result ≡ value_named name.now }
+    {
+        match option_named(name)? {
+            OptionName::Switch(_) => None,
+            OptionName::Setting(value) => Some(value),
+        }
+    }
+
+    /// It may stand once in a line (this project's rule).
+    pub fn is_single(self) -> bool
+        ensures { result ≡ is_single self }
+    {
+        row_of(OptionName::Setting(self)).2 == Times::Once
+    }
+}
+
+/// The names are the same without regard to ASCII case.
+pub(crate) fn same_name(a: &[u8], b: &[u8]) -> bool
+    ensures { result ≡ same_name a.now b.now }
+{
+    a.eq_ignore_ascii_case(b)
+}

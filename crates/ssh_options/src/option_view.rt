@@ -1,0 +1,50 @@
+//! An option, in its line.
+
+ghost use Rattle.std.specs.Prelude.{◌≡◌, IfOk};
+ghost use Rattle.ssh_wire.specs.Reading.{Gives};
+ghost use Rattle.ssh_options.specs.OptionText.{option_of};
+ghost use Rattle.ssh_options.specs.OptionTexts.{said};
+ghost use Rattle.ssh_options.specs.OptionsSaid.{option_said};
+
+use crate::cause::LineCause;
+use crate::option::{AuthOption, Flag, OptionName, ValueName, option_named};
+use crate::option_text::ItemText;
+use crate::value_view::ValueView;
+use std::alloc::{AllocError, Global};
+
+/// An option of an authorized_keys line, in the line.
+#[derive(Debug, Drop)]
+pub enum OptionView<'a> {
+    Switch(Flag),
+    Setting(ValueName, ValueView<'a>),
+}
+
+/// The option of an item: its name must be listed, and have a value exactly if it is a setting's.
+pub(crate) fn view_option(item: ItemText<'_>) -> Result<OptionView<'_>, LineCause>
+    ensures { Gives option_said result (option_of (said item.entry)) }
+{
+    match (option_named(item.name), item.value) {
+        (None, _) => Err(LineCause::UnknownOption),
+        (Some(OptionName::Switch(flag)), None) => Ok(OptionView::Switch(flag)),
+        (Some(OptionName::Setting(name)), Some(quoted)) => {
+            Ok(OptionView::Setting(name, ValueView::new(quoted)))
+        }
+        _ => Err(LineCause::OptionValue),
+    }
+}
+
+impl OptionView<'_> {
+    ghost use Rattle.ssh_options.specs.OptionsSaid.{option_said};
+
+    /// The option, copied.
+    pub fn to_option(&self, alloc: Global) -> Result<AuthOption, AllocError>
+        ensures { IfOk result (λ option. option ≡ option_said self.now) }
+    {
+        match self {
+            OptionView::Switch(flag) => Ok(AuthOption::Switch(*flag)),
+            OptionView::Setting(name, value) => {
+                Ok(AuthOption::Setting(*name, value.to_bytes(alloc)?))
+            }
+        }
+    }
+}

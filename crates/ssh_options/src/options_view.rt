@@ -1,0 +1,165 @@
+//! The options of a line, in its text.
+
+ghost use Rattle.std.specs.Prelude.{◌≡◌, [], ◌++◌, List, IfOk, option_map, option_copied};
+ghost use Rattle.std.specs.Iterator.{YieldsFirst, YieldsFirstBy, item_count};
+ghost use Rattle.ssh_wire.specs.Reading.{Gives};
+ghost use Rattle.ssh_options.specs.OptionText.{option_of, options_of};
+ghost use Rattle.ssh_options.specs.Settings.{has_flag, settings};
+ghost use Rattle.ssh_options.specs.OptionsSaid.{option_said, option_at};
+
+use crate::cause::LineCause;
+use crate::option::{AuthOption, Flag, ValueName};
+use crate::option_check::options_fault;
+use crate::option_text::{read_item, split_item};
+use crate::option_view::{OptionView, view_option};
+use crate::options::Options;
+use crate::value_view::ValueView;
+use std::alloc::{AllocError, Global};
+use std::marker::Model;
+
+/// The options of a line that are left, in its text. Contracts see them as the list.
+#[derive(Debug, Drop)]
+pub struct OptionsView<'a> {
+    rest: Option<&'a [u8]>,
+}
+
+impl<'a> Model for OptionsView<'a> {
+    ghost use Rattle.std.specs.Prelude.{List, Some, option_copied, ◌≡◌};
+    ghost use Rattle.ssh_options.specs.declared.option.AuthOption.{AuthOption};
+    ghost use Rattle.ssh_options.specs.OptionTexts.{texts_left};
+    ghost use Rattle.ssh_options.specs.OptionsSaid.{each_option, options_in};
+
+    ghost Value = { List AuthOption };
+
+    ghost view = { λ o. options_in (texts_left (option_copied o.rest)) };
+
+    ghost invariant = { λ o. each_option (texts_left (option_copied o.rest)) ≡ Some (options_in (texts_left (option_copied o.rest))) };
+}
+
+/// The option of an item, if it is one.
+fn option_at(text: &[u8]) -> Option<OptionView<'_>>
+    ensures { option_map option_said result ≡ option_at text.now }
+{
+    let item = read_item(text)?;
+    view_option(item).ok()
+}
+
+impl<'a> OptionsView<'a> {
+    /// No options.
+    pub fn none() -> OptionsView<'a>
+        ensures { result ≡ [] }
+    {
+        OptionsView { rest: None }
+    }
+
+    /// The options of an option text, or its first fault.
+    pub fn read(text: &'a [u8]) -> Result<OptionsView<'a>, LineCause>
+        ensures { Gives (λ o. o) result (options_of text.entry.now) }
+    {
+        match options_fault(text) {
+            Some(cause) => Err(cause),
+            None => Ok(OptionsView { rest: Some(text) }),
+        }
+    }
+
+    /// The same options again.
+    pub fn again(&self) -> OptionsView<'a>
+        ensures { result ≡ self.now }
+    {
+        OptionsView { rest: self.rest }
+    }
+
+    /// Whether the flag is among the options.
+    pub fn has_flag(&self, flag: Flag) -> bool
+        ensures { result ≡ has_flag flag self.now }
+    {
+        has_flag(flag, self.again())
+    }
+
+    /// The values of the option with this name, in their order.
+    pub fn settings(&self, name: ValueName) -> SettingViews<'a>
+        ensures { result ≡ settings name self.now }
+    {
+        SettingViews {
+            name,
+            rest: self.again(),
+        }
+    }
+
+    /// The options, copied.
+    pub fn to_options(&self, alloc: Global) -> Result<Options, AllocError>
+        ensures { IfOk result (λ options. options ≡ self.now) }
+    {
+        let mut options = Options::new(alloc);
+        for option in self.again() {
+            options.push(option.to_option(alloc)?)?;
+        }
+        Ok(options)
+    }
+}
+
+impl<'a> Iterator for OptionsView<'a> {
+    type Item = OptionView<'a>;
+
+    ghost next_gives = { YieldsFirstBy option_said (λ options. options) };
+
+    ghost remaining = { item_count (λ options. options) };
+
+    fn next(&mut self) -> Option<OptionView<'a>> {
+        let text = self.rest?;
+        let (item, rest) = split_item(text);
+        let option = option_at(item)?;
+        self.rest = rest;
+        Some(option)
+    }
+}
+
+/// Whether the flag is among the options.
+fn has_flag(flag: Flag, options: OptionsView<'_>) -> bool
+    ensures { result ≡ has_flag flag options.entry }
+{
+    for option in options {
+        if let OptionView::Switch(other) = option
+            && other == flag
+        {
+            return true;
+        }
+    }
+    false
+}
+
+/// The values of the options with one name, in their line and in their order. Contracts see those that
+/// are left.
+#[derive(Debug, Drop)]
+pub struct SettingViews<'a> {
+    name: ValueName,
+    rest: OptionsView<'a>,
+}
+
+impl<'a> Model for SettingViews<'a> {
+    ghost use Rattle.std.specs.Prelude.{List, ℕ};
+    ghost use Rattle.ssh_options.specs.Settings.{settings};
+
+    ghost Value = { List (List ℕ) };
+
+    ghost view = { λ s. settings s.name s.rest };
+}
+
+impl<'a> Iterator for SettingViews<'a> {
+    type Item = ValueView<'a>;
+
+    ghost next_gives = { YieldsFirst (λ values. values) };
+
+    ghost remaining = { item_count (λ values. values) };
+
+    fn next(&mut self) -> Option<ValueView<'a>> {
+        while let Some(option) = self.rest.next() {
+            if let OptionView::Setting(name, value) = option
+                && name == self.name
+            {
+                return Some(value);
+            }
+        }
+        None
+    }
+}

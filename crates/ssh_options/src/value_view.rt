@@ -1,0 +1,147 @@
+//! The value of an option, in its line.
+
+ghost use Rattle.std.specs.Prelude.{◌≡◌, ◌↔◌, IfOk, IfSome, IsSome, IsTrue, bytes_eq, false};
+ghost use Rattle.std.specs.Iterator.{YieldsFirst, item_count};
+ghost use Rattle.ssh_expiry.specs.Expiry.{is_expiry_text};
+ghost use Rattle.ssh_options.specs.OptionText.{unescaped};
+ghost use Rattle.ssh_options.specs.OptionsInPlace.{has_escape, has_quote, escapes_first};
+
+use crate::option_text::{begins_with_quote, unescape};
+use ssh_expiry::is_expiry_text;
+use ssh_text::Bytes;
+use std::alloc::{AllocError, Global};
+use std::marker::Model;
+
+/// The value of an option, as it stands between its quotes. Contracts see the value that is meant:
+/// `\"` of the line is a quote.
+#[derive(Debug, Drop)]
+pub struct ValueView<'a> {
+    quoted: &'a [u8],
+}
+
+impl<'a> Model for ValueView<'a> {
+    ghost use Rattle.std.specs.Prelude.{List, ℕ};
+    ghost use Rattle.ssh_options.specs.OptionText.{unescaped};
+
+    ghost Value = { List ℕ };
+
+    ghost view = { λ v. unescaped v.quoted.now };
+}
+
+/// There is an escaped quote in what stands between quotes.
+fn has_escape(quoted: &[u8]) -> bool
+    ensures { result ≡ has_escape quoted.now }
+{
+    for (i, byte) in quoted.iter().enumerate() {
+        if *byte == b'\\' && begins_with_quote(&quoted[i + 1..]) {
+            return true;
+        }
+    }
+    false
+}
+
+impl<'a> ValueView<'a> {
+    /// The value that stands between quotes.
+    pub(crate) fn new(quoted: &'a [u8]) -> ValueView<'a>
+        ensures { result ≡ unescaped quoted.entry.now }
+    {
+        ValueView { quoted }
+    }
+
+    /// The value in its line; none where a quote stands in it, which the line escapes.
+    #[tactic(auto, using(crate::proofs::EscapeLemmas::plain_unescaped, crate::proofs::EscapeLemmas::escape_has_quote))]
+    pub fn in_place(&self) -> Option<&'a [u8]>
+        ensures value { IfSome result (λ text. text.now ≡ self.now) }
+        ensures there { has_quote self.now ≡ false → IsSome result }
+    {
+        if has_escape(self.quoted) {
+            None
+        } else {
+            Some(self.quoted)
+        }
+    }
+
+    /// The bytes of the value, one by one.
+    pub fn bytes(&self) -> ValueBytes<'a>
+        ensures { result ≡ self.now }
+    {
+        ValueBytes { rest: self.quoted }
+    }
+
+    /// The value is this text.
+    pub fn is_text(&self, text: &[u8]) -> bool
+        ensures { IsTrue result ↔ (self.now ≡ text.now) }
+    {
+        is_text(self.bytes(), text)
+    }
+
+    /// The value is an expiry time.
+    #[tactic(auto, using(crate::proofs::EscapeLemmas::plain_unescaped, crate::proofs::EscapeLemmas::escape_no_expiry))]
+    pub(crate) fn is_expiry_text(&self) -> bool
+        ensures { result ≡ is_expiry_text self.now }
+    {
+        !has_escape(self.quoted) && is_expiry_text(self.quoted)
+    }
+
+    /// The value, copied.
+    pub fn to_bytes(&self, alloc: Global) -> Result<Bytes, AllocError>
+        ensures { IfOk result (λ value. value ≡ self.now) }
+    {
+        let value = unescape(alloc, self.quoted)?;
+        Ok(value)
+    }
+}
+
+/// The bytes of a value in its line. Contracts see those that are left.
+#[derive(Debug, Drop)]
+pub struct ValueBytes<'a> {
+    rest: &'a [u8],
+}
+
+impl<'a> Model for ValueBytes<'a> {
+    ghost use Rattle.std.specs.Prelude.{List, ℕ};
+    ghost use Rattle.ssh_options.specs.OptionText.{unescaped};
+
+    ghost Value = { List ℕ };
+
+    ghost view = { λ v. unescaped v.rest.now };
+}
+
+/// What stands between quotes, without the backslash in front that escapes a quote.
+fn without_escape(quoted: &[u8]) -> &[u8]
+    ensures value { unescaped result.now ≡ unescaped quoted.now }
+    ensures plain { escapes_first result.now ≡ false }
+{
+    match quoted {
+        [b'\\', rest @ ..] if begins_with_quote(rest) => rest,
+        _ => quoted,
+    }
+}
+
+impl Iterator for ValueBytes<'_> {
+    type Item = u8;
+
+    ghost next_gives = { YieldsFirst (λ bytes. bytes) };
+
+    ghost remaining = { item_count (λ bytes. bytes) };
+
+    fn next(&mut self) -> Option<u8> {
+        let [first, rest @ ..] = without_escape(self.rest) else {
+            return None;
+        };
+        self.rest = rest;
+        Some(*first)
+    }
+}
+
+/// The bytes that are left are this text.
+fn is_text(mut bytes: ValueBytes<'_>, text: &[u8]) -> bool
+    ensures { result ≡ bytes_eq bytes.entry text.now }
+{
+    for byte in text {
+        if bytes.next() != Some(*byte) {
+            return false;
+        }
+    }
+    bytes.next().is_none()
+}

@@ -1,0 +1,5 @@
+pub mod Text
+pub mod Kept
+pub mod Scan
+pub mod Pieces
+pub mod Samples

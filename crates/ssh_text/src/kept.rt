@@ -1,0 +1,115 @@
+//! A line as far as it is kept.
+
+ghost use Rattle.std.specs.Prelude.{◌≡◌, ◌↔◌, ◌≤◌, ◌+◌, IsTrue, ◌++◌, [], length, List, ℕ, OnOk, OnErr};
+ghost use Rattle.ssh_text.specs.Text.{line_limit};
+ghost use Rattle.ssh_text.specs.Kept.{Keeps, kept_count};
+
+use crate::file::LINE_LIMIT;
+use std::alloc::{AllocError, Global};
+use std::marker::Model;
+
+/// The bytes of a line, or the mark that it is longer than a line may be. The buffer is used again
+/// for each line.
+#[derive(Debug, Drop)]
+pub(crate) struct KeptLine {
+    bytes: Vec<u8>,
+    too_long: bool,
+}
+
+impl Model for KeptLine {
+    ghost use Rattle.std.specs.Prelude.{◌≤◌, length};
+    ghost use Rattle.ssh_text.specs.Text.{line_limit};
+    ghost use Rattle.ssh_text.specs.Kept.{Kept};
+
+    ghost Value = { Kept };
+
+    ghost view = { λ s. record { bytes = s.bytes.items; too_long = s.too_long } };
+
+    ghost invariant = { λ s. length s.bytes.items ≤ line_limit };
+}
+
+impl KeptLine {
+    /// The line that has no bytes.
+    pub(crate) fn new(alloc: Global) -> KeptLine
+        ensures keeps { Keeps result [] }
+        ensures bound { length result.bytes ≤ line_limit }
+    {
+        KeptLine {
+            bytes: Vec::new(alloc),
+            too_long: false,
+        }
+    }
+
+    pub(crate) fn is_too_long(&self) -> bool
+        ensures { result ≡ self.now.too_long }
+    {
+        self.too_long
+    }
+
+    /// The line has no bytes.
+    pub(crate) fn is_empty(&self) -> bool
+        ensures { (line : List ℕ) → Keeps self.now line → (IsTrue result ↔ (length line ≡ 0)) }
+    {
+        !self.too_long && self.bytes.is_empty()
+    }
+
+    pub(crate) fn as_slice(&self) -> &[u8]
+        ensures value { result.now ≡ self.now.bytes }
+        ensures bound { length result.now ≤ line_limit }
+    {
+        &self.bytes
+    }
+
+    /// Adds bytes to the line. Where memory is refused, it stays as it was.
+    pub(crate) fn append(&mut self, part: &[u8]) -> Result<(), AllocError>
+        ensures ok { OnOk result ((line : List ℕ) → Keeps self.old line → Keeps self.new (line ++ part.now)) }
+        ensures count { OnOk result (kept_count self.new ≤ kept_count self.old + length part.now) }
+        ensures bound { length self.new.bytes ≤ line_limit }
+        ensures err { OnErr result (self.new ≡ self.old) }
+    {
+        if self.too_long {
+            return Ok(());
+        }
+        if part.len() > LINE_LIMIT - self.bytes.len() {
+            self.bytes.clear();
+            self.too_long = true;
+            return Ok(());
+        }
+        self.bytes.extend_from_slice(part)?;
+        Ok(())
+    }
+
+    /// Begins the next line with these bytes. Where memory is refused, the line before stays.
+    pub(crate) fn begin(&mut self, part: &[u8]) -> Result<(), AllocError>
+        ensures ok { OnOk result (Keeps self.new part.now) }
+        ensures count { OnOk result (kept_count self.new ≤ length part.now) }
+        ensures bound { length self.new.bytes ≤ line_limit }
+        ensures err { OnErr result (self.new ≡ self.old) }
+    {
+        if part.len() > LINE_LIMIT {
+            self.bytes.clear();
+            self.too_long = true;
+            return Ok(());
+        }
+        replace(&mut self.bytes, part)?;
+        self.too_long = false;
+        Ok(())
+    }
+}
+
+/// Puts these bytes in the place of those in the buffer, which grows before a byte is lost.
+fn replace(buffer: &mut Vec<u8>, part: &[u8]) -> Result<(), AllocError>
+    ensures ok { OnOk result (buffer.new.items ≡ part.now) }
+    ensures err { OnErr result (buffer.new.items ≡ buffer.old.items) }
+{
+    let held = buffer.len();
+    if part.len() <= held {
+        buffer.truncate(part.len());
+        buffer.copy_from_slice(part);
+        return Ok(());
+    }
+    buffer.extend_from_slice(&part[held..])?;
+    buffer.truncate(part.len());
+    buffer.copy_from_slice(part);
+    Ok(())
+}

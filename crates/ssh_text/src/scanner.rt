@@ -1,0 +1,154 @@
+//! The lines of a file that comes in pieces.
+
+ghost use Rattle.std.specs.Prelude.{◌≡◌, ◌↔◌, ◌<◌, ◌≤◌, ◌+◌, ◌^◌, ◌++◌, ◌∷◌, [], length, take, true, false, List, ℕ, IsTrue, IfOk, OnOk, OnErr};
+ghost use Rattle.ssh_text.specs.Text.{line_limit};
+ghost use Rattle.ssh_text.specs.Scan.{HasNoNewline, IsReadyLine, StandsFor, has_newline, unfinished, up_to_newline};
+
+use crate::file::line_len;
+use crate::kept::KeptLine;
+use std::alloc::{AllocError, Global};
+use std::marker::Model;
+
+/// The lines of a file that comes in pieces, cut anywhere. It keeps the bytes of one line at most,
+/// and none of a line that is longer than a line may be.
+#[derive(Debug, Drop)]
+pub struct Scanner {
+    used: u64,
+    lines: u64,
+    kept: KeptLine,
+    ended: bool,
+    ready: bool,
+}
+
+impl Model for Scanner {
+    ghost use Rattle.ssh_text.specs.Scan.{Scan, IsScan};
+
+    ghost Value = { Scan };
+
+    ghost view = { λ s. record { used = s.used; lines = s.lines; kept = s.kept; ended = s.ended; ready = s.ready } };
+
+    ghost invariant = { λ s. IsScan (record { used = s.used; lines = s.lines; kept = s.kept; ended = s.ended; ready = s.ready }) };
+}
+
+/// A line that is ready: its bytes without the LF, or the mark that they are more than a line may
+/// have.
+#[derive(Clone, Copy, Debug, PartialEq, Eq)]
+pub enum Line<'a> {
+    Whole(&'a [u8]),
+    TooLong,
+}
+
+impl Scanner {
+    /// A scanner that has used no bytes.
+    pub fn new(alloc: Global) -> Scanner
+        ensures stands_for { StandsFor result [] }
+        ensures ready { result.ready ≡ false }
+        ensures bounded { length result.kept.bytes ≤ line_limit }
+    {
+        Scanner {
+            used: 0,
+            lines: 0,
+            kept: KeptLine::new(alloc),
+            ended: false,
+            ready: false,
+        }
+    }
+
+    /// How many bytes were used.
+    pub fn used(&self) -> u64
+        ensures value { result ≡ self.now.used }
+        ensures count { (bytes : List ℕ) → StandsFor self.now bytes → result ≡ length bytes }
+        ensures bounded { length self.now.kept.bytes ≤ line_limit }
+    {
+        self.used
+    }
+
+    /// Uses the piece up to and with its first LF, or all of it, and says how many bytes that is and
+    /// whether a line is ready. Where memory is refused, nothing is used.
+    pub fn feed(&mut self, piece: &[u8]) -> Result<(usize, bool), AllocError>
+        requires { self.old.used + length piece.now < 2 ^ 64 }
+        ensures count { IfOk result (λ fed. fed.0 ≡ length (up_to_newline piece.now)) }
+        ensures part { IfOk result (λ fed. take fed.0 piece.now ≡ up_to_newline piece.now) }
+        ensures within { IfOk result (λ fed. fed.0 ≤ length piece.now) }
+        ensures some { IfOk result (λ fed. fed.1 ≡ true → 0 < fed.0) }
+        ensures all { IfOk result (λ fed. fed.1 ≡ false → fed.0 ≡ length piece.now) }
+        ensures newline { IfOk result (λ fed. fed.1 ≡ has_newline piece.now) }
+        ensures ready { IfOk result (λ fed. self.new.ready ≡ fed.1) }
+        ensures stands_for { IfOk result (λ fed. (bytes : List ℕ) → StandsFor self.old bytes → StandsFor self.new (bytes ++ take fed.0 piece.now)) }
+        ensures used { IfOk result (λ fed. self.new.used ≡ self.old.used + fed.0) }
+        ensures bounded { length self.new.kept.bytes ≤ line_limit }
+        ensures err { OnErr result (self.new ≡ self.old) }
+    {
+        let end = line_len(piece);
+        self.take_part(&piece[..end])?;
+        if end == piece.len() {
+            return Ok((end, false));
+        }
+        self.take_newline();
+        Ok((end + 1, true))
+    }
+
+    /// Uses bytes that have no LF.
+    fn take_part(&mut self, part: &[u8]) -> Result<(), AllocError>
+        requires { self.old.used + length part.now < 2 ^ 64 }
+        ensures stands_for { OnOk result (HasNoNewline part.now → (bytes : List ℕ) → StandsFor self.old bytes → StandsFor self.new (bytes ++ part.now)) }
+        ensures used { OnOk result (self.new.used ≡ self.old.used + length part.now) }
+        ensures open { OnOk result (self.new.ended ≡ false) }
+        ensures ready { OnOk result (self.new.ready ≡ false) }
+        ensures bounded { length self.new.kept.bytes ≤ line_limit }
+        ensures err { OnErr result (self.new ≡ self.old) }
+    {
+        if self.ended {
+            self.kept.begin(part)?;
+            self.lines += 1;
+        } else {
+            self.kept.append(part)?;
+        }
+        self.used += part.len() as u64;
+        self.ended = false;
+        self.ready = false;
+        Ok(())
+    }
+
+    /// Uses the LF of the line that the scanner is in.
+    fn take_newline(&mut self)
+        requires open { self.old.ended ≡ false }
+        requires fits { self.old.used + 1 < 2 ^ 64 }
+        ensures stands_for { (bytes : List ℕ) → StandsFor self.old bytes → StandsFor self.new (bytes ++ 10 ∷ []) }
+        ensures used { self.new.used ≡ self.old.used + 1 }
+        ensures ready { self.new.ready ≡ true }
+        ensures bounded { length self.new.kept.bytes ≤ line_limit }
+    {
+        self.used += 1;
+        self.ended = true;
+        self.ready = true;
+    }
+
+    /// The line that is ready, and its number.
+    pub fn line(&self) -> (u64, Line<'_>)
+        requires { self.now.ready ≡ true }
+        ensures { (bytes : List ℕ) → StandsFor self.now bytes → IsReadyLine bytes result }
+    {
+        let number = self.lines + 1;
+        if self.kept.is_too_long() {
+            return (number, Line::TooLong);
+        }
+        (number, Line::Whole(self.kept.as_slice()))
+    }
+
+    /// Ends the file, and says whether a last line without an LF is ready.
+    pub fn finish(&mut self) -> bool
+        ensures stands_for { (bytes : List ℕ) → StandsFor self.old bytes → StandsFor self.new bytes }
+        ensures last { (bytes : List ℕ) → StandsFor self.old bytes → (IsTrue result ↔ (0 < length (unfinished bytes))) }
+        ensures ready { self.new.ready ≡ result }
+        ensures used { self.new.used ≡ self.old.used }
+        ensures bounded { length self.new.kept.bytes ≤ line_limit }
+    {
+        if self.ended {
+            self.ready = false;
+            return false;
+        }
+        self.ready = !self.kept.is_empty();
+        self.ready
+    }
+}
