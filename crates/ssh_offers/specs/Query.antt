@@ -1,0 +1,29 @@
+-- What a login asks, without where its texts lie in memory.
+use Rattle.std.specs.Prelude.{ℕ, List, Option, option_copied}
+use Rattle.jiff.specs.Types.{TimeZone}
+use Rattle.jiff.specs.Words.{plain_zone}
+use Rattle.ssh_offers.specs.declared.query.LoginQuery.{LoginQuery}
+
+pub record Login : Type 0 where
+  pub offered : List ℕ
+  pub signature : List ℕ
+  pub algorithm : List ℕ
+  pub session : List ℕ
+  pub user : List ℕ
+  pub host : Option (List ℕ)
+  pub address : List ℕ
+  pub now : ℕ
+  pub zone : TimeZone
+
+abbrev pub login_of : LoginQuery → Login
+login_of q = record {
+  offered = q.offered.now;
+  signature = q.signature.now;
+  algorithm = q.algorithm.now;
+  session = q.session.now;
+  user = q.user.now;
+  host = option_copied q.host;
+  address = q.address.now;
+  now = q.now;
+  zone = plain_zone q.zone.now;
+}

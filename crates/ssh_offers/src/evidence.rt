@@ -1,0 +1,114 @@
+//! What a decision on a login rests on, and which of it is vouched for.
+
+ghost use Rattle.std.specs.Prelude.{◌≡◌, ◌<◌, ◌^◌, length, not, IfOk};
+ghost use Rattle.std.specs.List.{position};
+ghost use Rattle.ssh_keys.specs.PublicKey.{key_blob};
+ghost use Rattle.ssh_certs.specs.CertificateOf.{certificate_of};
+ghost use Rattle.ssh_offers.specs.Query.{login_of};
+ghost use Rattle.ssh_offers.specs.Offer.{plain_key};
+ghost use Rattle.ssh_offers.specs.OfferView.{offer_of};
+ghost use Rattle.ssh_offers.specs.Evidence.{certificate_signed, login_bytes, login_evidence, login_signed};
+ghost use Rattle.ssh_offers.specs.Claim.{claim_of};
+ghost use Rattle.ssh_offers.specs.Vouching.{is_same, is_vouched, first_unvouched};
+
+use crate::claim::Claim;
+use crate::items::Items;
+use crate::offer::Offer;
+use crate::query::{LoginQuery, Signed};
+use ssh_certs::CertView;
+use ssh_keys::write_key;
+use ssh_text::Bytes;
+use ssh_wire::put_string;
+use std::alloc::{AllocError, Global};
+
+/// The number of a user authentication request (RFC 4252 section 6).
+const USERAUTH_REQUEST: u8 = 50;
+
+/// The bytes that a client signs for a login (RFC 4252 section 7).
+#[tactic(auto, unfolding(crate::specs::Evidence::login_bytes))]
+fn login_bytes(alloc: Global, query: &LoginQuery<'_>) -> Result<Vec<u8>, AllocError>
+    requires session { length query.now.session.now < 2 ^ 32 }
+    requires user { length query.now.user.now < 2 ^ 32 }
+    requires algorithm { length query.now.algorithm.now < 2 ^ 32 }
+    requires offered { length query.now.offered.now < 2 ^ 32 }
+    ensures { IfOk result (λ v. v.items ≡ login_bytes (login_of query.entry.now)) }
+{
+    let mut out = Vec::new(alloc);
+    put_string(&mut out, query.session)?;
+    out.push(USERAUTH_REQUEST)?;
+    put_string(&mut out, query.user)?;
+    put_string(&mut out, b"ssh-connection")?;
+    put_string(&mut out, b"publickey")?;
+    out.push(1)?;
+    put_string(&mut out, query.algorithm)?;
+    put_string(&mut out, query.offered)?;
+    Ok(out)
+}
+
+/// The blob of the key that is to be used.
+fn plain_blob(alloc: Global, offer: &Offer<'_>) -> Result<Vec<u8>, AllocError>
+    ensures { IfOk result (λ blob. blob.items ≡ key_blob (plain_key (offer_of offer.now))) }
+{
+    let mut blob = Vec::new(alloc);
+    write_key(&offer.plain_key(), &mut blob)?;
+    Ok(blob)
+}
+
+/// The signature of a login, by the key that is to be used.
+#[tactic(auto, unfolding(crate::specs::Evidence::login_signed))]
+fn login_signed(alloc: Global, claim: &Claim<'_>) -> Result<Signed, AllocError>
+    ensures { IfOk result (λ signed. signed ≡ login_signed (key_blob (plain_key (claim_of claim.now).offer)) (claim_of claim.now).query) }
+{
+    Ok(Signed {
+        key: Bytes::new(plain_blob(alloc, &claim.offer)?),
+        message: Bytes::new(login_bytes(alloc, &claim.query)?),
+        signature: Bytes::new(claim.query.signature.to_vec(alloc)?),
+    })
+}
+
+/// The signature of a certificate, by its signer.
+#[tactic(auto, unfolding(crate::specs::Evidence::certificate_signed))]
+fn certificate_signed(alloc: Global, certificate: &CertView<'_>) -> Result<Signed, AllocError>
+    ensures { IfOk result (λ signed. signed ≡ certificate_signed (certificate_of certificate.now)) }
+{
+    Ok(Signed {
+        key: Bytes::new(certificate.signer_blob().to_vec(alloc)?),
+        message: Bytes::new(certificate.signed_part().to_vec(alloc)?),
+        signature: Bytes::new(certificate.signature_blob().to_vec(alloc)?),
+    })
+}
+
+/// What has to be vouched for.
+pub fn login_evidence(alloc: Global, claim: &Claim<'_>) -> Result<Items<Signed>, AllocError>
+    ensures { IfOk result (λ evidence. evidence ≡ login_evidence (claim_of claim.now)) }
+{
+    let mut evidence = Vec::new(alloc);
+    evidence.push(login_signed(alloc, claim)?)?;
+    if let Offer::Certified(certificate) = &claim.offer {
+        evidence.push(certificate_signed(alloc, certificate)?)?;
+    }
+    Ok(Items::from_vec(evidence))
+}
+
+fn is_same(vouched: &Signed, signed: &Signed) -> bool
+    ensures { result ≡ is_same vouched.now signed.now }
+{
+    vouched.key.as_slice() == signed.key.as_slice()
+        && vouched.message.as_slice() == signed.message.as_slice()
+        && vouched.signature.as_slice() == signed.signature.as_slice()
+}
+
+fn is_vouched(vouched: &[Signed], signed: &Signed) -> bool
+    ensures { result ≡ is_vouched vouched.now signed.now }
+{
+    vouched.iter().any(|v| is_same(v, signed))
+}
+
+/// The least index of the evidence that is not vouched for.
+pub fn first_unvouched(vouched: &[Signed], evidence: &[Signed]) -> Option<usize>
+    ensures { result ≡ first_unvouched vouched.now evidence.now }
+{
+    evidence
+        .iter()
+        .position(|signed| !is_vouched(vouched, signed))
+}

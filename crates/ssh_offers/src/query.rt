@@ -1,0 +1,38 @@
+//! A login to be decided, and a signature that has to be vouched for.
+
+use jiff::tz::TimeZone;
+use ssh_text::Bytes;
+
+/// A signature, what it is over, and the key that is said to have made it.
+#[derive(Drop)]
+pub struct Signed {
+    /// The key's blob.
+    pub key: Bytes,
+    /// The signed bytes.
+    pub message: Bytes,
+    /// The signature's blob.
+    pub signature: Bytes,
+}
+
+/// A login that is asked for by public key (RFC 4252 section 7).
+#[derive(Clone, Copy)]
+pub struct LoginQuery<'a> {
+    /// The blob of the key or the certificate that is offered.
+    pub offered: &'a [u8],
+    /// The blob of the signature over the login bytes.
+    pub signature: &'a [u8],
+    /// The name of the public key algorithm.
+    pub algorithm: &'a [u8],
+    /// The session identifier, of fewer than 2^32 bytes.
+    pub session: &'a [u8],
+    /// The user's name, of fewer than 2^32 bytes.
+    pub user: &'a [u8],
+    /// The name of the host that the client connects from, where it is known.
+    pub host: Option<&'a [u8]>,
+    /// The address that the client connects from, as text.
+    pub address: &'a [u8],
+    /// Seconds since 1970-01-01 in UTC.
+    pub now: u64,
+    /// The zone of expiry times that name none.
+    pub zone: &'a TimeZone<'a>,
+}

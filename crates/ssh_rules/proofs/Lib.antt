@@ -1,0 +1,4 @@
+pub mod Tests
+pub mod Principals
+pub mod AdmissionLemmas
+pub mod RightsLemmas

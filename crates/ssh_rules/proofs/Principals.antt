@@ -1,0 +1,104 @@
+-- Whom a certificate serves.
+use Rattle.std.proofs.Common.{◌≡◌, ◌≢◌, ◌⊎◌, ◌∙◌, ◌==◌, ◌||◌, ◌<◌, ℕ, zero, suc, Bool, true, false, List, [], ◌∷◌, Option, Some, None, length, ap, sym, refl, inl, inr, arith}
+use Rattle.std.specs.Prelude.{◌↔◌, Contains, IsTrue}
+use Rattle.std.specs.Bool.{Decides}
+use Rattle.std.specs.List.{list_any, slice_index_or}
+use Rattle.std.specs.Str.{bytes_eq}
+use Rattle.std.proofs.lemmas.Bool.{ne_eqb}
+use Rattle.std.proofs.lemmas.Bool.Decides.{Decides-eqb, same_from_decides}
+use Rattle.std.proofs.lemmas.Slice.Eq.{bytes_eq-Decides}
+use Rattle.ssh_certs.specs.Certificate.{Certificate}
+use Rattle.ssh_certs.specs.Rules.{HasPrincipal}
+use Rattle.ssh_rules.specs.CertificateRules.{has_principal, is_listed, listed_names, serves}
+use Rattle.ssh_rules.specs.Admission.{Serves}
+
+or-true : (a : Bool) {b : Bool} → b ≡ true → (a || b) ≡ true
+or-true true h = refl
+or-true false h = h
+
+-- ---- members of a list
+
+in-tail : (x name : List ℕ) (xs : List (List ℕ)) → Contains xs name → Contains (x ∷ xs) name
+in-tail x name xs (k, below, same) = (suc k, omega arith, same)
+
+-- a member passes the test, and what passes it is one
+found-at : (name x : List ℕ) (xs : List (List ℕ)) → (list_any (λ p. bytes_eq name p) xs ≡ true → Contains xs name) → (b : Bool) → bytes_eq name x ≡ b
+    → (b || list_any (λ p. bytes_eq name p) xs) ≡ true → Contains (x ∷ xs) name
+found-at name x xs rest true e h = (zero, omega arith, sym ((bytes_eq-Decides name x).0 e))
+found-at name x xs rest false e h = in-tail x name xs (rest h)
+
+found : (name : List ℕ) (xs : List (List ℕ)) → list_any (λ p. bytes_eq name p) xs ≡ true → Contains xs name
+found name [] h = cc
+found name (x ∷ xs) h = found-at name x xs (found name xs) (bytes_eq name x) refl h
+
+at-member : (name : List ℕ) (xs : List (List ℕ)) (k : ℕ) → k < length xs → slice_index_or xs k name ≡ name → list_any (λ p. bytes_eq name p) xs ≡ true
+at-member name [] k below same = absurd (omega arith)
+at-member name (x ∷ xs) zero below same =
+    let here : bytes_eq name x ≡ true = (bytes_eq-Decides name x).1 (sym same) in
+    rw here refl
+at-member name (x ∷ xs) (suc k) below same = or-true (bytes_eq name x) (at-member name xs k (omega arith) same)
+
+pub member-decides : (name : List ℕ) (xs : List (List ℕ)) → Decides (list_any (λ p. bytes_eq name p) xs) (Contains xs name)
+member-decides name xs = (found name xs, λ h. at-member name xs h.0 h.1 h.2)
+
+-- what decides membership is the test
+pub principal-same : (c : Certificate) (name : List ℕ) (r : Bool) → IsTrue r ↔ HasPrincipal c name → r ≡ has_principal c name
+principal-same c name r h = same_from_decides r (has_principal c name) h (member-decides name c.principals)
+
+-- ---- whom a certificate serves
+
+-- one of the names is a principal
+abbrev SomeIs : Certificate → List (List ℕ) → Type 0
+SomeIs c names = (name : List ℕ) × Contains names name × (name ≢ []) × HasPrincipal c name
+
+named : (c : Certificate) (n : List ℕ) → is_listed c n ≡ true → (n ≢ []) × HasPrincipal c n
+named c [] h = cc
+named c (x ∷ xs) h =
+    let off : (length (x ∷ xs) == 0) ≡ false = ne_eqb _ _ (λ e. omega arith) in
+    (λ e. cc, (member-decides (x ∷ xs) c.principals).0 (rw off at h))
+
+is-named : (c : Certificate) (n : List ℕ) → n ≢ [] → HasPrincipal c n → is_listed c n ≡ true
+is-named c [] some h = absurd (some refl)
+is-named c (x ∷ xs) some h =
+    let off : (length (x ∷ xs) == 0) ≡ false = ne_eqb _ _ (λ e. omega arith) in
+    rw off ((member-decides (x ∷ xs) c.principals).1 h)
+
+some-at : (c : Certificate) (n : List ℕ) (names : List (List ℕ)) → (list_any (is_listed c) names ≡ true → SomeIs c names) → (b : Bool) → is_listed c n ≡ b
+    → (b || list_any (is_listed c) names) ≡ true → SomeIs c (n ∷ names)
+some-at c n names rest true e h = let is = named c n e in (n, (zero, omega arith, refl), is.0, is.1)
+some-at c n names rest false e h = let later = rest h in (later.0, in-tail n later.0 names later.1, later.2, later.3)
+
+some-is : (c : Certificate) (names : List (List ℕ)) → list_any (is_listed c) names ≡ true → SomeIs c names
+some-is c [] h = cc
+some-is c (n ∷ names) h = some-at c n names (some-is c names) (is_listed c n) refl h
+
+at-listed : (c : Certificate) (names : List (List ℕ)) (name : List ℕ) (k : ℕ) → k < length names → slice_index_or names k name ≡ name
+    → is_listed c name ≡ true → list_any (is_listed c) names ≡ true
+at-listed c [] name k below same is = absurd (omega arith)
+at-listed c (n ∷ names) name zero below same is =
+    let here : is_listed c n ≡ true = ap (is_listed c) same ∙ is in
+    rw here refl
+at-listed c (n ∷ names) name (suc k) below same is = or-true (is_listed c n) (at-listed c names name k (omega arith) same is)
+
+listed-decides : (c : Certificate) (names : List (List ℕ)) → Decides (list_any (is_listed c) names) (SomeIs c names)
+listed-decides c names = (some-is c names, λ h. at-listed c names h.0 h.1.0 h.1.1 h.1.2 (is-named c h.0 h.2 h.3))
+
+none-empty : (xs : List (List ℕ)) → (length xs == 0) ≡ true → xs ≡ []
+none-empty [] h = refl
+none-empty (x ∷ xs) h =
+    let bad : length (x ∷ xs) ≡ 0 = (Decides-eqb _ 0).0 h in
+    absurd (omega arith)
+
+pub serves-decides : (list : Option (List ℕ)) (user : List ℕ) (c : Certificate) → Decides (serves list user c) (Serves list user c)
+serves-decides (Some list) user c = listed-decides c (listed_names list)
+serves-decides None user c = (
+  λ h. go (length c.principals == 0) refl h,
+  λ h. elim h [
+    | inl none ↦ rw none refl
+    | inr has ↦ or-true (length c.principals == 0) ((member-decides user c.principals).1 has)
+  ],
+)
+  where
+    go : (b : Bool) → (length c.principals == 0) ≡ b → (b || has_principal c user) ≡ true → (c.principals ≡ []) ⊎ HasPrincipal c user
+    go true e h = inl (none-empty c.principals e)
+    go false e h = inr ((member-decides user c.principals).0 h)

@@ -1,0 +1,95 @@
+-- What the options and the principals of a certificate say (PROTOCOL.certkeys).
+use Rattle.std.specs.Prelude.{ℕ, Bool, false, not, ◌&&◌, ◌||◌, ◌==◌, if◌then◌else◌, List, [], ◌∷◌, length, codes, is_some, Option, Some, None, option_and_then, Result, Ok}
+use Rattle.std.specs.List.{list_any, slice_split}
+use Rattle.std.specs.Result.{result_ok}
+use Rattle.std.specs.Str.{bytes_eq}
+use Rattle.ssh_wire.specs.declared.error.WireError.{WireError}
+use Rattle.ssh_wire.specs.Position.{Position, start}
+use Rattle.ssh_wire.specs.Reading.{◌>>=◌, string_at, end_at}
+use Rattle.ssh_patterns.specs.declared.address.Address.{Address}
+use Rattle.ssh_patterns.specs.declared.permit.Permit.{Permit}
+use Rattle.ssh_patterns.specs.declared.permit.Permit.TheVariants.{Yes}
+use Rattle.ssh_patterns.specs.Lists.{cidr_list}
+use Rattle.ssh_certs.specs.Certificate.{Certificate, CertOption}
+
+-- ---- options
+
+-- the data of the first option with this name
+abbrev pub option_in : List ℕ → List CertOption → Option (List ℕ)
+option_in name [] = None
+option_in name (o ∷ options) = if bytes_eq o.name name then Some o.value else option_in name options
+
+-- an option with this name
+abbrev pub has_option : List ℕ → List CertOption → Bool
+has_option name options = list_any (λ o. bytes_eq o.name name) options
+
+-- an option with this name and without data
+abbrev pub has_empty_option : List ℕ → List CertOption → Bool
+has_empty_option name options = list_any (λ o. bytes_eq o.name name && (length o.value == 0)) options
+
+-- the text of a field that is one string and nothing after it (RFC 4251 section 5)
+unfoldable pub whole_string_at : Position → Result (List ℕ) WireError
+whole_string_at at = do
+  text ← string_at at
+  _ ← end_at text.1
+  Ok text.0
+
+abbrev pub one_string : List ℕ → Option (List ℕ)
+one_string field = result_ok (whole_string_at (start field))
+
+-- the text of the first option with this name
+abbrev pub text_in : List ℕ → List CertOption → Option (List ℕ)
+text_in name options = option_and_then one_string (option_in name options)
+
+-- the command that the certificate forces
+abbrev pub forced_by_certificate : Certificate → Option (List ℕ)
+forced_by_certificate c = text_in (codes "force-command") c.critical
+
+abbrev pub source_by : Option (List ℕ) → Address → Permit
+source_by None address = Yes
+source_by (Some list) address = cidr_list list address
+
+-- what the certificate's own list of sources says of an address
+abbrev pub certificate_source : Certificate → Address → Permit
+certificate_source c address = source_by (text_in (codes "source-address") c.critical) address
+
+-- ---- the critical options that a login knows
+
+abbrev pub is_known : List ℕ → Bool
+is_known name = bytes_eq name (codes "force-command") || (bytes_eq name (codes "source-address") || bytes_eq name (codes "verify-required"))
+
+-- the name of the first option that no login knows
+abbrev pub first_unknown : List CertOption → Option (List ℕ)
+first_unknown [] = None
+first_unknown (o ∷ options) = if is_known o.name then first_unknown options else Some o.name
+
+-- two options have this name
+abbrev pub has_two : List ℕ → List CertOption → Bool
+has_two name [] = false
+has_two name (o ∷ options) = if bytes_eq o.name name then has_option name options else has_two name options
+
+-- some name stands twice
+abbrev pub repeats : List CertOption → Bool
+repeats options = list_any (λ o. has_two o.name options) options
+
+-- `verify-required` has no data, and each other one is a string
+abbrev pub has_its_form : CertOption → Bool
+has_its_form o = if bytes_eq o.name (codes "verify-required") then length o.value == 0 else is_some (one_string o.value)
+
+-- ---- principals
+
+-- the names of a `principals` list (sshd(8)): what stands between the commas
+abbrev pub listed_names : List ℕ → List (List ℕ)
+listed_names list = slice_split (λ c. c == 44) list
+
+abbrev pub has_principal : Certificate → List ℕ → Bool
+has_principal c name = list_any (λ p. bytes_eq name p) c.principals
+
+-- an empty name of a list counts for nothing
+abbrev pub is_listed : Certificate → List ℕ → Bool
+is_listed c name = not (length name == 0) && has_principal c name
+
+-- With a list on the line one of its names must be a principal; without one the user must be, or there is none.
+abbrev pub serves : Option (List ℕ) → List ℕ → Certificate → Bool
+serves (Some list) user c = list_any (is_listed c) (listed_names list)
+serves None user c = (length c.principals == 0) || has_principal c user

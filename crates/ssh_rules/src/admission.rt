@@ -1,0 +1,268 @@
+//! Whether an entry of an authorized_keys file admits a login.
+
+ghost use Rattle.std.specs.Prelude.{◌≡◌, IfOk, option_copied};
+ghost use Rattle.ssh_certs.specs.CertificateOf.{certificate_of};
+ghost use Rattle.ssh_options.specs.declared.option.ValueName.TheVariants.{ExpiryTime, Principals};
+ghost use Rattle.ssh_lines.specs.Settings.{setting, settings};
+ghost use Rattle.ssh_rules.specs.CertificateRules.{serves};
+ghost use Rattle.ssh_rules.specs.Admission.{certificate_obstacle, commands_differ, critical_rows, first_obstacle, force_rows, is_expired, is_past, is_past_time, line_rows, line_source, login_obstacle, offer_obstacle, permit_row, role_row, time_row};
+ghost use Rattle.ssh_offers.specs.Query.{login_of};
+ghost use Rattle.ssh_offers.specs.OfferView.{offer_of};
+ghost use Rattle.ssh_offers.specs.Claim.{claim_of};
+
+use crate::certificate::{
+    certificate_source, first_unknown, forced_command, has_listed, has_repeated, have_their_forms,
+    serves,
+};
+use crate::reason::{Obstacle, Reason};
+use crate::rights::line_command;
+use crate::value_text::ValueText;
+use ssh_certs::{CertView, Time};
+use ssh_lines::{AuthEntryView, Bytes, Flag, ValueName, ValueView, expiry};
+use ssh_offers::{Claim, Offer};
+use ssh_patterns::{Permit, source_list};
+use std::alloc::{AllocError, Global};
+
+/// The kind number of a user's certificate (PROTOCOL.certkeys).
+const USER_CERTIFICATE: u32 = 1;
+
+/// By whether the line is an authority, and whether a certificate is offered.
+fn role_obstacle(authority: bool, certified: bool) -> Option<Obstacle>
+    ensures { result ≡ role_row authority certified }
+{
+    match (authority, certified) {
+        (true, false) => Some(Obstacle::Listed(Reason::AuthorityOnly)),
+        (false, true) => Some(Obstacle::Listed(Reason::NotAuthority)),
+        (true, true) | (false, false) => None,
+    }
+}
+
+/// By what a list of sources says.
+fn permit_obstacle(bad: Reason, refused: Reason, permit: Permit) -> Option<Obstacle>
+    ensures { result ≡ permit_row bad refused permit }
+{
+    match permit {
+        Permit::Yes => None,
+        Permit::No => Some(Obstacle::Listed(refused)),
+        Permit::Bad => Some(Obstacle::Listed(bad)),
+    }
+}
+
+/// By where the moment lies in the certificate's time.
+fn time_obstacle(time: Time) -> Option<Obstacle>
+    ensures { result ≡ time_row time }
+{
+    match time {
+        Time::Early => Some(Obstacle::Listed(Reason::NotYetValid)),
+        Time::Now => None,
+        Time::Late => Some(Obstacle::Listed(Reason::NoLongerValid)),
+    }
+}
+
+/// Whether the moment is past. An expiry time without a moment counts as past.
+fn is_past(moment: Option<i64>, now: u64) -> bool
+    ensures { result ≡ is_past now moment }
+{
+    match moment {
+        Some(moment) => match u64::try_from(moment) {
+            Ok(moment) => moment < now,
+            Err(_) => true,
+        },
+        None => true,
+    }
+}
+
+/// Whether the moment of an expiry time is past.
+fn is_past_time(alloc: Global, value: &ValueView<'_>, claim: &Claim<'_>) -> Result<bool, AllocError>
+    ensures { IfOk result (λ past. past ≡ is_past_time (claim_of claim.now).query value.now) }
+{
+    let text = ValueText::new(alloc, value)?;
+    let moment = expiry(alloc, text.as_slice(), claim.query.zone)?;
+    Ok(is_past(moment, claim.query.now))
+}
+
+/// Whether an expiry time of the line is past.
+fn is_expired(
+    alloc: Global,
+    entry: &AuthEntryView<'_>,
+    claim: &Claim<'_>,
+) -> Result<bool, AllocError>
+    ensures { IfOk result (λ expired. expired ≡ is_expired (claim_of claim.now).query (settings ExpiryTime entry.now.options)) }
+{
+    for value in entry.expiry_texts() {
+        if is_past_time(alloc, &value, claim)? {
+            return Ok(true);
+        }
+    }
+    Ok(false)
+}
+
+/// What the line's list of sources says of the client.
+fn line_source(
+    alloc: Global,
+    entry: &AuthEntryView<'_>,
+    claim: &Claim<'_>,
+) -> Result<Permit, AllocError>
+    ensures { IfOk result (λ permit. permit ≡ line_source entry.now (claim_of claim.now).query) }
+{
+    let Some(value) = entry.settings(ValueName::From).next() else {
+        return Ok(Permit::Yes);
+    };
+    let list = ValueText::new(alloc, &value)?;
+    Ok(source_list(list.as_slice(), claim.query.host, claim.query.address))
+}
+
+/// Why the line does not admit the login, whatever a certificate says.
+fn line_obstacle(
+    alloc: Global,
+    entry: &AuthEntryView<'_>,
+    claim: &Claim<'_>,
+) -> Result<Option<Obstacle>, AllocError>
+    ensures { IfOk result (λ o. o ≡ first_obstacle (line_rows entry.now (claim_of claim.now))) }
+{
+    if !entry.has_blob(claim.subject_blob()) {
+        return Ok(Some(Obstacle::OtherKey));
+    }
+    let authority = entry.has_flag(Flag::CertAuthority);
+    if let Some(obstacle) = role_obstacle(authority, claim.offer.is_certified()) {
+        return Ok(Some(obstacle));
+    }
+    if is_expired(alloc, entry, claim)? {
+        return Ok(Some(Obstacle::Listed(Reason::Expired)));
+    }
+    let source = line_source(alloc, entry, claim)?;
+    Ok(permit_obstacle(Reason::SourceBad, Reason::SourceRefused, source))
+}
+
+/// Whether the certificate is for a principal that is asked for: one of the line's list, or without a
+/// list the user.
+fn has_served_principal(
+    alloc: Global,
+    entry: &AuthEntryView<'_>,
+    claim: &Claim<'_>,
+    certificate: &CertView<'_>,
+) -> Result<bool, AllocError>
+    ensures { IfOk result (λ served. served ≡ serves (setting Principals entry.now.options) (claim_of claim.now).query.user (certificate_of certificate.now)) }
+{
+    match entry.settings(ValueName::Principals).next() {
+        None => Ok(serves(certificate, claim.query.user)),
+        Some(value) => {
+            let list = ValueText::new(alloc, &value)?;
+            Ok(has_listed(certificate, list.as_slice()))
+        }
+    }
+}
+
+/// Why the certificate is not in force.
+fn force_obstacle(
+    alloc: Global,
+    entry: &AuthEntryView<'_>,
+    claim: &Claim<'_>,
+    certificate: &CertView<'_>,
+) -> Result<Option<Obstacle>, AllocError>
+    ensures { IfOk result (λ o. o ≡ first_obstacle (force_rows entry.now (claim_of claim.now).query (certificate_of certificate.now))) }
+{
+    if certificate.kind_number() != USER_CERTIFICATE {
+        return Ok(Some(Obstacle::Listed(Reason::WrongCertKind)));
+    }
+    if let Some(obstacle) = time_obstacle(certificate.in_time(claim.query.now)) {
+        return Ok(Some(obstacle));
+    }
+    if has_served_principal(alloc, entry, claim, certificate)? {
+        Ok(None)
+    } else {
+        Ok(Some(Obstacle::Listed(Reason::PrincipalRefused)))
+    }
+}
+
+/// Both force a command, and these differ.
+fn commands_differ(line: Option<ValueView<'_>>, own: Option<&[u8]>) -> bool
+    ensures { result ≡ commands_differ line.entry (option_copied own.entry) }
+{
+    match (line, own) {
+        (Some(line), Some(own)) => !line.is_text(own),
+        _ => false,
+    }
+}
+
+/// Why what the certificate insists on is not met.
+fn critical_obstacle(
+    alloc: Global,
+    entry: &AuthEntryView<'_>,
+    claim: &Claim<'_>,
+    certificate: &CertView<'_>,
+) -> Result<Option<Obstacle>, AllocError>
+    ensures { IfOk result (λ o. o ≡ first_obstacle (critical_rows entry.now (claim_of claim.now).address (certificate_of certificate.now))) }
+{
+    if let Some(name) = first_unknown(certificate.critical()) {
+        let name = name.to_vec(alloc)?;
+        return Ok(Some(Obstacle::Listed(Reason::CriticalUnknown(Bytes::new(name)))));
+    }
+    if has_repeated(certificate) {
+        return Ok(Some(Obstacle::Listed(Reason::CriticalRepeated)));
+    }
+    if !have_their_forms(certificate.critical()) {
+        return Ok(Some(Obstacle::Listed(Reason::CriticalData)));
+    }
+    let source = certificate_source(certificate, &claim.address);
+    if let Some(obstacle) = permit_obstacle(
+        Reason::CertSourceBad,
+        Reason::CertSourceRefused,
+        source,
+    ) {
+        return Ok(Some(obstacle));
+    }
+    if commands_differ(line_command(entry), forced_command(certificate)) {
+        return Ok(Some(Obstacle::Listed(Reason::CommandConflict)));
+    }
+    Ok(None)
+}
+
+/// Why the certificate does not serve for a login by this line.
+fn certificate_obstacle(
+    alloc: Global,
+    entry: &AuthEntryView<'_>,
+    claim: &Claim<'_>,
+    certificate: &CertView<'_>,
+) -> Result<Option<Obstacle>, AllocError>
+    ensures { IfOk result (λ o. o ≡ certificate_obstacle entry.now (claim_of claim.now) (certificate_of certificate.now)) }
+{
+    if let Some(obstacle) = force_obstacle(alloc, entry, claim, certificate)? {
+        return Ok(Some(obstacle));
+    }
+    let obstacle = critical_obstacle(alloc, entry, claim, certificate)?;
+    Ok(obstacle)
+}
+
+fn offer_obstacle(
+    alloc: Global,
+    entry: &AuthEntryView<'_>,
+    claim: &Claim<'_>,
+) -> Result<Option<Obstacle>, AllocError>
+    ensures { IfOk result (λ o. o ≡ offer_obstacle entry.now (claim_of claim.now) (offer_of claim.now.offer)) }
+{
+    match &claim.offer {
+        Offer::Plain(_) => Ok(None),
+        Offer::Certified(certificate) => {
+            let obstacle = certificate_obstacle(alloc, entry, claim, certificate)?;
+            Ok(obstacle)
+        }
+    }
+}
+
+/// Why the entry does not admit the login: the first reason that holds, in the order of `G2` to `G18`;
+/// nothing where it admits.
+#[tactic(auto, unfolding(crate::specs::Admission::login_obstacle))]
+pub(crate) fn login_obstacle(
+    alloc: Global,
+    entry: &AuthEntryView<'_>,
+    claim: &Claim<'_>,
+) -> Result<Option<Obstacle>, AllocError>
+    ensures { IfOk result (λ o. o ≡ login_obstacle entry.now (claim_of claim.now)) }
+{
+    if let Some(obstacle) = line_obstacle(alloc, entry, claim)? {
+        return Ok(Some(obstacle));
+    }
+    let obstacle = offer_obstacle(alloc, entry, claim)?;
+    Ok(obstacle)
+}

@@ -1,0 +1,50 @@
+//! Why a line does not admit an offer.
+
+use ssh_lines::{Bytes, LineCause};
+
+/// Why a line does not admit an offer. The first that holds, in this order, is told.
+#[derive(Debug, Drop)]
+pub enum Reason {
+    /// `G1`: the line cannot be read.
+    Unreadable(LineCause),
+    /// `G3`: a plain key is offered, and the line is an authority for certificates.
+    AuthorityOnly,
+    /// `G4`: a certificate is offered, and the line is no authority.
+    NotAuthority,
+    /// `G6`: an expiry time of the line is past.
+    Expired,
+    /// `G7`: the line's list of sources cannot be read.
+    SourceBad,
+    /// `G8`: the line's list of sources does not permit the client.
+    SourceRefused,
+    /// `G9`: the certificate is not for users.
+    WrongCertKind,
+    /// `G10`: the certificate is not yet in force.
+    NotYetValid,
+    /// `G11`: the certificate is no longer in force.
+    NoLongerValid,
+    /// `G12`: the certificate is for none of the principals that the line or the login names.
+    PrincipalRefused,
+    /// `G13`: the certificate has a critical option of this name, which no login knows.
+    CriticalUnknown(Bytes),
+    /// `G14`: a critical option stands twice in the certificate (this project's rule).
+    CriticalRepeated,
+    /// `G15`: a critical option of the certificate has data of another form.
+    CriticalData,
+    /// `G16`: the certificate's list of sources cannot be read.
+    CertSourceBad,
+    /// `G17`: the certificate's list of sources does not permit the address.
+    CertSourceRefused,
+    /// `G18`: the line and the certificate force commands, and these differ.
+    CommandConflict,
+}
+
+/// Why an entry does not admit a login: it is about another key, which is not listed, or a reason
+/// that is.
+#[derive(Debug, Drop)]
+pub enum Obstacle {
+    /// It is about another key (`G2`), which is not listed.
+    OtherKey,
+    /// A reason that is listed.
+    Listed(Reason),
+}

@@ -1,0 +1,39 @@
+//! The text of an option's value, in one piece.
+
+ghost use Rattle.std.specs.Prelude.{◌≡◌, IfOk};
+ghost use Rattle.ssh_rules.specs.ValueText.{text_of};
+
+use ssh_lines::{Bytes, ValueView};
+use std::alloc::{AllocError, Global};
+
+/// The text of a value: in its line, or copied where the line escapes a quote in it.
+#[derive(Debug, Drop)]
+pub(crate) enum ValueText<'a> {
+    InPlace(&'a [u8]),
+    Copied(Bytes),
+}
+
+impl<'a> ValueText<'a> {
+    /// The text of a value.
+    pub(crate) fn new(alloc: Global, value: &ValueView<'a>) -> Result<ValueText<'a>, AllocError>
+        ensures { IfOk result (λ text. text_of text ≡ value.now) }
+    {
+        match value.in_place() {
+            Some(text) => Ok(ValueText::InPlace(text)),
+            None => {
+                let text = value.to_bytes(alloc)?;
+                Ok(ValueText::Copied(text))
+            }
+        }
+    }
+
+    /// The bytes.
+    pub(crate) fn as_slice(&self) -> &[u8]
+        ensures { result.now ≡ text_of self.now }
+    {
+        match self {
+            ValueText::InPlace(text) => text,
+            ValueText::Copied(text) => text.as_slice(),
+        }
+    }
+}

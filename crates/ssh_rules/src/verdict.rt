@@ -1,0 +1,63 @@
+//! What a line of an authorized_keys file is to a login.
+
+ghost use Rattle.std.specs.Prelude.{◌≡◌, IfOk};
+ghost use Rattle.ssh_lines.specs.declared.entry.AuthLine.{AuthLine};
+ghost use Rattle.ssh_lines.specs.LineView.{line_seen};
+ghost use Rattle.ssh_offers.specs.Claim.{claim_of};
+ghost use Rattle.ssh_rules.specs.Verdict.{listed_reason, login_verdict};
+
+use crate::admission::login_obstacle;
+use crate::reason::{Obstacle, Reason};
+use ssh_lines::{AuthEntryView, AuthLineView};
+use ssh_offers::Claim;
+use std::alloc::{AllocError, Global};
+
+/// What a line is to a login.
+#[derive(Debug, Drop)]
+pub enum LineVerdict<'a> {
+    /// Its entry admits the login.
+    Admits(AuthEntryView<'a>),
+    /// It does not, for a reason that is listed or for none.
+    Passes(Option<Reason>),
+}
+
+fn listed_reason(obstacle: Obstacle) -> Option<Reason>
+    ensures { result ≡ listed_reason obstacle }
+{
+    match obstacle {
+        Obstacle::OtherKey => None,
+        Obstacle::Listed(why) => Some(why),
+    }
+}
+
+fn entry_verdict<'a>(
+    alloc: Global,
+    entry: AuthEntryView<'a>,
+    claim: &Claim<'_>,
+) -> Result<LineVerdict<'a>, AllocError>
+    ensures { IfOk result (λ verdict. verdict ≡ login_verdict (claim_of claim.now) (AuthLine.Entry entry.entry)) }
+{
+    match login_obstacle(alloc, &entry, claim)? {
+        None => Ok(LineVerdict::Admits(entry)),
+        Some(obstacle) => Ok(LineVerdict::Passes(listed_reason(obstacle))),
+    }
+}
+
+/// What a line is to a login: it admits it, or has the first reason in the order of `G1` to `G18`, or
+/// none where it is blank, a comment or about another key. `Err` is want of memory.
+pub fn login_verdict<'a>(
+    alloc: Global,
+    line: AuthLineView<'a>,
+    claim: &Claim<'_>,
+) -> Result<LineVerdict<'a>, AllocError>
+    ensures { IfOk result (λ verdict. verdict ≡ login_verdict (claim_of claim.now) (line_seen line.entry)) }
+{
+    match line {
+        AuthLineView::Blank | AuthLineView::Comment => Ok(LineVerdict::Passes(None)),
+        AuthLineView::Unreadable(why) => Ok(LineVerdict::Passes(Some(Reason::Unreadable(why)))),
+        AuthLineView::Entry(entry) => {
+            let verdict = entry_verdict(alloc, entry, claim)?;
+            Ok(verdict)
+        }
+    }
+}

@@ -1,0 +1,11 @@
+use Rattle.std.proofs.Common.{◌≡◌}
+use Rattle.ssh_lines.specs.Text.{lines_of, numbered}
+use Rattle.ssh_offers.specs.Claim.{claim_of}
+use Rattle.ssh_trust.specs.Scan.{empty_scan}
+use Rattle.ssh_trust.proofs.ScanLemmas.{scanned}
+use Rattle.ssh_trust.proofs.scan.scan_file.Given as goal
+
+abbrev pub invariant-loop-number : goal.invariant-loop-number
+invariant-loop-number l =
+    (goal.iterator-loop-number).can_next l.number-iterator × (goal.iterator-loop-number).is_finite l.number-iterator
+    × (scanned (claim_of l.claim) l.scan (numbered (l.number-iterator).0 (lines_of (l.number-iterator).1)) ≡ scanned (claim_of l.claim) empty_scan (numbered 1 (lines_of l.file)))

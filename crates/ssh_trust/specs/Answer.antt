@@ -1,0 +1,32 @@
+-- What a login is answered, refusals and want of memory included.
+use Rattle.std.specs.Prelude.{◌≡◌, ℕ, nat_lt, List, length, Result, Ok, Err, if◌then◌else◌, ⊤}
+use Rattle.ssh_trust.specs.declared.decision.Decision.{Decision}
+use Rattle.ssh_offers.specs.declared.error.AuditError.{AuditError}
+use Rattle.ssh_offers.specs.declared.error.AuditError.TheVariants.{FileTooLong, Memory}
+use Rattle.ssh_offers.specs.declared.query.Signed.{Signed}
+use Rattle.ssh_offers.specs.LoginClaim.{LoginClaim}
+use Rattle.ssh_trust.specs.Decision.{login_decision}
+
+-- the most bytes of a trust file (this project's rule)
+abbrev pub file_limit : ℕ
+file_limit = 67108864
+
+-- what a call returned is the answer, unless memory ran out
+abbrev pub Gives : {A : Type 0} → Result A AuditError → Result A AuditError → Type 0
+Gives answer (Ok x) = answer ≡ Ok x
+Gives answer (Err Memory) = ⊤
+Gives answer (Err e) = answer ≡ Err e
+
+-- a refused offer is refused as the definition says, whatever memory does
+abbrev pub RefusesAs : {C A : Type 0} → Result C AuditError → Result A AuditError → Type 0
+RefusesAs (Ok c) result = Unit {0}
+RefusesAs (Err e) result = result ≡ Err e
+
+-- and where it is not refused, this holds of the claim
+abbrev pub OfClaim : {C : Type 0} → Result C AuditError → (C → Type 0) → Type 0
+OfClaim (Ok c) P = P c
+OfClaim (Err e) P = Unit {0}
+
+-- the answer to a login whose offer was not refused
+abbrev pub login_answer : List ℕ → LoginClaim → List Signed → Result Decision AuditError
+login_answer file claim vouched = if nat_lt file_limit (length file) then Err FileTooLong else Ok (login_decision file claim vouched)

@@ -1,0 +1,17 @@
+pub use Rattle.ssh_offers.specs.Query
+pub use Rattle.ssh_offers.specs.Offer
+pub use Rattle.ssh_offers.specs.OfferView
+pub use Rattle.ssh_offers.specs.Algorithms
+pub use Rattle.ssh_offers.specs.LoginClaim
+pub use Rattle.ssh_offers.specs.Claim
+pub use Rattle.ssh_offers.specs.Evidence
+pub use Rattle.ssh_offers.specs.Vouching
+pub use Rattle.ssh_rules.specs.CertificateRules
+pub use Rattle.ssh_rules.specs.Rights
+pub use Rattle.ssh_rules.specs.SecurityKeys
+pub use Rattle.ssh_rules.specs.Admission
+pub use Rattle.ssh_rules.specs.Verdict
+pub mod FileLines
+pub mod Decision
+pub mod Answer
+pub mod Scan

@@ -1,0 +1,37 @@
+//! What is decided, and why.
+
+use ssh_offers::{Items, Signed};
+use ssh_rules::{Reason, Rights};
+
+/// Why an offer is denied. The first that holds is told.
+#[derive(Clone, Copy, Debug, PartialEq, Eq)]
+pub enum Cause {
+    /// `N3`: no line admits the offer.
+    NoLine,
+    /// `N4`: a security key signed without a touch (PROTOCOL.u2f), and not both the line and the
+    /// certificate, if one is offered, waive it.
+    TouchMissing,
+    /// `N5`: the line or the certificate asks that a security key verified the user (PROTOCOL.u2f).
+    VerifyMissing,
+    /// `N6`: the evidence of this index is not vouched for; the least such index.
+    NotVouched(u64),
+}
+
+/// What is decided. Both answers list the same evidence, which the decision rests on.
+#[derive(Drop)]
+pub enum Decision {
+    Granted {
+        /// The first line that admits the offer, counted from 1.
+        line: u64,
+        /// What the login may do.
+        rights: Option<Rights>,
+        evidence: Items<Signed>,
+    },
+    Denied {
+        why: Cause,
+        /// Why lines before the candidate do not admit the offer, or all lines where there is none:
+        /// the first 100, each with its number. A line with another key has no reason.
+        reasons: Items<(u64, Reason)>,
+        evidence: Items<Signed>,
+    },
+}

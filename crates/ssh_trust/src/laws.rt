@@ -1,0 +1,13 @@
+//! Laws of the definitions, each proved on a function without a body.
+
+ghost use Rattle.std.specs.Prelude.{◌<◌, ℕ, List};
+ghost use Rattle.std.specs.List.{AllByRecursion};
+ghost use Rattle.ssh_offers.specs.declared.query.Signed.{Signed as SignedValue};
+ghost use Rattle.ssh_offers.specs.LoginClaim.{LoginClaim};
+ghost use Rattle.ssh_trust.specs.Decision.{LoginMeans, login_decision};
+
+/// The decision is what is said of granted and denied logins, both ways.
+pub fn decision_rule()
+    ensures { (file : List ℕ) (claim : LoginClaim) (vouched : List SignedValue) → AllByRecursion (λ c. c < 256) file →
+        LoginMeans file claim vouched (login_decision file claim vouched) }
+{}
