@@ -2,23 +2,25 @@
 use Rattle.std.proofs.Common.{◌≡◌, ◌∙◌, ◌<◌, ℕ, Bool, true, false, cond, List, [], ◌∷◌, length, map, Option, Some, None, Result, Ok, Err, refl, sym, ap, subst, inl, inr, arith}
 use Rattle.std.specs.Prelude.{IfOk}
 use Rattle.std.specs.Str.{bytes_eq}
-use Rattle.ssh_audit.specs.Shelf.{IfTells, Shelf, bytes_at, dash}
-use Rattle.ssh_audit.specs.Parts.{cut_at_empty, after_line, first_line}
-use Rattle.ssh_audit.specs.CommandLine.{Request, login, show, request_of}
-use Rattle.ssh_audit.specs.Values.{words_in}
-use Rattle.ssh_audit.specs.Texts.{Response as Shown, out_of_memory}
-use Rattle.ssh_audit.specs.Requests.{Answer, exactly, Answers, IsAnswer, NoReadFailed, Responds, RespondsBy, SomeReadFailed, after_vouching, answer_in, login_asked, login_spelled, login_vouched, vouched_in}
-use Rattle.ssh_audit.specs.declared.query.Signed.{Signed}
-use Rattle.ssh_audit.specs.Query.{Login}
-use Rattle.ssh_audit.specs.CommandLine.{LoginWords}
-use Rattle.std.proofs.lemmas.Bool.{lt-leb}
-use Rattle.ssh_audit.specs.declared.read.ReadFault.{ReadFault}
-use Rattle.ssh_audit.specs.declared.read.ReadFault.TheVariants as fault
-use Rattle.ssh_audit.specs.Loading.{FailsLine, IsUsageOf, LoadsLine}
+use Rattle.ssh_inputs.specs.Shelf.{IfTells, Shelf, bytes_at, dash}
+use Rattle.ssh_inputs.specs.Parts.{cut_at_empty, after_line, after_part, first_line, part_at}
+use Rattle.ssh_trust.specs.Answer.{file_limit}
+use Rattle.ssh_audit.specs.CommandLine.{Request, login, show, request_of, LoginWords, ShowWords}
+use Rattle.ssh_inputs.specs.VouchFile.{vouched_of}
+use Rattle.ssh_inputs.specs.Words.{words_in}
+use Rattle.ssh_print.specs.Responses.{Response as Shown, no_file_response}
+use Rattle.jiff.specs.Types.{TimeZone}
+use Rattle.ssh_audit.specs.Requests.{Answer, decided, exactly, show_answer, IsAnswer, Responds, RespondsBy, IsReadFault, after_vouching, answer_in, login_asked, login_spelled, login_vouched, or_vouch_fault, vouched_in, vouched_or_fault}
+use Rattle.ssh_inputs.specs.Values.{ReadsZone, zone_text}
+use Rattle.ssh_inputs.specs.Loading.{NoReadFailed, OneReadFailed, within_limit, FailsLine, FailsLoad, IsLeft, IsTooLong, LoadsLine}
+use Rattle.ssh_offers.specs.declared.query.Signed.{Signed}
+use Rattle.ssh_trust.specs.Query.{Login}
+use Rattle.std.proofs.lemmas.Bool.{lt-leb, lt-ltb}
+use Rattle.ssh_inputs.specs.declared.read.ReadFault.{ReadFault}
+use Rattle.ssh_inputs.specs.declared.read.ReadFault.TheVariants as fault
+use Rattle.ssh_audit.specs.Responding.{IsFaultOf, IsUsageOf}
 use Rattle.ssh_audit.proofs.CommandLineLemmas.{none_asked}
-use Rattle.ssh_audit.proofs.PieceLemmas.{words_long}
-use Rattle.ssh_audit.specs.Printing.{Prints, PrintsUnseen}
-use Rattle.ssh_audit.specs.Tallying.{Puts}
+use Rattle.ssh_inputs.proofs.PieceLemmas.{words_long}
 
 -- ---- sources with the same files and the same input have the same answers
 
@@ -46,23 +48,118 @@ asked-same w a b (Ok q) n i =
     vouch-by w q (after_vouching w.vouch a) (after_vouching w.vouch b) (vouched_in w.vouch a) (file-same w.vouch a b w.file n i)
     ∙ ap (λ v. login_vouched w q (after_vouching w.vouch b) v) (vouched-same w.vouch a b n i)
 
-answers-same : (a b : Shelf) (q : Option Request) → a.named ≡ b.named → a.input ≡ b.input → answer_in a q ≡ answer_in b q
-answers-same a b None n i = refl
-answers-same a b (Some (login w)) n i = ap (λ r. exactly r) (asked-same w a b (login_spelled w) n i)
-answers-same a b (Some (show w)) n i = rw (n, i) refl
+show-same : (w : ShowWords) (a b : Shelf) → a.named ≡ b.named → a.input ≡ b.input → show_answer w a ≡ show_answer w b
+show-same w a b n i = rw (n, i) refl
+
+answers-same : (a b : Shelf) (q : Option Request) (r : Shown) → a.named ≡ b.named → a.input ≡ b.input → IsAnswer (answer_in a q) r → IsAnswer (answer_in b q) r
+answers-same a b None r n i h = h
+answers-same a b (Some (login w)) r n i (zone, reads, is) = (zone, reads, is ∙ asked-same w a b (login_spelled w zone) n i)
+answers-same a b (Some (show w)) r n i h = subst (λ (o : Answer). IsAnswer o r) (show-same w a b n i) h
 
 none-failed : (s t : Shelf) (u : Option Shelf) → t.failures ≡ s.failures → NoReadFailed t u → NoReadFailed s u
 none-failed s t None e h = h
 none-failed s t (Some x) e h = h ∙ e
 
-some-failed : (s t : Shelf) (u : Option Shelf) → t.failures ≡ s.failures → SomeReadFailed t u → SomeReadFailed s u
-some-failed s t None e h = h
-some-failed s t (Some x) e h = omega (arith, e, h)
+one-failed : (s t : Shelf) (u : Option Shelf) (name : List ℕ) → t.failures ≡ s.failures → OneReadFailed t u name → OneReadFailed s u name
+one-failed s t None name e h = h
+one-failed s t (Some x) name e h = (omega (arith, e, h), h.1)
+
+fault-since : (q : Option Request) (s t : Shelf) (u : Option Shelf) (r : Shown) → t.failures ≡ s.failures → IsReadFault q t u r → IsReadFault q s u r
+fault-since None s t u r f h = h
+fault-since (Some (login w)) s t u r f (inl h) = inl (one-failed s t u w.file f h.0, h.1)
+fault-since (Some (login w)) s t u r f (inr h) = inr (h.0, h.1, one-failed s t u h.0 f h.2, h.3)
+fault-since (Some (show w)) s t u r f h = (one-failed s t u w.file f h.0, h.1)
 
 shifted : (q : Option Request) (s t : Shelf) (u : Option Shelf) (r : Shown) → t.named ≡ (after_line s).named → t.input ≡ (after_line s).input → t.failures ≡ s.failures
     → RespondsBy q (answer_in t q) t u r → RespondsBy q (answer_in (after_line s) q) s u r
-shifted q s t u r n i f (inl h) = inl (none-failed s t u f h.0, subst (λ (o : Answer). IsAnswer o r) (answers-same t (after_line s) q n i) h.1)
-shifted q s t u r n i f (inr h) = inr (some-failed s t u f h.0, h.1)
+shifted q s t u r n i f (inl h) = inl (none-failed s t u f h.0, answers-same t (after_line s) q r n i h.1)
+shifted q s t u r n i f (inr h) = inr (fault-since q s t u r f h)
+
+-- ---- vouch files
+
+over_limit : (bytes : Option (List ℕ)) → IsTooLong bytes → within_limit bytes ≡ None
+over_limit None h = absurd h
+over_limit (Some bytes) h = rw (lt-ltb file_limit (length bytes) h) refl
+
+not_told : (w : LoginWords) (q : Login) (s : Shelf) (name : List ℕ) → within_limit (part_at s name) ≡ None
+    → login_vouched w q (after_vouching (Some name) s) (vouched_in (Some name) s) ≡ no_file_response name
+not_told w q s name h = rw h refl
+
+vouch_fault : (w : LoginWords) (q : Login) (name : List ℕ) (s : Shelf) (u : Option Shelf) (e : ReadFault) (r : Shown) → w.vouch ≡ Some name
+    → FailsLoad name (part_at s name) s u e → IsFaultOf name e r
+    → RespondsBy (Some (login w)) (exactly (login_vouched w q (after_vouching (Some name) s) (vouched_in (Some name) s))) s u r
+vouch_fault w q name s u fault.Missing r v fails is = inl (fails.1, is ∙ sym (not_told w q s name (rw fails.0 refl)))
+vouch_fault w q name s u fault.TooLong r v fails is = inl (fails.1, is ∙ sym (not_told w q s name (over_limit (part_at s name) fails.0)))
+vouch_fault w q name s u fault.Failed r v fails is = inr (inr (name, v, fails, is))
+vouch_fault w q name s u fault.Memory r v fails is = absurd is
+
+-- a vouch file that gives no bytes
+pub vouch_unread : {R E : Type 0} (view : R → Shown) (w : LoginWords) (q : Login) (name : List ℕ) (o u : Option Shelf) (e : ReadFault) (res : Result R E) → w.vouch ≡ Some name
+    → IfTells o (λ s. FailsLoad name (part_at s name) s u e) → IfOk res (λ r. IsFaultOf name e (view r))
+    → IfTells o (λ s. IfOk res (λ r. RespondsBy (Some (login w)) (exactly (login_vouched w q (after_vouching w.vouch s) (vouched_in w.vouch s))) s u (view r)))
+vouch_unread view w q name None u e res v fails is = tt
+vouch_unread view w q name (Some s) u e (Err x) v fails is = λ counts. tt
+vouch_unread view w q name (Some s) u e (Ok r) v fails is = λ counts.
+    let P : Option (List ℕ) → Type 0 = λ z. RespondsBy (Some (login w)) (exactly (login_vouched w q (after_vouching z s) (vouched_in z s))) s u (view r) in
+    subst P (sym v) (vouch_fault w q name s u e (view r) v (fails counts) is)
+
+same_file : (a b : Shelf) (name : List ℕ) → a.named ≡ b.named → a.input ≡ b.input → bytes_at a name ≡ bytes_at b name
+same_file a b name n i = rw (n, i) refl
+
+told : (w : LoginWords) (q : Login) (s t : Shelf) (name bytes : List ℕ) → within_limit (part_at s name) ≡ Some bytes → t.named ≡ (after_part s name).named → t.input ≡ (after_part s name).input
+    → login_vouched w q t (or_vouch_fault (vouched_of bytes)) ≡ login_vouched w q (after_vouching (Some name) s) (vouched_in (Some name) s)
+told w q s t name bytes h n i =
+    vouch-by w q t (after_part s name) (or_vouch_fault (vouched_of bytes)) (same_file t (after_part s name) w.file n i)
+    ∙ ap (λ f. login_vouched w q (after_part s name) (vouched_or_fault name f)) (sym h)
+
+-- a response from where the vouch file was read on
+vouch_shifted : (w : LoginWords) (a b : Shown) (s t : Shelf) (u : Option Shelf) (r : Shown) → t.failures ≡ s.failures → a ≡ b → RespondsBy (Some (login w)) (exactly a) t u r → RespondsBy (Some (login w)) (exactly b) s u r
+vouch_shifted w a b s t u r f e (inl h) = inl (none-failed s t u f h.0, h.1 ∙ e)
+vouch_shifted w a b s t u r f e (inr h) = inr (fault-since (Some (login w)) s t u r f h)
+
+-- a vouch file that was read
+pub vouch_responds : {R E : Type 0} (view : R → Shown) (w : LoginWords) (q : Login) (name bytes read : List ℕ) (o t u : Option Shelf) (res : Result R E) → w.vouch ≡ Some name → read ≡ bytes
+    → IfTells o (λ s. (within_limit (part_at s name) ≡ Some bytes) × IsLeft s (after_part s name) t)
+    → IfTells t (λ s. IfOk res (λ r. RespondsBy (Some (login w)) (exactly (login_vouched w q s (or_vouch_fault (vouched_of read)))) s u (view r)))
+    → IfTells o (λ s. IfOk res (λ r. RespondsBy (Some (login w)) (exactly (login_vouched w q (after_vouching w.vouch s) (vouched_in w.vouch s))) s u (view r)))
+vouch_responds view w q name bytes read None t u res v is loads h = tt
+vouch_responds view w q name bytes read (Some s) None u res v is loads h = λ counts. absurd ((loads counts).1)
+vouch_responds view w q name bytes read (Some s) (Some t) u (Err e) v is loads h = λ counts. tt
+vouch_responds view w q name bytes read (Some s) (Some t) u (Ok r) v is loads h = λ counts.
+    let load = loads counts in
+    let same = load.1.2 in
+    let P : Option (List ℕ) → Type 0 = λ z. RespondsBy (Some (login w)) (exactly (login_vouched w q (after_vouching z s) (vouched_in z s))) s u (view r) in
+    let same_answer = ap (λ b. login_vouched w q t (or_vouch_fault (vouched_of b))) is ∙ told w q s t name bytes load.0 load.1.0 load.1.1 in
+    subst P (sym v) (vouch_shifted w _ _ s t u (view r) same same_answer (h (omega (arith, counts, same))))
+
+-- ---- logins
+
+decided-by : (w : LoginWords) (q : Result Login Shown) (told : Option TimeZone) (s : Shelf) (t : Option Shelf) (r : Shown) → ReadsZone (zone_text w.zone) told
+    → login_spelled w told ≡ q → RespondsBy (Some (login w)) (exactly (login_asked w s q)) s t r → RespondsBy (Some (login w)) (decided w s) s t r
+decided-by w q told s t r reads e (inl (none, is)) = inl (none, (told, reads, is ∙ sym (ap (login_asked w s) e)))
+decided-by w q told s t r reads e (inr h) = inr h
+
+decided-if : {R E : Type 0} (view : R → Shown) (w : LoginWords) (q : Result Login Shown) (told : Option TimeZone) (s : Shelf) (t : Option Shelf) (res : Result R E)
+    → ReadsZone (zone_text w.zone) told → login_spelled w told ≡ q → IfOk res (λ r. RespondsBy (Some (login w)) (exactly (login_asked w s q)) s t (view r))
+    → IfOk res (λ r. RespondsBy (Some (login w)) (decided w s) s t (view r))
+decided-if view w q told s t (Err x) reads e h = tt
+decided-if view w q told s t (Ok r) reads e h = decided-by w q told s t (view r) reads e h
+
+-- what is answered to the values of a login is answered to the login, in the zone of its text
+pub login_decided : {R E : Type 0} (view : R → Shown) (w : LoginWords) (q : Result Login Shown) (told : Option TimeZone) (o t : Option Shelf) (res : Result R E)
+    → ReadsZone (zone_text w.zone) told → login_spelled w told ≡ q
+    → IfTells o (λ s. IfOk res (λ r. RespondsBy (Some (login w)) (exactly (login_asked w s q)) s t (view r)))
+    → IfTells o (λ s. IfOk res (λ r. RespondsBy (Some (login w)) (decided w s) s t (view r)))
+login_decided view w q told None t res reads e h = tt
+login_decided view w q told (Some s) t res reads e h = λ counts. decided-if view w q told s t res reads e (h counts)
+
+-- a login that is the same is answered the same
+pub same_login : {R E : Type 0} (view : R → Shown) (w : LoginWords) (p q : Login) (o t : Option Shelf) (res : Result R E) → p ≡ q
+    → IfTells o (λ s. IfOk res (λ r. RespondsBy (Some (login w)) (exactly (login_asked w s (Ok p))) s t (view r)))
+    → IfTells o (λ s. IfOk res (λ r. RespondsBy (Some (login w)) (exactly (login_asked w s (Ok q))) s t (view r)))
+same_login view w p q o t res e h =
+    let P : Login → Type 0 = λ x. IfTells o (λ s. IfOk res (λ r. RespondsBy (Some (login w)) (exactly (login_asked w s (Ok x))) s t (view r))) in
+    subst P e h
 
 -- ---- words
 
@@ -116,44 +213,3 @@ pub words_respond : {R E W : Type 0} (view : R → Shown) (text : W → List ℕ
 words_respond view text [] o u res some h = absurd (omega (arith, some))
 words_respond view text (w ∷ words) None u res some h = tt
 words_respond view text (w ∷ words) (Some s) u res some h = λ counts. given view (text w) (map text words) s u res (h counts)
-
--- ---- printing
-
--- memory was refused
-pub forgone : (words : List (List ℕ)) (o t : Option Shelf) (old new : Option (List ℕ)) (before after put : Bool) → Puts old new before after out_of_memory.text put
-    → IfTells o (λ s. (x : Shown) × Answers words s t x × Prints old new before after x 2)
-forgone words None t old new before after put puts = tt
-forgone words (Some s) t old new before after put puts = λ counts. (out_of_memory, inr refl, by_put put puts)
-  where
-    by_put : (put : Bool) → Puts old new before after out_of_memory.text put → Prints old new before after out_of_memory 2
-    by_put true puts = inl (puts.0, puts.1, refl)
-    by_put false puts = inr (refl, puts.0, puts.1, puts.2, puts.3)
-
--- what is printed is printed also where it is not known whether a write failed
-unseen : (old new : Option (List ℕ)) (before after : Bool) (r : Shown) (status : ℕ) → Prints old new before after r status → PrintsUnseen old new r status
-unseen old new before after r status (inl whole) = inl (whole.0, whole.2)
-unseen old new before after r status (inr front) = inr (front.0, front.2, front.3, front.4)
-
-printed : (words : List (List ℕ)) (o t : Option Shelf) (old new : Option (List ℕ)) (before after : Bool) (status : ℕ)
-    → IfTells o (λ s. (x : Shown) × Answers words s t x × Prints old new before after x status)
-    → IfTells o (λ s. (x : Shown) × Answers words s t x × PrintsUnseen old new x status)
-printed words None t old new before after status prints = tt
-printed words (Some s) t old new before after status prints = λ counts. let p = prints counts in (p.0, p.1, unseen old new before after p.0 status p.2)
-
--- the borrowed writer ends as the tallied one left it
-pub printed_through : {W : Type 0} (contents : W → Option (List ℕ)) (words : List (List ℕ)) (o t : Option Shelf) (first begun left ended : W) (before after : Bool) (status : ℕ)
-    → begun ≡ first → ended ≡ left
-    → IfTells o (λ s. (x : Shown) × Answers words s t x × Prints (contents begun) (contents left) before after x status)
-    → IfTells o (λ s. (x : Shown) × Answers words s t x × PrintsUnseen (contents first) (contents ended) x status)
-printed_through contents words o t first begun left ended before after status begins ends prints =
-    rw (ends, ← begins) (printed words o t (contents begun) (contents left) before after status prints)
-
--- a fault is printed with its status, whether a write failed or not
-pub refused_through : {W : Type 0} (contents : W → Option (List ℕ)) (first begun left ended : W) (before after put : Bool) (r : Shown)
-    → r.status ≡ 2 → begun ≡ first → ended ≡ left → Puts (contents begun) (contents left) before after r.text put
-    → PrintsUnseen (contents first) (contents ended) r 2
-refused_through contents first begun left ended before after put r status begins ends puts = rw (ends, ← begins) (by_put put puts)
-  where
-    by_put : (put : Bool) → Puts (contents begun) (contents left) before after r.text put → PrintsUnseen (contents begun) (contents left) r 2
-    by_put true puts = inl (puts.0, sym status)
-    by_put false puts = inr (refl, puts.1, puts.2, puts.3)

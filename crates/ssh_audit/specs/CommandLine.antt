@@ -16,7 +16,8 @@ with_options = fold (λ a o. with_rule a (option_rule o))
 
 abbrev pub login_options : List (Text × Bool)
 login_options = (codes "file", true) ∷ (codes "offer", true) ∷ (codes "signature", true) ∷ (codes "algorithm", true) ∷ (codes "session", true)
-    ∷ (codes "user", true) ∷ (codes "address", true) ∷ (codes "now", true) ∷ (codes "vouch", false) ∷ []
+    ∷ (codes "user", true) ∷ (codes "address", true) ∷ (codes "now", true) ∷ (codes "host", false) ∷ (codes "zone", false)
+    ∷ (codes "vouch", false) ∷ []
 
 unfoldable pub login_app : App
 login_app = with_options (new_app (codes "login")) login_options
@@ -41,6 +42,8 @@ pub record LoginWords : Type 0 where
   pub user : Text
   pub address : Text
   pub now : Text
+  pub host : Option Text
+  pub zone : Option Text
   pub vouch : Option Text
 
 -- the texts of the options of `show`
@@ -67,7 +70,19 @@ login_words rows = do
   user ← first_of (codes "user") rows
   address ← first_of (codes "address") rows
   now ← first_of (codes "now") rows
-  Some (record { file = file; offer = offer; signature = signature; algorithm = algorithm; session = session; user = user; address = address; now = now; vouch = first_of (codes "vouch") rows })
+  Some (record {
+    file = file;
+    offer = offer;
+    signature = signature;
+    algorithm = algorithm;
+    session = session;
+    user = user;
+    address = address;
+    now = now;
+    host = first_of (codes "host") rows;
+    zone = first_of (codes "zone") rows;
+    vouch = first_of (codes "vouch") rows;
+  })
 
 unfoldable pub show_words : List Row → Option ShowWords
 show_words rows = do

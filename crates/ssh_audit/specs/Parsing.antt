@@ -22,6 +22,8 @@ texts_of w = record {
   user = w.user.now;
   address = w.address.now;
   now = w.now.now;
+  host = option_map (λ s. s.now) w.host;
+  zone = option_map (λ s. s.now) w.zone;
   vouch = option_map (λ s. s.now) w.vouch;
 }
 

@@ -1,15 +1,22 @@
 -- What the program leaves with its writer.
-use Rattle.std.specs.Prelude.{◌≡◌, ◌⊎◌, ◌<◌, ℕ, Bool, true, List, Option, length}
-use Rattle.std.specs.Io.KnownBytes.{Appends}
-use Rattle.ssh_audit.specs.Texts.{Response}
-use Rattle.ssh_audit.specs.Writing.{IsWritten}
+use Rattle.std.specs.Prelude.{◌≡◌, ◌⊎◌, ◌++◌, ◌<◌, ℕ, List, Option, length}
+use Rattle.ssh_inputs.specs.Account.{Account, failing, taking, where_told}
+use Rattle.ssh_print.specs.Responses.{Response}
 
--- the whole text was taken, with its status, and no write failed; or a write failed after a proper front of it, and the status is 2
-abbrev pub Prints : Option (List ℕ) → Option (List ℕ) → Bool → Bool → Response → ℕ → Type 0
-Prints old new failed_before failed r status = (Appends old new r.text × (failed ≡ failed_before) × (status ≡ r.status))
-    ⊎ ((status ≡ 2) × (failed ≡ true) × (rest : List ℕ) × (0 < length rest) × IsWritten old new r.text rest)
+-- the text was taken up to this rest, and no write failed
+pub record Takes (old new : Option Account) (text rest : List ℕ) : Type 0 where
+  pub front : List ℕ
+  pub parts : text ≡ front ++ rest
+  pub told : new ≡ where_told (λ a. taking a front) old
 
--- the same, where it is not known whether a write failed
-abbrev pub PrintsUnseen : Option (List ℕ) → Option (List ℕ) → Response → ℕ → Type 0
-PrintsUnseen old new r status = (Appends old new r.text × (status ≡ r.status))
-    ⊎ ((status ≡ 2) × (rest : List ℕ) × (0 < length rest) × IsWritten old new r.text rest)
+-- a front of the text was taken that is not the whole, and then one write failed
+pub record Breaks (old new : Option Account) (text : List ℕ) : Type 0 where
+  pub front : List ℕ
+  pub rest : List ℕ
+  pub parts : text ≡ front ++ rest
+  pub proper : 0 < length rest
+  pub told : new ≡ where_told (λ a. failing (taking a front)) old
+
+-- the whole text was taken, no write failed, and the status is the response's; or a write failed after a proper front of the text, and the status is 2
+abbrev pub Prints : Option Account → Option Account → Response → ℕ → Type 0
+Prints old new r status = ((new ≡ where_told (λ a. taking a r.text) old) × (status ≡ r.status)) ⊎ (Breaks old new r.text × (status ≡ 2))

@@ -1,25 +1,29 @@
 -- What is answered to words, over the files of a source.
-use Rattle.std.specs.Prelude.{◌≡◌, ◌⊎◌, ◌<◌, ◌^◌, ℕ, List, [], ◌∷◌, Option, Some, None, Result, Ok, Err, codes, length, nat_lt, option_and_then, if◌then◌else◌}
+use Rattle.std.specs.Prelude.{◌≡◌, ◌⊎◌, ◌^◌, ℕ, List, [], ◌∷◌, Option, Some, None, Result, Ok, Err, codes}
 use Rattle.base64.specs.Engines.{standard}
 use Rattle.base64.specs.GeneralPurpose.{decoded_of}
+use Rattle.jiff.specs.Types.{TimeZone}
 use Rattle.ssh_wire.specs.Reading.{◌>>=◌}
-use Rattle.ssh_audit.specs.declared.decision.Decision.{Decision}
-use Rattle.ssh_audit.specs.declared.error.AuditError.{AuditError}
-use Rattle.ssh_audit.specs.declared.error.AuditError.TheVariants.{Read}
-use Rattle.ssh_audit.specs.declared.query.Signed.{Signed}
+use Rattle.ssh_trust.specs.declared.decision.Decision.{Decision}
+use Rattle.ssh_offers.specs.declared.error.AuditError.{AuditError}
+use Rattle.ssh_offers.specs.declared.error.AuditError.TheVariants.{Read}
+use Rattle.ssh_offers.specs.declared.query.Signed.{Signed}
 use Rattle.ssh_audit.specs.declared.request.WordsFault.{WordsFault}
 use Rattle.ssh_audit.specs.declared.request.WordsFault.TheVariants.{Usage, Memory}
-use Rattle.ssh_audit.specs.Query.{Login}
-use Rattle.ssh_audit.specs.Offer.{LoginClaim, login_claim}
-use Rattle.ssh_audit.specs.Answer.{file_limit, login_answer}
+use Rattle.ssh_trust.specs.Query.{Login}
+use Rattle.ssh_trust.specs.LoginClaim.{LoginClaim, login_claim}
+use Rattle.ssh_trust.specs.Answer.{login_answer}
 use Rattle.ssh_audit.specs.CommandLine.{LoginWords, Request, ShowWords, login, show, request_of}
-use Rattle.ssh_audit.specs.Shelf.{Shelf, bytes_at}
-use Rattle.ssh_audit.specs.declared.show.ShowKind.{ShowKind}
-use Rattle.ssh_audit.specs.FileLines.{lines_of}
-use Rattle.ssh_audit.specs.Showing.{ShowsLine, first_of_lines, show_kind}
-use Rattle.ssh_audit.specs.Parts.{part_at, after_part, first_line, after_line}
-use Rattle.ssh_audit.specs.Values.{hex_bytes, number_below, vouched_of, words_in}
-use Rattle.ssh_audit.specs.Texts.{Response, decision_response, no_file_response, out_of_memory, refused_response, usage_response, value_response, vouch_response}
+use Rattle.ssh_inputs.specs.Shelf.{Shelf, bytes_at}
+use Rattle.ssh_show.specs.declared.kind.ShowKind.{ShowKind}
+use Rattle.ssh_lines.specs.Text.{lines_of}
+use Rattle.ssh_show.specs.Showing.{ShowsLine, first_of_lines, show_kind}
+use Rattle.ssh_inputs.specs.Parts.{part_at, after_part, first_line, after_line}
+use Rattle.ssh_inputs.specs.Values.{hex_bytes, number_below, short_bytes, short_hex, zone_text, ReadsZone}
+use Rattle.ssh_inputs.specs.VouchFile.{vouched_of}
+use Rattle.ssh_inputs.specs.Words.{words_in}
+use Rattle.ssh_print.specs.Responses.{Response, decision_response, no_file_response, out_of_memory, refused_response, usage_response, value_response, vouch_response}
+use Rattle.ssh_inputs.specs.Loading.{OneReadFailed, NoReadFailed, LineReadFailed, within_limit}
 
 -- ---- values
 
@@ -28,29 +32,28 @@ abbrev pub or_value_fault : {A : Type 0} → List ℕ → Option A → Result A 
 or_value_fault name (Some x) = Ok x
 or_value_fault name None = Err (value_response name)
 
--- a string of the login bytes has fewer than 2^32 bytes (RFC 4251 section 5)
-abbrev pub short_bytes : List ℕ → Option (List ℕ)
-short_bytes bytes = if nat_lt (length bytes) (2 ^ 32) then Some bytes else None
-
-abbrev pub short_hex : List ℕ → Option (List ℕ)
-short_hex text = option_and_then short_bytes (hex_bytes text)
-
--- the login that the options spell, or the first value that is none, in the order of the options
-unfoldable pub login_spelled : LoginWords → Result Login Response
-login_spelled w = do
+-- the login that the options spell, the zone being read; or the first value that is none, in the order of the options
+unfoldable pub login_spelled : LoginWords → Option TimeZone → Result Login Response
+login_spelled w zone = do
   offered ← or_value_fault (codes "offer") (decoded_of standard w.offer)
   signature ← or_value_fault (codes "signature") (hex_bytes w.signature)
   session ← or_value_fault (codes "session") (short_hex w.session)
   user ← or_value_fault (codes "user") (short_bytes w.user)
   now ← or_value_fault (codes "now") (number_below (2 ^ 64) w.now)
-  Ok (record { offered = offered; signature = signature; algorithm = w.algorithm; session = session; user = user; address = w.address; now = now })
+  zone ← or_value_fault (codes "zone") zone
+  Ok (record {
+    offered = offered;
+    signature = signature;
+    algorithm = w.algorithm;
+    session = session;
+    user = user;
+    host = w.host;
+    address = w.address;
+    now = now;
+    zone = zone;
+  })
 
--- ---- files
-
--- the bytes of a file, where there are no more than it may have
-abbrev pub within_limit : Option (List ℕ) → Option (List ℕ)
-within_limit None = None
-within_limit (Some bytes) = if nat_lt file_limit (length bytes) then None else Some bytes
+-- ---- vouch files
 
 abbrev pub or_vouch_fault : Result (List Signed) ℕ → Result (List Signed) Response
 or_vouch_fault (Ok vouched) = Ok vouched
@@ -93,17 +96,19 @@ abbrev pub login_asked : LoginWords → Shelf → Result Login Response → Resp
 login_asked w s (Err r) = r
 login_asked w s (Ok q) = login_vouched w q (after_vouching w.vouch s) (vouched_in w.vouch s)
 
-abbrev pub login_response : LoginWords → Shelf → Response
-login_response w s = login_asked w s (login_spelled w)
+abbrev pub login_response : LoginWords → Option TimeZone → Shelf → Response
+login_response w zone s = login_asked w s (login_spelled w zone)
 
--- what is to be answered: this response, or what a line is shown as
+-- what is to be answered: this response, that to a login in the zone of its text, or what a line is shown as
 pub data Answer : Type 0 where
   exactly : Response → Answer
+  decided : LoginWords → Shelf → Answer
   shown : ShowKind → List ℕ → Answer
 
 -- the response is that answer
 abbrev pub IsAnswer : Answer → Response → Type 0
 IsAnswer (exactly wanted) r = r ≡ wanted
+IsAnswer (decided w s) r = (zone : Option TimeZone) × ReadsZone (zone_text w.zone) zone × (r ≡ login_response w zone s)
 IsAnswer (shown kind line) r = ShowsLine kind line r
 
 -- the first line of a file, whatever its length
@@ -121,7 +126,7 @@ show_answer w s = show_by_kind (show_kind w.kind) w.file (bytes_at s w.file)
 -- the answer to a request
 abbrev pub answer_in : Shelf → Option Request → Answer
 answer_in s None = exactly usage_response
-answer_in s (Some (login w)) = exactly (login_response w s)
+answer_in s (Some (login w)) = decided w s
 answer_in s (Some (show w)) = show_answer w s
 
 -- where no word is given, the words are those of the first line of standard input
@@ -139,29 +144,20 @@ answer words s = answer_in (source_of words s) (request_of (asked words s))
 
 -- ---- failed reads
 
--- a read failed between the two
-abbrev pub SomeReadFailed : Shelf → Option Shelf → Type 0
-SomeReadFailed s None = ⊥
-SomeReadFailed s (Some t) = s.failures < t.failures
+-- one read failed, and the response is that file's fault: A9 of the trust file, and its name of the vouch file and of the file that is shown
+abbrev pub IsReadFault : Option Request → Shelf → Option Shelf → Response → Type 0
+IsReadFault None s t r = ⊥
+IsReadFault (Some (login w)) s t r = (OneReadFailed s t w.file × (r ≡ refused_response Read))
+    ⊎ ((name : List ℕ) × (w.vouch ≡ Some name) × OneReadFailed s t name × (r ≡ no_file_response name))
+IsReadFault (Some (show w)) s t r = OneReadFailed s t w.file × (r ≡ no_file_response w.file)
 
--- no read failed between the two
-abbrev pub NoReadFailed : Shelf → Option Shelf → Type 0
-NoReadFailed s None = ⊥
-NoReadFailed s (Some t) = t.failures ≡ s.failures
-
--- the fault of a file that was asked for: the trust file, the vouch file, or the file that is shown
-abbrev pub IsFileFault : Option Request → Response → Type 0
-IsFileFault None r = ⊥
-IsFileFault (Some (login w)) r = (r ≡ refused_response Read) ⊎ ((name : List ℕ) × (w.vouch ≡ Some name) × (r ≡ no_file_response name))
-IsFileFault (Some (show w)) r = r ≡ no_file_response w.file
-
--- the response is the wanted one; or a read failed, and it is the fault of a file that was asked for
+-- the response is the wanted one, and no read failed; or one failed, and it is the fault of the file that was read
 abbrev pub RespondsBy : Option Request → Answer → Shelf → Option Shelf → Response → Type 0
-RespondsBy q wanted s t r = (NoReadFailed s t × IsAnswer wanted r) ⊎ (SomeReadFailed s t × IsFileFault q r)
+RespondsBy q wanted s t r = (NoReadFailed s t × IsAnswer wanted r) ⊎ IsReadFault q s t r
 
 -- the same of words, where the first line of standard input may be what was not read
 abbrev pub Responds : List (List ℕ) → Shelf → Option Shelf → Response → Type 0
-Responds words s t r = RespondsBy (request_of (asked words s)) (answer words s) s t r ⊎ (SomeReadFailed s t × (words ≡ []) × (r ≡ usage_response))
+Responds words s t r = RespondsBy (request_of (asked words s)) (answer words s) s t r ⊎ (LineReadFailed s t × (words ≡ []) × (r ≡ usage_response))
 
 -- the response is the answer where no read failed, and a read's fault where one did, unless memory was refused
 abbrev pub Answers : List (List ℕ) → Shelf → Option Shelf → Response → Type 0

@@ -34,6 +34,8 @@ fn login_command<'a>(alloc: Global) -> Result<Command<'a>, AllocError>
     let command = with_option(alloc, command, "user", true)?;
     let command = with_option(alloc, command, "address", true)?;
     let command = with_option(alloc, command, "now", true)?;
+    let command = with_option(alloc, command, "host", false)?;
+    let command = with_option(alloc, command, "zone", false)?;
     let command = with_option(alloc, command, "vouch", false)?;
     Ok(command)
 }

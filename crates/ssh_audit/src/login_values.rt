@@ -1,14 +1,14 @@
 //! The values of the options of `login`.
 
-ghost use Rattle.std.specs.Prelude.{◌≡◌, ◌<◌, ◌^◌, nat_lt, length, option_map, IfOk, IfSome, OnOk};
-ghost use Rattle.ssh_audit.specs.Requests.{short_hex};
+ghost use Rattle.std.specs.Prelude.{◌≡◌, ◌<◌, ◌^◌, length, option_map, IfOk, OnOk};
+ghost use Rattle.jiff.specs.Words.{plain_zone};
 ghost use Rattle.ssh_audit.specs.declared.login_values.ValueFault.TheVariants.{Memory};
 ghost use Rattle.ssh_audit.specs.Parsing.{texts_of};
-ghost use Rattle.ssh_audit.specs.LoginValues.{Spells};
+ghost use Rattle.ssh_audit.specs.LoginValues.{Spells, SpellsIn};
 
-use crate::key_line::decode;
 use crate::request::LoginWords;
-use crate::values::{read_hex, read_number};
+use jiff::tz::TimeZone;
+use ssh_inputs::{decode, is_short, read_hex, read_number, read_short_hex, zone_of};
 use std::alloc::{AllocError, Global};
 
 /// What the options spell, beside the texts that are taken as they are.
@@ -18,6 +18,7 @@ pub struct LoginValues {
     pub signature: Vec<u8>,
     pub session: Vec<u8>,
     pub now: u64,
+    pub zone: TimeZone<'static>,
 }
 
 /// Why an option has no value.
@@ -36,27 +37,14 @@ impl From<AllocError> for ValueFault {
     }
 }
 
-/// A string of the login bytes has fewer than 2^32 bytes (RFC 4251 section 5).
-fn is_short(bytes: &[u8]) -> bool
-    ensures { result ≡ nat_lt (length bytes.now) (2 ^ 32) }
-{
-    bytes.len() < 1 << 32
-}
-
-fn read_short_hex(alloc: Global, text: &[u8]) -> Result<Option<Vec<u8>>, AllocError>
-    ensures value { IfOk result (λ bytes. option_map (λ v. v.items) bytes ≡ short_hex text.now) }
-    ensures short { IfOk result (λ bytes. IfSome bytes (λ v. length v.items < 2 ^ 32)) }
-{
-    match read_hex(alloc, text)? {
-        Some(bytes) if is_short(&bytes) => Ok(Some(bytes)),
-        _ => Ok(None),
-    }
-}
-
-/// The values of the options, or the first in their order that spells none.
+/// The values of the options, or the first in their order that spells none, where the zone is read.
 #[tactic(auto, unfolding(crate::specs::Requests::login_spelled))]
-pub fn read_login_values(alloc: Global, words: &LoginWords<'_>) -> Result<LoginValues, ValueFault>
-    ensures spelled { Spells (texts_of words.entry.now) result }
+fn read_values(
+    alloc: Global,
+    words: &LoginWords<'_>,
+    zone: Option<TimeZone<'static>>,
+) -> Result<LoginValues, ValueFault>
+    ensures spelled { SpellsIn (texts_of words.entry.now) (option_map plain_zone zone.entry) result }
     ensures session { IfOk result (λ v. length v.session.items < 2 ^ 32) }
     ensures user { OnOk result (length words.entry.now.user.now < 2 ^ 32) }
 {
@@ -75,10 +63,25 @@ pub fn read_login_values(alloc: Global, words: &LoginWords<'_>) -> Result<LoginV
     let Some(now) = read_number(words.now) else {
         return Err(ValueFault::Value("now"));
     };
+    let Some(zone) = zone else {
+        return Err(ValueFault::Value("zone"));
+    };
     Ok(LoginValues {
         offered,
         signature,
         session,
         now,
+        zone,
     })
+}
+
+/// The values of the options, or the first in their order that spells none.
+pub fn read_login_values(alloc: Global, words: &LoginWords<'_>) -> Result<LoginValues, ValueFault>
+    ensures spelled { Spells (texts_of words.entry.now) result }
+    ensures session { IfOk result (λ v. length v.session.items < 2 ^ 32) }
+    ensures user { OnOk result (length words.entry.now.user.now < 2 ^ 32) }
+{
+    let zone = zone_of(words.zone);
+    let values = read_values(alloc, words, zone)?;
+    Ok(values)
 }

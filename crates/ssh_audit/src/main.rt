@@ -1,44 +1,19 @@
 //! An auditor of OpenSSH's trust files: it says which line of an authorized_keys file admits a login, and why others do not.
 #![tactic(auto)]
 
-mod answer;
-mod candidate;
-mod claim;
 mod command;
-mod date;
-mod decision;
-mod error;
-mod evidence;
-mod files;
-mod items;
-mod key_line;
-mod laws;
-mod lines;
-mod login;
+#[cfg(test)]
+mod login_tests;
 mod login_values;
 mod parse;
-mod query;
-mod read;
 mod request;
 mod respond;
-mod response;
 mod run;
-mod show;
-mod show_cert;
-mod show_fault;
-mod show_key;
-mod show_line;
 #[cfg(test)]
 mod show_tests;
-mod show_text;
 mod system;
-mod tallied;
 #[cfg(test)]
 mod tests;
-mod text;
-mod values;
-mod vouch;
-mod words;
 
 use request::WordsFault;
 use run::{refuse, run};

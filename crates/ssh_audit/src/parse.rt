@@ -43,6 +43,8 @@ fn login_words<'a>(matches: &ArgMatches<'a>) -> Option<LoginWords<'a>>
         user: value(matches, "user")?,
         address: value(matches, "address")?,
         now: value(matches, "now")?,
+        host: value(matches, "host"),
+        zone: value(matches, "zone"),
         vouch: value(matches, "vouch"),
     })
 }

@@ -11,6 +11,8 @@ pub struct LoginWords<'a> {
     pub user: &'a str,
     pub address: &'a str,
     pub now: &'a str,
+    pub host: Option<&'a str>,
+    pub zone: Option<&'a str>,
     pub vouch: Option<&'a str>,
 }
 

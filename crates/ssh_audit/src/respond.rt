@@ -1,31 +1,28 @@
 //! From words and files to what is printed.
 
-ghost use Rattle.std.specs.Prelude.{◌≡◌, ◌<◌, ◌^◌, ◌≤◌, [], length, map, IfOk, Some};
-ghost use Rattle.ssh_audit.specs.Query.{login_of};
-ghost use Rattle.ssh_audit.specs.Offer.{login_claim};
+ghost use Rattle.std.specs.Prelude.{◌≡◌, ◌<◌, ◌^◌, [], length, map, IfOk, Ok, Some};
+ghost use Rattle.ssh_trust.specs.Query.{login_of};
+ghost use Rattle.ssh_trust.specs.LoginClaim.{login_claim};
 ghost use Rattle.ssh_audit.specs.CommandLine.{login, show, request_of};
-ghost use Rattle.ssh_audit.specs.Requests.{Responds, RespondsBy, after_vouching, answer_claimed, answer_in, login_over, login_response, login_vouched, or_vouch_fault, show_answer, vouched_in, exactly};
-ghost use Rattle.ssh_audit.specs.Answer.{Gives};
-ghost use Rattle.ssh_audit.specs.Loading.{AnswersFile, IsFaultOf, IsUsageOf, is_memory};
+ghost use Rattle.ssh_audit.specs.Requests.{Responds, RespondsBy, after_vouching, answer_claimed, answer_in, decided, login_over, login_vouched, or_vouch_fault, show_answer, vouched_in, exactly, login_asked};
+ghost use Rattle.ssh_audit.specs.LoginValues.{login_with};
+ghost use Rattle.ssh_trust.specs.Answer.{Gives};
+ghost use Rattle.ssh_audit.specs.Responding.{AnswersFile, IsFaultOf, IsUsageOf, is_memory};
 ghost use Rattle.ssh_audit.specs.Parsing.{request_in_memory, show_texts_of, texts_of};
-ghost use Rattle.ssh_audit.specs.Responses.{response};
-ghost use Rattle.ssh_audit.specs.Shelf.{IfTells, bytes_at};
-ghost use Rattle.ssh_audit.specs.Values.{vouched_of};
+ghost use Rattle.ssh_print.specs.ResponseView.{response};
+ghost use Rattle.ssh_inputs.specs.Shelf.{IfTells, bytes_at};
+ghost use Rattle.ssh_inputs.specs.VouchFile.{vouched_of};
 
-use crate::answer::{decision_response, file_fault, usage_fault, value_fault, vouch_fault};
-use crate::decision::Decision;
-use crate::error::AuditError;
-use crate::files::Files;
-use crate::login::login;
-use crate::login_values::{ValueFault, read_login_values};
+use crate::login_values::{LoginValues, ValueFault, read_login_values};
 use crate::parse::parse;
-use crate::query::{LoginQuery, Signed};
-use crate::read::{ReadFault, gather, read_first_line, read_vouch_file, read_whole};
 use crate::request::{LoginWords, Request, ShowWords, WordsFault};
-use crate::response::Response;
-use crate::show::{show, show_kind};
-use crate::vouch::{VouchFault, read_vouched};
-use crate::words::read_words;
+use ssh_inputs::{
+    Files, ReadFault, VouchFault, gather, read_first_line, read_vouch_file, read_vouched,
+    read_whole, read_words,
+};
+use ssh_print::{Response, decision_response, file_fault, usage_fault, value_fault, vouch_fault};
+use ssh_show::{show, show_kind};
+use ssh_trust::{AuditError, Decision, LoginQuery, Signed, login};
 use std::alloc::{AllocError, Global};
 use std::convert::AsStr;
 
@@ -54,7 +51,7 @@ fn decide_by_file<F: Files>(
 ) -> Result<Decision, AuditError>
     requires session { length query.now.session.now < 2 ^ 32 }
     requires user { length query.now.user.now < 2 ^ 32 }
-    ensures { IfTells (F.shelf files.old) (λ s. AnswersFile (login_of query.entry.now) vouched.now (bytes_at s name.now) s (F.shelf files.new) result) }
+    ensures { IfTells (F.shelf files.old) (λ s. AnswersFile (login_of query.entry.now) vouched.now name.now (bytes_at s name.now) s (F.shelf files.new) result) }
 {
     match gather(alloc, files, name) {
         Ok(file) => decide(alloc, &file, query, vouched),
@@ -109,12 +106,14 @@ fn respond_bytes<F: Files>(
 ) -> Result<Response, AllocError>
     requires session { length query.now.session.now < 2 ^ 32 }
     requires user { length query.now.user.now < 2 ^ 32 }
-    requires short { length bytes.now ≤ 67108864 }
     ensures { IfTells (F.shelf files.old) (λ s. IfOk result (λ r.
         RespondsBy (Some (login (texts_of words.entry.now))) (exactly (login_vouched (texts_of words.entry.now) (login_of query.entry.now) s (or_vouch_fault (vouched_of bytes.now)))) s (F.shelf files.new) (response r))) }
 {
     match read_vouched(alloc, bytes) {
-        Ok(vouched) => respond_vouched(alloc, words, query, &vouched, files),
+        Ok(vouched) => {
+            let response = respond_vouched(alloc, words, query, &vouched, files)?;
+            Ok(response)
+        }
         Err(VouchFault::Line(number)) => vouch_fault(alloc, number),
         Err(VouchFault::Memory) => Err(AllocError),
     }
@@ -141,6 +140,32 @@ fn respond_query<F: Files>(
     }
 }
 
+/// The response to a login of these texts and values.
+fn respond_values<F: Files>(
+    alloc: Global,
+    words: &LoginWords<'_>,
+    values: &LoginValues,
+    files: &mut F,
+) -> Result<Response, AllocError>
+    requires session { length values.now.session.items < 2 ^ 32 }
+    requires user { length words.now.user.now < 2 ^ 32 }
+    ensures { IfTells (F.shelf files.old) (λ s. IfOk result (λ r.
+        RespondsBy (Some (login (texts_of words.entry.now))) (exactly (login_asked (texts_of words.entry.now) s (Ok (login_with (texts_of words.entry.now) values.entry.now)))) s (F.shelf files.new) (response r))) }
+{
+    let query = LoginQuery {
+        offered: values.offered.as_slice(),
+        signature: values.signature.as_slice(),
+        algorithm: words.algorithm.as_bytes(),
+        session: values.session.as_slice(),
+        user: words.user.as_bytes(),
+        host: words.host.map(str::as_bytes),
+        address: words.address.as_bytes(),
+        now: values.now,
+        zone: &values.zone,
+    };
+    respond_query(alloc, words, &query, files)
+}
+
 /// The response to a login.
 fn respond_login<F: Files>(
     alloc: Global,
@@ -148,20 +173,12 @@ fn respond_login<F: Files>(
     files: &mut F,
 ) -> Result<Response, AllocError>
     ensures { IfTells (F.shelf files.old) (λ s. IfOk result (λ r.
-        RespondsBy (Some (login (texts_of words.entry.now))) (exactly (login_response (texts_of words.entry.now) s)) s (F.shelf files.new) (response r))) }
+        RespondsBy (Some (login (texts_of words.entry.now))) (decided (texts_of words.entry.now) s) s (F.shelf files.new) (response r))) }
 {
     match read_login_values(alloc, words) {
         Ok(values) => {
-            let query = LoginQuery {
-                offered: values.offered.as_slice(),
-                signature: values.signature.as_slice(),
-                algorithm: words.algorithm.as_bytes(),
-                session: values.session.as_slice(),
-                user: words.user.as_bytes(),
-                address: words.address.as_bytes(),
-                now: values.now,
-            };
-            respond_query(alloc, words, &query, files)
+            let response = respond_values(alloc, words, &values, files)?;
+            Ok(response)
         }
         Err(ValueFault::Value(name)) => value_fault(alloc, name),
         Err(ValueFault::Memory) => Err(AllocError),

@@ -1,7 +1,6 @@
 //! `show` on worked lines: what it prints letter by letter, and its faults.
 
-use crate::date::date_text;
-use crate::show::{ShowKind, show};
+use ssh_show::{ShowKind, date_text, show};
 use std::test::Fail;
 
 /// The bytes of a file, and what is printed of it.

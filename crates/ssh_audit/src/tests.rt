@@ -1,11 +1,14 @@
 //! What no clause says: the printed lines of worked rows, and what stands after failed reads and writes.
 
+mod sink;
 mod source;
 
-use crate::run::run;
+use crate::request::WordsFault;
+use crate::run::{refuse, run};
+use sink::{FailsOnce, Page};
 use source::{FailsAt, OneFile};
 use std::alloc::Global;
-use std::io::{self, Error, ErrorKind, Write};
+use std::io::ErrorKind;
 use std::test::Fail;
 
 /// Ed25519 keys of 32 zero bytes, and the same with the last byte 1.
@@ -58,16 +61,16 @@ fn answer_of(alloc: Global, row: &Row<'_>) -> Result<(u8, Vec<u8>), Fail> {
 }
 
 /// What the program prints for words over a file `f` and standard input, with its status.
-fn printed(
+pub(crate) fn printed(
     alloc: Global,
     words: &[&str],
     file: &[u8],
     input: &[u8],
 ) -> Result<(u8, Vec<u8>), Fail> {
     let mut files = OneFile::new("f", file, input);
-    let mut out = Vec::new(alloc);
-    let status = run(alloc, words, &mut files, &mut out);
-    Ok((status, out))
+    let mut page = Page::new(alloc);
+    let status = run(alloc, words, &mut files, &mut page);
+    Ok((status, Vec::from_slice(alloc, page.taken())?))
 }
 
 /// The bytes of a line of this text, filled with a comment to the length.
@@ -108,14 +111,14 @@ fn answers_ed25519_rows(rt: HostRuntime) -> Result<(), Fail> {
             K1,
             bad.as_str(),
             K1_TRIPLE,
-            "denied N3\nreason 1 G1 L9\nreason 2 G1 L8\n",
+            "denied N3\nreason 1 G1 L9\nreason 2 G1 L3\n",
             1,
         ),
         (
             K0,
             causes.as_str(),
             K0_TRIPLE,
-            "denied N3\nreason 1 G1 L7\nreason 4 G1 L13\nreason 5 G1 L10\nreason 6 G1 L11 K1 V1 0\nreason 7 G1 L12\nreason 8 G1 L8\nreason 9 G1 L10\nreason 10 G1 L10\n",
+            "denied N3\nreason 1 G1 L7\nreason 4 G1 L13\nreason 5 G1 L10\nreason 6 G1 L11 K1 V1 0\nreason 7 G1 L12\nreason 8 G1 L3\nreason 9 G1 L10\nreason 10 G1 L10\n",
             1,
         ),
         (
@@ -219,7 +222,7 @@ fn refuses_offers(rt: HostRuntime) -> Result<(), Fail> {
     for (offer, algorithm, signature, fault) in [
         ("", "ssh-ed25519", S0, "fault A1 K1 V1 0\n"),
         (longer, "ssh-ed25519", S0, "fault A1 K1 V4 51\n"),
-        (certificate, "ssh-ed25519", S0, "fault A1 K4\n"),
+        (certificate, "ssh-ed25519", S0, "fault A1 C1 V1 36\n"),
         (K0, "ssh-ed25519", "00", "fault A2 V1 0\n"),
         (K0, "ssh-rsa", S0, "fault A3\n"),
         (
@@ -267,7 +270,7 @@ fn refuses_offers(rt: HostRuntime) -> Result<(), Fail> {
 fn login_line(alloc: Global, given: [&str; 6]) -> Result<String, Fail> {
     let [file, offer, signature, session, now, vouch] = given;
     Ok(format!(in alloc;
-        "login --file {file} --offer {offer} --signature {signature} --algorithm ssh-ed25519 --session {session} --user ann --address a --now {now} --vouch {vouch}\n"
+        "login --file {file} --offer {offer} --signature {signature} --algorithm ssh-ed25519 --session {session} --user ann --address ::1 --now {now} --vouch {vouch}\n"
     )?)
 }
 
@@ -359,50 +362,33 @@ fn holds_the_limit_of_a_trust_file(rt: HostRuntime) -> Result<(), Fail> {
     Ok(())
 }
 
-/// A writer that takes a byte at a time, and fails at one of its calls.
-#[derive(Drop)]
-struct FailsOnce {
-    index: u64,
-    calls: u64,
-    taken: u64,
-    kind: ErrorKind,
-}
-
-impl Write for FailsOnce {
-    fn write(&mut self, buf: &[u8]) -> io::Result<usize> {
-        self.calls = self.calls.saturating_add(1);
-        if self.calls == self.index {
-            return Err(Error::from(self.kind));
-        }
-        if buf.is_empty() {
-            return Ok(0);
-        }
-        self.taken = self.taken.saturating_add(1);
-        Ok(1)
-    }
-
-    fn flush(&mut self) -> io::Result<()> {
-        Ok(())
-    }
-}
-
 #[test]
 fn stops_at_a_failed_write(rt: HostRuntime) -> Result<(), Fail> {
     let words = ["frob"];
     for kind in [ErrorKind::Interrupted, ErrorKind::BrokenPipe] {
         for index in 1..14u64 {
             let mut files = OneFile::new("f", b"", b"");
-            let mut writer = FailsOnce {
-                index,
-                calls: 0,
-                taken: 0,
-                kind,
-            };
+            let mut writer = FailsOnce::new(rt.alloc(), index, kind);
             let status = run(rt.alloc(), words.as_slice(), &mut files, &mut writer);
             assert_eq!(rt; status, 2);
-            assert_eq!(rt; writer.calls, index.min(12));
-            assert_eq!(rt; writer.taken, (index - 1).min(12));
+            assert_eq!(rt; writer.calls(), index.min(12));
+            let taken = (index - 1).min(12) as usize;
+            assert_eq!(rt; Some(writer.taken()), b"fault usage\n".get(..taken));
         }
+    }
+    Ok(())
+}
+
+#[test]
+fn refuses_words_that_cannot_be_read(rt: HostRuntime) -> Result<(), Fail> {
+    for (fault, wanted) in [
+        (WordsFault::Usage, "fault usage\n"),
+        (WordsFault::Memory, "fault A8\n"),
+    ] {
+        let mut page = Page::new(rt.alloc());
+        let status = refuse(fault, &mut page);
+        assert_eq!(rt; str::from_utf8(page.taken()).ok(), Some(wanted));
+        assert_eq!(rt; status, 2);
     }
     Ok(())
 }
@@ -425,9 +411,9 @@ fn prints_a_reads_own_fault(rt: HostRuntime) -> Result<(), Fail> {
         (second + 2, "fault A9\n"),
     ] {
         let mut files = FailsAt::new(OneFile::new("f", file.as_bytes(), input.as_bytes()), index);
-        let mut out = Vec::new(alloc);
-        let status = run(alloc, none.as_slice(), &mut files, &mut out);
-        assert_eq!(rt; str::from_utf8(&out).ok(), Some(wanted), "{index}");
+        let mut page = Page::new(alloc);
+        let status = run(alloc, none.as_slice(), &mut files, &mut page);
+        assert_eq!(rt; str::from_utf8(page.taken()).ok(), Some(wanted), "{index}");
         assert_eq!(rt; status, 2, "{index}");
     }
     Ok(())

@@ -1,11 +1,11 @@
 //! Sources in memory: one that tells its files, and one that fails.
 
-ghost use Rattle.std.specs.Prelude.{Some, None, refl, if◌then◌else◌, Option, List, ℕ};
+ghost use Rattle.std.specs.Prelude.{Some, None, refl, if◌then◌else◌, option_map, Option, List, ℕ};
 ghost use Rattle.std.specs.Str.{bytes_eq};
-ghost use Rattle.ssh_audit.specs.Shelf.{Shelf, Chosen, nothing, standard_input, named_file, left_of};
+ghost use Rattle.ssh_inputs.specs.Shelf.{Shelf, Chosen, nothing, standard_input, named_file, left_of};
 ghost use Rattle.ssh_audit.specs.declared.tests.source.Place.TheVariants.{Nowhere, Input, File};
 
-use crate::files::Files;
+use ssh_inputs::Files;
 use std::io::{Error, ErrorKind, Read, Result};
 
 /// What is being read.
@@ -16,7 +16,7 @@ pub enum Place {
     File,
 }
 
-/// One file, and standard input, with a count of failed reads.
+/// One file, and standard input, with a count of failed reads and the name of the last.
 #[derive(Drop)]
 pub struct OneFile<'a> {
     name: &'a str,
@@ -25,6 +25,7 @@ pub struct OneFile<'a> {
     input: &'a [u8],
     place: Place,
     failures: u64,
+    failed: Option<&'a str>,
 }
 
 impl<'a> OneFile<'a> {
@@ -37,6 +38,7 @@ impl<'a> OneFile<'a> {
             input,
             place: Place::Nowhere,
             failures: 0,
+            failed: None,
         }
     }
 }
@@ -45,8 +47,9 @@ impl Read for OneFile<'_> {
     ghost remaining = { λ m. Some (left_of (record {
       named = λ name. if bytes_eq name m.name.now then Some m.bytes.now else None;
       input = m.input.now;
-      chosen = elim m.place [ Nowhere ↦ nothing | Input ↦ standard_input | File ↦ named_file m.left.now ];
+      chosen = elim m.place [ Nowhere ↦ nothing | Input ↦ standard_input | File ↦ named_file m.name.now m.left.now ];
       failures = m.failures;
+      failed = option_map (λ n. n.now) m.failed;
     })) };
 
     fn read(&mut self, buf: &mut [u8]) -> Result<usize> {
@@ -58,8 +61,9 @@ impl Files for OneFile<'_> {
     ghost shelf = { λ m. Some (record {
       named = λ name. if bytes_eq name m.name.now then Some m.bytes.now else None;
       input = m.input.now;
-      chosen = elim m.place [ Nowhere ↦ nothing | Input ↦ standard_input | File ↦ named_file m.left.now ];
+      chosen = elim m.place [ Nowhere ↦ nothing | Input ↦ standard_input | File ↦ named_file m.name.now m.left.now ];
       failures = m.failures;
+      failed = option_map (λ n. n.now) m.failed;
     }) };
 
     ghost tells = { λ x. refl };
@@ -82,6 +86,7 @@ impl Files for OneFile<'_> {
         match self.place {
             Place::Nowhere => {
                 self.failures = self.failures.saturating_add(1);
+                self.failed = None;
                 Err(Error::from(ErrorKind::NotFound))
             }
             Place::Input => self.input.read(buf),
@@ -90,7 +95,7 @@ impl Files for OneFile<'_> {
     }
 }
 
-/// A source whose reads fail from one of them on, and that tells nothing.
+/// A source whose reads fail from one of them on.
 #[derive(Drop)]
 pub struct FailsAt<'a> {
     source: OneFile<'a>,
@@ -110,15 +115,29 @@ impl<'a> FailsAt<'a> {
 }
 
 impl Read for FailsAt<'_> {
+    ghost remaining = { λ m. Some (left_of (record {
+      named = λ name. if bytes_eq name m.source.name.now then Some m.source.bytes.now else None;
+      input = m.source.input.now;
+      chosen = elim m.source.place [ Nowhere ↦ nothing | Input ↦ standard_input | File ↦ named_file m.source.name.now m.source.left.now ];
+      failures = m.source.failures;
+      failed = option_map (λ n. n.now) m.source.failed;
+    })) };
+
     fn read(&mut self, buf: &mut [u8]) -> Result<usize> {
         self.read_chosen(buf)
     }
 }
 
 impl Files for FailsAt<'_> {
-    ghost shelf = { λ _. None };
+    ghost shelf = { λ m. Some (record {
+      named = λ name. if bytes_eq name m.source.name.now then Some m.source.bytes.now else None;
+      input = m.source.input.now;
+      chosen = elim m.source.place [ Nowhere ↦ nothing | Input ↦ standard_input | File ↦ named_file m.source.name.now m.source.left.now ];
+      failures = m.source.failures;
+      failed = option_map (λ n. n.now) m.source.failed;
+    }) };
 
-    ghost tells = { λ x. tt };
+    ghost tells = { λ x. refl };
 
     fn choose(&mut self, name: &str) -> bool {
         self.source.choose(name)
@@ -127,6 +146,12 @@ impl Files for FailsAt<'_> {
     fn read_chosen(&mut self, buf: &mut [u8]) -> Result<usize> {
         self.reads = self.reads.saturating_add(1);
         if self.reads >= self.index {
+            self.source.failures = self.source.failures.saturating_add(1);
+            self.source.failed = match self.source.place {
+                Place::Nowhere => None,
+                Place::Input => Some("-"),
+                Place::File => Some(self.source.name),
+            };
             return Err(Error::from(ErrorKind::Interrupted));
         }
         self.source.read_chosen(buf)

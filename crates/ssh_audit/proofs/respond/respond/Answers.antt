@@ -1,5 +1,5 @@
 use Rattle.std.proofs.Common.{rules, length, ◌<◌}
-use Rattle.ssh_audit.specs.Responses.{response}
+use Rattle.ssh_print.specs.ResponseView.{response}
 use Rattle.ssh_audit.proofs.ResponseLemmas.{words_respond}
 use Rattle.ssh_audit.proofs.respond.respond.Goals as goal
 

@@ -1,5 +1,5 @@
 use Rattle.std.proofs.Common.{map, rules}
-use Rattle.ssh_audit.specs.Responses.{response}
+use Rattle.ssh_print.specs.ResponseView.{response}
 use Rattle.ssh_audit.proofs.ResponseLemmas.{line_responds, unread_responds}
 use Rattle.ssh_audit.proofs.respond.respond_line.Goals as goal
 

@@ -1,5 +1,0 @@
-use Rattle.ssh_audit.proofs.LineLemmas.{lines_of-are, lines_of-only}
-use Rattle.ssh_audit.proofs.laws.lines_rule.Goals as goal
-
-pub returns : goal.returns
-returns c = record { are = lines_of-are; only = lines_of-only }

@@ -1,6 +1,0 @@
--- The responses of the code, seen as those of the definitions.
-use Rattle.ssh_audit.specs.declared.response.Response.{Response}
-use Rattle.ssh_audit.specs.Texts.{Response as Shown}
-
-abbrev pub response : Response → Shown
-response r = record { status = r.status; text = r.text.items }

@@ -1,0 +1,7 @@
+mod WordLemmas
+mod Reading
+mod PartReading
+mod LineReading
+mod ValueLemmas
+pub mod PieceLemmas
+mod VouchedLemmas

@@ -1,0 +1,7 @@
+pub mod Shelf
+pub mod Account
+pub mod Parts
+pub mod Values
+pub mod Words
+pub mod VouchFile
+pub mod Loading

@@ -1,0 +1,89 @@
+-- What a source of files holds, as `choose` and `read_chosen` change it.
+use Rattle.std.specs.Prelude.{◌≡◌, ◌++◌, ◌+◌, ◌<◌, ℕ, List, [], ◌∷◌, Option, Some, None, Result, length, min, take, if◌then◌else◌, MatchResult, ⊤}
+use Rattle.std.specs.Str.{bytes_eq}
+
+-- the file that the next reads are of
+pub data Chosen : Type 0 where
+  nothing : Chosen
+  standard_input : Chosen
+  -- a file: its name, and what is left of it
+  named_file : List ℕ → List ℕ → Chosen
+
+pub record Shelf : Type 0 where
+  -- the bytes of the file of a name, where there is one
+  pub named : List ℕ → Option (List ℕ)
+  -- what is left of standard input
+  pub input : List ℕ
+  pub chosen : Chosen
+  -- how many reads have failed, up to `most_failures`
+  pub failures : ℕ
+  -- the name of the file whose read failed last
+  pub failed : Option (List ℕ)
+
+-- the count of failed reads goes no further
+abbrev pub most_failures : ℕ
+most_failures = 18446744073709551615
+
+-- the name of standard input
+abbrev pub dash : List ℕ
+dash = 45 ∷ []
+
+abbrev pub open_file : List ℕ → Option (List ℕ) → Chosen
+open_file name None = nothing
+open_file name (Some bytes) = named_file name bytes
+
+-- the bytes that reads of the name give
+abbrev pub bytes_at : Shelf → List ℕ → Option (List ℕ)
+bytes_at s name = if bytes_eq name dash then Some s.input else s.named name
+
+-- the file of this name, from its start, or standard input from where it stood
+abbrev pub choosing : Shelf → List ℕ → Shelf
+choosing s name = record s { chosen = if bytes_eq name dash then standard_input else open_file name (s.named name) }
+
+abbrev pub left_in : Chosen → List ℕ → List ℕ
+left_in nothing input = []
+left_in standard_input input = input
+left_in (named_file name bytes) input = bytes
+
+-- what reads of the chosen file have yet to give
+abbrev pub left_of : Shelf → List ℕ
+left_of s = left_in s.chosen s.input
+
+-- the chosen file is left with these bytes
+abbrev pub left_with : Chosen → Shelf → List ℕ → Shelf
+left_with nothing s bytes = s
+left_with standard_input s bytes = record s { input = bytes }
+left_with (named_file name old) s bytes = record s { chosen = named_file name bytes }
+
+-- the name of what is chosen
+abbrev pub name_of : Chosen → Option (List ℕ)
+name_of nothing = None
+name_of standard_input = Some dash
+name_of (named_file name bytes) = Some name
+
+-- one more read has failed, of the chosen file
+abbrev pub with_failure : Shelf → Shelf
+with_failure s = record s { failures = min (s.failures + 1) most_failures; failed = name_of s.chosen }
+
+-- a read gave the n bytes at the front of `buf` and took them off the chosen file, none only at its end; or it failed, and was counted.
+-- Where nothing is chosen it fails
+abbrev pub Reads : {E : Type 0} → Shelf → Shelf → Result ℕ E → List ℕ → Type 0
+Reads old new r buf = MatchResult r
+    (λ n. (left_of old ≡ take n buf ++ left_of new) × (new ≡ left_with old.chosen old (left_of new))
+    × (n ≡ 0 → 0 < length buf → left_of new ≡ []) × (old.chosen ≡ nothing → ⊥))
+    (λ _. new ≡ with_failure old)
+
+-- the same, of a source that may not tell
+abbrev pub ReadsKnown : {E : Type 0} → Option Shelf → Option Shelf → Result ℕ E → List ℕ → Type 0
+ReadsKnown None new r buf = ⊤
+ReadsKnown (Some s) None r buf = ⊥
+ReadsKnown (Some s) (Some t) r buf = Reads s t r buf
+
+abbrev pub ChoosesKnown : Option Shelf → Option Shelf → List ℕ → Type 0
+ChoosesKnown None new name = ⊤
+ChoosesKnown (Some s) new name = new ≡ Some (choosing s name)
+
+-- a fact about a source that tells, and that can count one more failed read
+abbrev pub IfTells : Option Shelf → (Shelf → Type 0) → Type 0
+IfTells None P = ⊤
+IfTells (Some s) P = s.failures < most_failures → P s

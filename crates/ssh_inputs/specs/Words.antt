@@ -1,0 +1,23 @@
+-- The words of a line, parted by spaces.
+use Rattle.std.specs.Prelude.{[], ◌==◌, ◌&&◌, ℕ, Bool, List, length, nat_lt, nat_le, filter, if◌then◌else◌}
+use Rattle.std.specs.List.{list_all, slice_split}
+use Rattle.std.specs.Str.Lossy.{utf8_valid_len}
+use Rattle.ssh_lines.specs.Text.{line_limit}
+
+abbrev pub is_space : ℕ → Bool
+is_space b = b == 32
+
+abbrev pub is_filled : List ℕ → Bool
+is_filled word = nat_lt 0 (length word)
+
+abbrev pub is_text : List ℕ → Bool
+is_text word = utf8_valid_len word == length word
+
+-- the pieces between spaces that are not empty
+unfoldable pub pieces_of : List ℕ → List (List ℕ)
+pieces_of line = filter is_filled (slice_split is_space line)
+
+-- The words of a line; none where it passes the limit or is not in UTF-8. (A space is a character of one byte, so a line
+-- is in UTF-8 where its words are.)
+abbrev pub words_in : List ℕ → List (List ℕ)
+words_in line = if nat_le (length line) line_limit && list_all is_text (pieces_of line) then pieces_of line else []

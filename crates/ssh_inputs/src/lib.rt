@@ -1,0 +1,21 @@
+//! What a program is given, and what it writes to: files by name, the values that words spell,
+//! vouch files, and a writer that remembers a failure.
+#![tactic(auto)]
+
+mod base64_text;
+mod files;
+mod read;
+mod sink;
+mod values;
+mod vouch;
+mod words;
+mod zone;
+
+pub use base64_text::decode;
+pub use files::Files;
+pub use read::{ReadFault, gather, read_first_line, read_vouch_file, read_whole};
+pub use sink::Sink;
+pub use values::{is_short, read_hex, read_number, read_short_hex};
+pub use vouch::{VouchFault, read_vouched};
+pub use words::read_words;
+pub use zone::zone_of;

@@ -1,0 +1,146 @@
+//! Reading files whole, and the parts of standard input.
+
+ghost use Rattle.std.specs.Prelude.{◌≡◌, ◌==◌, ◌&&◌, ◌≤◌, length, IfOk, Some, true};
+ghost use Rattle.ssh_trust.specs.Answer.{file_limit};
+ghost use Rattle.ssh_inputs.specs.Shelf.{bytes_at, dash, IfTells};
+ghost use Rattle.ssh_inputs.specs.Parts.{after_part, after_whole, cut_at_empty, part_at};
+ghost use Rattle.ssh_inputs.specs.Loading.{Gathers, Loads, LoadsLine};
+
+use crate::files::Files;
+use ssh_lines::LINE_LIMIT;
+use ssh_trust::FILE_LIMIT;
+use std::alloc::Global;
+
+/// Why a file gives no bytes.
+#[derive(Clone, Copy, Debug, PartialEq, Eq)]
+pub enum ReadFault {
+    Missing,
+    TooLong,
+    Failed,
+    Memory,
+}
+
+/// How many bytes are asked for at once.
+const PIECE: usize = 4096;
+
+/// The bytes of the file of this name; of a file that passes the limit, as many as pass it.
+pub fn gather<F: Files>(alloc: Global, files: &mut F, name: &str) -> Result<Vec<u8>, ReadFault>
+    ensures { IfTells (F.shelf files.old) (λ s. Gathers (λ v. v.items) name.now (bytes_at s name.now) (after_whole s name.now) s (F.shelf files.new) result) }
+{
+    if !files.choose(name) {
+        return Err(ReadFault::Missing);
+    }
+    let mut bytes = Vec::new(alloc);
+    let mut piece = [0u8; PIECE];
+    while bytes.len() <= FILE_LIMIT {
+        match files.read_chosen(&mut piece) {
+            Ok(0) => return Ok(bytes),
+            Ok(n) => match bytes.extend_from_slice(&piece[..n]) {
+                Ok(()) => {}
+                Err(_) => return Err(ReadFault::Memory),
+            },
+            Err(_) => return Err(ReadFault::Failed),
+        }
+    }
+    Ok(bytes)
+}
+
+/// The bytes of the file of this name, which may not pass the limit.
+pub fn read_whole<F: Files>(alloc: Global, files: &mut F, name: &str) -> Result<Vec<u8>, ReadFault>
+    ensures short { IfOk result (λ v. length v.items ≤ file_limit) }
+    ensures bytes { IfTells (F.shelf files.old) (λ s. Loads (λ v. v.items) name.now (bytes_at s name.now) (after_whole s name.now) s (F.shelf files.new) result) }
+{
+    match gather(alloc, files, name) {
+        Ok(bytes) => {
+            if bytes.len() > FILE_LIMIT {
+                Err(ReadFault::TooLong)
+            } else {
+                Ok(bytes)
+            }
+        }
+        Err(fault) => Err(fault),
+    }
+}
+
+/// Whether this byte ends an empty line.
+fn ends_part(fresh: bool, byte: u8) -> bool
+    ensures { result ≡ (fresh && byte == 10) }
+{
+    fresh && byte == b'\n'
+}
+
+/// The bytes of standard input up to the end of its first empty line.
+fn read_part<F: Files>(alloc: Global, files: &mut F) -> Result<Vec<u8>, ReadFault>
+    ensures short { IfOk result (λ v. length v.items ≤ file_limit) }
+    ensures bytes { IfTells (F.shelf files.old) (λ s. Loads (λ v. v.items) dash (Some (cut_at_empty true s.input).0) (record s { input = (cut_at_empty true s.input).1 }) s (F.shelf files.new) result) }
+{
+    if !files.choose("-") {
+        return Err(ReadFault::Missing);
+    }
+    let mut bytes = Vec::new(alloc);
+    let mut fresh = true;
+    let mut piece = [0u8; 1];
+    while bytes.len() <= FILE_LIMIT {
+        match files.read_chosen(&mut piece) {
+            Ok(0) => return Ok(bytes),
+            Ok(_) => {
+                let byte = piece[0];
+                if bytes.push(byte).is_err() {
+                    return Err(ReadFault::Memory);
+                }
+                if ends_part(fresh, byte) {
+                    if bytes.len() > FILE_LIMIT {
+                        return Err(ReadFault::TooLong);
+                    }
+                    return Ok(bytes);
+                }
+                fresh = byte == b'\n';
+            }
+            Err(_) => return Err(ReadFault::Failed),
+        }
+    }
+    Err(ReadFault::TooLong)
+}
+
+/// The bytes of a vouch file; of standard input, its part up to the first empty line.
+pub fn read_vouch_file<F: Files>(
+    alloc: Global,
+    files: &mut F,
+    name: &str,
+) -> Result<Vec<u8>, ReadFault>
+    ensures short { IfOk result (λ v. length v.items ≤ file_limit) }
+    ensures bytes { IfTells (F.shelf files.old) (λ s. Loads (λ v. v.items) name.now (part_at s name.now) (after_part s name.now) s (F.shelf files.new) result) }
+{
+    if name == "-" {
+        read_part(alloc, files)
+    } else {
+        read_whole(alloc, files, name)
+    }
+}
+
+/// The first line of standard input, without its LF.
+pub fn read_first_line<F: Files>(alloc: Global, files: &mut F) -> Result<Vec<u8>, ReadFault>
+    ensures { IfTells (F.shelf files.old) (λ s. LoadsLine (λ v. v.items) s (F.shelf files.new) result) }
+{
+    if !files.choose("-") {
+        return Err(ReadFault::Missing);
+    }
+    let mut bytes = Vec::new(alloc);
+    let mut piece = [0u8; 1];
+    while bytes.len() <= LINE_LIMIT {
+        match files.read_chosen(&mut piece) {
+            Ok(0) => return Ok(bytes),
+            Ok(_) => {
+                let byte = piece[0];
+                if byte == b'\n' {
+                    return Ok(bytes);
+                }
+                if bytes.push(byte).is_err() {
+                    return Err(ReadFault::Memory);
+                }
+            }
+            Err(_) => return Err(ReadFault::Failed),
+        }
+    }
+    Err(ReadFault::TooLong)
+}

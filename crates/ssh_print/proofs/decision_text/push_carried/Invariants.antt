@@ -1,0 +1,7 @@
+use Rattle.std.proofs.Common.{◌≡◌, ◌++◌, drop}
+use Rattle.std.specs.List.{flat_map}
+use Rattle.ssh_print.specs.DecisionText.{carried_line}
+use Rattle.ssh_print.proofs.decision_text.push_carried.Given as goal
+
+abbrev pub invariant-loop-text : goal.invariant-loop-text
+invariant-loop-text l = l.out.items ++ flat_map carried_line (drop l.text-index l.carried) ≡ l.initial.out.items ++ flat_map carried_line l.carried

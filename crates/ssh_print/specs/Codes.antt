@@ -1,0 +1,109 @@
+-- The codes of faults, reasons and causes: the outer ones first, then a place. A space stands before each.
+use Rattle.std.specs.Prelude.{◌++◌, ℕ, List, codes}
+use Rattle.std.specs.Fmt.{decimal}
+use Rattle.ssh_wire.specs.declared.error.WireCause.{WireCause}
+use Rattle.ssh_wire.specs.declared.error.WireCause.TheVariants as wire
+use Rattle.ssh_wire.specs.declared.error.WireError.{WireError}
+use Rattle.ssh_keys.specs.declared.error.KeyError.{KeyError}
+use Rattle.ssh_keys.specs.declared.error.KeyError.TheVariants as key
+use Rattle.ssh_certs.specs.declared.error.CertError.{CertError}
+use Rattle.ssh_certs.specs.declared.error.CertError.TheVariants as cert
+use Rattle.ssh_trust.specs.declared.decision.Cause.{Cause}
+use Rattle.ssh_trust.specs.declared.decision.Cause.TheVariants as cause
+use Rattle.ssh_rules.specs.declared.reason.Reason.{Reason}
+use Rattle.ssh_rules.specs.declared.reason.Reason.TheVariants as reason
+use Rattle.ssh_offers.specs.declared.error.AuditError.{AuditError}
+use Rattle.ssh_offers.specs.declared.error.AuditError.TheVariants as error
+use Rattle.ssh_options.specs.declared.cause.LineCause.{LineCause}
+use Rattle.ssh_options.specs.declared.cause.LineCause.TheVariants as line_cause
+use Rattle.ssh_offers.specs.declared.error.OfferError.{OfferError}
+use Rattle.ssh_offers.specs.declared.error.OfferError.TheVariants as offer
+use Rattle.ssh_print.specs.Texts.{spaced, escaped}
+
+abbrev pub wire_code : WireCause → List ℕ
+wire_code wire.Short = codes " V1"
+wire_code wire.MpintNotMinimal = codes " V2"
+wire_code wire.MpintNegative = codes " V3"
+wire_code wire.Trailing = codes " V4"
+wire_code wire.Value = codes " V5"
+
+abbrev pub wire_codes : WireError → List ℕ
+wire_codes e = wire_code e.cause ++ spaced (decimal e.place)
+
+abbrev pub key_codes : KeyError → List ℕ
+key_codes (key.Wire e) = codes " K1" ++ wire_codes e
+key_codes key.UnknownType = codes " K2"
+key_codes key.RetiredType = codes " K3"
+key_codes key.IsCertificate = codes " K4"
+key_codes key.Curve = codes " K5"
+key_codes key.Point = codes " K6"
+key_codes key.Length = codes " K7"
+key_codes key.TooLong = codes " K8"
+
+abbrev pub cert_codes : CertError → List ℕ
+cert_codes (cert.Wire e) = codes " C1" ++ wire_codes e
+cert_codes (cert.Key e) = codes " C2" ++ key_codes e
+cert_codes (cert.Signer e) = codes " C3" ++ key_codes e
+cert_codes cert.ChainedSigner = codes " C4"
+cert_codes (cert.Principals place) = codes " C5" ++ spaced (decimal place)
+cert_codes (cert.Options place) = codes " C6" ++ spaced (decimal place)
+cert_codes (cert.Signature e) = codes " C7" ++ wire_codes e
+cert_codes cert.UnknownType = codes " C8"
+cert_codes cert.TooLong = codes " C9"
+
+abbrev pub line_codes : LineCause → List ℕ
+line_codes line_cause.TooLong = codes " L1"
+line_codes line_cause.OptionSyntax = codes " L2"
+line_codes line_cause.UnknownOption = codes " L3"
+line_codes line_cause.OptionValue = codes " L4"
+line_codes line_cause.RepeatedOption = codes " L5"
+line_codes line_cause.ExpiryText = codes " L6"
+line_codes line_cause.NoKey = codes " L7"
+line_codes line_cause.KeyType = codes " L8"
+line_codes line_cause.RetiredType = codes " L9"
+line_codes line_cause.Base64 = codes " L10"
+line_codes (line_cause.KeyBlob e) = codes " L11" ++ key_codes e
+line_codes line_cause.TypeMismatch = codes " L12"
+line_codes line_cause.CertificateOnLine = codes " L13"
+line_codes line_cause.Marker = codes " L14"
+line_codes line_cause.HashedName = codes " L15"
+line_codes line_cause.Names = codes " L16"
+
+abbrev pub reason_codes : Reason → List ℕ
+reason_codes (reason.Unreadable e) = codes " G1" ++ line_codes e
+reason_codes reason.AuthorityOnly = codes " G3"
+reason_codes reason.NotAuthority = codes " G4"
+reason_codes reason.Expired = codes " G6"
+reason_codes reason.SourceBad = codes " G7"
+reason_codes reason.SourceRefused = codes " G8"
+reason_codes reason.WrongCertKind = codes " G9"
+reason_codes reason.NotYetValid = codes " G10"
+reason_codes reason.NoLongerValid = codes " G11"
+reason_codes reason.PrincipalRefused = codes " G12"
+reason_codes (reason.CriticalUnknown name) = codes " G13 " ++ escaped name
+reason_codes reason.CriticalRepeated = codes " G14"
+reason_codes reason.CriticalData = codes " G15"
+reason_codes reason.CertSourceBad = codes " G16"
+reason_codes reason.CertSourceRefused = codes " G17"
+reason_codes reason.CommandConflict = codes " G18"
+
+abbrev pub cause_codes : Cause → List ℕ
+cause_codes cause.NoLine = codes " N3"
+cause_codes cause.TouchMissing = codes " N4"
+cause_codes cause.VerifyMissing = codes " N5"
+cause_codes (cause.NotVouched k) = codes " N6" ++ spaced (decimal k)
+
+abbrev pub offer_codes : OfferError → List ℕ
+offer_codes (offer.Key e) = key_codes e
+offer_codes (offer.Certificate e) = cert_codes e
+
+abbrev pub fault_codes : AuditError → List ℕ
+fault_codes (error.Offer e) = codes " A1" ++ offer_codes e
+fault_codes (error.Signature e) = codes " A2" ++ wire_codes e
+fault_codes error.WrongAlgorithm = codes " A3"
+fault_codes error.WeakSignature = codes " A4"
+fault_codes error.CertSignature = codes " A5"
+fault_codes error.Address = codes " A6"
+fault_codes error.FileTooLong = codes " A7"
+fault_codes error.Memory = codes " A8"
+fault_codes error.Read = codes " A9"

@@ -1,0 +1,5 @@
+pub mod Texts
+pub mod Codes
+pub mod DecisionText
+pub mod Responses
+pub mod ResponseView

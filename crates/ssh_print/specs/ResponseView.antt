@@ -1,0 +1,6 @@
+-- The responses of the code, seen as those of the definitions.
+use Rattle.ssh_print.specs.declared.response.Response.{Response}
+use Rattle.ssh_print.specs.Responses.{Response as Shown}
+
+abbrev pub response : Response → Shown
+response r = record { status = r.status; text = r.text.items }

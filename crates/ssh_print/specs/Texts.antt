@@ -1,0 +1,41 @@
+-- Small texts that are printed, and lines of a word and what stands after it.
+use Rattle.std.specs.Prelude.{◌++◌, ◌∷◌, [], ◌==◌, ◌&&◌, ◌+◌, ◌/◌, ◌%◌, ℕ, Bool, not, List, codes, nat_lt, nat_le, if◌then◌else◌}
+use Rattle.std.specs.List.{flat_map}
+
+-- ---- small texts
+
+-- a space, and the text
+abbrev pub spaced : List ℕ → List ℕ
+spaced text = 32 ∷ text
+
+abbrev pub hex_digit : ℕ → ℕ
+hex_digit d = if nat_lt d 10 then 48 + d else 87 + d
+
+abbrev pub hex_pair : ℕ → List ℕ
+hex_pair b = hex_digit (b / 16) ∷ hex_digit (b % 16) ∷ []
+
+-- lower case hexadecimal, a dash for no bytes
+abbrev pub hex_text : List ℕ → List ℕ
+hex_text [] = 45 ∷ []
+hex_text (b ∷ bytes) = flat_map hex_pair (b ∷ bytes)
+
+-- printable ASCII but for the backslash (92)
+abbrev pub is_plain : ℕ → Bool
+is_plain b = nat_le 32 b && (nat_lt b 127 && not (b == 92))
+
+-- a byte of a text: a plain one is itself, every other byte is escaped
+abbrev pub escaped_byte : ℕ → List ℕ
+escaped_byte b = if is_plain b then b ∷ [] else 92 ∷ 120 ∷ hex_pair b
+
+abbrev pub escaped : List ℕ → List ℕ
+escaped text = flat_map escaped_byte text
+
+-- ---- lines, each of which ends with an LF
+
+-- a word, with a space behind it, and what stands there
+unfoldable pub word_line : List ℕ → List ℕ → List ℕ
+word_line word said = word ++ said ++ codes "\n"
+
+-- the same of bytes that may be any
+abbrev pub text_line : List ℕ → List ℕ → List ℕ
+text_line word text = word_line word (escaped text)

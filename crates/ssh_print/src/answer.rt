@@ -1,0 +1,134 @@
+//! The responses to what was asked.
+
+ghost use Rattle.std.specs.Prelude.{◌≡◌, IfOk};
+ghost use Rattle.ssh_print.specs.Codes.{cert_codes, line_codes};
+ghost use Rattle.ssh_print.specs.Responses.{decision_status, decision_response, fault_response, no_file_response, usage_response, value_response, vouch_response};
+ghost use Rattle.ssh_print.specs.ResponseView.{response};
+
+use crate::codes::{push_cert_codes, push_fault_codes, push_line_codes};
+use crate::decision_text::push_decision;
+use crate::response::{FAULT, Response};
+use crate::text::{push_escaped, push_number};
+use ssh_certs::CertError;
+use ssh_lines::LineCause;
+use ssh_trust::{AuditError, Decision};
+use std::alloc::{AllocError, Global};
+
+/// The response to words that ask for nothing.
+pub fn usage_fault(alloc: Global) -> Result<Response, AllocError>
+    ensures { IfOk result (λ r. response r ≡ usage_response) }
+{
+    let mut text = Vec::new(alloc);
+    text.extend_from_slice(b"fault usage\n")?;
+    Ok(Response {
+        status: FAULT,
+        text,
+    })
+}
+
+/// The response to a value that the option of this name does not take.
+pub fn value_fault(alloc: Global, name: &str) -> Result<Response, AllocError>
+    ensures { IfOk result (λ r. response r ≡ value_response name.now) }
+{
+    let mut text = Vec::new(alloc);
+    text.extend_from_slice(b"fault value ")?;
+    text.extend_from_slice(name.as_bytes())?;
+    text.push(b'\n')?;
+    Ok(Response {
+        status: FAULT,
+        text,
+    })
+}
+
+/// The response to a file that gives no bytes.
+pub fn file_fault(alloc: Global, name: &str) -> Result<Response, AllocError>
+    ensures { IfOk result (λ r. response r ≡ no_file_response name.now) }
+{
+    let mut text = Vec::new(alloc);
+    text.extend_from_slice(b"fault file ")?;
+    push_escaped(&mut text, name.as_bytes())?;
+    text.push(b'\n')?;
+    Ok(Response {
+        status: FAULT,
+        text,
+    })
+}
+
+/// The response to a vouch file whose line of this number spells no triple.
+pub fn vouch_fault(alloc: Global, line: u64) -> Result<Response, AllocError>
+    ensures { IfOk result (λ r. response r ≡ vouch_response line) }
+{
+    let mut text = Vec::new(alloc);
+    text.extend_from_slice(b"fault vouch ")?;
+    push_number(alloc, &mut text, line)?;
+    text.push(b'\n')?;
+    Ok(Response {
+        status: FAULT,
+        text,
+    })
+}
+
+fn status_of(decision: &Decision) -> u8
+    ensures { result ≡ decision_status decision.now }
+{
+    match decision {
+        Decision::Granted { .. } => 0,
+        Decision::Denied { .. } => 1,
+    }
+}
+
+/// The response of a decision, or of the fault that stands in its place.
+pub fn decision_response(
+    alloc: Global,
+    answer: &Result<Decision, AuditError>,
+) -> Result<Response, AllocError>
+    ensures { IfOk result (λ r. response r ≡ decision_response answer.now) }
+{
+    let mut text = Vec::new(alloc);
+    match answer {
+        Ok(decision) => {
+            push_decision(alloc, &mut text, decision)?;
+            Ok(Response {
+                status: status_of(decision),
+                text,
+            })
+        }
+        Err(error) => {
+            text.extend_from_slice(b"fault")?;
+            push_fault_codes(alloc, &mut text, *error)?;
+            text.push(b'\n')?;
+            Ok(Response {
+                status: FAULT,
+                text,
+            })
+        }
+    }
+}
+
+/// The response to a line with this fault.
+pub fn line_fault(alloc: Global, cause: LineCause) -> Result<Response, AllocError>
+    ensures { IfOk result (λ r. response r ≡ fault_response (line_codes cause)) }
+{
+    let mut text = Vec::new(alloc);
+    text.extend_from_slice(b"fault")?;
+    push_line_codes(alloc, &mut text, cause)?;
+    text.push(b'\n')?;
+    Ok(Response {
+        status: FAULT,
+        text,
+    })
+}
+
+/// The response to a certificate with this fault.
+pub fn cert_fault(alloc: Global, error: CertError) -> Result<Response, AllocError>
+    ensures { IfOk result (λ r. response r ≡ fault_response (cert_codes error)) }
+{
+    let mut text = Vec::new(alloc);
+    text.extend_from_slice(b"fault")?;
+    push_cert_codes(alloc, &mut text, error)?;
+    text.push(b'\n')?;
+    Ok(Response {
+        status: FAULT,
+        text,
+    })
+}

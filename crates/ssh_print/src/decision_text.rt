@@ -1,0 +1,216 @@
+//! The lines of a decision.
+
+ghost use Rattle.std.specs.Prelude.{◌≡◌, ◌++◌, OnOk};
+ghost use Rattle.std.specs.List.{flat_map};
+ghost use Rattle.ssh_print.specs.DecisionText.{carried_line, carried_word, cause_line, command_line, decision_text, evidence_line, evidence_lines, granted_lines, has_no_right, reason_line, right_word, right_words, rights_line, rights_lines};
+
+use crate::codes::{push_cause_codes, push_reason_codes};
+use crate::line::push_text_line;
+use crate::text::{push_escaped, push_hex, push_number};
+use ssh_lines::Bytes;
+use ssh_trust::{Carried, CarriedName, Cause, Decision, Reason, Rights, Signed};
+use std::alloc::{AllocError, Global};
+
+fn push_evidence_line(
+    alloc: Global,
+    out: &mut Vec<u8>,
+    index: usize,
+    signed: &Signed,
+) -> Result<(), AllocError>
+    ensures { OnOk result (out.new.items ≡ out.old.items ++ evidence_line index signed.now) }
+{
+    out.extend_from_slice(b"evidence ")?;
+    push_number(alloc, out, index as u64)?;
+    out.push(b' ')?;
+    push_hex(out, signed.key.as_slice())?;
+    out.push(b' ')?;
+    push_hex(out, signed.message.as_slice())?;
+    out.push(b' ')?;
+    push_hex(out, signed.signature.as_slice())?;
+    out.push(b'\n')?;
+    Ok(())
+}
+
+#[tactic(auto, unfolding(crate::specs::DecisionText::evidence_lines))]
+fn push_evidence(alloc: Global, out: &mut Vec<u8>, evidence: &[Signed]) -> Result<(), AllocError>
+    ensures { OnOk result (out.new.items ≡ out.old.items ++ evidence_lines evidence.now) }
+{
+    for (index, signed) in evidence.iter().enumerate() {
+        push_evidence_line(alloc, out, index, signed)?;
+    }
+    Ok(())
+}
+
+fn right_word(is_on: bool, word: &'static [u8]) -> &'static [u8]
+    ensures { result.now ≡ right_word is_on word.entry.now }
+{
+    if is_on { word } else { b"" }
+}
+
+fn push_right_words(out: &mut Vec<u8>, rights: &Rights) -> Result<(), AllocError>
+    ensures { OnOk result (out.new.items ≡ out.old.items ++ right_words rights.now) }
+{
+    out.extend_from_slice(right_word(rights.port, b" port"))?;
+    out.extend_from_slice(right_word(rights.agent, b" agent"))?;
+    out.extend_from_slice(right_word(rights.x11, b" x11"))?;
+    out.extend_from_slice(right_word(rights.pty, b" pty"))?;
+    out.extend_from_slice(right_word(rights.user_rc, b" rc"))?;
+    Ok(())
+}
+
+fn has_no_right(rights: &Rights) -> bool
+    ensures { result ≡ has_no_right rights.now }
+{
+    !(rights.port || rights.agent || rights.x11 || rights.pty || rights.user_rc)
+}
+
+/// Where no right is on, the line says so.
+fn push_rights_line(out: &mut Vec<u8>, rights: &Rights) -> Result<(), AllocError>
+    ensures { OnOk result (out.new.items ≡ out.old.items ++ rights_line rights.now) }
+{
+    out.extend_from_slice(b"rights")?;
+    if has_no_right(rights) {
+        out.extend_from_slice(b" none")?;
+    } else {
+        push_right_words(out, rights)?;
+    }
+    out.push(b'\n')?;
+    Ok(())
+}
+
+fn push_command_line(out: &mut Vec<u8>, command: &Option<Bytes>) -> Result<(), AllocError>
+    ensures { OnOk result (out.new.items ≡ out.old.items ++ command_line command.now) }
+{
+    match command {
+        Some(text) => push_text_line(out, b"command ", text.as_slice()),
+        None => Ok(()),
+    }
+}
+
+/// The name of an option, as sshd(8) spells it.
+fn carried_word(name: CarriedName) -> &'static [u8]
+    ensures { result.now ≡ carried_word name }
+{
+    match name {
+        CarriedName::Environment => b"environment",
+        CarriedName::PermitListen => b"permitlisten",
+        CarriedName::PermitOpen => b"permitopen",
+        CarriedName::Tunnel => b"tunnel",
+    }
+}
+
+fn push_carried_line(out: &mut Vec<u8>, carried: &Carried) -> Result<(), AllocError>
+    ensures { OnOk result (out.new.items ≡ out.old.items ++ carried_line carried.now) }
+{
+    out.extend_from_slice(b"carry ")?;
+    out.extend_from_slice(carried_word(carried.name))?;
+    out.push(b' ')?;
+    push_escaped(out, carried.text.as_slice())?;
+    out.push(b'\n')?;
+    Ok(())
+}
+
+fn push_carried(out: &mut Vec<u8>, carried: &[Carried]) -> Result<(), AllocError>
+    ensures { OnOk result (out.new.items ≡ out.old.items ++ flat_map carried_line carried.now) }
+{
+    for text in carried {
+        push_carried_line(out, text)?;
+    }
+    Ok(())
+}
+
+/// What a login may do: its rights, the command that is forced, and the texts that are carried on.
+fn push_rights(out: &mut Vec<u8>, rights: &Option<Rights>) -> Result<(), AllocError>
+    ensures { OnOk result (out.new.items ≡ out.old.items ++ rights_lines rights.now) }
+{
+    match rights {
+        Some(rights) => {
+            push_rights_line(out, rights)?;
+            push_command_line(out, &rights.command)?;
+            push_carried(out, rights.carried.as_slice())
+        }
+        None => Ok(()),
+    }
+}
+
+fn push_cause_line(alloc: Global, out: &mut Vec<u8>, cause: Cause) -> Result<(), AllocError>
+    ensures { OnOk result (out.new.items ≡ out.old.items ++ cause_line cause) }
+{
+    out.extend_from_slice(b"denied")?;
+    push_cause_codes(alloc, out, cause)?;
+    out.push(b'\n')?;
+    Ok(())
+}
+
+fn push_reason_line(
+    alloc: Global,
+    out: &mut Vec<u8>,
+    number: u64,
+    reason: &Reason,
+) -> Result<(), AllocError>
+    ensures { OnOk result (out.new.items ≡ out.old.items ++ reason_line (number, reason.now)) }
+{
+    out.extend_from_slice(b"reason ")?;
+    push_number(alloc, out, number)?;
+    push_reason_codes(alloc, out, reason)?;
+    out.push(b'\n')?;
+    Ok(())
+}
+
+fn push_reasons(
+    alloc: Global,
+    out: &mut Vec<u8>,
+    reasons: &[(u64, Reason)],
+) -> Result<(), AllocError>
+    ensures { OnOk result (out.new.items ≡ out.old.items ++ flat_map reason_line reasons.now) }
+{
+    for reason in reasons {
+        push_reason_line(alloc, out, reason.0, &reason.1)?;
+    }
+    Ok(())
+}
+
+fn push_granted(
+    alloc: Global,
+    out: &mut Vec<u8>,
+    line: u64,
+    rights: &Option<Rights>,
+) -> Result<(), AllocError>
+    ensures { OnOk result (out.new.items ≡ out.old.items ++ granted_lines line rights.now) }
+{
+    out.extend_from_slice(b"granted line ")?;
+    push_number(alloc, out, line)?;
+    out.push(b'\n')?;
+    push_rights(out, rights)?;
+    Ok(())
+}
+
+/// The lines of a decision.
+pub fn push_decision(
+    alloc: Global,
+    out: &mut Vec<u8>,
+    decision: &Decision,
+) -> Result<(), AllocError>
+    ensures { OnOk result (out.new.items ≡ out.old.items ++ decision_text decision.now) }
+{
+    match decision {
+        Decision::Granted {
+            line,
+            rights,
+            evidence,
+        } => {
+            push_granted(alloc, out, *line, rights)?;
+            push_evidence(alloc, out, evidence.as_slice())?;
+        }
+        Decision::Denied {
+            why,
+            reasons,
+            evidence,
+        } => {
+            push_cause_line(alloc, out, *why)?;
+            push_reasons(alloc, out, reasons.as_slice())?;
+            push_evidence(alloc, out, evidence.as_slice())?;
+        }
+    }
+    Ok(())
+}

@@ -1,0 +1,16 @@
+//! The printed lines of decisions and of faults, each answer with its status.
+#![tactic(auto)]
+
+mod answer;
+mod codes;
+mod decision_text;
+mod line;
+mod response;
+mod text;
+
+pub use answer::{
+    cert_fault, decision_response, file_fault, line_fault, usage_fault, value_fault, vouch_fault,
+};
+pub use line::{push_number_line, push_text_line, push_word_line};
+pub use response::{DONE, FAULT, Response};
+pub use text::{push_escaped, push_hex, push_number};

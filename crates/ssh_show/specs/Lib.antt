@@ -1,0 +1,3 @@
+pub mod ShownTexts
+pub mod Showing
+pub mod ShownLines

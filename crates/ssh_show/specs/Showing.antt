@@ -1,0 +1,112 @@
+-- What `show` reads on a file's first line, and what it answers. A line of a key, or of a certificate, has its type, its base64 and a comment.
+use Rattle.std.specs.Prelude.{◌≡◌, ℕ, List, [], ◌∷◌, Option, Some, None, Result, Ok, Err, codes, if◌then◌else◌}
+use Rattle.std.specs.Str.{bytes_eq}
+use Rattle.base64.specs.Engines.{standard}
+use Rattle.base64.specs.GeneralPurpose.{decoded_of}
+use Rattle.ssh_keys.specs.declared.kind.NameClass.{NameClass}
+use Rattle.ssh_keys.specs.declared.kind.NameClass.TheVariants.{Plain, Certificate, Retired, Other}
+use Rattle.ssh_keys.specs.declared.error.KeyError.{KeyError}
+use Rattle.ssh_keys.specs.Names.{name_of, certificate_name_of, class_of}
+use Rattle.ssh_keys.specs.PublicKey.{PublicKey, kind_of}
+use Rattle.ssh_keys.specs.KeyReading.{key_in}
+use Rattle.ssh_certs.specs.Certificate as certs
+use Rattle.ssh_certs.specs.CertificateReading.{certificate_in}
+use Rattle.ssh_certs.specs.declared.error.CertError.{CertError}
+use Rattle.ssh_lines.specs.KeyText.{base64_field, comment_field, type_field}
+use Rattle.ssh_options.specs.declared.cause.LineCause.{LineCause}
+use Rattle.ssh_options.specs.declared.cause.LineCause.TheVariants.{NoKey, KeyType, RetiredType, Base64, KeyBlob, TypeMismatch, CertificateOnLine}
+use Rattle.ssh_show.specs.declared.kind.ShowKind.{ShowKind}
+use Rattle.ssh_show.specs.declared.kind.ShowKind.TheVariants as shown
+use Rattle.ssh_show.specs.declared.fault.ShowFault.{ShowFault}
+use Rattle.ssh_show.specs.declared.fault.ShowFault.TheVariants.{Line, Cert, Memory}
+use Rattle.ssh_show.specs.ShownTexts.{IsCertText, IsKeyText}
+use Rattle.ssh_print.specs.Responses.{Response, fault_response, out_of_memory}
+use Rattle.ssh_print.specs.Codes.{cert_codes, line_codes}
+
+-- ---- words
+
+-- the kinds that `show` knows
+abbrev pub show_kind : List ℕ → Option ShowKind
+show_kind word =
+    if bytes_eq word (codes "key") then Some shown.Key
+    else if bytes_eq word (codes "cert") then Some shown.Cert
+    else None
+
+-- ---- lines, with the first fault
+
+-- the first of the lines; of no lines no bytes
+abbrev pub first_of_lines : List (List ℕ) → List ℕ
+first_of_lines [] = []
+first_of_lines (line ∷ lines) = line
+
+-- a type that is no plain key's
+abbrev pub key_type_fault : NameClass → Option LineCause
+key_type_fault (Plain kind) = None
+key_type_fault (Certificate kind) = Some CertificateOnLine
+key_type_fault Retired = Some RetiredType
+key_type_fault Other = Some KeyType
+
+-- a type that is no certificate's
+abbrev pub cert_type_fault : NameClass → Option LineCause
+cert_type_fault (Certificate kind) = None
+cert_type_fault (Plain kind) = Some KeyType
+cert_type_fault Retired = Some KeyType
+cert_type_fault Other = Some KeyType
+
+-- a missing base64 is told before the type's own fault; where the type is missing the base64 is too
+abbrev pub field_fault : List ℕ → Option LineCause → Option LineCause
+field_fault [] fault = Some NoKey
+field_fault (c ∷ cs) fault = fault
+
+-- the blob of a base64 field
+abbrev pub blob_spelled : Option (List ℕ) → Result (List ℕ) ShowFault
+blob_spelled None = Err (Line Base64)
+blob_spelled (Some blob) = Ok blob
+
+-- the same, where the fields have no fault
+abbrev pub blob_of_field : Option LineCause → List ℕ → Result (List ℕ) ShowFault
+blob_of_field (Some cause) field = Err (Line cause)
+blob_of_field None field = blob_spelled (decoded_of standard field)
+
+-- a key, where its type is the line's
+abbrev pub key_of_type : List ℕ → Result PublicKey KeyError → Result PublicKey ShowFault
+key_of_type type (Err e) = Err (Line (KeyBlob e))
+key_of_type type (Ok key) = if bytes_eq (name_of (kind_of key)) type then Ok key else Err (Line TypeMismatch)
+
+abbrev pub key_of_blob : List ℕ → Result (List ℕ) ShowFault → Result PublicKey ShowFault
+key_of_blob type (Err e) = Err e
+key_of_blob type (Ok blob) = key_of_type type (key_in blob)
+
+-- the key on a line, or the first fault
+unfoldable pub key_on : List ℕ → Result PublicKey ShowFault
+key_on line = key_of_blob (type_field line) (blob_of_field (field_fault (base64_field line) (key_type_fault (class_of (type_field line)))) (base64_field line))
+
+-- a certificate, where its type is the line's
+abbrev pub cert_of_type : List ℕ → Result certs.Certificate CertError → Result certs.Certificate ShowFault
+cert_of_type type (Err e) = Err (Cert e)
+cert_of_type type (Ok cert) = if bytes_eq (certificate_name_of (kind_of cert.key)) type then Ok cert else Err (Line TypeMismatch)
+
+abbrev pub cert_of_blob : List ℕ → Result (List ℕ) ShowFault → Result certs.Certificate ShowFault
+cert_of_blob type (Err e) = Err e
+cert_of_blob type (Ok blob) = cert_of_type type (certificate_in blob)
+
+-- the certificate on a line, or the first fault
+unfoldable pub cert_on : List ℕ → Result certs.Certificate ShowFault
+cert_on line = cert_of_blob (type_field line) (blob_of_field (field_fault (base64_field line) (cert_type_fault (class_of (type_field line)))) (base64_field line))
+
+-- ---- answers
+
+abbrev pub show_fault_response : ShowFault → Response
+show_fault_response (Line cause) = fault_response (line_codes cause)
+show_fault_response (Cert e) = fault_response (cert_codes e)
+show_fault_response Memory = out_of_memory
+
+-- the text of what was read with status 0, or its fault
+abbrev pub IsAnswerTo : {A : Type 0} → (A → List ℕ → Type 0) → Result A ShowFault → Response → Type 0
+IsAnswerTo IsTextOf (Ok x) r = (r.status ≡ 0) × IsTextOf x r.text
+IsAnswerTo IsTextOf (Err e) r = r ≡ show_fault_response e
+
+-- the answer to `show` of a line as this kind
+abbrev pub ShowsLine : ShowKind → List ℕ → Response → Type 0
+ShowsLine shown.Key line r = IsAnswerTo (λ key text. IsKeyText key (comment_field line) text) (key_on line) r
+ShowsLine shown.Cert line r = IsAnswerTo IsCertText (cert_on line) r

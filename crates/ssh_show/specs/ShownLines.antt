@@ -1,0 +1,33 @@
+-- What reading and printing a line gives, unless memory was refused.
+use Rattle.std.specs.Prelude.{◌≡◌, ⊤, ℕ, List, Result, Ok, Err}
+use Rattle.ssh_show.specs.declared.kind.ShowKind.{ShowKind}
+use Rattle.ssh_show.specs.declared.kind.ShowKind.TheVariants as shown
+use Rattle.ssh_show.specs.declared.fault.ShowFault.{ShowFault}
+use Rattle.ssh_show.specs.declared.fault.ShowFault.TheVariants.{Line, Cert, Memory}
+use Rattle.ssh_lines.specs.KeyText.{comment_field}
+use Rattle.ssh_show.specs.Showing.{cert_on, key_on}
+use Rattle.ssh_show.specs.ShownTexts.{IsCertText, IsKeyText}
+
+-- a value was read, seen by view, or the first fault was met
+abbrev pub Finds : {X A : Type 0} → (X → A) → Result A ShowFault → Result X ShowFault → Type 0
+Finds view read (Ok x) = read ≡ Ok (view x)
+Finds view read (Err (Line cause)) = read ≡ Err (Line cause)
+Finds view read (Err (Cert e)) = read ≡ Err (Cert e)
+Finds view read (Err Memory) = ⊤
+
+-- the text of what was read
+abbrev pub IsTextRead : {A : Type 0} → (A → List ℕ → Type 0) → Result A ShowFault → List ℕ → Type 0
+IsTextRead IsTextOf (Ok x) text = IsTextOf x text
+IsTextRead IsTextOf (Err e) text = ⊥
+
+-- the text of what was read, as view sees it, or the first fault was met
+abbrev pub Prints : {X A : Type 0} → (X → List ℕ) → (A → List ℕ → Type 0) → Result A ShowFault → Result X ShowFault → Type 0
+Prints view IsTextOf read (Ok x) = IsTextRead IsTextOf read (view x)
+Prints view IsTextOf read (Err (Line cause)) = read ≡ Err (Line cause)
+Prints view IsTextOf read (Err (Cert e)) = read ≡ Err (Cert e)
+Prints view IsTextOf read (Err Memory) = ⊤
+
+-- the same of a line that is shown as this kind
+abbrev pub PrintsLine : {X : Type 0} → (X → List ℕ) → ShowKind → List ℕ → Result X ShowFault → Type 0
+PrintsLine view shown.Key line result = Prints view (λ key text. IsKeyText key (comment_field line) text) (key_on line) result
+PrintsLine view shown.Cert line result = Prints view IsCertText (cert_on line) result

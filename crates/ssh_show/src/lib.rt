@@ -1,0 +1,17 @@
+//! What `show` prints of a public key and of a certificate.
+#![tactic(auto)]
+
+mod answer;
+mod cert;
+mod date;
+mod fault;
+mod key;
+mod kind;
+mod laws;
+mod line;
+mod text;
+
+pub use answer::show;
+pub use date::date_text;
+pub use kind::{ShowKind, show_kind};
+pub use laws::show_rule;
