@@ -20,9 +20,9 @@ unfolding login_app show_app clap_on_literals
 is_plain = refl
 
 -- no words spell no request
-pub none_asked : request_of [] ≡ None
+pub no_request : request_of [] ≡ None
 unfolding login_app show_app clap_on_literals
-none_asked = refl
+no_request = refl
 
 -- words with a fault spell no request
 spelled-among : (words : List (List ℕ)) (k : ErrorKind) (ks : Kinds) → IsAmong k ks → spelled words ks ≡ None

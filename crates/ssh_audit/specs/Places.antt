@@ -1,6 +1,6 @@
 -- What the system's source reads.
 use Rattle.std.specs.Prelude.{◌≡◌, ◌≢◌, ℕ, Bool, true, false, List, Result, IsErr, ⊤}
-use Rattle.ssh_inputs.specs.Shelf.{dash}
+use Rattle.ssh_inputs.specs.SourceState.{dash}
 use Rattle.ssh_audit.specs.declared.system.Chosen.{Chosen}
 use Rattle.ssh_audit.specs.declared.system.Chosen.TheVariants.{Nothing, Input, File}
 

@@ -14,7 +14,7 @@ use Rattle.ssh_trust.specs.Query.{Login}
 use Rattle.ssh_trust.specs.LoginClaim.{LoginClaim, login_claim}
 use Rattle.ssh_trust.specs.Answer.{login_answer}
 use Rattle.ssh_audit.specs.CommandLine.{LoginWords, Request, ShowWords, login, show, request_of}
-use Rattle.ssh_inputs.specs.Shelf.{Shelf, bytes_at}
+use Rattle.ssh_inputs.specs.SourceState.{SourceState, bytes_at}
 use Rattle.ssh_show.specs.declared.kind.ShowKind.{ShowKind}
 use Rattle.ssh_lines.specs.Text.{lines_of}
 use Rattle.ssh_show.specs.Showing.{ShowsLine, first_of_lines, show_kind}
@@ -64,12 +64,12 @@ vouched_or_fault name None = Err (no_file_response name)
 vouched_or_fault name (Some bytes) = or_vouch_fault (vouched_of bytes)
 
 -- the signatures of the vouch file, or the answer that it tells none
-abbrev pub vouched_in : Option (List ℕ) → Shelf → Result (List Signed) Response
+abbrev pub vouched_in : Option (List ℕ) → SourceState → Result (List Signed) Response
 vouched_in None s = Ok []
 vouched_in (Some name) s = vouched_or_fault name (within_limit (part_at s name))
 
 -- the source after the vouch file was read
-abbrev pub after_vouching : Option (List ℕ) → Shelf → Shelf
+abbrev pub after_vouching : Option (List ℕ) → SourceState → SourceState
 after_vouching None s = s
 after_vouching (Some name) s = after_part s name
 
@@ -88,27 +88,27 @@ answer_over q vouched (Some file) = answer_claimed (login_claim q) file vouched
 abbrev pub login_over : Login → List Signed → Option (List ℕ) → Response
 login_over q vouched file = decision_response (answer_over q vouched file)
 
-abbrev pub login_vouched : LoginWords → Login → Shelf → Result (List Signed) Response → Response
+abbrev pub login_vouched : LoginWords → Login → SourceState → Result (List Signed) Response → Response
 login_vouched w q s (Err r) = r
 login_vouched w q s (Ok vouched) = login_over q vouched (bytes_at s w.file)
 
-abbrev pub login_asked : LoginWords → Shelf → Result Login Response → Response
-login_asked w s (Err r) = r
-login_asked w s (Ok q) = login_vouched w q (after_vouching w.vouch s) (vouched_in w.vouch s)
+abbrev pub login_values_response : LoginWords → SourceState → Result Login Response → Response
+login_values_response w s (Err r) = r
+login_values_response w s (Ok q) = login_vouched w q (after_vouching w.vouch s) (vouched_in w.vouch s)
 
-abbrev pub login_response : LoginWords → Option TimeZone → Shelf → Response
-login_response w zone s = login_asked w s (login_spelled w zone)
+abbrev pub login_response : LoginWords → Option TimeZone → SourceState → Response
+login_response w zone s = login_values_response w s (login_spelled w zone)
 
 -- what is to be answered: this response, that to a login in the zone of its text, or what a line is shown as
 pub data Answer : Type 0 where
   exactly : Response → Answer
-  decided : LoginWords → Shelf → Answer
+  login_in_zone : LoginWords → SourceState → Answer
   shown : ShowKind → List ℕ → Answer
 
 -- the response is that answer
 abbrev pub IsAnswer : Answer → Response → Type 0
 IsAnswer (exactly wanted) r = r ≡ wanted
-IsAnswer (decided w s) r = (zone : Option TimeZone) × ReadsZone (zone_text w.zone) zone × (r ≡ login_response w zone s)
+IsAnswer (login_in_zone w s) r = (zone : Option TimeZone) × ReadsZone (zone_text w.zone) zone × (r ≡ login_response w zone s)
 IsAnswer (shown kind line) r = ShowsLine kind line r
 
 -- the first line of a file, whatever its length
@@ -120,47 +120,47 @@ abbrev pub show_by_kind : Option ShowKind → List ℕ → Option (List ℕ) →
 show_by_kind None name file = exactly (value_response (codes "kind"))
 show_by_kind (Some kind) name file = show_over kind name (within_limit file)
 
-abbrev pub show_answer : ShowWords → Shelf → Answer
+abbrev pub show_answer : ShowWords → SourceState → Answer
 show_answer w s = show_by_kind (show_kind w.kind) w.file (bytes_at s w.file)
 
 -- the answer to a request
-abbrev pub answer_in : Shelf → Option Request → Answer
+abbrev pub answer_in : SourceState → Option Request → Answer
 answer_in s None = exactly usage_response
-answer_in s (Some (login w)) = decided w s
+answer_in s (Some (login w)) = login_in_zone w s
 answer_in s (Some (show w)) = show_answer w s
 
 -- where no word is given, the words are those of the first line of standard input
-abbrev pub asked : List (List ℕ) → Shelf → List (List ℕ)
-asked [] s = words_in (first_line s)
-asked (w ∷ words) s = w ∷ words
+abbrev pub request_words : List (List ℕ) → SourceState → List (List ℕ)
+request_words [] s = words_in (first_line s)
+request_words (w ∷ words) s = w ∷ words
 
-abbrev pub source_of : List (List ℕ) → Shelf → Shelf
+abbrev pub source_of : List (List ℕ) → SourceState → SourceState
 source_of [] s = after_line s
 source_of (w ∷ words) s = s
 
 -- the answer to these words over this source
-abbrev pub answer : List (List ℕ) → Shelf → Answer
-answer words s = answer_in (source_of words s) (request_of (asked words s))
+abbrev pub answer : List (List ℕ) → SourceState → Answer
+answer words s = answer_in (source_of words s) (request_of (request_words words s))
 
 -- ---- failed reads
 
 -- one read failed, and the response is that file's fault: A9 of the trust file, and its name of the vouch file and of the file that is shown
-abbrev pub IsReadFault : Option Request → Shelf → Option Shelf → Response → Type 0
+abbrev pub IsReadFault : Option Request → SourceState → Option SourceState → Response → Type 0
 IsReadFault None s t r = ⊥
 IsReadFault (Some (login w)) s t r = (OneReadFailed s t w.file × (r ≡ refused_response Read))
     ⊎ ((name : List ℕ) × (w.vouch ≡ Some name) × OneReadFailed s t name × (r ≡ no_file_response name))
 IsReadFault (Some (show w)) s t r = OneReadFailed s t w.file × (r ≡ no_file_response w.file)
 
 -- the response is the wanted one, and no read failed; or one failed, and it is the fault of the file that was read
-abbrev pub RespondsBy : Option Request → Answer → Shelf → Option Shelf → Response → Type 0
+abbrev pub RespondsBy : Option Request → Answer → SourceState → Option SourceState → Response → Type 0
 RespondsBy q wanted s t r = (NoReadFailed s t × IsAnswer wanted r) ⊎ IsReadFault q s t r
 
 -- the same of words, where the first line of standard input may be what was not read
-abbrev pub Responds : List (List ℕ) → Shelf → Option Shelf → Response → Type 0
-Responds words s t r = RespondsBy (request_of (asked words s)) (answer words s) s t r ⊎ (LineReadFailed s t × (words ≡ []) × (r ≡ usage_response))
+abbrev pub Responds : List (List ℕ) → SourceState → Option SourceState → Response → Type 0
+Responds words s t r = RespondsBy (request_of (request_words words s)) (answer words s) s t r ⊎ (LineReadFailed s t × (words ≡ []) × (r ≡ usage_response))
 
 -- the response is the answer where no read failed, and a read's fault where one did, unless memory was refused
-abbrev pub Answers : List (List ℕ) → Shelf → Option Shelf → Response → Type 0
+abbrev pub Answers : List (List ℕ) → SourceState → Option SourceState → Response → Type 0
 Answers words s t r = Responds words s t r ⊎ (r ≡ out_of_memory)
 
 -- ---- words that cannot be had

@@ -1,6 +1,6 @@
 -- What the parts of a request answer.
 use Rattle.std.specs.Prelude.{◌≡◌, ◌⊎◌, ℕ, Bool, true, false, List, Option, Result, Err}
-use Rattle.ssh_inputs.specs.Shelf.{Shelf}
+use Rattle.ssh_inputs.specs.SourceState.{SourceState}
 use Rattle.ssh_trust.specs.Answer.{Gives}
 use Rattle.ssh_trust.specs.Query.{Login}
 use Rattle.ssh_trust.specs.declared.decision.Decision.{Decision}
@@ -24,7 +24,7 @@ IsUsageOf fault.Memory r = ⊥
 IsUsageOf e r = r ≡ usage_response
 
 -- what a login is answered by the trust file of this name with these bytes: memory was refused, or a read of it failed, or it is the answer
-abbrev pub AnswersFile : Login → List Signed → List ℕ → Option (List ℕ) → Shelf → Option Shelf → Result Decision AuditError → Type 0
+abbrev pub AnswersFile : Login → List Signed → List ℕ → Option (List ℕ) → SourceState → Option SourceState → Result Decision AuditError → Type 0
 AnswersFile q vouched name bytes s t result = (result ≡ Err Memory)
     ⊎ ((OneReadFailed s t name × (result ≡ Err Read)) ⊎ (NoReadFailed s t × Gives (answer_over q vouched bytes) result))
 

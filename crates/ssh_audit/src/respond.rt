@@ -4,13 +4,13 @@ ghost use Rattle.std.specs.Prelude.{◌≡◌, ◌<◌, ◌^◌, [], length, map
 ghost use Rattle.ssh_trust.specs.Query.{login_of};
 ghost use Rattle.ssh_trust.specs.LoginClaim.{login_claim};
 ghost use Rattle.ssh_audit.specs.CommandLine.{login, show, request_of};
-ghost use Rattle.ssh_audit.specs.Requests.{Responds, RespondsBy, after_vouching, answer_claimed, answer_in, decided, login_over, login_vouched, or_vouch_fault, show_answer, vouched_in, exactly, login_asked};
+ghost use Rattle.ssh_audit.specs.Requests.{Responds, RespondsBy, after_vouching, answer_claimed, answer_in, login_in_zone, login_over, login_vouched, or_vouch_fault, show_answer, vouched_in, exactly, login_values_response};
 ghost use Rattle.ssh_audit.specs.LoginValues.{login_with};
 ghost use Rattle.ssh_trust.specs.Answer.{Gives};
 ghost use Rattle.ssh_audit.specs.Responding.{AnswersFile, IsFaultOf, IsUsageOf, is_memory};
 ghost use Rattle.ssh_audit.specs.Parsing.{request_in_memory, show_texts_of, texts_of};
 ghost use Rattle.ssh_print.specs.ResponseView.{response};
-ghost use Rattle.ssh_inputs.specs.Shelf.{IfTells, bytes_at};
+ghost use Rattle.ssh_inputs.specs.SourceState.{IfTells, bytes_at};
 ghost use Rattle.ssh_inputs.specs.VouchFile.{vouched_of};
 
 use crate::login_values::{LoginValues, ValueFault, read_login_values};
@@ -51,7 +51,7 @@ fn decide_by_file<F: Files>(
 ) -> Result<Decision, AuditError>
     requires session { length query.now.session.now < 2 ^ 32 }
     requires user { length query.now.user.now < 2 ^ 32 }
-    ensures { IfTells (F.shelf files.old) (λ s. AnswersFile (login_of query.entry.now) vouched.now name.now (bytes_at s name.now) s (F.shelf files.new) result) }
+    ensures { IfTells (F.source_state files.old) (λ s. AnswersFile (login_of query.entry.now) vouched.now name.now (bytes_at s name.now) s (F.source_state files.new) result) }
 {
     match gather(alloc, files, name) {
         Ok(file) => decide(alloc, &file, query, vouched),
@@ -76,8 +76,8 @@ fn respond_vouched<F: Files>(
 ) -> Result<Response, AllocError>
     requires session { length query.now.session.now < 2 ^ 32 }
     requires user { length query.now.user.now < 2 ^ 32 }
-    ensures { IfTells (F.shelf files.old) (λ s. IfOk result (λ r.
-        RespondsBy (Some (login (texts_of words.entry.now))) (exactly (login_over (login_of query.entry.now) vouched.now (bytes_at s words.entry.now.file.now))) s (F.shelf files.new) (response r))) }
+    ensures { IfTells (F.source_state files.old) (λ s. IfOk result (λ r.
+        RespondsBy (Some (login (texts_of words.entry.now))) (exactly (login_over (login_of query.entry.now) vouched.now (bytes_at s words.entry.now.file.now))) s (F.source_state files.new) (response r))) }
 {
     let answer = decide_by_file(alloc, words.file, query, vouched, files);
     if is_memory(&answer) {
@@ -106,8 +106,8 @@ fn respond_bytes<F: Files>(
 ) -> Result<Response, AllocError>
     requires session { length query.now.session.now < 2 ^ 32 }
     requires user { length query.now.user.now < 2 ^ 32 }
-    ensures { IfTells (F.shelf files.old) (λ s. IfOk result (λ r.
-        RespondsBy (Some (login (texts_of words.entry.now))) (exactly (login_vouched (texts_of words.entry.now) (login_of query.entry.now) s (or_vouch_fault (vouched_of bytes.now)))) s (F.shelf files.new) (response r))) }
+    ensures { IfTells (F.source_state files.old) (λ s. IfOk result (λ r.
+        RespondsBy (Some (login (texts_of words.entry.now))) (exactly (login_vouched (texts_of words.entry.now) (login_of query.entry.now) s (or_vouch_fault (vouched_of bytes.now)))) s (F.source_state files.new) (response r))) }
 {
     match read_vouched(alloc, bytes) {
         Ok(vouched) => {
@@ -128,8 +128,8 @@ fn respond_query<F: Files>(
 ) -> Result<Response, AllocError>
     requires session { length query.now.session.now < 2 ^ 32 }
     requires user { length query.now.user.now < 2 ^ 32 }
-    ensures { IfTells (F.shelf files.old) (λ s. IfOk result (λ r.
-        RespondsBy (Some (login (texts_of words.entry.now))) (exactly (login_vouched (texts_of words.entry.now) (login_of query.entry.now) (after_vouching (texts_of words.entry.now).vouch s) (vouched_in (texts_of words.entry.now).vouch s))) s (F.shelf files.new) (response r))) }
+    ensures { IfTells (F.source_state files.old) (λ s. IfOk result (λ r.
+        RespondsBy (Some (login (texts_of words.entry.now))) (exactly (login_vouched (texts_of words.entry.now) (login_of query.entry.now) (after_vouching (texts_of words.entry.now).vouch s) (vouched_in (texts_of words.entry.now).vouch s))) s (F.source_state files.new) (response r))) }
 {
     match words.vouch {
         None => respond_vouched(alloc, words, query, &[], files),
@@ -149,8 +149,8 @@ fn respond_values<F: Files>(
 ) -> Result<Response, AllocError>
     requires session { length values.now.session.items < 2 ^ 32 }
     requires user { length words.now.user.now < 2 ^ 32 }
-    ensures { IfTells (F.shelf files.old) (λ s. IfOk result (λ r.
-        RespondsBy (Some (login (texts_of words.entry.now))) (exactly (login_asked (texts_of words.entry.now) s (Ok (login_with (texts_of words.entry.now) values.entry.now)))) s (F.shelf files.new) (response r))) }
+    ensures { IfTells (F.source_state files.old) (λ s. IfOk result (λ r.
+        RespondsBy (Some (login (texts_of words.entry.now))) (exactly (login_values_response (texts_of words.entry.now) s (Ok (login_with (texts_of words.entry.now) values.entry.now)))) s (F.source_state files.new) (response r))) }
 {
     let query = LoginQuery {
         offered: values.offered.as_slice(),
@@ -172,8 +172,8 @@ fn respond_login<F: Files>(
     words: &LoginWords<'_>,
     files: &mut F,
 ) -> Result<Response, AllocError>
-    ensures { IfTells (F.shelf files.old) (λ s. IfOk result (λ r.
-        RespondsBy (Some (login (texts_of words.entry.now))) (decided (texts_of words.entry.now) s) s (F.shelf files.new) (response r))) }
+    ensures { IfTells (F.source_state files.old) (λ s. IfOk result (λ r.
+        RespondsBy (Some (login (texts_of words.entry.now))) (login_in_zone (texts_of words.entry.now) s) s (F.source_state files.new) (response r))) }
 {
     match read_login_values(alloc, words) {
         Ok(values) => {
@@ -191,8 +191,8 @@ fn respond_show<F: Files>(
     words: &ShowWords<'_>,
     files: &mut F,
 ) -> Result<Response, AllocError>
-    ensures { IfTells (F.shelf files.old) (λ s. IfOk result (λ r.
-        RespondsBy (Some (show (show_texts_of words.entry.now))) (show_answer (show_texts_of words.entry.now) s) s (F.shelf files.new) (response r))) }
+    ensures { IfTells (F.source_state files.old) (λ s. IfOk result (λ r.
+        RespondsBy (Some (show (show_texts_of words.entry.now))) (show_answer (show_texts_of words.entry.now) s) s (F.source_state files.new) (response r))) }
 {
     let Some(kind) = show_kind(words.kind) else {
         return value_fault(alloc, "kind");
@@ -209,8 +209,8 @@ fn respond_words<S: AsStr, F: Files>(
     words: &[S],
     files: &mut F,
 ) -> Result<Response, AllocError>
-    ensures { IfTells (F.shelf files.old) (λ s. IfOk result (λ r.
-        RespondsBy (request_of (map S.text words.now)) (answer_in s (request_of (map S.text words.now))) s (F.shelf files.new) (response r))) }
+    ensures { IfTells (F.source_state files.old) (λ s. IfOk result (λ r.
+        RespondsBy (request_of (map S.text words.now)) (answer_in s (request_of (map S.text words.now))) s (F.source_state files.new) (response r))) }
 {
     match parse(alloc, words) {
         Ok(Request::Login(words)) => respond_login(alloc, &words, files),
@@ -232,7 +232,7 @@ fn unread_line(alloc: Global, fault: ReadFault) -> Result<Response, AllocError>
 
 /// The response to the words of the first line of standard input.
 fn respond_line<F: Files>(alloc: Global, files: &mut F) -> Result<Response, AllocError>
-    ensures { IfTells (F.shelf files.old) (λ s. IfOk result (λ r. Responds [] s (F.shelf files.new) (response r))) }
+    ensures { IfTells (F.source_state files.old) (λ s. IfOk result (λ r. Responds [] s (F.source_state files.new) (response r))) }
 {
     match read_first_line(alloc, files) {
         Ok(line) => {
@@ -249,7 +249,7 @@ pub fn respond<S: AsStr, F: Files>(
     words: &[S],
     files: &mut F,
 ) -> Result<Response, AllocError>
-    ensures { IfTells (F.shelf files.old) (λ s. IfOk result (λ r. Responds (map S.text words.now) s (F.shelf files.new) (response r))) }
+    ensures { IfTells (F.source_state files.old) (λ s. IfOk result (λ r. Responds (map S.text words.now) s (F.source_state files.new) (response r))) }
 {
     if words.is_empty() {
         respond_line(alloc, files)

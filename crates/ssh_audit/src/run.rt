@@ -5,7 +5,7 @@ ghost use Rattle.ssh_inputs.specs.Account.{NoneFailed};
 ghost use Rattle.ssh_print.specs.Responses.{Response as Shown};
 ghost use Rattle.ssh_audit.specs.Requests.{Answers, words_response};
 ghost use Rattle.ssh_audit.specs.Printing.{Prints};
-ghost use Rattle.ssh_inputs.specs.Shelf.{IfTells};
+ghost use Rattle.ssh_inputs.specs.SourceState.{IfTells};
 
 use crate::request::WordsFault;
 use crate::respond::respond;
@@ -43,8 +43,8 @@ pub fn run<S: AsStr, F: Files, W: Sink>(
     requires { NoneFailed (W.account writer.old) }
     // Where the source tells its files: the writer took the answer's text whole, with its status; or a
     // proper front of it, after which a write failed, with status 2. The answer is the defined one, or
-    // want of memory, or after a failed read that read's own fault.
-    ensures { IfTells (F.shelf files.old) (λ s. (r : Shown) × Answers (map S.text words.now) s (F.shelf files.new) r
+    // out of memory, or after a failed read that read's own fault.
+    ensures { IfTells (F.source_state files.old) (λ s. (r : Shown) × Answers (map S.text words.now) s (F.source_state files.new) r
         × Prints (W.account writer.old) (W.account writer.new) r result) }
 {
     match respond(alloc, words, files) {

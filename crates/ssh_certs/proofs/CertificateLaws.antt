@@ -241,8 +241,8 @@ certificate_takes bytes c fits e = go (ltb longest (length bytes)) refl e
 
 -- ---- what is spelled so is read
 
-behind : (x y : List ℕ) → length (x ++ y) ≤ longest → length y ≤ longest
-behind x y short = omega (arith, length-append x y, short)
+following : (x y : List ℕ) → length (x ++ y) ≤ longest → length y ≤ longest
+following x y short = omega (arith, length-append x y, short)
 
 front : (x y : List ℕ) → length (x ++ y) ≤ longest → length x ≤ longest
 front x y short = omega (arith, length-append x y, short)
@@ -283,17 +283,17 @@ lays_again c is short =
     let r4 = uint64 c.serial ++ r5 in
     let r3 = fields ++ r4 in
     let r2 = string c.nonce ++ r3 in
-    let s2 = behind (string name) r2 short in
-    let s3 = behind (string c.nonce) r3 s2 in
-    let s4 = behind fields r4 s3 in
-    let s5 = behind (uint64 c.serial) r5 s4 in
-    let s6 = behind (uint32 c.kind_number) r6 s5 in
-    let s7 = behind (string c.key_id) r7 s6 in
-    let s8 = behind names r8 s7 in
-    let s9 = behind (uint64 c.after) r9 s8 in
-    let s10 = behind (uint64 c.before) r10 s9 in
-    let s11 = behind critical r11 s10 in
-    let s12 = behind extensions r12 s11 in
+    let s2 = following (string name) r2 short in
+    let s3 = following (string c.nonce) r3 s2 in
+    let s4 = following fields r4 s3 in
+    let s5 = following (uint64 c.serial) r5 s4 in
+    let s6 = following (uint32 c.kind_number) r6 s5 in
+    let s7 = following (string c.key_id) r7 s6 in
+    let s8 = following names r8 s7 in
+    let s9 = following (uint64 c.after) r9 s8 in
+    let s10 = following (uint64 c.before) r10 s9 in
+    let s11 = following critical r11 s10 in
+    let s12 = following extensions r12 s11 in
     let p2 = 0 + length (string name) in
     let p3 = p2 + length (string c.nonce) in
     let p4 = p3 + length fields in

@@ -67,11 +67,11 @@ option_within : (at : Position) (e : WireError) → IsBytes at.rest → option_a
 option_within at e fits h =
     elim (bind_err (string_at at) (λ name. string_at name.1 >>= with_name name.0) e h) [
       | inl first ↦ omega (arith, string_place at e first)
-      | inr x ↦ behind x.0.0 x.0.1 x.1 x.2
+      | inr x ↦ following x.0.0 x.0.1 x.1 x.2
     ]
   where
-    behind : (name : List ℕ) (after : Position) → string_at at ≡ Ok (name, after) → (string_at after >>= with_name name) ≡ Err e → e.place ≤ at.place + length at.rest
-    behind name after read g =
+    following : (name : List ℕ) (after : Position) → string_at at ≡ Ok (name, after) → (string_at after >>= with_name name) ≡ Err e → e.place ≤ at.place + length at.rest
+    following name after read g =
         let t = string_takes at name after fits read in
         let long : length at.rest ≡ length (string name) + length after.rest = ap length t.0.parts ∙ length-append (string name) after.rest in
         elim (bind_err (string_at after) (with_name name) e g) [
@@ -169,9 +169,9 @@ module _ {A : Type 0} (spelling : A → List ℕ) (Fits : A → Type 0) (item : 
       let one : items_in item (b ∷ rest) ≡ Err e = one_turn spelling Fits item is (length rest) 0 (b ∷ rest) some ∙ rw (sym (ap item begin) ∙ refused) refl in
       absurd (let no : IsOk {T = List A} (Err e) = subst (λ (r : Result (List A) WireError). IsOk r) one read in cc)
 
-  pub record Next (text : List ℕ) (x : A) (behind : List ℕ) : Type 0 where
-    pub first : items_of item text ≡ x ∷ items_of item behind
-    pub read : IsOk (items_in item behind)
+  pub record Next (text : List ℕ) (x : A) (following : List ℕ) : Type 0 where
+    pub first : items_of item text ≡ x ∷ items_of item following
+    pub read : IsOk (items_in item following)
 
   -- the first item, and the text after it
   pub next_left : (text : List ℕ) (at : Position) (x : A) (after : Position) → at ≡ start text → IsBytes text → IsOk (items_in item text) → item at ≡ Ok (x, after) → Next text x after.rest
@@ -186,9 +186,9 @@ module _ {A : Type 0} (spelling : A → List ℕ) (Fits : A → Type 0) (item : 
       let one : items_in item text ≡ (items_within item turn.before after >>= λ others. fine (x ∷ others)) =
       ap (λ (n : ℕ). items_within item n (start text)) turn.counts ∙ one_turn spelling Fits item is turn.before 0 text some ∙ bound (item (start text)) (x, after) (λ next. items_within item turn.before next.1 >>= λ others. fine (next.0 ∷ others)) first in
       let others = bind_ok (items_within item turn.before after) (λ others. fine (x ∷ others)) all.0 (sym one ∙ all.1) in
-      let behind = items_take spelling Fits item is turn.before after.place after.rest others.0 t.0.rest_fits (omega (arith, long, is.some x, turn.counts)) others.1 in
+      let following = items_take spelling Fits item is turn.before after.place after.rest others.0 t.0.rest_fits (omega (arith, long, is.some x, turn.counts)) others.1 in
       let again : items_in item after.rest ≡ Ok others.0 =
-      ap (λ (r : List ℕ). items_in item r) behind.0 ∙ items_again spelling Fits item is others.0 (length (flat_map spelling others.0)) 0 behind.1 (omega arith) ∙ refl in
+      ap (λ (r : List ℕ). items_in item r) following.0 ∙ items_again spelling Fits item is others.0 (length (flat_map spelling others.0)) 0 following.1 (omega arith) ∙ refl in
       let all_are : items_in item text ≡ Ok (x ∷ others.0) = one ∙ ap (λ (r : Result (List A) WireError). r >>= λ ys. fine (x ∷ ys)) others.1 in
       record {
         first = ap (λ (r : Result (List A) WireError). result_unwrap_or r []) all_are ∙ ap (λ (ys : List A). x ∷ ys) (sym (ap (λ (r : Result (List A) WireError). result_unwrap_or r []) again));

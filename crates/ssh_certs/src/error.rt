@@ -13,31 +13,32 @@ use thiserror::Error;
 /// the signature key and the signature from the first byte of that inner blob.
 #[derive(Clone, Copy, Debug, PartialEq, Eq, Error)]
 pub enum CertError {
-    /// A field passes the end, or bytes stand after the signature.
+    /// C1: a field passes the end, or bytes stand after the signature.
     #[error("{0}")]
     Wire(WireError),
-    /// A fault of the certified public key.
+    /// C2: a fault of the certified public key.
     #[error("public key: {0}")]
     Key(KeyError),
-    /// A fault of the signature key.
+    /// C3: a fault of the signature key.
     #[error("signature key: {0}")]
     Signer(KeyError),
-    /// The signature key is itself a certificate.
+    /// C4: the signature key is itself a certificate.
     #[error("the signature key is a certificate")]
     ChainedSigner,
-    /// A principal, which begins at this place, passes the end of the principals.
+    /// C5: a principal, which begins at this place, passes the end of the principals.
     #[error("a principal at byte {0} passes the end of the principals")]
     Principals(usize),
-    /// The name or the data of an option, which begins at this place, passes the end of the options.
+    /// C6: the name or the data of an option, which begins at this place, passes the end of the
+    /// options.
     #[error("an option at byte {0} passes the end of the options")]
     Options(usize),
-    /// A fault of the signature.
+    /// C7: a fault of the signature.
     #[error("signature: {0}")]
     Signature(WireError),
-    /// The type name is no certificate's.
+    /// C8: the type name is no certificate's.
     #[error("the type is no certificate's")]
     UnknownType,
-    /// The blob has more than 262,144 bytes.
+    /// C9: the blob has more than 262,144 bytes.
     #[error("the blob is too long")]
     TooLong,
 }

@@ -11,10 +11,10 @@ use Rattle.ssh_inputs.specs.Words.{is_space, is_filled, is_text, pieces_of, word
 abbrev word_end : List ℕ → ℕ
 word_end text = position_or_len is_space text
 
--- what is cut behind the first space
-abbrev behind : List ℕ → List (List ℕ)
-behind [] = []
-behind (x ∷ xs) = slice_split is_space xs
+-- what is cut after the first space
+abbrev following : List ℕ → List (List ℕ)
+following [] = []
+following (x ∷ xs) = slice_split is_space xs
 
 drop-one : (k c : ℕ) (cs : List ℕ) → drop (1 + k) (c ∷ cs) ≡ drop k cs
 drop-one k c cs = let next : 1 + k ≡ suc k = omega arith in ap (λ (j : ℕ). drop j (c ∷ cs)) next
@@ -22,7 +22,7 @@ drop-one k c cs = let next : 1 + k ≡ suc k = omega arith in ap (λ (j : ℕ). 
 take-one : (k c : ℕ) (cs : List ℕ) → take (1 + k) (c ∷ cs) ≡ c ∷ take k cs
 take-one k c cs = let next : 1 + k ≡ suc k = omega arith in ap (λ (j : ℕ). take j (c ∷ cs)) next
 
-split-first : (text : List ℕ) → slice_split is_space text ≡ take (word_end text) text ∷ behind (drop (word_end text) text)
+split-first : (text : List ℕ) → slice_split is_space text ≡ take (word_end text) text ∷ following (drop (word_end text) text)
 split-first [] = refl
 split-first (c ∷ cs) =
     elim (cases_Bool (is_space c)) [
@@ -30,13 +30,13 @@ split-first (c ∷ cs) =
       | inr e ↦ rw (e, take-one (word_end cs) c cs, drop-one (word_end cs) c cs) (ap (onto_first c) (split-first cs))
     ]
 
-pieces-behind : (text : List ℕ) → pieces_of (drop (word_end text) text) ≡ filter is_filled (behind (drop (word_end text) text))
+pieces-after : (text : List ℕ) → pieces_of (drop (word_end text) text) ≡ filter is_filled (following (drop (word_end text) text))
 unfolding pieces_of
-pieces-behind [] = refl
-pieces-behind (c ∷ cs) =
+pieces-after [] = refl
+pieces-after (c ∷ cs) =
     elim (cases_Bool (is_space c)) [
       | inl e ↦ rw (e, e) refl
-      | inr e ↦ rw (e, drop-one (word_end cs) c cs) (pieces-behind cs)
+      | inr e ↦ rw (e, drop-one (word_end cs) c cs) (pieces-after cs)
     ]
 
 filled-first : (word : List ℕ) (rest : List (List ℕ)) → 0 < length word → filter is_filled (word ∷ rest) ≡ word ∷ filter is_filled rest
@@ -53,8 +53,8 @@ unfolding pieces_of
 pieces_word text n e some filled =
     rw e
     (ap (filter is_filled) (split-first text)
-    ∙ (filled-first (take (word_end text) text) (behind (drop (word_end text) text)) (take-filled (word_end text) text (let m : 0 < word_end text = rw e at some in m) filled)
-    ∙ ap (λ ws. take (word_end text) text ∷ ws) (sym (pieces-behind text))))
+    ∙ (filled-first (take (word_end text) text) (following (drop (word_end text) text)) (take-filled (word_end text) text (let m : 0 < word_end text = rw e at some in m) filled)
+    ∙ ap (λ ws. take (word_end text) text ∷ ws) (sym (pieces-after text))))
 
 -- a space at the front
 pub pieces_space : (text : List ℕ) (n : ℕ) → n ≡ word_end text → n ≡ 0 → 0 < length text → pieces_of text ≡ pieces_of (drop 1 text)

@@ -1,4 +1,4 @@
-pub mod Shelf
+pub mod SourceState
 pub mod Account
 pub mod Parts
 pub mod Values

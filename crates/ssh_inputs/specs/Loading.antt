@@ -1,7 +1,7 @@
 -- What reading a file answers.
 use Rattle.std.specs.Prelude.{◌≡◌, ◌⊎◌, ◌++◌, ◌+◌, ℕ, List, Option, Some, None, Result, Ok, Err, length, nat_lt, if◌then◌else◌, ◌<◌, ⊤}
 use Rattle.ssh_trust.specs.Answer.{file_limit}
-use Rattle.ssh_inputs.specs.Shelf.{Shelf, dash}
+use Rattle.ssh_inputs.specs.SourceState.{SourceState, dash}
 use Rattle.ssh_inputs.specs.Parts.{first_line, after_line}
 use Rattle.ssh_lines.specs.Text.{line_limit}
 use Rattle.ssh_inputs.specs.declared.read.ReadFault.{ReadFault}
@@ -10,17 +10,17 @@ use Rattle.ssh_inputs.specs.declared.read.ReadFault.TheVariants as fault
 -- ---- failed reads
 
 -- one read failed between the two, of the file of this name
-abbrev pub OneReadFailed : Shelf → Option Shelf → List ℕ → Type 0
+abbrev pub OneReadFailed : SourceState → Option SourceState → List ℕ → Type 0
 OneReadFailed s None name = ⊥
 OneReadFailed s (Some t) name = (t.failures ≡ s.failures + 1) × (t.failed ≡ Some name)
 
 -- no read failed between the two
-abbrev pub NoReadFailed : Shelf → Option Shelf → Type 0
+abbrev pub NoReadFailed : SourceState → Option SourceState → Type 0
 NoReadFailed s None = ⊥
 NoReadFailed s (Some t) = t.failures ≡ s.failures
 
 -- one read failed, of standard input, of which no more than a front of its first line had been read
-abbrev pub LineReadFailed : Shelf → Option Shelf → Type 0
+abbrev pub LineReadFailed : SourceState → Option SourceState → Type 0
 LineReadFailed s None = ⊥
 LineReadFailed s (Some t) = OneReadFailed s (Some t) dash × ((front : List ℕ) × (s.input ≡ front ++ t.input) × (first_line s ≡ front ++ first_line t))
 
@@ -32,7 +32,7 @@ within_limit None = None
 within_limit (Some bytes) = if nat_lt file_limit (length bytes) then None else Some bytes
 
 -- the source has the files and the input of `rest`, and no read has failed since s
-abbrev pub IsLeft : Shelf → Shelf → Option Shelf → Type 0
+abbrev pub IsLeft : SourceState → SourceState → Option SourceState → Type 0
 IsLeft s rest None = ⊥
 IsLeft s rest (Some t) = (t.named ≡ rest.named) × (t.input ≡ rest.input) × (t.failures ≡ s.failures)
 
@@ -41,11 +41,11 @@ IsTooLong None = ⊥
 IsTooLong (Some bytes) = file_limit < length bytes
 
 -- all the bytes were read, and `rest` is left; or as many as pass the limit
-abbrev pub IsGathered : Option (List ℕ) → Shelf → Shelf → Option Shelf → List ℕ → Type 0
+abbrev pub IsGathered : Option (List ℕ) → SourceState → SourceState → Option SourceState → List ℕ → Type 0
 IsGathered bytes rest s t got = ((bytes ≡ Some got) × IsLeft s rest t) ⊎ ((file_limit < length got) × IsTooLong bytes × NoReadFailed s t)
 
 -- what a reading of the file of this name up to the limit answers
-abbrev pub Gathers : {V : Type 0} → (V → List ℕ) → List ℕ → Option (List ℕ) → Shelf → Shelf → Option Shelf → Result V ReadFault → Type 0
+abbrev pub Gathers : {V : Type 0} → (V → List ℕ) → List ℕ → Option (List ℕ) → SourceState → SourceState → Option SourceState → Result V ReadFault → Type 0
 Gathers view name bytes rest s t (Ok v) = IsGathered bytes rest s t (view v)
 Gathers view name bytes rest s t (Err fault.Missing) = (bytes ≡ None) × NoReadFailed s t
 Gathers view name bytes rest s t (Err fault.TooLong) = ⊥
@@ -53,27 +53,27 @@ Gathers view name bytes rest s t (Err fault.Failed) = OneReadFailed s t name
 Gathers view name bytes rest s t (Err fault.Memory) = ⊤
 
 -- why a reading of these bytes of the file of this name gives none
-abbrev pub FailsLoad : List ℕ → Option (List ℕ) → Shelf → Option Shelf → ReadFault → Type 0
+abbrev pub FailsLoad : List ℕ → Option (List ℕ) → SourceState → Option SourceState → ReadFault → Type 0
 FailsLoad name bytes s t fault.Missing = (bytes ≡ None) × NoReadFailed s t
 FailsLoad name bytes s t fault.TooLong = IsTooLong bytes × NoReadFailed s t
 FailsLoad name bytes s t fault.Failed = OneReadFailed s t name
 FailsLoad name bytes s t fault.Memory = ⊤
 
 -- what a reading of these bytes of the file of this name answers, where `rest` is left; the bytes that it gives are seen by `view`
-abbrev pub Loads : {V : Type 0} → (V → List ℕ) → List ℕ → Option (List ℕ) → Shelf → Shelf → Option Shelf → Result V ReadFault → Type 0
+abbrev pub Loads : {V : Type 0} → (V → List ℕ) → List ℕ → Option (List ℕ) → SourceState → SourceState → Option SourceState → Result V ReadFault → Type 0
 Loads view name bytes rest s t (Ok v) = (within_limit bytes ≡ Some (view v)) × IsLeft s rest t
 Loads view name bytes rest s t (Err e) = FailsLoad name bytes s t e
 
 -- ---- the first line of standard input
 
 -- why the first line of standard input was not read
-abbrev pub FailsLine : Shelf → Option Shelf → ReadFault → Type 0
+abbrev pub FailsLine : SourceState → Option SourceState → ReadFault → Type 0
 FailsLine s t fault.Missing = ⊥
 FailsLine s t fault.TooLong = (line_limit < length (first_line s)) × NoReadFailed s t
 FailsLine s t fault.Failed = LineReadFailed s t
 FailsLine s t fault.Memory = ⊤
 
 -- what a reading of the first line of standard input answers
-abbrev pub LoadsLine : {V : Type 0} → (V → List ℕ) → Shelf → Option Shelf → Result V ReadFault → Type 0
+abbrev pub LoadsLine : {V : Type 0} → (V → List ℕ) → SourceState → Option SourceState → Result V ReadFault → Type 0
 LoadsLine view s t (Ok v) = (first_line s ≡ view v) × IsLeft s (after_line s) t
 LoadsLine view s t (Err e) = FailsLine s t e

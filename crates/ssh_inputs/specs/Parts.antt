@@ -1,7 +1,7 @@
 -- The parts of standard input, where words, a vouch file and a trust file are read from it.
 use Rattle.std.specs.Prelude.{◌==◌, ◌&&◌, ℕ, Bool, true, List, [], ◌∷◌, Option, Some, if◌then◌else◌}
 use Rattle.std.specs.Str.{bytes_eq}
-use Rattle.ssh_inputs.specs.Shelf.{Shelf, dash}
+use Rattle.ssh_inputs.specs.SourceState.{SourceState, dash}
 
 -- the bytes up to the end of the first empty line, and those after it; `fresh` says that a line begins here
 abbrev pub cut_at_empty : Bool → List ℕ → List ℕ × List ℕ
@@ -10,26 +10,26 @@ cut_at_empty fresh (b ∷ input) = if fresh && b == 10 then (10 ∷ [], input)
     else (b ∷ (cut_at_empty (b == 10) input).0, (cut_at_empty (b == 10) input).1)
 
 -- the bytes of the vouch file: on standard input it ends with the first empty line
-abbrev pub part_at : Shelf → List ℕ → Option (List ℕ)
+abbrev pub part_at : SourceState → List ℕ → Option (List ℕ)
 part_at s name = if bytes_eq name dash then Some (cut_at_empty true s.input).0 else s.named name
 
 -- the source after the vouch file was read
-abbrev pub after_part : Shelf → List ℕ → Shelf
+abbrev pub after_part : SourceState → List ℕ → SourceState
 after_part s name = if bytes_eq name dash then record s { input = (cut_at_empty true s.input).1 } else s
 
 -- the source after a file was read whole
-abbrev pub after_whole : Shelf → List ℕ → Shelf
+abbrev pub after_whole : SourceState → List ℕ → SourceState
 after_whole s name = if bytes_eq name dash then record s { input = [] } else s
 
--- the first line without its LF, and what stands behind it
+-- the first line without its LF, and what stands after it
 abbrev pub cut_at_line : List ℕ → List ℕ × List ℕ
 cut_at_line [] = ([], [])
 cut_at_line (b ∷ input) = if b == 10 then ([], input) else (b ∷ (cut_at_line input).0, (cut_at_line input).1)
 
 -- the first line of standard input
-abbrev pub first_line : Shelf → List ℕ
+abbrev pub first_line : SourceState → List ℕ
 first_line s = (cut_at_line s.input).0
 
 -- the source after the first line of standard input was read
-abbrev pub after_line : Shelf → Shelf
+abbrev pub after_line : SourceState → SourceState
 after_line s = record s { input = (cut_at_line s.input).1 }

@@ -18,7 +18,7 @@ signed_of (Some key) (Some message) None = None
 signed_of (Some key) None signature = None
 signed_of None message signature = None
 
--- the text before its first space, and the text behind that, if it has one
+-- the text before its first space, and the text after that, if it has one
 abbrev pub cut_at_space : List ℕ → Option (List ℕ × List ℕ)
 cut_at_space text = option_map (λ n. (take n text, drop 1 (drop n text))) (position is_space text)
 

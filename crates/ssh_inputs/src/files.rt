@@ -1,26 +1,26 @@
 //! The files that the program reads.
 ghost use Rattle.std.specs.Prelude.{◌≡◌, ◌↔◌, ℕ, List, Option, IsTrue, IsSome, IfSome, Some};
 ghost use Rattle.std.specs.Io.{ReadsAtMost};
-ghost use Rattle.ssh_inputs.specs.Shelf.{Shelf, left_of, bytes_at, ReadsKnown, ChoosesKnown};
+ghost use Rattle.ssh_inputs.specs.SourceState.{SourceState, left_of, bytes_at, ReadsKnown, ChoosesKnown};
 
 use std::io::{Read, Result};
 
 /// A source of files by name, `-` being standard input.
 pub trait Files: Read {
     /// What the source holds, where it tells.
-    ghost shelf: { Self → Option Shelf };
+    ghost source_state: { Self → Option SourceState };
 
     /// Chooses the file of this name, whether it is there. The reads that follow give it from its start, or standard
     /// input from where it stood; where it is not there they fail.
     fn choose(&mut self, name: &str) -> bool
-        ensures there { IfSome (shelf self.old) (λ s. IsTrue result ↔ IsSome (bytes_at s name.now)) }
-        ensures chosen { ChoosesKnown (shelf self.old) (shelf self.new) name.now };
+        ensures there { IfSome (source_state self.old) (λ s. IsTrue result ↔ IsSome (bytes_at s name.now)) }
+        ensures chosen { ChoosesKnown (source_state self.old) (source_state self.new) name.now };
 
     /// Reads on in the chosen file. A failed read is counted, and the file's name is kept.
     fn read_chosen(&mut self, buf: &mut [u8]) -> Result<usize>
         ensures bound { ReadsAtMost result buf.new }
-        ensures bytes { ReadsKnown (shelf self.old) (shelf self.new) result buf.new };
+        ensures bytes { ReadsKnown (source_state self.old) (source_state self.new) result buf.new };
 
     /// The reads of `Read` give the chosen file.
-    ghost tells: { (x : Self) → IfSome (shelf x) (λ s. Self.remaining x ≡ Some (left_of s)) };
+    ghost tells: { (x : Self) → IfSome (source_state x) (λ s. Self.remaining x ≡ Some (left_of s)) };
 }

@@ -49,12 +49,12 @@ pub fn read_words<'a>(alloc: Global, line: &'a [u8]) -> Result<Vec<&'a str>, All
             rest = after;
             continue;
         }
-        let (word, behind) = rest.split_at(end);
+        let (word, following) = rest.split_at(end);
         let Some(word) = read_word(word) else {
             return Ok(Vec::new(alloc));
         };
         words.push(word)?;
-        rest = behind;
+        rest = following;
     }
     Ok(words)
 }

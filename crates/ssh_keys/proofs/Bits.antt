@@ -59,8 +59,8 @@ counted_above n rest b above j l is size below high low =
     counted n (l * 8 + j) (l * 8 + suc j) (omega arith) (omega arith) (omega arith)
 
 -- after a leading 00 the sign bit is set
-behind_zero : (c : ℕ) (rest : List ℕ) → is_least (0 ∷ c ∷ rest) ≡ true → 128 ≤ c
-behind_zero c rest least = elim (cases_lt c 128) [
+after_zero : (c : ℕ) (rest : List ℕ) → is_least (0 ∷ c ∷ rest) ≡ true → 128 ≤ c
+after_zero c rest least = elim (cases_lt c 128) [
   | inl lt ↦ absurd (let small : nat_lt c 128 ≡ true = lt-ltb c 128 lt in let none : false ≡ true = sym (rw small refl) ∙ least in cc)
   | inr ge ↦ ge
 ]
@@ -78,7 +78,7 @@ some_first b rest fits lt =
 zero_first : (rest : List ℕ) → IsBytes (0 ∷ rest) → is_least (0 ∷ rest) ≡ true → IsBitCount (natural (0 ∷ rest)) (length rest * 8 + (8 - count_leading_zeros 8 0))
 zero_first [] fits least = absurd cc
 zero_first (c ∷ rest) fits least =
-    let high : 128 ≤ c = behind_zero c rest least in
+    let high : 128 ≤ c = after_zero c rest least in
     let byte : c < 256 = fits 1 in
     let same : natural (0 ∷ c ∷ rest) ≡ natural rest + c * 256 ^ length rest = omega (arith, natural-cons 0 (c ∷ rest), natural-cons c rest) in
     let count : length rest * 8 + suc 7 ≡ length (c ∷ rest) * 8 + (8 - count_leading_zeros 8 0) = omega (arith, leading_of_zero 8) in
@@ -90,8 +90,8 @@ pub bits_of_bytes : (bytes : List ℕ) → 1 ≤ length bytes → IsBytes bytes 
     → IsBitCount (natural bytes) (length (take (length bytes - 1) (drop 1 bytes)) * 8 + (8 - count_leading_zeros 8 (get_or bytes 0 0)))
 bits_of_bytes [] len fits least = absurd (omega arith)
 bits_of_bytes (b ∷ rest) len fits least =
-    let behind : length (take (length (b ∷ rest) - 1) rest) ≡ length rest = omega (arith, length-take (length (b ∷ rest) - 1) rest) in
-    subst (λ (k : ℕ). IsBitCount (natural (b ∷ rest)) (k * 8 + (8 - count_leading_zeros 8 b))) (sym behind) (go b fits least (cases_lt 0 b))
+    let following : length (take (length (b ∷ rest) - 1) rest) ≡ length rest = omega (arith, length-take (length (b ∷ rest) - 1) rest) in
+    subst (λ (k : ℕ). IsBitCount (natural (b ∷ rest)) (k * 8 + (8 - count_leading_zeros 8 b))) (sym following) (go b fits least (cases_lt 0 b))
   where
     go : (b : ℕ) → IsBytes (b ∷ rest) → is_least (b ∷ rest) ≡ true → (0 < b) ⊎ (b ≤ 0) → IsBitCount (natural (b ∷ rest)) (length rest * 8 + (8 - count_leading_zeros 8 b))
     go zero f l w = zero_first rest f l

@@ -426,11 +426,11 @@ kind_fault (Certificate kind) e h = subst (λ (x : KeyError). IsAt x 0) (err_is 
 kind_fault Retired e h = subst (λ (x : KeyError). IsAt x 0) (err_is {A = KeyKind} RetiredType e h) refl
 kind_fault Other e h = subst (λ (x : KeyError). IsAt x 0) (err_is {A = KeyKind} UnknownType e h) refl
 
-abbrev behind : Position → KeyKind → ReadKey KeyKind
-behind after kind = Ok (kind, after)
+abbrev following : Position → KeyKind → ReadKey KeyKind
+following after kind = Ok (kind, after)
 
 abbrev classed : List ℕ × Position → ReadKey KeyKind
-classed name = kind_from (class_of name.0) >>= behind name.1
+classed name = kind_from (class_of name.0) >>= following name.1
 
 begins_none : (bytes : List ℕ) (e : KeyError) → kind_at (start bytes) ≡ Err e → IsAt e 0 → IsFirstFault bytes e
 begins_none bytes e refused where_is =
@@ -458,7 +458,7 @@ blob_fault bytes e fits few h =
     elim (bind_err (of_wire (string_at (start bytes))) (λ name. kind_from (class_of name.0) >>= λ kind. fields_at kind name.1 >>= λ key. of_wire (end_at key.1) >>= λ u. fine key.0) e h) [
       | inl first ↦ begins_none bytes e (ap (λ (r : ReadKey (List ℕ)). r >>= classed) first) (string_fault (start bytes) e first)
       | inr x ↦ elim (bind_err (kind_from (class_of x.0.0)) (λ kind. fields_at kind x.0.1 >>= λ key. of_wire (end_at key.1) >>= λ u. fine key.0) e x.2) [
-        | inl k ↦ begins_none bytes e (ap (λ (r : ReadKey (List ℕ)). r >>= classed) x.1 ∙ ap (λ (r : Result KeyKind KeyError). r >>= behind x.0.1) k) (kind_fault (class_of x.0.0) e k)
+        | inl k ↦ begins_none bytes e (ap (λ (r : ReadKey (List ℕ)). r >>= classed) x.1 ∙ ap (λ (r : Result KeyKind KeyError). r >>= following x.0.1) k) (kind_fault (class_of x.0.0) e k)
         | inr k ↦
             (let t = string_takes (start bytes) x.0.0 x.0.1 fits (of_wire_ok (string_at (start bytes)) x.0 x.1) in
             let same : x.0.0 ≡ name_of k.0 = kind_named x.0.0 k.0 k.1 in

@@ -16,7 +16,7 @@ use Rattle.ssh_text.specs.Text.{line_limit, is_blank, skip_blanks, first_word, w
 use Rattle.ssh_options.specs.OptionNames.{row_named}
 use Rattle.ssh_options.specs.OptionText.{name_part, is_name_byte, option_text_of, SpellsItems, AreAllowed}
 use Rattle.ssh_lines.specs.AuthGrammar.{SpellsEntry, SpellsOptions, auth_line, line_of_body, entry_of, entry_of_key}
-use Rattle.ssh_text.proofs.TextLemmas.{ends_word, gap-test, skip_blanks-behind, skip_blanks-at_word, comment_of-cr, comment_of-tail}
+use Rattle.ssh_text.proofs.TextLemmas.{ends_word, gap-test, skip_blanks-after, skip_blanks-at_word, comment_of-cr, comment_of-tail}
 use Rattle.ssh_lines.proofs.KeyLemmas.{base64-no_cr, base64-some, spelling-some, name-no_blank, first_field-at, key_part-at, without_cr-at}
 use Rattle.ssh_options.proofs.OptionLemmas.{is_option_name, stops_name, AreNameBytes, BeginsWithName, begins-items, other_byte, plain-from_name_byte, name_part-at, text_of-items, options_of-spelled, quotable}
 use Rattle.ssh_keys.specs.KeyLaws.{key_again}
@@ -71,10 +71,10 @@ blank-stops c h =
       | inr e ↦ rw e refl
     ]
 
-first_word-behind : (name rest : List ℕ) → AreNameBytes name → first_word (name ++ rest) ≡ name ++ first_word rest
-first_word-behind [] rest n = refl
-first_word-behind (c ∷ name) rest n =
-    let plain = plain-from_name_byte c n.0 in rw plain.blank (ap (λ s. c ∷ s) (first_word-behind name rest n.1))
+first_word-after : (name rest : List ℕ) → AreNameBytes name → first_word (name ++ rest) ≡ name ++ first_word rest
+first_word-after [] rest n = refl
+first_word-after (c ∷ name) rest n =
+    let plain = plain-from_name_byte c n.0 in rw plain.blank (ap (λ s. c ∷ s) (first_word-after name rest n.1))
 
 first_word-stops : (rest : List ℕ) → stops_name rest ≡ true → stops_name (first_word rest) ≡ true
 first_word-stops [] s = refl
@@ -84,7 +84,7 @@ first_word-stops (c ∷ cs) s = elim (cases_Bool (is_blank c)) [ inl e ↦ rw e 
 names-no_type : (text : List ℕ) → BeginsWithName text → begins_with_type text ≡ false
 names-no_type text b =
     let here : name_part (first_word text) ≡ b.first ∷ b.others =
-    ap (λ t. name_part (first_word t)) b.whole ∙ ap name_part (first_word-behind (b.first ∷ b.others) b.rest b.bytes)
+    ap (λ t. name_part (first_word t)) b.whole ∙ ap name_part (first_word-after (b.first ∷ b.others) b.rest b.bytes)
     ∙ name_part-at (b.first ∷ b.others) (first_word b.rest) b.bytes (first_word-stops b.rest b.stops) in
     elim (cases_Bool (begins_with_type text)) [
       | inl e ↦
@@ -172,7 +172,7 @@ body-with_options entry items gap key h e g a b k =
     text_of-items entry.options items (gap ++ key) (quotable entry.options a) h (gap_ends gap key e g) 0 in
     line_of_body-at (items ++ (gap ++ key)) (begins-no_comment (items ++ (gap ++ key)) begins)
     ∙ rw (names-no_type (items ++ (gap ++ key)) begins, text, options_of-spelled entry.options items h a)
-    (ap (λ t. entry_of_key entry.options (key_part_of t)) (ap skip_blanks (drop-append_seam items (gap ++ key)) ∙ skip_blanks-behind gap key g ∙ skip_blanks-at_word key b)
+    (ap (λ t. entry_of_key entry.options (key_part_of t)) (ap skip_blanks (drop-append_seam items (gap ++ key)) ∙ skip_blanks-after gap key g ∙ skip_blanks-at_word key b)
     ∙ ap (entry_of_key entry.options) k)
   where
     gap_stops : (gap key : List ℕ) → bytes_eq gap [] ≡ false → AreBlanks gap → stops_name (gap ++ key) ≡ true
@@ -214,7 +214,7 @@ spelled-body : (entry : AuthEntry) (options : List AuthOption) (text front key :
     → line_of_body (skip_blanks (front ++ text ++ key)) ≡ Entry entry
 spelled-body entry [] text front key e o f k b =
     ap (λ t. line_of_body (skip_blanks (front ++ t ++ key))) o ∙ ap (λ t. line_of_body (skip_blanks (t ++ key))) (append-nil front)
-    ∙ ap line_of_body (skip_blanks-behind front key f ∙ skip_blanks-at_word key b) ∙ body-with_key entry key e k
+    ∙ ap line_of_body (skip_blanks-after front key f ∙ skip_blanks-at_word key b) ∙ body-with_key entry key e k
 spelled-body entry (option ∷ options) text front key e (items, gap, h, v, a, whole) f k b =
     let some = gap-test gap v.some in
     let g = v.blanks in
@@ -223,7 +223,7 @@ spelled-body entry (option ∷ options) text front key e (items, gap, h, v, a, w
     let Allowed : List AuthOption → Type 0 = λ x. AreAllowed [] x in
     let begins = begins-items (option ∷ options) items (gap ++ key) h (gap_stops gap key some g) in
     ap (λ t. line_of_body (skip_blanks t)) regroup
-    ∙ ap line_of_body (skip_blanks-behind front (items ++ (gap ++ key)) f ∙ skip_blanks-at_word (items ++ (gap ++ key)) (begins-no_blank (items ++ (gap ++ key)) begins))
+    ∙ ap line_of_body (skip_blanks-after front (items ++ (gap ++ key)) f ∙ skip_blanks-at_word (items ++ (gap ++ key)) (begins-no_blank (items ++ (gap ++ key)) begins))
     ∙ body-with_options entry items gap key (subst Spelled (sym e) h) some g (subst Allowed (sym e) a) b k.reads
   where
     gap_stops : (gap key : List ℕ) → bytes_eq gap [] ≡ false → AreBlanks gap → stops_name (gap ++ key) ≡ true

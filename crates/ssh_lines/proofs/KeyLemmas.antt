@@ -14,7 +14,7 @@ use Rattle.ssh_keys.specs.KeyReading.{key_in, blob_at}
 use Rattle.ssh_wire.specs.Reading.{string_at}
 use Rattle.ssh_lines.proofs.KeyNames.{class-of_name}
 use Rattle.ssh_text.specs.Text.{is_blank, HasNoBlank, AreBlanks, begins_with_blank, first_word, next_field, skip_blanks, comment_of, without_cr}
-use Rattle.ssh_text.proofs.TextLemmas.{ends_word, skip_blanks-behind, skip_blanks-at_word, first_word-at, after_word-at, without_cr-behind}
+use Rattle.ssh_text.proofs.TextLemmas.{ends_word, skip_blanks-after, skip_blanks-at_word, first_word-at, after_word-at, without_cr-after}
 use Rattle.ssh_lines.specs.KeyPart.{base64, key_part_of, key_by_class, is_empty}
 
 -- ---- base64 has no blanks
@@ -116,7 +116,7 @@ pub next_field-at : (word gap rest : List ℕ) → HasNoBlank word → bytes_eq 
 next_field-at word gap rest w e g b =
     ap next_field (append_assoc word gap rest)
     ∙ ap skip_blanks (after_word-at word (gap ++ rest) w (ends-gap gap rest e g))
-    ∙ skip_blanks-behind gap rest g ∙ skip_blanks-at_word rest b
+    ∙ skip_blanks-after gap rest g ∙ skip_blanks-at_word rest b
 
 pub first_field-at : (word gap rest : List ℕ) → HasNoBlank word → bytes_eq gap [] ≡ false → AreBlanks gap
     → first_word (word ++ gap ++ rest) ≡ word
@@ -191,7 +191,7 @@ pub without_cr-at : (front field tail : List ℕ) → is_empty field ≡ false �
     → without_cr (front ++ (field ++ tail)) ≡ front ++ (field ++ without_cr tail)
 without_cr-at front [] tail s h = cc
 without_cr-at front (c ∷ cs) [] s h =
-    ap (λ t. without_cr (front ++ t)) (append-nil (c ∷ cs)) ∙ without_cr-behind front c cs
+    ap (λ t. without_cr (front ++ t)) (append-nil (c ∷ cs)) ∙ without_cr-after front c cs
     ∙ ap (λ t. front ++ t) (without_cr-none (c ∷ cs) h ∙ sym (append-nil (c ∷ cs)))
 without_cr-at front (c ∷ cs) (x ∷ xs) s h =
-    without_cr-behind front c (cs ++ x ∷ xs) ∙ ap (λ t. front ++ t) (without_cr-behind (c ∷ cs) x xs)
+    without_cr-after front c (cs ++ x ∷ xs) ∙ ap (λ t. front ++ t) (without_cr-after (c ∷ cs) x xs)

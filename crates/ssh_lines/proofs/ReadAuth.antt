@@ -40,10 +40,10 @@ spells-options [] items gap h a e g = absurd h
 spells-options (option ∷ options) items gap h a e g = (items, gap, h, record { some = gap-differs gap e; blanks = g }, a, refl)
 
 -- the key after options
-behind-options : (options : List AuthOption) (text rest body cr : List ℕ) (entry : AuthEntry)
+after-options : (options : List AuthOption) (text rest body cr : List ℕ) (entry : AuthEntry)
     → ReadOptions text options → body ≡ text ++ rest → ends_word rest ≡ true → AreBytes body → IsCr cr
     → ReadPart options (skip_blanks rest) entry → SpellsBody entry (body ++ cr)
-behind-options options text rest body cr entry o whole ends bytes is read =
+after-options options text rest body cr entry o whole ends bytes is read =
     let skip = skipped rest in
     let key = skip_blanks rest in
     let facts = key_part-facts key read.part read.reads in
@@ -74,7 +74,7 @@ options-by body cr entry (Err cause) bytes is o h = cc
 options-by body cr entry (Ok options) bytes is o h =
     let cut = text_cut false 0 body in
     let rest = drop (length (option_text_of false 0 body)) body in
-    behind-options options (option_text_of false 0 body) rest body cr entry (read_options (option_text_of false 0 body) options o)
+    after-options options (option_text_of false 0 body) rest body cr entry (read_options (option_text_of false 0 body) options o)
     cut.whole cut.ends bytes is (part-by options (skip_blanks rest) entry (key_part_of (skip_blanks rest)) refl h)
 
 entry-by : (body cr : List ℕ) (entry : AuthEntry) (typed : Bool) → AreBytes body → IsCr cr

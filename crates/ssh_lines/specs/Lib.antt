@@ -8,7 +8,7 @@ pub use Rattle.ssh_expiry.specs.CivilFacts
 pub use Rattle.ssh_expiry.specs.Moment
 pub use Rattle.ssh_options.specs.OptionText
 pub use Rattle.ssh_options.specs.OptionsInPlace
-pub use Rattle.ssh_options.specs.OptionsSaid
+pub use Rattle.ssh_options.specs.OptionsInLine
 pub use Rattle.ssh_options.specs.Settings
 pub mod KeyText
 pub mod Fault

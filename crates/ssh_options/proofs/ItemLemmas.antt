@@ -9,21 +9,21 @@ use Rattle.ssh_options.specs.declared.cause.LineCause.TheVariants as causes
 use Rattle.ssh_options.specs.OptionText.{Item, items_of, is_open_quote, turned, item_of, each_item, and_item, options_from, options_of_items, options_of}
 
 -- items whose first one begins with this text
-abbrev pub behind : List ℕ → List (List ℕ) → List (List ℕ)
-behind front [] = front ∷ []
-behind front (item ∷ items) = (front ++ item) ∷ items
+abbrev pub following : List ℕ → List (List ℕ) → List (List ℕ)
+following front [] = front ∷ []
+following front (item ∷ items) = (front ++ item) ∷ items
 
-onto-behind : (c : ℕ) (items : List (List ℕ)) → onto_first c items ≡ behind [] (onto_first c items)
-onto-behind c [] = refl
-onto-behind c (item ∷ items) = refl
+onto-after : (c : ℕ) (items : List (List ℕ)) → onto_first c items ≡ following [] (onto_first c items)
+onto-after c [] = refl
+onto-after c (item ∷ items) = refl
 
-step-behind : (stops : Bool) (c : ℕ) (others items : List (List ℕ)) → cond stops ([] ∷ others) (onto_first c items) ≡ behind [] (cond stops ([] ∷ others) (onto_first c items))
-step-behind true c others items = refl
-step-behind false c others items = onto-behind c items
+step-after : (stops : Bool) (c : ℕ) (others items : List (List ℕ)) → cond stops ([] ∷ others) (onto_first c items) ≡ following [] (cond stops ([] ∷ others) (onto_first c items))
+step-after true c others items = refl
+step-after false c others items = onto-after c items
 
-pub behind-none : (text : List ℕ) → items_of false 0 text ≡ behind [] (items_of false 0 text)
-behind-none [] = refl
-behind-none (c ∷ cs) = step-behind (c == 44) c (items_of false c cs) (items_of (turned (is_open_quote 0 c) false) c cs)
+pub after-none : (text : List ℕ) → items_of false 0 text ≡ following [] (items_of false 0 text)
+after-none [] = refl
+after-none (c ∷ cs) = step-after (c == 44) c (items_of false c cs) (items_of (turned (is_open_quote 0 c) false) c cs)
 
 -- a comma before a text is as nothing before it
 comma-before : (text : List ℕ) → items_of false 44 text ≡ items_of false 0 text
@@ -32,14 +32,14 @@ comma-before (c ∷ cs) = refl
 
 -- the first item ends at a comma outside quotes
 pub cut-at_comma : (text : List ℕ) (inside : Bool) (last i : ℕ) → i < length text
-    → items_of false 0 text ≡ behind (take i text) (items_of inside last (drop i text)) → inside ≡ false → slice_index text i ≡ 44
+    → items_of false 0 text ≡ following (take i text) (items_of inside last (drop i text)) → inside ≡ false → slice_index text i ≡ 44
     → items_of false 0 text ≡ take i text ∷ items_of false 0 (take (length text - (i + 1)) (drop (i + 1) text))
 cut-at_comma text inside last i lt held outside comma =
     let rest = drop (i + 1) text in
     let here : drop i text ≡ 44 ∷ rest = drop_more text i 0 lt ∙ ap (λ c. c ∷ rest) comma in
     let all : take (length text - (i + 1)) rest ≡ rest = take_all (length text - (i + 1)) rest (omega (arith, length-drop (i + 1) text)) in
-    held ∙ ap (λ b. behind (take i text) (items_of b last (drop i text))) outside
-    ∙ ap (λ t. behind (take i text) (items_of false last t)) here
+    held ∙ ap (λ b. following (take i text) (items_of b last (drop i text))) outside
+    ∙ ap (λ t. following (take i text) (items_of false last t)) here
     ∙ ap (λ t. t ∷ items_of false 44 rest) (append-nil (take i text))
     ∙ ap (λ items. take i text ∷ items) (comma-before rest ∙ ap (items_of false 0) (sym all))
 

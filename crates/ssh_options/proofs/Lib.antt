@@ -5,4 +5,4 @@ pub mod OptionLemmas
 pub mod ReadOptions
 pub mod EscapeLemmas
 pub mod SeenLemmas
-pub mod SaidLemmas
+pub mod InLineLemmas

@@ -53,20 +53,20 @@ names-from_lower (c ∷ cs) h = (name_byte-from_lower c (nat_lt c 65) (nat_lt c 
 -- ---- the end of the option text
 
 -- a name does not end it
-text-behind_name : (name cont end : List ℕ) → AreNameBytes name → ((last : ℕ) → option_text_of false last cont ≡ end)
+text-after_name : (name cont end : List ℕ) → AreNameBytes name → ((last : ℕ) → option_text_of false last cont ≡ end)
     → (last : ℕ) → option_text_of false last (name ++ cont) ≡ name ++ end
-text-behind_name [] cont end n h last = h last
-text-behind_name (c ∷ name) cont end n h last =
+text-after_name [] cont end n h last = h last
+text-after_name (c ∷ name) cont end n h last =
     let plain = plain-from_name_byte c n.0 in
-    rw (plain.blank, plain.quote) (ap (λ s. c ∷ s) (text-behind_name name cont end n.1 h c))
+    rw (plain.blank, plain.quote) (ap (λ s. c ∷ s) (text-after_name name cont end n.1 h c))
 
-items-behind_name : (name cont part : List ℕ) (parts : List (List ℕ)) → AreNameBytes name
+items-after_name : (name cont part : List ℕ) (parts : List (List ℕ)) → AreNameBytes name
     → ((last : ℕ) → items_of false last cont ≡ part ∷ parts)
     → (last : ℕ) → items_of false last (name ++ cont) ≡ (name ++ part) ∷ parts
-items-behind_name [] cont part parts n h last = h last
-items-behind_name (c ∷ name) cont part parts n h last =
+items-after_name [] cont part parts n h last = h last
+items-after_name (c ∷ name) cont part parts n h last =
     let plain = plain-from_name_byte c n.0 in
-    rw (plain.comma, plain.quote) (ap (λ s. onto_first c s) (items-behind_name name cont part parts n.1 h c))
+    rw (plain.comma, plain.quote) (ap (λ s. onto_first c s) (items-after_name name cont part parts n.1 h c))
 
 -- inside quotes nothing ends it; after the closing quote it goes on outside
 text-in_quotes : (v cont end : List ℕ) → ((last : ℕ) → option_text_of false last cont ≡ end)
@@ -93,26 +93,26 @@ items-in_quotes (c ∷ cs) cont part parts h last b =
       | inr e ↦ rw (e, e) (ap (λ s. onto_first c s) (items-in_quotes cs cont part parts h c b))
     ]
 
-backslash-behind_quote : (v : List ℕ) → not (ends_with_backslash v) ≡ true → ends_with_backslash (34 ∷ v) ≡ false
-backslash-behind_quote [] h = refl
-backslash-behind_quote (c ∷ cs) h =
+backslash-after_quote : (v : List ℕ) → not (ends_with_backslash v) ≡ true → ends_with_backslash (34 ∷ v) ≡ false
+backslash-after_quote [] h = refl
+backslash-after_quote (c ∷ cs) h =
     elim (cases_Bool (ends_with_backslash (c ∷ cs))) [ inl e ↦ let f : false ≡ true = rw e at h in cc | inr e ↦ e ]
 
 -- a value part does not end it
-text-behind_value : (option : AuthOption) (cont end : List ℕ) → can_be_quoted option ≡ true
+text-after_value : (option : AuthOption) (cont end : List ℕ) → can_be_quoted option ≡ true
     → ((last : ℕ) → option_text_of false last cont ≡ end)
     → (last : ℕ) → option_text_of false last (value_part option ++ cont) ≡ value_part option ++ end
-text-behind_value (Switch flag) cont end q h last = h last
-text-behind_value (Setting name v) cont end q h last =
-    let inside = text-in_quotes v cont end h 34 (backslash-behind_quote v q) in
+text-after_value (Switch flag) cont end q h last = h last
+text-after_value (Setting name v) cont end q h last =
+    let inside = text-in_quotes v cont end h 34 (backslash-after_quote v q) in
     rw (append_assoc (escaped v) (34 ∷ []) cont, append_assoc (escaped v) (34 ∷ []) end) (ap (λ s. 61 ∷ 34 ∷ s) inside)
 
-items-behind_value : (option : AuthOption) (cont part : List ℕ) (parts : List (List ℕ)) → can_be_quoted option ≡ true
+items-after_value : (option : AuthOption) (cont part : List ℕ) (parts : List (List ℕ)) → can_be_quoted option ≡ true
     → ((last : ℕ) → items_of false last cont ≡ part ∷ parts)
     → (last : ℕ) → items_of false last (value_part option ++ cont) ≡ (value_part option ++ part) ∷ parts
-items-behind_value (Switch flag) cont part parts q h last = h last
-items-behind_value (Setting name v) cont part parts q h last =
-    let inside = items-in_quotes v cont part parts h 34 (backslash-behind_quote v q) in
+items-after_value (Switch flag) cont part parts q h last = h last
+items-after_value (Setting name v) cont part parts q h last =
+    let inside = items-in_quotes v cont part parts h 34 (backslash-after_quote v q) in
     rw (append_assoc (escaped v) (34 ∷ []) cont, append_assoc (escaped v) (34 ∷ []) part)
     (ap (λ s. onto_first 61 (onto_first 34 s)) inside)
 
@@ -218,7 +218,7 @@ value_part-stops (Setting name v) = refl
 value_of-part : (option : AuthOption) → can_be_quoted option ≡ true → value_of (value_part option) ≡ Some (value_in option)
 value_of-part (Switch flag) q = refl
 value_of-part (Setting name v) q =
-    rw (closed-escaped 34 v (backslash-behind_quote v q), unescaped-escaped v) refl
+    rw (closed-escaped 34 v (backslash-after_quote v q), unescaped-escaped v) refl
 
 no_name : (option : AuthOption) → same_name [] (option_name option) ≡ true → ⊥
 unfolding row_of
@@ -278,8 +278,8 @@ read-last option text q (name, same, whole) = record {
   items = record { name = name; value = value_in option } ∷ [];
   cut = λ last.
       ap (items_of false last) (whole ∙ ap (λ s. name ++ s) (sym (append-nil (value_part option))))
-      ∙ items-behind_name name (value_part option ++ []) (value_part option ++ []) [] (spelled-bytes name option same)
-      (items-behind_value option [] [] [] q (λ l. refl)) last;
+      ∙ items-after_name name (value_part option ++ []) (value_part option ++ []) [] (spelled-bytes name option same)
+      (items-after_value option [] [] [] q (λ l. refl)) last;
   each = rw (append-nil (value_part option), item_of-named option name same q) refl;
   options_of_items = (option_of-named option name same, tt);
 }
@@ -291,8 +291,8 @@ read-more option options text first rest q (name, same, whole) cut more = record
   items = record { name = name; value = value_in option } ∷ more.items;
   cut = λ last.
       ap (items_of false last) (cut ∙ ap (λ s. s ++ 44 ∷ rest) whole ∙ append_assoc name (value_part option) (44 ∷ rest))
-      ∙ items-behind_name name (value_part option ++ 44 ∷ rest) (value_part option ++ []) more.texts (spelled-bytes name option same)
-      (items-behind_value option (44 ∷ rest) [] more.texts q (λ l. ap (λ s. [] ∷ s) (more.cut 44))) last;
+      ∙ items-after_name name (value_part option ++ 44 ∷ rest) (value_part option ++ []) more.texts (spelled-bytes name option same)
+      (items-after_value option (44 ∷ rest) [] more.texts q (λ l. ap (λ s. [] ∷ s) (more.cut 44))) last;
   each = rw (append-nil (value_part option), item_of-named option name same q, more.each) refl;
   options_of_items = (option_of-named option name same, more.options_of_items);
 }
@@ -309,16 +309,16 @@ pub text_of-items : (options : List AuthOption) (text cont : List ℕ) → AllQu
 text_of-items [] text cont q h end last = absurd h
 text_of-items (option ∷ []) text cont q (name, same, whole) end last =
     ap (option_text_of false last) (ap (λ s. s ++ cont) whole ∙ append_assoc name (value_part option) cont)
-    ∙ text-behind_name name (value_part option ++ cont) (value_part option ++ []) (spelled-bytes name option same)
-    (text-behind_value option cont [] q.0 end) last
+    ∙ text-after_name name (value_part option ++ cont) (value_part option ++ []) (spelled-bytes name option same)
+    (text-after_value option cont [] q.0 end) last
     ∙ ap (λ s. name ++ s) (append-nil (value_part option)) ∙ sym whole
 text_of-items (option ∷ next ∷ options) text cont q (first, rest, (name, same, whole), more, cut) end last =
     let to_name : text ≡ name ++ (value_part option ++ 44 ∷ rest) =
     cut ∙ ap (λ s. s ++ 44 ∷ rest) whole ∙ append_assoc name (value_part option) (44 ∷ rest) in
     ap (option_text_of false last) (ap (λ s. s ++ cont) to_name ∙ append_assoc name (value_part option ++ 44 ∷ rest) cont
     ∙ ap (λ s. name ++ s) (append_assoc (value_part option) (44 ∷ rest) cont))
-    ∙ text-behind_name name (value_part option ++ (44 ∷ rest ++ cont)) (value_part option ++ (44 ∷ rest)) (spelled-bytes name option same)
-    (text-behind_value option (44 ∷ rest ++ cont) (44 ∷ rest) q.0
+    ∙ text-after_name name (value_part option ++ (44 ∷ rest ++ cont)) (value_part option ++ (44 ∷ rest)) (spelled-bytes name option same)
+    (text-after_value option (44 ∷ rest ++ cont) (44 ∷ rest) q.0
     (λ l. ap (λ s. 44 ∷ s) (text_of-items (next ∷ options) rest cont q.1 more end 44))) last
     ∙ sym to_name
 

@@ -75,9 +75,9 @@ Both last raw =
     ((last == 34) ≡ false → escaped (unescaped (last ∷ raw)) ≡ last ∷ raw)
     × ((last == 92) ≡ false → escaped (unescaped raw) ≡ raw)
 
-behind_plain : (last : ℕ) (raw : List ℕ) → (last == 34) ≡ false → (last == 92) ≡ false → escaped (unescaped raw) ≡ raw
+after_plain : (last : ℕ) (raw : List ℕ) → (last == 34) ≡ false → (last == 92) ≡ false → escaped (unescaped raw) ≡ raw
     → escaped (unescaped (last ∷ raw)) ≡ last ∷ raw
-behind_plain last raw q b h =
+after_plain last raw q b h =
     ap escaped (unescaped-plain last raw b) ∙ escaped-plain last (unescaped raw) q ∙ ap (λ s. last ∷ s) h
 
 no_quote : (last c : ℕ) → is_open_quote last c ≡ false → (last == 92) ≡ false → (c == 34) ≡ false
@@ -115,7 +115,7 @@ both last (c ∷ cs) raw h =
     let ih = both c cs in (
       λ q. elim (cases_Bool (last == 92)) [
         | inl b ↦ first-of_backslash last c cs raw s ih b
-        | inr b ↦ behind_plain last raw q b (second-of last c cs raw s ih b)
+        | inr b ↦ after_plain last raw q b (second-of last c cs raw s ih b)
       ],
       second-of last c cs raw s ih,
     )
@@ -139,9 +139,9 @@ escaped-backslash last (c ∷ cs) =
       | inr q ↦ rw q (escaped-backslash c cs)
     ]
 
-behind_quote : (v : List ℕ) → ends_with_backslash (34 ∷ v) ≡ false → not (ends_with_backslash v) ≡ true
-behind_quote [] h = refl
-behind_quote (c ∷ cs) h = rw h refl
+after_quote : (v : List ℕ) → ends_with_backslash (34 ∷ v) ≡ false → not (ends_with_backslash v) ≡ true
+after_quote [] h = refl
+after_quote (c ∷ cs) h = rw h refl
 
 -- a value and its text
 pub record ReadValue (text value : List ℕ) : Type 0 where
@@ -153,7 +153,7 @@ read_value text raw h =
     let e : escaped (unescaped raw) ≡ raw = (both 34 text raw h).1 refl in
     record {
       whole = closed-whole 34 text raw h ∙ ap (λ s. s ++ 34 ∷ []) (sym e);
-      quotable = behind_quote (unescaped raw)
+      quotable = after_quote (unescaped raw)
           (sym (escaped-backslash 34 (unescaped raw)) ∙ ap (λ s. ends_with_backslash (34 ∷ s)) e ∙ closed-no_backslash 34 text raw h);
     }
 

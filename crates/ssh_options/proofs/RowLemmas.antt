@@ -6,19 +6,19 @@ use Rattle.ssh_options.specs.declared.option.ValueName.TheVariants.{Command, Env
 use Rattle.ssh_options.specs.declared.option.OptionName.{OptionName}
 use Rattle.ssh_options.specs.declared.option.OptionName.TheVariants.{Switch, Setting}
 use Rattle.ssh_options.specs.OptionNames.{OptionRow, options, row_of}
-use Rattle.ssh_options.specs.OptionTexts.{TableRow, row_said}
+use Rattle.ssh_options.specs.OptionTexts.{TableRow, table_row}
 
-found-said : (test : OptionRow → Bool) (rows : List TableRow)
-    → option_map row_said (find (λ row. test (row_said row)) rows) ≡ find test (map row_said rows)
-found-said test [] = refl
-found-said test (row ∷ rows) =
-    elim (cases_Bool (test (row_said row))) [ inl e ↦ rw e refl | inr e ↦ rw e (found-said test rows) ]
+found-row : (test : OptionRow → Bool) (rows : List TableRow)
+    → option_map table_row (find (λ row. test (table_row row)) rows) ≡ find test (map table_row rows)
+found-row test [] = refl
+found-row test (row ∷ rows) =
+    elim (cases_Bool (test (table_row row))) [ inl e ↦ rw e refl | inr e ↦ rw e (found-row test rows) ]
 
 -- what is found among rows that are those of the definitions
-pub row-found : (test : OptionRow → Bool) (rows : List TableRow) (row : Option TableRow) → map row_said rows ≡ options
-    → option_map (λ r. r) row ≡ find (λ r. test (row_said r)) rows → option_map row_said row ≡ find test options
-row-found test rows None said h = ap (option_map row_said) h ∙ found-said test rows ∙ ap (find test) said
-row-found test rows (Some row) said h = ap (option_map row_said) h ∙ found-said test rows ∙ ap (find test) said
+pub row-found : (test : OptionRow → Bool) (rows : List TableRow) (row : Option TableRow) → map table_row rows ≡ options
+    → option_map (λ r. r) row ≡ find (λ r. test (table_row r)) rows → option_map table_row row ≡ find test options
+row-found test rows None said h = ap (option_map table_row) h ∙ found-row test rows ∙ ap (find test) said
+row-found test rows (Some row) said h = ap (option_map table_row) h ∙ found-row test rows ∙ ap (find test) said
 
 -- each option has a row
 has_row : (option : OptionName) → is_some (row_of option) ≡ true
@@ -46,9 +46,9 @@ has_row (Setting PermitOpen) = refl
 has_row (Setting Principals) = refl
 has_row (Setting Tunnel) = refl
 
-said-some : (row : Option TableRow) → is_some (option_map row_said row) ≡ is_some row
-said-some None = refl
-said-some (Some row) = refl
+row-some : (row : Option TableRow) → is_some (option_map table_row row) ≡ is_some row
+row-some None = refl
+row-some (Some row) = refl
 
-pub some_row : (option : OptionName) (row : Option TableRow) → option_map row_said row ≡ row_of option → is_some row ≡ true
-some_row option row h = sym (said-some row) ∙ ap is_some h ∙ has_row option
+pub some_row : (option : OptionName) (row : Option TableRow) → option_map table_row row ≡ row_of option → is_some row ≡ true
+some_row option row h = sym (row-some row) ∙ ap is_some h ∙ has_row option

@@ -10,36 +10,36 @@ use Rattle.ssh_options.specs.declared.cause.LineCause.{LineCause}
 use Rattle.ssh_options.specs.declared.cause.LineCause.TheVariants as causes
 use Rattle.ssh_options.specs.OptionNames.{same_value_name, row_of}
 use Rattle.ssh_options.specs.OptionText.{Item, items_of, item_of, each_item, has_setting, repeats, has_bad_expiry, option_of, and_option, and_item, options_from, options_of_items, options_of}
-use Rattle.ssh_options.specs.OptionsInPlace.{seen_of, none_seen, stood, with_name, and_said_seen, and_item_seen, fault_in}
+use Rattle.ssh_options.specs.OptionsInPlace.{seen_of, none_seen, stood, with_name, and_seen, and_item_seen, fault_in}
 
 -- ---- what has stood
 
-or-behind : (a b : Bool) (c : Bool) → (a || (b || c)) ≡ ((a || b) || c)
-or-behind true b c = refl
-or-behind false b c = refl
+or-after : (a b : Bool) (c : Bool) → (a || (b || c)) ≡ ((a || b) || c)
+or-after true b c = refl
+or-after false b c = refl
 
 or-false : (a : Bool) → (a || false) ≡ a
 or-false true = refl
 or-false false = refl
 
-setting-behind : (name other : ValueName) (value : List ℕ) (before : List AuthOption)
+setting-after : (name other : ValueName) (value : List ℕ) (before : List AuthOption)
     → has_setting name (before ++ Setting other value ∷ []) ≡ has_setting name before || same_value_name other name
-setting-behind name other value [] = or-false (same_value_name other name)
-setting-behind name other value (Switch flag ∷ before) = setting-behind name other value before
-setting-behind name other value (Setting first text ∷ before) =
-    ap (λ b. same_value_name first name || b) (setting-behind name other value before)
-    ∙ or-behind (same_value_name first name) (has_setting name before) (same_value_name other name)
+setting-after name other value [] = or-false (same_value_name other name)
+setting-after name other value (Switch flag ∷ before) = setting-after name other value before
+setting-after name other value (Setting first text ∷ before) =
+    ap (λ b. same_value_name first name || b) (setting-after name other value before)
+    ∙ or-after (same_value_name first name) (has_setting name before) (same_value_name other name)
 
-flag-behind : (name : ValueName) (flag : _) (before : List AuthOption) → has_setting name (before ++ Switch flag ∷ []) ≡ has_setting name before
-flag-behind name flag [] = refl
-flag-behind name flag (Switch other ∷ before) = flag-behind name flag before
-flag-behind name flag (Setting first text ∷ before) = ap (λ b. same_value_name first name || b) (flag-behind name flag before)
+flag-after : (name : ValueName) (flag : _) (before : List AuthOption) → has_setting name (before ++ Switch flag ∷ []) ≡ has_setting name before
+flag-after name flag [] = refl
+flag-after name flag (Switch other ∷ before) = flag-after name flag before
+flag-after name flag (Setting first text ∷ before) = ap (λ b. same_value_name first name || b) (flag-after name flag before)
 
 seen-flag : (flag : _) (before : List AuthOption) → seen_of (before ++ Switch flag ∷ []) ≡ seen_of before
-seen-flag flag before = rw (flag-behind Command flag before, flag-behind From flag before, flag-behind Principals flag before) refl
+seen-flag flag before = rw (flag-after Command flag before, flag-after From flag before, flag-after Principals flag before) refl
 
 seen-setting : (name : ValueName) (value : List ℕ) (before : List AuthOption) → seen_of (before ++ Setting name value ∷ []) ≡ with_name (seen_of before) name
-seen-setting name value before = rw (setting-behind Command name value before, setting-behind From name value before, setting-behind Principals name value before) refl
+seen-setting name value before = rw (setting-after Command name value before, setting-after From name value before, setting-after Principals name value before) refl
 
 stood-repeats : (name : ValueName) (value : List ℕ) (before : List AuthOption) → repeats before (Setting name value) ≡ stood (seen_of before) name
 unfolding row_of
@@ -65,7 +65,7 @@ by-tests true bad options seen h = refl
 by-tests false true options seen h = refl
 by-tests false false options seen h = ap (λ s. Ok s) h
 
-option-seen : (before : List AuthOption) (said : Result AuthOption LineCause) → seen_in (and_option before said) ≡ and_said_seen (seen_of before) said
+option-seen : (before : List AuthOption) (said : Result AuthOption LineCause) → seen_in (and_option before said) ≡ and_seen (seen_of before) said
 option-seen before (Err cause) = refl
 option-seen before (Ok (Switch flag)) = ap (λ s. Ok s) (seen-flag flag before)
 option-seen before (Ok (Setting name value)) =

@@ -2,5 +2,5 @@ pub mod OptionNames
 pub mod OptionText
 pub mod OptionTexts
 pub mod OptionsInPlace
-pub mod OptionsSaid
+pub mod OptionsInLine
 pub mod Settings

@@ -18,12 +18,12 @@ texts_left None = []
 texts_left (Some text) = items_of false 0 text
 
 -- an item by its name and its value
-abbrev pub said : ItemText → Item
-said item = record { name = item.name.now; value = option_map unescaped (option_copied item.value) }
+abbrev pub plain_item : ItemText → Item
+plain_item item = record { name = item.name.now; value = option_map unescaped (option_copied item.value) }
 
 -- a row of the table, in memory and by its fields
 abbrev pub TableRow : Type 0
 TableRow = Bor (List ℕ) × OptionName × Times
 
-abbrev pub row_said : TableRow → OptionRow
-row_said row = record { name = row.0.now; option = row.1; times = row.2 }
+abbrev pub table_row : TableRow → OptionRow
+table_row row = record { name = row.0.now; option = row.1; times = row.2 }

@@ -2,7 +2,7 @@
 
 ghost use Rattle.std.specs.Prelude.{◌≡◌, Some, option_map, map};
 ghost use Rattle.ssh_options.specs.OptionNames.{options, row_of, row_named, option_named, flag_name, flag_named, value_name, value_named, is_single, same_name};
-ghost use Rattle.ssh_options.specs.OptionTexts.{row_said};
+ghost use Rattle.ssh_options.specs.OptionTexts.{table_row};
 
 use OptionName::{Setting, Switch};
 use Times::{Any, Once};
@@ -93,14 +93,14 @@ const OPTIONS: [Row; 22] = [
 
 /// The rows of the list.
 fn options() -> &'static [Row]
-    ensures { map row_said result.now ≡ options }
+    ensures { map table_row result.now ≡ options }
 {
     &OPTIONS
 }
 
 /// The row of an option: each has one.
 fn row_of(option: OptionName) -> Row
-    ensures { row_of option ≡ Some (row_said result) }
+    ensures { row_of option ≡ Some (table_row result) }
 {
     options()
         .iter()
@@ -111,7 +111,7 @@ fn row_of(option: OptionName) -> Row
 
 /// The row with this name, in any ASCII case.
 fn row_named(name: &[u8]) -> Option<Row>
-    ensures { option_map row_said result ≡ row_named name.now }
+    ensures { option_map table_row result ≡ row_named name.now }
 {
     options().iter().copied().find(|row| same_name(name, row.0))
 }

@@ -2,9 +2,9 @@
 
 ghost use Rattle.std.specs.Prelude.{◌≡◌};
 ghost use Rattle.ssh_options.specs.OptionText.{option_of, options_of};
-ghost use Rattle.ssh_options.specs.OptionTexts.{said};
-ghost use Rattle.ssh_options.specs.OptionsSaid.{option_said};
-ghost use Rattle.ssh_options.specs.OptionsInPlace.{and_seen, and_said_seen, and_item_seen, fault_in};
+ghost use Rattle.ssh_options.specs.OptionTexts.{plain_item};
+ghost use Rattle.ssh_options.specs.OptionsInLine.{option_in_line};
+ghost use Rattle.ssh_options.specs.OptionsInPlace.{and_seen, and_seen, and_item_seen, fault_in};
 
 use crate::cause::LineCause;
 use crate::option::ValueName;
@@ -59,7 +59,7 @@ impl Seen {
 
 /// What has stood with one more option, if it may stand there.
 fn and_seen(before: Seen, option: &OptionView<'_>) -> Result<Seen, LineCause>
-    ensures { result ≡ and_seen before (option_said option.now) }
+    ensures { result ≡ and_seen before (option_in_line option.now) }
 {
     let OptionView::Setting(name, value) = option else {
         return Ok(before);
@@ -74,7 +74,7 @@ fn and_seen(before: Seen, option: &OptionView<'_>) -> Result<Seen, LineCause>
 }
 
 fn with_item(before: Seen, item: ItemText<'_>) -> Result<Seen, LineCause>
-    ensures { result ≡ and_said_seen before (option_of (said item.entry)) }
+    ensures { result ≡ and_seen before (option_of (plain_item item.entry)) }
 {
     match view_option(item) {
         Ok(option) => and_seen(before, &option),
@@ -84,7 +84,7 @@ fn with_item(before: Seen, item: ItemText<'_>) -> Result<Seen, LineCause>
 
 /// What has stood so far, or the first fault, with one more item.
 fn and_item(so_far: Result<Seen, LineCause>, item: ItemText<'_>) -> Result<Seen, LineCause>
-    ensures { result ≡ and_item_seen so_far (said item.entry) }
+    ensures { result ≡ and_item_seen so_far (plain_item item.entry) }
 {
     match so_far {
         Ok(before) => with_item(before, item),

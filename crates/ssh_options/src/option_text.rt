@@ -3,7 +3,7 @@
 ghost use Rattle.std.specs.Prelude.{◌≡◌, ◌≤◌, length, take, drop, false, IfOk, option_map, option_copied};
 ghost use Rattle.std.specs.Iterator.{YieldsFirstRef, item_count};
 ghost use Rattle.ssh_options.specs.OptionText.{option_text_of, items_of, is_name_byte, name_part, after_name, begins_with_quote, closed_by_quote, unescaped, value_of, item_of, is_open_quote};
-ghost use Rattle.ssh_options.specs.OptionTexts.{AreCut, texts_left, said};
+ghost use Rattle.ssh_options.specs.OptionTexts.{AreCut, texts_left, plain_item};
 
 use ssh_text::{Bytes, is_blank};
 use std::alloc::{AllocError, Global};
@@ -150,7 +150,7 @@ fn read_value(text: &[u8]) -> Option<Option<&[u8]>>
 
 /// The name and the value of an item, if its text is in form.
 pub(crate) fn read_item(text: &[u8]) -> Option<ItemText<'_>>
-    ensures { option_map said result ≡ item_of text.now }
+    ensures { option_map plain_item result ≡ item_of text.now }
 {
     let (name, rest) = text.split_at(name_len(text));
     if name.is_empty() {

@@ -3,8 +3,8 @@
 ghost use Rattle.std.specs.Prelude.{◌≡◌, IfOk};
 ghost use Rattle.ssh_wire.specs.Reading.{Gives};
 ghost use Rattle.ssh_options.specs.OptionText.{option_of};
-ghost use Rattle.ssh_options.specs.OptionTexts.{said};
-ghost use Rattle.ssh_options.specs.OptionsSaid.{option_said};
+ghost use Rattle.ssh_options.specs.OptionTexts.{plain_item};
+ghost use Rattle.ssh_options.specs.OptionsInLine.{option_in_line};
 
 use crate::cause::LineCause;
 use crate::option::{AuthOption, Flag, OptionName, ValueName, option_named};
@@ -21,7 +21,7 @@ pub enum OptionView<'a> {
 
 /// The option of an item: its name must be listed, and have a value exactly if it is a setting's.
 pub(crate) fn view_option(item: ItemText<'_>) -> Result<OptionView<'_>, LineCause>
-    ensures { Gives option_said result (option_of (said item.entry)) }
+    ensures { Gives option_in_line result (option_of (plain_item item.entry)) }
 {
     match (option_named(item.name), item.value) {
         (None, _) => Err(LineCause::UnknownOption),
@@ -34,11 +34,11 @@ pub(crate) fn view_option(item: ItemText<'_>) -> Result<OptionView<'_>, LineCaus
 }
 
 impl OptionView<'_> {
-    ghost use Rattle.ssh_options.specs.OptionsSaid.{option_said};
+    ghost use Rattle.ssh_options.specs.OptionsInLine.{option_in_line};
 
     /// The option, copied.
     pub fn to_option(&self, alloc: Global) -> Result<AuthOption, AllocError>
-        ensures { IfOk result (λ option. option ≡ option_said self.now) }
+        ensures { IfOk result (λ option. option ≡ option_in_line self.now) }
     {
         match self {
             OptionView::Switch(flag) => Ok(AuthOption::Switch(*flag)),

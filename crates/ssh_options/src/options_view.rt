@@ -5,7 +5,7 @@ ghost use Rattle.std.specs.Iterator.{YieldsFirst, YieldsFirstBy, item_count};
 ghost use Rattle.ssh_wire.specs.Reading.{Gives};
 ghost use Rattle.ssh_options.specs.OptionText.{option_of, options_of};
 ghost use Rattle.ssh_options.specs.Settings.{has_flag, settings};
-ghost use Rattle.ssh_options.specs.OptionsSaid.{option_said, option_at};
+ghost use Rattle.ssh_options.specs.OptionsInLine.{option_in_line, option_at};
 
 use crate::cause::LineCause;
 use crate::option::{AuthOption, Flag, ValueName};
@@ -27,7 +27,7 @@ impl<'a> Model for OptionsView<'a> {
     ghost use Rattle.std.specs.Prelude.{List, Some, option_copied, ◌≡◌};
     ghost use Rattle.ssh_options.specs.declared.option.AuthOption.{AuthOption};
     ghost use Rattle.ssh_options.specs.OptionTexts.{texts_left};
-    ghost use Rattle.ssh_options.specs.OptionsSaid.{each_option, options_in};
+    ghost use Rattle.ssh_options.specs.OptionsInLine.{each_option, options_in};
 
     ghost Value = { List AuthOption };
 
@@ -38,7 +38,7 @@ impl<'a> Model for OptionsView<'a> {
 
 /// The option of an item, if it is one.
 fn option_at(text: &[u8]) -> Option<OptionView<'_>>
-    ensures { option_map option_said result ≡ option_at text.now }
+    ensures { option_map option_in_line result ≡ option_at text.now }
 {
     let item = read_item(text)?;
     view_option(item).ok()
@@ -101,7 +101,7 @@ impl<'a> OptionsView<'a> {
 impl<'a> Iterator for OptionsView<'a> {
     type Item = OptionView<'a>;
 
-    ghost next_gives = { YieldsFirstBy option_said (λ options. options) };
+    ghost next_gives = { YieldsFirstBy option_in_line (λ options. options) };
 
     ghost remaining = { item_count (λ options. options) };
 

@@ -10,7 +10,7 @@ use Rattle.ssh_patterns.specs.AddressText.{AreOctets, dotted, colon, IsGroup, Ar
 use Rattle.ssh_patterns.specs.AddressReading.{groups_of, octets_of, filled, by_cut, eight_groups_of, address_of}
 use Rattle.ssh_patterns.specs.Cut.{after_mark, cut_here, cut_at}
 use Rattle.ssh_patterns.specs.Digits.{number_to_base}
-use Rattle.ssh_patterns.proofs.CutLemmas.{behind, behind-nil, after_mark-whole}
+use Rattle.ssh_patterns.proofs.CutLemmas.{following, after-nil, after_mark-whole}
 use Rattle.ssh_patterns.proofs.OctetLemmas.{octets_of-dotted, octets_of-some, neither, and_then-some, some-is}
 use Rattle.ssh_patterns.proofs.SpelledLemmas.{group-has_no, dotted-has_no_colon, dotted-has_dot, has-some, colon_within, map-some, groups_of-some, groups_of-some_at_end, groups_of-groups, groups_of-end}
 
@@ -19,24 +19,24 @@ use Rattle.ssh_patterns.proofs.SpelledLemmas.{group-has_no, dotted-has_no_colon,
 abbrev double : List ℕ
 double = codes "::"
 
-behind-append : (a b : List ℕ) (cut : Option (List ℕ × List ℕ)) → behind a (behind b cut) ≡ behind (a ++ b) cut
-behind-append a b None = refl
-behind-append a b (Some cut) = ap (λ s. Some (s, cut.1)) (sym (append_assoc a b cut.0))
+after-append : (a b : List ℕ) (cut : Option (List ℕ × List ℕ)) → following a (following b cut) ≡ following (a ++ b) cut
+after-append a b None = refl
+after-append a b (Some cut) = ap (λ s. Some (s, cut.1)) (sym (append_assoc a b cut.0))
 
-here-behind : (c : ℕ) (front : List ℕ) (cut : Option (List ℕ × List ℕ)) → cut_here None c (behind front cut) ≡ behind (c ∷ front) cut
-here-behind c front None = refl
-here-behind c front (Some cut) = refl
+here-after : (c : ℕ) (front : List ℕ) (cut : Option (List ℕ × List ℕ)) → cut_here None c (following front cut) ≡ following (c ∷ front) cut
+here-after c front None = refl
+here-after c front (Some cut) = refl
 
-here-alone : (c : ℕ) (cut : Option (List ℕ × List ℕ)) → cut_here None c cut ≡ behind (c ∷ []) cut
+here-alone : (c : ℕ) (cut : Option (List ℕ × List ℕ)) → cut_here None c cut ≡ following (c ∷ []) cut
 here-alone c None = refl
 here-alone c (Some cut) = refl
 
 -- no mark begins among bytes that are no colons
-skip : (front rest : List ℕ) → list_any (λ c. c == colon) front ≡ false → cut_at double (front ++ rest) ≡ behind front (cut_at double rest)
-skip [] rest h = sym (behind-nil (cut_at double rest))
+skip : (front rest : List ℕ) → list_any (λ c. c == colon) front ≡ false → cut_at double (front ++ rest) ≡ following front (cut_at double rest)
+skip [] rest h = sym (after-nil (cut_at double rest))
 skip (c ∷ front) rest h =
     let parts = neither (c == colon) (list_any (λ c. c == colon) front) h in
-    rw (parts.0, skip front rest parts.1) (here-behind c front (cut_at double rest))
+    rw (parts.0, skip front rest parts.1) (here-after c front (cut_at double rest))
 
 -- a text that begins with another byte than a colon
 record Starts (text : List ℕ) : Type 0 where
@@ -63,11 +63,11 @@ groups-start (g ∷ []) text h some = group-starts text g h
 groups-start (g ∷ next ∷ groups) text (first, rest, whole, h, more) some =
     rw whole (starts-append first (colon ∷ rest) (group-starts first g h))
 
-colon-over : (text : List ℕ) → Starts text → cut_at double (colon ∷ text) ≡ behind (colon ∷ []) (cut_at double text)
+colon-over : (text : List ℕ) → Starts text → cut_at double (colon ∷ text) ≡ following (colon ∷ []) (cut_at double text)
 colon-over text h = rw (h.whole, h.other) (here-alone colon (cut_here None h.first (cut_at double h.rest)))
 
 pass : (groups text rest : List ℕ) → AreGroups groups text → 0 < length groups
-    → cut_at double (text ++ rest) ≡ behind text (cut_at double rest)
+    → cut_at double (text ++ rest) ≡ following text (cut_at double rest)
 pass [] text rest h some = absurd (omega arith)
 pass (g ∷ []) text rest h some = skip text rest (group-has_no colon text g (lit≤ tt) h)
 pass (g ∷ next ∷ groups) text rest (first, more, whole, h, are) some =
@@ -77,9 +77,9 @@ pass (g ∷ next ∷ groups) text rest (first, more, whole, h, are) some =
       skip first (colon ∷ (more ++ rest)) (group-has_no colon first g (lit≤ tt) h),
       colon-over (more ++ rest) (starts-append more rest (groups-start (next ∷ groups) more are (omega arith))),
       pass (next ∷ groups) more rest are (omega arith),
-      behind-append (colon ∷ []) more (cut_at double rest),
+      after-append (colon ∷ []) more (cut_at double rest),
     )
-    (behind-append first (colon ∷ more) (cut_at double rest))
+    (after-append first (colon ∷ more) (cut_at double rest))
 
 dotted-starts : (octets : List ℕ) → AreOctets octets → Starts (dotted octets)
 dotted-starts octets are =

@@ -29,17 +29,17 @@ pub after_mark-none : (mark text : List ℕ) → ((rest : List ℕ) → text ≢
 after_mark-none mark text h = none-by (after_mark mark text) mark text refl h
 
 -- a cut after these bytes
-abbrev pub behind : List ℕ → Option (List ℕ × List ℕ) → Option (List ℕ × List ℕ)
-behind front cut = option_map (λ c. (front ++ c.0, c.1)) cut
+abbrev pub following : List ℕ → Option (List ℕ × List ℕ) → Option (List ℕ × List ℕ)
+following front cut = option_map (λ c. (front ++ c.0, c.1)) cut
 
-pub behind-nil : (cut : Option (List ℕ × List ℕ)) → behind [] cut ≡ cut
-behind-nil None = refl
-behind-nil (Some cut) = refl
+pub after-nil : (cut : Option (List ℕ × List ℕ)) → following [] cut ≡ cut
+after-nil None = refl
+after-nil (Some cut) = refl
 
-behind-cons : (front : List ℕ) (c : ℕ) (cut : Option (List ℕ × List ℕ))
-    → behind front (cut_here None c cut) ≡ behind (front ++ c ∷ []) cut
-behind-cons front c None = refl
-behind-cons front c (Some cut) = ap (λ s. Some (s, cut.1)) (sym (append_assoc front (c ∷ []) cut.0))
+after-cons : (front : List ℕ) (c : ℕ) (cut : Option (List ℕ × List ℕ))
+    → following front (cut_here None c cut) ≡ following (front ++ c ∷ []) cut
+after-cons front c None = refl
+after-cons front c (Some cut) = ap (λ s. Some (s, cut.1)) (sym (append_assoc front (c ∷ []) cut.0))
 
 cut-cons : (mark : List ℕ) (c : ℕ) (cs : List ℕ) → after_mark mark (c ∷ cs) ≡ None
     → cut_at mark (c ∷ cs) ≡ cut_here None c (cut_at mark cs)
@@ -47,16 +47,16 @@ cut-cons mark c cs h = rw h refl
 
 -- where no mark stands, the cut lies further on
 pub cut-later : (mark text : List ℕ) (at : ℕ) → at < length text → after_mark mark (drop at text) ≡ None
-    → behind (take at text) (cut_at mark (drop at text)) ≡ behind (take (at + 1) text) (cut_at mark (drop (at + 1) text))
+    → following (take at text) (cut_at mark (drop at text)) ≡ following (take (at + 1) text) (cut_at mark (drop (at + 1) text))
 cut-later mark text at lt h =
     let d = drop-cons text at 0 lt in
     let none : after_mark mark (get_or text at 0 ∷ drop (suc at) text) ≡ None = rw d at h in
     rw (add-one, d, cut-cons mark (get_or text at 0) (drop (suc at) text) none, take-suc text at 0 lt)
-    (behind-cons (take at text) (get_or text at 0) (cut_at mark (drop (suc at) text)))
+    (after-cons (take at text) (get_or text at 0) (cut_at mark (drop (suc at) text)))
 
 -- where the mark stands, it is cut
 pub cut-here : (mark text after front : List ℕ) → 0 < length mark → text ≡ mark ++ after
-    → behind front (cut_at mark text) ≡ Some (front, after)
+    → following front (cut_at mark text) ≡ Some (front, after)
 cut-here [] text after front some e = absurd (omega arith)
 cut-here (m ∷ ms) text after front some e =
     rw (e, after_mark-front (m ∷ ms) after) (ap (λ s. Some (s, after)) (append-nil front))

@@ -53,17 +53,17 @@ star-forgets after from rest text keeps h =
 pub keeps-star : (rest text : List ℕ) → Keeps rest text rest text
 keeps-star rest text n h = h
 
-byte-behind : (c x : ℕ) (rest others : List ℕ) (n : ℕ) → (c == star) ≡ false
+byte-after : (c x : ℕ) (rest others : List ℕ) (n : ℕ) → (c == star) ≡ false
     → is_match (c ∷ rest) (drop n (x ∷ others)) ≡ true → is_match rest (drop n others) ≡ true
-byte-behind c x rest others zero plain h =
+byte-after c x rest others zero plain h =
     (and_parts ((c == question) || (c == x)) (is_match rest others) (rw plain at h)).1
-byte-behind c x rest [] (suc n) plain h = let none : false ≡ true = rw (plain, drop-nil n) at h in cc
-byte-behind c x rest (y ∷ others) (suc n) plain h = byte-behind c y rest others n plain h
+byte-after c x rest [] (suc n) plain h = let none : false ≡ true = rw (plain, drop-nil n) at h in cc
+byte-after c x rest (y ∷ others) (suc n) plain h = byte-after c y rest others n plain h
 
 -- past a byte that is no star
 pub keeps-byte : (after from : List ℕ) (c x : ℕ) (rest others : List ℕ) → (c == star) ≡ false
     → Keeps after from (c ∷ rest) (x ∷ others) → Keeps after from rest others
-keeps-byte after from c x rest others plain keeps n h = byte-behind c x rest others n plain (keeps n h)
+keeps-byte after from c x rest others plain keeps n h = byte-after c x rest others n plain (keeps n h)
 
 -- what is left agrees with the whole: here, or where the last star takes more
 pub record Agrees (whole : Bool) (back : Option (List ℕ × List ℕ)) (pattern text : List ℕ) : Type 0 where

@@ -13,11 +13,11 @@ or_left true b h = refl
 or_left false b h = cc
 
 -- what passes after some front is found
-some_rest-behind : (test : List ℕ → Bool) (front rest : List ℕ) → test rest ≡ true → some_rest test (front ++ rest) ≡ true
-some_rest-behind test [] [] h = h
-some_rest-behind test [] (x ∷ xs) h = or_left (test (x ∷ xs)) (some_rest test xs) h
-some_rest-behind test (c ∷ front) rest h =
-    or_right (test (c ∷ front ++ rest)) (some_rest test (front ++ rest)) (some_rest-behind test front rest h)
+some_rest-after : (test : List ℕ → Bool) (front rest : List ℕ) → test rest ≡ true → some_rest test (front ++ rest) ≡ true
+some_rest-after test [] [] h = h
+some_rest-after test [] (x ∷ xs) h = or_left (test (x ∷ xs)) (some_rest test xs) h
+some_rest-after test (c ∷ front) rest h =
+    or_right (test (c ∷ front ++ rest)) (some_rest test (front ++ rest)) (some_rest-after test front rest h)
 
 -- a text whose rest passes the test, with its front
 pub record Cut (test : List ℕ → Bool) (text : List ℕ) : Type 0 where
@@ -65,7 +65,7 @@ test-from_fact : (is_star is_question : Bool) (c : ℕ) (pattern text : List ℕ
     → ((t : List ℕ) → Matches pattern t → is_match pattern t ≡ true)
     → Fact is_star is_question c pattern text → Test is_star is_question c pattern text ≡ true
 test-from_fact true q c pattern text ih (front, rest, whole, m) =
-    rw whole (some_rest-behind (is_match pattern) front rest (ih rest m))
+    rw whole (some_rest-after (is_match pattern) front rest (ih rest m))
 test-from_fact false true c pattern text ih (first, rest, whole, m) = rw whole (ih rest m)
 test-from_fact false false c pattern text ih (rest, whole, m) =
     rw whole (and_from (c == c) (is_match pattern rest) (eq-eqb c c refl) (ih rest m))

@@ -131,17 +131,17 @@ cut_at-front byte (c ∷ front) back h =
 pub decimal-has_no : (byte a : ℕ) → 10 ≤ digit_value byte → a < 256 → list_any (λ c. c == byte) (decimal a) ≡ false
 decimal-has_no byte a other small = no_byte 10 byte (decimal a) other (decimal_is_IsNumeral a (omega arith)).0.1
 
-dot_behind : (a : ℕ) (rest : List ℕ) → a < 256 → cut_at (codes ".") (decimal a ++ 46 ∷ rest) ≡ Some (decimal a, rest)
-dot_behind a rest small = cut_at-front 46 (decimal a) rest (decimal-has_no 46 a (lit≤ tt) small)
+dot_after : (a : ℕ) (rest : List ℕ) → a < 256 → cut_at (codes ".") (decimal a ++ 46 ∷ rest) ≡ Some (decimal a, rest)
+dot_after a rest small = cut_at-front 46 (decimal a) rest (decimal-has_no 46 a (lit≤ tt) small)
 
 -- the octets of a dotted text
 pub octets_of-dotted : (octets : List ℕ) → AreOctets octets → octets_of (dotted octets) ≡ Some octets
 unfolding octets_of
 octets_of-dotted (a ∷ b ∷ c ∷ d ∷ []) (len, (ha, (hb, (hc, (hd, _))))) =
     rw (
-      dot_behind a (decimal b ++ 46 ∷ (decimal c ++ 46 ∷ decimal d)) ha,
-      dot_behind b (decimal c ++ 46 ∷ decimal d) hb,
-      dot_behind c (decimal d) hc,
+      dot_after a (decimal b ++ 46 ∷ (decimal c ++ 46 ∷ decimal d)) ha,
+      dot_after b (decimal c ++ 46 ∷ decimal d) hb,
+      dot_after c (decimal d) hc,
       octet_of-decimal a ha,
       octet_of-decimal b hb,
       octet_of-decimal c hc,

@@ -32,7 +32,7 @@ escaped text = flat_map escaped_byte text
 
 -- ---- lines, each of which ends with an LF
 
--- a word, with a space behind it, and what stands there
+-- a word, with a space after it, and what stands there
 unfoldable pub word_line : List ℕ → List ℕ → List ℕ
 word_line word said = word ++ said ++ codes "\n"
 

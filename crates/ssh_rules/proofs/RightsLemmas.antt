@@ -17,14 +17,14 @@ IsLast x b options = (before : List AuthOption) × (o : AuthOption) × (after : 
 abbrev Says : Right → Bool → Bool → List AuthOption → Type 0
 Says x said word options = ((word ≡ said) × IsSilent x options) ⊎ IsLast x word options
 
-behind : (x : Right) (o : AuthOption) (said word : Bool) (options : List AuthOption) → IsLast x word options → Says x said word (o ∷ options)
-behind x o said word options (before, p, after, whole, says, silent) = inr (o ∷ before, p, after, ap (λ l. o ∷ l) whole, says, silent)
+following : (x : Right) (o : AuthOption) (said word : Bool) (options : List AuthOption) → IsLast x word options → Says x said word (o ∷ options)
+following x o said word options (before, p, after, whole, says, silent) = inr (o ∷ before, p, after, ap (λ l. o ∷ l) whole, says, silent)
 
 says-step : (x : Right) (o : AuthOption) (said : Bool) (options : List AuthOption) (s : Option Bool) (word : Bool) → effect_on x o ≡ s
     → Says x (unwrap_or s said) word options → Says x said word (o ∷ options)
 says-step x o said options None word e (inl (same, silent)) = inl (same, (e, silent))
 says-step x o said options (Some b) word e (inl (same, silent)) = inr ([], o, options, refl, e ∙ ap (λ (w : Bool). Some w) (sym same), silent)
-says-step x o said options s word e (inr last) = behind x o said word options last
+says-step x o said options s word e (inr last) = following x o said word options last
 
 says : (x : Right) (said : Bool) (options : List AuthOption) → Says x said (last_word x said options) options
 says x said [] = inl (refl, tt)

@@ -143,7 +143,7 @@ fn command(
 }
 
 /// What a login by this line and this offer may do: the rights that the line leaves and a certificate
-/// gives, the forced command, and the texts that are carried on. `Err` is want of memory.
+/// gives, the forced command, and the texts that are carried on. `Err` is out of memory.
 #[tactic(auto, unfolding(crate::specs::Rights::rights_of))]
 pub fn rights_of(
     alloc: Global,

@@ -3,7 +3,7 @@ use Rattle.std.proofs.Common.{◌≡◌, ℕ, ◌+◌, ◌-◌, ◌<◌, true, f
 use Rattle.std.proofs.lemmas.Bool.{ne_eqb, eq-eqb}
 use Rattle.std.proofs.lemmas.List.{take_more, take_all}
 use Rattle.ssh_text.specs.Text.{without_last, ends_with, is_trailing, before_trailing, without_trailing}
-use Rattle.ssh_text.proofs.TextLemmas.{without_trailing-behind}
+use Rattle.ssh_text.proofs.TextLemmas.{without_trailing-after}
 
 abbrev last : List ℕ → ℕ
 last s = slice_index s (length s - 1)
@@ -17,16 +17,16 @@ last_cut s some =
     let one : length s - 1 + 1 ≡ length s = omega arith in
     sym (take_more s (length s - 1) 0 (omega arith)) ∙ ap (λ n. take n s) one ∙ take_all (length s) s (omega arith)
 
-without_last-behind : (b : ℕ) (front : List ℕ) (x : ℕ) (xs : List ℕ) → without_last b (front ++ x ∷ xs) ≡ front ++ without_last b (x ∷ xs)
-without_last-behind b [] x xs = refl
-without_last-behind b (c ∷ []) x xs = refl
-without_last-behind b (c ∷ d ∷ front) x xs = ap (λ s. c ∷ s) (without_last-behind b (d ∷ front) x xs)
+without_last-after : (b : ℕ) (front : List ℕ) (x : ℕ) (xs : List ℕ) → without_last b (front ++ x ∷ xs) ≡ front ++ without_last b (x ∷ xs)
+without_last-after b [] x xs = refl
+without_last-after b (c ∷ []) x xs = refl
+without_last-after b (c ∷ d ∷ front) x xs = ap (λ s. c ∷ s) (without_last-after b (d ∷ front) x xs)
 
 pub without_last-is : (b : ℕ) (s : List ℕ) → 0 < length s → last s ≡ b → front s ≡ without_last b s
 without_last-is b s some is =
     let test : (last s == b) ≡ true = eq-eqb (last s) b is in
     let one : without_last b (last s ∷ []) ≡ [] = rw test refl in
-    sym (ap (without_last b) (sym (last_cut s some)) ∙ without_last-behind b (front s) (last s) [] ∙ ap (λ t. front s ++ t) one ∙ append-nil (front s))
+    sym (ap (without_last b) (sym (last_cut s some)) ∙ without_last-after b (front s) (last s) [] ∙ ap (λ t. front s ++ t) one ∙ append-nil (front s))
 
 pub without_last-other : (b : ℕ) (s : List ℕ) → (last s ≡ b → ⊥) → s ≡ without_last b s
 without_last-other b [] other = refl
@@ -35,15 +35,15 @@ without_last-other b (c ∷ cs) other =
     let test : (last s == b) ≡ false = ne_eqb (last s) b other in
     let one : without_last b (last s ∷ []) ≡ last s ∷ [] = rw test refl in
     let cut = last_cut s (omega arith) in
-    sym (ap (without_last b) (sym cut) ∙ without_last-behind b (front s) (last s) [] ∙ ap (λ t. front s ++ t) one ∙ cut)
+    sym (ap (without_last b) (sym cut) ∙ without_last-after b (front s) (last s) [] ∙ ap (λ t. front s ++ t) one ∙ cut)
 
-ends_with-behind : (b : ℕ) (front : List ℕ) (x : ℕ) → ends_with b (front ++ x ∷ []) ≡ (x == b)
-ends_with-behind b [] x = refl
-ends_with-behind b (c ∷ []) x = refl
-ends_with-behind b (c ∷ d ∷ front) x = ends_with-behind b (d ∷ front) x
+ends_with-after : (b : ℕ) (front : List ℕ) (x : ℕ) → ends_with b (front ++ x ∷ []) ≡ (x == b)
+ends_with-after b [] x = refl
+ends_with-after b (c ∷ []) x = refl
+ends_with-after b (c ∷ d ∷ front) x = ends_with-after b (d ∷ front) x
 
 pub ends_with-last : (b : ℕ) (s : List ℕ) → 0 < length s → ends_with b s ≡ (last s == b)
-ends_with-last b s some = ap (ends_with b) (sym (last_cut s some)) ∙ ends_with-behind b (front s) (last s)
+ends_with-last b s some = ap (ends_with b) (sym (last_cut s some)) ∙ ends_with-after b (front s) (last s)
 
 stops : (s : List ℕ) (c : ℕ) → is_trailing c ≡ false → without_trailing (s ++ c ∷ []) ≡ s ++ c ∷ []
 stops [] c h = rw h refl
@@ -52,7 +52,7 @@ stops (d ∷ e ∷ s) c h = ap (before_trailing d) (stops (e ∷ s) c h)
 
 pub without_trailing-last : (s : List ℕ) → 0 < length s → is_trailing (last s) ≡ true → without_trailing (front s) ≡ without_trailing s
 without_trailing-last s some h =
-    sym (ap without_trailing (sym (last_cut s some)) ∙ without_trailing-behind (front s) (last s ∷ []) (h, tt))
+    sym (ap without_trailing (sym (last_cut s some)) ∙ without_trailing-after (front s) (last s ∷ []) (h, tt))
 
 pub without_trailing-other : (s : List ℕ) → 0 < length s → is_trailing (last s) ≡ false → s ≡ without_trailing s
 without_trailing-other s some h =

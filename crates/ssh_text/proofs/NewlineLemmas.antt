@@ -91,17 +91,17 @@ with_newlines-push (x ∷ lines) line =
     ap (λ s. x ++ 10 ∷ s) (with_newlines-push lines line) ∙ sym (append_assoc x (10 ∷ with_newlines lines) (line ++ 10 ∷ []))
 
 -- the lines of whole lines and a rest
-pub lines_of-behind : (before : List (List ℕ)) (rest : List ℕ) → AreFree before
+pub lines_of-after : (before : List (List ℕ)) (rest : List ℕ) → AreFree before
     → lines_of (with_newlines before ++ rest) ≡ before ++ lines_of rest
-lines_of-behind [] rest h = refl
-lines_of-behind (line ∷ before) rest h =
+lines_of-after [] rest h = refl
+lines_of-after (line ∷ before) rest h =
     ap lines_of (append_assoc line (10 ∷ with_newlines before) rest)
     ∙ lines_of-first line (with_newlines before ++ rest) h.0
-    ∙ ap (λ ls. line ∷ ls) (lines_of-behind before rest h.1)
+    ∙ ap (λ ls. line ∷ ls) (lines_of-after before rest h.1)
 
 pub lines_of-whole : (before : List (List ℕ)) → AreFree before → lines_of (with_newlines before) ≡ before
 lines_of-whole before h =
-    ap lines_of (sym (append-nil (with_newlines before))) ∙ lines_of-behind before [] h ∙ append-nil before
+    ap lines_of (sym (append-nil (with_newlines before))) ∙ lines_of-after before [] h ∙ append-nil before
 
 -- ---- what follows the last LF
 
@@ -109,19 +109,19 @@ unfinished-free : (bytes : List ℕ) → HasNoNewline bytes → unfinished bytes
 unfinished-free [] h = refl
 unfinished-free (c ∷ cs) h = let e = none-free (c ∷ cs) h in rw e refl
 
-has-behind : (line rest : List ℕ) → has_newline (line ++ 10 ∷ rest) ≡ true
-has-behind [] rest = refl
-has-behind (c ∷ line) rest = elim (cases_Bool (c == 10)) [ inl t ↦ rw t refl | inr t ↦ rw t (has-behind line rest) ]
+has-after : (line rest : List ℕ) → has_newline (line ++ 10 ∷ rest) ≡ true
+has-after [] rest = refl
+has-after (c ∷ line) rest = elim (cases_Bool (c == 10)) [ inl t ↦ rw t refl | inr t ↦ rw t (has-after line rest) ]
 
 unfinished-line : (line rest : List ℕ) → unfinished (line ++ 10 ∷ rest) ≡ unfinished rest
 unfinished-line [] rest = refl
-unfinished-line (c ∷ line) rest = let e = has-behind (c ∷ line) rest in rw e (unfinished-line line rest)
+unfinished-line (c ∷ line) rest = let e = has-after (c ∷ line) rest in rw e (unfinished-line line rest)
 
-pub unfinished-behind : (before : List (List ℕ)) (rest : List ℕ) → HasNoNewline rest → unfinished (with_newlines before ++ rest) ≡ rest
-unfinished-behind [] rest h = unfinished-free rest h
-unfinished-behind (line ∷ before) rest h =
+pub unfinished-after : (before : List (List ℕ)) (rest : List ℕ) → HasNoNewline rest → unfinished (with_newlines before ++ rest) ≡ rest
+unfinished-after [] rest h = unfinished-free rest h
+unfinished-after (line ∷ before) rest h =
     ap unfinished (append_assoc line (10 ∷ with_newlines before) rest)
-    ∙ unfinished-line line (with_newlines before ++ rest) ∙ unfinished-behind before rest h
+    ∙ unfinished-line line (with_newlines before ++ rest) ∙ unfinished-after before rest h
 
 -- ---- the lines that have their LF
 
@@ -147,22 +147,22 @@ count-line [] rest h =
     count-cons 10 rest ∙ one
 count-line (c ∷ line) rest h = count-other c (line ++ 10 ∷ rest) h.0 ∙ count-line line rest h.1
 
-count-behind : (before : List (List ℕ)) (rest : List ℕ) → AreFree before → HasNoNewline rest
+count-after : (before : List (List ℕ)) (rest : List ℕ) → AreFree before → HasNoNewline rest
     → count_by is_newline (with_newlines before ++ rest) ≡ length before
-count-behind [] rest h g = count-free rest g
-count-behind (line ∷ before) rest h g =
+count-after [] rest h g = count-free rest g
+count-after (line ∷ before) rest h g =
     ap (λ s. count_by is_newline s) (append_assoc line (10 ∷ with_newlines before) rest)
-    ∙ count-line line (with_newlines before ++ rest) h.0 ∙ ap suc (count-behind before rest h.1 g)
+    ∙ count-line line (with_newlines before ++ rest) h.0 ∙ ap suc (count-after before rest h.1 g)
 
 take-front : {X : Type 0} (xs ys : List X) → take (length xs) (xs ++ ys) ≡ xs
 take-front [] ys = refl
 take-front (x ∷ xs) ys = ap (λ s. x ∷ s) (take-front xs ys)
 
-pub whole_lines-behind : (before : List (List ℕ)) (rest : List ℕ) → AreFree before → HasNoNewline rest
+pub whole_lines-after : (before : List (List ℕ)) (rest : List ℕ) → AreFree before → HasNoNewline rest
     → whole_lines (with_newlines before ++ rest) ≡ before
-whole_lines-behind before rest h g =
-    ap (λ n. take n (lines_of (with_newlines before ++ rest))) (count-behind before rest h g)
-    ∙ ap (λ ls. take (length before) ls) (lines_of-behind before rest h) ∙ take-front before (lines_of rest)
+whole_lines-after before rest h g =
+    ap (λ n. take n (lines_of (with_newlines before ++ rest))) (count-after before rest h g)
+    ∙ ap (λ ls. take (length before) ls) (lines_of-after before rest h) ∙ take-front before (lines_of rest)
 
 -- ---- the last line
 

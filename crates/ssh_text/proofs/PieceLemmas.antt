@@ -9,7 +9,7 @@ use Rattle.ssh_text.specs.Scan.{HasNoNewline, has_newline, up_to_newline, after_
 use Rattle.ssh_text.specs.Pieces.{ComeOut, ComesLast, ComeOutOf}
 use Rattle.ssh_text.proofs.LineLemmas.{lines_of-last}
 use Rattle.ssh_text.proofs.ScanLemmas.{at-last}
-use Rattle.ssh_text.proofs.NewlineLemmas.{AreFree, AreFree-push, with_newlines-push, lines_of-behind, lines_of-whole, unfinished-behind, whole_lines-behind, free-front, free-none, free-append, up_to-found, length-push, get-last}
+use Rattle.ssh_text.proofs.NewlineLemmas.{AreFree, AreFree-push, with_newlines-push, lines_of-after, lines_of-whole, unfinished-after, whole_lines-after, free-front, free-none, free-append, up_to-found, length-push, get-last}
 
 -- ---- every list of bytes is whole lines and a rest
 
@@ -36,10 +36,10 @@ cut_of [] = record { before = []; rest = []; cut = tt; free = tt; whole = refl }
 cut_of (c ∷ cs) = step-cut c cs (c == 10) refl (cut_of cs)
 
 cut-whole_lines : (bytes : List ℕ) (k : Cut bytes) → whole_lines bytes ≡ k.before
-cut-whole_lines bytes k = ap whole_lines k.whole ∙ whole_lines-behind k.before k.rest k.cut k.free
+cut-whole_lines bytes k = ap whole_lines k.whole ∙ whole_lines-after k.before k.rest k.cut k.free
 
 cut-unfinished : (bytes : List ℕ) (k : Cut bytes) → unfinished bytes ≡ k.rest
-cut-unfinished bytes k = ap unfinished k.whole ∙ unfinished-behind k.before k.rest k.free
+cut-unfinished bytes k = ap unfinished k.whole ∙ unfinished-after k.before k.rest k.free
 
 -- ---- the last line among the numbered ones
 
@@ -99,7 +99,7 @@ all-whole used piece e =
     let free = AreFree-push k.before (k.rest ++ take (line_len piece) piece) k.cut (free-append k.rest _ k.free (free-front piece)) in
     let is = ends used piece k e in
     ap lines_of is ∙ lines_of-whole lines free
-    ∙ sym (ap whole_lines (is ∙ sym (append-nil (with_newlines lines))) ∙ whole_lines-behind lines [] free tt)
+    ∙ sym (ap whole_lines (is ∙ sym (append-nil (with_newlines lines))) ∙ whole_lines-after lines [] free tt)
 
 pub adds-one : (used piece : List ℕ) (number : ℕ) (line : List ℕ) → has_newline piece ≡ true → IsLastLine (used ++ up_to_newline piece) number line
     → numbered 1 (whole_lines (used ++ up_to_newline piece)) ≡ numbered 1 (whole_lines used) ++ (number, line) ∷ []
@@ -118,7 +118,7 @@ pub ends-none : (used : List ℕ) → unfinished used ≡ [] → lines_of used �
 ends-none used e =
     let k = cut_of used in
     let none : k.rest ≡ [] = sym (cut-unfinished used k) ∙ e in
-    ap lines_of k.whole ∙ lines_of-behind k.before k.rest k.cut ∙ ap (λ r. k.before ++ lines_of r) none ∙ append-nil k.before
+    ap lines_of k.whole ∙ lines_of-after k.before k.rest k.cut ∙ ap (λ r. k.before ++ lines_of r) none ∙ append-nil k.before
     ∙ sym (cut-whole_lines used k)
 
 pub ends-one : (used : List ℕ) (number : ℕ) (line : List ℕ) → 0 < length (unfinished used) → IsLastLine used number line
@@ -128,7 +128,7 @@ ends-one used number line some h =
     let rest = cut-unfinished used k in
     let more : k.rest ≢ [] = λ f. let n : length (unfinished used) ≡ 0 = ap (λ s. length s) (rest ∙ f) in absurd (omega arith) in
     let lines : lines_of used ≡ k.before ++ k.rest ∷ [] =
-    ap lines_of k.whole ∙ lines_of-behind k.before k.rest k.cut ∙ ap (λ ls. k.before ++ ls) (lines_of-last k.rest k.free more) in
+    ap lines_of k.whole ∙ lines_of-after k.before k.rest k.cut ∙ ap (λ ls. k.before ++ ls) (lines_of-last k.rest k.free more) in
     last-is used k.before k.rest number line lines h ∙ ap (λ ls. numbered 1 ls ++ (number, line) ∷ []) (sym (cut-whole_lines used k))
 
 -- ---- over pieces
@@ -201,7 +201,7 @@ some-last used (c ∷ cs) e =
     let rest : k.rest ≡ c ∷ cs = sym (cut-unfinished used k) ∙ e in
     let more : k.rest ≢ [] = λ f. let n : length (c ∷ cs) ≡ 0 = ap (λ s. length s) (sym rest ∙ f) in absurd (omega arith) in
     let lines : lines_of used ≡ k.before ++ k.rest ∷ [] =
-    ap lines_of k.whole ∙ lines_of-behind k.before k.rest k.cut ∙ ap (λ ls. k.before ++ ls) (lines_of-last k.rest k.free more) in
+    ap lines_of k.whole ∙ lines_of-after k.before k.rest k.cut ∙ ap (λ ls. k.before ++ ls) (lines_of-last k.rest k.free more) in
     let long : length (unfinished used) ≡ suc (length cs) = ap (λ s. length s) e in
     ((length k.before + 1, k.rest) ∷ [], (omega arith, at-last used (length k.before) k.before k.rest lines refl, refl))
 

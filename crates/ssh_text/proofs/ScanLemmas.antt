@@ -5,7 +5,7 @@ use Rattle.ssh_text.specs.Text.{lines_of, line_limit}
 use Rattle.ssh_text.specs.Kept.{Kept, Keeps, kept_count}
 use Rattle.ssh_text.specs.Scan.{Scan, IsScan, open_count, StandsFor, HasNoNewline, unfinished, with_newlines, IsLastLine}
 use Rattle.ssh_text.proofs.LineLemmas.{lines_of-last}
-use Rattle.ssh_text.proofs.NewlineLemmas.{AreFree-push, with_newlines-push, lines_of-behind, lines_of-whole, unfinished-behind, free-append, length-push, get-last}
+use Rattle.ssh_text.proofs.NewlineLemmas.{AreFree-push, with_newlines-push, lines_of-after, lines_of-whole, unfinished-after, free-append, length-push, get-last}
 
 abbrev pub ended_by : Bool → List ℕ → List ℕ
 ended_by b line = if b then line ++ 10 ∷ [] else line
@@ -64,14 +64,14 @@ counted-append s new n i e fits bounded few =
 -- what is left after the last LF
 pub unfinished-open : (s : Scan) (bytes : List ℕ) (h : StandsFor s bytes) → s.ended ≡ false → unfinished bytes ≡ h.line
 unfinished-open s bytes h e =
-    ap unfinished (h.whole ∙ ap (λ b. with_newlines h.before ++ ended_by b h.line) e) ∙ unfinished-behind h.before h.line h.free
+    ap unfinished (h.whole ∙ ap (λ b. with_newlines h.before ++ ended_by b h.line) e) ∙ unfinished-after h.before h.line h.free
 
 pub unfinished-ended : (s : Scan) (bytes : List ℕ) → StandsFor s bytes → s.ended ≡ true → unfinished bytes ≡ []
 unfinished-ended s bytes h e =
     let whole : bytes ≡ with_newlines (h.before ++ h.line ∷ []) ++ [] =
     h.whole ∙ ap (λ b. with_newlines h.before ++ ended_by b h.line) e
     ∙ sym (with_newlines-push h.before h.line) ∙ sym (append-nil (with_newlines (h.before ++ h.line ∷ []))) in
-    ap unfinished whole ∙ unfinished-behind (h.before ++ h.line ∷ []) [] tt
+    ap unfinished whole ∙ unfinished-after (h.before ++ h.line ∷ []) [] tt
 
 -- the lines where the scanner's line is one
 lines-ready : (s : Scan) (bytes : List ℕ) (h : StandsFor s bytes) (b : Bool) → s.ended ≡ b → (b ≡ false → 0 < length h.line)
@@ -81,7 +81,7 @@ lines-ready s bytes h true e some =
     ∙ lines_of-whole (h.before ++ h.line ∷ []) (AreFree-push h.before h.line h.cut h.free)
 lines-ready s bytes h false e some =
     ap lines_of (h.whole ∙ ap (λ b. with_newlines h.before ++ ended_by b h.line) e)
-    ∙ lines_of-behind h.before h.line h.cut
+    ∙ lines_of-after h.before h.line h.cut
     ∙ ap (λ ls. h.before ++ ls) (lines_of-last h.line h.free (λ f. let n : length h.line ≡ 0 = ap (λ l. length l) f in let p = some refl in absurd (omega arith)))
 
 ready-some : (s : Scan) (bytes : List ℕ) (h : StandsFor s bytes) → s.ready ≡ true → s.ended ≡ false → 0 < length h.line

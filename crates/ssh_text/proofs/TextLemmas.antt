@@ -9,9 +9,9 @@ abbrev pub ends_word : List ℕ → Bool
 ends_word [] = true
 ends_word (c ∷ cs) = is_blank c
 
-pub skip_blanks-behind : (gap rest : List ℕ) → AreBlanks gap → skip_blanks (gap ++ rest) ≡ skip_blanks rest
-skip_blanks-behind [] rest h = refl
-skip_blanks-behind (c ∷ gap) rest h = rw h.0 (skip_blanks-behind gap rest h.1)
+pub skip_blanks-after : (gap rest : List ℕ) → AreBlanks gap → skip_blanks (gap ++ rest) ≡ skip_blanks rest
+skip_blanks-after [] rest h = refl
+skip_blanks-after (c ∷ gap) rest h = rw h.0 (skip_blanks-after gap rest h.1)
 
 pub skip_blanks-at_word : (text : List ℕ) → begins_with_blank text ≡ false → skip_blanks text ≡ text
 skip_blanks-at_word [] h = refl
@@ -28,10 +28,10 @@ after_word-at [] (c ∷ cs) h e = rw e refl
 after_word-at (c ∷ word) rest h e = rw h.0 (after_word-at word rest h.1 e)
 
 -- a CR at the end of a rest that is not empty is one of the rest
-pub without_cr-behind : (front : List ℕ) (x : ℕ) (xs : List ℕ) → without_cr (front ++ x ∷ xs) ≡ front ++ without_cr (x ∷ xs)
-without_cr-behind [] x xs = refl
-without_cr-behind (c ∷ []) x xs = refl
-without_cr-behind (c ∷ d ∷ front) x xs = ap (λ s. c ∷ s) (without_cr-behind (d ∷ front) x xs)
+pub without_cr-after : (front : List ℕ) (x : ℕ) (xs : List ℕ) → without_cr (front ++ x ∷ xs) ≡ front ++ without_cr (x ∷ xs)
+without_cr-after [] x xs = refl
+without_cr-after (c ∷ []) x xs = refl
+without_cr-after (c ∷ d ∷ front) x xs = ap (λ s. c ∷ s) (without_cr-after (d ∷ front) x xs)
 
 abbrev pub AreTrailing : List ℕ → Type 0
 AreTrailing text = AllByRecursion (λ c. is_trailing c ≡ true) text
@@ -40,9 +40,9 @@ pub without_trailing-all : (text : List ℕ) → AreTrailing text → without_tr
 without_trailing-all [] h = refl
 without_trailing-all (c ∷ cs) h = rw (without_trailing-all cs h.1, h.0) refl
 
-pub without_trailing-behind : (text after : List ℕ) → AreTrailing after → without_trailing (text ++ after) ≡ without_trailing text
-without_trailing-behind [] after h = without_trailing-all after h
-without_trailing-behind (c ∷ cs) after h = ap (before_trailing c) (without_trailing-behind cs after h)
+pub without_trailing-after : (text after : List ℕ) → AreTrailing after → without_trailing (text ++ after) ≡ without_trailing text
+without_trailing-after [] after h = without_trailing-all after h
+without_trailing-after (c ∷ cs) after h = ap (before_trailing c) (without_trailing-after cs after h)
 
 AreTrailing-skip : (text : List ℕ) → AreTrailing text → AreTrailing (skip_blanks text)
 AreTrailing-skip [] h = tt
@@ -56,11 +56,11 @@ AreTrailing-skip (c ∷ cs) h =
 pub comment_of-at : (gap comment after : List ℕ) → AreBlanks gap → IsComment comment → AreTrailing after
     → comment_of (gap ++ comment ++ after) ≡ comment
 comment_of-at gap [] after g c a =
-    ap comment_of (append_assoc gap [] after) ∙ ap without_trailing (skip_blanks-behind gap after g) ∙ without_trailing-all (skip_blanks after) (AreTrailing-skip after a)
+    ap comment_of (append_assoc gap [] after) ∙ ap without_trailing (skip_blanks-after gap after g) ∙ without_trailing-all (skip_blanks after) (AreTrailing-skip after a)
 comment_of-at gap (x ∷ xs) after g c a =
     ap comment_of (append_assoc gap (x ∷ xs) after)
-    ∙ ap without_trailing (skip_blanks-behind gap ((x ∷ xs) ++ after) g ∙ skip_blanks-at_word ((x ∷ xs) ++ after) c.front)
-    ∙ without_trailing-behind (x ∷ xs) after a ∙ c.end
+    ∙ ap without_trailing (skip_blanks-after gap ((x ∷ xs) ++ after) g ∙ skip_blanks-at_word ((x ∷ xs) ++ after) c.front)
+    ∙ without_trailing-after (x ∷ xs) after a ∙ c.end
 
 -- one CR at the end counts for nothing after a comment
 pub without_trailing-cr : (text : List ℕ) → without_trailing (without_cr text) ≡ without_trailing text

@@ -1,4 +1,4 @@
--- What a login is answered, refusals and want of memory included.
+-- What a login is answered, refusals and out of memory included.
 use Rattle.std.specs.Prelude.{◌≡◌, ℕ, nat_lt, List, length, Result, Ok, Err, if◌then◌else◌, ⊤}
 use Rattle.ssh_trust.specs.declared.decision.Decision.{Decision}
 use Rattle.ssh_offers.specs.declared.error.AuditError.{AuditError}

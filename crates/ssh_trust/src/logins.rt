@@ -39,7 +39,7 @@ fn answer_claim(
 /// where a security key was touched and verified the user as the line and the certificate ask, and the
 /// evidence is among the vouched signatures; else denied, with the first cause. A later line is not
 /// tried. An offer is refused by `A1` to `A6` before any memory is taken, a file past the limit by
-/// `A7`, and want of memory is `A8`. The query's session and user have fewer than 2^32 bytes each.
+/// `A7`, and out of memory is `A8`. The query's session and user have fewer than 2^32 bytes each.
 pub fn login(
     alloc: Global,
     file: &[u8],
@@ -62,7 +62,7 @@ pub fn login(
 
 /// What a decision on this login rests on, whatever the file: the offered key's signature over the login
 /// bytes, and for a certificate its signer's over the signed part. An offer is refused as by `login`, and
-/// want of memory is `A8`.
+/// out of memory is `A8`.
 pub fn evidence_of_login(alloc: Global, query: &LoginQuery<'_>) -> Result<Items<Signed>, AuditError>
     requires session { length query.now.session.now < 2 ^ 32 }
     requires user { length query.now.user.now < 2 ^ 32 }

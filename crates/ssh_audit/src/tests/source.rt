@@ -2,7 +2,7 @@
 
 ghost use Rattle.std.specs.Prelude.{Some, None, refl, if◌then◌else◌, option_map, Option, List, ℕ};
 ghost use Rattle.std.specs.Str.{bytes_eq};
-ghost use Rattle.ssh_inputs.specs.Shelf.{Shelf, Chosen, nothing, standard_input, named_file, left_of};
+ghost use Rattle.ssh_inputs.specs.SourceState.{SourceState, Chosen, nothing, standard_input, named_file, left_of};
 ghost use Rattle.ssh_audit.specs.declared.tests.source.Place.TheVariants.{Nowhere, Input, File};
 
 use ssh_inputs::Files;
@@ -58,7 +58,7 @@ impl Read for OneFile<'_> {
 }
 
 impl Files for OneFile<'_> {
-    ghost shelf = { λ m. Some (record {
+    ghost source_state = { λ m. Some (record {
       named = λ name. if bytes_eq name m.name.now then Some m.bytes.now else None;
       input = m.input.now;
       chosen = elim m.place [ Nowhere ↦ nothing | Input ↦ standard_input | File ↦ named_file m.name.now m.left.now ];
@@ -129,7 +129,7 @@ impl Read for FailsAt<'_> {
 }
 
 impl Files for FailsAt<'_> {
-    ghost shelf = { λ m. Some (record {
+    ghost source_state = { λ m. Some (record {
       named = λ name. if bytes_eq name m.source.name.now then Some m.source.bytes.now else None;
       input = m.source.input.now;
       chosen = elim m.source.place [ Nowhere ↦ nothing | Input ↦ standard_input | File ↦ named_file m.source.name.now m.source.left.now ];

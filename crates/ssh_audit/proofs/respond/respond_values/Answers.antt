@@ -8,5 +8,5 @@ use Rattle.ssh_audit.proofs.respond.respond_values.Goals as goal
 pub returns : goal.returns
 returns g c =
     same_login response (texts_of c.args.words.now) _ (login_with (texts_of c.args.words.now) c.args.values.now)
-    (g.F.Files.shelf c.args.files.now) (g.F.Files.shelf c.respond_query.new.files) c.respond_query.result
+    (g.F.Files.source_state c.args.files.now) (g.F.Files.source_state c.respond_query.new.files) c.respond_query.result
     (search rules) c.respond_query.ensures

@@ -3,7 +3,7 @@ use Rattle.std.proofs.lemmas.Iterator.{YieldsList-from_slice}
 use Rattle.std.proofs.lemmas.Iterator.Consumers.{YieldsList-from_copied}
 use Rattle.std.proofs.lemmas.Iterator.Search.{find_from_yields_List}
 use Rattle.ssh_options.specs.OptionNames.{same_option, row_of}
-use Rattle.ssh_options.specs.OptionTexts.{row_said}
+use Rattle.ssh_options.specs.OptionTexts.{table_row}
 use Rattle.ssh_options.proofs.RowLemmas.{row-found, some_row}
 use Rattle.ssh_options.proofs.option.row_of.Goals as goal
 
@@ -17,4 +17,4 @@ pub returns : goal.returns
 unfolding row_of
 returns c =
     let found = find_from_yields_List (λ row. same_option row.1 c.args.option) _ _ c.find.result c.find.ensures.ran (YieldsList-from_copied (YieldsList-from_slice c.options.result.now cc)) (λ x b q k. search (rules, tests)) in
-    sym (row-found (λ row. same_option row.option c.args.option) c.options.result.now c.find.result c.options.ensures found) ∙ ap (option_map row_said) c.unwrap.ensures
+    sym (row-found (λ row. same_option row.option c.args.option) c.options.result.now c.find.result c.options.ensures found) ∙ ap (option_map table_row) c.unwrap.ensures

@@ -1,8 +1,8 @@
-use Rattle.ssh_options.proofs.ItemLemmas.{behind-none, cut-at_comma}
+use Rattle.ssh_options.proofs.ItemLemmas.{after-none, cut-at_comma}
 use Rattle.ssh_options.proofs.option_text.split_item.Goals as goal
 
 pub loop-i-init : goal.loop-i-init
-loop-i-init c = behind-none c.args.text.now
+loop-i-init c = after-none c.args.text.now
 
 pub returns-then-byte-eq44 : goal.returns-then-byte-eq44
 returns-then-byte-eq44 c =

@@ -1,4 +1,4 @@
-use Rattle.ssh_options.proofs.SaidLemmas.{said_options, said_each}
+use Rattle.ssh_options.proofs.InLineLemmas.{said_options, said_each}
 use Rattle.std.proofs.Common.{sym, ◌∙◌}
 use Rattle.ssh_options.proofs.options_view.OptionsView.read.Goals as goal
 

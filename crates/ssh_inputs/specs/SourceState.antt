@@ -9,7 +9,7 @@ pub data Chosen : Type 0 where
   -- a file: its name, and what is left of it
   named_file : List ℕ → List ℕ → Chosen
 
-pub record Shelf : Type 0 where
+pub record SourceState : Type 0 where
   -- the bytes of the file of a name, where there is one
   pub named : List ℕ → Option (List ℕ)
   -- what is left of standard input
@@ -33,11 +33,11 @@ open_file name None = nothing
 open_file name (Some bytes) = named_file name bytes
 
 -- the bytes that reads of the name give
-abbrev pub bytes_at : Shelf → List ℕ → Option (List ℕ)
+abbrev pub bytes_at : SourceState → List ℕ → Option (List ℕ)
 bytes_at s name = if bytes_eq name dash then Some s.input else s.named name
 
 -- the file of this name, from its start, or standard input from where it stood
-abbrev pub choosing : Shelf → List ℕ → Shelf
+abbrev pub choosing : SourceState → List ℕ → SourceState
 choosing s name = record s { chosen = if bytes_eq name dash then standard_input else open_file name (s.named name) }
 
 abbrev pub left_in : Chosen → List ℕ → List ℕ
@@ -46,11 +46,11 @@ left_in standard_input input = input
 left_in (named_file name bytes) input = bytes
 
 -- what reads of the chosen file have yet to give
-abbrev pub left_of : Shelf → List ℕ
+abbrev pub left_of : SourceState → List ℕ
 left_of s = left_in s.chosen s.input
 
 -- the chosen file is left with these bytes
-abbrev pub left_with : Chosen → Shelf → List ℕ → Shelf
+abbrev pub left_with : Chosen → SourceState → List ℕ → SourceState
 left_with nothing s bytes = s
 left_with standard_input s bytes = record s { input = bytes }
 left_with (named_file name old) s bytes = record s { chosen = named_file name bytes }
@@ -62,28 +62,28 @@ name_of standard_input = Some dash
 name_of (named_file name bytes) = Some name
 
 -- one more read has failed, of the chosen file
-abbrev pub with_failure : Shelf → Shelf
+abbrev pub with_failure : SourceState → SourceState
 with_failure s = record s { failures = min (s.failures + 1) most_failures; failed = name_of s.chosen }
 
 -- a read gave the n bytes at the front of `buf` and took them off the chosen file, none only at its end; or it failed, and was counted.
 -- Where nothing is chosen it fails
-abbrev pub Reads : {E : Type 0} → Shelf → Shelf → Result ℕ E → List ℕ → Type 0
+abbrev pub Reads : {E : Type 0} → SourceState → SourceState → Result ℕ E → List ℕ → Type 0
 Reads old new r buf = MatchResult r
     (λ n. (left_of old ≡ take n buf ++ left_of new) × (new ≡ left_with old.chosen old (left_of new))
     × (n ≡ 0 → 0 < length buf → left_of new ≡ []) × (old.chosen ≡ nothing → ⊥))
     (λ _. new ≡ with_failure old)
 
 -- the same, of a source that may not tell
-abbrev pub ReadsKnown : {E : Type 0} → Option Shelf → Option Shelf → Result ℕ E → List ℕ → Type 0
+abbrev pub ReadsKnown : {E : Type 0} → Option SourceState → Option SourceState → Result ℕ E → List ℕ → Type 0
 ReadsKnown None new r buf = ⊤
 ReadsKnown (Some s) None r buf = ⊥
 ReadsKnown (Some s) (Some t) r buf = Reads s t r buf
 
-abbrev pub ChoosesKnown : Option Shelf → Option Shelf → List ℕ → Type 0
+abbrev pub ChoosesKnown : Option SourceState → Option SourceState → List ℕ → Type 0
 ChoosesKnown None new name = ⊤
 ChoosesKnown (Some s) new name = new ≡ Some (choosing s name)
 
 -- a fact about a source that tells, and that can count one more failed read
-abbrev pub IfTells : Option Shelf → (Shelf → Type 0) → Type 0
+abbrev pub IfTells : Option SourceState → (SourceState → Type 0) → Type 0
 IfTells None P = ⊤
 IfTells (Some s) P = s.failures < most_failures → P s

@@ -6,11 +6,11 @@ use Rattle.ssh_options.specs.declared.cause.LineCause.TheVariants as causes
 use Rattle.ssh_options.specs.OptionText.{Item, items_of, item_of, each_item, option_of, repeats, has_bad_expiry, and_option, and_item, options_from, options_of}
 use Rattle.ssh_options.specs.OptionTexts.{AreCut, texts_left}
 use Rattle.ssh_options.specs.OptionsInPlace.{fault_in}
-use Rattle.ssh_options.specs.OptionsSaid.{option_at, each_option, or_none, options_in}
+use Rattle.ssh_options.specs.OptionsInLine.{option_at, each_option, or_none, options_in}
 use Rattle.ssh_options.proofs.ItemLemmas.{from_texts, from_texts_all, from_texts-next, from_texts-refused}
 
 -- the options of the items, after those before them
-record AreSaid (before options : List AuthOption) (texts : List (List ℕ)) : Type 0 where
+record AreInLine (before options : List AuthOption) (texts : List (List ℕ)) : Type 0 where
   rest : List AuthOption
   each : each_option texts ≡ Some rest
   whole : options ≡ before ++ rest
@@ -30,16 +30,16 @@ fault-texts cause (Some items) texts options e h = let f = rw (e, fault-stays ca
 joined : (before rest options : List AuthOption) (option : AuthOption) → options ≡ (before ++ option ∷ []) ++ rest → options ≡ before ++ option ∷ rest
 joined before rest options option h = h ∙ append_assoc before (option ∷ []) rest
 
-abbrev Said : List (List ℕ) → Type 0
-Said texts = (before options : List AuthOption) → Ok options ≡ from_texts (Ok before) texts → AreSaid before options texts
+abbrev InLine : List (List ℕ) → Type 0
+InLine texts = (before options : List AuthOption) → Ok options ≡ from_texts (Ok before) texts → AreInLine before options texts
 
-said-by : (again bad : Bool) (option : AuthOption) (item : Item) (text : List ℕ) (texts : List (List ℕ)) (before options : List AuthOption)
-    → Said texts → Ok option ≡ option_of item → Some item ≡ item_of text
+in_line-by : (again bad : Bool) (option : AuthOption) (item : Item) (text : List ℕ) (texts : List (List ℕ)) (before options : List AuthOption)
+    → InLine texts → Ok option ≡ option_of item → Some item ≡ item_of text
     → Ok options ≡ from_texts (cond again (Err causes.RepeatedOption) (cond bad (Err causes.ExpiryText) (Ok (before ++ option ∷ [])))) texts
-    → AreSaid before options (text ∷ texts)
-said-by true bad option item text texts before options more is read h = absurd (fault-texts causes.RepeatedOption (each_item texts) texts options refl h)
-said-by false true option item text texts before options more is read h = absurd (fault-texts causes.ExpiryText (each_item texts) texts options refl h)
-said-by false false option item text texts before options more is read h =
+    → AreInLine before options (text ∷ texts)
+in_line-by true bad option item text texts before options more is read h = absurd (fault-texts causes.RepeatedOption (each_item texts) texts options refl h)
+in_line-by false true option item text texts before options more is read h = absurd (fault-texts causes.ExpiryText (each_item texts) texts options refl h)
+in_line-by false false option item text texts before options more is read h =
     let later = more (before ++ option ∷ []) options h in
     record {
       rest = option ∷ later.rest;
@@ -47,23 +47,23 @@ said-by false false option item text texts before options more is read h =
       whole = joined before later.rest options option later.whole;
     }
 
-said-option : (said : Result AuthOption LineCause) (item : Item) (text : List ℕ) (texts : List (List ℕ)) (before options : List AuthOption)
-    → Said texts → said ≡ option_of item → Some item ≡ item_of text → Ok options ≡ from_texts (and_option before said) texts → AreSaid before options (text ∷ texts)
-said-option (Err cause) item text texts before options more is read h = absurd (fault-texts cause (each_item texts) texts options refl h)
-said-option (Ok option) item text texts before options more is read h =
-    said-by (repeats before option) (has_bad_expiry option) option item text texts before options more is read h
+in_line-option : (said : Result AuthOption LineCause) (item : Item) (text : List ℕ) (texts : List (List ℕ)) (before options : List AuthOption)
+    → InLine texts → said ≡ option_of item → Some item ≡ item_of text → Ok options ≡ from_texts (and_option before said) texts → AreInLine before options (text ∷ texts)
+in_line-option (Err cause) item text texts before options more is read h = absurd (fault-texts cause (each_item texts) texts options refl h)
+in_line-option (Ok option) item text texts before options more is read h =
+    in_line-by (repeats before option) (has_bad_expiry option) option item text texts before options more is read h
 
-said-item : (item : Option Item) (text : List ℕ) (texts : List (List ℕ)) (before options : List AuthOption)
-    → Said texts → item ≡ item_of text → Ok options ≡ from_texts (Ok before) (text ∷ texts) → AreSaid before options (text ∷ texts)
-said-item None text texts before options more read h =
+in_line-item : (item : Option Item) (text : List ℕ) (texts : List (List ℕ)) (before options : List AuthOption)
+    → InLine texts → item ≡ item_of text → Ok options ≡ from_texts (Ok before) (text ∷ texts) → AreInLine before options (text ∷ texts)
+in_line-item None text texts before options more read h =
     let f = from_texts-refused (Ok options) (Ok before) (text ∷ texts) texts text refl read h in cc
-said-item (Some item) text texts before options more read h =
-    said-option (option_of item) item text texts before options more refl read
+in_line-item (Some item) text texts before options more read h =
+    in_line-option (option_of item) item text texts before options more refl read
     (from_texts-next (Ok options) (Ok before) (and_item (Ok before) item) (text ∷ texts) texts text item refl read refl h)
 
-said-from : (texts : List (List ℕ)) → Said texts
-said-from [] before options h = record { rest = []; each = refl; whole = same-ok options before (Ok options) (Ok before) refl refl h ∙ sym (append-nil before) }
-said-from (text ∷ texts) before options h = said-item (item_of text) text texts before options (said-from texts) refl h
+in_line-from : (texts : List (List ℕ)) → InLine texts
+in_line-from [] before options h = record { rest = []; each = refl; whole = same-ok options before (Ok options) (Ok before) refl refl h ∙ sym (append-nil before) }
+in_line-from (text ∷ texts) before options h = in_line-item (item_of text) text texts before options (in_line-from texts) refl h
 
 no-fault : (options : Result (List AuthOption) LineCause) → None ≡ fault_in options → (kept : List AuthOption) × (options ≡ Ok kept)
 no-fault (Ok options) h = (options, refl)
@@ -72,7 +72,7 @@ no-fault (Err cause) h = cc
 found : (text : List ℕ) → None ≡ fault_in (options_of text) → (kept : List AuthOption) × (options_of text ≡ Ok kept) × (each_option (items_of false 0 text) ≡ Some kept)
 found text h =
     let kept = no-fault (options_of text) h in
-    let said = said-from (items_of false 0 text) [] kept.0 (sym kept.1 ∙ from_texts_all text) in
+    let said = in_line-from (items_of false 0 text) [] kept.0 (sym kept.1 ∙ from_texts_all text) in
     (kept.0, kept.1, said.each ∙ ap (λ o. Some o) (sym said.whole))
 
 -- a text without a fault says the options of its items

@@ -8,9 +8,9 @@ use Rattle.ssh_options.specs.declared.option_view.OptionView.TheVariants as view
 use Rattle.ssh_options.specs.OptionText.{item_of, option_of}
 
 -- an option in its line, by its name and its value
-abbrev pub option_said : OptionView → AuthOption
-option_said (views.Switch flag) = Switch flag
-option_said (views.Setting name value) = Setting name value
+abbrev pub option_in_line : OptionView → AuthOption
+option_in_line (views.Switch flag) = Switch flag
+option_in_line (views.Setting name value) = Setting name value
 
 -- the option of an item by itself, if it is one
 abbrev pub option_at : List ℕ → Option AuthOption
