@@ -10,7 +10,7 @@ use Rattle.ssh_options.specs.declared.cause.LineCause.{LineCause}
 use Rattle.ssh_options.specs.declared.cause.LineCause.TheVariants as causes
 use Rattle.ssh_options.specs.OptionNames.{same_value_name, row_of}
 use Rattle.ssh_options.specs.OptionText.{Item, items_of, item_of, each_item, has_setting, repeats, has_bad_expiry, option_of, and_option, and_item, options_from, options_of_items, options_of}
-use Rattle.ssh_options.specs.OptionsInPlace.{seen_of, none_seen, stood, with_name, and_seen, and_item_seen, fault_in}
+use Rattle.ssh_options.specs.OptionsInPlace.{seen_of, none_seen, stood, with_name, and_seen, and_read_seen, and_item_seen, fault_in}
 
 -- ---- what has stood
 
@@ -65,7 +65,7 @@ by-tests true bad options seen h = refl
 by-tests false true options seen h = refl
 by-tests false false options seen h = ap (λ s. Ok s) h
 
-option-seen : (before : List AuthOption) (said : Result AuthOption LineCause) → seen_in (and_option before said) ≡ and_seen (seen_of before) said
+option-seen : (before : List AuthOption) (said : Result AuthOption LineCause) → seen_in (and_option before said) ≡ and_read_seen (seen_of before) said
 option-seen before (Err cause) = refl
 option-seen before (Ok (Switch flag)) = ap (λ s. Ok s) (seen-flag flag before)
 option-seen before (Ok (Setting name value)) =

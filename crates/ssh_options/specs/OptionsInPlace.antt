@@ -65,13 +65,13 @@ and_seen seen (Setting name value) =
     else if has_bad_expiry (Setting name value) then Err causes.ExpiryText
     else Ok (with_name seen name)
 
-abbrev pub and_seen : Seen → Result AuthOption LineCause → Result Seen LineCause
-and_seen seen (Err cause) = Err cause
-and_seen seen (Ok option) = and_seen seen option
+abbrev pub and_read_seen : Seen → Result AuthOption LineCause → Result Seen LineCause
+and_read_seen seen (Err cause) = Err cause
+and_read_seen seen (Ok option) = and_seen seen option
 
 abbrev pub and_item_seen : Result Seen LineCause → Item → Result Seen LineCause
 and_item_seen (Err cause) item = Err cause
-and_item_seen (Ok seen) item = and_seen seen (option_of item)
+and_item_seen (Ok seen) item = and_read_seen seen (option_of item)
 
 -- the fault, where there is one
 abbrev pub fault_in : {A : Type 0} → Result A LineCause → Option LineCause

@@ -4,7 +4,7 @@ ghost use Rattle.std.specs.Prelude.{◌≡◌};
 ghost use Rattle.ssh_options.specs.OptionText.{option_of, options_of};
 ghost use Rattle.ssh_options.specs.OptionTexts.{plain_item};
 ghost use Rattle.ssh_options.specs.OptionsInLine.{option_in_line};
-ghost use Rattle.ssh_options.specs.OptionsInPlace.{and_seen, and_seen, and_item_seen, fault_in};
+ghost use Rattle.ssh_options.specs.OptionsInPlace.{and_read_seen, and_seen, and_item_seen, fault_in};
 
 use crate::cause::LineCause;
 use crate::option::ValueName;
@@ -74,7 +74,7 @@ fn and_seen(before: Seen, option: &OptionView<'_>) -> Result<Seen, LineCause>
 }
 
 fn with_item(before: Seen, item: ItemText<'_>) -> Result<Seen, LineCause>
-    ensures { result ≡ and_seen before (option_of (plain_item item.entry)) }
+    ensures { result ≡ and_read_seen before (option_of (plain_item item.entry)) }
 {
     match view_option(item) {
         Ok(option) => and_seen(before, &option),
