@@ -1,7 +1,7 @@
 //! A right of a login: what a line can take away, and a certificate has to give.
 
 ghost use Rattle.std.specs.Prelude.{◌≡◌};
-ghost use Rattle.ssh_lines.specs.OptionsSaid.{option_said};
+ghost use Rattle.ssh_lines.specs.OptionsInLine.{option_in_line};
 ghost use Rattle.ssh_offers.specs.OfferView.{offer_of};
 ghost use Rattle.ssh_rules.specs.Rights.{effect_on, has_right, is_on, permit_name, permits, turns_off, turns_on};
 
@@ -61,7 +61,7 @@ impl Right {
 
     /// Whether an option turns it on or off, if it does.
     fn effect(self, option: &OptionView<'_>) -> Option<bool>
-        ensures { result ≡ effect_on self (option_said option.now) }
+        ensures { result ≡ effect_on self (option_in_line option.now) }
     {
         match option {
             OptionView::Switch(flag) if *flag == self.turns_on() => Some(true),

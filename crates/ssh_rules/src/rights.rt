@@ -1,7 +1,7 @@
 //! What a login may do.
 
 ghost use Rattle.std.specs.Prelude.{◌≡◌, ◌++◌, IfOk, OnOk, option_copied};
-ghost use Rattle.ssh_lines.specs.OptionsSaid.{option_said};
+ghost use Rattle.ssh_lines.specs.OptionsInLine.{option_in_line};
 ghost use Rattle.ssh_lines.specs.Settings.{setting};
 ghost use Rattle.ssh_options.specs.declared.option.ValueName.TheVariants.{Command};
 ghost use Rattle.ssh_offers.specs.OfferView.{offer_of};
@@ -68,7 +68,7 @@ fn carry(
     carried: &mut Vec<Carried>,
     option: &OptionView<'_>,
 ) -> Result<(), AllocError>
-    ensures { OnOk result (carried.new.items ≡ carried.old.items ++ carried_of (option_said option.now)) }
+    ensures { OnOk result (carried.new.items ≡ carried.old.items ++ carried_of (option_in_line option.now)) }
 {
     if let OptionView::Setting(name, value) = option
         && let Some(name) = carried_name(*name)
