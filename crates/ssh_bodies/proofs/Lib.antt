@@ -1,0 +1,10 @@
+pub mod Steps
+pub mod Fields
+pub mod SshsigLaws
+pub mod SshsigFaults
+pub mod Written
+pub mod Rows
+pub mod Paddings
+pub mod PrivateKeyLaws
+pub mod PrivateLaws
+pub mod PrivateFaults

@@ -1,0 +1,35 @@
+-- Texts that are written one after the other.
+use Rattle.std.proofs.Common.{◌≡◌, ℕ, List, [], ◌++◌, Result, sym, ap, subst, ◌∙◌, append_assoc}
+use Rattle.std.specs.Prelude.{OnOk}
+use Rattle.std.proofs.lemmas.List.{append-nil}
+use Rattle.ssh_wire.specs.Spelling.{string, uint32}
+use Rattle.ssh_keys.specs.PublicKey.{key_blob}
+use Rattle.ssh_keys.specs.Signature.{signature_blob}
+use Rattle.ssh_bodies.specs.Sshsig.{Sshsig, sshsig_magic, hash_name, digest_of, sshsig_blob, signed_bytes}
+
+-- four texts after a first one
+four : (m a b c d o1 o2 o3 o4 : List ℕ) → o1 ≡ m ++ a → o2 ≡ o1 ++ b → o3 ≡ o2 ++ c → o4 ≡ o3 ++ d → o4 ≡ m ++ (a ++ (b ++ (c ++ d)))
+four m a b c d o1 o2 o3 o4 e1 e2 e3 e4 =
+    e4 ∙ ap (λ (t : List ℕ). t ++ d) (e3 ∙ ap (λ (t : List ℕ). t ++ c) (e2 ∙ ap (λ (t : List ℕ). t ++ b) e1))
+    ∙ append_assoc ((m ++ a) ++ b) c d ∙ append_assoc (m ++ a) b (c ++ d) ∙ append_assoc m a (b ++ (c ++ d))
+
+-- the bytes that are signed, as they are written
+pub signed_in_turn : (v : Sshsig) (message name o0 o1 o2 o3 o4 : List ℕ) → o0 ≡ sshsig_magic → o1 ≡ o0 ++ string v.namespace → o2 ≡ o1 ++ string v.reserved → name ≡ hash_name v.hash
+    → o3 ≡ o2 ++ string name → o4 ≡ o3 ++ string (digest_of v.hash message) → o4 ≡ signed_bytes v message
+unfolding signed_bytes
+signed_in_turn v message name o0 o1 o2 o3 o4 e0 e1 e2 named e3 e4 =
+    four sshsig_magic (string v.namespace) (string v.reserved) (string (hash_name v.hash)) (string (digest_of v.hash message)) o1 o2 o3 o4 (e1 ∙ ap (λ (t : List ℕ). t ++ string v.namespace) e0) e2
+    (e3 ∙ ap (λ (t : List ℕ). o2 ++ string t) named) e4
+
+-- the body of a file signature, as it is written
+pub wrote_sshsig : {E : Type 0} (r : Result (Unit {0}) E) (new old middle : List ℕ) (v : Sshsig) (key name signature : List ℕ) → middle ≡ old ++ sshsig_magic
+    → key ≡ key_blob v.key → name ≡ hash_name v.hash → signature ≡ signature_blob v.signature
+    → OnOk r (new ≡ middle ++ (uint32 1 ++ (string key ++ (string v.namespace ++ (string v.reserved ++ (string name ++ string signature)))))) → OnOk r (new ≡ old ++ sshsig_blob v)
+unfolding sshsig_blob
+wrote_sshsig r new old middle v key name signature begun is_key named is_signature h =
+    let row = λ (k n s : List ℕ). uint32 1 ++ (string k ++ (string v.namespace ++ (string v.reserved ++ (string n ++ s)))) in
+    let inner : row key name (string signature) ≡ row (key_blob v.key) (hash_name v.hash) (string (signature_blob v.signature) ++ []) =
+    ap (λ (k : List ℕ). row k name (string signature)) is_key ∙ ap (λ (n : List ℕ). row (key_blob v.key) n (string signature)) named
+    ∙ ap (λ (s : List ℕ). row (key_blob v.key) (hash_name v.hash) (string s)) is_signature ∙ ap (λ (s : List ℕ). row (key_blob v.key) (hash_name v.hash) s) (sym (append-nil (string (signature_blob v.signature)))) in
+    let whole = ap (λ (m : List ℕ). m ++ row key name (string signature)) begun ∙ append_assoc old sshsig_magic (row key name (string signature)) ∙ ap (λ (t : List ℕ). old ++ (sshsig_magic ++ t)) inner in
+    subst (λ (t : List ℕ). OnOk r (new ≡ t)) whole h

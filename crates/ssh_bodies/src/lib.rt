@@ -1,0 +1,29 @@
+//! Bodies of private keys that are not encrypted (PROTOCOL.key) and of file signatures
+//! (PROTOCOL.sshsig).
+#![tactic(auto)]
+
+mod error;
+mod hash;
+mod message;
+mod private;
+mod private_fields;
+mod private_section;
+mod private_view;
+mod private_writing;
+mod reading;
+mod sshsig;
+mod sshsig_view;
+mod sshsig_writing;
+#[cfg(test)]
+mod tests;
+
+pub use error::BodyError;
+pub use hash::HashName;
+pub use message::sshsig_message;
+pub use private::read_private;
+pub use private_fields::PrivateFields;
+pub use private_view::PrivateView;
+pub use private_writing::write_private;
+pub use sshsig::read_sshsig;
+pub use sshsig_view::SshsigView;
+pub use sshsig_writing::write_sshsig;

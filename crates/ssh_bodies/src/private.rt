@@ -1,0 +1,145 @@
+//! Reading private bodies.
+
+ghost use Rattle.std.specs.Prelude.{◌≡◌, IfOk, IfErr, IsOkAnd};
+ghost use Rattle.ssh_wire.specs.Position.{Position, start};
+ghost use Rattle.ssh_wire.specs.Reading.{Gives, Reads};
+ghost use Rattle.ssh_keys.specs.KeyOf.{key_of};
+ghost use Rattle.ssh_keys.specs.PublicKey.{key_blob};
+ghost use Rattle.ssh_bodies.specs.PrivateKey.{PrivateBody, IsPrivateBlob, private_magic};
+ghost use Rattle.ssh_bodies.specs.PrivateFault.{IsPrivateFault};
+ghost use Rattle.ssh_bodies.specs.PrivateOf.{private_body};
+ghost use Rattle.ssh_bodies.specs.PrivateReading.{not_encrypted_at, section_start, section_at, body_at, private_in};
+
+use crate::error::BodyError;
+use crate::private_section::{is_padding, take_private};
+use crate::private_view::PrivateView;
+use crate::reading::{take_end, take_key, take_magic};
+use ssh_keys::{KeyView, MAX_BLOB_LEN};
+use ssh_wire::Cursor;
+
+/// The bytes that a body begins with.
+pub(crate) const PRIVATE_MAGIC: &[u8] = b"openssh-key-v1\0";
+
+/// The name of no cipher, and of no key derivation.
+pub(crate) const NONE: &[u8] = b"none";
+
+/// No options of a key derivation.
+pub(crate) const NO_OPTIONS: &[u8] = b"";
+
+/// Takes the cipher, the key derivation and its options, which are to say that nothing is
+/// encrypted.
+#[tactic(auto, unfolding(crate::specs::PrivateReading::not_encrypted_at))]
+fn take_not_encrypted(cursor: &mut Cursor<'_>) -> Result<(), BodyError>
+    ensures { Reads (λ u. u) not_encrypted_at cursor.old result cursor.new }
+{
+    let cipher = cursor.take_string()?;
+    let kdf = cursor.take_string()?;
+    let options = cursor.take_string()?;
+    if cipher == NONE && kdf == NONE && options.is_empty() {
+        Ok(())
+    } else {
+        Err(BodyError::Encrypted)
+    }
+}
+
+/// Goes to the first byte of the last string's text.
+#[tactic(auto, unfolding(crate::specs::PrivateReading::section_start))]
+fn enter_section(cursor: &mut Cursor<'_>) -> Result<(), BodyError>
+    ensures { Reads (λ u. u) section_start cursor.old result cursor.new }
+{
+    let mut ahead = cursor.copy();
+    let text = ahead.take_string()?;
+    take_end(&ahead)?;
+    if text.len() % 8 != 0 {
+        return Err(BodyError::NotMultipleOfEight);
+    }
+    cursor.take_u32()?;
+    Ok(())
+}
+
+/// The private section, which is to be this public key's.
+#[tactic(auto, unfolding(crate::specs::PrivateReading::section_at))]
+fn section_fields<'a>(
+    public: KeyView<'a>,
+    public_blob: &'a [u8],
+    cursor: &mut Cursor<'a>,
+) -> Result<PrivateView<'a>, BodyError>
+    requires { public_blob.now ≡ key_blob (key_of public) }
+    ensures { Gives private_body result (section_at (key_of public.entry) cursor.old) }
+{
+    let whole = cursor.rest();
+    let check = cursor.take_u32()?;
+    if cursor.take_u32()? != check {
+        return Err(BodyError::CheckMismatch);
+    }
+    if cursor.take_string()? != public.kind().name() {
+        return Err(BodyError::PublicMismatch);
+    }
+    let (fields, is_public) = take_private(public.fields(), cursor)?;
+    if !is_public {
+        return Err(BodyError::PublicMismatch);
+    }
+    let comment = cursor.take_string()?;
+    let padding = cursor.rest();
+    if !is_padding(padding) {
+        return Err(BodyError::Padding);
+    }
+    let section = &whole[..whole.len() - padding.len()];
+    Ok(PrivateView {
+        check,
+        public,
+        public_blob,
+        fields,
+        comment,
+        section,
+    })
+}
+
+/// What a short private body holds.
+#[tactic(auto, unfolding(crate::specs::PrivateReading::body_at))]
+fn body_fields(body: &[u8]) -> Result<PrivateView<'_>, BodyError>
+    ensures { Gives private_body result (body_at (start body.now)) }
+{
+    let mut cursor = Cursor::new(body);
+    take_magic(PRIVATE_MAGIC, &mut cursor)?;
+    take_not_encrypted(&mut cursor)?;
+    if cursor.take_u32()? != 1 {
+        return Err(BodyError::KeyCount);
+    }
+    let (public, public_blob) = take_key(&mut cursor)?;
+    enter_section(&mut cursor)?;
+    let view = section_fields(public, public_blob, &mut cursor)?;
+    Ok(view)
+}
+
+#[tactic(auto, unfolding(crate::specs::PrivateReading::private_in))]
+fn private_within(bytes: &[u8]) -> Result<PrivateView<'_>, BodyError>
+    ensures { Gives private_body result (private_in bytes.now) }
+{
+    if bytes.len() > MAX_BLOB_LEN {
+        return Err(BodyError::TooLong);
+    }
+    body_fields(bytes)
+}
+
+/// The private key that a body holds, all of the bytes. The view borrows them and copies nothing.
+///
+/// The first fault is told: B14 before all others; B1; then B2, B3 and B11 of the fields before the
+/// private section, B13 for bytes after it, B6 for its length; in it B4 after the check numbers, B7
+/// after the type name and after the key's fields, and B5 for what follows the comment. A field
+/// that cannot be read is B12.
+pub fn read_private(bytes: &[u8]) -> Result<PrivateView<'_>, BodyError>
+    // What is read is a body of what is answered.
+    ensures found { IfOk result (λ view. IsPrivateBlob (private_body view) bytes.now) }
+    // A body, with any padding, is read as what it holds.
+    ensures only { (body : PrivateBody) → IsPrivateBlob body bytes.now → IsOkAnd result (λ view. private_body view ≡ body) }
+    // The first fault up to the private section, by the fields alone.
+    ensures first { IfErr result (IsPrivateFault bytes.now) }
+    // The same by reading from the left, in the private section too.
+    ensures exact { Gives private_body result (private_in bytes.now) }
+{
+    match private_within(bytes) {
+        Ok(view) => Ok(view),
+        Err(e) => Err(e),
+    }
+}

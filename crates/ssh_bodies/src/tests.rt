@@ -1,0 +1,226 @@
+//! What no clause says: values from outside, and that calls that take memory can succeed.
+
+use crate::{
+    BodyError, HashName, PrivateFields, read_private, read_sshsig, sshsig_message, write_private,
+    write_sshsig,
+};
+use ssh_wire::{WireCause, WireError};
+use std::test::Fail;
+
+/// A body of an Ed25519 key of 32 zero bytes with the seed of 32 zero bytes: the fields before the
+/// section.
+const HEAD: &[u8] =
+    b"openssh-key-v1\0\0\0\0\x04none\0\0\0\x04none\0\0\0\0\0\0\0\x01\0\0\0\x33\0\0\0\x0bssh-ed25519\0\0\0\x20\0\0\0\0\0\0\0\0\0\0\0\0\0\0\0\0\0\0\0\0\0\0\0\0\0\0\0\0\0\0\0\0";
+
+/// The private section of that body without its padding: check 1, and comment `abc`.
+const SECTION: &[u8] =
+    b"\0\0\0\x01\0\0\0\x01\0\0\0\x0bssh-ed25519\0\0\0\x20\0\0\0\0\0\0\0\0\0\0\0\0\0\0\0\0\0\0\0\0\0\0\0\0\0\0\0\0\0\0\0\0\0\0\0\x40\0\0\0\0\0\0\0\0\0\0\0\0\0\0\0\0\0\0\0\0\0\0\0\0\0\0\0\0\0\0\0\0\0\0\0\0\0\0\0\0\0\0\0\0\0\0\0\0\0\0\0\0\0\0\0\0\0\0\0\0\0\0\0\0\0\0\0\x03abc";
+
+/// A file signature of 111 bytes by the key of 32 zero bytes, for the namespace `file`.
+const SSHSIG: &[u8] =
+    b"SSHSIG\0\0\0\x01\0\0\0\x33\0\0\0\x0bssh-ed25519\0\0\0\x20\0\0\0\0\0\0\0\0\0\0\0\0\0\0\0\0\0\0\0\0\0\0\0\0\0\0\0\0\0\0\0\0\0\0\0\x04file\0\0\0\0\0\0\0\x06sha256\0\0\0\x14\0\0\0\x0bssh-ed25519\0\0\0\x01\xaa";
+
+/// The body of a key that `ssh-keygen -t ed25519 -C 'real key'` made.
+const REAL_BODY: &[u8] =
+    b"openssh-key-v1\x00\x00\x00\x00\x04none\x00\x00\x00\x04none\x00\x00\x00\x00\x00\x00\x00\x01\x00\x00\x003\x00\x00\x00\x0bssh-ed25519\x00\x00\x00 \xea2\xab,\xd8\xe1\x92#B)*\xf8x\xe71\xb7\x95\x99\xad\xb3t&\xd5)|\xbd\xaa\x00\xa5\xb5 7\x00\x00\x00\x90\x031i\xcb\x031i\xcb\x00\x00\x00\x0bssh-ed25519\x00\x00\x00 \xea2\xab,\xd8\xe1\x92#B)*\xf8x\xe71\xb7\x95\x99\xad\xb3t&\xd5)|\xbd\xaa\x00\xa5\xb5 7\x00\x00\x00@\x0a\xe8&0\xb2\xe5\x89\xf3\x1b[\xa4rww\x85\xf5z;\xf4\xc9\xf7\xfc=\x141-\x81\xa8\x1bI@C\xea2\xab,\xd8\xe1\x92#B)*\xf8x\xe71\xb7\x95\x99\xad\xb3t&\xd5)|\xbd\xaa\x00\xa5\xb5 7\x00\x00\x00\x08real key\x01\x02\x03\x04\x05";
+
+/// What `ssh-keygen -Y sign -n file` made of `abc` with that key.
+const REAL_SSHSIG: &[u8] =
+    b"SSHSIG\x00\x00\x00\x01\x00\x00\x003\x00\x00\x00\x0bssh-ed25519\x00\x00\x00 \xea2\xab,\xd8\xe1\x92#B)*\xf8x\xe71\xb7\x95\x99\xad\xb3t&\xd5)|\xbd\xaa\x00\xa5\xb5 7\x00\x00\x00\x04file\x00\x00\x00\x00\x00\x00\x00\x06sha512\x00\x00\x00S\x00\x00\x00\x0bssh-ed25519\x00\x00\x00@x\xcb\x91\x87\xb2\xd4\xf2\xa1P\xba\xce\xa9\x1e\x09K iXtU\xe53Po`Vm\x96\xb1\x03)\xef\xc3=\x09\xc2\x9c\xa1\x19\xf8\xc9\xd3\x84\x11\xeb\xb5Kg/xz\xf1\x9dV6\x8ac\x0f\xcb\xae9\xf8\xc9\x0a";
+
+fn short(place: usize) -> BodyError {
+    BodyError::Wire(WireError {
+        place,
+        cause: WireCause::Short,
+    })
+}
+
+/// A body with this section, of the length that it has with the bytes after it.
+fn body(rt: &HostRuntime, section: &[u8], padding: &[u8]) -> Result<Vec<u8>, Fail> {
+    let mut bytes = Vec::from_slice(rt.alloc(), HEAD)?;
+    let Ok(len) = u32::try_from(section.len() + padding.len()) else {
+        return Err(Fail::from("a section of fewer bytes"));
+    };
+    bytes.extend_from_slice(&len.to_be_bytes())?;
+    bytes.extend_from_slice(section)?;
+    bytes.extend_from_slice(padding)?;
+    Ok(bytes)
+}
+
+/// The same bytes with another one at a place.
+fn changed(rt: &HostRuntime, bytes: &[u8], place: usize, byte: u8) -> Result<Vec<u8>, Fail> {
+    let mut other = Vec::from_slice(rt.alloc(), bytes)?;
+    let Some(old) = other.get_mut(place) else {
+        return Err(Fail::from("a place inside the bytes"));
+    };
+    *old = byte;
+    Ok(other)
+}
+
+/// A private body and the first fault of each of its changes.
+#[test]
+fn refuses_private_bodies(rt: HostRuntime) -> Result<(), Fail> {
+    let good = body(&rt, SECTION, b"\x01\x02")?;
+    assert_eq!(rt; good.len(), 234);
+    let mut longer = Vec::from_slice(rt.alloc(), &good)?;
+    longer.push(0)?;
+    let mut cipher = Vec::from_slice(rt.alloc(), b"openssh-key-v1\0\0\0\0\x0aaes256-ctr")?;
+    cipher.extend_from_slice(&good[23..])?;
+    let rows = [
+        (longer, BodyError::Trailing),
+        (changed(&rt, &good, 38, 2)?, BodyError::KeyCount),
+        (changed(&rt, &good, 224, 1)?, BodyError::PublicMismatch),
+        (changed(&rt, &good, 105, 2)?, BodyError::CheckMismatch),
+        (body(&rt, SECTION, b"\x01\x03")?, BodyError::Padding),
+        (body(&rt, SECTION, b"")?, BodyError::NotMultipleOfEight),
+        (cipher, BodyError::Encrypted),
+    ];
+    for (bytes, want) in rows {
+        assert_eq!(rt; read_private(&bytes).map(|_| ()), Err(want));
+    }
+    Ok(())
+}
+
+/// A private body cut at each length.
+#[test]
+fn cuts_a_private_body(rt: HostRuntime) -> Result<(), Fail> {
+    let good = body(&rt, SECTION, b"\x01\x02")?;
+    for (n, _) in good.iter().enumerate() {
+        let want = match n {
+            0..15 => BodyError::Magic,
+            15..23 => short(15),
+            23..31 => short(23),
+            31..35 => short(31),
+            35..39 => short(35),
+            39..94 => short(39),
+            _ => short(94),
+        };
+        assert_eq!(rt; read_private(&good[..n]).map(|_| ()), Err(want), "at {n}");
+    }
+    Ok(())
+}
+
+/// A private section cut at each length, padded or not: its places count in the whole body.
+#[test]
+fn cuts_a_private_section(rt: HostRuntime) -> Result<(), Fail> {
+    for (n, _) in SECTION.iter().enumerate() {
+        let cut = body(&rt, &SECTION[..n], b"")?;
+        let want = match n {
+            _ if n % 8 != 0 => BodyError::NotMultipleOfEight,
+            0 => short(98),
+            8 | 16 => short(106),
+            24..57 => short(121),
+            64..125 => short(157),
+            _ => short(225),
+        };
+        assert_eq!(rt; read_private(&cut).map(|_| ()), Err(want), "at {n}");
+    }
+    Ok(())
+}
+
+/// A file signature and the first fault of each of its changes.
+#[test]
+fn refuses_file_signatures(rt: HostRuntime) -> Result<(), Fail> {
+    let mut longer = Vec::from_slice(rt.alloc(), SSHSIG)?;
+    longer.push(0)?;
+    let mut empty = Vec::from_slice(rt.alloc(), &SSHSIG[..65])?;
+    empty.extend_from_slice(b"\0\0\0\0")?;
+    empty.extend_from_slice(&SSHSIG[73..])?;
+    let mut sha1 = Vec::from_slice(rt.alloc(), &SSHSIG[..77])?;
+    sha1.extend_from_slice(b"\0\0\0\x04sha1")?;
+    sha1.extend_from_slice(&SSHSIG[87..])?;
+    let mut inner = Vec::from_slice(rt.alloc(), &SSHSIG[..87])?;
+    inner.extend_from_slice(b"\0\0\0\x13")?;
+    inner.extend_from_slice(&SSHSIG[91..110])?;
+    let rows = [
+        (longer, BodyError::Trailing),
+        (changed(&rt, SSHSIG, 9, 2)?, BodyError::Version),
+        (empty, BodyError::EmptyNamespace),
+        (sha1, BodyError::Hash),
+        (inner, short(106)),
+    ];
+    for (bytes, want) in rows {
+        assert_eq!(rt; read_sshsig(&bytes).map(|_| ()), Err(want));
+    }
+    for (n, _) in SSHSIG.iter().enumerate() {
+        let want = match n {
+            0..6 => BodyError::Magic,
+            6..10 => short(6),
+            10..65 => short(10),
+            65..73 => short(65),
+            73..77 => short(73),
+            77..87 => short(77),
+            _ => short(87),
+        };
+        assert_eq!(rt; read_sshsig(&SSHSIG[..n]).map(|_| ()), Err(want), "at {n}");
+    }
+    Ok(())
+}
+
+/// The longest bodies that are read, and one byte more.
+#[test]
+fn keeps_the_limit(rt: HostRuntime) -> Result<(), Fail> {
+    let long = vec![in rt.alloc(); 255; 262_145]?;
+    assert_eq!(rt; read_private(&long).map(|_| ()), Err(BodyError::TooLong));
+    assert_eq!(rt; read_sshsig(&long).map(|_| ()), Err(BodyError::TooLong));
+    assert_eq!(rt; read_private(&long[1..]).map(|_| ()), Err(BodyError::Magic));
+    assert_eq!(rt; read_sshsig(&long[1..]).map(|_| ()), Err(BodyError::Magic));
+    Ok(())
+}
+
+/// Bodies, read and written back.
+#[test]
+fn writes_what_was_read(rt: HostRuntime) -> Result<(), Fail> {
+    let good = body(&rt, SECTION, b"\x01\x02")?;
+    for bytes in [good.as_slice(), REAL_BODY] {
+        let mut out = Vec::new(rt.alloc());
+        write_private(&read_private(bytes)?, &mut out)?;
+        assert_eq!(rt; out.as_slice(), bytes);
+    }
+    for bytes in [SSHSIG, REAL_SSHSIG] {
+        let mut out = Vec::new(rt.alloc());
+        write_sshsig(&read_sshsig(bytes)?, &mut out)?;
+        assert_eq!(rt; out.as_slice(), bytes);
+    }
+    let padded = body(&rt, SECTION, b"\x01\x02\x03\x04\x05\x06\x07\x08\x09\x0a")?;
+    let mut out = Vec::new(rt.alloc());
+    write_private(&read_private(&padded)?, &mut out)?;
+    assert_eq!(rt; out.as_slice(), good.as_slice());
+    Ok(())
+}
+
+/// The bytes that are signed.
+#[test]
+fn tells_the_signed_bytes(rt: HostRuntime) -> Result<(), Fail> {
+    let view = read_sshsig(SSHSIG)?;
+    let signed = sshsig_message(rt.alloc(), &view, b"abc")?;
+    let wanted =
+        b"SSHSIG\0\0\0\x04file\0\0\0\0\0\0\0\x06sha256\0\0\0\x20\xba\x78\x16\xbf\x8f\x01\xcf\xea\x41\x41\x40\xde\x5d\xae\x22\x23\xb0\x03\x61\xa3\x96\x17\x7a\x9c\xb4\x10\xff\x61\xf2\x00\x15\xad";
+    assert_eq!(rt; signed.as_slice(), wanted.as_slice());
+    let real = read_sshsig(REAL_SSHSIG)?;
+    assert_eq!(rt; real.hash, HashName::Sha512);
+    assert_eq!(rt; real.hash.name(), b"sha512".as_slice());
+    let signed = sshsig_message(rt.alloc(), &real, b"abc")?;
+    assert_eq!(rt; signed.len(), 6 + 8 + 4 + 10 + 4 + 64);
+    Ok(())
+}
+
+/// No printed text of a private key holds its secrets.
+#[test]
+fn prints_no_secret(rt: HostRuntime) -> Result<(), Fail> {
+    let view = read_private(REAL_BODY)?;
+    assert_eq!(rt; view.comment, b"real key".as_slice());
+    let PrivateFields::Ed25519 { secret, .. } = view.fields else {
+        return Err(Fail::from("an Ed25519 key"));
+    };
+    let Some(seed) = secret.first_chunk::<32>() else {
+        return Err(Fail::from("a seed of 32 bytes"));
+    };
+    let shown = format!(in rt.alloc(); "{view:?} {:?}", view.fields)?;
+    assert!(rt; shown.contains("Ed25519"));
+    for pair in seed.windows(3) {
+        let listed = format!(in rt.alloc(); "{}, {}, {}", pair[0], pair[1], pair[2])?;
+        assert!(rt; !shown.contains(listed.as_str()));
+    }
+    Ok(())
+}
