@@ -1,0 +1,5 @@
+pub mod ByteLemmas
+pub mod DecodedBytes
+pub mod FieldLemmas
+pub mod HmacLemmas
+pub mod ListLemmas

@@ -1,0 +1,13 @@
+use Rattle.std.proofs.Common.{arith, bit_xor, get_or}
+use Rattle.std.proofs.lemmas.List.{get_or_default}
+use Rattle.std.proofs.lemmas.List.Edits.{map_over_more}
+use Rattle.ssh_names.proofs.HmacLemmas.{changed_length}
+use Rattle.ssh_names.proofs.hmac.xor_each.Goals as goal
+
+pub loop-at-preserved : goal.loop-at-preserved
+loop-at-preserved c =
+    let at = c.loop-at.at in
+    let old = get_or c.loop-at.mixed at 0 in
+    let long = changed_length (λ b. bit_xor b c.args.pad) c.args.block.now c.loop-at.mixed at c.loop-at.invariant in
+    map_over_more (λ b. bit_xor b c.args.pad) c.args.block.now c.loop-at.mixed at old (omega arith) c.loop-at.invariant
+    (get_or_default c.loop-at.mixed at 0 old (omega (arith, long)))

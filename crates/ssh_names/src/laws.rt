@@ -1,0 +1,17 @@
+//! Laws of the definitions, which callers cite.
+
+ghost use Rattle.std.specs.Prelude.{◌≡◌, ◌≢◌, ◌<◌, ℕ, List, [], Ok};
+ghost use Rattle.std.specs.List.{AllByRecursion};
+ghost use Rattle.ssh_names.specs.Names.{Names, SpellsNames, names_of};
+
+/// A field spells at most one list or hashed name, and says names exactly if it spells them; one
+/// that spells names is not empty.
+pub fn names_rule()
+    ensures one { (a b : Names) (field : List ℕ) →
+        SpellsNames a field → SpellsNames b field → a ≡ b }
+    ensures read { (names : Names) (field : List ℕ) →
+        SpellsNames names field → names_of field ≡ Ok names }
+    ensures spelled { (field : List ℕ) (names : Names) → AllByRecursion (λ c. c < 256) field →
+        names_of field ≡ Ok names → SpellsNames names field }
+    ensures some { (names : Names) (field : List ℕ) → SpellsNames names field → field ≢ [] }
+{}

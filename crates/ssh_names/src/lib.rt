@@ -1,0 +1,20 @@
+//! The names of known_hosts lines: those that hosts are looked up by, lists of patterns, and names
+//! that are hidden by a hash (sshd(8), SSH_KNOWN_HOSTS FILE FORMAT).
+#![tactic(auto)]
+
+mod fault;
+mod hashed;
+mod hmac;
+mod laws;
+mod lookup;
+mod names;
+mod samples;
+#[cfg(test)]
+mod tests;
+
+pub use fault::NamesFault;
+pub use hashed::hash_name;
+pub use hmac::hmac_sha1;
+pub use laws::names_rule;
+pub use lookup::lookup_name;
+pub use names::{HostNames, names_host, read_names};

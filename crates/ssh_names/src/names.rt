@@ -1,0 +1,126 @@
+//! The names of a known_hosts line, in place.
+
+ghost use Rattle.std.specs.Prelude.{◌≡◌, ◌↔◌, IsTrue, IfErr, IfOk, Ok};
+ghost use Rattle.ssh_patterns.specs.Lists.{item_of};
+ghost use Rattle.ssh_patterns.specs.Matching.{is_empty};
+ghost use Rattle.ssh_names.specs.Names.{IsNamesFault, Names, NamesHost, SpellsNames, begins_with_bar, has_empty_item, names_host, names_of, names_text};
+
+use crate::fault::NamesFault;
+use crate::hashed::{HashedName, read_hashed};
+use crate::hmac::hmac_sha1;
+use ssh_patterns::host_list;
+use std::marker::Model;
+
+/// The names of a line: a list of patterns, or one hashed name. Contracts see the list, or salt and
+/// hash.
+#[derive(Debug, Drop)]
+pub struct HostNames<'a> {
+    text: &'a [u8],
+    hashed: Option<HashedName>,
+}
+
+impl<'a> Model for HostNames<'a> {
+    ghost use Rattle.ssh_names.specs.Names.{Names, SpellsNames, said};
+
+    ghost Value = { Names };
+
+    ghost view = { λ n. said n.text.now n.hashed };
+
+    ghost invariant = { λ n. SpellsNames (said n.text.now n.hashed) n.text.now };
+}
+
+impl<'a> HostNames<'a> {
+    /// The names as they stand on the line.
+    pub fn text(&self) -> &'a [u8]
+        ensures spelled { SpellsNames self.now result.now }
+        ensures text { result.now ≡ names_text self.now }
+    {
+        self.text
+    }
+
+    /// The same names again.
+    pub fn again(&self) -> HostNames<'a>
+        ensures { result ≡ self.now }
+    {
+        HostNames {
+            text: self.text,
+            hashed: self.hashed,
+        }
+    }
+}
+
+/// The text begins with `|`, as hashed names do.
+fn begins_with_bar(text: &[u8]) -> bool
+    ensures { result ≡ begins_with_bar text.now }
+{
+    matches!(text, [b'|', ..])
+}
+
+/// The item of a piece is empty, as that of `!` is.
+fn is_empty_piece(piece: &[u8]) -> bool
+    ensures { result ≡ is_empty (item_of piece.now).text }
+{
+    match piece {
+        [b'!', item @ ..] => item.is_empty(),
+        _ => piece.is_empty(),
+    }
+}
+
+/// Some item of a list is empty.
+fn has_empty_item(list: &[u8]) -> bool
+    ensures { result ≡ has_empty_item list.now }
+{
+    list.split(|byte| *byte == b',').any(is_empty_piece)
+}
+
+/// The names of a field, or its fault.
+#[tactic(auto, unfolding(crate::specs::Names::names_of))]
+fn view_names(field: &[u8]) -> Result<HostNames<'_>, NamesFault>
+    ensures { result ≡ names_of field.now }
+{
+    if begins_with_bar(field) {
+        let Some(name) = read_hashed(field) else {
+            return Err(NamesFault::HashedName);
+        };
+        return Ok(HostNames {
+            text: field,
+            hashed: Some(name),
+        });
+    }
+    if has_empty_item(field) {
+        return Err(NamesFault::EmptyItem);
+    }
+    Ok(HostNames {
+        text: field,
+        hashed: None,
+    })
+}
+
+/// The names that a field of a known_hosts line spells: `|1|`, the base64 of a salt of 20 bytes, `|`
+/// and the base64 of a hash of 20 bytes, or a list of patterns with commas between them, which does
+/// not begin with `|` and of which no item is empty (sshd(8), SSH_KNOWN_HOSTS FILE FORMAT; the empty
+/// item is refused by this project's rule). No memory is taken.
+pub fn read_names(field: &[u8]) -> Result<HostNames<'_>, NamesFault>
+    // Names that are read are those that the field spells.
+    ensures found { IfOk result (λ names. SpellsNames names field.now) }
+    // Names that the field spells are the ones that are read.
+    ensures only { (names : Names) → SpellsNames names field.now → result ≡ Ok names }
+    // Else the field has this fault.
+    ensures fault { IfErr result (λ fault. IsNamesFault fault field.now) }
+    ensures exact { result ≡ names_of field.now }
+{
+    view_names(field)
+}
+
+/// Whether the names of a line name the host that is looked up by this name: a list permits the
+/// name, in ASCII lower case on both sides, or the hash is the name's HMAC-SHA1 under the salt
+/// (sshd(8), SSH_KNOWN_HOSTS FILE FORMAT). No memory is taken.
+pub fn names_host(names: &HostNames<'_>, name: &[u8]) -> bool
+    ensures rule { IsTrue result ↔ NamesHost names.now name.now }
+    ensures value { result ≡ names_host names.now name.now }
+{
+    match &names.hashed {
+        None => host_list(names.text, name),
+        Some(hashed) => hmac_sha1(&hashed.salt, name) == hashed.hash,
+    }
+}
