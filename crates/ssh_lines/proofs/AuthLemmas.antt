@@ -15,7 +15,9 @@ use Rattle.ssh_lines.specs.declared.entry.AuthLine.TheVariants.{Entry}
 use Rattle.ssh_text.specs.Text.{line_limit, is_blank, skip_blanks, first_word, without_cr, AreBlanks, begins_with_blank, IsComment, SpellsTail}
 use Rattle.ssh_options.specs.OptionNames.{row_named}
 use Rattle.ssh_options.specs.OptionText.{name_part, is_name_byte, option_text_of, SpellsItems, AreAllowed}
-use Rattle.ssh_lines.specs.AuthGrammar.{SpellsEntry, SpellsOptions, auth_line, line_of_body, entry_of, entry_of_key}
+use Rattle.ssh_lines.specs.declared.entry.AuthLine.{AuthLine}
+use Rattle.ssh_lines.specs.Front.{front_of_body}
+use Rattle.ssh_lines.specs.AuthGrammar.{SpellsEntry, SpellsOptions, auth_line, line_of_front, entry_of, entry_of_key}
 use Rattle.ssh_text.proofs.TextLemmas.{ends_word, gap-test, skip_blanks-after, skip_blanks-at_word, comment_of-cr, comment_of-tail}
 use Rattle.ssh_lines.proofs.KeyLemmas.{base64-no_cr, base64-some, spelling-some, name-no_blank, first_field-at, key_part-at, without_cr-at}
 use Rattle.ssh_options.proofs.OptionLemmas.{is_option_name, stops_name, AreNameBytes, BeginsWithName, begins-items, other_byte, plain-from_name_byte, name_part-at, text_of-items, options_of-spelled, quotable}
@@ -99,6 +101,10 @@ names-no_type text b =
 abbrev begins_comment : List ℕ → Bool
 begins_comment [] = true
 begins_comment (c ∷ cs) = c == 35
+
+-- what a body says
+abbrev line_of_body : List ℕ → AuthLine
+line_of_body body = line_of_front (front_of_body body)
 
 line_of_body-at : (body : List ℕ) → begins_comment body ≡ false → line_of_body body ≡ entry_of body
 line_of_body-at [] h = cc

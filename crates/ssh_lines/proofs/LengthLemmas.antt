@@ -53,3 +53,9 @@ length_body b text =
     let h = length-skip (without_last b text) in
     let k = length-last b text in
     omega arith
+
+pub length-next : (text : List ℕ) → length (next_field text) ≤ length text
+length-next text =
+    let a = length-after text in
+    let b = length-skip (after_word text) in
+    omega arith

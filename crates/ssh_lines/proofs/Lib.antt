@@ -1,8 +1,12 @@
-pub mod ByteLemmas
 pub mod KeyNames
-pub mod DecodedBytes
 pub mod KeyLemmas
 pub mod AuthLemmas
 pub mod ReadKey
 pub mod ReadAuth
 pub mod LengthLemmas
+pub mod FrontLemmas
+pub mod FieldLemmas
+pub mod MarkerLemmas
+pub mod ReadKnown
+pub mod RevokedLemmas
+pub mod KnownFaultLemmas

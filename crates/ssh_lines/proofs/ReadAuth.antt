@@ -1,19 +1,19 @@
 -- A line that is read as an entry spells it.
-use Rattle.std.proofs.Common.{◌≡◌, ℕ, ◌≤◌, nat_lt, Bool, true, false, ◌==◌, if◌then◌else◌, List, [], ◌∷◌, ◌++◌, length, drop, bytes_eq, Result, Ok, Err, refl, sym, ap, subst, ◌∙◌, append_assoc}
-use Rattle.std.proofs.lemmas.Bool.{ltb-false}
+use Rattle.std.proofs.Common.{◌≡◌, ℕ, ◌≤◌, Bool, true, false, if◌then◌else◌, List, [], ◌∷◌, ◌++◌, length, drop, bytes_eq, Result, Ok, Err, refl, sym, ap, subst, ◌∙◌, append_assoc}
 use Rattle.ssh_options.specs.declared.cause.LineCause.{LineCause}
-use Rattle.ssh_options.specs.declared.cause.LineCause.TheVariants as causes
 use Rattle.ssh_options.specs.declared.option.AuthOption.{AuthOption}
 use Rattle.ssh_lines.specs.declared.entry.AuthEntry.{AuthEntry}
-use Rattle.ssh_lines.specs.declared.entry.AuthLine.TheVariants.{Comment, Entry, Unreadable}
+use Rattle.ssh_lines.specs.declared.entry.AuthLine.TheVariants.{Entry}
 use Rattle.ssh_text.specs.Text.{line_limit, body_of, skip_blanks, without_cr, AreBlanks}
 use Rattle.ssh_options.specs.OptionText.{SpellsItems, AreAllowed, option_text_of, options_of}
 use Rattle.ssh_lines.specs.declared.key_part.KeyPart.{KeyPart}
 use Rattle.ssh_lines.specs.KeyPart.{SpellsKey, begins_with_type, key_part_of}
-use Rattle.ssh_lines.specs.AuthGrammar.{SpellsEntry, SpellsOptions, auth_line, line_of_body, entry_of, entry_of_key, entry_after_options}
+use Rattle.ssh_lines.specs.Front.{LineFront, past_limit, empty, remark, fields, front_of}
+use Rattle.ssh_lines.specs.AuthGrammar.{SpellsEntry, SpellsOptions, auth_line, line_of_front, entry_of, entry_of_key, entry_after_options}
 use Rattle.ssh_text.proofs.TextLemmas.{ends_word, gap-differs}
 use Rattle.ssh_text.proofs.ReadText.{skipped, skip_blanks-begins, cr_cut, IsCr}
-use Rattle.ssh_lines.proofs.ByteLemmas.{AreBytes, AreBytes-front, AreBytes-back}
+use Rattle.ssh_names.proofs.ByteLemmas.{AreBytes, AreBytes-front, AreBytes-back}
+use Rattle.ssh_lines.proofs.FrontLemmas.{front-fields}
 use Rattle.ssh_lines.proofs.ReadKey.{gap-some, key_part-facts, key_part-spells}
 use Rattle.ssh_options.proofs.ReadOptions.{ReadOptions, read_options, text_cut}
 
@@ -87,19 +87,12 @@ entry-by body cr entry true bytes is h =
 entry-by body cr entry false bytes is h =
     options-by body cr entry (options_of (option_text_of false 0 body)) bytes is refl h
 
-comment-by : (comment : Bool) (c : ℕ) (cs : List ℕ) (entry : AuthEntry) → (if comment then Comment else entry_of (c ∷ cs)) ≡ Entry entry → entry_of (c ∷ cs) ≡ Entry entry
-comment-by true c cs entry h = cc
-comment-by false c cs entry h = h
-
-body-reads : (body : List ℕ) (entry : AuthEntry) → line_of_body body ≡ Entry entry → entry_of body ≡ Entry entry
-body-reads [] entry h = cc
-body-reads (c ∷ cs) entry h = comment-by (c == 35) c cs entry h
-
-limit-by : (line : List ℕ) (entry : AuthEntry) (long : Bool) → nat_lt line_limit (length line) ≡ long
-    → (if long then Unreadable causes.TooLong else line_of_body (body_of line)) ≡ Entry entry
+front-by : (line : List ℕ) (entry : AuthEntry) (front : LineFront) → front_of line ≡ front → line_of_front front ≡ Entry entry
     → (length line ≤ line_limit) × (entry_of (body_of line) ≡ Entry entry)
-limit-by line entry true l h = cc
-limit-by line entry false l h = (ltb-false line_limit (length line) l, body-reads (body_of line) entry h)
+front-by line entry past_limit f h = cc
+front-by line entry empty f h = cc
+front-by line entry remark f h = cc
+front-by line entry (fields body) f h = let front = front-fields line body f in (front.short, ap entry_of front.is ∙ h)
 
 spells-line : (line : List ℕ) (entry : AuthEntry) (gap cr : List ℕ) → length line ≤ line_limit → AreBlanks gap
     → line ≡ gap ++ (body_of line ++ cr) → SpellsBody entry (body_of line ++ cr) → SpellsEntry entry line
@@ -113,7 +106,7 @@ unfolding auth_line
 auth_line-spells line entry bytes h =
     let cut = cr_cut line in
     let skip = skipped (without_cr line) in
-    let read = limit-by line entry (nat_lt line_limit (length line)) refl h in
+    let read = front-by line entry (front_of line) refl h in
     let whole : line ≡ skip.gap ++ (body_of line ++ cut.cr) = cut.whole ∙ ap (λ t. t ++ cut.cr) skip.whole ∙ append_assoc skip.gap (body_of line) cut.cr in
     let body : AreBytes (body_of line) =
     AreBytes-front (body_of line) cut.cr (AreBytes-back skip.gap (body_of line ++ cut.cr) (subst AreBytes whole bytes)) in

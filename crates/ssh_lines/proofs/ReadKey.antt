@@ -17,11 +17,11 @@ use Rattle.ssh_text.specs.Text.{first_word, after_word, next_field, comment_of, 
 use Rattle.ssh_lines.specs.declared.key_part.KeyPart.{KeyPart}
 use Rattle.ssh_lines.specs.KeyPart.{base64, is_empty, lacks_key, SpellsKey, key_by_class, key_of_blob, key_of_kind, key_after_fields, key_part_of}
 use Rattle.ssh_keys.specs.KeyLaws.{key_takes}
-use Rattle.ssh_lines.proofs.DecodedBytes.{decoded-bytes}
+use Rattle.ssh_names.proofs.DecodedBytes.{decoded-bytes}
 use Rattle.ssh_lines.proofs.KeyNames.{plain-name}
 use Rattle.ssh_text.proofs.TextLemmas.{ends_word, gap-differs}
 use Rattle.ssh_text.proofs.ReadText.{skipped, skip_blanks-begins, word-cut, after_word-ends, IsCr, spells-tail, comment_of-is}
-use Rattle.ssh_lines.proofs.ByteLemmas.{AreBytes, IsBytes-from_all, AreBytes-front, AreBytes-back}
+use Rattle.ssh_names.proofs.ByteLemmas.{AreBytes, IsBytes-from_all, AreBytes-front, AreBytes-back}
 
 -- what is known where a key part is read
 pub record KeyFacts (word field rest : List ℕ) (part : KeyPart) : Type 0 where

@@ -7,10 +7,10 @@ ghost use Rattle.ssh_lines.specs.Fault.{SaysEntry};
 
 use crate::entry::{AuthEntry, AuthLine};
 use crate::fault::Fault;
+use crate::front::{Front, front_of};
 use crate::line_view::view_entry;
 use base64::decoded_len_estimate;
 use ssh_options::LineCause;
-use ssh_text::{LINE_LIMIT, skip_blanks, without_last};
 use std::alloc::{AllocError, Global};
 
 /// The entry of a line that is neither blank nor a comment, without the blanks at its front.
@@ -27,14 +27,11 @@ fn entry_in(alloc: Global, body: &[u8]) -> Result<AuthEntry, Fault>
 fn read_line(alloc: Global, line: &[u8]) -> Result<AuthLine, AllocError>
     ensures { IfOk result (λ read. read ≡ auth_line line.now) }
 {
-    if line.len() > LINE_LIMIT {
-        return Ok(AuthLine::Unreadable(LineCause::TooLong));
-    }
-    let body = skip_blanks(without_last(b'\r', line));
-    match body {
-        [] => Ok(AuthLine::Blank),
-        [b'#', ..] => Ok(AuthLine::Comment),
-        _ => match entry_in(alloc, body) {
+    match front_of(line) {
+        Front::TooLong => Ok(AuthLine::Unreadable(LineCause::TooLong)),
+        Front::Blank => Ok(AuthLine::Blank),
+        Front::Comment => Ok(AuthLine::Comment),
+        Front::Fields(body) => match entry_in(alloc, body) {
             Ok(entry) => Ok(AuthLine::Entry(entry)),
             Err(Fault::Cause(cause)) => Ok(AuthLine::Unreadable(cause)),
             Err(Fault::Memory) => Err(AllocError),

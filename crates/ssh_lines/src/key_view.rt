@@ -1,12 +1,14 @@
 //! Key type, base64 key and comment of a line, in place.
 
-ghost use Rattle.std.specs.Prelude.{◌≡◌, ◌≤◌, length, IfOk};
+ghost use Rattle.std.specs.Prelude.{◌≡◌, ◌≤◌, true, false, length, IfOk, IfErr};
 ghost use Rattle.base64.specs.Decode.{decoded_estimate};
 ghost use Rattle.ssh_wire.specs.Reading.{Gives};
 ghost use Rattle.ssh_keys.specs.KeyOf.{key_of};
 ghost use Rattle.ssh_keys.specs.KeyReading.{key_in};
 ghost use Rattle.ssh_keys.specs.PublicKey.{key_blob};
-ghost use Rattle.ssh_lines.specs.KeyPart.{key_of_kind, key_by_class, key_part_of};
+ghost use Rattle.ssh_options.specs.declared.cause.LineCause.TheVariants.{NoKey};
+ghost use Rattle.ssh_text.specs.Text.{after_word, first_word, next_field};
+ghost use Rattle.ssh_lines.specs.KeyPart.{key_of_kind, key_by_class, key_part_of, lacks_key};
 
 use crate::blob::decode_into;
 use crate::key_line::split_fields;
@@ -90,7 +92,7 @@ fn key_in_blob<'a>(
 }
 
 /// The key of a base64 field, decoded into the buffer.
-fn key_in_field<'a>(
+pub(crate) fn key_in_field<'a>(
     class: NameClass,
     field: &[u8],
     rest: &'a [u8],
@@ -111,6 +113,22 @@ fn key_in_field<'a>(
     }
 }
 
+/// The type and the base64 at the front of a text, which are both there, and what follows them.
+pub(crate) fn key_fields(text: &[u8]) -> Result<(&[u8], &[u8], &[u8]), LineCause>
+    ensures type_name { IfOk result (λ f. f.0.now ≡ first_word text.now) }
+    ensures base64 { IfOk result (λ f. f.1.now ≡ first_word (next_field text.now)) }
+    ensures rest { IfOk result (λ f. f.2.now ≡ after_word (next_field text.now)) }
+    ensures there { IfOk result (λ f. lacks_key text.now ≡ false) }
+    ensures missing { IfErr result (λ cause. lacks_key text.now ≡ true) }
+    ensures cause { IfErr result (λ cause. cause ≡ NoKey) }
+{
+    let (word, field, rest) = split_fields(text);
+    if word.is_empty() || field.is_empty() {
+        return Err(LineCause::NoKey);
+    }
+    Ok((word, field, rest))
+}
+
 /// The key and the comment that a text spells, or its first fault. The key is decoded into the
 /// buffer.
 #[tactic(auto, unfolding(crate::specs::KeyPart::key_part_of), using(crate::proofs::LengthLemmas::length_field))]
@@ -121,9 +139,6 @@ pub(crate) fn view_key_part<'a>(
     requires { decoded_estimate (length text.now) ≤ length buffer.old }
     ensures { Gives (λ p. p) result (key_part_of text.entry.now) }
 {
-    let (word, field, rest) = split_fields(text);
-    if word.is_empty() || field.is_empty() {
-        return Err(LineCause::NoKey);
-    }
+    let (word, field, rest) = key_fields(text)?;
     key_in_field(name_class(word), field, rest, buffer)
 }

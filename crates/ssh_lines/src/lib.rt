@@ -1,4 +1,4 @@
-//! The lines of authorized_keys files.
+//! The lines of authorized_keys and known_hosts files.
 #![tactic(auto)]
 
 mod auth_line;
@@ -6,12 +6,21 @@ mod auth_view;
 mod blob;
 mod entry;
 mod fault;
+mod front;
 mod key_buffer;
 mod key_line;
 mod key_part;
 mod key_view;
+mod known;
+mod known_line;
+mod known_line_view;
+mod known_names;
+#[cfg(test)]
+mod known_tests;
+mod known_view;
 mod laws;
 mod line_view;
+mod marker;
 mod samples;
 #[cfg(test)]
 mod tests;
@@ -21,9 +30,18 @@ pub use auth_view::AuthEntryView;
 pub use entry::{AuthEntry, AuthLine};
 pub use key_buffer::KeyBuffer;
 pub use key_line::{KeyText, key_text};
-pub use laws::entry_rule;
+pub use known::{KnownEntry, KnownLine};
+pub use known_line::read_known_line;
+pub use known_line_view::{KnownLineView, read_known_view};
+pub use known_names::KnownNames;
+pub use known_view::KnownEntryView;
+pub use laws::{entry_rule, known_rule};
 pub use line_view::{AuthLineView, read_auth_view};
+pub use marker::Marker;
 pub use ssh_expiry::{epoch, expiry};
+pub use ssh_names::{
+    HostNames, NamesFault, hash_name, hmac_sha1, lookup_name, names_host, names_rule, read_names,
+};
 pub use ssh_options::{
     AuthOption, Flag, LineCause, OptionView, Options, OptionsView, SettingViews, Settings,
     ValueBytes, ValueName, ValueView,

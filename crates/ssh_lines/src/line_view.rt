@@ -10,11 +10,12 @@ ghost use Rattle.ssh_lines.specs.KeyPart.{key_part_of};
 ghost use Rattle.ssh_lines.specs.LineView.{SaysView, line_seen};
 
 use crate::auth_view::AuthEntryView;
+use crate::front::{Front, front_of};
 use crate::key_buffer::KeyBuffer;
 use crate::key_part::begins_with_type;
 use crate::key_view::view_key_part;
 use ssh_options::{LineCause, OptionsView, split_option_text};
-use ssh_text::{LINE_LIMIT, skip_blanks, without_last};
+use ssh_text::skip_blanks;
 
 /// What a line of an authorized_keys file says, in the line.
 #[derive(Debug, Drop)]
@@ -59,14 +60,11 @@ fn view_line<'a>(line: &'a [u8], buffer: &'a mut [u8]) -> AuthLineView<'a>
     requires { 49152 ≤ length buffer.old }
     ensures { line_seen result ≡ auth_line line.entry.now }
 {
-    if line.len() > LINE_LIMIT {
-        return AuthLineView::Unreadable(LineCause::TooLong);
-    }
-    let body = skip_blanks(without_last(b'\r', line));
-    match body {
-        [] => AuthLineView::Blank,
-        [b'#', ..] => AuthLineView::Comment,
-        _ => match view_entry(body, buffer) {
+    match front_of(line) {
+        Front::TooLong => AuthLineView::Unreadable(LineCause::TooLong),
+        Front::Blank => AuthLineView::Blank,
+        Front::Comment => AuthLineView::Comment,
+        Front::Fields(body) => match view_entry(body, buffer) {
             Ok(entry) => AuthLineView::Entry(entry),
             Err(cause) => AuthLineView::Unreadable(cause),
         },

@@ -1,6 +1,7 @@
 //! Worked examples of the definitions. No call needs these functions: the check proves what they
 //! ensure.
 
+ghost use Rattle.ssh_lines.specs.KnownSamples.{KnownSamplesRead, KnownFaultsRead, LongKnownLinesRead, RevocationsRead};
 ghost use Rattle.ssh_lines.specs.Samples.{EntrySamplesRead, OptionFaultsRead, KeyFaultsRead, LongLinesRead};
 
 /// Lines, as the definitions read them.
@@ -9,4 +10,8 @@ fn lines_as_read()
     ensures options { OptionFaultsRead }
     ensures keys { KeyFaultsRead }
     ensures long { LongLinesRead }
+    ensures known { KnownSamplesRead }
+    ensures known_faults { KnownFaultsRead }
+    ensures revocations { RevocationsRead }
+    ensures long_known { LongKnownLinesRead }
 {}

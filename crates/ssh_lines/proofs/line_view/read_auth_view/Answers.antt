@@ -1,5 +1,5 @@
 use Rattle.std.proofs.Common.{arith, sym, ◌∙◌}
-use Rattle.ssh_lines.proofs.ByteLemmas.{AreBytes-from}
+use Rattle.ssh_names.proofs.ByteLemmas.{AreBytes-from}
 use Rattle.ssh_lines.proofs.ReadAuth.{auth_line-spells}
 use Rattle.ssh_lines.proofs.AuthLemmas.{auth_line-spelled}
 use Rattle.ssh_lines.proofs.line_view.read_auth_view.Goals as goal

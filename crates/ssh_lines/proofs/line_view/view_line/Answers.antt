@@ -1,11 +1,9 @@
-use Rattle.std.proofs.Common.{◌≡◌, ap, ◌∙◌, arith}
-use Rattle.ssh_text.specs.Text.{skip_blanks, without_last}
-use Rattle.ssh_lines.proofs.LengthLemmas.{length_body}
+use Rattle.std.proofs.Common.{arith, sym}
+use Rattle.ssh_lines.proofs.FrontLemmas.{fields-length}
 use Rattle.ssh_lines.proofs.line_view.view_line.Goals as goal
 
 pub view_entry-requires : goal.view_entry-requires
 view_entry-requires c =
-    let body : c.skip_blanks-body.result.now ≡ skip_blanks (without_last 13 c.args.line.now) = c.skip_blanks-body.ensures ∙ ap skip_blanks c.without_last.ensures in
-    let short = length_body 13 c.args.line.now in
+    let short = fields-length c.args.line.now c.in-Fields.body.now (sym c.in-Fields.ensures) in
     let room = c.requires in
-    rw body (omega arith)
+    omega arith

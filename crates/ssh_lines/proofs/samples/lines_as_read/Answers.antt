@@ -1,3 +1,4 @@
+use Rattle.ssh_lines.specs.KnownSamples.{known_samples_read, known_faults_read, revocations_read, long_known_lines_read}
 use Rattle.ssh_lines.specs.Samples.{entry_samples_read, option_faults_read, key_faults_read, long_lines_read}
 use Rattle.ssh_lines.proofs.samples.lines_as_read.Goals as goal
 
@@ -7,4 +8,8 @@ returns c = record {
   options = option_faults_read;
   keys = key_faults_read;
   long = long_lines_read;
+  known = known_samples_read;
+  known_faults = known_faults_read;
+  revocations = revocations_read;
+  long_known = long_known_lines_read;
 }

@@ -1,0 +1,159 @@
+//! Reading a line of a known_hosts file in place.
+
+ghost use Rattle.std.specs.Prelude.{◌≡◌, ◌≤◌, ◌↔◌, ℕ, List, IfOk, length};
+ghost use Rattle.base64.specs.Decode.{decoded_estimate};
+ghost use Rattle.ssh_wire.specs.Reading.{Gives};
+ghost use Rattle.ssh_lines.specs.declared.known.KnownEntry.{KnownEntry};
+ghost use Rattle.ssh_lines.specs.declared.known.KnownLine.{KnownLine};
+ghost use Rattle.ssh_options.specs.declared.cause.LineCause.{LineCause};
+ghost use Rattle.ssh_lines.specs.KnownFaults.{IsKnownFault};
+ghost use Rattle.ssh_lines.specs.KnownGrammar.{Blind, RevokesBytes, SpellsKnown, known_line};
+ghost use Rattle.ssh_lines.specs.KnownGrammar.{entry_of_fields, line_of_entry, line_of_fields};
+ghost use Rattle.ssh_lines.specs.KnownGrammar.{revoked_of};
+ghost use Rattle.ssh_lines.specs.KnownSeen.{known_seen};
+
+use crate::blob::decode_into;
+use crate::front::{Front, front_of};
+use crate::key_buffer::KeyBuffer;
+use crate::key_line::split_fields;
+use crate::key_view::{key_fields, key_in_field};
+use crate::known::KnownLine;
+use crate::known_view::KnownEntryView;
+use crate::marker::{FirstField, Marker, first_field_of};
+use ssh_keys::name_class;
+use ssh_names::{NamesFault, read_names};
+use ssh_options::LineCause;
+use ssh_text::{Bytes, skip_blanks, split_word};
+use std::alloc::{AllocError, Global};
+
+/// What a line of a known_hosts file says, in the line.
+#[derive(Debug, Drop)]
+pub enum KnownLineView<'a> {
+    Blank,
+    Comment,
+    Entry(KnownEntryView<'a>),
+    Unreadable(LineCause),
+    /// The line revokes the key with this blob, or a certificate's signer with it, for every host.
+    Revoked(&'a [u8]),
+    /// The line may revoke any key: it is longer than a line may be, or a revocation without bytes.
+    RevokedUnreadable,
+}
+
+impl KnownLineView<'_> {
+    /// The line, copied.
+    pub fn to_line(&self, alloc: Global) -> Result<KnownLine, AllocError>
+        ensures { IfOk result (λ line. line ≡ known_seen self.entry.now) }
+    {
+        match self {
+            KnownLineView::Blank => Ok(KnownLine::Blank),
+            KnownLineView::Comment => Ok(KnownLine::Comment),
+            KnownLineView::Entry(entry) => Ok(KnownLine::Entry(entry.to_entry(alloc)?)),
+            KnownLineView::Unreadable(cause) => Ok(KnownLine::Unreadable(*cause)),
+            KnownLineView::Revoked(bytes) => {
+                Ok(KnownLine::Revoked(Bytes::new(bytes.to_vec(alloc)?)))
+            }
+            KnownLineView::RevokedUnreadable => Ok(KnownLine::RevokedUnreadable),
+        }
+    }
+}
+
+/// The entry of a field of names and a text of type, base64 and comment.
+#[tactic(auto, unfolding(crate::specs::KnownGrammar::entry_of_fields), using(crate::proofs::LengthLemmas::length_field))]
+fn view_fields<'a>(
+    marker: Marker,
+    field: &'a [u8],
+    key: &'a [u8],
+    buffer: &'a mut [u8],
+) -> Result<KnownEntryView<'a>, LineCause>
+    requires { decoded_estimate (length key.now) ≤ length buffer.old }
+    ensures { Gives (λ e. e) result (entry_of_fields marker field.entry.now key.entry.now) }
+{
+    let (word, base64, rest) = key_fields(key)?;
+    let names = match read_names(field) {
+        Ok(names) => names,
+        Err(NamesFault::HashedName) => return Err(LineCause::HashedName),
+        Err(NamesFault::EmptyItem) => return Err(LineCause::Names),
+    };
+    let part = key_in_field(name_class(word), base64, rest, buffer)?;
+    Ok(KnownEntryView::new(marker, names, part))
+}
+
+/// The line of an entry, or of its first fault.
+fn line_of<'a>(entry: Result<KnownEntryView<'a>, LineCause>) -> KnownLineView<'a>
+    ensures { known_seen result ≡ line_of_entry entry.entry }
+{
+    match entry {
+        Ok(entry) => KnownLineView::Entry(entry),
+        Err(cause) => KnownLineView::Unreadable(cause),
+    }
+}
+
+/// What a line with this base64 field revokes.
+fn view_revoked<'a>(field: &[u8], buffer: &'a mut [u8]) -> KnownLineView<'a>
+    requires { decoded_estimate (length field.now) ≤ length buffer.old }
+    ensures { known_seen result ≡ revoked_of field.now }
+{
+    match decode_into(field, buffer) {
+        Ok(bytes) if !field.is_empty() => KnownLineView::Revoked(bytes),
+        _ => KnownLineView::RevokedUnreadable,
+    }
+}
+
+/// What the fields of a line say.
+pub(crate) fn view_known_fields<'a>(body: &'a [u8], buffer: &'a mut [u8]) -> KnownLineView<'a>
+    requires { decoded_estimate (length body.now) ≤ length buffer.old }
+    ensures { known_seen result ≡ line_of_fields body.entry.now }
+{
+    let (first, after) = split_word(body);
+    let rest = skip_blanks(after);
+    match first_field_of(first) {
+        FirstField::Names => line_of(view_fields(Marker::Unmarked, first, rest, buffer)),
+        FirstField::CertAuthority => {
+            let (names, after) = split_word(rest);
+            line_of(view_fields(Marker::CertAuthority, names, skip_blanks(after), buffer))
+        }
+        FirstField::Revoked => {
+            let (_, after) = split_word(rest);
+            let (_, field, _) = split_fields(skip_blanks(after));
+            view_revoked(field, buffer)
+        }
+        FirstField::Unknown => KnownLineView::Unreadable(LineCause::Marker),
+    }
+}
+
+#[tactic(auto, unfolding(crate::specs::KnownGrammar::known_line))]
+fn view_line<'a>(line: &'a [u8], buffer: &'a mut [u8]) -> KnownLineView<'a>
+    requires { 49152 ≤ length buffer.old }
+    ensures { known_seen result ≡ known_line line.entry.now }
+{
+    match front_of(line) {
+        Front::TooLong => KnownLineView::RevokedUnreadable,
+        Front::Blank => KnownLineView::Blank,
+        Front::Comment => KnownLineView::Comment,
+        Front::Fields(body) => view_known_fields(body, buffer),
+    }
+}
+
+/// What a line of a known_hosts file says (sshd(8), SSH_KNOWN_HOSTS FILE FORMAT), in the line. The
+/// line is given without its LF; one CR at its end counts for nothing. Keys and revoked bytes are
+/// decoded into the buffer. No memory is taken.
+pub fn read_known_view<'a>(line: &'a [u8], buffer: &'a mut KeyBuffer) -> KnownLineView<'a>
+    // An entry that is read is one that the line spells.
+    ensures found { (entry : KnownEntry) →
+        known_seen result ≡ KnownLine.Entry entry → SpellsKnown entry line.entry.now }
+    // An entry that the line spells is the one that is read.
+    ensures only { (entry : KnownEntry) →
+        SpellsKnown entry line.entry.now → known_seen result ≡ KnownLine.Entry entry }
+    // A line that revokes is told with exactly its bytes.
+    ensures revoked { (bytes : List ℕ) →
+        (known_seen result ≡ KnownLine.Revoked bytes) ↔ RevokesBytes line.entry.now bytes }
+    // A line that may revoke any key is told, and no other line is told so.
+    ensures blind { (known_seen result ≡ KnownLine.RevokedUnreadable) ↔ Blind line.entry.now }
+    // A line that is told as unreadable has that fault, and none before it.
+    ensures fault { (cause : LineCause) →
+        known_seen result ≡ KnownLine.Unreadable cause → IsKnownFault cause line.entry.now }
+    // Else the line is blank, a comment, or has this first fault.
+    ensures exact { known_seen result ≡ known_line line.entry.now }
+{
+    view_line(line, buffer.as_mut_slice())
+}

@@ -1,0 +1,171 @@
+//! What no clause says of known_hosts lines: worked lines, and that calls that take memory can
+//! succeed.
+
+use crate::{
+    KeyBuffer, KnownEntry, KnownLine, KnownLineView, LINE_LIMIT, LineCause, Marker, lookup_name,
+    names_host, read_known_line, read_known_view,
+};
+use ssh_keys::KeyError;
+use ssh_wire::{WireCause, WireError};
+use std::alloc::{AllocError, Global};
+use std::test::Fail;
+
+/// An Ed25519 key of 32 zero bytes after its type.
+const KEY: &[u8] =
+    b"ssh-ed25519 AAAAC3NzaC1lZDI1NTE5AAAAIAAAAAAAAAAAAAAAAAAAAAAAAAAAAAAAAAAAAAAAAAAA";
+
+/// What `ssh-keygen -H` of OpenSSH 9.2 wrote for `example.org`.
+const HASHED: &[u8] = b"|1|2vVav4ZtrRlI9vZVi2rMTIUivYg=|REDDqWL/xrS5Nz1y/EZm6d7b1vw= ";
+
+fn joined(alloc: Global, front: &[u8], rest: &[u8]) -> Result<Vec<u8>, AllocError> {
+    let mut line = front.to_vec(alloc)?;
+    line.extend_from_slice(rest)?;
+    Ok(line)
+}
+
+fn entry(alloc: Global, front: &[u8]) -> Result<Option<KnownEntry>, AllocError> {
+    let line = joined(alloc, front, KEY)?;
+    match read_known_line(alloc, &line)? {
+        KnownLine::Entry(entry) => Ok(Some(entry)),
+        _ => Ok(None),
+    }
+}
+
+#[test]
+fn refuses_known_lines(rt: HostRuntime) -> Result<(), Fail> {
+    let short = KeyError::Wire(WireError {
+        place: 0,
+        cause: WireCause::Short,
+    });
+    let rows: [(&[u8], &[u8], LineCause); 13] = [
+        (b"@other h ", KEY, LineCause::Marker),
+        (b"@revokedh x ", KEY, LineCause::Marker),
+        (b"h", b"", LineCause::NoKey),
+        (b"h,,g ssh-ed25519", b"", LineCause::NoKey),
+        (b"@cert-authority ", KEY, LineCause::NoKey),
+        (b"|1|x ", KEY, LineCause::HashedName),
+        (b"h,,g ", KEY, LineCause::Names),
+        (b"h,! frob AAAA", b"", LineCause::Names),
+        (b"h frob *", b"", LineCause::KeyType),
+        (b"h ssh-dss AAAA", b"", LineCause::RetiredType),
+        (
+            b"h ssh-ed25519-cert-v01@openssh.com *",
+            b"",
+            LineCause::CertificateOnLine,
+        ),
+        (b"h ssh-ed25519 *", b"", LineCause::Base64),
+        (b"h ssh-rsa AAAA", b"", LineCause::KeyBlob(short)),
+    ];
+    for (front, rest, want) in rows {
+        let line = joined(rt.alloc(), front, rest)?;
+        let KnownLine::Unreadable(cause) = read_known_line(rt.alloc(), &line)? else {
+            return Err(Fail::new("readable"));
+        };
+        assert_eq!(rt; cause, want);
+    }
+    Ok(())
+}
+
+#[test]
+fn names_hosts(rt: HostRuntime) -> Result<(), Fail> {
+    let rows: [(&[u8], &[u8], u16, bool); 9] = [
+        (b"h ", b"h", 22, true),
+        (b"h ", b"H", 22, true),
+        (b"h ", b"h", 2222, false),
+        (b"!h,* ", b"h", 22, false),
+        (b"!h,* ", b"g", 22, true),
+        (b"[h]:2222 ", b"h", 22, false),
+        (b"[h]:2222 ", b"h", 2222, true),
+        (HASHED, b"Example.org", 22, true),
+        (HASHED, b"example.org", 2222, false),
+    ];
+    for (front, host, port, want) in rows {
+        let Some(entry) = entry(rt.alloc(), front)? else {
+            return Err(Fail::new("no entry"));
+        };
+        let name = lookup_name(rt.alloc(), host, port)?;
+        assert_eq!(rt; names_host(&entry.names.view(), &name), want);
+    }
+    Ok(())
+}
+
+#[test]
+fn reads_a_known_entry(rt: HostRuntime) -> Result<(), Fail> {
+    let line = joined(rt.alloc(), b" @cert-authority\t*.a,b  ", KEY)?;
+    let line = joined(rt.alloc(), &line, b"  x y \r")?;
+    let KnownLine::Entry(entry) = read_known_line(rt.alloc(), &line)? else {
+        return Err(Fail::new("no entry"));
+    };
+    assert_eq!(rt; entry.marker, Marker::CertAuthority);
+    assert_eq!(rt; entry.names.view().text(), b"*.a,b".as_slice());
+    assert_eq!(rt; entry.key.blob().len(), 51);
+    assert_eq!(rt; entry.comment.as_slice(), b"x y".as_slice());
+    Ok(())
+}
+
+#[test]
+fn reads_a_known_entry_in_its_line(rt: HostRuntime) -> Result<(), Fail> {
+    let mut buffer = KeyBuffer::new(rt.alloc())?;
+    let line = joined(rt.alloc(), HASHED, KEY)?;
+    let line = joined(rt.alloc(), &line, b" note")?;
+    assert!(rt; matches!(read_known_view(b"# x", &mut buffer), KnownLineView::Comment));
+    let KnownLineView::Entry(entry) = read_known_view(&line, &mut buffer) else {
+        return Err(Fail::new("no entry"));
+    };
+    assert_eq!(rt; entry.marker(), Marker::Unmarked);
+    assert!(rt; names_host(&entry.names(), b"example.org"));
+    assert!(rt; !names_host(&entry.names(), b"example.com"));
+    assert_eq!(rt; entry.comment(), b"note".as_slice());
+    assert_eq!(rt; entry.blob().len(), 51);
+    assert!(rt; entry.has_blob(entry.blob()) && !entry.has_blob(b"x"));
+    assert_eq!(rt;
+        entry.to_entry(rt.alloc())?.comment.as_slice(),
+        b"note".as_slice()
+    );
+    Ok(())
+}
+
+#[test]
+fn tells_revocations(rt: HostRuntime) -> Result<(), Fail> {
+    let mut buffer = KeyBuffer::new(rt.alloc())?;
+    let rows: [(&[u8], &[u8], Option<usize>); 6] = [
+        (b"@revoked other ", KEY, Some(51)),
+        (b"@revoked |1|x frob AAAA", b"", Some(3)),
+        (b"@revoked x ssh-ed25519", b"", None),
+        (b"@revoked ", KEY, None),
+        (b"@revoked other ssh-ed25519 AAAA*", b"", None),
+        (b"@revoked", b"", None),
+    ];
+    for (front, rest, want) in rows {
+        let line = joined(rt.alloc(), front, rest)?;
+        let len = match read_known_view(&line, &mut buffer) {
+            KnownLineView::Revoked(bytes) => Some(bytes.len()),
+            KnownLineView::RevokedUnreadable => None,
+            _ => return Err(Fail::new("no revocation")),
+        };
+        assert_eq!(rt; len, want);
+        let len = match read_known_line(rt.alloc(), &line)? {
+            KnownLine::Revoked(bytes) => Some(bytes.as_slice().len()),
+            KnownLine::RevokedUnreadable => None,
+            _ => return Err(Fail::new("no revocation")),
+        };
+        assert_eq!(rt; len, want);
+    }
+    Ok(())
+}
+
+#[test]
+fn reads_known_lines_up_to_the_limit(rt: HostRuntime) -> Result<(), Fail> {
+    let mut line = joined(rt.alloc(), b"h ", KEY)?;
+    line.extend_from_slice(b" me")?;
+    line.resize(LINE_LIMIT, b'e')?;
+    assert!(rt; matches!(read_known_line(rt.alloc(), &line)?, KnownLine::Entry(_)));
+    line.push(b'e')?;
+    assert!(rt;
+        matches!(
+            read_known_line(rt.alloc(), &line)?,
+            KnownLine::RevokedUnreadable
+        )
+    );
+    Ok(())
+}

@@ -1,0 +1,112 @@
+//! An entry of a known_hosts file, in its line.
+
+ghost use Rattle.std.specs.Prelude.{◌≡◌, ◌↔◌, IsTrue, IfOk};
+ghost use Rattle.ssh_keys.specs.KeyOf.{key_of};
+ghost use Rattle.ssh_keys.specs.PublicKey.{key_blob};
+ghost use Rattle.ssh_names.specs.Names.{names_host};
+
+use crate::key_view::KeyPartView;
+use crate::known::KnownEntry;
+use crate::known_names::KnownNames;
+use crate::marker::Marker;
+use ssh_keys::KeyView;
+use ssh_names::{HostNames, names_host};
+use std::alloc::{AllocError, Global};
+use std::marker::Model;
+
+/// A key that hosts may have, with what its line says of it, in the line. Contracts see the entry.
+#[derive(Debug, Drop)]
+pub struct KnownEntryView<'a> {
+    marker: Marker,
+    names: HostNames<'a>,
+    part: KeyPartView<'a>,
+}
+
+impl<'a> Model for KnownEntryView<'a> {
+    ghost use Rattle.ssh_lines.specs.declared.known.KnownEntry.{KnownEntry};
+
+    ghost Value = { KnownEntry };
+
+    ghost view = { λ v. record {
+      marker = v.marker;
+      names = v.names;
+      key = v.part.key;
+      comment = v.part.comment;
+    } };
+}
+
+impl<'a> KnownEntryView<'a> {
+    /// The entry of this marker, these names, and this key and its comment.
+    pub(crate) fn new(
+        marker: Marker,
+        names: HostNames<'a>,
+        part: KeyPartView<'a>,
+    ) -> KnownEntryView<'a>
+        ensures marker { result.marker ≡ marker }
+        ensures names { result.names ≡ names.entry }
+        ensures key { result.key ≡ part.entry.key }
+        ensures comment { result.comment ≡ part.entry.comment }
+    {
+        KnownEntryView {
+            marker,
+            names,
+            part,
+        }
+    }
+
+    /// The marker.
+    pub fn marker(&self) -> Marker
+        ensures { result ≡ self.now.marker }
+    {
+        self.marker
+    }
+
+    /// The names.
+    pub fn names(&self) -> HostNames<'a>
+        ensures { result ≡ self.now.names }
+    {
+        self.names.again()
+    }
+
+    /// The key.
+    pub fn key(&self) -> KeyView<'a>
+        ensures { key_of result ≡ self.now.key }
+    {
+        self.part.key()
+    }
+
+    /// The key's blob.
+    pub fn blob(&self) -> &'a [u8]
+        ensures { result.now ≡ key_blob self.now.key }
+    {
+        self.part.blob()
+    }
+
+    /// The comment.
+    pub fn comment(&self) -> &'a [u8]
+        ensures { result.now ≡ self.now.comment }
+    {
+        self.part.comment()
+    }
+
+    /// Whether the blob is the key's.
+    pub fn has_blob(&self, blob: &[u8]) -> bool
+        ensures { IsTrue result ↔ (blob.now ≡ key_blob self.now.key) }
+    {
+        blob == self.blob()
+    }
+
+    /// The entry, copied.
+    pub fn to_entry(&self, alloc: Global) -> Result<KnownEntry, AllocError>
+        ensures { IfOk result (λ entry. entry ≡ self.now) }
+    {
+        let names = KnownNames::keep(alloc, &self.names)?;
+        let part = self.part.to_part(alloc)?;
+        Ok(KnownEntry {
+            marker: self.marker,
+            names,
+            key: part.key,
+            comment: part.comment,
+        })
+    }
+}
