@@ -1,12 +1,13 @@
--- The evidence that a decision on a login rests on.
+-- The evidence that a decision rests on.
 use Rattle.std.specs.Prelude.{ℕ, List, [], ◌∷◌, ◌++◌, codes}
 use Rattle.ssh_wire.specs.Spelling.{string}
 use Rattle.ssh_keys.specs.PublicKey.{key_blob}
 use Rattle.ssh_keys.specs.Signature.{signature_blob}
 use Rattle.ssh_certs.specs.Certificate.{Certificate, signed_part}
 use Rattle.ssh_offers.specs.declared.query.Signed.{Signed}
-use Rattle.ssh_offers.specs.Query.{Login}
+use Rattle.ssh_offers.specs.Query.{HostCheck, Login}
 use Rattle.ssh_offers.specs.Offer.{Offer, plain, certified, plain_key}
+use Rattle.ssh_offers.specs.HostClaim.{HostClaim}
 use Rattle.ssh_offers.specs.LoginClaim.{LoginClaim}
 
 -- The bytes that a client signs for a login (RFC 4252 section 7). 50 is the message's number, 1 is true.
@@ -30,3 +31,11 @@ signer_evidence (certified c) = certificate_signed c ∷ []
 -- what has to be vouched for: the offered key's signature over the login bytes, and of a certificate its signer's
 abbrev pub login_evidence : LoginClaim → List Signed
 login_evidence c = login_signed (key_blob (plain_key c.offer)) c.query ∷ signer_evidence c.offer
+
+-- the signature of the exchange hash by the host's key with this blob (RFC 4253 section 8)
+unfoldable pub host_signed : List ℕ → HostCheck → Signed
+host_signed blob q = record { key = blob; message = q.exchange_hash; signature = q.signature }
+
+-- the same of a host's key: its signature of the exchange hash, and of a certificate its signer's
+abbrev pub host_evidence : HostClaim → List Signed
+host_evidence c = host_signed (key_blob (plain_key c.offer)) c.query ∷ signer_evidence c.offer

@@ -2,7 +2,9 @@ pub mod Query
 pub mod Offer
 pub mod OfferView
 pub mod Algorithms
+pub mod Refusal
 pub mod LoginClaim
-pub mod Claim
+pub mod HostClaim
+pub mod ClaimViews
 pub mod Evidence
 pub mod Vouching

@@ -9,6 +9,7 @@ use Rattle.ssh_offers.specs.declared.error.AuditError.{AuditError}
 use Rattle.ssh_offers.specs.declared.error.AuditError.TheVariants.{Offer as BadOffer, Signature, Address}
 use Rattle.ssh_offers.specs.Query.{Login}
 use Rattle.ssh_offers.specs.Offer.{Offer, is_certified, offer_in, plain_key}
+use Rattle.ssh_offers.specs.Refusal.{or_refuse}
 use Rattle.ssh_offers.specs.Algorithms.{pairing_test, signer_test, wanted_algorithm}
 
 pub record LoginClaim : Type 0 where
@@ -16,11 +17,6 @@ pub record LoginClaim : Type 0 where
   pub offer : Offer
   pub signature : SignatureValue
   pub address : AddressValue
-
--- what a reader answers, its fault as one of an audit
-abbrev pub or_refuse : {A E : Type 0} → (E → AuditError) → Result A E → Result A AuditError
-or_refuse refusal (Ok x) = Ok x
-or_refuse refusal (Err e) = Err (refusal e)
 
 -- the address that the text spells (RFC 4291 section 2.2)
 abbrev pub address_test : Option AddressValue → Result AddressValue AuditError

@@ -1,7 +1,8 @@
--- What a login asks, without where its texts lie in memory.
+-- What a login and a host's key ask, without where their texts lie in memory.
 use Rattle.std.specs.Prelude.{ℕ, List, Option, option_copied}
 use Rattle.jiff.specs.Types.{TimeZone}
 use Rattle.jiff.specs.Words.{plain_zone}
+use Rattle.ssh_offers.specs.declared.query.HostQuery.{HostQuery}
 use Rattle.ssh_offers.specs.declared.query.LoginQuery.{LoginQuery}
 
 pub record Login : Type 0 where
@@ -15,6 +16,14 @@ pub record Login : Type 0 where
   pub now : ℕ
   pub zone : TimeZone
 
+pub record HostCheck : Type 0 where
+  pub offered : List ℕ
+  pub signature : List ℕ
+  pub exchange_hash : List ℕ
+  pub host : List ℕ
+  pub port : ℕ
+  pub now : ℕ
+
 abbrev pub login_of : LoginQuery → Login
 login_of q = record {
   offered = q.offered.now;
@@ -26,4 +35,14 @@ login_of q = record {
   address = q.address.now;
   now = q.now;
   zone = plain_zone q.zone.now;
+}
+
+abbrev pub host_check_of : HostQuery → HostCheck
+host_check_of q = record {
+  offered = q.offered.now;
+  signature = q.signature.now;
+  exchange_hash = q.exchange_hash.now;
+  host = q.host.now;
+  port = q.port;
+  now = q.now;
 }

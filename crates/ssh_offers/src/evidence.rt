@@ -1,18 +1,19 @@
-//! What a decision on a login rests on, and which of it is vouched for.
+//! What a decision rests on, and which of it is vouched for.
 
-ghost use Rattle.std.specs.Prelude.{◌≡◌, ◌<◌, ◌^◌, length, not, IfOk};
+ghost use Rattle.std.specs.Prelude.{◌≡◌, ◌∷◌, ◌<◌, ◌^◌, length, not, IfOk};
 ghost use Rattle.std.specs.List.{position};
 ghost use Rattle.ssh_keys.specs.PublicKey.{key_blob};
 ghost use Rattle.ssh_certs.specs.CertificateOf.{certificate_of};
 ghost use Rattle.ssh_offers.specs.Query.{login_of};
 ghost use Rattle.ssh_offers.specs.Offer.{plain_key};
 ghost use Rattle.ssh_offers.specs.OfferView.{offer_of};
-ghost use Rattle.ssh_offers.specs.Evidence.{certificate_signed, login_bytes, login_evidence, login_signed};
-ghost use Rattle.ssh_offers.specs.Claim.{claim_of};
+ghost use Rattle.ssh_offers.specs.Evidence.{certificate_signed, host_evidence, host_signed, login_bytes, login_evidence, login_signed, signer_evidence};
+ghost use Rattle.ssh_offers.specs.ClaimViews.{claim_of, host_claim_of};
 ghost use Rattle.ssh_offers.specs.Vouching.{is_same, is_vouched, first_unvouched};
 
-use crate::claim::Claim;
+use crate::host_claim::HostClaimView;
 use crate::items::Items;
+use crate::login_claim::LoginClaimView;
 use crate::offer::Offer;
 use crate::query::{LoginQuery, Signed};
 use ssh_certs::CertView;
@@ -45,8 +46,8 @@ fn login_bytes(alloc: Global, query: &LoginQuery<'_>) -> Result<Vec<u8>, AllocEr
     Ok(out)
 }
 
-/// The blob of the key that is to be used.
-fn plain_blob(alloc: Global, offer: &Offer<'_>) -> Result<Vec<u8>, AllocError>
+/// The blob of the key that is to be used. `Err` is out of memory.
+pub fn plain_blob(alloc: Global, offer: &Offer<'_>) -> Result<Vec<u8>, AllocError>
     ensures { IfOk result (λ blob. blob.items ≡ key_blob (plain_key (offer_of offer.now))) }
 {
     let mut blob = Vec::new(alloc);
@@ -56,7 +57,7 @@ fn plain_blob(alloc: Global, offer: &Offer<'_>) -> Result<Vec<u8>, AllocError>
 
 /// The signature of a login, by the key that is to be used.
 #[tactic(auto, unfolding(crate::specs::Evidence::login_signed))]
-fn login_signed(alloc: Global, claim: &Claim<'_>) -> Result<Signed, AllocError>
+fn login_signed(alloc: Global, claim: &LoginClaimView<'_>) -> Result<Signed, AllocError>
     ensures { IfOk result (λ signed. signed ≡ login_signed (key_blob (plain_key (claim_of claim.now).offer)) (claim_of claim.now).query) }
 {
     Ok(Signed {
@@ -78,16 +79,51 @@ fn certificate_signed(alloc: Global, certificate: &CertView<'_>) -> Result<Signe
     })
 }
 
-/// What has to be vouched for.
-pub fn login_evidence(alloc: Global, claim: &Claim<'_>) -> Result<Items<Signed>, AllocError>
-    ensures { IfOk result (λ evidence. evidence ≡ login_evidence (claim_of claim.now)) }
+/// A signature of what is offered, and of a certificate its signer's.
+fn with_signer(alloc: Global, first: Signed, offer: &Offer<'_>) -> Result<Items<Signed>, AllocError>
+    ensures { IfOk result (λ evidence. evidence ≡ first ∷ signer_evidence (offer_of offer.now)) }
 {
     let mut evidence = Vec::new(alloc);
-    evidence.push(login_signed(alloc, claim)?)?;
-    if let Offer::Certified(certificate) = &claim.offer {
+    evidence.push(first)?;
+    if let Offer::Certified(certificate) = offer {
         evidence.push(certificate_signed(alloc, certificate)?)?;
     }
     Ok(Items::from_vec(evidence))
+}
+
+/// What has to be vouched for, of a login: the offered key's signature over the login bytes, and of a
+/// certificate its signer's. `Err` is out of memory.
+pub fn login_evidence(
+    alloc: Global,
+    claim: &LoginClaimView<'_>,
+) -> Result<Items<Signed>, AllocError>
+    ensures { IfOk result (λ evidence. evidence ≡ login_evidence (claim_of claim.now)) }
+{
+    let signed = login_signed(alloc, claim)?;
+    let evidence = with_signer(alloc, signed, &claim.offer)?;
+    Ok(evidence)
+}
+
+/// The signature of the exchange hash, by the host's key.
+#[tactic(auto, unfolding(crate::specs::Evidence::host_signed))]
+fn host_signed(alloc: Global, claim: &HostClaimView<'_>) -> Result<Signed, AllocError>
+    ensures { IfOk result (λ signed. signed ≡ host_signed (key_blob (plain_key (host_claim_of claim.now).offer)) (host_claim_of claim.now).query) }
+{
+    Ok(Signed {
+        key: Bytes::new(plain_blob(alloc, &claim.offer)?),
+        message: Bytes::new(claim.query.exchange_hash.to_vec(alloc)?),
+        signature: Bytes::new(claim.query.signature.to_vec(alloc)?),
+    })
+}
+
+/// What has to be vouched for, of a host: its key's signature over the exchange hash, and of a
+/// certificate its signer's. `Err` is out of memory.
+pub fn host_evidence(alloc: Global, claim: &HostClaimView<'_>) -> Result<Items<Signed>, AllocError>
+    ensures { IfOk result (λ evidence. evidence ≡ host_evidence (host_claim_of claim.now)) }
+{
+    let signed = host_signed(alloc, claim)?;
+    let evidence = with_signer(alloc, signed, &claim.offer)?;
+    Ok(evidence)
 }
 
 fn is_same(vouched: &Signed, signed: &Signed) -> bool

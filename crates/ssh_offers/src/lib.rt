@@ -1,18 +1,20 @@
-//! What is offered for a login, what is refused before any line is read, and the evidence that a
-//! decision rests on.
+//! What is offered for a login or by a host, what is refused before any line is read, and the evidence
+//! that a decision rests on.
 #![tactic(auto)]
 
 mod algorithm;
-mod claim;
 mod error;
 mod evidence;
+mod host_claim;
 mod items;
+mod login_claim;
 mod offer;
 mod query;
 
-pub use claim::Claim;
 pub use error::{AuditError, OfferError};
-pub use evidence::{first_unvouched, login_evidence};
+pub use evidence::{first_unvouched, host_evidence, login_evidence, plain_blob};
+pub use host_claim::HostClaimView;
 pub use items::Items;
+pub use login_claim::LoginClaimView;
 pub use offer::Offer;
-pub use query::{LoginQuery, Signed};
+pub use query::{HostQuery, LoginQuery, Signed};

@@ -3,7 +3,8 @@
 ghost use Rattle.std.specs.Prelude.{◌≡◌, ◌<◌, ◌^◌, length, IfOk};
 ghost use Rattle.ssh_wire.specs.Reading.{Gives};
 ghost use Rattle.ssh_keys.specs.KeyOf.{key_of};
-ghost use Rattle.ssh_offers.specs.Offer.{is_certificate_blob, is_certified, offer_blob, offer_in, plain_key};
+ghost use Rattle.ssh_keys.specs.PublicKey.{key_blob};
+ghost use Rattle.ssh_offers.specs.Offer.{is_certificate_blob, is_certified, offer_blob, offer_in, plain_key, subject};
 ghost use Rattle.ssh_offers.specs.OfferView.{offer_of};
 
 use crate::error::OfferError;
@@ -36,6 +37,18 @@ impl<'a> Offer<'a> {
         match self {
             Offer::Plain(_) => false,
             Offer::Certified(_) => true,
+        }
+    }
+
+    /// The blob of the key that a line has to hold, of an offer that was read from this blob: the
+    /// offered key's, or that of the certificate's signer.
+    pub(crate) fn subject_blob(&self, offered: &'a [u8]) -> &'a [u8]
+        requires own { offered.now ≡ offer_blob (offer_of self.now) }
+        ensures { result.now ≡ key_blob (subject (offer_of self.now)) }
+    {
+        match self {
+            Offer::Plain(_) => offered,
+            Offer::Certified(certificate) => certificate.signer_blob(),
         }
     }
 }

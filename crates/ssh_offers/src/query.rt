@@ -1,4 +1,4 @@
-//! A login to be decided, and a signature that has to be vouched for.
+//! What is to be decided, and a signature that has to be vouched for.
 
 use jiff::tz::TimeZone;
 use ssh_text::Bytes;
@@ -35,4 +35,22 @@ pub struct LoginQuery<'a> {
     pub now: u64,
     /// The zone of expiry times that name none.
     pub zone: &'a TimeZone<'a>,
+}
+
+/// A host's key that is to be trusted: a client asks it of the exchange hash that the host signed
+/// (RFC 4253 section 8).
+#[derive(Clone, Copy)]
+pub struct HostQuery<'a> {
+    /// The blob of the key or the certificate that the host offers.
+    pub offered: &'a [u8],
+    /// The blob of the signature over the exchange hash.
+    pub signature: &'a [u8],
+    /// The exchange hash, as it was signed.
+    pub exchange_hash: &'a [u8],
+    /// The name or the address that the client connects to.
+    pub host: &'a [u8],
+    /// The port that the client connects to.
+    pub port: u16,
+    /// Seconds since 1970-01-01 in UTC.
+    pub now: u64,
 }

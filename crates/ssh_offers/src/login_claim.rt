@@ -15,7 +15,7 @@ use ssh_patterns::{Address, parse_address};
 
 /// A login whose offer, signature and address were read.
 #[derive(Clone, Copy)]
-pub struct Claim<'a> {
+pub struct LoginClaimView<'a> {
     pub query: LoginQuery<'a>,
     pub offer: Offer<'a>,
     pub signature: SignatureView<'a>,
@@ -37,17 +37,17 @@ fn read_address(text: &[u8]) -> Result<Address, AuditError>
     }
 }
 
-impl<'a> Claim<'a> {
+impl<'a> LoginClaimView<'a> {
     ghost use Rattle.ssh_wire.specs.Reading.{Gives};
     ghost use Rattle.ssh_keys.specs.PublicKey.{key_blob};
     ghost use Rattle.ssh_offers.specs.Query.{login_of};
     ghost use Rattle.ssh_offers.specs.Offer.{subject};
     ghost use Rattle.ssh_offers.specs.LoginClaim.{login_claim};
-    ghost use Rattle.ssh_offers.specs.Claim.{claim_of};
+    ghost use Rattle.ssh_offers.specs.ClaimViews.{claim_of};
 
     /// The claim of a login, or the first refusal of its offer, `A1` to `A6`.
     #[tactic(auto, unfolding(crate::specs::LoginClaim::login_claim))]
-    pub fn read(query: &LoginQuery<'a>) -> Result<Claim<'a>, AuditError>
+    pub fn read(query: &LoginQuery<'a>) -> Result<LoginClaimView<'a>, AuditError>
         requires session { length query.now.session.now < 2 ^ 32 }
         requires user { length query.now.user.now < 2 ^ 32 }
         ensures { Gives claim_of result (login_claim (login_of query.entry.now)) }
@@ -59,7 +59,7 @@ impl<'a> Claim<'a> {
         test_pairing(kind, wanted, signature.algorithm)?;
         test_signer(&offer)?;
         let address = read_address(query.address)?;
-        Ok(Claim {
+        Ok(LoginClaimView {
             query: *query,
             offer,
             signature,
@@ -72,9 +72,6 @@ impl<'a> Claim<'a> {
     pub fn subject_blob(&self) -> &'a [u8]
         ensures { result.now ≡ key_blob (subject (claim_of self.now).offer) }
     {
-        match self.offer {
-            Offer::Plain(_) => self.query.offered,
-            Offer::Certified(certificate) => certificate.signer_blob(),
-        }
+        self.offer.subject_blob(self.query.offered)
     }
 }
