@@ -14,10 +14,13 @@ use Rattle.ssh_rules.specs.declared.reason.Reason.TheVariants as reason
 use Rattle.ssh_offers.specs.Query.{Login}
 use Rattle.ssh_offers.specs.Offer.{Offer, OfCertificate, certified, is_certified, plain, subject}
 use Rattle.ssh_offers.specs.LoginClaim.{LoginClaim}
-use Rattle.ssh_rules.specs.CertificateRules.{first_unknown, forced_by_certificate, has_its_form, has_two, is_known, repeats}
-use Rattle.ssh_rules.specs.Admission.{AdmitsLogin, AreOnce, CriticalMet, InForce, IsUnexpired, certificate_obstacle, commands_differ, critical_rows, first_obstacle, force_rows, is_authority, is_expired, is_past, line_rows, login_obstacle, offer_obstacle, unknown_row}
-use Rattle.ssh_rules.proofs.Tests.{NoneHolds, none_of, of_none, both_none, none_both, key_held, held_key, same_role, role_same, off, when_off, permitted, yes_row, not_off, off_not, each-decides, none-fails, le_z-decides, same_number, number_off, in_time, time_in}
-use Rattle.ssh_rules.proofs.Principals.{serves-decides}
+use Rattle.ssh_rights.specs.CertificateOptions.{forced_by_certificate}
+use Rattle.ssh_rules.specs.CertificateRules.{first_unknown, has_its_form, has_two, is_known, repeats}
+use Rattle.ssh_rules.specs.CertificateForce.{user_certificate}
+use Rattle.ssh_rules.specs.Obstacles.{first_obstacle, unknown_row}
+use Rattle.ssh_rules.specs.Admission.{AdmitsLogin, AreOnce, CriticalMet, IsUnexpired, IsUserInForce, certificate_obstacle, commands_differ, critical_rows, is_authority, is_expired, is_past, line_rows, login_obstacle, offer_obstacle, user_force_rows}
+use Rattle.ssh_rules.proofs.Tests.{NoneHolds, none_of, of_none, both_none, none_both, key_held, held_key, same_role, role_same, off, when_off, permitted, yes_row, not_off, off_not, each-decides, none-fails, le_z-decides}
+use Rattle.ssh_rules.proofs.ForceLemmas.{in_force, force_none}
 
 -- ---- expiry times
 
@@ -69,28 +72,6 @@ command-same (Some x) (Some y) h = off_not _ ((bytes_eq-Decides x y).1 (h x y re
 
 -- ---- a certificate
 
-forced : (e : AuthEntry) (q : Login) (c : Certificate) → NoneHolds (force_rows e q c) → InForce e q c
-forced e q c n =
-    let time = in_time c q.now n.1.0 in
-    record {
-      kind = same_number c.kind_number 1 (off _ reason.WrongCertKind n.0);
-      begun = time.0;
-      not_over = time.1;
-      principal = (serves-decides (setting Principals e.options) q.user c).0 (not_off _ (off _ reason.PrincipalRefused n.1.1.0));
-    }
-
-force-none : (e : AuthEntry) (q : Login) (c : Certificate) → InForce e q c → NoneHolds (force_rows e q c)
-force-none e q c f = (
-  when_off _ reason.WrongCertKind (number_off c.kind_number 1 f.kind),
-  (
-    time_in c q.now f.begun f.not_over,
-    (
-      when_off _ reason.PrincipalRefused (off_not _ ((serves-decides (setting Principals e.options) q.user c).1 f.principal)),
-      tt,
-    ),
-  ),
-)
-
 met : (e : AuthEntry) (address : Address) (c : Certificate) → NoneHolds (critical_rows e address c) → CriticalMet e address c
 met e address c n = record {
   known = known-first c.critical n.0;
@@ -119,21 +100,21 @@ met-none e address c m = (
 )
 
 certificate-none : (e : AuthEntry) (claim : LoginClaim) (c : Certificate) → certificate_obstacle e claim c ≡ None
-    → InForce e claim.query c × CriticalMet e claim.address c
+    → IsUserInForce e claim.query c × CriticalMet e claim.address c
 certificate-none e claim c h =
-    let both = both_none (first_obstacle (force_rows e claim.query c)) (first_obstacle (critical_rows e claim.address c)) h in
-    (forced e claim.query c (none_of (force_rows e claim.query c) both.0), met e claim.address c (none_of (critical_rows e claim.address c) both.1))
+    let both = both_none (first_obstacle (user_force_rows e claim.query c)) (first_obstacle (critical_rows e claim.address c)) h in
+    (in_force user_certificate claim.query.now (setting Principals e.options) claim.query.user c (none_of (user_force_rows e claim.query c) both.0), met e claim.address c (none_of (critical_rows e claim.address c) both.1))
 
 offer-none : (e : AuthEntry) (claim : LoginClaim) (o : Offer) → offer_obstacle e claim o ≡ None
-    → OfCertificate (InForce e claim.query) o × OfCertificate (CriticalMet e claim.address) o
+    → OfCertificate (IsUserInForce e claim.query) o × OfCertificate (CriticalMet e claim.address) o
 offer-none e claim (plain key) h = (tt, tt)
 offer-none e claim (certified c) h = certificate-none e claim c h
 
-none-offer : (e : AuthEntry) (claim : LoginClaim) (o : Offer) → OfCertificate (InForce e claim.query) o → OfCertificate (CriticalMet e claim.address) o
+none-offer : (e : AuthEntry) (claim : LoginClaim) (o : Offer) → OfCertificate (IsUserInForce e claim.query) o → OfCertificate (CriticalMet e claim.address) o
     → offer_obstacle e claim o ≡ None
 none-offer e claim (plain key) f m = refl
 none-offer e claim (certified c) f m =
-    none_both (first_obstacle (force_rows e claim.query c)) (first_obstacle (critical_rows e claim.address c)) (of_none (force_rows e claim.query c) (force-none e claim.query c f)) (of_none (critical_rows e claim.address c) (met-none e claim.address c m))
+    none_both (first_obstacle (user_force_rows e claim.query c)) (first_obstacle (critical_rows e claim.address c)) (of_none (user_force_rows e claim.query c) (force_none user_certificate claim.query.now (setting Principals e.options) claim.query.user c f)) (of_none (critical_rows e claim.address c) (met-none e claim.address c m))
 
 -- ---- a login
 

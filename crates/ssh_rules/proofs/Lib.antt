@@ -1,4 +1,5 @@
 pub mod Tests
 pub mod Principals
+pub mod ForceLemmas
 pub mod AdmissionLemmas
-pub mod RightsLemmas
+pub mod HostAdmissionLemmas

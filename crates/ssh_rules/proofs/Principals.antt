@@ -10,7 +10,7 @@ use Rattle.std.proofs.lemmas.Slice.Eq.{bytes_eq-Decides}
 use Rattle.ssh_certs.specs.Certificate.{Certificate}
 use Rattle.ssh_certs.specs.Rules.{HasPrincipal}
 use Rattle.ssh_rules.specs.CertificateRules.{has_principal, is_listed, listed_names, serves}
-use Rattle.ssh_rules.specs.Admission.{Serves}
+use Rattle.ssh_rules.specs.CertificateForce.{Serves}
 
 or-true : (a : Bool) {b : Bool} → b ≡ true → (a || b) ≡ true
 or-true true h = refl

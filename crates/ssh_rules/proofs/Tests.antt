@@ -12,7 +12,7 @@ use Rattle.ssh_patterns.specs.declared.permit.Permit.{Permit}
 use Rattle.ssh_patterns.specs.declared.permit.Permit.TheVariants.{Yes, No, Bad}
 use Rattle.ssh_rules.specs.declared.reason.Obstacle.{Obstacle}
 use Rattle.ssh_rules.specs.declared.reason.Reason.{Reason}
-use Rattle.ssh_rules.specs.Admission.{first_obstacle, key_row, or_later, permit_row, role_row, time_row, when}
+use Rattle.ssh_rules.specs.Obstacles.{first_obstacle, key_row, or_later, permit_row, role_row, time_row, when}
 
 -- ---- rows
 

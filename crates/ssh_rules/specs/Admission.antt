@@ -1,13 +1,10 @@
 -- When an entry of an authorized_keys file admits a login (sshd(8), PROTOCOL.certkeys), and why one does not.
-use Rattle.std.specs.Prelude.{◌≡◌, ◌≢◌, ◌⊎◌, ◌≤◌, ◌<◌, ◌≤ℤ◌, ℕ, ℤ, pos, Bool, true, false, not, ◌==◌, if◌then◌else◌, List, [], ◌∷◌, Contains, Option, Some, None}
+use Rattle.std.specs.Prelude.{◌≡◌, ◌≤ℤ◌, ℕ, ℤ, pos, Bool, true, false, not, List, [], ◌∷◌, Option, Some, None}
 use Rattle.std.specs.Int.Signed.{le_z}
 use Rattle.std.specs.List.{AllByRecursion, list_all, list_any}
 use Rattle.std.specs.Str.{bytes_eq}
 use Rattle.ssh_keys.specs.PublicKey.{PublicKey, key_blob}
 use Rattle.ssh_certs.specs.Certificate.{Certificate, CertOption}
-use Rattle.ssh_certs.specs.Rules.{HasPrincipal, time_of}
-use Rattle.ssh_certs.specs.declared.view.Time.{Time}
-use Rattle.ssh_certs.specs.declared.view.Time.TheVariants.{Early, Now, Late}
 use Rattle.ssh_lines.specs.declared.entry.AuthEntry.{AuthEntry}
 use Rattle.ssh_options.specs.declared.option.Flag.TheVariants.{CertAuthority}
 use Rattle.ssh_options.specs.declared.option.ValueName.TheVariants.{Command, ExpiryTime, From, Principals}
@@ -15,16 +12,17 @@ use Rattle.ssh_lines.specs.Moment.{moment_of}
 use Rattle.ssh_lines.specs.Settings.{has_flag, setting, settings}
 use Rattle.ssh_patterns.specs.declared.address.Address.{Address}
 use Rattle.ssh_patterns.specs.declared.permit.Permit.{Permit}
-use Rattle.ssh_patterns.specs.declared.permit.Permit.TheVariants.{Yes, No, Bad}
+use Rattle.ssh_patterns.specs.declared.permit.Permit.TheVariants.{Yes}
 use Rattle.ssh_patterns.specs.Lists.{source_list}
 use Rattle.ssh_rules.specs.declared.reason.Obstacle.{Obstacle}
-use Rattle.ssh_rules.specs.declared.reason.Obstacle.TheVariants.{OtherKey, Listed}
-use Rattle.ssh_rules.specs.declared.reason.Reason.{Reason}
 use Rattle.ssh_rules.specs.declared.reason.Reason.TheVariants as reason
 use Rattle.ssh_offers.specs.Query.{Login}
 use Rattle.ssh_offers.specs.Offer.{Offer, OfCertificate, certified, is_certified, plain, subject}
 use Rattle.ssh_offers.specs.LoginClaim.{LoginClaim}
-use Rattle.ssh_rules.specs.CertificateRules.{certificate_source, first_unknown, forced_by_certificate, has_its_form, has_two, is_known, listed_names, repeats, serves}
+use Rattle.ssh_rights.specs.CertificateOptions.{forced_by_certificate}
+use Rattle.ssh_rules.specs.CertificateRules.{certificate_source, first_unknown, has_its_form, has_two, is_known, repeats}
+use Rattle.ssh_rules.specs.CertificateForce.{InForce, force_rows, user_certificate}
+use Rattle.ssh_rules.specs.Obstacles.{first_obstacle, key_row, or_later, permit_row, role_row, unknown_row, when}
 
 -- the line marks its key as an authority for certificates
 abbrev pub is_authority : AuthEntry → Bool
@@ -48,18 +46,9 @@ HoldsKey e key = key_blob e.key ≡ key_blob key
 abbrev pub IsUnexpired : Login → List ℕ → Type 0
 IsUnexpired q text = (moment : ℤ) × (moment_of text q.zone ≡ Some moment) × (pos q.now ≤ℤ moment)
 
--- With a list on the line one of its names must be a principal, an empty one counts for nothing; without a list the user
--- must be, or there is none.
-abbrev pub Serves : Option (List ℕ) → List ℕ → Certificate → Type 0
-Serves (Some list) user c = (name : List ℕ) × Contains (listed_names list) name × (name ≢ []) × HasPrincipal c name
-Serves None user c = (c.principals ≡ []) ⊎ HasPrincipal c user
-
--- the certificate is a user's, from its first moment on and before its last, for a principal that is asked for
-pub record InForce (e : AuthEntry) (q : Login) (c : Certificate) : Type 0 where
-  pub kind : c.kind_number ≡ 1
-  pub begun : c.after ≤ q.now
-  pub not_over : q.now < c.before
-  pub principal : Serves (setting Principals e.options) q.user c
+-- the certificate is a user's and in force, for a principal of the line's list or, without one, for the user
+abbrev pub IsUserInForce : AuthEntry → Login → Certificate → Type 0
+IsUserInForce e q c = InForce user_certificate q.now (setting Principals e.options) q.user c
 
 -- no name stands twice
 abbrev pub AreOnce : List CertOption → Type 0
@@ -84,50 +73,11 @@ pub record AdmitsLogin (e : AuthEntry) (claim : LoginClaim) : Type 0 where
   -- and permits the client.
   pub source : line_source e claim.query ≡ Yes
   -- The certificate is in force,
-  pub in_force : OfCertificate (InForce e claim.query) claim.offer
+  pub in_force : OfCertificate (IsUserInForce e claim.query) claim.offer
   -- and what it insists on is met.
   pub critical : OfCertificate (CriticalMet e claim.address) claim.offer
 
 -- ======== why an entry does not admit, the first that holds
-
--- a row of the table
-abbrev pub when : Bool → Reason → Option Obstacle
-when b why = if b then Some (Listed why) else None
-
--- the first row that holds
-abbrev pub first_obstacle : List (Option Obstacle) → Option Obstacle
-first_obstacle [] = None
-first_obstacle (None ∷ rows) = first_obstacle rows
-first_obstacle (Some obstacle ∷ rows) = Some obstacle
-
-abbrev pub or_later : Option Obstacle → Option Obstacle → Option Obstacle
-or_later None later = later
-or_later (Some obstacle) later = Some obstacle
-
-abbrev pub key_row : Bool → Option Obstacle
-key_row b = if b then None else Some OtherKey
-
--- by whether the line is an authority, and whether a certificate is offered
-abbrev pub role_row : Bool → Bool → Option Obstacle
-role_row true false = Some (Listed reason.AuthorityOnly)
-role_row false true = Some (Listed reason.NotAuthority)
-role_row true true = None
-role_row false false = None
-
--- by what a list says
-abbrev pub permit_row : Reason → Reason → Permit → Option Obstacle
-permit_row bad refused Yes = None
-permit_row bad refused No = Some (Listed refused)
-permit_row bad refused Bad = Some (Listed bad)
-
-abbrev pub time_row : Time → Option Obstacle
-time_row Early = Some (Listed reason.NotYetValid)
-time_row Now = None
-time_row Late = Some (Listed reason.NoLongerValid)
-
-abbrev pub unknown_row : Option (List ℕ) → Option Obstacle
-unknown_row None = None
-unknown_row (Some name) = Some (Listed (reason.CriticalUnknown name))
 
 -- a moment that is past; a text without a moment counts as past
 abbrev pub is_past : ℕ → Option ℤ → Bool
@@ -155,13 +105,9 @@ line_rows e claim =
     ∷ permit_row reason.SourceBad reason.SourceRefused (line_source e claim.query)
     ∷ []
 
--- of a certificate that is not in force
-abbrev pub force_rows : AuthEntry → Login → Certificate → List (Option Obstacle)
-force_rows e q c =
-    when (not (c.kind_number == 1)) reason.WrongCertKind
-    ∷ time_row (time_of c q.now)
-    ∷ when (not (serves (setting Principals e.options) q.user c)) reason.PrincipalRefused
-    ∷ []
+-- of a user's certificate that is not in force
+abbrev pub user_force_rows : AuthEntry → Login → Certificate → List (Option Obstacle)
+user_force_rows e q c = force_rows user_certificate q.now (setting Principals e.options) q.user c
 
 -- of a certificate that insists on what is not met
 abbrev pub critical_rows : AuthEntry → Address → Certificate → List (Option Obstacle)
@@ -175,7 +121,7 @@ critical_rows e address c =
 
 abbrev pub certificate_obstacle : AuthEntry → LoginClaim → Certificate → Option Obstacle
 certificate_obstacle e claim c =
-    or_later (first_obstacle (force_rows e claim.query c)) (first_obstacle (critical_rows e claim.address c))
+    or_later (first_obstacle (user_force_rows e claim.query c)) (first_obstacle (critical_rows e claim.address c))
 
 abbrev pub offer_obstacle : AuthEntry → LoginClaim → Offer → Option Obstacle
 offer_obstacle e claim (plain key) = None

@@ -1,6 +1,8 @@
 pub mod CertificateRules
-pub mod Rights
-pub mod SecurityKeys
+pub mod Obstacles
+pub mod CertificateForce
 pub mod Admission
+pub mod HostAdmission
+pub mod Revocation
 pub mod ValueText
 pub mod Verdict

@@ -5,59 +5,29 @@ ghost use Rattle.ssh_certs.specs.CertificateOf.{certificate_of};
 ghost use Rattle.ssh_options.specs.declared.option.ValueName.TheVariants.{ExpiryTime, Principals};
 ghost use Rattle.ssh_lines.specs.Settings.{setting, settings};
 ghost use Rattle.ssh_rules.specs.CertificateRules.{serves};
-ghost use Rattle.ssh_rules.specs.Admission.{certificate_obstacle, commands_differ, critical_rows, first_obstacle, force_rows, is_expired, is_past, is_past_time, line_rows, line_source, login_obstacle, offer_obstacle, permit_row, role_row, time_row};
+ghost use Rattle.ssh_rules.specs.Obstacles.{first_obstacle};
+ghost use Rattle.ssh_rules.specs.Admission.{certificate_obstacle, commands_differ, critical_rows, is_expired, is_past, is_past_time, line_rows, line_source, login_obstacle, offer_obstacle, user_force_rows};
 ghost use Rattle.ssh_offers.specs.Query.{login_of};
 ghost use Rattle.ssh_offers.specs.OfferView.{offer_of};
-ghost use Rattle.ssh_offers.specs.Claim.{claim_of};
+ghost use Rattle.ssh_offers.specs.ClaimViews.{claim_of};
 
 use crate::certificate::{
-    certificate_source, first_unknown, forced_command, has_listed, has_repeated, have_their_forms,
-    serves,
+    certificate_source, first_unknown, has_listed, has_repeated, have_their_forms, serves,
+};
+use crate::obstacle::{
+    period_obstacle, permit_obstacle, principal_obstacle, role_obstacle, unknown_obstacle,
 };
 use crate::reason::{Obstacle, Reason};
-use crate::rights::line_command;
 use crate::value_text::ValueText;
-use ssh_certs::{CertView, Time};
-use ssh_lines::{AuthEntryView, Bytes, Flag, ValueName, ValueView, expiry};
-use ssh_offers::{Claim, Offer};
+use ssh_certs::CertView;
+use ssh_lines::{AuthEntryView, Flag, ValueName, ValueView, expiry};
+use ssh_offers::{LoginClaimView, Offer};
 use ssh_patterns::{Permit, source_list};
+use ssh_rights::{forced_command, line_command};
 use std::alloc::{AllocError, Global};
 
 /// The kind number of a user's certificate (PROTOCOL.certkeys).
 const USER_CERTIFICATE: u32 = 1;
-
-/// By whether the line is an authority, and whether a certificate is offered.
-fn role_obstacle(authority: bool, certified: bool) -> Option<Obstacle>
-    ensures { result ≡ role_row authority certified }
-{
-    match (authority, certified) {
-        (true, false) => Some(Obstacle::Listed(Reason::AuthorityOnly)),
-        (false, true) => Some(Obstacle::Listed(Reason::NotAuthority)),
-        (true, true) | (false, false) => None,
-    }
-}
-
-/// By what a list of sources says.
-fn permit_obstacle(bad: Reason, refused: Reason, permit: Permit) -> Option<Obstacle>
-    ensures { result ≡ permit_row bad refused permit }
-{
-    match permit {
-        Permit::Yes => None,
-        Permit::No => Some(Obstacle::Listed(refused)),
-        Permit::Bad => Some(Obstacle::Listed(bad)),
-    }
-}
-
-/// By where the moment lies in the certificate's time.
-fn time_obstacle(time: Time) -> Option<Obstacle>
-    ensures { result ≡ time_row time }
-{
-    match time {
-        Time::Early => Some(Obstacle::Listed(Reason::NotYetValid)),
-        Time::Now => None,
-        Time::Late => Some(Obstacle::Listed(Reason::NoLongerValid)),
-    }
-}
 
 /// Whether the moment is past. An expiry time without a moment counts as past.
 fn is_past(moment: Option<i64>, now: u64) -> bool
@@ -73,7 +43,11 @@ fn is_past(moment: Option<i64>, now: u64) -> bool
 }
 
 /// Whether the moment of an expiry time is past.
-fn is_past_time(alloc: Global, value: &ValueView<'_>, claim: &Claim<'_>) -> Result<bool, AllocError>
+fn is_past_time(
+    alloc: Global,
+    value: &ValueView<'_>,
+    claim: &LoginClaimView<'_>,
+) -> Result<bool, AllocError>
     ensures { IfOk result (λ past. past ≡ is_past_time (claim_of claim.now).query value.now) }
 {
     let text = ValueText::new(alloc, value)?;
@@ -85,7 +59,7 @@ fn is_past_time(alloc: Global, value: &ValueView<'_>, claim: &Claim<'_>) -> Resu
 fn is_expired(
     alloc: Global,
     entry: &AuthEntryView<'_>,
-    claim: &Claim<'_>,
+    claim: &LoginClaimView<'_>,
 ) -> Result<bool, AllocError>
     ensures { IfOk result (λ expired. expired ≡ is_expired (claim_of claim.now).query (settings ExpiryTime entry.now.options)) }
 {
@@ -101,7 +75,7 @@ fn is_expired(
 fn line_source(
     alloc: Global,
     entry: &AuthEntryView<'_>,
-    claim: &Claim<'_>,
+    claim: &LoginClaimView<'_>,
 ) -> Result<Permit, AllocError>
     ensures { IfOk result (λ permit. permit ≡ line_source entry.now (claim_of claim.now).query) }
 {
@@ -116,7 +90,7 @@ fn line_source(
 fn line_obstacle(
     alloc: Global,
     entry: &AuthEntryView<'_>,
-    claim: &Claim<'_>,
+    claim: &LoginClaimView<'_>,
 ) -> Result<Option<Obstacle>, AllocError>
     ensures { IfOk result (λ o. o ≡ first_obstacle (line_rows entry.now (claim_of claim.now))) }
 {
@@ -139,7 +113,7 @@ fn line_obstacle(
 fn has_served_principal(
     alloc: Global,
     entry: &AuthEntryView<'_>,
-    claim: &Claim<'_>,
+    claim: &LoginClaimView<'_>,
     certificate: &CertView<'_>,
 ) -> Result<bool, AllocError>
     ensures { IfOk result (λ served. served ≡ serves (setting Principals entry.now.options) (claim_of claim.now).query.user (certificate_of certificate.now)) }
@@ -157,22 +131,16 @@ fn has_served_principal(
 fn force_obstacle(
     alloc: Global,
     entry: &AuthEntryView<'_>,
-    claim: &Claim<'_>,
+    claim: &LoginClaimView<'_>,
     certificate: &CertView<'_>,
 ) -> Result<Option<Obstacle>, AllocError>
-    ensures { IfOk result (λ o. o ≡ first_obstacle (force_rows entry.now (claim_of claim.now).query (certificate_of certificate.now))) }
+    ensures { IfOk result (λ o. o ≡ first_obstacle (user_force_rows entry.now (claim_of claim.now).query (certificate_of certificate.now))) }
 {
-    if certificate.kind_number() != USER_CERTIFICATE {
-        return Ok(Some(Obstacle::Listed(Reason::WrongCertKind)));
-    }
-    if let Some(obstacle) = time_obstacle(certificate.in_time(claim.query.now)) {
+    if let Some(obstacle) = period_obstacle(USER_CERTIFICATE, claim.query.now, certificate) {
         return Ok(Some(obstacle));
     }
-    if has_served_principal(alloc, entry, claim, certificate)? {
-        Ok(None)
-    } else {
-        Ok(Some(Obstacle::Listed(Reason::PrincipalRefused)))
-    }
+    let serves = has_served_principal(alloc, entry, claim, certificate)?;
+    Ok(principal_obstacle(serves))
 }
 
 /// Both force a command, and these differ.
@@ -189,14 +157,13 @@ fn commands_differ(line: Option<ValueView<'_>>, own: Option<&[u8]>) -> bool
 fn critical_obstacle(
     alloc: Global,
     entry: &AuthEntryView<'_>,
-    claim: &Claim<'_>,
+    claim: &LoginClaimView<'_>,
     certificate: &CertView<'_>,
 ) -> Result<Option<Obstacle>, AllocError>
     ensures { IfOk result (λ o. o ≡ first_obstacle (critical_rows entry.now (claim_of claim.now).address (certificate_of certificate.now))) }
 {
-    if let Some(name) = first_unknown(certificate.critical()) {
-        let name = name.to_vec(alloc)?;
-        return Ok(Some(Obstacle::Listed(Reason::CriticalUnknown(Bytes::new(name)))));
+    if let Some(obstacle) = unknown_obstacle(alloc, first_unknown(certificate.critical()))? {
+        return Ok(Some(obstacle));
     }
     if has_repeated(certificate) {
         return Ok(Some(Obstacle::Listed(Reason::CriticalRepeated)));
@@ -222,7 +189,7 @@ fn critical_obstacle(
 fn certificate_obstacle(
     alloc: Global,
     entry: &AuthEntryView<'_>,
-    claim: &Claim<'_>,
+    claim: &LoginClaimView<'_>,
     certificate: &CertView<'_>,
 ) -> Result<Option<Obstacle>, AllocError>
     ensures { IfOk result (λ o. o ≡ certificate_obstacle entry.now (claim_of claim.now) (certificate_of certificate.now)) }
@@ -237,7 +204,7 @@ fn certificate_obstacle(
 fn offer_obstacle(
     alloc: Global,
     entry: &AuthEntryView<'_>,
-    claim: &Claim<'_>,
+    claim: &LoginClaimView<'_>,
 ) -> Result<Option<Obstacle>, AllocError>
     ensures { IfOk result (λ o. o ≡ offer_obstacle entry.now (claim_of claim.now) (offer_of claim.now.offer)) }
 {
@@ -256,7 +223,7 @@ fn offer_obstacle(
 pub(crate) fn login_obstacle(
     alloc: Global,
     entry: &AuthEntryView<'_>,
-    claim: &Claim<'_>,
+    claim: &LoginClaimView<'_>,
 ) -> Result<Option<Obstacle>, AllocError>
     ensures { IfOk result (λ o. o ≡ login_obstacle entry.now (claim_of claim.now)) }
 {

@@ -1,19 +1,20 @@
-//! Whether one line of a trust file admits one offer, and the first reason why it does not; what an
-//! admitted login may do, and what its security key has to show.
+//! Whether one line of a trust file admits one offer, and the first reason why it does not; what a line
+//! revokes.
 #![tactic(auto)]
 
 mod admission;
 mod certificate;
+mod host_admission;
+mod host_line;
 mod laws;
+mod obstacle;
 mod reason;
-mod right;
-mod rights;
-mod security_key;
+mod sought;
 mod value_text;
 mod verdict;
 
-pub use laws::{admission_rule, rights_rule};
+pub use host_line::host_verdict;
+pub use laws::{admission_rule, host_admission_rule};
 pub use reason::{Obstacle, Reason};
-pub use rights::{Carried, CarriedName, Rights, rights_of};
-pub use security_key::{is_touched, is_verified};
+pub use sought::{SoughtHost, may_revoke};
 pub use verdict::{LineVerdict, login_verdict};

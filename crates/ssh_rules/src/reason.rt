@@ -17,15 +17,17 @@ pub enum Reason {
     SourceBad,
     /// `G8`: the line's list of sources does not permit the client.
     SourceRefused,
-    /// `G9`: the certificate is not for users.
+    /// `G9`: the certificate is not for users, where a login is asked, or not for hosts.
     WrongCertKind,
     /// `G10`: the certificate is not yet in force.
     NotYetValid,
     /// `G11`: the certificate is no longer in force.
     NoLongerValid,
-    /// `G12`: the certificate is for none of the principals that the line or the login names.
+    /// `G12`: the certificate is for none of the principals that the line or the login names, or not for
+    /// the host.
     PrincipalRefused,
-    /// `G13`: the certificate has a critical option of this name, which no login knows.
+    /// `G13`: the certificate has a critical option of this name, which no login knows. For a host's key
+    /// none is known (this project's rule).
     CriticalUnknown(Bytes),
     /// `G14`: a critical option stands twice in the certificate (this project's rule).
     CriticalRepeated,
@@ -39,12 +41,14 @@ pub enum Reason {
     CommandConflict,
 }
 
-/// Why an entry does not admit a login: it is about another key, which is not listed, or a reason
-/// that is.
+/// Why an entry does not admit an offer: it is about another key or another host, which is not listed,
+/// or a reason that is.
 #[derive(Debug, Drop)]
 pub enum Obstacle {
     /// It is about another key (`G2`), which is not listed.
     OtherKey,
+    /// Its names do not name the host (`G5`), which is not listed.
+    OtherHost,
     /// A reason that is listed.
     Listed(Reason),
 }

@@ -3,29 +3,29 @@
 ghost use Rattle.std.specs.Prelude.{◌≡◌, IfOk};
 ghost use Rattle.ssh_lines.specs.declared.entry.AuthLine.{AuthLine};
 ghost use Rattle.ssh_lines.specs.LineView.{line_seen};
-ghost use Rattle.ssh_offers.specs.Claim.{claim_of};
+ghost use Rattle.ssh_offers.specs.ClaimViews.{claim_of};
 ghost use Rattle.ssh_rules.specs.Verdict.{listed_reason, login_verdict};
 
 use crate::admission::login_obstacle;
 use crate::reason::{Obstacle, Reason};
 use ssh_lines::{AuthEntryView, AuthLineView};
-use ssh_offers::Claim;
+use ssh_offers::LoginClaimView;
 use std::alloc::{AllocError, Global};
 
-/// What a line is to a login.
+/// What a line is to an offer, by the entry that it holds.
 #[derive(Debug, Drop)]
-pub enum LineVerdict<'a> {
-    /// Its entry admits the login.
-    Admits(AuthEntryView<'a>),
+pub enum LineVerdict<E> {
+    /// Its entry admits the offer.
+    Admits(E),
     /// It does not, for a reason that is listed or for none.
     Passes(Option<Reason>),
 }
 
-fn listed_reason(obstacle: Obstacle) -> Option<Reason>
+pub(crate) fn listed_reason(obstacle: Obstacle) -> Option<Reason>
     ensures { result ≡ listed_reason obstacle }
 {
     match obstacle {
-        Obstacle::OtherKey => None,
+        Obstacle::OtherKey | Obstacle::OtherHost => None,
         Obstacle::Listed(why) => Some(why),
     }
 }
@@ -33,8 +33,8 @@ fn listed_reason(obstacle: Obstacle) -> Option<Reason>
 fn entry_verdict<'a>(
     alloc: Global,
     entry: AuthEntryView<'a>,
-    claim: &Claim<'_>,
-) -> Result<LineVerdict<'a>, AllocError>
+    claim: &LoginClaimView<'_>,
+) -> Result<LineVerdict<AuthEntryView<'a>>, AllocError>
     ensures { IfOk result (λ verdict. verdict ≡ login_verdict (claim_of claim.now) (AuthLine.Entry entry.entry)) }
 {
     match login_obstacle(alloc, &entry, claim)? {
@@ -48,8 +48,8 @@ fn entry_verdict<'a>(
 pub fn login_verdict<'a>(
     alloc: Global,
     line: AuthLineView<'a>,
-    claim: &Claim<'_>,
-) -> Result<LineVerdict<'a>, AllocError>
+    claim: &LoginClaimView<'_>,
+) -> Result<LineVerdict<AuthEntryView<'a>>, AllocError>
     ensures { IfOk result (λ verdict. verdict ≡ login_verdict (claim_of claim.now) (line_seen line.entry)) }
 {
     match line {

@@ -1,0 +1,3 @@
+pub mod CertificateOptions
+pub mod Rights
+pub mod SecurityKeys

@@ -1,0 +1,120 @@
+-- What a login may do (sshd(8), AUTHORIZED_KEYS FILE FORMAT; PROTOCOL.certkeys).
+use Rattle.std.specs.Prelude.{◌≡◌, ◌⊎◌, ℕ, Bool, true, false, ◌&&◌, ◌||◌, if◌then◌else◌, List, [], ◌∷◌, ◌++◌, codes, Option, Some, None, unwrap_or}
+use Rattle.std.specs.List.{AllByRecursion}
+use Rattle.ssh_lines.specs.declared.entry.AuthEntry.{AuthEntry}
+use Rattle.ssh_options.specs.declared.option.AuthOption.{AuthOption}
+use Rattle.ssh_options.specs.declared.option.AuthOption.TheVariants.{Switch, Setting}
+use Rattle.ssh_options.specs.declared.option.Flag.{Flag}
+use Rattle.ssh_options.specs.declared.option.Flag.TheVariants as flag
+use Rattle.ssh_options.specs.declared.option.ValueName.{ValueName}
+use Rattle.ssh_options.specs.declared.option.ValueName.TheVariants as value
+use Rattle.ssh_lines.specs.OptionNames.{same_flag}
+use Rattle.ssh_lines.specs.Settings.{setting}
+use Rattle.ssh_rights.specs.declared.rights.Carried.{Carried}
+use Rattle.ssh_rights.specs.declared.rights.CarriedName.{CarriedName}
+use Rattle.ssh_rights.specs.declared.rights.CarriedName.TheVariants.{Environment, PermitListen, PermitOpen, Tunnel}
+use Rattle.ssh_rights.specs.declared.rights.Rights.{Rights}
+use Rattle.ssh_rights.specs.declared.right.Right.{Right}
+use Rattle.ssh_rights.specs.declared.right.Right.TheVariants.{Port, Agent, X11, Pty, UserRc}
+use Rattle.ssh_offers.specs.Offer.{Offer, plain, certified}
+use Rattle.ssh_rights.specs.CertificateOptions.{forced_by_certificate, has_empty_option}
+
+-- the flags of a line that turn a right on and off
+abbrev pub turns_on : Right → Flag
+turns_on Port = flag.PortForwarding
+turns_on Agent = flag.AgentForwarding
+turns_on X11 = flag.X11Forwarding
+turns_on Pty = flag.Pty
+turns_on UserRc = flag.UserRc
+
+abbrev pub turns_off : Right → Flag
+turns_off Port = flag.NoPortForwarding
+turns_off Agent = flag.NoAgentForwarding
+turns_off X11 = flag.NoX11Forwarding
+turns_off Pty = flag.NoPty
+turns_off UserRc = flag.NoUserRc
+
+-- the extension of a certificate that gives it
+abbrev pub permit_name : Right → List ℕ
+permit_name Port = codes "permit-port-forwarding"
+permit_name Agent = codes "permit-agent-forwarding"
+permit_name X11 = codes "permit-X11-forwarding"
+permit_name Pty = codes "permit-pty"
+permit_name UserRc = codes "permit-user-rc"
+
+-- whether an option turns a right on or off, if it does: `restrict` turns each off
+abbrev pub effect_on : Right → AuthOption → Option Bool
+effect_on x (Switch f) =
+    if same_flag f (turns_on x) then Some true
+    else if same_flag f (turns_off x) || same_flag f flag.Restrict then Some false
+    else None
+effect_on x (Setting name text) = None
+
+-- A right is on if no option turns it on or off, or one turns it on and no later one turns it on or off.
+abbrev pub IsOn : Right → List AuthOption → Type 0
+IsOn x options =
+    AllByRecursion (λ o. effect_on x o ≡ None) options
+    ⊎ ((before : List AuthOption) × (o : AuthOption) × (after : List AuthOption)
+    × (options ≡ before ++ o ∷ after) × (effect_on x o ≡ Some true) × AllByRecursion (λ o. effect_on x o ≡ None) after)
+
+-- what the last option that turns it on or off leaves, after what stood before
+abbrev pub last_word : Right → Bool → List AuthOption → Bool
+last_word x said [] = said
+last_word x said (o ∷ options) = last_word x (unwrap_or (effect_on x o) said) options
+
+abbrev pub is_on : Right → List AuthOption → Bool
+is_on x options = last_word x true options
+
+-- a certificate has to give the right too
+abbrev pub permits : Right → Offer → Bool
+permits x (plain key) = true
+permits x (certified c) = has_empty_option (permit_name x) c.extensions
+
+abbrev pub has_right : Right → List AuthOption → Offer → Bool
+has_right x options offer = is_on x options && permits x offer
+
+-- the command that a certificate forces
+abbrev pub forced_by_offer : Offer → Option (List ℕ)
+forced_by_offer (plain key) = None
+forced_by_offer (certified c) = forced_by_certificate c
+
+-- the command of the line, else that of a certificate
+abbrev pub command_of : Option (List ℕ) → Offer → Option (List ℕ)
+command_of (Some command) offer = Some command
+command_of None offer = forced_by_offer offer
+
+-- the options whose texts are carried on
+abbrev pub carried_name : ValueName → Option CarriedName
+carried_name value.Command = None
+carried_name value.Environment = Some Environment
+carried_name value.ExpiryTime = None
+carried_name value.From = None
+carried_name value.PermitListen = Some PermitListen
+carried_name value.PermitOpen = Some PermitOpen
+carried_name value.Principals = None
+carried_name value.Tunnel = Some Tunnel
+
+abbrev pub carried_by : Option CarriedName → List ℕ → List Carried
+carried_by None text = []
+carried_by (Some name) text = record { name = name; text = text } ∷ []
+
+abbrev pub carried_of : AuthOption → List Carried
+carried_of (Switch f) = []
+carried_of (Setting name text) = carried_by (carried_name name) text
+
+-- their texts, in the order of the line
+abbrev pub carried_texts : List AuthOption → List Carried
+carried_texts [] = []
+carried_texts (o ∷ options) = carried_of o ++ carried_texts options
+
+-- what a login by this line may do
+unfoldable pub rights_of : AuthEntry → Offer → Rights
+rights_of e offer = record {
+  port = has_right Port e.options offer;
+  agent = has_right Agent e.options offer;
+  x11 = has_right X11 e.options offer;
+  pty = has_right Pty e.options offer;
+  user_rc = has_right UserRc e.options offer;
+  command = command_of (setting value.Command e.options) offer;
+  carried = carried_texts e.options;
+}

@@ -1,0 +1,49 @@
+-- Logins by security keys: touched, and verified (PROTOCOL.u2f; sshd(8), no-touch-required and verify-required).
+use Rattle.std.specs.Prelude.{ℕ, ◌==◌, bit_and, Bool, true, false, not, ◌&&◌, ◌||◌, List, codes, Option, Some, None}
+use Rattle.ssh_keys.specs.Signature.{Signature}
+use Rattle.ssh_options.specs.declared.option.AuthOption.{AuthOption}
+use Rattle.ssh_options.specs.declared.option.Flag.TheVariants.{NoTouchRequired, VerifyRequired}
+use Rattle.ssh_lines.specs.Settings.{has_flag}
+use Rattle.ssh_offers.specs.Offer.{Offer, plain, certified}
+use Rattle.ssh_rights.specs.CertificateOptions.{has_empty_option, has_option}
+
+-- the flags of a security key's signature
+abbrev pub user_present : ℕ
+user_present = 1
+
+abbrev pub user_verified : ℕ
+user_verified = 4
+
+-- a security key's signature with this flag
+abbrev pub has_sk_flag : ℕ → Option (ℕ × ℕ) → Bool
+has_sk_flag flag None = false
+has_sk_flag flag (Some sk) = bit_and sk.0 flag == flag
+
+-- no signature of a security key, or one that says that a user was present
+abbrev pub is_present : Option (ℕ × ℕ) → Bool
+is_present None = true
+is_present (Some sk) = has_sk_flag user_present (Some sk)
+
+-- a certificate has to say too that no touch is required
+abbrev pub is_touch_waived : Offer → Bool
+is_touch_waived (plain key) = true
+is_touch_waived (certified c) = has_empty_option (codes "no-touch-required") c.extensions
+
+abbrev pub waives_touch : List AuthOption → Offer → Bool
+waives_touch options offer = has_flag NoTouchRequired options && is_touch_waived offer
+
+-- a security key was touched, where it has to be
+abbrev pub is_touched : List AuthOption → Offer → Signature → Bool
+is_touched options offer s = is_present s.sk || waives_touch options offer
+
+abbrev pub is_verification_asked : Offer → Bool
+is_verification_asked (plain key) = false
+is_verification_asked (certified c) = has_option (codes "verify-required") c.critical
+
+-- the line or the certificate asks that a security key verified the user
+abbrev pub wants_verification : List AuthOption → Offer → Bool
+wants_verification options offer = has_flag VerifyRequired options || is_verification_asked offer
+
+-- A signature that is not a security key's verifies nobody (this project's rule).
+abbrev pub is_verified : List AuthOption → Offer → Signature → Bool
+is_verified options offer s = not (wants_verification options offer) || has_sk_flag user_verified s.sk

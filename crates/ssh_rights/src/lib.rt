@@ -1,0 +1,16 @@
+//! What a login that a line admits may do, and what its security key has to show; what the options of a
+//! certificate say.
+#![tactic(auto)]
+
+mod certificate_option;
+mod laws;
+mod right;
+mod rights;
+mod security_key;
+
+pub use certificate_option::{
+    FORCE_COMMAND, VERIFY_REQUIRED, forced_command, has_option, one_string, text_in,
+};
+pub use laws::rights_rule;
+pub use rights::{Carried, CarriedName, Rights, line_command, rights_of};
+pub use security_key::{is_touched, is_verified};

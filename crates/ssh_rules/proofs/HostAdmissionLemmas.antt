@@ -1,0 +1,89 @@
+-- An entry admits a host's key exactly where no row of the table holds.
+use Rattle.std.proofs.Common.{◌≡◌, ℕ, Bool, true, false, List, [], ◌∷◌, Option, Some, None, refl, sym}
+use Rattle.std.specs.Bool.{Decides}
+use Rattle.std.proofs.lemmas.Slice.Eq.{bytes_eq-Decides}
+use Rattle.ssh_keys.specs.PublicKey.{key_blob}
+use Rattle.ssh_certs.specs.Certificate.{Certificate, CertOption}
+use Rattle.ssh_patterns.specs.Lists.{MatchesInLowerCase, is_match_in_lower_case}
+use Rattle.ssh_patterns.proofs.PermitLaw.{lower-tells, permits-tells}
+use Rattle.ssh_names.specs.Names.{Names, NamesHost, Patterns, Hashed, name_hash, names_host}
+use Rattle.ssh_lines.specs.declared.known.KnownEntry.{KnownEntry}
+use Rattle.ssh_offers.specs.Query.{HostCheck}
+use Rattle.ssh_offers.specs.Offer.{Offer, OfCertificate, certified, is_certified, plain, subject}
+use Rattle.ssh_offers.specs.HostClaim.{HostClaim}
+use Rattle.ssh_rules.specs.CertificateForce.{host_certificate}
+use Rattle.ssh_rules.specs.Obstacles.{first_obstacle, unknown_row}
+use Rattle.ssh_rules.specs.HostAdmission.{AdmitsHost, InsistsOnNothing, IsHostInForce, first_name, host_certificate_obstacle, host_force_rows, host_line_rows, host_obstacle, host_offer_obstacle, host_row, looked_up, marks_authority, principal_of}
+use Rattle.ssh_rules.proofs.Tests.{none_of, of_none, both_none, none_both, key_held, held_key, same_role, role_same}
+use Rattle.ssh_rules.proofs.ForceLemmas.{in_force, force_none}
+
+-- ---- names
+
+names-decides : (names : Names) (name : List ℕ) → Decides (names_host names name) (NamesHost names name)
+names-decides (Patterns list) name = permits-tells (is_match_in_lower_case name) (MatchesInLowerCase name) (lower-tells name) list
+names-decides (Hashed salt hash) name =
+    let same = bytes_eq-Decides (name_hash salt name) hash in
+    (λ h. sym (same.0 h), λ h. same.1 (sym h))
+
+named : (b : Bool) → host_row b ≡ None → b ≡ true
+named true h = refl
+named false h = cc
+
+is-named : (b : Bool) → b ≡ true → host_row b ≡ None
+is-named true h = refl
+is-named false h = cc
+
+-- ---- a certificate
+
+nothing : (options : List CertOption) → unknown_row (first_name options) ≡ None → options ≡ []
+nothing [] h = refl
+nothing (o ∷ options) h = cc
+
+no-name : (options : List CertOption) → options ≡ [] → unknown_row (first_name options) ≡ None
+no-name [] h = refl
+no-name (o ∷ options) h = cc
+
+offer-none : (q : HostCheck) (o : Offer) → host_offer_obstacle q o ≡ None
+    → OfCertificate (IsHostInForce q) o × OfCertificate InsistsOnNothing o
+offer-none q (plain key) h = (tt, tt)
+offer-none q (certified c) h =
+    let both = both_none (first_obstacle (host_force_rows q c)) (unknown_row (first_name c.critical)) h in
+    (in_force host_certificate q.now None (principal_of q) c (none_of (host_force_rows q c) both.0), nothing c.critical both.1)
+
+none-offer : (q : HostCheck) (o : Offer) → OfCertificate (IsHostInForce q) o → OfCertificate InsistsOnNothing o → host_offer_obstacle q o ≡ None
+none-offer q (plain key) f m = refl
+none-offer q (certified c) f m =
+    none_both (first_obstacle (host_force_rows q c)) (unknown_row (first_name c.critical))
+    (of_none (host_force_rows q c) (force_none host_certificate q.now None (principal_of q) c f)) (no-name c.critical m)
+
+-- ---- a host's key
+
+pub host_where_none : (e : KnownEntry) (claim : HostClaim) → host_obstacle e claim ≡ None → AdmitsHost e claim
+unfolding host_obstacle
+host_where_none e claim h =
+    let both = both_none (first_obstacle (host_line_rows e claim)) (host_offer_obstacle claim.query claim.offer) h in
+    let n = none_of (host_line_rows e claim) both.0 in
+    let offered = offer-none claim.query claim.offer both.1 in
+    record {
+      key = (bytes_eq-Decides (key_blob e.key) (key_blob (subject claim.offer))).0 (key_held _ n.0);
+      role = same_role (marks_authority e.marker) (is_certified claim.offer) n.1.0;
+      names = (names-decides e.names (looked_up claim.query)).0 (named _ n.1.1.0);
+      in_force = offered.0;
+      critical = offered.1;
+    }
+
+pub none_where_host : (e : KnownEntry) (claim : HostClaim) → AdmitsHost e claim → host_obstacle e claim ≡ None
+unfolding host_obstacle
+none_where_host e claim a =
+    none_both (first_obstacle (host_line_rows e claim)) (host_offer_obstacle claim.query claim.offer)
+    (of_none (host_line_rows e claim) (
+      held_key _ ((bytes_eq-Decides (key_blob e.key) (key_blob (subject claim.offer))).1 a.key),
+      (
+        role_same (marks_authority e.marker) (is_certified claim.offer) a.role,
+        (
+          is-named _ ((names-decides e.names (looked_up claim.query)).1 a.names),
+          tt,
+        ),
+      ),
+    ))
+    (none-offer claim.query claim.offer a.in_force a.critical)

@@ -1,5 +1,0 @@
-use Rattle.ssh_rules.proofs.RightsLemmas.{is_then_on, on_is}
-use Rattle.ssh_rules.proofs.laws.rights_rule.Goals as goal
-
-pub returns : goal.returns
-returns c = λ x options. (on_is x options, is_then_on x options)

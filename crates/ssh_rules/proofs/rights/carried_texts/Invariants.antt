@@ -1,8 +1,0 @@
-use Rattle.std.proofs.Common.{◌≡◌, ◌++◌}
-use Rattle.ssh_rules.specs.Rights.{carried_texts}
-use Rattle.ssh_rules.proofs.rights.carried_texts.Given as goal
-
-abbrev pub invariant-loop-option : goal.invariant-loop-option
-invariant-loop-option l =
-    (goal.iterator-loop-option).can_next l.option-iterator × (goal.iterator-loop-option).is_finite l.option-iterator
-    × (l.carried.items ++ carried_texts l.option-iterator ≡ carried_texts l.fn.options)

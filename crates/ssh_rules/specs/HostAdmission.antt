@@ -1,0 +1,87 @@
+-- When an entry of a known_hosts file admits a host's key (sshd(8), SSH_KNOWN_HOSTS FILE FORMAT; PROTOCOL.certkeys), and
+-- why one does not.
+use Rattle.std.specs.Prelude.{◌≡◌, ℕ, Bool, true, false, List, [], ◌∷◌, Option, Some, None}
+use Rattle.std.specs.Str.{bytes_eq, str_to_ascii_lowercase}
+use Rattle.ssh_keys.specs.PublicKey.{key_blob}
+use Rattle.ssh_certs.specs.Certificate.{Certificate, CertOption}
+use Rattle.ssh_names.specs.Names.{NamesHost, lookup_name, names_host}
+use Rattle.ssh_lines.specs.declared.known.KnownEntry.{KnownEntry}
+use Rattle.ssh_lines.specs.declared.marker.Marker.{Marker}
+use Rattle.ssh_lines.specs.declared.marker.Marker.TheVariants.{CertAuthority, Unmarked}
+use Rattle.ssh_offers.specs.Query.{HostCheck}
+use Rattle.ssh_offers.specs.Offer.{Offer, OfCertificate, certified, is_certified, plain, subject}
+use Rattle.ssh_offers.specs.HostClaim.{HostClaim}
+use Rattle.ssh_rules.specs.declared.reason.Obstacle.{Obstacle}
+use Rattle.ssh_rules.specs.declared.reason.Obstacle.TheVariants.{OtherHost}
+use Rattle.ssh_rules.specs.CertificateForce.{InForce, force_rows, host_certificate}
+use Rattle.ssh_rules.specs.Obstacles.{first_obstacle, key_row, or_later, role_row, unknown_row}
+
+-- the name that the host is looked up by, with its port
+abbrev pub looked_up : HostCheck → List ℕ
+looked_up q = lookup_name q.host q.port
+
+-- the host as the principals of its certificates have it: in ASCII lower case, without the port
+abbrev pub principal_of : HostCheck → List ℕ
+principal_of q = str_to_ascii_lowercase q.host
+
+-- the line marks its key as an authority for certificates
+abbrev pub marks_authority : Marker → Bool
+marks_authority Unmarked = false
+marks_authority CertAuthority = true
+
+-- ======== in the subject's words
+
+-- the certificate is a host's and in force, for this host or for all
+abbrev pub IsHostInForce : HostCheck → Certificate → Type 0
+IsHostInForce q c = InForce host_certificate q.now None (principal_of q) c
+
+-- No critical option is known of a host's certificate (this project's rule).
+abbrev pub InsistsOnNothing : Certificate → Type 0
+InsistsOnNothing c = c.critical ≡ []
+
+-- an entry of a known_hosts file admits a host's key
+pub record AdmitsHost (e : KnownEntry) (claim : HostClaim) : Type 0 where
+  -- It holds the offered key, or that of the certificate's signer,
+  pub key : key_blob e.key ≡ key_blob (subject claim.offer)
+  -- and is an authority exactly where a certificate is offered.
+  pub role : marks_authority e.marker ≡ is_certified claim.offer
+  -- Its names name the host.
+  pub names : NamesHost e.names (looked_up claim.query)
+  -- The certificate is in force,
+  pub in_force : OfCertificate (IsHostInForce claim.query) claim.offer
+  -- and insists on nothing.
+  pub critical : OfCertificate InsistsOnNothing claim.offer
+
+-- ======== why an entry does not admit, the first that holds
+
+abbrev pub host_row : Bool → Option Obstacle
+host_row true = None
+host_row false = Some OtherHost
+
+-- of the line
+abbrev pub host_line_rows : KnownEntry → HostClaim → List (Option Obstacle)
+host_line_rows e claim =
+    key_row (bytes_eq (key_blob e.key) (key_blob (subject claim.offer)))
+    ∷ role_row (marks_authority e.marker) (is_certified claim.offer)
+    ∷ host_row (names_host e.names (looked_up claim.query))
+    ∷ []
+
+-- of a host's certificate that is not in force
+abbrev pub host_force_rows : HostCheck → Certificate → List (Option Obstacle)
+host_force_rows q c = force_rows host_certificate q.now None (principal_of q) c
+
+-- the name of the first option
+abbrev pub first_name : List CertOption → Option (List ℕ)
+first_name [] = None
+first_name (o ∷ options) = Some o.name
+
+abbrev pub host_certificate_obstacle : HostCheck → Certificate → Option Obstacle
+host_certificate_obstacle q c = or_later (first_obstacle (host_force_rows q c)) (unknown_row (first_name c.critical))
+
+abbrev pub host_offer_obstacle : HostCheck → Offer → Option Obstacle
+host_offer_obstacle q (plain key) = None
+host_offer_obstacle q (certified c) = host_certificate_obstacle q c
+
+-- why an entry does not admit a host's key; nothing where it admits
+unfoldable pub host_obstacle : KnownEntry → HostClaim → Option Obstacle
+host_obstacle e claim = or_later (first_obstacle (host_line_rows e claim)) (host_offer_obstacle claim.query claim.offer)

@@ -1,0 +1,35 @@
+-- What a line of a known_hosts file says against an offer (sshd(8), SSH_KNOWN_HOSTS FILE FORMAT).
+use Rattle.std.specs.Prelude.{◌≡◌, ◌⊎◌, ◌||◌, ℕ, Bool, true, false, List}
+use Rattle.std.specs.Str.{bytes_eq}
+use Rattle.ssh_keys.specs.PublicKey.{key_blob}
+use Rattle.ssh_lines.specs.declared.known.KnownLine.{KnownLine}
+use Rattle.ssh_lines.specs.declared.known.KnownLine.TheVariants.{Blank, Comment, Entry, Revoked, RevokedUnreadable, Unreadable}
+use Rattle.ssh_offers.specs.Offer.{Offer, certified, plain}
+
+-- These are the blob of the offered key, or of the certificate's signer.
+abbrev pub IsOwn : Offer → List ℕ → Type 0
+IsOwn (plain key) blob = blob ≡ key_blob key
+IsOwn (certified c) blob = (blob ≡ key_blob c.key) ⊎ (blob ≡ key_blob c.signer)
+
+-- the same as a test
+abbrev pub is_own : Offer → List ℕ → Bool
+is_own (plain key) blob = bytes_eq blob (key_blob key)
+is_own (certified c) blob = bytes_eq blob (key_blob c.key) || bytes_eq blob (key_blob c.signer)
+
+-- the line revokes the offered key or the signer, whichever host it names
+abbrev pub revokes_offer : Offer → KnownLine → Bool
+revokes_offer offer Blank = false
+revokes_offer offer Comment = false
+revokes_offer offer (Entry e) = false
+revokes_offer offer (Unreadable why) = false
+revokes_offer offer (Revoked blob) = is_own offer blob
+revokes_offer offer RevokedUnreadable = false
+
+-- the line may revoke any key
+abbrev pub may_revoke : KnownLine → Bool
+may_revoke Blank = false
+may_revoke Comment = false
+may_revoke (Entry e) = false
+may_revoke (Unreadable why) = false
+may_revoke (Revoked blob) = false
+may_revoke RevokedUnreadable = true

@@ -1,0 +1,113 @@
+//! Whether an entry of a known_hosts file admits a host's key.
+
+ghost use Rattle.std.specs.Prelude.{◌≡◌, IfOk, None, option_copied};
+ghost use Rattle.ssh_certs.specs.CertificateOf.{certificate_of};
+ghost use Rattle.ssh_certs.specs.Left.{options_left};
+ghost use Rattle.ssh_rules.specs.Obstacles.{first_obstacle};
+ghost use Rattle.ssh_rules.specs.HostAdmission.{first_name, host_certificate_obstacle, host_force_rows, host_line_rows, host_obstacle, host_offer_obstacle, marks_authority};
+
+use crate::certificate::serves;
+use crate::obstacle::{period_obstacle, principal_obstacle, role_obstacle, unknown_obstacle};
+use crate::reason::Obstacle;
+use crate::sought::SoughtHost;
+use ssh_certs::{CertOptions, CertView};
+use ssh_lines::{KnownEntryView, Marker};
+use ssh_names::names_host;
+use ssh_offers::Offer;
+use std::alloc::{AllocError, Global};
+
+/// The kind number of a host's certificate (PROTOCOL.certkeys).
+const HOST_CERTIFICATE: u32 = 2;
+
+/// Whether the line marks its key as an authority for certificates.
+fn marks_authority(marker: Marker) -> bool
+    ensures { result ≡ marks_authority marker }
+{
+    match marker {
+        Marker::Unmarked => false,
+        Marker::CertAuthority => true,
+    }
+}
+
+/// Why the line does not admit the key, whatever a certificate says.
+fn line_obstacle(entry: &KnownEntryView<'_>, sought: &SoughtHost<'_>) -> Option<Obstacle>
+    ensures { result ≡ first_obstacle (host_line_rows entry.now sought.now) }
+{
+    if !entry.has_blob(sought.subject_blob()) {
+        return Some(Obstacle::OtherKey);
+    }
+    let authority = marks_authority(entry.marker());
+    if let Some(obstacle) = role_obstacle(authority, sought.offer().is_certified()) {
+        return Some(obstacle);
+    }
+    if names_host(&entry.names(), sought.name()) {
+        None
+    } else {
+        Some(Obstacle::OtherHost)
+    }
+}
+
+/// Why the certificate is not in force for the host.
+fn force_obstacle(sought: &SoughtHost<'_>, certificate: &CertView<'_>) -> Option<Obstacle>
+    ensures { result ≡ first_obstacle (host_force_rows sought.now.query (certificate_of certificate.now)) }
+{
+    if let Some(obstacle) = period_obstacle(HOST_CERTIFICATE, sought.now(), certificate) {
+        return Some(obstacle);
+    }
+    principal_obstacle(serves(certificate, sought.principal()))
+}
+
+/// The name of the first option.
+fn first_name(options: CertOptions<'_>) -> Option<&[u8]>
+    ensures { option_copied result ≡ first_name (options_left options.entry) }
+{
+    let mut options = options;
+    match options.next() {
+        Some((name, _)) => Some(name),
+        None => None,
+    }
+}
+
+/// Why the certificate does not serve for the host.
+fn certificate_obstacle(
+    alloc: Global,
+    sought: &SoughtHost<'_>,
+    certificate: &CertView<'_>,
+) -> Result<Option<Obstacle>, AllocError>
+    ensures { IfOk result (λ o. o ≡ host_certificate_obstacle sought.now.query (certificate_of certificate.now)) }
+{
+    if let Some(obstacle) = force_obstacle(sought, certificate) {
+        return Ok(Some(obstacle));
+    }
+    let obstacle = unknown_obstacle(alloc, first_name(certificate.critical()))?;
+    Ok(obstacle)
+}
+
+fn offer_obstacle(alloc: Global, sought: &SoughtHost<'_>) -> Result<Option<Obstacle>, AllocError>
+    ensures { IfOk result (λ o. o ≡ host_offer_obstacle sought.now.query sought.now.offer) }
+{
+    match sought.offer() {
+        Offer::Plain(_) => Ok(None),
+        Offer::Certified(certificate) => {
+            let obstacle = certificate_obstacle(alloc, sought, certificate)?;
+            Ok(obstacle)
+        }
+    }
+}
+
+/// Why the entry does not admit the host's key: the first reason that holds, in the order of `G2` to
+/// `G13`; nothing where it admits.
+#[tactic(auto, unfolding(crate::specs::HostAdmission::host_obstacle))]
+pub(crate) fn host_obstacle(
+    alloc: Global,
+    entry: &KnownEntryView<'_>,
+    sought: &SoughtHost<'_>,
+) -> Result<Option<Obstacle>, AllocError>
+    ensures { IfOk result (λ o. o ≡ host_obstacle entry.now sought.now) }
+{
+    if let Some(obstacle) = line_obstacle(entry, sought) {
+        return Ok(Some(obstacle));
+    }
+    let obstacle = offer_obstacle(alloc, sought)?;
+    Ok(obstacle)
+}

@@ -1,0 +1,49 @@
+//! What a line of a known_hosts file is to a host's key.
+
+ghost use Rattle.std.specs.Prelude.{◌≡◌, IfOk};
+ghost use Rattle.ssh_lines.specs.declared.known.KnownLine.{KnownLine};
+ghost use Rattle.ssh_lines.specs.KnownSeen.{known_seen};
+ghost use Rattle.ssh_rules.specs.Verdict.{host_verdict};
+
+use crate::host_admission::host_obstacle;
+use crate::reason::Reason;
+use crate::sought::SoughtHost;
+use crate::verdict::{LineVerdict, listed_reason};
+use ssh_lines::{KnownEntryView, KnownLineView};
+use std::alloc::{AllocError, Global};
+
+fn entry_verdict<'a>(
+    alloc: Global,
+    entry: KnownEntryView<'a>,
+    sought: &SoughtHost<'_>,
+) -> Result<LineVerdict<KnownEntryView<'a>>, AllocError>
+    ensures { IfOk result (λ verdict. verdict ≡ host_verdict sought.now (KnownLine.Entry entry.entry)) }
+{
+    match host_obstacle(alloc, &entry, sought)? {
+        None => Ok(LineVerdict::Admits(entry)),
+        Some(obstacle) => Ok(LineVerdict::Passes(listed_reason(obstacle))),
+    }
+}
+
+/// What a line is to a host's key: it admits it, or has the first reason in the order of `G1` to `G13`,
+/// or none where it is blank, a comment, a revocation, or about another key or another host. `Err` is
+/// out of memory.
+pub fn host_verdict<'a>(
+    alloc: Global,
+    line: KnownLineView<'a>,
+    sought: &SoughtHost<'_>,
+) -> Result<LineVerdict<KnownEntryView<'a>>, AllocError>
+    ensures { IfOk result (λ verdict. verdict ≡ host_verdict sought.now (known_seen line.entry)) }
+{
+    match line {
+        KnownLineView::Unreadable(why) => Ok(LineVerdict::Passes(Some(Reason::Unreadable(why)))),
+        KnownLineView::Entry(entry) => {
+            let verdict = entry_verdict(alloc, entry, sought)?;
+            Ok(verdict)
+        }
+        KnownLineView::Blank
+        | KnownLineView::Comment
+        | KnownLineView::Revoked(_)
+        | KnownLineView::RevokedUnreadable => Ok(LineVerdict::Passes(None)),
+    }
+}
