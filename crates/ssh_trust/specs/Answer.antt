@@ -1,11 +1,13 @@
--- What a login is answered, refusals and out of memory included.
+-- What a login and a host's key are answered, refusals and out of memory included.
 use Rattle.std.specs.Prelude.{◌≡◌, ℕ, nat_lt, List, length, Result, Ok, Err, if◌then◌else◌, ⊤}
 use Rattle.ssh_trust.specs.declared.decision.Decision.{Decision}
 use Rattle.ssh_offers.specs.declared.error.AuditError.{AuditError}
 use Rattle.ssh_offers.specs.declared.error.AuditError.TheVariants.{FileTooLong, Memory}
 use Rattle.ssh_offers.specs.declared.query.Signed.{Signed}
 use Rattle.ssh_offers.specs.LoginClaim.{LoginClaim}
+use Rattle.ssh_offers.specs.HostClaim.{HostClaim}
 use Rattle.ssh_trust.specs.Decision.{login_decision}
+use Rattle.ssh_trust.specs.HostDecision.{host_decision}
 
 -- the most bytes of a trust file (this project's rule)
 abbrev pub file_limit : ℕ
@@ -27,6 +29,14 @@ abbrev pub OfClaim : {C : Type 0} → Result C AuditError → (C → Type 0) →
 OfClaim (Ok c) P = P c
 OfClaim (Err e) P = Unit {0}
 
+-- what is decided of a file within the limit
+abbrev pub if_short : List ℕ → Decision → Result Decision AuditError
+if_short file decision = if nat_lt file_limit (length file) then Err FileTooLong else Ok decision
+
 -- the answer to a login whose offer was not refused
 abbrev pub login_answer : List ℕ → LoginClaim → List Signed → Result Decision AuditError
-login_answer file claim vouched = if nat_lt file_limit (length file) then Err FileTooLong else Ok (login_decision file claim vouched)
+login_answer file claim vouched = if_short file (login_decision file claim vouched)
+
+-- the answer to a host's key whose offer was not refused
+abbrev pub host_answer : List ℕ → HostClaim → List Signed → Result Decision AuditError
+host_answer file claim vouched = if_short file (host_decision file claim vouched)

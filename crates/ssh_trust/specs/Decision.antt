@@ -1,14 +1,13 @@
 -- The decision on a login.
-use Rattle.std.specs.Prelude.{◌≡◌, ℕ, ◌+◌, ◌<◌, Bool, true, false, List, [], ◌∷◌, take, map, Option, Some, None, option_map}
-use Rattle.std.specs.List.{position_or_len}
+use Rattle.std.specs.Prelude.{◌≡◌, ℕ, Bool, true, false, List, map, Option, Some, None}
 use Rattle.ssh_lines.specs.declared.entry.AuthEntry.{AuthEntry}
 use Rattle.ssh_lines.specs.Text.{lines_of}
-use Rattle.ssh_trust.specs.FileLines.{IsLineAt}
 use Rattle.ssh_lines.specs.AuthGrammar.{SpellsEntry, auth_line}
 use Rattle.ssh_rules.specs.declared.verdict.LineVerdict.{LineVerdict}
-use Rattle.ssh_rules.specs.declared.verdict.LineVerdict.TheVariants.{Admits, Passes}
 use Rattle.ssh_rules.specs.Verdict.{login_verdict}
-use Rattle.ssh_trust.specs.declared.scan.Candidate.{Candidate}
+use Rattle.ssh_trust.specs.declared.login_scan.Candidate.{Candidate}
+use Rattle.ssh_trust.specs.Candidate.{IsFirstAdmitted}
+use Rattle.ssh_trust.specs.Scan.{scan_of}
 use Rattle.ssh_trust.specs.declared.decision.Cause.{Cause}
 use Rattle.ssh_trust.specs.declared.decision.Cause.TheVariants.{NoLine, TouchMissing, VerifyMissing, NotVouched}
 use Rattle.ssh_trust.specs.declared.decision.Decision.{Decision}
@@ -18,19 +17,15 @@ use Rattle.ssh_offers.specs.declared.query.Signed.{Signed}
 use Rattle.ssh_offers.specs.LoginClaim.{LoginClaim}
 use Rattle.ssh_rules.specs.Admission.{AdmitsLogin}
 use Rattle.ssh_offers.specs.Evidence.{login_evidence}
-use Rattle.ssh_rules.specs.Rights.{rights_of}
-use Rattle.ssh_rules.specs.SecurityKeys.{is_touched, is_verified}
+use Rattle.ssh_rights.specs.Rights.{rights_of}
+use Rattle.ssh_rights.specs.SecurityKeys.{is_touched, is_verified}
 use Rattle.ssh_offers.specs.Vouching.{AllVouched, first_unvouched}
 
 -- ======== in the subject's words
 
 -- the least line that spells an entry that admits the login
-pub record IsCandidate (file : List ℕ) (claim : LoginClaim) (i : ℕ) (e : AuthEntry) : Type 0 where
-  pub line : List ℕ
-  pub stands : IsLineAt file i line
-  pub spelled : SpellsEntry e line
-  pub admits : AdmitsLogin e claim
-  pub least : (j : ℕ) (other : List ℕ) (f : AuthEntry) → j < i → IsLineAt file j other → SpellsEntry f other → AdmitsLogin f claim → ⊥
+abbrev pub IsCandidate : List ℕ → LoginClaim → ℕ → AuthEntry → Type 0
+IsCandidate file claim i e = IsFirstAdmitted AuthEntry SpellsEntry (λ f. AdmitsLogin f claim) file i e
 
 -- what a granted login stands on
 pub record IsGrant (file : List ℕ) (claim : LoginClaim) (vouched : List Signed) (i : ℕ) (e : AuthEntry) : Type 0 where
@@ -50,46 +45,11 @@ LoginMeans file claim vouched (Denied why reasons evidence) =
 
 -- ---- what each line is to the login
 
-abbrev pub verdicts : LoginClaim → List ℕ → List LineVerdict
-verdicts claim file = map (λ line. login_verdict claim (auth_line line)) (lines_of file)
+abbrev pub line_verdict : LoginClaim → List ℕ → LineVerdict AuthEntry
+line_verdict claim line = login_verdict claim (auth_line line)
 
--- ---- the first line that admits
-
-abbrev pub admits : LineVerdict → Bool
-admits (Admits e) = true
-admits (Passes why) = false
-
--- with its number, where the first line has this one
-abbrev pub first_admitted : ℕ → List LineVerdict → Option (ℕ × AuthEntry)
-first_admitted n [] = None
-first_admitted n (Admits e ∷ more) = Some (n, e)
-first_admitted n (Passes why ∷ more) = first_admitted (n + 1) more
-
-abbrev pub candidate_of : List LineVerdict → Option (ℕ × AuthEntry)
-candidate_of lines = first_admitted 1 lines
-
--- ---- the reasons
-
-abbrev pub with_reason : ℕ → Option Reason → List (ℕ × Reason) → List (ℕ × Reason)
-with_reason n None rest = rest
-with_reason n (Some why) rest = (n, why) ∷ rest
-
--- those of the lines, where the first line has this number
-abbrev pub reasons_from : ℕ → List LineVerdict → List (ℕ × Reason)
-reasons_from n [] = []
-reasons_from n (Admits e ∷ more) = reasons_from (n + 1) more
-reasons_from n (Passes why ∷ more) = with_reason n why (reasons_from (n + 1) more)
-
--- the lines before the candidate, or all where there is none
-abbrev pub before_candidate : List LineVerdict → List LineVerdict
-before_candidate lines = take (position_or_len admits lines) lines
-
--- the most reasons that are listed (this project's rule)
-abbrev pub reason_limit : ℕ
-reason_limit = 100
-
-abbrev pub reasons_of : List LineVerdict → List (ℕ × Reason)
-reasons_of lines = take reason_limit (reasons_from 1 (before_candidate lines))
+abbrev pub verdicts : LoginClaim → List ℕ → List (LineVerdict AuthEntry)
+verdicts claim file = map (line_verdict claim) (lines_of file)
 
 -- ---- the decision
 
@@ -125,4 +85,5 @@ decision_of evidence vouched (Some c) reasons = decision_at evidence vouched c r
 
 unfoldable pub login_decision : List ℕ → LoginClaim → List Signed → Decision
 login_decision file claim vouched =
-    decision_of (login_evidence claim) vouched (option_map (candidate_at claim) (candidate_of (verdicts claim file))) (reasons_of (verdicts claim file))
+    let scan = scan_of (candidate_at claim) (verdicts claim file) in
+    decision_of (login_evidence claim) vouched scan.candidate scan.reasons

@@ -4,7 +4,8 @@ ghost use Rattle.std.specs.Prelude.{◌≡◌};
 ghost use Rattle.ssh_trust.specs.Decision.{cause_by, decision_at, decision_of};
 
 use crate::decision::{Cause, Decision};
-use crate::scan::{Candidate, Scan};
+use crate::login_scan::Candidate;
+use crate::scan::Scan;
 use ssh_offers::{Items, Signed, first_unvouched};
 use ssh_rules::Reason;
 
@@ -46,7 +47,7 @@ fn decide_at(
 }
 
 /// The decision by what the lines say.
-pub(crate) fn decide(scan: Scan, evidence: Items<Signed>, vouched: &[Signed]) -> Decision
+pub(crate) fn decide(scan: Scan<Candidate>, evidence: Items<Signed>, vouched: &[Signed]) -> Decision
     ensures { result ≡ decision_of evidence vouched.now scan.candidate scan.reasons }
 {
     let Scan { candidate, reasons } = scan;

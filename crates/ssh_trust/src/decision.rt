@@ -1,11 +1,18 @@
 //! What is decided, and why.
 
 use ssh_offers::{Items, Signed};
-use ssh_rules::{Reason, Rights};
+use ssh_rights::Rights;
+use ssh_rules::Reason;
 
 /// Why an offer is denied. The first that holds is told.
 #[derive(Clone, Copy, Debug, PartialEq, Eq)]
 pub enum Cause {
+    /// `N1`: this line of a known_hosts file revokes the offered key or the certificate's signer,
+    /// whichever host it names; the first such line, counted from 1.
+    Revoked(u64),
+    /// `N2`: this line of a known_hosts file may revoke any key: it is a revocation that cannot be read,
+    /// or longer than a line may be (this project's rule); the first such line, counted from 1.
+    RevocationUnreadable(u64),
     /// `N3`: no line admits the offer.
     NoLine,
     /// `N4`: a security key signed without a touch (PROTOCOL.u2f), and not both the line and the
@@ -23,14 +30,15 @@ pub enum Decision {
     Granted {
         /// The first line that admits the offer, counted from 1.
         line: u64,
-        /// What the login may do.
+        /// What the login may do; nothing for a host's key.
         rights: Option<Rights>,
         evidence: Items<Signed>,
     },
     Denied {
         why: Cause,
         /// Why lines before the candidate do not admit the offer, or all lines where there is none:
-        /// the first 100, each with its number. A line with another key has no reason.
+        /// the first 100, each with its number. A line with another key or about another host has no
+        /// reason.
         reasons: Items<(u64, Reason)>,
         evidence: Items<Signed>,
     },

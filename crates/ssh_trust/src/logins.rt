@@ -6,23 +6,23 @@ ghost use Rattle.ssh_offers.specs.LoginClaim.{login_claim};
 ghost use Rattle.ssh_offers.specs.Evidence.{login_evidence};
 ghost use Rattle.ssh_trust.specs.Decision.{LoginMeans};
 ghost use Rattle.ssh_trust.specs.Answer.{Gives, OfClaim, RefusesAs, login_answer};
-ghost use Rattle.ssh_offers.specs.Claim.{claim_of};
+ghost use Rattle.ssh_offers.specs.ClaimViews.{claim_of};
 
 use crate::decide::decide;
 use crate::decision::Decision;
-use crate::scan::scan_file;
-use ssh_offers::{AuditError, Claim, Items, LoginQuery, Signed, login_evidence};
+use crate::login_scan::scan_file;
+use ssh_offers::{AuditError, Items, LoginClaimView, LoginQuery, Signed, login_evidence};
 use std::alloc::Global;
 
 /// The most bytes that a trust file may have (this project's rule).
 pub const FILE_LIMIT: usize = 67_108_864;
 
 /// Answers a claim.
-#[tactic(auto, unfolding(crate::specs::Decision::login_decision, crate::specs::Scan::scan_of))]
+#[tactic(auto, unfolding(crate::specs::Decision::login_decision))]
 fn answer_claim(
     alloc: Global,
     file: &[u8],
-    claim: &Claim<'_>,
+    claim: &LoginClaimView<'_>,
     vouched: &[Signed],
 ) -> Result<Decision, AuditError>
     ensures { Gives (login_answer file.now (claim_of claim.entry.now) vouched.now) result }
@@ -55,7 +55,7 @@ pub fn login(
     // The whole answer, with cause, reasons and evidence, unless memory was refused.
     ensures answer { OfClaim (login_claim (login_of query.entry.now)) (λ claim. Gives (login_answer file.now claim vouched.now) result) }
 {
-    let claim = Claim::read(query)?;
+    let claim = LoginClaimView::read(query)?;
     let decision = answer_claim(alloc, file, &claim, vouched)?;
     Ok(decision)
 }
@@ -71,7 +71,7 @@ pub fn evidence_of_login(alloc: Global, query: &LoginQuery<'_>) -> Result<Items<
     // The evidence, unless memory was refused.
     ensures evidence { OfClaim (login_claim (login_of query.entry.now)) (λ claim. Gives (Ok (login_evidence claim)) result) }
 {
-    let claim = Claim::read(query)?;
+    let claim = LoginClaimView::read(query)?;
     let evidence = login_evidence(alloc, &claim)?;
     Ok(evidence)
 }

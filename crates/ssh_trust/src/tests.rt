@@ -3,7 +3,10 @@
 
 ghost use Rattle.std.specs.Prelude.{◌<◌, ◌^◌, length};
 
-use crate::{Cause, Decision, LoginQuery, Signed, evidence_of_login, login};
+use crate::{
+    Cause, Decision, HostQuery, LoginQuery, Signed, evidence_of_host, evidence_of_login, host,
+    login,
+};
 use jiff::tz::TimeZone;
 use std::test::Fail;
 
@@ -58,6 +61,54 @@ fn grants_what_is_vouched_for(rt: HostRuntime) -> Result<(), Fail> {
     match login(alloc, LINE, &query, none.as_slice())? {
         Decision::Denied { why, .. } => assert_eq!(rt; why, Cause::NotVouched(0)),
         Decision::Granted { .. } => return Err(Fail::new("denied")),
+    }
+    Ok(())
+}
+
+/// A host that offers that key and signed the exchange hash `01020304`.
+fn host_query() -> HostQuery<'static> {
+    HostQuery {
+        offered: &K0,
+        signature: &S0,
+        exchange_hash: b"\x01\x02\x03\x04",
+        host: b"h",
+        port: 22,
+        now: 150,
+    }
+}
+
+const KNOWN: &[u8] =
+    b"h ssh-ed25519 AAAAC3NzaC1lZDI1NTE5AAAAIAAAAAAAAAAAAAAAAAAAAAAAAAAAAAAAAAAAAAAAAAAA\n";
+
+const REVOKED: &[u8] =
+    b"h ssh-ed25519 AAAAC3NzaC1lZDI1NTE5AAAAIAAAAAAAAAAAAAAAAAAAAAAAAAAAAAAAAAAAAAAAAAAA\n@revoked other ssh-ed25519 AAAAC3NzaC1lZDI1NTE5AAAAIAAAAAAAAAAAAAAAAAAAAAAAAAAAAAAAAAAAAAAAAAAA\n";
+
+const BLIND: &[u8] =
+    b"h ssh-ed25519 AAAAC3NzaC1lZDI1NTE5AAAAIAAAAAAAAAAAAAAAAAAAAAAAAAAAAAAAAAAAAAAAAAAA\n@revoked\n";
+
+#[test]
+fn trusts_a_host_that_is_not_revoked(rt: HostRuntime) -> Result<(), Fail> {
+    let alloc = rt.alloc();
+    let query = host_query();
+    let evidence = evidence_of_host(alloc, &query)?;
+    let [signed] = evidence.as_slice() else {
+        return Err(Fail::new("one piece of evidence"));
+    };
+    assert_eq!(rt; signed.key.as_slice(), K0.as_slice());
+    assert_eq!(rt; signed.message.as_slice(), b"\x01\x02\x03\x04".as_slice());
+    assert_eq!(rt; signed.signature.as_slice(), S0.as_slice());
+    match host(alloc, KNOWN, &query, evidence.as_slice())? {
+        Decision::Granted { line, .. } => assert_eq!(rt; line, 1),
+        Decision::Denied { .. } => return Err(Fail::new("granted")),
+    }
+    for (file, cause) in [
+        (REVOKED, Cause::Revoked(2)),
+        (BLIND, Cause::RevocationUnreadable(2)),
+    ] {
+        match host(alloc, file, &query, evidence.as_slice())? {
+            Decision::Denied { why, .. } => assert_eq!(rt; why, cause),
+            Decision::Granted { .. } => return Err(Fail::new("denied")),
+        }
     }
     Ok(())
 }

@@ -1,8 +1,9 @@
 use Rattle.std.proofs.Common.{arith}
 use Rattle.ssh_offers.specs.Query.{login_of}
 use Rattle.ssh_offers.specs.LoginClaim.{login_claim}
-use Rattle.ssh_offers.specs.Claim.{claim_of}
-use Rattle.ssh_trust.proofs.MeaningLemmas.{bytes_from, claimed_means}
+use Rattle.ssh_offers.specs.ClaimViews.{claim_of}
+use Rattle.ssh_trust.proofs.CandidateLemmas.{bytes_from}
+use Rattle.ssh_trust.proofs.MeaningLemmas.{claimed_means}
 use Rattle.ssh_trust.proofs.logins.login.Goals as goal
 
 pub returns-clause-means : goal.returns-clause-means

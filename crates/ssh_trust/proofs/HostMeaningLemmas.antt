@@ -1,0 +1,259 @@
+-- A decision means what is said of granted and denied hosts' keys.
+use Rattle.std.proofs.Common.{◌≡◌, ◌∙◌, ◌+◌, ◌-◌, ◌<◌, ◌⊎◌, ◌||◌, cond, ℕ, zero, suc, Bool, true, false, List, [], ◌∷◌, length, map, Option, Some, None, Result, Ok, ap, subst, sym, refl, inl, inr, arith, nat_lt}
+use Rattle.std.specs.Prelude.{option_map, slice_get}
+use Rattle.std.specs.Bool.{Decides}
+use Rattle.std.specs.Str.{bytes_eq}
+use Rattle.std.proofs.lemmas.Slice.Eq.{bytes_eq-Decides}
+use Rattle.ssh_keys.specs.PublicKey.{key_blob}
+use Rattle.ssh_lines.specs.declared.known.KnownEntry.{KnownEntry}
+use Rattle.ssh_lines.specs.declared.known.KnownLine.{KnownLine}
+use Rattle.ssh_lines.specs.declared.known.KnownLine.TheVariants.{Blank, Comment, Entry, Revoked, RevokedUnreadable, Unreadable}
+use Rattle.ssh_lines.specs.Text.{lines_of}
+use Rattle.ssh_lines.specs.KnownGrammar.{Blind, SpellsKnown, known_line}
+use Rattle.ssh_lines.proofs.ReadKnown.{known_line-spelled, known_line-spells}
+use Rattle.ssh_lines.proofs.RevokedLemmas.{blind-read, read-blind, read-revokes, revokes-read}
+use Rattle.ssh_text.proofs.LineLemmas.{lines_of-are}
+use Rattle.ssh_offers.specs.declared.error.AuditError.{AuditError}
+use Rattle.ssh_offers.specs.declared.query.Signed.{Signed}
+use Rattle.ssh_offers.specs.Evidence.{host_evidence}
+use Rattle.ssh_offers.specs.HostClaim.{HostClaim}
+use Rattle.ssh_offers.specs.Offer.{Offer, certified, plain}
+use Rattle.ssh_offers.specs.Vouching.{first_unvouched}
+use Rattle.ssh_offers.proofs.VouchingLemmas.{none_unvouched, all_vouched}
+use Rattle.ssh_rules.specs.declared.reason.Obstacle.{Obstacle}
+use Rattle.ssh_rules.specs.declared.reason.Reason.{Reason}
+use Rattle.ssh_rules.specs.declared.verdict.LineVerdict.TheVariants.{Admits}
+use Rattle.ssh_rules.specs.HostAdmission.{AdmitsHost, host_obstacle}
+use Rattle.ssh_rules.specs.Revocation.{IsOwn, is_own, may_revoke, revokes_offer}
+use Rattle.ssh_rules.specs.Verdict.{host_verdict, verdict_by}
+use Rattle.ssh_rules.proofs.HostAdmissionLemmas.{host_where_none, none_where_host}
+use Rattle.ssh_trust.specs.declared.decision.Decision.{Decision}
+use Rattle.ssh_trust.specs.Answer.{OfClaim, file_limit, host_answer}
+use Rattle.ssh_trust.specs.Candidate.{candidate_of, reasons_of}
+use Rattle.ssh_trust.specs.FileLines.{IsLineAt}
+use Rattle.ssh_trust.specs.HostDecision.{BlindAt, HoldsAt, HostMeans, IsHostGrant, IsLeast, RevokesAt, RevokesOwn, host_decision, host_decision_by, revocation_cause}
+use Rattle.ssh_trust.specs.HostScan.{first_number, host_line_verdict, host_scan_of, is_blind, number_at, revokes_by}
+use Rattle.ssh_trust.proofs.CandidateLemmas.{AreBytes, Judges, admits-by, answer-by, at-place, candidate-is, line-bytes, line-of, no-candidate, some-same}
+
+-- ---- a line that admits
+
+admits-line : (claim : HostClaim) (l : KnownLine) (e : KnownEntry) → host_verdict claim l ≡ Admits e → (l ≡ Entry e) × AdmitsHost e claim
+admits-line claim Blank e h = cc
+admits-line claim Comment e h = cc
+admits-line claim (Unreadable why) e h = cc
+admits-line claim (Revoked blob) e h = cc
+admits-line claim RevokedUnreadable e h = cc
+admits-line claim (Entry f) e h =
+    let both = admits-by (host_obstacle f claim) f e h in
+    (ap Entry both.1, subst (λ (x : KnownEntry). AdmitsHost x claim) both.1 (host_where_none f claim both.0))
+
+judges : (claim : HostClaim) → Judges KnownEntry SpellsKnown (λ e. AdmitsHost e claim) (host_line_verdict claim)
+judges claim = record {
+  found = λ line e bytes h. let is = admits-line claim (known_line line) e h in (known_line-spells line e bytes is.0, is.1);
+  only = λ line e spelled admits. ap (host_verdict claim) (known_line-spelled e line spelled) ∙ ap (λ (o : Option Obstacle). verdict_by o e) (none_where_host e claim admits);
+}
+
+-- ---- the first line that passes
+
+record IsFirstNumber (passes : List ℕ → Bool) (n : ℕ) (lines : List (List ℕ)) (i : ℕ) : Type 0 where
+  place : ℕ
+  line : List ℕ
+  number : i ≡ n + place
+  stands : slice_get lines place ≡ Some line
+  passing : passes line ≡ true
+  earlier : (j : ℕ) (other : List ℕ) → j < place → slice_get lines j ≡ Some other → passes other ≡ true → ⊥
+
+number-by : (passes : List ℕ → Bool) (n : ℕ) (line : List ℕ) (lines : List (List ℕ)) (i : ℕ)
+    → (first_number passes (n + 1) lines ≡ Some i → IsFirstNumber passes (n + 1) lines i)
+    → (b : Bool) → passes line ≡ b → cond b (Some n) (first_number passes (n + 1) lines) ≡ Some i → IsFirstNumber passes n (line ∷ lines) i
+number-by passes n line lines i later true e h =
+    let same : n ≡ i = some-same n i h in
+    record {
+      place = zero;
+      line = line;
+      number = omega arith;
+      stands = refl;
+      passing = e;
+      earlier = λ j other below at is. absurd (omega arith);
+    }
+number-by passes n line lines i later false e h =
+    let r = later h in
+    record {
+      place = suc r.place;
+      line = r.line;
+      number = (let number = r.number in omega arith);
+      stands = r.stands;
+      passing = r.passing;
+      earlier = λ j other below at is. before r j other below at is;
+    }
+  where
+    before : (r : IsFirstNumber passes (n + 1) lines i) (j : ℕ) (other : List ℕ) → j < suc r.place → slice_get (line ∷ lines) j ≡ Some other → passes other ≡ true → ⊥
+    before r zero other below at is =
+        let bad : true ≡ false = sym is ∙ ap passes (sym (some-same line other at)) ∙ e in
+        cc
+    before r (suc j) other below at is = r.earlier j other (omega arith) at is
+
+number-is : (passes : List ℕ → Bool) (n : ℕ) (lines : List (List ℕ)) (i : ℕ) → first_number passes n lines ≡ Some i → IsFirstNumber passes n lines i
+number-is passes n [] i h = cc
+number-is passes n (line ∷ lines) i h = number-by passes n line lines i (number-is passes (n + 1) lines i) (passes line) refl h
+
+none-by : (passes : List ℕ → Bool) (n : ℕ) (line : List ℕ) (lines : List (List ℕ))
+    → (first_number passes (n + 1) lines ≡ None → (k : ℕ) (other : List ℕ) → slice_get lines k ≡ Some other → passes other ≡ true → ⊥)
+    → (b : Bool) → passes line ≡ b → cond b (Some n) (first_number passes (n + 1) lines) ≡ None
+    → (k : ℕ) (other : List ℕ) → slice_get (line ∷ lines) k ≡ Some other → passes other ≡ true → ⊥
+none-by passes n line lines later true e h k other at is = cc
+none-by passes n line lines later false e h zero other at is =
+    let bad : true ≡ false = sym is ∙ ap passes (sym (some-same line other at)) ∙ e in
+    cc
+none-by passes n line lines later false e h (suc k) other at is = later h k other at is
+
+none-passes : (passes : List ℕ → Bool) (n : ℕ) (lines : List (List ℕ)) → first_number passes n lines ≡ None
+    → (k : ℕ) (other : List ℕ) → slice_get lines k ≡ Some other → passes other ≡ true → ⊥
+none-passes passes n [] h k other at is = cc
+none-passes passes n (line ∷ lines) h k other at is =
+    none-by passes n line lines (none-passes passes (n + 1) lines) (passes line) refl h k other at is
+
+-- ---- by what holds of a line
+
+abbrev DecidesLines : (List ℕ → Bool) → (List ℕ → Type 0) → Type 0
+DecidesLines passes P = (line : List ℕ) → AreBytes line → Decides (passes line) (P line)
+
+bytes-at : (file : List ℕ) → AreBytes file → (k : ℕ) (line : List ℕ) → slice_get (lines_of file) k ≡ Some line → AreBytes line
+bytes-at file bytes k line at = line-bytes (lines_of file) file (lines_of-are file) bytes k line at
+
+least-at : (passes : List ℕ → Bool) (P : List ℕ → Type 0) → DecidesLines passes P → (file : List ℕ) → AreBytes file → (n : ℕ)
+    → first_number passes 1 (lines_of file) ≡ Some n → IsLeast (HoldsAt P file) n
+least-at passes P decides file bytes n h =
+    let first = number-is passes 1 (lines_of file) n h in
+    record {
+      holds = (
+        first.line,
+        at-place file n first.place first.line first.number first.stands,
+        (decides first.line (bytes-at file bytes first.place first.line first.stands)).0 first.passing,
+      );
+      least = λ k below at.
+          let number = first.number in
+          let one = at.1.from_one in
+          let stands = line-of file k at.0 at.1 in
+          first.earlier (k - 1) at.0 (omega arith) stands ((decides at.0 (bytes-at file bytes (k - 1) at.0 stands)).1 at.2);
+    }
+
+none-at : (passes : List ℕ → Bool) (P : List ℕ → Type 0) → DecidesLines passes P → (file : List ℕ) → AreBytes file
+    → first_number passes 1 (lines_of file) ≡ None → (n : ℕ) → HoldsAt P file n → ⊥
+none-at passes P decides file bytes h n at =
+    let stands = line-of file n at.0 at.1 in
+    none-passes passes 1 (lines_of file) h (n - 1) at.0 stands ((decides at.0 (bytes-at file bytes (n - 1) at.0 stands)).1 at.2)
+
+-- ---- revocations
+
+own-by : (a b : List ℕ) (blob : List ℕ) (r : Bool) → bytes_eq blob a ≡ r → (r || bytes_eq blob b) ≡ true → (blob ≡ a) ⊎ (blob ≡ b)
+own-by a b blob true e h = inl ((bytes_eq-Decides blob a).0 e)
+own-by a b blob false e h = inr ((bytes_eq-Decides blob b).0 h)
+
+or-right : (r : Bool) {s : Bool} → s ≡ true → (r || s) ≡ true
+or-right true h = refl
+or-right false h = h
+
+or-left : (r s : Bool) → r ≡ true → (r || s) ≡ true
+or-left true s h = refl
+or-left false s h = cc
+
+own-decides : (offer : Offer) (blob : List ℕ) → Decides (is_own offer blob) (IsOwn offer blob)
+own-decides (plain key) blob = bytes_eq-Decides blob (key_blob key)
+own-decides (certified c) blob = (
+  λ h. own-by (key_blob c.key) (key_blob c.signer) blob (bytes_eq blob (key_blob c.key)) refl h,
+  λ h. elim h [
+    | inl same ↦ or-left (bytes_eq blob (key_blob c.key)) (bytes_eq blob (key_blob c.signer)) ((bytes_eq-Decides blob (key_blob c.key)).1 same)
+    | inr same ↦ or-right (bytes_eq blob (key_blob c.key)) ((bytes_eq-Decides blob (key_blob c.signer)).1 same)
+  ],
+)
+
+revoking : (offer : Offer) (line : List ℕ) → AreBytes line → (l : KnownLine) → known_line line ≡ l → revokes_offer offer l ≡ true → RevokesOwn offer line
+revoking offer line bytes Blank e h = cc
+revoking offer line bytes Comment e h = cc
+revoking offer line bytes (Entry entry) e h = cc
+revoking offer line bytes (Unreadable why) e h = cc
+revoking offer line bytes RevokedUnreadable e h = cc
+revoking offer line bytes (Revoked blob) e h = (blob, read-revokes line blob bytes e, (own-decides offer blob).0 h)
+
+revokes-decides : (claim : HostClaim) → DecidesLines (revokes_by claim) (RevokesOwn claim.offer)
+revokes-decides claim line bytes = (
+  λ h. revoking claim.offer line bytes (known_line line) refl h,
+  λ h. ap (revokes_offer claim.offer) (revokes-read line h.0 h.1) ∙ (own-decides claim.offer h.0).1 h.2,
+)
+
+blinding : (line : List ℕ) (l : KnownLine) → known_line line ≡ l → may_revoke l ≡ true → Blind line
+blinding line Blank e h = cc
+blinding line Comment e h = cc
+blinding line (Entry entry) e h = cc
+blinding line (Unreadable why) e h = cc
+blinding line (Revoked blob) e h = cc
+blinding line RevokedUnreadable e h = read-blind line e
+
+blind-decides : DecidesLines is_blind Blind
+blind-decides line bytes = (
+  λ h. blinding line (known_line line) refl h,
+  λ h. ap may_revoke (blind-read line bytes h),
+)
+
+-- ---- the decision
+
+trusts : (file : List ℕ) (claim : HostClaim) (vouched : List Signed) (reasons : List (ℕ × Reason)) → AreBytes file
+    → first_number (revokes_by claim) 1 (lines_of file) ≡ None → first_number is_blind 1 (lines_of file) ≡ None
+    → (c : Option (ℕ × KnownEntry)) → candidate_of (map (host_line_verdict claim) (lines_of file)) ≡ c
+    → (u : Option ℕ) → first_unvouched vouched (host_evidence claim) ≡ u
+    → HostMeans file claim vouched (host_decision_by None (option_map number_at c) u reasons (host_evidence claim))
+trusts file claim vouched reasons bytes r b None c u v = (
+  λ i e grant. no-candidate (host_line_verdict claim) (judges claim) file c i e grant.candidate,
+  tt,
+  refl,
+)
+trusts file claim vouched reasons bytes r b (Some found) c (Some k) v = (
+  λ i e grant.
+      let bad : None ≡ Some k = sym (all_vouched vouched (host_evidence claim) grant.all_vouched) ∙ v in
+      cc,
+  tt,
+  refl,
+)
+trusts file claim vouched reasons bytes r b (Some found) c None v = (
+  found.1,
+  record {
+    candidate = candidate-is (host_line_verdict claim) (judges claim) file found.0 found.1 bytes c;
+    unrevoked = none-at (revokes_by claim) (RevokesOwn claim.offer) (revokes-decides claim) file bytes r;
+    sighted = none-at is_blind Blind blind-decides file bytes b;
+    all_vouched = none_unvouched vouched (host_evidence claim) v;
+  },
+  refl,
+  refl,
+)
+
+means-by : (file : List ℕ) (claim : HostClaim) (vouched : List Signed) (reasons : List (ℕ × Reason)) → AreBytes file
+    → (revoked : Option ℕ) → first_number (revokes_by claim) 1 (lines_of file) ≡ revoked
+    → (blind : Option ℕ) → first_number is_blind 1 (lines_of file) ≡ blind
+    → (u : Option ℕ) → first_unvouched vouched (host_evidence claim) ≡ u
+    → HostMeans file claim vouched (host_decision_by (revocation_cause revoked blind)
+    (option_map number_at (candidate_of (map (host_line_verdict claim) (lines_of file)))) u reasons (host_evidence claim))
+means-by file claim vouched reasons bytes (Some n) r blind b u v =
+    let least = least-at (revokes_by claim) (RevokesOwn claim.offer) (revokes-decides claim) file bytes n r in
+    (λ i e grant. grant.unrevoked n least.holds, least, refl)
+means-by file claim vouched reasons bytes None r (Some n) b u v =
+    let least = least-at is_blind Blind blind-decides file bytes n b in
+    (λ i e grant. grant.sighted n least.holds, least, refl)
+means-by file claim vouched reasons bytes None r None b u v = trusts file claim vouched reasons bytes r b _ refl u v
+
+pub host_means : (file : List ℕ) (claim : HostClaim) (vouched : List Signed) → AreBytes file → HostMeans file claim vouched (host_decision file claim vouched)
+unfolding host_decision host_scan_of
+host_means file claim vouched bytes =
+    means-by file claim vouched (reasons_of (map (host_line_verdict claim) (lines_of file))) bytes _ refl _ refl _ refl
+
+-- ---- the answer
+
+answer_means : (file : List ℕ) (claim : HostClaim) (vouched : List Signed) (d : Decision) → AreBytes file
+    → host_answer file claim vouched ≡ Ok d → HostMeans file claim vouched d
+answer_means file claim vouched d bytes h =
+    subst (λ (x : Decision). HostMeans file claim vouched x) (answer-by (nat_lt file_limit (length file)) (host_decision file claim vouched) d h)
+    (host_means file claim vouched bytes)
+
+pub host_claimed_means : (r : Result HostClaim AuditError) (claim : HostClaim) (file : List ℕ) (vouched : List Signed) (d : Decision) → r ≡ Ok claim → AreBytes file
+    → host_answer file claim vouched ≡ Ok d → OfClaim r (λ c. HostMeans file c vouched d)
+host_claimed_means r claim file vouched d e bytes h = rw e (answer_means file claim vouched d bytes h)

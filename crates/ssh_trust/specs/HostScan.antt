@@ -1,0 +1,59 @@
+-- What the lines of a known_hosts file say to a host's key. The whole file counts, for a later line may revoke.
+use Rattle.std.specs.Prelude.{ℕ, ◌+◌, Bool, true, false, if◌then◌else◌, List, [], ◌∷◌, map, Option, Some, None}
+use Rattle.ssh_lines.specs.declared.known.KnownEntry.{KnownEntry}
+use Rattle.ssh_lines.specs.declared.known.KnownLine.{KnownLine}
+use Rattle.ssh_lines.specs.KnownGrammar.{known_line}
+use Rattle.ssh_lines.specs.Text.{lines_of}
+use Rattle.ssh_offers.specs.HostClaim.{HostClaim}
+use Rattle.ssh_rules.specs.declared.verdict.LineVerdict.{LineVerdict}
+use Rattle.ssh_rules.specs.Revocation.{may_revoke, revokes_offer}
+use Rattle.ssh_rules.specs.Verdict.{host_verdict}
+use Rattle.ssh_trust.specs.declared.host_scan.HostScan.{HostScan}
+use Rattle.ssh_trust.specs.Scan.{empty_scan, scan_line, scan_of}
+
+-- what a line is to the host's key
+abbrev pub host_line_verdict : HostClaim → List ℕ → LineVerdict KnownEntry
+host_line_verdict claim line = host_verdict claim (known_line line)
+
+-- the line revokes the offered key or the signer
+abbrev pub revokes_by : HostClaim → List ℕ → Bool
+revokes_by claim line = revokes_offer claim.offer (known_line line)
+
+-- the line may revoke any key
+abbrev pub is_blind : List ℕ → Bool
+is_blind line = may_revoke (known_line line)
+
+-- the number of the first line that passes, where the first line has this one
+abbrev pub first_number : (List ℕ → Bool) → ℕ → List (List ℕ) → Option ℕ
+first_number passes n [] = None
+first_number passes n (line ∷ lines) = if passes line then Some n else first_number passes (n + 1) lines
+
+-- what a line that admits gives: its number
+abbrev pub number_at : ℕ × KnownEntry → ℕ
+number_at c = c.0
+
+-- what a whole file says
+unfoldable pub host_scan_of : HostClaim → List ℕ → HostScan
+host_scan_of claim file = record {
+  admission = scan_of number_at (map (host_line_verdict claim) (lines_of file));
+  revoked = first_number (revokes_by claim) 1 (lines_of file);
+  blind = first_number is_blind 1 (lines_of file);
+}
+
+-- ---- line by line
+
+abbrev pub empty_host_scan : HostScan
+empty_host_scan = record { admission = empty_scan; revoked = None; blind = None }
+
+-- the first number so far, after one more line
+abbrev pub first_so_far : Option ℕ → ℕ → Bool → Option ℕ
+first_so_far (Some first) n passes = Some first
+first_so_far None n true = Some n
+first_so_far None n false = None
+
+abbrev pub host_scan_line : HostClaim → HostScan → ℕ × List ℕ → HostScan
+host_scan_line claim s x = record {
+  admission = scan_line number_at (host_line_verdict claim) s.admission x;
+  revoked = first_so_far s.revoked x.0 (revokes_by claim x.1);
+  blind = first_so_far s.blind x.0 (is_blind x.1);
+}
