@@ -3,22 +3,25 @@ use Rattle.std.proofs.Common.{◌≡◌, ◌∙◌, ◌<◌, ℕ, Bool, true, fa
 use Rattle.std.specs.Prelude.{IfOk}
 use Rattle.std.specs.Str.{bytes_eq}
 use Rattle.ssh_inputs.specs.SourceState.{IfTells, SourceState, bytes_at, dash}
-use Rattle.ssh_inputs.specs.Parts.{cut_at_empty, after_line, after_part, first_line, part_at}
-use Rattle.ssh_trust.specs.Answer.{file_limit}
-use Rattle.ssh_audit.specs.CommandLine.{Request, login, show, request_of, LoginWords, ShowWords}
+use Rattle.ssh_inputs.specs.Parts.{cut_at_empty, after_line, after_part, after_whole, first_line, part_at}
+use Rattle.ssh_trust.specs.Answer.{Gives, file_limit}
+use Rattle.ssh_audit.specs.CommandLine.{AuditFiles, Request, host, login, show, request_of, LoginWords, ShowWords}
 use Rattle.ssh_inputs.specs.VouchFile.{vouched_of}
 use Rattle.ssh_inputs.specs.Words.{words_in}
 use Rattle.ssh_print.specs.Responses.{Response as Shown, no_file_response}
 use Rattle.jiff.specs.Types.{TimeZone}
-use Rattle.ssh_audit.specs.Requests.{Answer, login_in_zone, exactly, show_answer, IsAnswer, Responds, RespondsBy, IsReadFault, after_vouching, answer_in, login_values_response, login_spelled, login_vouched, or_vouch_fault, vouched_in, vouched_or_fault}
+use Rattle.ssh_audit.specs.Audits.{Audits, Deciding, IsAuditFault, after_vouching, answer_by, answer_over, audit_response, host_by, login_by, or_vouch_fault, spelled_response, vouched_in, vouched_or_fault, vouched_response}
+use Rattle.ssh_audit.specs.Requests.{Answer, host_spelled, login_in_zone, login_spelled, show_answer, IsAnswer, Responds, RespondsBy, IsReadFault, answer_in}
 use Rattle.ssh_inputs.specs.Values.{ReadsZone, zone_text}
-use Rattle.ssh_inputs.specs.Loading.{NoReadFailed, OneReadFailed, within_limit, FailsLine, FailsLoad, IsLeft, IsTooLong, LoadsLine}
+use Rattle.ssh_inputs.specs.Loading.{NoReadFailed, OneReadFailed, within_limit, FailsLine, FailsLoad, IsGathered, IsLeft, IsTooLong, LoadsLine}
 use Rattle.ssh_offers.specs.declared.query.Signed.{Signed}
+use Rattle.ssh_offers.specs.declared.error.AuditError.{AuditError}
+use Rattle.ssh_trust.specs.declared.decision.Decision.{Decision}
 use Rattle.ssh_trust.specs.Query.{Login}
 use Rattle.std.proofs.lemmas.Bool.{lt-leb, lt-ltb}
 use Rattle.ssh_inputs.specs.declared.read.ReadFault.{ReadFault}
 use Rattle.ssh_inputs.specs.declared.read.ReadFault.TheVariants as fault
-use Rattle.ssh_audit.specs.Responding.{IsFaultOf, IsUsageOf}
+use Rattle.ssh_audit.specs.Responding.{AnswersFile, IsFaultOf, IsUsageOf}
 use Rattle.ssh_audit.proofs.CommandLineLemmas.{no_request}
 use Rattle.ssh_inputs.proofs.PieceLemmas.{words_long}
 
@@ -38,22 +41,23 @@ vouched-same : (vouch : Option (List ℕ)) (a b : SourceState) → a.named ≡ b
 vouched-same None a b n i = refl
 vouched-same (Some v) a b n i = rw (n, i) refl
 
-vouch-by : (w : LoginWords) (q : Login) (a b : SourceState) (v : Result (List Signed) Shown) → bytes_at a w.file ≡ bytes_at b w.file → login_vouched w q a v ≡ login_vouched w q b v
-vouch-by w q a b (Err r) e = refl
-vouch-by w q a b (Ok vouched) e = rw e refl
+vouch-by : (by : Deciding) (name : List ℕ) (a b : SourceState) (v : Result (List Signed) Shown) → bytes_at a name ≡ bytes_at b name → vouched_response by name a v ≡ vouched_response by name b v
+vouch-by by name a b (Err r) e = refl
+vouch-by by name a b (Ok vouched) e = rw e refl
 
-values-same : (w : LoginWords) (a b : SourceState) (q : Result Login Shown) → a.named ≡ b.named → a.input ≡ b.input → login_values_response w a q ≡ login_values_response w b q
-values-same w a b (Err r) n i = refl
-values-same w a b (Ok q) n i =
-    vouch-by w q (after_vouching w.vouch a) (after_vouching w.vouch b) (vouched_in w.vouch a) (file-same w.vouch a b w.file n i)
-    ∙ ap (λ v. login_vouched w q (after_vouching w.vouch b) v) (vouched-same w.vouch a b n i)
+values-same : {Q : Type 0} (by : Q → Deciding) (f : AuditFiles) (a b : SourceState) (q : Result Q Shown) → a.named ≡ b.named → a.input ≡ b.input → spelled_response by f a q ≡ spelled_response by f b q
+values-same by f a b (Err r) n i = refl
+values-same by f a b (Ok q) n i =
+    vouch-by (by q) f.trust (after_vouching f.vouch a) (after_vouching f.vouch b) (vouched_in f.vouch a) (file-same f.vouch a b f.trust n i)
+    ∙ ap (λ v. vouched_response (by q) f.trust (after_vouching f.vouch b) v) (vouched-same f.vouch a b n i)
 
 show-same : (w : ShowWords) (a b : SourceState) → a.named ≡ b.named → a.input ≡ b.input → show_answer w a ≡ show_answer w b
 show-same w a b n i = rw (n, i) refl
 
 answers-same : (a b : SourceState) (q : Option Request) (r : Shown) → a.named ≡ b.named → a.input ≡ b.input → IsAnswer (answer_in a q) r → IsAnswer (answer_in b q) r
 answers-same a b None r n i h = h
-answers-same a b (Some (login w)) r n i (zone, reads, is) = (zone, reads, is ∙ values-same w a b (login_spelled w zone) n i)
+answers-same a b (Some (login w)) r n i (zone, reads, is) = (zone, reads, is ∙ values-same login_by w.files a b (login_spelled w zone) n i)
+answers-same a b (Some (host w)) r n i h = h ∙ values-same host_by w.files a b (host_spelled w) n i
 answers-same a b (Some (show w)) r n i h = subst (λ (o : Answer). IsAnswer o r) (show-same w a b n i) h
 
 none-failed : (s t : SourceState) (u : Option SourceState) → t.failures ≡ s.failures → NoReadFailed t u → NoReadFailed s u
@@ -64,10 +68,14 @@ one-failed : (s t : SourceState) (u : Option SourceState) (name : List ℕ) → 
 one-failed s t None name e h = h
 one-failed s t (Some x) name e h = (omega (arith, e, h), h.1)
 
+audit_fault-since : (f : AuditFiles) (s t : SourceState) (u : Option SourceState) (r : Shown) → t.failures ≡ s.failures → IsAuditFault f t u r → IsAuditFault f s u r
+audit_fault-since f s t u r e (inl h) = inl (one-failed s t u f.trust e h.0, h.1)
+audit_fault-since f s t u r e (inr h) = inr (h.0, h.1, one-failed s t u h.0 e h.2, h.3)
+
 fault-since : (q : Option Request) (s t : SourceState) (u : Option SourceState) (r : Shown) → t.failures ≡ s.failures → IsReadFault q t u r → IsReadFault q s u r
 fault-since None s t u r f h = h
-fault-since (Some (login w)) s t u r f (inl h) = inl (one-failed s t u w.file f h.0, h.1)
-fault-since (Some (login w)) s t u r f (inr h) = inr (h.0, h.1, one-failed s t u h.0 f h.2, h.3)
+fault-since (Some (login w)) s t u r f h = audit_fault-since w.files s t u r f h
+fault-since (Some (host w)) s t u r f h = audit_fault-since w.files s t u r f h
 fault-since (Some (show w)) s t u r f h = (one-failed s t u w.file f h.0, h.1)
 
 shifted : (q : Option Request) (s t : SourceState) (u : Option SourceState) (r : Shown) → t.named ≡ (after_line s).named → t.input ≡ (after_line s).input → t.failures ≡ s.failures
@@ -75,72 +83,117 @@ shifted : (q : Option Request) (s t : SourceState) (u : Option SourceState) (r :
 shifted q s t u r n i f (inl h) = inl (none-failed s t u f h.0, answers-same t (after_line s) q r n i h.1)
 shifted q s t u r n i f (inr h) = inr (fault-since q s t u r f h)
 
+-- ---- trust files
+
+-- files past the limit are answered alike
+alike : (by : Deciding) (a b : List ℕ) (vouched : List Signed) → file_limit < length a → file_limit < length b → answer_by by a vouched ≡ answer_by by b vouched
+alike (Err e) a b vouched long longer = refl
+alike (Ok decision) a b vouched long longer = rw (lt-ltb file_limit (length a) long, lt-ltb file_limit (length b) longer) refl
+
+left-none : (s rest : SourceState) (t : Option SourceState) → IsLeft s rest t → NoReadFailed s t
+left-none s rest None h = h
+left-none s rest (Some t) h = h.2
+
+gathered-answer : (by : Deciding) (vouched : List Signed) (bytes : Option (List ℕ)) (rest s : SourceState) (t : Option SourceState) (got : List ℕ) (res : Result Decision AuditError)
+    → IsGathered bytes rest s t got → Gives (answer_by by got vouched) res → NoReadFailed s t × Gives (answer_over by vouched bytes) res
+gathered-answer by vouched bytes rest s t got res (inl (is, left)) gives =
+    (left-none s rest t left, subst (λ (b : Option (List ℕ)). Gives (answer_over by vouched b) res) (sym is) gives)
+gathered-answer by vouched None rest s t got res (inr (long, longer, none)) gives = absurd longer
+gathered-answer by vouched (Some bytes) rest s t got res (inr (long, longer, none)) gives =
+    (none, subst (λ (a : Result Decision AuditError). Gives a res) (alike by got bytes vouched long longer) gives)
+
+-- the decision by the bytes that were read
+pub file_decided : (by : Deciding) (vouched : List Signed) (name got read : List ℕ) (o t : Option SourceState) (res : Result Decision AuditError) → read ≡ got
+    → IfTells o (λ s. IsGathered (bytes_at s name) (after_whole s name) s t got) → Gives (answer_by by read vouched) res
+    → IfTells o (λ s. AnswersFile by vouched name (bytes_at s name) s t res)
+file_decided by vouched name got read None t res is gathered gives = tt
+file_decided by vouched name got read (Some s) t res is gathered gives = λ counts.
+    inr (inr (gathered-answer by vouched (bytes_at s name) (after_whole s name) s t got res (gathered counts) (subst (λ (l : List ℕ). Gives (answer_by by l vouched) res) is gives)))
+
 -- ---- vouch files
 
 over_limit : (bytes : Option (List ℕ)) → IsTooLong bytes → within_limit bytes ≡ None
 over_limit None h = absurd h
 over_limit (Some bytes) h = rw (lt-ltb file_limit (length bytes) h) refl
 
-not_told : (w : LoginWords) (q : Login) (s : SourceState) (name : List ℕ) → within_limit (part_at s name) ≡ None
-    → login_vouched w q (after_vouching (Some name) s) (vouched_in (Some name) s) ≡ no_file_response name
-not_told w q s name h = rw h refl
+-- the answer where the vouch file has this name
+abbrev vouch_response_by : Deciding → List ℕ → Option (List ℕ) → SourceState → Shown
+vouch_response_by by trust vouch s = vouched_response by trust (after_vouching vouch s) (vouched_in vouch s)
 
-vouch_fault : (w : LoginWords) (q : Login) (name : List ℕ) (s : SourceState) (u : Option SourceState) (e : ReadFault) (r : Shown) → w.vouch ≡ Some name
-    → FailsLoad name (part_at s name) s u e → IsFaultOf name e r
-    → RespondsBy (Some (login w)) (exactly (login_vouched w q (after_vouching (Some name) s) (vouched_in (Some name) s))) s u r
-vouch_fault w q name s u fault.Missing r v fails is = inl (fails.1, is ∙ sym (not_told w q s name (rw fails.0 refl)))
-vouch_fault w q name s u fault.TooLong r v fails is = inl (fails.1, is ∙ sym (not_told w q s name (over_limit (part_at s name) fails.0)))
-vouch_fault w q name s u fault.Failed r v fails is = inr (inr (name, v, fails, is))
-vouch_fault w q name s u fault.Memory r v fails is = absurd is
+not_told : (by : Deciding) (trust : List ℕ) (s : SourceState) (name : List ℕ) → within_limit (part_at s name) ≡ None → vouch_response_by by trust (Some name) s ≡ no_file_response name
+not_told by trust s name h = rw h refl
+
+vouch_fault : (f : AuditFiles) (by : Deciding) (name : List ℕ) (s : SourceState) (u : Option SourceState) (e : ReadFault) (r : Shown) → f.vouch ≡ Some name
+    → FailsLoad name (part_at s name) s u e → IsFaultOf name e r → Audits f (vouch_response_by by f.trust (Some name) s) s u r
+vouch_fault f by name s u fault.Missing r v fails is = inl (fails.1, is ∙ sym (not_told by f.trust s name (rw fails.0 refl)))
+vouch_fault f by name s u fault.TooLong r v fails is = inl (fails.1, is ∙ sym (not_told by f.trust s name (over_limit (part_at s name) fails.0)))
+vouch_fault f by name s u fault.Failed r v fails is = inr (inr (name, v, fails, is))
+vouch_fault f by name s u fault.Memory r v fails is = absurd is
 
 -- a vouch file that gives no bytes
-pub vouch_unread : {R E : Type 0} (view : R → Shown) (w : LoginWords) (q : Login) (name : List ℕ) (o u : Option SourceState) (e : ReadFault) (res : Result R E) → w.vouch ≡ Some name
+pub vouch_unread : {R E : Type 0} (view : R → Shown) (f : AuditFiles) (by : Deciding) (name : List ℕ) (o u : Option SourceState) (e : ReadFault) (res : Result R E) → f.vouch ≡ Some name
     → IfTells o (λ s. FailsLoad name (part_at s name) s u e) → IfOk res (λ r. IsFaultOf name e (view r))
-    → IfTells o (λ s. IfOk res (λ r. RespondsBy (Some (login w)) (exactly (login_vouched w q (after_vouching w.vouch s) (vouched_in w.vouch s))) s u (view r)))
-vouch_unread view w q name None u e res v fails is = tt
-vouch_unread view w q name (Some s) u e (Err x) v fails is = λ counts. tt
-vouch_unread view w q name (Some s) u e (Ok r) v fails is = λ counts.
-    let P : Option (List ℕ) → Type 0 = λ z. RespondsBy (Some (login w)) (exactly (login_vouched w q (after_vouching z s) (vouched_in z s))) s u (view r) in
-    subst P (sym v) (vouch_fault w q name s u e (view r) v (fails counts) is)
+    → IfTells o (λ s. IfOk res (λ r. Audits f (audit_response by f s) s u (view r)))
+vouch_unread view f by name None u e res v fails is = tt
+vouch_unread view f by name (Some s) u e (Err x) v fails is = λ counts. tt
+vouch_unread view f by name (Some s) u e (Ok r) v fails is = λ counts.
+    let P : Option (List ℕ) → Type 0 = λ z. Audits f (vouch_response_by by f.trust z s) s u (view r) in
+    subst P (sym v) (vouch_fault f by name s u e (view r) v (fails counts) is)
 
 same_file : (a b : SourceState) (name : List ℕ) → a.named ≡ b.named → a.input ≡ b.input → bytes_at a name ≡ bytes_at b name
 same_file a b name n i = rw (n, i) refl
 
-told : (w : LoginWords) (q : Login) (s t : SourceState) (name bytes : List ℕ) → within_limit (part_at s name) ≡ Some bytes → t.named ≡ (after_part s name).named → t.input ≡ (after_part s name).input
-    → login_vouched w q t (or_vouch_fault (vouched_of bytes)) ≡ login_vouched w q (after_vouching (Some name) s) (vouched_in (Some name) s)
-told w q s t name bytes h n i =
-    vouch-by w q t (after_part s name) (or_vouch_fault (vouched_of bytes)) (same_file t (after_part s name) w.file n i)
-    ∙ ap (λ f. login_vouched w q (after_part s name) (vouched_or_fault name f)) (sym h)
+told : (by : Deciding) (trust : List ℕ) (s t : SourceState) (name bytes : List ℕ) → within_limit (part_at s name) ≡ Some bytes → t.named ≡ (after_part s name).named → t.input ≡ (after_part s name).input
+    → vouched_response by trust t (or_vouch_fault (vouched_of bytes)) ≡ vouch_response_by by trust (Some name) s
+told by trust s t name bytes h n i =
+    vouch-by by trust t (after_part s name) (or_vouch_fault (vouched_of bytes)) (same_file t (after_part s name) trust n i)
+    ∙ ap (λ v. vouched_response by trust (after_part s name) (vouched_or_fault name v)) (sym h)
 
 -- a response from where the vouch file was read on
-vouch_shifted : (w : LoginWords) (a b : Shown) (s t : SourceState) (u : Option SourceState) (r : Shown) → t.failures ≡ s.failures → a ≡ b → RespondsBy (Some (login w)) (exactly a) t u r → RespondsBy (Some (login w)) (exactly b) s u r
-vouch_shifted w a b s t u r f e (inl h) = inl (none-failed s t u f h.0, h.1 ∙ e)
-vouch_shifted w a b s t u r f e (inr h) = inr (fault-since (Some (login w)) s t u r f h)
+vouch_shifted : (f : AuditFiles) (a b : Shown) (s t : SourceState) (u : Option SourceState) (r : Shown) → t.failures ≡ s.failures → a ≡ b → Audits f a t u r → Audits f b s u r
+vouch_shifted f a b s t u r same e (inl h) = inl (none-failed s t u same h.0, h.1 ∙ e)
+vouch_shifted f a b s t u r same e (inr h) = inr (audit_fault-since f s t u r same h)
 
 -- a vouch file that was read
-pub vouch_responds : {R E : Type 0} (view : R → Shown) (w : LoginWords) (q : Login) (name bytes read : List ℕ) (o t u : Option SourceState) (res : Result R E) → w.vouch ≡ Some name → read ≡ bytes
+pub vouch_responds : {R E : Type 0} (view : R → Shown) (f : AuditFiles) (by : Deciding) (name bytes read : List ℕ) (o t u : Option SourceState) (res : Result R E) → f.vouch ≡ Some name → read ≡ bytes
     → IfTells o (λ s. (within_limit (part_at s name) ≡ Some bytes) × IsLeft s (after_part s name) t)
-    → IfTells t (λ s. IfOk res (λ r. RespondsBy (Some (login w)) (exactly (login_vouched w q s (or_vouch_fault (vouched_of read)))) s u (view r)))
-    → IfTells o (λ s. IfOk res (λ r. RespondsBy (Some (login w)) (exactly (login_vouched w q (after_vouching w.vouch s) (vouched_in w.vouch s))) s u (view r)))
-vouch_responds view w q name bytes read None t u res v is loads h = tt
-vouch_responds view w q name bytes read (Some s) None u res v is loads h = λ counts. absurd ((loads counts).1)
-vouch_responds view w q name bytes read (Some s) (Some t) u (Err e) v is loads h = λ counts. tt
-vouch_responds view w q name bytes read (Some s) (Some t) u (Ok r) v is loads h = λ counts.
+    → IfTells t (λ s. IfOk res (λ r. Audits f (vouched_response by f.trust s (or_vouch_fault (vouched_of read))) s u (view r)))
+    → IfTells o (λ s. IfOk res (λ r. Audits f (audit_response by f s) s u (view r)))
+vouch_responds view f by name bytes read None t u res v is loads h = tt
+vouch_responds view f by name bytes read (Some s) None u res v is loads h = λ counts. absurd ((loads counts).1)
+vouch_responds view f by name bytes read (Some s) (Some t) u (Err e) v is loads h = λ counts. tt
+vouch_responds view f by name bytes read (Some s) (Some t) u (Ok r) v is loads h = λ counts.
     let load = loads counts in
     let same = load.1.2 in
-    let P : Option (List ℕ) → Type 0 = λ z. RespondsBy (Some (login w)) (exactly (login_vouched w q (after_vouching z s) (vouched_in z s))) s u (view r) in
-    let same_answer = ap (λ b. login_vouched w q t (or_vouch_fault (vouched_of b))) is ∙ told w q s t name bytes load.0 load.1.0 load.1.1 in
-    subst P (sym v) (vouch_shifted w _ _ s t u (view r) same same_answer (h (omega (arith, counts, same))))
+    let P : Option (List ℕ) → Type 0 = λ z. Audits f (vouch_response_by by f.trust z s) s u (view r) in
+    let same_answer = ap (λ b. vouched_response by f.trust t (or_vouch_fault (vouched_of b))) is ∙ told by f.trust s t name bytes load.0 load.1.0 load.1.1 in
+    subst P (sym v) (vouch_shifted f _ _ s t u (view r) same same_answer (h (omega (arith, counts, same))))
 
--- ---- logins
+-- ---- values
+
+-- what is answered to a question is answered to the same question
+pub same_question : {Q R E : Type 0} (view : R → Shown) (by : Q → Deciding) (f : AuditFiles) (p q : Q) (o t : Option SourceState) (res : Result R E) → p ≡ q
+    → IfTells o (λ s. IfOk res (λ r. Audits f (audit_response (by p) f s) s t (view r)))
+    → IfTells o (λ s. IfOk res (λ r. Audits f (audit_response (by q) f s) s t (view r)))
+same_question {Q = Q} view by f p q o t res e h =
+    let P : Q → Type 0 = λ x. IfTells o (λ s. IfOk res (λ r. Audits f (audit_response (by x) f s) s t (view r))) in
+    subst P e h
+
+-- what is answered to what was spelled is answered to the words
+pub spelled_same : {Q R E : Type 0} (view : R → Shown) (by : Q → Deciding) (f : AuditFiles) (p q : Result Q Shown) (o t : Option SourceState) (res : Result R E) → p ≡ q
+    → IfTells o (λ s. IfOk res (λ r. Audits f (spelled_response by f s p) s t (view r)))
+    → IfTells o (λ s. IfOk res (λ r. Audits f (spelled_response by f s q) s t (view r)))
+spelled_same {Q = Q} view by f p q o t res e h =
+    let P : Result Q Shown → Type 0 = λ x. IfTells o (λ s. IfOk res (λ r. Audits f (spelled_response by f s x) s t (view r))) in
+    subst P e h
 
 in_zone-by : (w : LoginWords) (q : Result Login Shown) (told : Option TimeZone) (s : SourceState) (t : Option SourceState) (r : Shown) → ReadsZone (zone_text w.zone) told
-    → login_spelled w told ≡ q → RespondsBy (Some (login w)) (exactly (login_values_response w s q)) s t r → RespondsBy (Some (login w)) (login_in_zone w s) s t r
-in_zone-by w q told s t r reads e (inl (none, is)) = inl (none, (told, reads, is ∙ sym (ap (login_values_response w s) e)))
+    → login_spelled w told ≡ q → Audits w.files (spelled_response login_by w.files s q) s t r → RespondsBy (Some (login w)) (login_in_zone w s) s t r
+in_zone-by w q told s t r reads e (inl (none, is)) = inl (none, (told, reads, is ∙ sym (ap (spelled_response login_by w.files s) e)))
 in_zone-by w q told s t r reads e (inr h) = inr h
 
 in_zone-if : {R E : Type 0} (view : R → Shown) (w : LoginWords) (q : Result Login Shown) (told : Option TimeZone) (s : SourceState) (t : Option SourceState) (res : Result R E)
-    → ReadsZone (zone_text w.zone) told → login_spelled w told ≡ q → IfOk res (λ r. RespondsBy (Some (login w)) (exactly (login_values_response w s q)) s t (view r))
+    → ReadsZone (zone_text w.zone) told → login_spelled w told ≡ q → IfOk res (λ r. Audits w.files (spelled_response login_by w.files s q) s t (view r))
     → IfOk res (λ r. RespondsBy (Some (login w)) (login_in_zone w s) s t (view r))
 in_zone-if view w q told s t (Err x) reads e h = tt
 in_zone-if view w q told s t (Ok r) reads e h = in_zone-by w q told s t (view r) reads e h
@@ -148,18 +201,10 @@ in_zone-if view w q told s t (Ok r) reads e h = in_zone-by w q told s t (view r)
 -- what is answered to the values of a login is answered to the login, in the zone of its text
 pub login_responds : {R E : Type 0} (view : R → Shown) (w : LoginWords) (q : Result Login Shown) (told : Option TimeZone) (o t : Option SourceState) (res : Result R E)
     → ReadsZone (zone_text w.zone) told → login_spelled w told ≡ q
-    → IfTells o (λ s. IfOk res (λ r. RespondsBy (Some (login w)) (exactly (login_values_response w s q)) s t (view r)))
+    → IfTells o (λ s. IfOk res (λ r. Audits w.files (spelled_response login_by w.files s q) s t (view r)))
     → IfTells o (λ s. IfOk res (λ r. RespondsBy (Some (login w)) (login_in_zone w s) s t (view r)))
 login_responds view w q told None t res reads e h = tt
 login_responds view w q told (Some s) t res reads e h = λ counts. in_zone-if view w q told s t res reads e (h counts)
-
--- a login that is the same is answered the same
-pub same_login : {R E : Type 0} (view : R → Shown) (w : LoginWords) (p q : Login) (o t : Option SourceState) (res : Result R E) → p ≡ q
-    → IfTells o (λ s. IfOk res (λ r. RespondsBy (Some (login w)) (exactly (login_values_response w s (Ok p))) s t (view r)))
-    → IfTells o (λ s. IfOk res (λ r. RespondsBy (Some (login w)) (exactly (login_values_response w s (Ok q))) s t (view r)))
-same_login view w p q o t res e h =
-    let P : Login → Type 0 = λ x. IfTells o (λ s. IfOk res (λ r. RespondsBy (Some (login w)) (exactly (login_values_response w s (Ok x))) s t (view r))) in
-    subst P e h
 
 -- ---- words
 

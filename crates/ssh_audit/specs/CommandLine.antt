@@ -22,19 +22,35 @@ login_options = (codes "file", true) ∷ (codes "offer", true) ∷ (codes "signa
 unfoldable pub login_app : App
 login_app = with_options (new_app (codes "login")) login_options
 
+abbrev pub host_options : List (Text × Bool)
+host_options = (codes "file", true) ∷ (codes "offer", true) ∷ (codes "signature", true) ∷ (codes "hash", true) ∷ (codes "host", true)
+    ∷ (codes "port", true) ∷ (codes "now", true) ∷ (codes "vouch", false) ∷ []
+
+unfoldable pub host_app : App
+host_app = with_options (new_app (codes "host")) host_options
+
 abbrev pub show_options : List (Text × Bool)
 show_options = (codes "kind", true) ∷ (codes "file", true) ∷ []
 
 unfoldable pub show_app : App
 show_app = with_options (new_app (codes "show")) show_options
 
+-- the program and its subcommands
+abbrev pub with_commands : App
+with_commands = with_subcommand (with_subcommand (with_subcommand (new_app (codes "ssh_audit")) show_app.top) login_app.top) host_app.top
+
 -- the program's command line: the words begin with a subcommand, which has to be there
 abbrev pub command_line : App
-command_line = on_top (λ s. record s { no_binary_name = true; subcommand_required = true }) (with_subcommand (with_subcommand (new_app (codes "ssh_audit")) show_app.top) login_app.top)
+command_line = on_top (λ s. record s { no_binary_name = true; subcommand_required = true }) with_commands
+
+-- the names of a trust file, and of a vouch file where one is given
+pub record AuditFiles : Type 0 where
+  pub trust : Text
+  pub vouch : Option Text
 
 -- the texts of the options of `login`
 pub record LoginWords : Type 0 where
-  pub file : Text
+  pub files : AuditFiles
   pub offer : Text
   pub signature : Text
   pub algorithm : Text
@@ -44,7 +60,16 @@ pub record LoginWords : Type 0 where
   pub now : Text
   pub host : Option Text
   pub zone : Option Text
-  pub vouch : Option Text
+
+-- the texts of the options of `host`
+pub record HostWords : Type 0 where
+  pub files : AuditFiles
+  pub offer : Text
+  pub signature : Text
+  pub hash : Text
+  pub host : Text
+  pub port : Text
+  pub now : Text
 
 -- the texts of the options of `show`
 pub record ShowWords : Type 0 where
@@ -54,15 +79,21 @@ pub record ShowWords : Type 0 where
 -- what the words may ask for
 pub data Request : Type 0 where
   login : LoginWords → Request
+  host : HostWords → Request
   show : ShowWords → Request
 
 infixl 10 ◌>>=◌
 abbrev pub ◌>>=◌ : {A B : Type 0} → Option A → (A → Option B) → Option B
 o >>= f = option_and_then f o
 
+unfoldable pub audit_files : List Row → Option AuditFiles
+audit_files rows = do
+  trust ← first_of (codes "file") rows
+  Some (record { trust = trust; vouch = first_of (codes "vouch") rows })
+
 unfoldable pub login_words : List Row → Option LoginWords
 login_words rows = do
-  file ← first_of (codes "file") rows
+  files ← audit_files rows
   offer ← first_of (codes "offer") rows
   signature ← first_of (codes "signature") rows
   algorithm ← first_of (codes "algorithm") rows
@@ -71,7 +102,7 @@ login_words rows = do
   address ← first_of (codes "address") rows
   now ← first_of (codes "now") rows
   Some (record {
-    file = file;
+    files = files;
     offer = offer;
     signature = signature;
     algorithm = algorithm;
@@ -81,8 +112,18 @@ login_words rows = do
     now = now;
     host = first_of (codes "host") rows;
     zone = first_of (codes "zone") rows;
-    vouch = first_of (codes "vouch") rows;
   })
+
+unfoldable pub host_words : List Row → Option HostWords
+host_words rows = do
+  files ← audit_files rows
+  offer ← first_of (codes "offer") rows
+  signature ← first_of (codes "signature") rows
+  hash ← first_of (codes "hash") rows
+  name ← first_of (codes "host") rows
+  port ← first_of (codes "port") rows
+  now ← first_of (codes "now") rows
+  Some (record { files = files; offer = offer; signature = signature; hash = hash; host = name; port = port; now = now })
 
 unfoldable pub show_words : List Row → Option ShowWords
 show_words rows = do
@@ -92,6 +133,7 @@ show_words rows = do
 
 abbrev pub request_in : Text × List Row → Option Request
 request_in p = if bytes_eq p.0 (codes "login") then option_map (λ w. login w) (login_words p.1)
+    else if bytes_eq p.0 (codes "host") then option_map (λ w. host w) (host_words p.1)
     else if bytes_eq p.0 (codes "show") then option_map (λ w. show w) (show_words p.1)
     else None
 

@@ -1,7 +1,8 @@
 pub mod CommandLine
 pub mod Parsing
+pub mod Audits
 pub mod Requests
-pub mod LoginValues
+pub mod ValuesRead
 pub mod Responding
 pub mod Printing
 pub mod Places

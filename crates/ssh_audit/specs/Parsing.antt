@@ -3,18 +3,24 @@ use Rattle.std.specs.Prelude.{◌≡◌, ◌≢◌, ℕ, List, Some, None, Resul
 use Rattle.clap.specs.Words.{kind_of}
 use Rattle.clap.specs.declared.error.Error.{Error}
 use Rattle.clap.specs.declared.error.ErrorKind.TheVariants.{OutOfMemory}
-use Rattle.ssh_audit.specs.CommandLine.{LoginWords as LoginTexts, ShowWords as ShowTexts, Request as Asked, login, show, request_of}
+use Rattle.ssh_audit.specs.CommandLine.{AuditFiles as FileNames, HostWords as HostTexts, LoginWords as LoginTexts, ShowWords as ShowTexts, Request as Asked, host, login, show, request_of}
+use Rattle.ssh_audit.specs.declared.request.AuditFiles.{AuditFiles}
+use Rattle.ssh_audit.specs.declared.request.HostWords.{HostWords}
 use Rattle.ssh_audit.specs.declared.request.LoginWords.{LoginWords}
 use Rattle.ssh_audit.specs.declared.request.Request.{Request}
-use Rattle.ssh_audit.specs.declared.request.Request.TheVariants.{Login, Show}
+use Rattle.ssh_audit.specs.declared.request.Request.TheVariants.{Host, Login, Show}
 use Rattle.ssh_audit.specs.declared.request.ShowWords.{ShowWords}
 use Rattle.ssh_audit.specs.declared.request.WordsFault.{WordsFault}
 use Rattle.ssh_audit.specs.declared.request.WordsFault.TheVariants.{Usage, Memory}
 
+-- the names, without where they lie in memory
+abbrev pub names_of : AuditFiles → FileNames
+names_of f = record { trust = f.trust.now; vouch = option_map (λ s. s.now) f.vouch }
+
 -- the texts, without where they lie in memory
 abbrev pub texts_of : LoginWords → LoginTexts
 texts_of w = record {
-  file = w.file.now;
+  files = names_of w.files;
   offer = w.offer.now;
   signature = w.signature.now;
   algorithm = w.algorithm.now;
@@ -24,7 +30,17 @@ texts_of w = record {
   now = w.now.now;
   host = option_map (λ s. s.now) w.host;
   zone = option_map (λ s. s.now) w.zone;
-  vouch = option_map (λ s. s.now) w.vouch;
+}
+
+abbrev pub host_texts_of : HostWords → HostTexts
+host_texts_of w = record {
+  files = names_of w.files;
+  offer = w.offer.now;
+  signature = w.signature.now;
+  hash = w.hash.now;
+  host = w.host.now;
+  port = w.port.now;
+  now = w.now.now;
 }
 
 abbrev pub show_texts_of : ShowWords → ShowTexts
@@ -32,6 +48,7 @@ show_texts_of w = record { kind = w.kind.now; file = w.file.now }
 
 abbrev pub request_in_memory : Request → Asked
 request_in_memory (Login w) = login (texts_of w)
+request_in_memory (Host w) = host (host_texts_of w)
 request_in_memory (Show w) = show (show_texts_of w)
 
 -- the request that the words spell, or a usage fault where they spell none, unless memory was refused

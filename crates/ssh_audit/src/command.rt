@@ -2,7 +2,7 @@
 
 ghost use Rattle.std.specs.Prelude.{◌≡◌, IfOk};
 ghost use Rattle.clap.specs.Words.{app_of, with_rule};
-ghost use Rattle.ssh_audit.specs.CommandLine.{command_line, option_rule, login_app, show_app};
+ghost use Rattle.ssh_audit.specs.CommandLine.{command_line, option_rule, host_app, login_app, show_app};
 
 use clap::{Arg, Command};
 use std::alloc::{AllocError, Global};
@@ -40,6 +40,23 @@ fn login_command<'a>(alloc: Global) -> Result<Command<'a>, AllocError>
     Ok(command)
 }
 
+/// The subcommand `host`.
+#[tactic(auto, unfolding(crate::specs::CommandLine::host_app))]
+fn host_command<'a>(alloc: Global) -> Result<Command<'a>, AllocError>
+    ensures { IfOk result (λ c. app_of c ≡ host_app) }
+{
+    let command = Command::new(alloc, "host");
+    let command = with_option(alloc, command, "file", true)?;
+    let command = with_option(alloc, command, "offer", true)?;
+    let command = with_option(alloc, command, "signature", true)?;
+    let command = with_option(alloc, command, "hash", true)?;
+    let command = with_option(alloc, command, "host", true)?;
+    let command = with_option(alloc, command, "port", true)?;
+    let command = with_option(alloc, command, "now", true)?;
+    let command = with_option(alloc, command, "vouch", false)?;
+    Ok(command)
+}
+
 /// The subcommand `show`.
 #[tactic(auto, unfolding(crate::specs::CommandLine::show_app))]
 fn show_command<'a>(alloc: Global) -> Result<Command<'a>, AllocError>
@@ -57,7 +74,9 @@ pub fn program<'a>(alloc: Global) -> Result<Command<'a>, AllocError>
 {
     let show = show_command(alloc)?;
     let login = login_command(alloc)?;
+    let host = host_command(alloc)?;
     let showing = Command::new(alloc, "ssh_audit").subcommand(show)?;
-    let program = showing.subcommand(login)?;
+    let logging_in = showing.subcommand(login)?;
+    let program = logging_in.subcommand(host)?;
     Ok(program.no_binary_name(true).subcommand_required(true))
 }

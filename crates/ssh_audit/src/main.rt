@@ -1,11 +1,15 @@
-//! An auditor of OpenSSH's trust files: it says which line of an authorized_keys file admits a login, and why others do not.
+//! An auditor of OpenSSH's trust files: it says which line of an authorized_keys file admits a login, or
+//! of a known_hosts file trusts a host's key, which line revokes a key, and why others do not.
 #![tactic(auto)]
 
+mod audit;
 mod command;
 #[cfg(test)]
+mod host_tests;
+#[cfg(test)]
 mod login_tests;
-mod login_values;
 mod parse;
+mod question;
 mod request;
 mod respond;
 mod run;
@@ -14,6 +18,7 @@ mod show_tests;
 mod system;
 #[cfg(test)]
 mod tests;
+mod values;
 
 use request::WordsFault;
 use run::{refuse, run};

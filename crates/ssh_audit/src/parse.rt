@@ -2,11 +2,11 @@
 
 ghost use Rattle.std.specs.Prelude.{◌≡◌, map, option_map, option_and_then};
 ghost use Rattle.clap.specs.Words.{first_of, found_of, rows_of, subcommand_rows_of};
-ghost use Rattle.ssh_audit.specs.CommandLine.{login_words, show_words, request_in};
-ghost use Rattle.ssh_audit.specs.Parsing.{FaultIs, Parses, request_in_memory, texts_of, show_texts_of};
+ghost use Rattle.ssh_audit.specs.CommandLine.{audit_files, host_words, login_words, show_words, request_in};
+ghost use Rattle.ssh_audit.specs.Parsing.{FaultIs, Parses, host_texts_of, names_of, request_in_memory, texts_of, show_texts_of};
 
 use crate::command::program;
-use crate::request::{LoginWords, Request, ShowWords, WordsFault};
+use crate::request::{AuditFiles, HostWords, LoginWords, Request, ShowWords, WordsFault};
 use clap::error::ErrorKind;
 use clap::{ArgMatches, Error};
 use std::alloc::Global;
@@ -29,13 +29,24 @@ fn value<'a>(matches: &ArgMatches<'a>, name: &str) -> Option<&'a str>
     matches.get_str(name)
 }
 
+/// The names of the files.
+#[tactic(auto, unfolding(crate::specs::CommandLine::audit_files))]
+fn audit_files<'a>(matches: &ArgMatches<'a>) -> Option<AuditFiles<'a>>
+    ensures { option_map names_of result ≡ audit_files (rows_of (found_of matches.now)) }
+{
+    Some(AuditFiles {
+        trust: value(matches, "file")?,
+        vouch: value(matches, "vouch"),
+    })
+}
+
 /// The texts of the options of `login`.
 #[tactic(auto, unfolding(crate::specs::CommandLine::login_words))]
 fn login_words<'a>(matches: &ArgMatches<'a>) -> Option<LoginWords<'a>>
     ensures { option_map texts_of result ≡ login_words (rows_of (found_of matches.now)) }
 {
     Some(LoginWords {
-        file: value(matches, "file")?,
+        files: audit_files(matches)?,
         offer: value(matches, "offer")?,
         signature: value(matches, "signature")?,
         algorithm: value(matches, "algorithm")?,
@@ -45,7 +56,22 @@ fn login_words<'a>(matches: &ArgMatches<'a>) -> Option<LoginWords<'a>>
         now: value(matches, "now")?,
         host: value(matches, "host"),
         zone: value(matches, "zone"),
-        vouch: value(matches, "vouch"),
+    })
+}
+
+/// The texts of the options of `host`.
+#[tactic(auto, unfolding(crate::specs::CommandLine::host_words))]
+fn host_words<'a>(matches: &ArgMatches<'a>) -> Option<HostWords<'a>>
+    ensures { option_map host_texts_of result ≡ host_words (rows_of (found_of matches.now)) }
+{
+    Some(HostWords {
+        files: audit_files(matches)?,
+        offer: value(matches, "offer")?,
+        signature: value(matches, "signature")?,
+        hash: value(matches, "hash")?,
+        host: value(matches, "host")?,
+        port: value(matches, "port")?,
+        now: value(matches, "now")?,
     })
 }
 
@@ -67,6 +93,10 @@ fn request<'a>(matches: &ArgMatches<'a>) -> Option<Request<'a>>
     match matches.subcommand() {
         Some((name, found)) if name == "login" => match login_words(found) {
             Some(words) => Some(Request::Login(words)),
+            None => None,
+        },
+        Some((name, found)) if name == "host" => match host_words(found) {
+            Some(words) => Some(Request::Host(words)),
             None => None,
         },
         Some((name, found)) if name == "show" => match show_words(found) {

@@ -1,9 +1,16 @@
 //! What the words ask for.
 
+/// The names of a trust file, and of a vouch file where one is given.
+#[derive(Clone, Copy)]
+pub struct AuditFiles<'a> {
+    pub trust: &'a str,
+    pub vouch: Option<&'a str>,
+}
+
 /// The texts of the options of `login`.
-#[derive(Clone, Copy, Debug)]
+#[derive(Clone, Copy)]
 pub struct LoginWords<'a> {
-    pub file: &'a str,
+    pub files: AuditFiles<'a>,
     pub offer: &'a str,
     pub signature: &'a str,
     pub algorithm: &'a str,
@@ -13,20 +20,32 @@ pub struct LoginWords<'a> {
     pub now: &'a str,
     pub host: Option<&'a str>,
     pub zone: Option<&'a str>,
-    pub vouch: Option<&'a str>,
+}
+
+/// The texts of the options of `host`.
+#[derive(Clone, Copy)]
+pub struct HostWords<'a> {
+    pub files: AuditFiles<'a>,
+    pub offer: &'a str,
+    pub signature: &'a str,
+    pub hash: &'a str,
+    pub host: &'a str,
+    pub port: &'a str,
+    pub now: &'a str,
 }
 
 /// The texts of the options of `show`.
-#[derive(Clone, Copy, Debug)]
+#[derive(Clone, Copy)]
 pub struct ShowWords<'a> {
     pub kind: &'a str,
     pub file: &'a str,
 }
 
 /// What is asked for.
-#[derive(Clone, Copy, Debug)]
+#[derive(Clone, Copy)]
 pub enum Request<'a> {
     Login(LoginWords<'a>),
+    Host(HostWords<'a>),
     Show(ShowWords<'a>),
 }
 

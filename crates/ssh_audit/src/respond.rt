@@ -1,147 +1,29 @@
 //! From words and files to what is printed.
 
-ghost use Rattle.std.specs.Prelude.{◌≡◌, ◌<◌, ◌^◌, [], length, map, IfOk, Ok, Some};
-ghost use Rattle.ssh_trust.specs.Query.{login_of};
-ghost use Rattle.ssh_trust.specs.LoginClaim.{login_claim};
-ghost use Rattle.ssh_audit.specs.CommandLine.{login, show, request_of};
-ghost use Rattle.ssh_audit.specs.Requests.{Responds, RespondsBy, after_vouching, answer_claimed, answer_in, login_in_zone, login_over, login_vouched, or_vouch_fault, show_answer, vouched_in, exactly, login_values_response};
-ghost use Rattle.ssh_audit.specs.LoginValues.{login_with};
-ghost use Rattle.ssh_trust.specs.Answer.{Gives};
-ghost use Rattle.ssh_audit.specs.Responding.{AnswersFile, IsFaultOf, IsUsageOf, is_memory};
-ghost use Rattle.ssh_audit.specs.Parsing.{request_in_memory, show_texts_of, texts_of};
+ghost use Rattle.std.specs.Prelude.{◌<◌, ◌^◌, [], length, map, IfOk, Ok, Some};
+ghost use Rattle.ssh_audit.specs.CommandLine.{host, login, show, request_of};
+ghost use Rattle.ssh_audit.specs.Audits.{host_by, login_by, spelled_response};
+ghost use Rattle.ssh_audit.specs.Requests.{Responds, RespondsBy, answer_in, exactly, host_response, login_in_zone, show_answer};
+ghost use Rattle.ssh_audit.specs.ValuesRead.{host_with, login_with};
+ghost use Rattle.ssh_audit.specs.Responding.{IsUsageOf};
+ghost use Rattle.ssh_audit.specs.Parsing.{host_texts_of, request_in_memory, show_texts_of, texts_of};
 ghost use Rattle.ssh_print.specs.ResponseView.{response};
-ghost use Rattle.ssh_inputs.specs.SourceState.{IfTells, bytes_at};
-ghost use Rattle.ssh_inputs.specs.VouchFile.{vouched_of};
+ghost use Rattle.ssh_inputs.specs.SourceState.{IfTells};
 
-use crate::login_values::{LoginValues, ValueFault, read_login_values};
+use crate::audit::{respond_question, unread};
 use crate::parse::parse;
-use crate::request::{LoginWords, Request, ShowWords, WordsFault};
-use ssh_inputs::{
-    Files, ReadFault, VouchFault, gather, read_first_line, read_vouch_file, read_vouched,
-    read_whole, read_words,
-};
-use ssh_print::{Response, decision_response, file_fault, usage_fault, value_fault, vouch_fault};
+use crate::question::LoginQuestion;
+use crate::request::{HostWords, LoginWords, Request, ShowWords, WordsFault};
+use crate::values::{HostValues, LoginValues, ValueFault, read_host_values, read_login_values};
+use ssh_inputs::{Files, ReadFault, read_first_line, read_whole, read_words};
+use ssh_print::{Response, usage_fault, value_fault};
 use ssh_show::{show, show_kind};
-use ssh_trust::{AuditError, Decision, LoginQuery, Signed, login};
+use ssh_trust::{HostQuery, LoginQuery};
 use std::alloc::{AllocError, Global};
 use std::convert::AsStr;
 
-/// The decision on a login by the bytes of a trust file.
-fn decide(
-    alloc: Global,
-    file: &[u8],
-    query: &LoginQuery<'_>,
-    vouched: &[Signed],
-) -> Result<Decision, AuditError>
-    requires session { length query.now.session.now < 2 ^ 32 }
-    requires user { length query.now.user.now < 2 ^ 32 }
-    ensures { Gives (answer_claimed (login_claim (login_of query.entry.now)) file.now vouched.now) result }
-{
-    let decision = login(alloc, file, query, vouched)?;
-    Ok(decision)
-}
-
-/// The decision on a login by the trust file of this name.
-fn decide_by_file<F: Files>(
-    alloc: Global,
-    name: &str,
-    query: &LoginQuery<'_>,
-    vouched: &[Signed],
-    files: &mut F,
-) -> Result<Decision, AuditError>
-    requires session { length query.now.session.now < 2 ^ 32 }
-    requires user { length query.now.user.now < 2 ^ 32 }
-    ensures { IfTells (F.source_state files.old) (λ s. AnswersFile (login_of query.entry.now) vouched.now name.now (bytes_at s name.now) s (F.source_state files.new) result) }
-{
-    match gather(alloc, files, name) {
-        Ok(file) => decide(alloc, &file, query, vouched),
-        Err(ReadFault::Memory) => Err(AuditError::Memory),
-        Err(_) => Err(AuditError::Read),
-    }
-}
-
-fn is_memory(answer: &Result<Decision, AuditError>) -> bool
-    ensures { result ≡ is_memory answer.now }
-{
-    matches!(answer, Err(AuditError::Memory))
-}
-
-/// The response to a login, after the signatures that are vouched for were read.
-fn respond_vouched<F: Files>(
-    alloc: Global,
-    words: &LoginWords<'_>,
-    query: &LoginQuery<'_>,
-    vouched: &[Signed],
-    files: &mut F,
-) -> Result<Response, AllocError>
-    requires session { length query.now.session.now < 2 ^ 32 }
-    requires user { length query.now.user.now < 2 ^ 32 }
-    ensures { IfTells (F.source_state files.old) (λ s. IfOk result (λ r.
-        RespondsBy (Some (login (texts_of words.entry.now))) (exactly (login_over (login_of query.entry.now) vouched.now (bytes_at s words.entry.now.file.now))) s (F.source_state files.new) (response r))) }
-{
-    let answer = decide_by_file(alloc, words.file, query, vouched, files);
-    if is_memory(&answer) {
-        return Err(AllocError);
-    }
-    decision_response(alloc, &answer)
-}
-
-/// The response to a file that gives no bytes, and is no trust file.
-fn unread(alloc: Global, name: &str, fault: ReadFault) -> Result<Response, AllocError>
-    ensures { IfOk result (λ r. IsFaultOf name.now fault (response r)) }
-{
-    match fault {
-        ReadFault::Memory => Err(AllocError),
-        _ => file_fault(alloc, name),
-    }
-}
-
-/// The response to a login, after the bytes of its vouch file were read.
-fn respond_bytes<F: Files>(
-    alloc: Global,
-    words: &LoginWords<'_>,
-    query: &LoginQuery<'_>,
-    bytes: &[u8],
-    files: &mut F,
-) -> Result<Response, AllocError>
-    requires session { length query.now.session.now < 2 ^ 32 }
-    requires user { length query.now.user.now < 2 ^ 32 }
-    ensures { IfTells (F.source_state files.old) (λ s. IfOk result (λ r.
-        RespondsBy (Some (login (texts_of words.entry.now))) (exactly (login_vouched (texts_of words.entry.now) (login_of query.entry.now) s (or_vouch_fault (vouched_of bytes.now)))) s (F.source_state files.new) (response r))) }
-{
-    match read_vouched(alloc, bytes) {
-        Ok(vouched) => {
-            let response = respond_vouched(alloc, words, query, &vouched, files)?;
-            Ok(response)
-        }
-        Err(VouchFault::Line(number)) => vouch_fault(alloc, number),
-        Err(VouchFault::Memory) => Err(AllocError),
-    }
-}
-
-/// The response to a login, after the values of its options were read.
-fn respond_query<F: Files>(
-    alloc: Global,
-    words: &LoginWords<'_>,
-    query: &LoginQuery<'_>,
-    files: &mut F,
-) -> Result<Response, AllocError>
-    requires session { length query.now.session.now < 2 ^ 32 }
-    requires user { length query.now.user.now < 2 ^ 32 }
-    ensures { IfTells (F.source_state files.old) (λ s. IfOk result (λ r.
-        RespondsBy (Some (login (texts_of words.entry.now))) (exactly (login_vouched (texts_of words.entry.now) (login_of query.entry.now) (after_vouching (texts_of words.entry.now).vouch s) (vouched_in (texts_of words.entry.now).vouch s))) s (F.source_state files.new) (response r))) }
-{
-    match words.vouch {
-        None => respond_vouched(alloc, words, query, &[], files),
-        Some(name) => match read_vouch_file(alloc, files, name) {
-            Ok(bytes) => respond_bytes(alloc, words, query, &bytes, files),
-            Err(fault) => unread(alloc, name, fault),
-        },
-    }
-}
-
 /// The response to a login of these texts and values.
-fn respond_values<F: Files>(
+fn respond_login_values<F: Files>(
     alloc: Global,
     words: &LoginWords<'_>,
     values: &LoginValues,
@@ -150,7 +32,7 @@ fn respond_values<F: Files>(
     requires session { length values.now.session.items < 2 ^ 32 }
     requires user { length words.now.user.now < 2 ^ 32 }
     ensures { IfTells (F.source_state files.old) (λ s. IfOk result (λ r.
-        RespondsBy (Some (login (texts_of words.entry.now))) (exactly (login_values_response (texts_of words.entry.now) s (Ok (login_with (texts_of words.entry.now) values.entry.now)))) s (F.source_state files.new) (response r))) }
+        RespondsBy (Some (login (texts_of words.entry.now))) (exactly (spelled_response login_by (texts_of words.entry.now).files s (Ok (login_with (texts_of words.entry.now) values.entry.now)))) s (F.source_state files.new) (response r))) }
 {
     let query = LoginQuery {
         offered: values.offered.as_slice(),
@@ -163,7 +45,7 @@ fn respond_values<F: Files>(
         now: values.now,
         zone: &values.zone,
     };
-    respond_query(alloc, words, &query, files)
+    respond_question(alloc, &words.files, &LoginQuestion { query }, files)
 }
 
 /// The response to a login.
@@ -177,7 +59,47 @@ fn respond_login<F: Files>(
 {
     match read_login_values(alloc, words) {
         Ok(values) => {
-            let response = respond_values(alloc, words, &values, files)?;
+            let response = respond_login_values(alloc, words, &values, files)?;
+            Ok(response)
+        }
+        Err(ValueFault::Value(name)) => value_fault(alloc, name),
+        Err(ValueFault::Memory) => Err(AllocError),
+    }
+}
+
+/// The response to a host's key of these texts and values.
+fn respond_host_values<F: Files>(
+    alloc: Global,
+    words: &HostWords<'_>,
+    values: &HostValues,
+    files: &mut F,
+) -> Result<Response, AllocError>
+    ensures { IfTells (F.source_state files.old) (λ s. IfOk result (λ r.
+        RespondsBy (Some (host (host_texts_of words.entry.now))) (exactly (spelled_response host_by (host_texts_of words.entry.now).files s (Ok (host_with (host_texts_of words.entry.now) values.entry.now)))) s (F.source_state files.new) (response r))) }
+{
+    let query = HostQuery {
+        offered: values.offered.as_slice(),
+        signature: values.signature.as_slice(),
+        exchange_hash: values.exchange_hash.as_slice(),
+        host: words.host.as_bytes(),
+        port: values.port,
+        now: values.now,
+    };
+    respond_question(alloc, &words.files, &query, files)
+}
+
+/// The response to a host's key.
+fn respond_host<F: Files>(
+    alloc: Global,
+    words: &HostWords<'_>,
+    files: &mut F,
+) -> Result<Response, AllocError>
+    ensures { IfTells (F.source_state files.old) (λ s. IfOk result (λ r.
+        RespondsBy (Some (host (host_texts_of words.entry.now))) (exactly (host_response (host_texts_of words.entry.now) s)) s (F.source_state files.new) (response r))) }
+{
+    match read_host_values(alloc, words) {
+        Ok(values) => {
+            let response = respond_host_values(alloc, words, &values, files)?;
             Ok(response)
         }
         Err(ValueFault::Value(name)) => value_fault(alloc, name),
@@ -214,6 +136,7 @@ fn respond_words<S: AsStr, F: Files>(
 {
     match parse(alloc, words) {
         Ok(Request::Login(words)) => respond_login(alloc, &words, files),
+        Ok(Request::Host(words)) => respond_host(alloc, &words, files),
         Ok(Request::Show(words)) => respond_show(alloc, &words, files),
         Err(WordsFault::Usage) => usage_fault(alloc),
         Err(WordsFault::Memory) => Err(AllocError),

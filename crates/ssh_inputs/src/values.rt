@@ -97,3 +97,11 @@ pub fn read_number(text: &str) -> Option<u64>
     }
     text.parse::<u64>().ok()
 }
+
+/// The port that decimal digits spell, from 0 to 65535, without a sign; leading zeros are good.
+pub fn read_port(text: &str) -> Option<u16>
+    ensures { result ≡ number_below (2 ^ 16) text.now }
+{
+    let number = read_number(text)?;
+    u16::try_from(number).ok()
+}

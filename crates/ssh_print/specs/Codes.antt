@@ -88,6 +88,8 @@ reason_codes reason.CertSourceRefused = codes " G17"
 reason_codes reason.CommandConflict = codes " G18"
 
 abbrev pub cause_codes : Cause → List ℕ
+cause_codes (cause.Revoked n) = codes " N1" ++ spaced (decimal n)
+cause_codes (cause.RevocationUnreadable n) = codes " N2" ++ spaced (decimal n)
 cause_codes cause.NoLine = codes " N3"
 cause_codes cause.TouchMissing = codes " N4"
 cause_codes cause.VerifyMissing = codes " N5"

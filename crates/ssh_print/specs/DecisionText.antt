@@ -2,14 +2,14 @@
 use Rattle.std.specs.Prelude.{◌++◌, ◌∷◌, [], ◌||◌, ◌+◌, ℕ, Bool, not, List, Option, Some, None, codes, if◌then◌else◌}
 use Rattle.std.specs.List.{flat_map}
 use Rattle.std.specs.Fmt.{decimal}
-use Rattle.ssh_rules.specs.declared.rights.Carried.{Carried}
-use Rattle.ssh_rules.specs.declared.rights.CarriedName.{CarriedName}
-use Rattle.ssh_rules.specs.declared.rights.CarriedName.TheVariants as carried
+use Rattle.ssh_rights.specs.declared.rights.Carried.{Carried}
+use Rattle.ssh_rights.specs.declared.rights.CarriedName.{CarriedName}
+use Rattle.ssh_rights.specs.declared.rights.CarriedName.TheVariants as carried
 use Rattle.ssh_trust.specs.declared.decision.Cause.{Cause}
 use Rattle.ssh_trust.specs.declared.decision.Decision.{Decision}
 use Rattle.ssh_trust.specs.declared.decision.Decision.TheVariants.{Granted, Denied}
 use Rattle.ssh_rules.specs.declared.reason.Reason.{Reason}
-use Rattle.ssh_rules.specs.declared.rights.Rights.{Rights}
+use Rattle.ssh_rights.specs.declared.rights.Rights.{Rights}
 use Rattle.ssh_offers.specs.declared.query.Signed.{Signed}
 use Rattle.ssh_print.specs.Texts.{hex_text, escaped, text_line}
 use Rattle.ssh_print.specs.Codes.{reason_codes, cause_codes}

@@ -201,11 +201,20 @@ pub fn push_reason_codes(
     Ok(())
 }
 
-/// The code of why a login is denied, `N3` to `N6`; after `N6` the index of what nobody vouches for.
+/// The code of why an offer is denied, `N1` to `N6`; after `N1` and `N2` the number of the line, after
+/// `N6` the index of what nobody vouches for.
 pub fn push_cause_codes(alloc: Global, out: &mut Vec<u8>, cause: Cause) -> Result<(), AllocError>
     ensures { OnOk result (out.new.items ≡ out.old.items ++ cause_codes cause) }
 {
     match cause {
+        Cause::Revoked(line) => {
+            out.extend_from_slice(b" N1 ")?;
+            push_number(alloc, out, line)?;
+        }
+        Cause::RevocationUnreadable(line) => {
+            out.extend_from_slice(b" N2 ")?;
+            push_number(alloc, out, line)?;
+        }
         Cause::NoLine => out.extend_from_slice(b" N3")?,
         Cause::TouchMissing => out.extend_from_slice(b" N4")?,
         Cause::VerifyMissing => out.extend_from_slice(b" N5")?,

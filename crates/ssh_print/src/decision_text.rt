@@ -119,7 +119,8 @@ fn push_carried(out: &mut Vec<u8>, carried: &[Carried]) -> Result<(), AllocError
     Ok(())
 }
 
-/// What a login may do: its rights, the command that is forced, and the texts that are carried on.
+/// What a login may do: its rights, the command that is forced, and the texts that are carried on; for a
+/// host's key nothing.
 fn push_rights(out: &mut Vec<u8>, rights: &Option<Rights>) -> Result<(), AllocError>
     ensures { OnOk result (out.new.items ≡ out.old.items ++ rights_lines rights.now) }
 {

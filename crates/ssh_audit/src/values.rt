@@ -1,17 +1,17 @@
-//! The values of the options of `login`.
+//! The values of the options of `login` and of `host`.
 
 ghost use Rattle.std.specs.Prelude.{◌≡◌, ◌<◌, ◌^◌, length, option_map, IfOk, OnOk};
 ghost use Rattle.jiff.specs.Words.{plain_zone};
-ghost use Rattle.ssh_audit.specs.declared.login_values.ValueFault.TheVariants.{Memory};
-ghost use Rattle.ssh_audit.specs.Parsing.{texts_of};
-ghost use Rattle.ssh_audit.specs.LoginValues.{Spells, SpellsIn};
+ghost use Rattle.ssh_audit.specs.declared.values.ValueFault.TheVariants.{Memory};
+ghost use Rattle.ssh_audit.specs.Parsing.{host_texts_of, texts_of};
+ghost use Rattle.ssh_audit.specs.ValuesRead.{Spells, SpellsHost, SpellsIn};
 
-use crate::request::LoginWords;
+use crate::request::{HostWords, LoginWords};
 use jiff::tz::TimeZone;
-use ssh_inputs::{decode, is_short, read_hex, read_number, read_short_hex, zone_of};
+use ssh_inputs::{decode, is_short, read_hex, read_number, read_port, read_short_hex, zone_of};
 use std::alloc::{AllocError, Global};
 
-/// What the options spell, beside the texts that are taken as they are.
+/// What the options of `login` spell, beside the texts that are taken as they are.
 #[derive(Drop)]
 pub struct LoginValues {
     pub offered: Vec<u8>,
@@ -19,6 +19,16 @@ pub struct LoginValues {
     pub session: Vec<u8>,
     pub now: u64,
     pub zone: TimeZone<'static>,
+}
+
+/// What the options of `host` spell, beside the texts that are taken as they are.
+#[derive(Drop)]
+pub struct HostValues {
+    pub offered: Vec<u8>,
+    pub signature: Vec<u8>,
+    pub exchange_hash: Vec<u8>,
+    pub port: u16,
+    pub now: u64,
 }
 
 /// Why an option has no value.
@@ -37,7 +47,8 @@ impl From<AllocError> for ValueFault {
     }
 }
 
-/// The values of the options, or the first in their order that spells none, where the zone is read.
+/// The values of the options of `login`, or the first in their order that spells none, where the zone
+/// is read.
 #[tactic(auto, unfolding(crate::specs::Requests::login_spelled))]
 fn read_values(
     alloc: Global,
@@ -75,7 +86,7 @@ fn read_values(
     })
 }
 
-/// The values of the options, or the first in their order that spells none.
+/// The values of the options of `login`, or the first in their order that spells none.
 pub fn read_login_values(alloc: Global, words: &LoginWords<'_>) -> Result<LoginValues, ValueFault>
     ensures spelled { Spells (texts_of words.entry.now) result }
     ensures session { IfOk result (λ v. length v.session.items < 2 ^ 32) }
@@ -84,4 +95,33 @@ pub fn read_login_values(alloc: Global, words: &LoginWords<'_>) -> Result<LoginV
     let zone = zone_of(words.zone);
     let values = read_values(alloc, words, zone)?;
     Ok(values)
+}
+
+/// The values of the options of `host`, or the first in their order that spells none.
+#[tactic(auto, unfolding(crate::specs::Requests::host_spelled))]
+pub fn read_host_values(alloc: Global, words: &HostWords<'_>) -> Result<HostValues, ValueFault>
+    ensures { SpellsHost (host_texts_of words.entry.now) result }
+{
+    let Some(offered) = decode(alloc, words.offer.as_bytes())? else {
+        return Err(ValueFault::Value("offer"));
+    };
+    let Some(signature) = read_hex(alloc, words.signature.as_bytes())? else {
+        return Err(ValueFault::Value("signature"));
+    };
+    let Some(exchange_hash) = read_hex(alloc, words.hash.as_bytes())? else {
+        return Err(ValueFault::Value("hash"));
+    };
+    let Some(port) = read_port(words.port) else {
+        return Err(ValueFault::Value("port"));
+    };
+    let Some(now) = read_number(words.now) else {
+        return Err(ValueFault::Value("now"));
+    };
+    Ok(HostValues {
+        offered,
+        signature,
+        exchange_hash,
+        port,
+        now,
+    })
 }

@@ -1,0 +1,94 @@
+-- What a trust file answers to a question, over the files of a source.
+use Rattle.std.specs.Prelude.{◌≡◌, ◌⊎◌, ℕ, List, [], Option, Some, None, Result, Ok, Err}
+use Rattle.ssh_trust.specs.declared.decision.Decision.{Decision}
+use Rattle.ssh_offers.specs.declared.error.AuditError.{AuditError}
+use Rattle.ssh_offers.specs.declared.error.AuditError.TheVariants.{Read}
+use Rattle.ssh_offers.specs.declared.query.Signed.{Signed}
+use Rattle.ssh_trust.specs.Query.{HostCheck, Login}
+use Rattle.ssh_trust.specs.HostClaim.{host_claim}
+use Rattle.ssh_trust.specs.LoginClaim.{login_claim}
+use Rattle.ssh_trust.specs.Answer.{if_short}
+use Rattle.ssh_trust.specs.Decision.{login_decision}
+use Rattle.ssh_trust.specs.HostDecision.{host_decision}
+use Rattle.ssh_audit.specs.CommandLine.{AuditFiles}
+use Rattle.ssh_inputs.specs.SourceState.{SourceState, bytes_at}
+use Rattle.ssh_inputs.specs.Parts.{part_at, after_part}
+use Rattle.ssh_inputs.specs.VouchFile.{vouched_of}
+use Rattle.ssh_inputs.specs.Loading.{OneReadFailed, NoReadFailed, within_limit}
+use Rattle.ssh_print.specs.Responses.{Response, decision_response, no_file_response, refused_response, vouch_response}
+
+-- ---- trust files
+
+-- what the bytes of a trust file decide, where these signatures are vouched for; or the refusal of the offer
+abbrev pub Deciding : Type 0
+Deciding = Result (List ℕ → List Signed → Decision) AuditError
+
+-- the decision on an offer, which may be refused
+abbrev pub decided_by : {C : Type 0} → (List ℕ → C → List Signed → Decision) → Result C AuditError → Deciding
+decided_by decision (Err e) = Err e
+decided_by decision (Ok claim) = Ok (λ file vouched. decision file claim vouched)
+
+abbrev pub login_by : Login → Deciding
+login_by q = decided_by login_decision (login_claim q)
+
+abbrev pub host_by : HostCheck → Deciding
+host_by q = decided_by host_decision (host_claim q)
+
+-- the answer by the whole bytes of a trust file
+abbrev pub answer_by : Deciding → List ℕ → List Signed → Result Decision AuditError
+answer_by (Err e) file vouched = Err e
+answer_by (Ok decision) file vouched = if_short file (decision file vouched)
+
+-- A trust file that is not there, or that cannot be read, is told before the offer is tested.
+abbrev pub answer_over : Deciding → List Signed → Option (List ℕ) → Result Decision AuditError
+answer_over by vouched None = Err Read
+answer_over by vouched (Some file) = answer_by by file vouched
+
+abbrev pub decided_response : Deciding → List Signed → Option (List ℕ) → Response
+decided_response by vouched file = decision_response (answer_over by vouched file)
+
+-- ---- vouch files
+
+abbrev pub or_vouch_fault : Result (List Signed) ℕ → Result (List Signed) Response
+or_vouch_fault (Ok vouched) = Ok vouched
+or_vouch_fault (Err n) = Err (vouch_response n)
+
+abbrev pub vouched_or_fault : List ℕ → Option (List ℕ) → Result (List Signed) Response
+vouched_or_fault name None = Err (no_file_response name)
+vouched_or_fault name (Some bytes) = or_vouch_fault (vouched_of bytes)
+
+-- the signatures of the vouch file, or the answer that it tells none
+abbrev pub vouched_in : Option (List ℕ) → SourceState → Result (List Signed) Response
+vouched_in None s = Ok []
+vouched_in (Some name) s = vouched_or_fault name (within_limit (part_at s name))
+
+-- the source after the vouch file was read
+abbrev pub after_vouching : Option (List ℕ) → SourceState → SourceState
+after_vouching None s = s
+after_vouching (Some name) s = after_part s name
+
+-- ---- answers
+
+-- the answer by the trust file of this name, after the vouch file was read
+abbrev pub vouched_response : Deciding → List ℕ → SourceState → Result (List Signed) Response → Response
+vouched_response by name s (Err r) = r
+vouched_response by name s (Ok vouched) = decided_response by vouched (bytes_at s name)
+
+abbrev pub audit_response : Deciding → AuditFiles → SourceState → Response
+audit_response by f s = vouched_response by f.trust (after_vouching f.vouch s) (vouched_in f.vouch s)
+
+-- the answer to the question that was spelled, or that a value of it was not
+abbrev pub spelled_response : {Q : Type 0} → (Q → Deciding) → AuditFiles → SourceState → Result Q Response → Response
+spelled_response by f s (Err r) = r
+spelled_response by f s (Ok q) = audit_response (by q) f s
+
+-- ---- failed reads
+
+-- one read failed, and the response is that file's fault: A9 of the trust file, and its name of the vouch file
+abbrev pub IsAuditFault : AuditFiles → SourceState → Option SourceState → Response → Type 0
+IsAuditFault f s t r = (OneReadFailed s t f.trust × (r ≡ refused_response Read))
+    ⊎ ((name : List ℕ) × (f.vouch ≡ Some name) × OneReadFailed s t name × (r ≡ no_file_response name))
+
+-- the response is the wanted one, and no read failed; or one failed, and it is the fault of the file that was read
+abbrev pub Audits : AuditFiles → Response → SourceState → Option SourceState → Response → Type 0
+Audits f wanted s t r = (NoReadFailed s t × (r ≡ wanted)) ⊎ IsAuditFault f s t r

@@ -1,0 +1,107 @@
+//! What a trust file answers to a question, with the signatures that a vouch file vouches for.
+
+ghost use Rattle.std.specs.Prelude.{◌≡◌, IfOk};
+ghost use Rattle.ssh_audit.specs.Audits.{Audits, audit_response, decided_response, or_vouch_fault, vouched_response};
+ghost use Rattle.ssh_audit.specs.Responding.{AnswersFile, IsFaultOf, is_memory};
+ghost use Rattle.ssh_audit.specs.Parsing.{names_of};
+ghost use Rattle.ssh_print.specs.ResponseView.{response};
+ghost use Rattle.ssh_inputs.specs.SourceState.{IfTells, bytes_at};
+ghost use Rattle.ssh_inputs.specs.VouchFile.{vouched_of};
+
+use crate::question::Question;
+use crate::request::AuditFiles;
+use ssh_inputs::{Files, ReadFault, VouchFault, gather, read_vouch_file, read_vouched};
+use ssh_print::{Response, decision_response, file_fault, vouch_fault};
+use ssh_trust::{AuditError, Decision, Signed};
+use std::alloc::{AllocError, Global};
+
+/// The decision by the trust file of this name.
+fn decide_by_file<Q: Question, F: Files>(
+    alloc: Global,
+    name: &str,
+    question: &Q,
+    vouched: &[Signed],
+    files: &mut F,
+) -> Result<Decision, AuditError>
+    ensures { IfTells (F.source_state files.old) (λ s. AnswersFile (Q.decides question.entry.now) vouched.now name.now (bytes_at s name.now) s (F.source_state files.new) result) }
+{
+    match gather(alloc, files, name) {
+        Ok(file) => question.decide(alloc, &file, vouched),
+        Err(ReadFault::Memory) => Err(AuditError::Memory),
+        Err(_) => Err(AuditError::Read),
+    }
+}
+
+fn is_memory(answer: &Result<Decision, AuditError>) -> bool
+    ensures { result ≡ is_memory answer.now }
+{
+    matches!(answer, Err(AuditError::Memory))
+}
+
+/// The response after the signatures that are vouched for were read.
+fn respond_vouched<Q: Question, F: Files>(
+    alloc: Global,
+    names: &AuditFiles<'_>,
+    question: &Q,
+    vouched: &[Signed],
+    files: &mut F,
+) -> Result<Response, AllocError>
+    ensures { IfTells (F.source_state files.old) (λ s. IfOk result (λ r.
+        Audits (names_of names.entry.now) (decided_response (Q.decides question.entry.now) vouched.now (bytes_at s (names_of names.entry.now).trust)) s (F.source_state files.new) (response r))) }
+{
+    let answer = decide_by_file(alloc, names.trust, question, vouched, files);
+    if is_memory(&answer) {
+        return Err(AllocError);
+    }
+    decision_response(alloc, &answer)
+}
+
+/// The response to a file that gives no bytes, and is no trust file.
+pub fn unread(alloc: Global, name: &str, fault: ReadFault) -> Result<Response, AllocError>
+    ensures { IfOk result (λ r. IsFaultOf name.now fault (response r)) }
+{
+    match fault {
+        ReadFault::Memory => Err(AllocError),
+        _ => file_fault(alloc, name),
+    }
+}
+
+/// The response after the bytes of the vouch file were read.
+fn respond_bytes<Q: Question, F: Files>(
+    alloc: Global,
+    names: &AuditFiles<'_>,
+    question: &Q,
+    bytes: &[u8],
+    files: &mut F,
+) -> Result<Response, AllocError>
+    ensures { IfTells (F.source_state files.old) (λ s. IfOk result (λ r.
+        Audits (names_of names.entry.now) (vouched_response (Q.decides question.entry.now) (names_of names.entry.now).trust s (or_vouch_fault (vouched_of bytes.now))) s (F.source_state files.new) (response r))) }
+{
+    match read_vouched(alloc, bytes) {
+        Ok(vouched) => {
+            let response = respond_vouched(alloc, names, question, &vouched, files)?;
+            Ok(response)
+        }
+        Err(VouchFault::Line(number)) => vouch_fault(alloc, number),
+        Err(VouchFault::Memory) => Err(AllocError),
+    }
+}
+
+/// The response to a question by the files of these names.
+pub fn respond_question<Q: Question, F: Files>(
+    alloc: Global,
+    names: &AuditFiles<'_>,
+    question: &Q,
+    files: &mut F,
+) -> Result<Response, AllocError>
+    ensures { IfTells (F.source_state files.old) (λ s. IfOk result (λ r.
+        Audits (names_of names.entry.now) (audit_response (Q.decides question.entry.now) (names_of names.entry.now) s) s (F.source_state files.new) (response r))) }
+{
+    match names.vouch {
+        None => respond_vouched(alloc, names, question, &[], files),
+        Some(name) => match read_vouch_file(alloc, files, name) {
+            Ok(bytes) => respond_bytes(alloc, names, question, &bytes, files),
+            Err(fault) => unread(alloc, name, fault),
+        },
+    }
+}
