@@ -1,14 +1,16 @@
 """Writes the trust files that run.py measures: the same bytes on each machine and each day.
 
 Every key is one that strict readers take: Ed25519 keys have 32 bytes, RSA moduli are odd and have 3072 bits, ECDSA
-points lie on their curve. One line in fifty is empty or a comment. The last line of each file holds the key LAST; no
-line holds ABSENT.
+points lie on their curve. One line in fifty is empty or a comment. The last line of each file admits its key, LAST or
+SIGNER; no other line does; no line holds ABSENT. KINDS says what the files are.
 """
 
 import base64
 import dataclasses
 import hashlib
+import hmac
 import itertools
+import typing
 
 FILE_LIMIT = 67_108_864  # the most bytes that ssh_audit takes of a trust file
 SIZES = {"1": 1, "1k": 1_000, "10k": 10_000, "100k": 100_000, "64MiB": None}
@@ -97,12 +99,110 @@ KEYS = [  # the type name, how many in a hundred keys of a mixed file, and the f
     (b"sk-ssh-ed25519@openssh.com", 2, lambda draw: ed25519(draw) + APPLICATION),
     (b"sk-ecdsa-sha2-nistp256@openssh.com", 2, lambda draw: ecdsa(draw, b"nistp256") + APPLICATION),
 ]
-KINDS = {"ed25519": KEYS[:1], "mixed": KEYS}  # the kinds of files
 LAST, ABSENT = (string(b"ssh-ed25519") + string(byte * 32) for byte in (b"\x11", b"\x22"))
+ONE_KEY = [(b"ssh-ed25519", 1, lambda draw: string(b"\x11" * 32))]  # LAST, and no other
 
 
 def type_of(key):
     return key[4 : 4 + int.from_bytes(key[:4], "big")]
+
+
+# ---- certificates (PROTOCOL.certkeys)
+
+# Made by ssh-keygen: a user's, for the principal ann, always valid, with permit-pty. Both keys are Ed25519's, so the
+# public key is the string at byte 72, after the type and the nonce, and at the end stand the strings of the signer's
+# key, 51 bytes, and of the signature, 83 bytes.
+CERTIFICATE = base64.b64decode(
+    "AAAAIHNzaC1lZDI1NTE5LWNlcnQtdjAxQG9wZW5zc2guY29tAAAAIDzw0PYj0+MTAW7CjCvKa3FnTyu0rZVshIZS5qqI2EffAAAAIHvaOjhgxWhW"
+    "vox06TMrzbEAcYET6fbP0vDvEVfrLzxaAAAAAAAAAAAAAAABAAAABWJlbmNoAAAABwAAAANhbm4AAAAAAAAAAP//////////AAAAAAAAABIAAAAK"
+    "cGVybWl0LXB0eQAAAAAAAAAAAAAAMwAAAAtzc2gtZWQyNTUxOQAAACCxef1v3nPNI4WASJorlGbO5eOz7WYlySmSW/MZnSJPXgAAAFMAAAALc3No"
+    "LWVkMjU1MTkAAABAvlpudxc1Phf+aCNAmhtzbiR/Rer5IM/003qTKyNz2OCw1hQU78+26lvxJ5Wdo4hEH/xmr0l/UabcJas20iCpBw=="
+)
+CERTIFIED = string(b"ssh-ed25519") + CERTIFICATE[72:108]
+SIGNER, SIGNATURE = CERTIFICATE[-138:-87], CERTIFICATE[-83:]
+
+
+def issued_by(signer):
+    """What the signer signs, and the certificate: for SIGNER the real one, else with its signature as a stand-in."""
+    signed = CERTIFICATE[:-138] + signer
+    return signed, signed + string(SIGNATURE)
+
+
+# ---- what stands in front of the key: options, or the names of a host
+
+CLIENT, ADDRESS = "a" * 63, "192.0.2.1"  # the host and the address of each login
+HOST = "wanted.example.org"  # the name that is looked up
+FROM_STARS = 'from="' + "*a" * 9 + '*b"'  # matches CLIENT up to its end, and then not
+OPTIONS = [
+    'from="10.{m}.0.0/16,*.dep{n}.example.org,!bad.dep{n}.example.org"',
+    'from="192.0.2.{m}",no-agent-forwarding,no-X11-forwarding',
+    'command="/usr/local/bin/backup --job {n} --to \\"store {m}\\"",restrict',
+    "restrict,pty",
+    'expiry-time="2{m:03}0215Z"',
+    'restrict,command="/usr/bin/rsync --server --sender -logDtpr . /srv/data{n}/",from="2001:db8:{m:x}::/48"',
+    'environment="TEAM=team{n}",permitopen="db{n}.example.org:5432"',
+    "no-port-forwarding,no-X11-forwarding,no-agent-forwarding,no-pty",
+]
+NAMES = [
+    *12 * ["node{n}.dep{m}.example.org,10.{m}.7.1"],
+    *4 * ["node{n}.example.org"],
+    *2 * ["[node{n}.example.org]:2222"],
+    "*.zone{n}.example.org,!old.zone{n}.example.org",
+    "node{n}.example.org,node{n},192.0.2.{m},2001:db8::{m:x}",
+]
+MARKERS = ["@revoked ", "@cert-authority ", *198 * [""]]
+
+
+def nothing(draw):
+    return ""
+
+
+def one_of(templates):
+    """A front that is drawn from the templates, each with numbers of its own."""
+
+    def front(draw):
+        number = draw.below(1_000_000)
+        text = templates[draw.below(len(templates))].format(n=number, m=number % 256)
+        return text and text + " "
+
+    return front
+
+
+def hashed(name, salt):
+    return f"|1|{b64(salt)}|{b64(hmac.digest(salt, name.encode(), 'sha1'))} "
+
+
+def hashed_name(draw):
+    return hashed(f"node{draw.below(1_000_000)}.example.org", draw.bytes(20))
+
+
+def marked(front):
+    return lambda draw: MARKERS[draw.below(len(MARKERS))] + front(draw)
+
+
+@dataclasses.dataclass(frozen=True)
+class Kind:
+    """A kind of files: how they are asked, a table of keys, and what stands in front of each and of the last."""
+
+    asked: str  # login, authority (a login with a certificate) or host
+    keys: list
+    front: typing.Callable = nothing
+    last_front: str = ""
+    last: bytes = LAST
+
+
+KINDS = {
+    "ed25519": Kind("login", KEYS[:1]),
+    "mixed": Kind("login", KEYS),
+    "options": Kind("login", KEYS, one_of(OPTIONS + 2 * len(OPTIONS) * [""]), f'restrict,pty,from="{ADDRESS}" '),
+    "stars": Kind("login", ONE_KEY, one_of([FROM_STARS]), f'from="{ADDRESS}" '),
+    "authorities": Kind(
+        "authority", KEYS, one_of(['cert-authority,principals="ann,job{n}"']), 'cert-authority,principals="ann" ', SIGNER
+    ),
+    "names": Kind("host", KEYS, marked(one_of(NAMES)), HOST + " "),
+    "hashed": Kind("host", KEYS, marked(hashed_name), hashed(HOST, b"\x33" * 20)),
+    "shared": Kind("host", ONE_KEY, hashed_name, hashed(HOST, b"\x33" * 20)),
+}
 
 
 # ---- files
@@ -110,33 +210,38 @@ def type_of(key):
 FILLERS = [b"\n", b"   \n", b"#\n", b"# added by the provisioning job\n"]
 
 
-def line_of(key, comment):
-    return f"{type_of(key).decode()} {b64(key)} {comment}\n".encode()
+FIRST_WORDS = [name for name, _, _ in KEYS] + [b"@revoked"]  # of lines that say enough without the rest
+
+
+def line_of(front, key, comment):
+    return f"{front}{type_of(key).decode()} {b64(key)} {comment}\n".encode()
 
 
 def endless(kind):
     """Lines without end, each with its key, if it has one. A longer file begins as a shorter one does."""
     draw = Draw(f"lines of {kind}")
-    makers = [(name, fields) for name, share, fields in KINDS[kind] for _ in range(share)]
+    front = KINDS[kind].front
+    makers = [(name, fields) for name, share, fields in KINDS[kind].keys for _ in range(share)]
     while True:
         if draw.below(50) == 0:
             yield FILLERS[draw.below(len(FILLERS))], None
             continue
         name, fields = makers[draw.below(len(makers))]
         key = string(name) + fields(draw)
-        yield line_of(key, f"user{draw.below(1_000_000)}@host{draw.below(1_000)}.example.org"), key
+        yield line_of(front(draw), key, f"user{draw.below(1_000_000)}@host{draw.below(1_000)}.example.org"), key
 
 
 def whole(kind, count):
     """The lines of a file of `count` lines, or with None of as many as fit in FILE_LIMIT bytes."""
-    last = line_of(LAST, "the-last-line")
+    key = KINDS[kind].last
+    last = line_of(KINDS[kind].last_front, key, "the-last-line")
     room = FILE_LIMIT - len(last)
     for line, key in itertools.islice(endless(kind), count and count - 1):
         room -= len(line)
         if room < 0:
             break
         yield line, key
-    yield last, LAST
+    yield last, key
 
 
 @dataclasses.dataclass
@@ -148,7 +253,7 @@ class TrustFile:
     keys: int = 0
     bytes: int = 0
     sha256: str = ""
-    firsts: dict = dataclasses.field(default_factory=dict)  # for each type name, its first key and that line's number
+    firsts: dict = dataclasses.field(default_factory=dict)  # of FIRST_WORDS, the first line's key and number
 
 
 def write(folder, kind, size):
@@ -162,6 +267,8 @@ def write(folder, kind, size):
             file.bytes += len(line)
             if key:
                 file.keys += 1
-                file.firsts.setdefault(type_of(key).decode(), (key, file.lines))
+                first_word = line.split(b" ", 1)[0]
+                if first_word in FIRST_WORDS:
+                    file.firsts.setdefault(first_word.decode(), (key, file.lines))
     file.sha256 = digest.hexdigest()
     return file

@@ -1,18 +1,26 @@
-/* The least work that answers "which line of this authorized_keys file holds this key?", written by hand: the lower
- * bound that run.py measures the proved program against. It gives no reasons and no evidence, and it reads no options:
- * a line that does not begin with a key type counts as unreadable.
+/* The least work that answers "which line of this trust file holds this key?", written by hand: the lower bound that
+ * run.py measures the proved program against. It gives no rights, no reasons and no evidence.
  *
- *   limit FILE BASE64
+ *   limit login FILE BASE64 HOST ADDRESS       authorized_keys: the first line that admits the key
+ *   limit authority FILE BASE64 HOST ADDRESS   the same of a certificate that the key signed: a cert-authority line
+ *   limit host FILE BASE64 NAME                known_hosts: the first line of that name, and the first revocation
  *
- * It streams the file. Of each line it finds the end, skips blanks and comments, looks the key type up, decodes the
- * base64, walks the fields of the key blob, and compares the blob with the offered one. It prints "line N" or "none",
- * and "unreadable N" where it met such lines. Status: 0 found, 1 not found, 2 no such file or no base64.
+ * It streams the file. Of each line it finds the end, skips blanks and comments, cuts options or names off, looks the
+ * type up, decodes the base64, walks the fields of the key blob, and compares the blob with the key. Only where that is
+ * the key, it matches the patterns of `from` (a net is none) or names, or hashes the name with the line's salt.
+ * A login ends at the line that is found, a host at the end of the file.
+ *
+ * It prints "line N", "revoked N" or "none", and "unreadable N" where it met such lines. Status: 0 found, 1 not found,
+ * 2 no such file, command or base64.
  */
 #include <fcntl.h>
 #include <stdint.h>
 #include <stdio.h>
 #include <string.h>
+#include <strings.h>
 #include <unistd.h>
+
+#include "hmac.h"
 
 enum { LINE_LIMIT = 65536, BUFFER = 4 * LINE_LIMIT };
 
@@ -75,6 +83,10 @@ typedef struct {
 } Type;
 
 #define TEXT(text) {(const uint8_t *)(text), sizeof(text) - 1}
+
+static Span text_of(const char *text) {
+    return (Span){(const uint8_t *)text, strlen(text)};
+}
 
 static const Type TYPES[] = {
     {TEXT("ssh-ed25519"), "k", TEXT(""), 0},
@@ -174,36 +186,253 @@ static Span take_word(Span *rest) {
     return (Span){start, (size_t)(at - start)};
 }
 
-/* Reads "type base64 comment" and leaves the key in `blob`; its length, or -1. */
-static long read_key(Span line, uint8_t *blob) {
-    const Type *type = find_type(take_word(&line));
+/* Reads "base64 comment" after a type's name and leaves the key in `blob`; its length, or -1, also without a type. */
+static long read_key(const Type *type, Span rest, uint8_t *blob) {
     if (!type) return -1;
-    long len = decode(take_word(&line), blob);
+    long len = decode(take_word(&rest), blob);
     return len >= 0 && is_key((Span){blob, (size_t)len}, type) ? len : -1;
+}
+
+/* ---- patterns (ssh_config(5)); the texts are in lower case */
+
+static uint8_t lower(uint8_t byte) {
+    return byte >= 'A' && byte <= 'Z' ? byte + 'a' - 'A' : byte;
+}
+
+/* Goes back to the last star alone, so it takes at most one turn for each byte of the pattern and each of the text. */
+static int matches(Span pattern, Span text) {
+    size_t p = 0, t = 0, star = SIZE_MAX, held = 0;
+    while (t < text.len) {
+        if (p < pattern.len && pattern.at[p] == '*') star = ++p, held = t;
+        else if (p < pattern.len && (pattern.at[p] == '?' || lower(pattern.at[p]) == text.at[t])) p++, t++;
+        else if (star != SIZE_MAX) p = star, t = ++held;
+        else return 0;
+    }
+    while (p < pattern.len && pattern.at[p] == '*') p++;
+    return p == pattern.len;
+}
+
+/* Takes the piece up to the next comma; 0 after the last one. */
+static int take_item(Span *list, Span *item) {
+    if (!list->at) return 0;
+    const uint8_t *comma = memchr(list->at, ',', list->len);
+    *item = (Span){list->at, comma ? (size_t)(comma - list->at) : list->len};
+    *list = comma ? (Span){comma + 1, list->len - item->len - 1} : (Span){NULL, 0};
+    return 1;
+}
+
+static int take_negation(Span *item) {
+    if (item->len == 0 || *item->at != '!') return 0;
+    item->at++, item->len--;
+    return 1;
+}
+
+static int permits(Span list, const Span *texts, int count) {
+    int found = 0;
+    for (Span item; take_item(&list, &item);) {
+        int is_negated = take_negation(&item), is_match = 0;
+        for (int i = 0; i < count; i++) is_match |= matches(item, texts[i]);
+        if (is_match && is_negated) return 0;
+        found |= is_match;
+    }
+    return found;
+}
+
+/* ---- what a line says to the key that is sought */
+
+typedef struct {
+    Span key, texts[2]; /* host and address of a login, or the name of a host */
+    int count, by_authority;
+} Sought;
+
+typedef enum { PASSES, ADMITS, REVOKES, UNREADABLE } Verdict;
+
+static uint8_t blob[LINE_LIMIT];
+
+static int is_sought(long len, const Sought *sought) {
+    return same((Span){blob, (size_t)len}, sought->key);
+}
+
+/* ---- authorized_keys (sshd(8)) */
+
+typedef struct {
+    Span name;
+    int has_value;
+} OptionName;
+
+static const OptionName OPTIONS[] = {
+    {TEXT("agent-forwarding"), 0}, {TEXT("cert-authority"), 0}, {TEXT("no-agent-forwarding"), 0},
+    {TEXT("no-port-forwarding"), 0}, {TEXT("no-pty"), 0}, {TEXT("no-user-rc"), 0}, {TEXT("no-X11-forwarding"), 0},
+    {TEXT("port-forwarding"), 0}, {TEXT("pty"), 0}, {TEXT("no-touch-required"), 0}, {TEXT("verify-required"), 0},
+    {TEXT("restrict"), 0}, {TEXT("user-rc"), 0}, {TEXT("X11-forwarding"), 0}, {TEXT("command"), 1},
+    {TEXT("environment"), 1}, {TEXT("expiry-time"), 1}, {TEXT("from"), 1}, {TEXT("permitlisten"), 1},
+    {TEXT("permitopen"), 1}, {TEXT("principals"), 1}, {TEXT("tunnel"), 1},
+};
+static const Span FROM = TEXT("from"), AUTHORITY = TEXT("cert-authority");
+
+typedef struct {
+    Span from;
+    int has_from, is_authority;
+} Options;
+
+static int same_name(Span a, Span b) {
+    return a.len == b.len && strncasecmp((const char *)a.at, (const char *)b.at, a.len) == 0;
+}
+
+static const OptionName *find_option(Span name) {
+    for (size_t i = 0; i < sizeof OPTIONS / sizeof *OPTIONS; i++)
+        if (same_name(name, OPTIONS[i].name)) return &OPTIONS[i];
+    return NULL;
+}
+
+/* Takes a value in double quotes, in which \" is no end. */
+static int take_value(Span *rest, Span *value) {
+    if (rest->len < 2 || rest->at[0] != '=' || rest->at[1] != '"') return 0;
+    const uint8_t *start = rest->at + 2, *at = start, *end = rest->at + rest->len;
+    while (at < end && *at != '"') at += *at == '\\' && at + 1 < end && at[1] == '"' ? 2 : 1;
+    if (at >= end) return 0;
+    *value = (Span){start, (size_t)(at - start)};
+    *rest = (Span){at + 1, (size_t)(end - at - 1)};
+    return 1;
+}
+
+static int take_option(Span *rest, Options *options) {
+    const uint8_t *at = rest->at, *end = at + rest->len;
+    while (at < end && *at != '=' && *at != ',' && !is_blank(*at)) at++;
+    Span name = {rest->at, (size_t)(at - rest->at)}, value;
+    const OptionName *option = find_option(name);
+    *rest = (Span){at, (size_t)(end - at)};
+    if (!option || (option->has_value ? !take_value(rest, &value) : at < end && *at == '=')) return 0;
+    if (same_name(name, AUTHORITY)) options->is_authority = 1;
+    if (same_name(name, FROM)) options->has_from = 1, options->from = value;
+    return 1;
+}
+
+/* Takes the options up to the blank after them. */
+static int take_options(Span *line, Options *options) {
+    while (take_option(line, options)) {
+        if (line->len == 0 || *line->at != ',') return line->len && is_blank(*line->at);
+        line->at++, line->len--;
+    }
+    return 0;
+}
+
+static Verdict login_line(Span line, const Sought *sought) {
+    Options options = {0};
+    Span rest = line;
+    const Type *type = find_type(take_word(&rest));
+    if (!type) { /* what begins with a key type has no options */
+        if (!take_options(&line, &options)) return UNREADABLE;
+        rest = line;
+        type = find_type(take_word(&rest));
+    }
+    long len = read_key(type, rest, blob);
+    if (len < 0) return UNREADABLE;
+    if (!is_sought(len, sought) || options.is_authority != sought->by_authority) return PASSES;
+    return options.has_from && !permits(options.from, sought->texts, sought->count) ? PASSES : ADMITS;
+}
+
+/* ---- known_hosts (sshd(8)) */
+
+enum { SALT_TEXT = 28, HASHED = 60 }; /* |1|, a salt, |, a hash */
+static const Span AUTHORITY_MARK = TEXT("@cert-authority"), REVOKED_MARK = TEXT("@revoked");
+
+static int is_hashed(Span names) {
+    return names.len && *names.at == '|';
+}
+
+static int has_empty_item(Span names) {
+    for (Span item; take_item(&names, &item);) {
+        take_negation(&item);
+        if (item.len == 0) return 1;
+    }
+    return 0;
+}
+
+/* Decodes the parts of a hashed name; `digest` is overrun by none, since what is decoded has no more than 21 bytes. */
+static int read_hashed(Span names, uint8_t salt[SALT + 1], uint8_t digest[DIGEST + 1]) {
+    const uint8_t *at = names.at;
+    if (names.len != HASHED || memcmp(at, "|1|", 3) != 0 || at[3 + SALT_TEXT] != '|') return 0;
+    return decode((Span){at + 3, SALT_TEXT}, salt) == SALT && decode((Span){at + 4 + SALT_TEXT, SALT_TEXT}, digest) == DIGEST;
+}
+
+static int is_hash_of(Span name, const uint8_t *salt, const uint8_t *digest) {
+    uint8_t found[DIGEST];
+    hmac_sha1(salt, name.at, name.len, found);
+    return memcmp(found, digest, DIGEST) == 0;
+}
+
+static Verdict revoked_line(Span line, const Sought *sought) {
+    take_word(&line);
+    take_word(&line);
+    long len = decode(take_word(&line), blob);
+    if (len < 0) return UNREADABLE;
+    return is_sought(len, sought) ? REVOKES : PASSES;
+}
+
+static Verdict host_line(Span line, const Sought *sought) {
+    uint8_t salt[SALT + 1], digest[DIGEST + 1];
+    int is_marked = *line.at == '@';
+    Span mark = is_marked ? take_word(&line) : (Span){NULL, 0};
+    if (is_marked && same(mark, REVOKED_MARK)) return revoked_line(line, sought);
+    if (is_marked && !same(mark, AUTHORITY_MARK)) return UNREADABLE;
+    Span names = take_word(&line);
+    if (is_hashed(names) ? !read_hashed(names, salt, digest) : has_empty_item(names)) return UNREADABLE;
+    const Type *type = find_type(take_word(&line));
+    long len = read_key(type, line, blob);
+    if (len < 0) return UNREADABLE;
+    if (!is_sought(len, sought) || is_marked != sought->by_authority) return PASSES;
+    int is_named = is_hashed(names) ? is_hash_of(*sought->texts, salt, digest) : permits(names, sought->texts, 1);
+    return is_named ? ADMITS : PASSES;
+}
+
+/* ---- the program */
+
+typedef struct {
+    const char *name;
+    int words, by_authority, ends_at_found;
+    Verdict (*verdict)(Span, const Sought *);
+} Command;
+
+static const Command COMMANDS[] = {
+    {"login", 6, 0, 1, login_line}, {"authority", 6, 1, 1, login_line}, {"host", 5, 0, 0, host_line},
+};
+
+static const Command *find_command(int words, char **argv) {
+    for (size_t i = 0; i < sizeof COMMANDS / sizeof *COMMANDS; i++)
+        if (COMMANDS[i].words == words && strcmp(argv[1], COMMANDS[i].name) == 0) return &COMMANDS[i];
+    return NULL;
+}
+
+static Verdict verdict_of(Span line, const Command *command, const Sought *sought) {
+    if (line.len > LINE_LIMIT) return UNREADABLE;
+    if (line.len && line.at[line.len - 1] == '\r') line.len--;
+    skip_blanks(&line);
+    return line.len == 0 || *line.at == '#' ? PASSES : command->verdict(line, sought);
 }
 
 int main(int argc, char **argv) {
     static Lines lines;
-    static uint8_t offer[LINE_LIMIT], blob[LINE_LIMIT];
-    if (argc != 3) return 2;
+    static uint8_t key[LINE_LIMIT];
+    const Command *command = argc < 2 ? NULL : find_command(argc, argv);
+    if (!command) return 2;
     fill_digits();
-    lines.file = open(argv[1], O_RDONLY);
-    long offered = decode((Span){(const uint8_t *)argv[2], strlen(argv[2])}, offer);
-    if (lines.file < 0 || offered < 0) return 2;
-    unsigned long number = 0, unreadable = 0, found = 0;
+    lines.file = open(argv[2], O_RDONLY);
+    long len = decode(text_of(argv[3]), key);
+    if (lines.file < 0 || len < 0) return 2;
+    Sought sought = {{key, (size_t)len}, {{NULL, 0}}, argc - 4, command->by_authority};
+    for (int i = 0; i < sought.count; i++) sought.texts[i] = text_of(argv[4 + i]);
+    unsigned long number = 0, first[UNREADABLE + 1] = {0}, unreadable = 0;
     Span line;
-    while (!found && next_line(&lines, &line)) {
+    while (!(command->ends_at_found && first[ADMITS]) && next_line(&lines, &line)) {
         number++;
-        int is_long = line.len > LINE_LIMIT;
-        if (line.len && line.at[line.len - 1] == '\r') line.len--;
-        skip_blanks(&line);
-        if (!is_long && (line.len == 0 || *line.at == '#')) continue;
-        long len = is_long ? -1 : read_key(line, blob);
-        if (len < 0) unreadable++;
-        else if (len == offered && memcmp(blob, offer, (size_t)len) == 0) found = number;
+        Verdict verdict = verdict_of(line, command, &sought);
+        if (!first[verdict]) first[verdict] = number;
+        if (verdict == UNREADABLE) unreadable++;
     }
-    if (found) printf("line %lu\n", found);
+    if (first[REVOKES]) printf("revoked %lu\n", first[REVOKES]);
+    else if (first[ADMITS]) printf("line %lu\n", first[ADMITS]);
     else printf("none\n");
     if (unreadable) printf("unreadable %lu\n", unreadable);
-    return !found;
+    return first[REVOKES] || !first[ADMITS];
 }

@@ -1,5 +1,5 @@
 #!/usr/bin/env python3
-"""Times `ssh_audit login` beside a lower bound in C and `ssh-keygen -l`, on the same files in one run.
+"""Times `ssh_audit login` and `ssh_audit host` beside a lower bound in C and `ssh-keygen`, on the same files in one run.
 
 The answers are checked first: a fast wrong scan is worth nothing. Then it prints Markdown tables. README.md beside this
 file says how to build the program and how to read the tables.
@@ -28,17 +28,24 @@ TOO_SHORT = 0.001  # seconds of processor time: growth cannot be told from less
 AUDIT, LIMIT, KEYGEN = "ssh_audit", "C", "ssh-keygen"
 
 
-# ---- logins
+# ---- what is asked
+
+SESSION, USER, EXCHANGE_HASH = b"\x01\x02\x03\x04", b"ann", b"\x05\x06\x07\x08"
+GRANTS, REVOKES, DENIES = (  # an outcome: the status, and what ssh_audit and C say of the line
+    (0, "granted line {}", "line {}"),
+    (1, "denied N1 {}", "revoked {}"),
+    (1, "denied N3", "none"),
+)
 
 
 class Login:
-    """A key that is offered, and what is signed with it."""
+    """A login with a key, and what is signed for it."""
 
-    session, user = b"\x01\x02\x03\x04", b"ann"
+    command, limit = "login", ("login", inputs.CLIENT, inputs.ADDRESS)
 
     def __init__(self, key):
+        self.key = self.offered = self.subject = key  # the plain key, what is offered, and whose key a line has to hold
         kind = inputs.type_of(key)
-        self.key = key
         self.algorithm = b"rsa-sha2-512" if kind == b"ssh-rsa" else kind
         # The signature of a security key also has flags, here user presence, and a counter (PROTOCOL.u2f).
         tail = b"\x01" + bytes(4) if kind.startswith(b"sk-") else b""
@@ -46,22 +53,70 @@ class Login:
 
     def message(self):
         """The bytes that are signed (RFC 4252 section 7)."""
-        request = b"\x32" + string(self.user) + string(b"ssh-connection") + string(b"publickey") + b"\x01"
-        return string(self.session) + request + string(self.algorithm) + string(self.key)
+        request = b"\x32" + string(USER) + string(b"ssh-connection") + string(b"publickey") + b"\x01"
+        return string(SESSION) + request + string(self.algorithm) + string(self.offered)
 
-    def vouched(self):
-        return f"{self.key.hex()} {self.message().hex()} {self.signature.hex()}\n"
+    def evidence(self):
+        return [(self.key, self.message(), self.signature)]
+
+    def circumstances(self):
+        signed = ["--algorithm", self.algorithm.decode(), "--session", SESSION.hex(), "--user", USER.decode()]
+        return [*signed, "--host", inputs.CLIENT, "--address", inputs.ADDRESS]
 
     def words(self, file, vouched):
-        offer = ["--offer", inputs.b64(self.key), "--signature", self.signature.hex()]
-        signed = ["--algorithm", self.algorithm.decode(), "--session", self.session.hex(), "--user", self.user.decode()]
-        circumstances = ["--address", "192.0.2.1", "--now", "150"]
-        return ["login", "--file", file.path, *offer, *signed, *circumstances, "--vouch", vouched]
+        offer = ["--offer", inputs.b64(self.offered), "--signature", self.signature.hex(), "--now", "150"]
+        return [self.command, "--file", file.path, *offer, *self.circumstances(), "--vouch", vouched]
+
+    def limit_words(self, file):
+        command, *texts = self.limit
+        return [command, file.path, inputs.b64(self.subject), *texts]
+
+
+class Certificate(Login):
+    """A login with a certificate that the key issued."""
+
+    limit = ("authority", *Login.limit[1:])
+
+    def __init__(self, signer):
+        super().__init__(inputs.CERTIFIED)
+        self.subject = signer
+        self.issued, self.offered = inputs.issued_by(signer)
+        self.algorithm = inputs.type_of(self.offered)
+
+    def evidence(self):
+        return [*super().evidence(), (self.subject, self.issued, inputs.SIGNATURE)]
+
+
+class Host(Login):
+    """A host's key, which signs the exchange hash (RFC 4253 section 8)."""
+
+    command, limit = "host", ("host", inputs.HOST)
+
+    def message(self):
+        return EXCHANGE_HASH
+
+    def circumstances(self):
+        return ["--hash", EXCHANGE_HASH.hex(), "--host", inputs.HOST, "--port", "22"]
+
+
+ASKED = {"login": Login, "authority": Certificate, "host": Host}
 
 
 def ends_of(file):
-    """The offers that are timed: a name, the key, and the line that holds it, if one does."""
-    return [("absent", inputs.ABSENT, None), ("last line", inputs.LAST, file.lines)]
+    """The keys that are timed: a name, the key, the outcome and its line."""
+    return [("absent", inputs.ABSENT, DENIES, 0), ("last line", inputs.KINDS[file.kind].last, GRANTS, file.lines)]
+
+
+def firsts_of(file):
+    for word, (key, line) in file.firsts.items():
+        yield f"first {word}", key, REVOKES if word == "@revoked" else GRANTS, line
+
+
+def keygen_words(file):
+    """What ssh-keygen is asked, and how many lines it has to print."""
+    if inputs.KINDS[file.kind].asked == "host":
+        return ("-F", inputs.HOST, "-f", file.path), 2
+    return ("-l", "-f", file.path), file.keys
 
 
 # ---- running the programs
@@ -92,36 +147,35 @@ class Bench:
     def __init__(self, binary, folder):
         self.binary, self.folder = binary, folder
         self.keygen = needed("ssh-keygen", "openssh-client")
-        self.limit = self.compile("limit", "-O3")
+        self.limit = self.compile("limit", "-O3", sources=["hmac"])
         self.meter = self.compile("meter", "-O2", "-static")
 
-    def compile(self, name, *flags):
+    def compile(self, name, *flags, sources=()):
         made = f"{self.folder}/{name}"
-        subprocess.run([needed("gcc", "gcc libc6-dev"), *flags, "-o", made, HERE / f"{name}.c"], check=True)
+        files = [HERE / f"{source}.c" for source in (name, *sources)]
+        subprocess.run([needed("gcc", "gcc libc6-dev"), *flags, "-o", made, *files], check=True)
         return made
 
     def commands(self, file, offers):
         """Both programs with each offer, all evidence vouched."""
         vouched = f"{file.path}.vouched"
-        logins = [(name, Login(key), line) for name, key, line in offers]
-        pathlib.Path(vouched).write_text("".join(login.vouched() for _, login, _ in logins))
-        for name, login, line in logins:
-            status = 0 if line else 1
-            words = self.binary, *login.words(file, vouched)
-            yield Command(AUDIT, name, words, status, f"granted line {line}" if line else "denied N3")
-            words = self.limit, file.path, inputs.b64(login.key)
-            yield Command(LIMIT, name, words, status, f"line {line}" if line else "none")
+        ask = ASKED[inputs.KINDS[file.kind].asked]
+        offers = [(name, ask(key), outcome, line) for name, key, outcome, line in offers]
+        triples = [triple for _, offer, _, _ in offers for triple in offer.evidence()]
+        pathlib.Path(vouched).write_text("".join(" ".join(part.hex() for part in triple) + "\n" for triple in triples))
+        for name, offer, (status, audit, limit), line in offers:
+            yield Command(AUDIT, name, (self.binary, *offer.words(file, vouched)), status, audit.format(line))
+            yield Command(LIMIT, name, (self.limit, *offer.limit_words(file)), status, limit.format(line))
 
     def faults(self, file):
-        """What is wrong with the answers on this file, also to the first key of each kind."""
-        firsts = [(f"first {kind}", key, line) for kind, (key, line) in file.firsts.items()]
-        for command in self.commands(file, ends_of(file) + firsts):
+        """What is wrong with the answers on this file, also to the first line of each kind."""
+        for command in self.commands(file, [*ends_of(file), *firsts_of(file)]):
             got = subprocess.run(command.words, stdin=subprocess.DEVNULL, stdout=subprocess.PIPE)
             lines = got.stdout.decode("ascii", "replace").splitlines() or [""]
             asked = f"{command.program}, {file.kind} {file.size}, offered key {command.offer}"
             if (got.returncode, lines[0]) != (command.status, command.answer):
                 yield f"{asked}: status {got.returncode}, {lines[0]!r}; wanted {command.status}, {command.answer!r}"
-            if any(line.startswith(("reason", "unreadable")) for line in lines):
+            if any(re.match(r"reason \d+ G1|unreadable", line) for line in lines):
                 yield f"{asked}: calls lines unreadable, and each is well formed"
 
     def output(self, command):
@@ -140,14 +194,15 @@ class Bench:
 
         The programs take turns, so that a burst of other work on the machine meets all of them.
         """
-        scan = Command(KEYGEN, "any", (self.keygen, "-l", "-f", file.path), 0)
+        words, wanted_lines = keygen_words(file)
+        scan = Command(KEYGEN, "any", (self.keygen, *words), 0)
         costs = {command: [] for command in [*self.commands(file, ends_of(file)), scan]}
         for turn in range(turns):
             for command, found in costs.items():
                 if turn < 2 or sum(cost.cpu for cost in found) < ENOUGH:
                     found.append(self.measure(command))
-        if pathlib.Path(self.output(scan)).read_bytes().count(b"\n") != file.keys:
-            sys.exit(f"ssh-keygen does not read each key of {file.path}: the input is at fault")
+        if pathlib.Path(self.output(scan)).read_bytes().count(b"\n") != wanted_lines:
+            sys.exit(f"ssh-keygen does not print {wanted_lines} lines on {file.path}: the input is at fault")
         print(f"measured: {file.kind} {file.size}", file=sys.stderr)
         return {
             (command.program, command.offer): Cost(min(cost.cpu for cost in found), max(cost.peak for cost in found))
@@ -183,12 +238,12 @@ def print_costs(kind, races):
     head += ["ssh_audit MB/s", "peak MiB: ssh_audit", "C", "ssh-keygen"]
     rows = []
     for file, costs in races:
-        for offer, _, _ in ends_of(file):
+        for offer, *_ in ends_of(file):
             all_three = audit, limit, keygen = costs[AUDIT, offer], costs[LIMIT, offer], costs[KEYGEN, "any"]
             row = [file.size, offer, f"{audit.cpu / limit.cpu:.2f}", f"{keygen.cpu / audit.cpu:.1f}"]
             row += [*map(milliseconds, all_three), f"{file.bytes / audit.cpu / 1e6:.0f}"]
             rows.append(row + [f"{cost.peak:.1f}" for cost in all_three])
-    print(f"\n## {kind}")
+    print(f"\n## {ASKED[inputs.KINDS[kind].asked].command}: {kind}")
     print_table(head, rows)
 
 
