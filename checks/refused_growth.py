@@ -33,8 +33,29 @@ def run(words, stdin, preload=None, index=0, later=False):
     return (done.returncode, done.stdout), b"refused" in done.stderr
 
 
+# The name `[h]:2222`, hashed by ssh-keygen.
+HASHED = b"|1|VlQCaiW1+U7/co5nYlEPYWJvj74=|sGtCcOsAz7rsnFiMHHGUTaU2BAY="
+
+
+def host_rows(login, key, triple):
+    """The key of the stored run as a host's, over files that trust it, name it hashed, revoke it, and may revoke it."""
+    words = ["host", "--file", "-", "--vouch", "-", "--hash", "01020304", "--host", "H", "--port", "2222", "--now", "150"]
+    for option in ("--offer", "--signature"):
+        words += [option, login[login.index(option) + 1]]
+    vouched = b" ".join([triple[0], b"01020304", triple[2]])
+    key = b" ".join(key.split(b" ")[:2])
+    trusted = b"[h]:2222,g " + key
+    for name, lines in (
+        ("host", [b"x", b"h ssh-rsa AAAA", trusted]),
+        ("hashed host", [HASHED + b" " + key]),
+        ("revoked host", [trusted, b"@revoked x " + key]),
+        ("unreadable revocation", [trusted, b"@revoked x"]),
+    ):
+        yield name, words, b"\n".join([vouched, b"", *lines, b""])
+
+
 def rows():
-    """The stored run, the same login over files and vouch files that give reasons, a denial and faults, and `show`."""
+    """The stored run, the same login over files and vouch files that give reasons, a denial and faults; `show`; `host`."""
     stored = (CRATE / "stdin").read_bytes()
     words, vouched, rest = stored.split(b"\n", 2)
     key = next(line for line in rest.split(b"\n") if line.startswith(b"ssh-"))
@@ -48,6 +69,7 @@ def rows():
     yield "show a certificate", ["show", "--kind", "cert", "--file", "-"], CERTIFICATE + b"\n"
     yield "show a bad line", ["show", "--kind", "key", "--file", "-"], b"ssh-rsa AAAA\n"
     yield "words of the command line", words.decode().split(" "), stored.split(b"\n", 1)[1]
+    yield from host_rows(words.decode().split(" "), key, vouched.split(b" "))
 
 
 def check(preload, name, words, stdin):

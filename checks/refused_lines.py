@@ -1,6 +1,7 @@
 #!/usr/bin/env python3
-"""Reads each row below by `read_auth_line` with each growth of memory refused in turn. Each reading has to tell want of
-memory or give the row's own answer: a line that has an entry never becomes unreadable. Run it as
+"""Reads each row below by `read_auth_line` or `read_known_line` with each growth of memory refused in turn. Each
+reading has to tell out of memory or give the row's own answer: a line that has an entry never becomes unreadable, and
+no revocation is lost. Run it as
 
     python3 checks/refused_lines.py
 
@@ -45,14 +46,36 @@ FAULTS = [
     (f"pty ssh-rsa {KEY}", "TypeMismatch"),
 ]
 
-HEAD = """use crate::{AuthLine, LineCause, read_auth_line};
+# Lines of known_hosts, each with its answer.
+HASHED = "|1|2vVav4ZtrRlI9vZVi2rMTIUivYg=|REDDqWL/xrS5Nz1y/EZm6d7b1vw="
+KNOWN = [
+    (f"h,!*.a ssh-ed25519 {KEY} me", 'Entry(entry) if entry.names.view().text() == b"h,!*.a".as_slice() && entry.comment.as_slice() == b"me".as_slice()'),
+    (f"@cert-authority * ssh-ed25519 {KEY}", 'Entry(entry) if entry.marker == Marker::CertAuthority && entry.key.blob().len() == 51'),
+    (f"{HASHED} ssh-ed25519 {KEY}", 'Entry(entry) if names_host(&entry.names.view(), b"example.org")'),
+    (f"@revoked x ssh-ed25519 {KEY}", "Revoked(bytes) if bytes.as_slice().len() == 51"),
+    (f"@revoked x ssh-ed25519 {KEY}*", "RevokedUnreadable"),
+    ("@revoked x ssh-ed25519", "RevokedUnreadable"),
+    (f"@other h ssh-ed25519 {KEY}", "Unreadable(LineCause::Marker)"),
+    ("h ssh-ed25519", "Unreadable(LineCause::NoKey)"),
+    (f"|1|x ssh-ed25519 {KEY}", "Unreadable(LineCause::HashedName)"),
+    (f"h,,g ssh-ed25519 {KEY}", "Unreadable(LineCause::Names)"),
+    ("h ssh-dss AAAA", "Unreadable(LineCause::RetiredType)"),
+    ("h ssh-ed25519 AAAA", "Unreadable(LineCause::KeyBlob(_))"),
+    (f"h ssh-rsa {KEY}", "Unreadable(LineCause::TypeMismatch)"),
+    (" # h", "Comment"),
+    (" ", "Blank"),
+]
+
+HEAD = """use crate::{
+    AuthLine, KnownLine, LineCause, Marker, names_host, read_auth_line, read_known_line,
+};
 use std::test::Fail;
 """
 
 ROW = """
 #[test]
 fn row_%d(rt: HostRuntime) -> Result<(), Fail> {
-    let read = read_auth_line(rt.alloc(), %s)?;
+    let read = %s(rt.alloc(), %s)?;
     match &read {
         %s => Ok(()),
         _ => Err(Fail::new("another answer")),
@@ -67,11 +90,12 @@ def literal(text):
 
 def tests():
     wanted = [
-        (line, f"AuthLine::Entry(entry) if entry.options.as_slice().len() == {options} && entry.comment.as_slice() == {literal(comment)}.as_slice()")
+        ("read_auth_line", line, f"AuthLine::Entry(entry) if entry.options.as_slice().len() == {options} && entry.comment.as_slice() == {literal(comment)}.as_slice()")
         for line, options, comment in ENTRIES
     ]
-    wanted += [(line, f"AuthLine::Unreadable(LineCause::{cause})") for line, cause in FAULTS]
-    rows = [ROW % (number, literal(line), answer) for number, (line, answer) in enumerate(wanted, 1)]
+    wanted += [("read_auth_line", line, f"AuthLine::Unreadable(LineCause::{cause})") for line, cause in FAULTS]
+    wanted += [("read_known_line", line, f"KnownLine::{answer}") for line, answer in KNOWN]
+    rows = [ROW % (number, call, literal(line), answer) for number, (call, line, answer) in enumerate(wanted, 1)]
     return HEAD + "".join(rows), len(rows)
 
 
@@ -111,6 +135,7 @@ def main():
         crate = copy / "crates" / "ssh_lines"
         text, count = tests()
         (crate / "src" / "tests.rt").write_text(text)
+        (crate / "src" / "known_tests.rt").write_text("")
         sys.exit(0 if check(crate, count) else 1)
 
 
