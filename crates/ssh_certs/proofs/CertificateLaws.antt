@@ -72,13 +72,13 @@ class_certificate None (Some k) r kind e = cc
 class_certificate None None true kind e = absurd cc
 class_certificate None None false kind e = absurd cc
 
-kind_named : (name : List ℕ) (kind : KeyKind) → kind_from (class_of name) ≡ Ok kind → name ≡ certificate_name_of kind
+pub kind_named : (name : List ℕ) (kind : KeyKind) → kind_from (class_of name) ≡ Ok kind → name ≡ certificate_name_of kind
 unfolding certificate_kind
 kind_named name kind e =
     sym ((bytes_eq-Decides (certificate_name_of kind) name).0 (find_some (λ k. bytes_eq (certificate_name_of k) name) kinds kind
     (class_certificate (plain_kind name) (certificate_kind name) (bytes_eq name (codes "ssh-dss")) kind e)))
 
-named_kind : (kind : KeyKind) → kind_from (class_of (certificate_name_of kind)) ≡ Ok kind
+pub named_kind : (kind : KeyKind) → kind_from (class_of (certificate_name_of kind)) ≡ Ok kind
 unfolding plain_kind certificate_kind
 named_kind Rsa = refl
 named_kind P256 = refl
@@ -90,7 +90,7 @@ named_kind SkEd25519 = refl
 
 -- ---- the signature key and the signature
 
-signer_takes : (at : Position) (key : PublicKey) (after : Position) → IsBytes at.rest → signer_at at ≡ Ok (key, after) → Took at (string (key_blob key)) after × IsKey key
+pub signer_takes : (at : Position) (key : PublicKey) (after : Position) → IsBytes at.rest → signer_at at ≡ Ok (key, after) → Took at (string (key_blob key)) after × IsKey key
 unfolding signer_at
 signer_takes at key after fits e =
     let a = bind_ok (of_wire (string_at at)) (λ blob. as_fault signer_fault (key_in blob.0) >>= λ key. fine (key, blob.1)) (key, after) e in
@@ -105,7 +105,7 @@ signer_again : (key : PublicKey) (place : ℕ) (rest : List ℕ) → IsKey key
 unfolding signer_at
 signer_again key place rest is = rw (string_again (key_blob key) place rest (omega (arith, is.length)), key_again key is) refl
 
-signature_at_takes : (at : Position) (s : Signature) (after : Position) → IsBytes at.rest → signature_at at ≡ Ok (s, after) → Took at (string (signature_blob s)) after × IsSignature s
+pub signature_at_takes : (at : Position) (s : Signature) (after : Position) → IsBytes at.rest → signature_at at ≡ Ok (s, after) → Took at (string (signature_blob s)) after × IsSignature s
 unfolding signature_at
 signature_at_takes at s after fits e =
     let a = bind_ok (of_wire (string_at at)) (λ blob. as_fault errors.Signature (signature_in blob.0) >>= λ s. fine (s, blob.1)) (s, after) e in

@@ -1,3 +1,4 @@
+pub mod CertificateFaults
 pub mod CertificateLaws
 pub mod Items
 pub mod PackedLists

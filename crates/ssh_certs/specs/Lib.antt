@@ -9,6 +9,7 @@ pub use Rattle.ssh_keys.specs.Signature
 pub use Rattle.ssh_keys.specs.KeyOf
 pub mod Certificate
 pub mod CertificateReading
+pub mod CertificateFault
 pub mod Packed
 pub mod Parts
 pub mod Left
@@ -18,3 +19,4 @@ pub mod View
 pub mod Writing
 pub mod CertificateOf
 pub mod Samples
+pub mod MadeCertificates

@@ -1,15 +1,11 @@
 -- A certificate of 213 bytes, and some of its cuts.
-use Rattle.std.specs.Prelude.{◌≡◌, ℕ, List, [], ◌∷◌, ◌++◌, length, take, drop, codes, replicate, None, Ok, Err, refl}
+use Rattle.std.specs.Prelude.{◌≡◌, ℕ, List, [], ◌∷◌, ◌++◌, length, take, drop, codes, replicate, None, Ok, Err}
 use Rattle.ssh_wire.specs.declared.error.WireCause.TheVariants.{Short, Trailing}
-use Rattle.ssh_wire.specs.Reading.{string_at, boolean_at, mpint_at}
 use Rattle.ssh_keys.specs.declared.error.KeyError.TheVariants as key_errors
-use Rattle.ssh_keys.specs.Names.{plain_kind, certificate_kind}
-use Rattle.ssh_keys.specs.PublicKey.{ed25519, key_blob}
-use Rattle.ssh_keys.specs.KeyReading.{positive_at, point_at, public_at, fields_at, blob_at, key_in}
-use Rattle.ssh_keys.specs.Signature.{signature_blob, sk_at, signature_at, signature_in}
+use Rattle.ssh_keys.specs.PublicKey.{ed25519}
 use Rattle.ssh_certs.specs.declared.error.CertError.TheVariants as errors
 use Rattle.ssh_certs.specs.Certificate.{Certificate, signed_part, certificate_blob}
-use Rattle.ssh_certs.specs.CertificateReading.{items_within, packed_at, signer_at, signature_at as certificate_signature_at, certificate_at, certificate_in}
+use Rattle.ssh_certs.specs.CertificateReading.{certificate_in}
 
 abbrev ed25519_name : List ℕ
 ed25519_name = 0 ∷ 0 ∷ 0 ∷ 11 ∷ codes "ssh-ed25519"
@@ -65,7 +61,3 @@ SampleReads = (length sample_blob ≡ 213) × (length sample_signed ≡ 189)
     × (certificate_in (take 189 sample_blob ++ 0 ∷ 0 ∷ 0 ∷ 19 ∷ take 19 sample_signature) ≡ Err (errors.Signature (record { place = 15; cause = Short })))
     × (certificate_in (sample_key 0) ≡ Err errors.UnknownType)
     × (certificate_in (replicate 262145 255) ≡ Err errors.TooLong)
-
-pub sample_reads : SampleReads
-unfolding string_at boolean_at mpint_at plain_kind certificate_kind key_blob positive_at point_at public_at fields_at blob_at key_in signature_blob sk_at signature_at signature_in signed_part certificate_blob items_within packed_at signer_at certificate_signature_at certificate_at certificate_in
-sample_reads = (refl, refl, refl, refl, refl, refl, refl, refl, refl, refl, refl, refl, refl, refl, refl, refl, refl, refl, refl)

@@ -9,8 +9,8 @@ use ssh_wire::WireError;
 use std::alloc::AllocError;
 use thiserror::Error;
 
-/// The first fault of a certificate's blob. A place counts bytes from the blob's first byte, but inside
-/// the signature key and the signature from the first byte of that inner blob.
+/// The first fault of a certificate's blob. A place counts bytes from the blob's first byte, but
+/// inside the signature key and the signature from the first byte of that inner blob.
 #[derive(Clone, Copy, Debug, PartialEq, Eq, Error)]
 pub enum CertError {
     /// C1: a field passes the end, or bytes stand after the signature.
@@ -57,6 +57,7 @@ pub enum WriteError {
     /// The blob would have more than 262,144 bytes.
     #[error("the blob would be too long")]
     TooLong,
+    /// Want of memory.
     #[error("out of memory")]
     Memory(AllocError),
 }

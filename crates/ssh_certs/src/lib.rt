@@ -1,8 +1,23 @@
 //! Certificates of SSH keys (PROTOCOL.certkeys, version 01).
+//!
+//! Reading borrows from the blob and copies nothing. A blob has at most 262,144 bytes; times are
+//! seconds from 1970-01-01 in UTC. No signature is verified here. A caller that asks whether a
+//! user's certificate admits a name now, and then has to see that the signature is the signer's
+//! over the signed part (a test runs these lines):
+//!
+//! ```
+//! let cert = read_cert(blob)?;
+//! if cert.kind_number() == 1 && cert.in_time(now) == Time::Now && cert.has_principal(user) {
+//!     return Ok(Some((cert.signer(), cert.signed_part(), cert.signature())));
+//! }
+//! Ok(None)
+//! ```
 #![tactic(auto)]
 
 mod error;
 mod fields;
+#[cfg(test)]
+mod made_tests;
 mod packed;
 mod parts;
 mod reading;

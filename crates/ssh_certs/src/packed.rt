@@ -43,8 +43,8 @@ impl<'a> Iterator for Principals<'a> {
     }
 }
 
-/// The critical options or the extensions of a certificate, in the order of the blob: a name and its data,
-/// which are slices of the blob.
+/// The critical options or the extensions of a certificate, in the order of the blob: a name and
+/// its data, which are slices of the blob.
 #[derive(Debug, Drop)]
 pub struct CertOptions<'a> {
     packed: &'a [u8],
@@ -82,7 +82,8 @@ impl<'a> Iterator for CertOptions<'a> {
 /// The first name, and what is packed after it.
 fn split_name(packed: &[u8]) -> Option<(&[u8], &[u8])>
     requires { IsOk (items_in string_at packed.now) }
-    ensures first { MatchOption result (names_of packed.now ≡ []) (λ x. names_of packed.now ≡ x.0.now ∷ names_of x.1.now) }
+    ensures first { MatchOption result (names_of packed.now ≡ [])
+        (λ x. names_of packed.now ≡ x.0.now ∷ names_of x.1.now) }
     ensures read { IfSome result (λ x. IsOk (items_in string_at x.1.now)) }
 {
     let mut cursor = Cursor::new(packed);
@@ -95,7 +96,8 @@ fn split_name(packed: &[u8]) -> Option<(&[u8], &[u8])>
 /// The first option, and what is packed after it.
 fn split_option(packed: &[u8]) -> Option<((&[u8], &[u8]), &[u8])>
     requires { IsOk (items_in option_at packed.now) }
-    ensures first { MatchOption result (options_of packed.now ≡ []) (λ x. options_of packed.now ≡ option_of x.0 ∷ options_of x.1.now) }
+    ensures first { MatchOption result (options_of packed.now ≡ [])
+        (λ x. options_of packed.now ≡ option_of x.0 ∷ options_of x.1.now) }
     ensures read { IfSome result (λ x. IsOk (items_in option_at x.1.now)) }
 {
     let mut cursor = Cursor::new(packed);

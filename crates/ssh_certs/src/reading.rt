@@ -1,6 +1,6 @@
 //! Reading certificates.
 
-ghost use Rattle.std.specs.Prelude.{◌≡◌, IfOk, IsOk, IsOkAnd};
+ghost use Rattle.std.specs.Prelude.{◌≡◌, IfOk, IfErr, IsOk, IsOkAnd};
 ghost use Rattle.ssh_wire.specs.Position.{start};
 ghost use Rattle.ssh_wire.specs.Reading.{Gives, Reads, string_at};
 ghost use Rattle.ssh_keys.specs.KeyOf.{key_of};
@@ -10,7 +10,19 @@ ghost use Rattle.ssh_keys.specs.PublicKey.{key_blob};
 ghost use Rattle.ssh_keys.specs.Signature.{signature_of, signature_blob};
 ghost use Rattle.ssh_keys.specs.View.{public_key};
 ghost use Rattle.ssh_certs.specs.Certificate.{Certificate, IsCertificateBlob};
-ghost use Rattle.ssh_certs.specs.CertificateReading.{as_fault, kind_from, names_at, options_at, signer_at, signature_at, items_in, option_at, certificate_at, certificate_in};
+ghost use Rattle.ssh_certs.specs.CertificateReading.{
+  as_fault,
+  kind_from,
+  names_at,
+  options_at,
+  signer_at,
+  signature_at,
+  items_in,
+  option_at,
+  certificate_at,
+  certificate_in,
+};
+ghost use Rattle.ssh_certs.specs.CertificateFault.{IsCertificateFault};
 ghost use Rattle.ssh_certs.specs.CertificateOf.{certificate_of};
 ghost use Rattle.ssh_certs.specs.Packed.{names_of, options_of};
 ghost use Rattle.ssh_certs.specs.View.{certificate_from};
@@ -52,7 +64,8 @@ fn take_principals<'a>(cursor: &mut Cursor<'a>) -> Result<&'a [u8], CertError>
 /// Takes packed options.
 #[tactic(auto, unfolding(crate::specs::CertificateReading::packed_at))]
 fn take_options<'a>(cursor: &mut Cursor<'a>) -> Result<&'a [u8], CertError>
-    ensures exact { Reads (λ packed. options_of packed.now) options_at cursor.old result cursor.new }
+    ensures exact { Reads (λ packed. options_of packed.now) options_at cursor.old result
+        cursor.new }
     ensures read { IfOk result (λ packed. IsOk (items_in option_at packed.now)) }
 {
     let packed = cursor.take_string()?;
@@ -80,8 +93,10 @@ fn take_signer<'a>(cursor: &mut Cursor<'a>) -> Result<(KeyView<'a>, &'a [u8]), C
 /// Takes the signature, and gives its blob too.
 #[tactic(auto, unfolding(crate::specs::CertificateReading::signature_at))]
 fn take_signature<'a>(cursor: &mut Cursor<'a>) -> Result<(SignatureView<'a>, &'a [u8]), CertError>
-    ensures exact { Reads (λ signature. signature_of signature.0) signature_at cursor.old result cursor.new }
-    ensures spelled { IfOk result (λ signature. signature.1.now ≡ signature_blob (signature_of signature.0)) }
+    ensures exact { Reads (λ signature. signature_of signature.0) signature_at cursor.old result
+        cursor.new }
+    ensures spelled { IfOk result
+        (λ signature. signature.1.now ≡ signature_blob (signature_of signature.0)) }
 {
     let blob = cursor.take_string()?;
     match read_signature(blob) {
@@ -140,13 +155,24 @@ fn certificate_fields(bytes: &[u8]) -> Result<CertFields<'_>, CertError>
     fields_in(bytes)
 }
 
-/// The certificate that a blob spells, all of the bytes.
+/// The certificate that a blob spells, all of the bytes (PROTOCOL.certkeys). The view borrows them
+/// and copies nothing.
+///
+/// The first fault is told: C9 for more than 262,144 bytes, before all others; then that of the
+/// first faulty field from the left: C8 for a type name that is no certificate's, C2 for a public
+/// field, C5 and C6 for a packed list, C3 and C4 for the signature key, C7 for the signature, and
+/// C1 for every other field that passes the end and for bytes after the last. Numbers, times and
+/// options are not judged here.
 pub fn read_cert(bytes: &[u8]) -> Result<CertView<'_>, CertError>
     // What is read is the blob of the certificate.
     ensures found { IfOk result (λ view. IsCertificateBlob (certificate_of view) bytes.now) }
     // The blob of a certificate is read as that certificate.
-    ensures only { (certificate : Certificate) → IsCertificateBlob certificate bytes.now → IsOkAnd result (λ view. certificate_of view ≡ certificate) }
-    // The first fault.
+    ensures only { (certificate : Certificate)
+        → IsCertificateBlob certificate bytes.now
+        → IsOkAnd result (λ view. certificate_of view ≡ certificate) }
+    // The first fault, by the fields alone.
+    ensures first { IfErr result (IsCertificateFault bytes.now) }
+    // The same by reading from the left.
     ensures exact { Gives certificate_of result (certificate_in bytes.now) }
 {
     match certificate_fields(bytes) {

@@ -73,7 +73,8 @@ impl<'a> Spelled for Field<'a> {
     }
 }
 
-/// How many bytes the fields of a key have after its type name, or `usize::MAX` where they have more.
+/// How many bytes the fields of a key have after its type name, or `usize::MAX` where they have
+/// more.
 fn key_fields_len(key: &KeyView<'_>) -> usize
     ensures { result ≡ capped (length (concat (fields_of (key_of key.now)))) }
 {
@@ -98,7 +99,8 @@ fn key_fields_len(key: &KeyView<'_>) -> usize
 /// Writes the fields of a key after its type name. After an `Err` a part of them may stand there.
 fn put_key_fields(key: &KeyView<'_>, out: &mut Vec<u8>) -> Result<(), AllocError>
     requires { length (concat (fields_of (key_of key.now))) ≤ longest }
-    ensures ok { OnOk result (out.new.items ≡ out.old.items ++ concat (fields_of (key_of key.now))) }
+    ensures ok { OnOk result
+        (out.new.items ≡ out.old.items ++ concat (fields_of (key_of key.now))) }
     ensures err { OnErr result (Keeps out.old.items out.new.items) }
 {
     match key.fields() {

@@ -1,8 +1,29 @@
-//! A worked example of the definitions.
+//! Worked examples of the definitions. No call needs these functions: the check proves what they
+//! ensure.
 
+ghost use Rattle.ssh_certs.specs.MadeCertificates.{
+  MadeCertificatesRead,
+  MadeCertificatesRefused,
+  SignedBySecurityKey,
+};
 ghost use Rattle.ssh_certs.specs.Samples.{SampleReads};
 
 /// A certificate, as the definitions read and write it.
 fn read_samples()
     ensures { SampleReads }
+{}
+
+/// Certificates over an ECDSA key and over security keys, signed by RSA and ECDSA keys.
+fn made_certificates_as_read()
+    ensures { MadeCertificatesRead }
+{}
+
+/// A certificate that a security key signed.
+fn signed_by_security_key()
+    ensures { SignedBySecurityKey }
+{}
+
+/// Certificates with a fault in a public field, and cut ones.
+fn made_certificates_as_refused()
+    ensures { MadeCertificatesRefused }
 {}

@@ -77,7 +77,8 @@ pub(crate) fn put_all<T: Spelled>(items: &[T], out: &mut Vec<u8>) -> Result<(), 
 /// Writes the spellings as one string. After an `Err` a part of it may stand there.
 pub(crate) fn put_packed<T: Spelled>(items: &[T], out: &mut Vec<u8>) -> Result<(), AllocError>
     requires { length (string (flat_map T.spelling items.now)) ≤ longest }
-    ensures ok { OnOk result (out.new.items ≡ out.old.items ++ string (flat_map T.spelling items.now)) }
+    ensures ok { OnOk result
+        (out.new.items ≡ out.old.items ++ string (flat_map T.spelling items.now)) }
     ensures err { OnErr result (Keeps out.old.items out.new.items) }
 {
     put_len(total_len(items), out)?;

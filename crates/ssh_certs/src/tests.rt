@@ -1,13 +1,15 @@
-//! What no clause says: certificates from outside with their faults, and that calls that take memory can succeed.
+//! What no clause says: certificates from outside with their faults, and that calls that take
+//! memory can succeed.
 
 ghost use Rattle.ssh_keys.specs.Signature.{IsSignature, signature_of};
 
 use crate::{CertError, CertParts, CertView, Time, plain_blob, read_cert, write_cert};
-use ssh_keys::KeyError;
+use ssh_keys::{KeyError, KeyView, SignatureView, read_key};
 use ssh_wire::{WireCause, WireError};
 use std::test::Fail;
 
-/// A certificate of 213 bytes: an Ed25519 key of 32 zero bytes, in force from 100 up to 200 for `ann`.
+/// A certificate of 213 bytes: an Ed25519 key of 32 zero bytes, in force from 100 up to 200 for
+/// `ann`.
 const X0: &[u8] =
     b"\0\0\0 ssh-ed25519-cert-v01@openssh.com\0\0\0\x01\x07\0\0\0 \0\0\0\0\0\0\0\0\0\0\0\0\0\0\0\0\0\0\
     \0\0\0\0\0\0\0\0\0\0\0\0\0\0\0\0\0\0\0\0\0\x05\0\0\0\x01\0\0\0\x02id\0\0\0\x07\0\0\0\x03ann\0\0\
@@ -79,7 +81,8 @@ fn cuts_a_certificate(rt: HostRuntime) {
     }
 }
 
-/// The certificate with other bytes in place of a part: how many stand in front, the bytes, where it goes on.
+/// The certificate with other bytes in place of a part: how many stand in front, the bytes, where
+/// it goes on.
 #[test]
 fn refuses_certificates(rt: HostRuntime) -> Result<(), Fail> {
     let trailing = WireError {
@@ -138,7 +141,7 @@ fn refuses_certificates(rt: HostRuntime) -> Result<(), Fail> {
 }
 
 /// The parts of a certificate with these lists.
-fn parts_of<'a>(
+pub(crate) fn parts_of<'a>(
     view: &CertView<'a>,
     principals: &'a [&'a [u8]],
     critical: &'a [(&'a [u8], &'a [u8])],
@@ -205,6 +208,28 @@ fn reads_what_openssh_makes(rt: HostRuntime) -> Result<(), Fail> {
         &mut out,
     )?;
     assert_eq!(rt; out.as_slice(), MADE);
+    Ok(())
+}
+
+/// What a caller sees to of an admitted name: the signer, what was signed, and the signature.
+type Admitted<'a> = (KeyView<'a>, &'a [u8], SignatureView<'a>);
+
+/// What the example in the crate's root does.
+fn admit<'a>(blob: &'a [u8], now: u64, user: &[u8]) -> Result<Option<Admitted<'a>>, CertError> {
+    let cert = read_cert(blob)?;
+    if cert.kind_number() == 1 && cert.in_time(now) == Time::Now && cert.has_principal(user) {
+        return Ok(Some((cert.signer(), cert.signed_part(), cert.signature())));
+    }
+    Ok(None)
+}
+
+#[test]
+fn runs_the_example(rt: HostRuntime) -> Result<(), Fail> {
+    let signature = SignatureView::from_fields(b"ssh-ed25519", b"\xaa", None)?;
+    let want = (read_key(K1)?, &X0[..189], signature);
+    assert_eq!(rt; admit(X0, 100, b"ann")?, Some(want));
+    assert_eq!(rt; admit(X0, 200, b"ann")?, None);
+    assert_eq!(rt; admit(X0, 100, b"bob")?, None);
     Ok(())
 }
 

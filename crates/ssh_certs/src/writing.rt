@@ -20,8 +20,10 @@ use std::alloc::{AllocError, Global};
 /// The row of all fields (PROTOCOL.certkeys).
 fn row<'a>(parts: &CertParts<'a>) -> [Field<'a>; 14]
     requires { IsSignature (certificate_of_parts parts.now).signature }
-    ensures spelled { flat_map spelled_field result ≡ certificate_blob (certificate_of_parts parts.now) }
-    ensures is_certificate { length (certificate_blob (certificate_of_parts parts.now)) ≤ longest → IsCertificate (certificate_of_parts parts.now) }
+    ensures spelled { flat_map spelled_field result
+        ≡ certificate_blob (certificate_of_parts parts.now) }
+    ensures is_certificate { length (certificate_blob (certificate_of_parts parts.now)) ≤ longest
+        → IsCertificate (certificate_of_parts parts.now) }
 {
     let (serial, kind_number) = (parts.serial, parts.kind_number);
     let (after, before) = (parts.after, parts.before);
@@ -48,14 +50,18 @@ fn row<'a>(parts: &CertParts<'a>) -> [Field<'a>; 14]
 
 /// Writes the blob of a certificate at the end. An `Err` changes nothing.
 ///
-/// It is `TooLong` exactly where the blob would have more than 262,144 bytes, and then no memory is asked
-/// for. The signature is not made here.
+/// It is `TooLong` exactly where the blob would have more than 262,144 bytes, and then no memory is
+/// asked for; else want of memory. The signature is not made here: its flags and counter stand
+/// exactly for a security key's algorithm, as in each signature that was read or that
+/// `SignatureView::from_fields` gives.
 pub fn write_cert(parts: &CertParts<'_>, out: &mut Vec<u8>) -> Result<(), WriteError>
     requires { IsSignature (certificate_of_parts parts.now).signature }
-    ensures ok { OnOk result (out.new.items ≡ out.old.items ++ certificate_blob (certificate_of_parts parts.now)) }
+    ensures ok { OnOk result
+        (out.new.items ≡ out.old.items ++ certificate_blob (certificate_of_parts parts.now)) }
     // What is written is read back, as the blob of this certificate.
     ensures is_certificate { OnOk result (IsCertificate (certificate_of_parts parts.now)) }
-    ensures too_long { (result ≡ Err WriteError.TooLong) ↔ (longest < length (certificate_blob (certificate_of_parts parts.now))) }
+    ensures too_long { (result ≡ Err WriteError.TooLong)
+        ↔ (longest < length (certificate_blob (certificate_of_parts parts.now))) }
     ensures err { OnErr result (out.new.items ≡ out.old.items) }
 {
     let row = row(parts);
@@ -72,7 +78,7 @@ pub fn write_cert(parts: &CertParts<'_>, out: &mut Vec<u8>) -> Result<(), WriteE
     }
 }
 
-/// The blob of the certified key, as a plain key.
+/// The blob of the certified key, as a plain key. An `Err` is want of memory.
 pub fn plain_blob(alloc: Global, view: &CertView<'_>) -> Result<Vec<u8>, AllocError>
     ensures { IfOk result (λ blob. blob.items ≡ key_blob (certificate_of view.now).key) }
 {

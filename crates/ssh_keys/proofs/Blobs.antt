@@ -1,10 +1,12 @@
 -- The blob of a key as it is written, and that a blob is one key's alone.
 use Rattle.std.proofs.Common.{◌≡◌, ℕ, ◌+◌, ◌<◌, ◌≤◌, ◌^◌, List, [], ◌++◌, length, Result, sym, ap, subst, ◌∙◌, arith}
-use Rattle.std.specs.Prelude.{codes, OnOk}
+use Rattle.std.specs.Prelude.{OnOk}
 use Rattle.std.specs.List.{concat}
 use Rattle.std.proofs.lemmas.List.{append-nil, length-append}
 use Rattle.ssh_wire.specs.Spelling.{string, mpint, mpint_bytes}
 use Rattle.ssh_wire.specs.Laws.{ok_is}
+use Rattle.ssh_keys.specs.declared.curve.Curve.TheVariants.{Nistp256, Nistp384, Nistp521}
+use Rattle.ssh_keys.specs.Curves.{curve_name_of}
 use Rattle.ssh_keys.specs.declared.error.KeyError.{KeyError}
 use Rattle.ssh_keys.specs.Names.{name_of}
 use Rattle.ssh_keys.specs.PublicKey.{PublicKey, rsa, p256, p384, p521, ed25519, sk_p256, sk_ed25519, kind_of, fields_of, key_blob, IsKey}
@@ -18,20 +20,20 @@ one_blob a b a_is b_is e = ok_is {E = KeyError} a b (sym (key_again a a_is) ∙ 
 -- the fields as a writer joins them
 abbrev pub joined : PublicKey → List ℕ
 joined (rsa e n) = mpint e ++ mpint n
-joined (p256 q) = string (codes "nistp256") ++ string q
-joined (p384 q) = string (codes "nistp384") ++ string q
-joined (p521 q) = string (codes "nistp521") ++ string q
+joined (p256 q) = string (curve_name_of Nistp256) ++ string q
+joined (p384 q) = string (curve_name_of Nistp384) ++ string q
+joined (p521 q) = string (curve_name_of Nistp521) ++ string q
 joined (ed25519 a) = string a
-joined (sk_p256 q application) = string (codes "nistp256") ++ (string q ++ string application)
+joined (sk_p256 q application) = string (curve_name_of Nistp256) ++ (string q ++ string application)
 joined (sk_ed25519 a application) = string a ++ string application
 
 joined-is : (key : PublicKey) → joined key ≡ concat (fields_of key)
 joined-is (rsa e n) = ap (λ (t : List ℕ). mpint e ++ t) (sym (append-nil (mpint n)))
-joined-is (p256 q) = ap (λ (t : List ℕ). string (codes "nistp256") ++ t) (sym (append-nil (string q)))
-joined-is (p384 q) = ap (λ (t : List ℕ). string (codes "nistp384") ++ t) (sym (append-nil (string q)))
-joined-is (p521 q) = ap (λ (t : List ℕ). string (codes "nistp521") ++ t) (sym (append-nil (string q)))
+joined-is (p256 q) = ap (λ (t : List ℕ). string (curve_name_of Nistp256) ++ t) (sym (append-nil (string q)))
+joined-is (p384 q) = ap (λ (t : List ℕ). string (curve_name_of Nistp384) ++ t) (sym (append-nil (string q)))
+joined-is (p521 q) = ap (λ (t : List ℕ). string (curve_name_of Nistp521) ++ t) (sym (append-nil (string q)))
 joined-is (ed25519 a) = sym (append-nil (string a))
-joined-is (sk_p256 q s) = ap (λ (t : List ℕ). string (codes "nistp256") ++ (string q ++ t)) (sym (append-nil (string s)))
+joined-is (sk_p256 q s) = ap (λ (t : List ℕ). string (curve_name_of Nistp256) ++ (string q ++ t)) (sym (append-nil (string s)))
 joined-is (sk_ed25519 a s) = ap (λ (t : List ℕ). string a ++ t) (sym (append-nil (string s)))
 
 -- what was written after the old bytes is the blob of the key
@@ -58,7 +60,7 @@ pub sk_p256_short : (q s : List ℕ) → IsKey (sk_p256 q s) → (length q < 2 ^
 unfolding key_blob
 sk_p256_short q s is =
     let name = string (name_of (kind_of (sk_p256 q s))) in
-    let curve = string (codes "nistp256") in
+    let curve = string (curve_name_of Nistp256) in
     let total : length (name ++ (curve ++ (string q ++ (string s ++ [])))) ≤ 262144 = is.length in
     let all : length (name ++ (curve ++ (string q ++ (string s ++ [])))) ≡ length name + (length curve + (length (string q) + (length (string s) + 0))) =
     omega (arith, length-append name (curve ++ (string q ++ (string s ++ []))), length-append curve (string q ++ (string s ++ [])), length-append (string q) (string s ++ []), length-append (string s) []) in

@@ -4,3 +4,4 @@ pub mod Bits
 pub mod Texts
 pub mod KeyFaults
 pub mod SignatureFaults
+pub mod SignatureRanges

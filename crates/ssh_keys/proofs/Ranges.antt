@@ -3,6 +3,8 @@ use Rattle.std.proofs.Common.{◌≡◌, ℕ, ◌<◌, Bool, true, false, cond, 
 use Rattle.std.specs.Prelude.{◌&&◌, ◌||◌}
 use Rattle.std.proofs.lemmas.Bool.{ltb-false, le-ltb, ltb-true, lt-ltb, eqb-false, ne_eqb}
 use Rattle.ssh_wire.specs.declared.error.WireCause.TheVariants.{Value}
+use Rattle.ssh_keys.specs.declared.curve.Curve.TheVariants.{Nistp256, Nistp384, Nistp521}
+use Rattle.ssh_keys.specs.Curves.{point_len_of}
 use Rattle.ssh_keys.specs.declared.error.KeyError.{KeyError}
 use Rattle.ssh_keys.specs.declared.error.KeyError.TheVariants as errors
 use Rattle.ssh_keys.specs.PublicKey.{PublicKey, rsa, p256, p384, p521, ed25519, sk_p256, sk_ed25519, key_blob, is_point, is_in_range, longest, IsKey}
@@ -25,11 +27,11 @@ none_zero e n x y h = go (eqb e 0) refl (eqb n 0) refl h
 
 ranges_take : (key found : PublicKey) → in_range_or_fault key ≡ Ok found → is_in_range key ≡ true
 ranges_take (rsa e n) found h = none_zero e n (rsa e n) found h
-ranges_take (p256 q) found h = held (is_point 65 q) errors.Point (p256 q) found h
-ranges_take (p384 q) found h = held (is_point 97 q) errors.Point (p384 q) found h
-ranges_take (p521 q) found h = held (is_point 133 q) errors.Point (p521 q) found h
+ranges_take (p256 q) found h = held (is_point (point_len_of Nistp256) q) errors.Point (p256 q) found h
+ranges_take (p384 q) found h = held (is_point (point_len_of Nistp384) q) errors.Point (p384 q) found h
+ranges_take (p521 q) found h = held (is_point (point_len_of Nistp521) q) errors.Point (p521 q) found h
 ranges_take (ed25519 a) found h = held (eqb (length a) 32) errors.Length (ed25519 a) found h
-ranges_take (sk_p256 q s) found h = held (is_point 65 q) errors.Point (sk_p256 q s) found h
+ranges_take (sk_p256 q s) found h = held (is_point (point_len_of Nistp256) q) errors.Point (sk_p256 q s) found h
 ranges_take (sk_ed25519 a s) found h = held (eqb (length a) 32) errors.Length (sk_ed25519 a s) found h
 
 ranges_again : (key : PublicKey) → is_in_range key ≡ true → in_range_or_fault key ≡ Ok key

@@ -1,10 +1,15 @@
 -- The first fault of bytes that are no key's blob, by the row of fields alone.
-use Rattle.std.specs.Prelude.{ℕ, ◌+◌, ◌^◌, ◌<◌, List, [], ◌∷◌, length, IsTrue}
+use Rattle.std.specs.Prelude.{◌≡◌, ◌≢◌, ℕ, ◌+◌, ◌^◌, ◌<◌, ◌≤◌, List, [], ◌∷◌, ◌++◌, length, codes, IsTrue, ◌⊎◌}
 use Rattle.ssh_wire.specs.declared.error.WireCause.{WireCause}
 use Rattle.ssh_wire.specs.declared.error.WireCause.TheVariants.{Short, MpintNotMinimal, MpintNegative, Trailing, Value}
-use Rattle.ssh_wire.specs.Rows.{StopsAt, GoesOnAt}
+use Rattle.ssh_wire.specs.Rows.{GoesOnAt}
+use Rattle.ssh_wire.specs.Spelling.{string}
+use Rattle.ssh_wire.specs.Stands.{NoString, BeginsString}
 use Rattle.ssh_keys.specs.declared.error.KeyError.{KeyError}
 use Rattle.ssh_keys.specs.declared.error.KeyError.TheVariants.{Wire, UnknownType, RetiredType, IsCertificate, Curve, Point, Length, TooLong}
+use Rattle.ssh_keys.specs.declared.kind.KeyKind.{KeyKind}
+use Rattle.ssh_keys.specs.FieldFaults.{IsFieldFault}
+use Rattle.ssh_keys.specs.Names.{name_of, certificate_name_of}
 use Rattle.ssh_keys.specs.PublicKey.{PublicKey, fields_of, row_of, is_in_range, longest}
 
 -- each field has fewer than 2^32 bytes after its length
@@ -17,26 +22,42 @@ pub record IsSpelled (key : PublicKey) : Type 0 where
   pub in_range : IsTrue (is_in_range key)
   pub short : AreShort (fields_of key)
 
--- bytes are left after all fields of a key, or else a field stands in no key after those that stand
+-- the type name of no key, of no certificate, and not `ssh-dss`
+pub record IsUnknownName (name : List ℕ) : Type 0 where
+  pub plain : (kind : KeyKind) → name ≢ name_of kind
+  pub certificate : (kind : KeyKind) → name ≢ certificate_name_of kind
+  pub retired : name ≢ codes "ssh-dss"
+
+-- a certificate's type name
+abbrev pub IsCertificateName : List ℕ → Type 0
+IsCertificateName name = (kind : KeyKind) × (name ≡ certificate_name_of kind)
+
+-- the type name of a kind stands, and a field after it is wrong
+pub record InFields (bytes : List ℕ) (e : KeyError) : Type 0 where
+  pub kind : KeyKind
+  pub fields : List ℕ
+  pub begins : bytes ≡ string (name_of kind) ++ fields
+  pub fault : IsFieldFault kind (length (string (name_of kind))) fields e
+
+-- bytes are left after all fields of a key; or no string begins the bytes; or a field after the type name is wrong
 abbrev pub IsWireFault : List ℕ → ℕ → WireCause → Type 0
 IsWireFault bytes place Trailing = GoesOnAt row_of IsSpelled bytes place
-IsWireFault bytes place Short = StopsAt row_of IsSpelled bytes place
-IsWireFault bytes place MpintNotMinimal = StopsAt row_of IsSpelled bytes place
-IsWireFault bytes place MpintNegative = StopsAt row_of IsSpelled bytes place
-IsWireFault bytes place Value = StopsAt row_of IsSpelled bytes place
+IsWireFault bytes place Short = ((place ≡ 0) × NoString bytes) ⊎ InFields bytes (Wire (record { place = place; cause = Short }))
+IsWireFault bytes place cause = InFields bytes (Wire (record { place = place; cause = cause }))
 
--- the bytes stop being a key's at some field
-abbrev pub StopsSomewhere : List ℕ → Type 0
-StopsSomewhere bytes = (place : ℕ) × StopsAt row_of IsSpelled bytes place
+-- one statement for each cause of bytes that are within the limit
+abbrev pub IsFaultWithin : List ℕ → KeyError → Type 0
+IsFaultWithin bytes (Wire e) = IsWireFault bytes e.place e.cause
+IsFaultWithin bytes UnknownType = BeginsString IsUnknownName bytes
+IsFaultWithin bytes RetiredType = BeginsString (λ name. name ≡ codes "ssh-dss") bytes
+IsFaultWithin bytes IsCertificate = BeginsString IsCertificateName bytes
+IsFaultWithin bytes Curve = InFields bytes Curve
+IsFaultWithin bytes Point = InFields bytes Point
+IsFaultWithin bytes Length = InFields bytes Length
+IsFaultWithin bytes TooLong = ⊥
 
--- The first fault: the bytes pass the limit; or the longest run of first fields that begins them ends
--- at the place, and no key has one field more; or all fields stand, and bytes are left at the place.
+-- The first fault: the bytes pass the limit; or they are within it, and each field before stands in its
+-- range, and this one does not; or all fields stand, and bytes are left at the place.
 abbrev pub IsFirstFault : List ℕ → KeyError → Type 0
-IsFirstFault bytes (Wire e) = IsWireFault bytes e.place e.cause
 IsFirstFault bytes TooLong = longest < length bytes
-IsFirstFault bytes UnknownType = StopsAt row_of IsSpelled bytes 0
-IsFirstFault bytes RetiredType = StopsAt row_of IsSpelled bytes 0
-IsFirstFault bytes IsCertificate = StopsAt row_of IsSpelled bytes 0
-IsFirstFault bytes Curve = StopsSomewhere bytes
-IsFirstFault bytes Point = StopsSomewhere bytes
-IsFirstFault bytes Length = StopsSomewhere bytes
+IsFirstFault bytes e = (length bytes ≤ longest) × IsFaultWithin bytes e

@@ -11,7 +11,7 @@ use sha2::{Digest, Sha256};
 use std::alloc::{AllocError, Global};
 
 /// The base64 of a digest of 32 bytes without its one padding byte, as it stands after `SHA256:`
-/// (RFC 4648, section 4).
+/// (RFC 4648, section 4). An `Err` is want of memory.
 pub fn digest_text(alloc: Global, digest: &[u8; 32]) -> Result<[u8; 43], AllocError>
     ensures { IfOk result (λ text. text ≡ digest_text_of digest.now) }
 {
@@ -22,8 +22,8 @@ pub fn digest_text(alloc: Global, digest: &[u8; 32]) -> Result<[u8; 43], AllocEr
     }
 }
 
-/// The fingerprint of a key, as `ssh-keygen -l` prints it after `SHA256:`: the text of the SHA-256 of
-/// its blob.
+/// The fingerprint of a key, as `ssh-keygen -l` prints it after `SHA256:`: the text of the SHA-256
+/// of its blob. An `Err` is want of memory.
 pub fn fingerprint(alloc: Global, key: &KeyView<'_>) -> Result<[u8; 43], AllocError>
     ensures { IfOk result (λ text. text ≡ fingerprint_of (key_of key.now)) }
 {

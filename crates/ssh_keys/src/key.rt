@@ -30,7 +30,8 @@ impl Model for Key {
 impl Key {
     ghost use Rattle.ssh_keys.specs.KeyOf.{key_of};
 
-    /// The key that a blob spells, all of the bytes. It keeps the blob; a refusal drops it.
+    /// The key that a blob spells, all of the bytes, with the faults of `read_key`. It keeps the
+    /// blob; a refusal drops it.
     pub fn read(blob: Vec<u8>) -> Result<Key, KeyError>
         // The key whose blob these bytes are.
         ensures found { IfOk result (λ key. IsKeyBlob key blob.items) }

@@ -27,7 +27,8 @@ pub(crate) fn check_fields(fields: &KeyFields<'_>) -> Result<(), KeyError>
 }
 
 fn check_ranges(fields: &KeyFields<'_>) -> Result<(), KeyError>
-    ensures { Gives (λ _. public_key fields.now) result (in_range_or_fault (public_key fields.now)) }
+    ensures { Gives (λ _. public_key fields.now) result
+        (in_range_or_fault (public_key fields.now)) }
 {
     match *fields {
         KeyFields::Rsa { exponent, modulus } => {
@@ -104,7 +105,8 @@ fn mpint_len(number: Mpint<'_>) -> u128
     string_len(number.least_bytes())
 }
 
-fn string_len(text: &[u8]) -> u128
+/// How many bytes a string has, its length prefix included.
+pub(crate) fn string_len(text: &[u8]) -> u128
     ensures value { result ≡ length (string text.now) }
     ensures bound { result < 2 ^ 65 }
 {

@@ -8,8 +8,8 @@ ghost use Rattle.ssh_keys.specs.View.{public_key};
 use crate::fields::KeyFields;
 use crate::view::KeyView;
 
-/// Whether two keys are the same: of one kind, and equal in each field. Keys are the same exactly where
-/// their blobs are.
+/// Whether two keys are the same: of one kind, and equal in each field. Keys are the same exactly
+/// where their blobs are.
 pub fn same_key(a: &KeyView<'_>, b: &KeyView<'_>) -> bool
     ensures values { IsTrue result ↔ (key_of a.now ≡ key_of b.now) }
     ensures blobs { IsTrue result ↔ (key_blob (key_of a.now) ≡ key_blob (key_of b.now)) }

@@ -1,10 +1,11 @@
 //! What no clause says: values from outside, and that calls that take memory can succeed.
 
 use crate::{
-    Fit, Key, KeyError, KeyFields, KeyKind, KeyView, digest_text, fingerprint, fits, read_key,
-    read_signature, rsa_bits, same_key, write_key, write_signature,
+    Fit, Key, KeyError, KeyFields, KeyKind, KeyView, SignatureView, digest_text, fingerprint, fits,
+    read_key, read_signature, rsa_bits, same_key, write_key, write_signature,
 };
 use ssh_wire::{WireCause, WireError};
+use std::alloc::Global;
 use std::test::Fail;
 
 /// An Ed25519 key of 32 zero bytes.
@@ -99,13 +100,63 @@ fn writes_what_was_read(rt: HostRuntime) -> Result<(), Fail> {
         assert!(rt; same_key(&view, &KeyView::from_fields(view.fields())?));
         let key = Key::read(out)?;
         assert_eq!(rt; key.blob(), blob);
-        assert_eq!(rt; key.view().kind(), view.kind());
+        assert!(rt; key.view() == view);
     }
     for blob in [S0, SK_SIGNATURE] {
         let mut out = Vec::new(rt.alloc());
         write_signature(&read_signature(blob)?, &mut out)?;
         assert_eq!(rt; out.as_slice(), blob);
     }
+    Ok(())
+}
+
+/// What the example in the crate's root does.
+fn look_at(
+    alloc: Global,
+    key_blob: &[u8],
+    signature_blob: &[u8],
+    out: &mut Vec<u8>,
+) -> Result<Option<[u8; 43]>, Fail> {
+    let key = read_key(key_blob)?;
+    let signature = read_signature(signature_blob)?;
+    if fits(key.kind(), signature.algorithm) != Fit::Yes {
+        return Ok(None);
+    }
+    let again = SignatureView::from_fields(signature.algorithm, signature.bytes, signature.sk)?;
+    write_signature(&again, out)?;
+    Ok(Some(fingerprint(alloc, &key)?))
+}
+
+#[test]
+fn runs_the_example(rt: HostRuntime) -> Result<(), Fail> {
+    let mut out = Vec::new(rt.alloc());
+    let print = look_at(rt.alloc(), K0, S0, &mut out)?;
+    assert_eq!(rt;
+        print,
+        Some(*b"kmYcvdi2GkPeWxB6XLjrZB8JHsy2Hm8luHMFp9GMvqk")
+    );
+    assert_eq!(rt; out.as_slice(), S0);
+    let print = look_at(rt.alloc(), K0, SK_SIGNATURE, &mut out)?;
+    assert_eq!(rt; print, None);
+    Ok(())
+}
+
+/// Flags and a counter that do not belong there, none where they do, and a blob that is too long.
+#[test]
+fn refuses_signatures(rt: HostRuntime) -> Result<(), Fail> {
+    let sk = b"sk-ssh-ed25519@openssh.com";
+    let long = vec![in rt.alloc(); 255; 262_126]?;
+    let rows: [(&[u8], &[u8], Option<(u8, u32)>); 3] = [
+        (b"ssh-ed25519", b"a", Some((1, 7))),
+        (sk, b"a", None),
+        (b"ssh-ed25519", &long, None),
+    ];
+    for (algorithm, bytes, flags) in rows {
+        let view = SignatureView::from_fields(algorithm, bytes, flags);
+        assert_eq!(rt; view, Err(fault(0, WireCause::Value)));
+    }
+    let longest = SignatureView::from_fields(b"ssh-ed25519", &long[1..], None)?;
+    assert_eq!(rt; longest.bytes.len(), 262_125);
     Ok(())
 }
 

@@ -10,7 +10,8 @@ use crate::view::KeyView;
 use ssh_wire::Wire;
 use std::alloc::AllocError;
 
-/// Writes the blob of a key at the end. An `Err` changes nothing.
+/// Writes the blob of a key at the end, at most 262,144 bytes (RFC 4253 section 6.6, RFC 5656
+/// section 3.1, RFC 8709 section 4, PROTOCOL.u2f). An `Err` is want of memory, and changes nothing.
 pub fn write_key(key: &KeyView<'_>, out: &mut Vec<u8>) -> Result<(), AllocError>
     ensures ok { OnOk result (out.new.items ≡ out.old.items ++ key_blob (key_of key.now)) }
     ensures err { OnErr result (out.new.items ≡ out.old.items) }

@@ -1,5 +1,6 @@
 use Rattle.std.proofs.Common.{arith}
 use Rattle.ssh_certs.specs.View.{certificate_from}
+use Rattle.ssh_certs.proofs.CertificateFaults.{certificate_fault}
 use Rattle.ssh_certs.proofs.CertificateLaws.{certificate_takes, certificate_only, certificate_refused, key_is_key}
 use Rattle.ssh_certs.proofs.reading.read_cert.Goals as goal
 
@@ -26,3 +27,9 @@ returns-in-Err-from_fields-clause-exact c = absurd (none c)
 
 pub returns-in-Err-clause-only : goal.returns-in-Err-clause-only
 returns-in-Err-clause-only c = λ certificate blob. certificate_refused c.args.bytes.now _ certificate c.in-Err.ensures blob
+
+pub returns-in-Err-from_fields-clause-first : goal.returns-in-Err-from_fields-clause-first
+returns-in-Err-from_fields-clause-first c = absurd (none c)
+
+pub returns-in-Err-clause-first : goal.returns-in-Err-clause-first
+returns-in-Err-clause-first c = certificate_fault c.args.bytes.now c.in-Err.e (λ i. omega (arith, c.type_inv.bytes i)) c.in-Err.ensures

@@ -1,5 +1,8 @@
-use Rattle.ssh_wire.specs.Samples.{mpint_samples}
+use Rattle.std.proofs.Common.{refl}
+use Rattle.ssh_wire.specs.Spelling.{mpint_bytes}
+use Rattle.ssh_wire.specs.Reading.{string_at, mpint_at}
 use Rattle.ssh_wire.proofs.samples.numbers_as_read.Goals as goal
 
 pub returns : goal.returns
-returns c = mpint_samples
+unfolding string_at mpint_at mpint_bytes
+returns c = ((refl, refl), (refl, refl), (refl, refl), refl, refl, refl, refl, refl, refl, refl)

@@ -1,0 +1,68 @@
+-- What is wrong with the first field of a public key that does not stand, by its row of fields alone.
+use Rattle.std.specs.Prelude.{◌≡◌, ◌≢◌, ℕ, ◌+◌, Bool, true, false, List, [], ◌∷◌, ◌++◌, length, IsTrue}
+use Rattle.ssh_wire.specs.declared.error.WireCause.{WireCause}
+use Rattle.ssh_wire.specs.declared.error.WireCause.TheVariants.{Short, MpintNotMinimal, MpintNegative, Trailing, Value}
+use Rattle.ssh_wire.specs.Spelling.{is_least, is_not_negative}
+use Rattle.ssh_wire.specs.Stands.{Stands, NoString, BeginsString}
+use Rattle.ssh_keys.specs.declared.curve.Curve.{Curve}
+use Rattle.ssh_keys.specs.declared.curve.Curve.TheVariants.{Nistp256, Nistp384, Nistp521}
+use Rattle.ssh_keys.specs.declared.error.KeyError.{KeyError}
+use Rattle.ssh_keys.specs.declared.error.KeyError.TheVariants as errors
+use Rattle.ssh_keys.specs.declared.kind.KeyKind.{KeyKind}
+use Rattle.ssh_keys.specs.declared.kind.KeyKind.TheVariants.{Rsa, P256, P384, P521, Ed25519, SkP256, SkEd25519}
+use Rattle.ssh_keys.specs.Curves.{curve_name_of, point_len_of}
+use Rattle.ssh_keys.specs.PublicKey.{PublicKey, kind_of, fields_of, is_point, is_in_range}
+
+-- a sort of field: a number above zero, the name of a curve, a point of it, a public key of 32 bytes, any string
+pub data Sort : Type 0 where
+  number : Sort
+  curve : Curve → Sort
+  point : Curve → Sort
+  public : Sort
+  text : Sort
+
+-- the row of fields after the type name (RFC 4253 section 6.6, RFC 5656 section 3.1, RFC 8709 section 4,
+-- PROTOCOL.u2f)
+abbrev pub sorts_of : KeyKind → List Sort
+sorts_of Rsa = number ∷ number ∷ []
+sorts_of P256 = curve Nistp256 ∷ point Nistp256 ∷ []
+sorts_of P384 = curve Nistp384 ∷ point Nistp384 ∷ []
+sorts_of P521 = curve Nistp521 ∷ point Nistp521 ∷ []
+sorts_of Ed25519 = public ∷ []
+sorts_of SkP256 = curve Nistp256 ∷ point Nistp256 ∷ text ∷ []
+sorts_of SkEd25519 = public ∷ text ∷ []
+
+-- Why no value can be taken from the rest: no string begins there; a number has a byte that can be left out;
+-- it has none, and is below zero; it is zero.
+abbrev pub IsUnread : WireCause → Sort → List ℕ → Type 0
+IsUnread Short sort rest = NoString rest
+IsUnread MpintNotMinimal number rest = BeginsString (λ bytes. is_least bytes ≡ false) rest
+IsUnread MpintNegative number rest = BeginsString (λ bytes. (is_least bytes ≡ true) × (is_not_negative bytes ≡ false)) rest
+IsUnread Value number rest = BeginsString (λ bytes. bytes ≡ []) rest
+IsUnread cause sort rest = ⊥
+
+-- What is wrong with a field of this sort: it is unread, at this place; it is another curve's name; it is no
+-- point of that curve's length; it has not 32 bytes.
+abbrev pub IsWrong : KeyError → Sort → List ℕ → ℕ → Type 0
+IsWrong (errors.Wire e) sort rest place = (e.place ≡ place) × IsUnread e.cause sort rest
+IsWrong errors.Curve (curve c) rest place = BeginsString (λ name. name ≢ curve_name_of c) rest
+IsWrong errors.Point (point c) rest place = BeginsString (λ q. is_point (point_len_of c) q ≡ false) rest
+IsWrong errors.Length public rest place = BeginsString (λ a. length a ≢ 32) rest
+IsWrong e sort rest place = ⊥
+
+-- a key of this kind whose fields are in their ranges
+pub record IsOfKind (kind : KeyKind) (key : PublicKey) : Type 0 where
+  pub of : kind_of key ≡ kind
+  pub in_range : IsTrue (is_in_range key)
+
+-- The fields before one stand, as those of a key of this kind, and this one is wrong. (So many bytes stand
+-- before the first of them.)
+pub record IsFieldFault (kind : KeyKind) (offset : ℕ) (bytes : List ℕ) (e : KeyError) : Type 0 where
+  pub before : List Sort
+  pub sort : Sort
+  pub after : List Sort
+  pub row : sorts_of kind ≡ before ++ sort ∷ after
+  pub place : ℕ
+  pub rest : List ℕ
+  pub stands : Stands fields_of (IsOfKind kind) (length before) bytes place rest
+  pub wrong : IsWrong e sort rest (offset + place)
