@@ -1,4 +1,5 @@
 pub mod LineLemmas
+pub mod EndOfLineLemmas
 pub mod NewlineLemmas
 pub mod ScanLemmas
 pub mod PieceLemmas

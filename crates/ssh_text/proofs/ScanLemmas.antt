@@ -3,9 +3,9 @@ use Rattle.std.proofs.Common.{◌≡◌, ℕ, suc, ◌+◌, ◌-◌, ◌<◌, �
 use Rattle.std.proofs.lemmas.List.{length-append}
 use Rattle.ssh_text.specs.Text.{lines_of, line_limit}
 use Rattle.ssh_text.specs.Kept.{Kept, Keeps, kept_count}
-use Rattle.ssh_text.specs.Scan.{Scan, IsScan, open_count, StandsFor, HasNoNewline, unfinished, with_newlines, IsLastLine}
+use Rattle.ssh_text.specs.Scan.{Scan, IsScan, open_count, lines_begun, StandsFor, HasNoNewline, unfinished, with_newlines, IsLastLine}
 use Rattle.ssh_text.proofs.LineLemmas.{lines_of-last}
-use Rattle.ssh_text.proofs.NewlineLemmas.{AreFree-push, with_newlines-push, lines_of-after, lines_of-whole, unfinished-after, free-append, length-push, get-last}
+use Rattle.ssh_text.proofs.NewlineLemmas.{AreFree, AreFree-push, with_newlines-push, lines_of-after, lines_of-whole, unfinished-after, free-append, length-push, get-last}
 
 abbrev pub ended_by : Bool → List ℕ → List ℕ
 ended_by b line = if b then line ++ 10 ∷ [] else line
@@ -110,3 +110,62 @@ pub not-empty : (b : Bool) (n : ℕ) → IsTrue b ↔ (n ≡ 0) → IsTrue (not 
 not-empty true n h = ((λ f. cc), (λ p. let z = h.0 refl in absurd (omega arith)))
 not-empty false zero h = ((λ f. let g : false ≡ true = h.1 refl in cc), (λ p. refl))
 not-empty false (suc n) h = ((λ f. omega arith), (λ p. refl))
+
+-- ---- a line that is passed over
+
+-- where no line is unfinished, the lines that were begun are all of them
+record Begun (s : Scan) (bytes : List ℕ) : Type 0 where
+  lines : List (List ℕ)
+  cut : AreFree lines
+  whole : bytes ≡ with_newlines lines
+  count : lines_begun s ≡ length lines
+
+no-bytes : (line : List ℕ) → length line ≡ 0 → line ≡ []
+no-bytes [] e = refl
+no-bytes (c ∷ cs) e = absurd (omega arith)
+
+begun : (s : Scan) (bytes : List ℕ) (h : StandsFor s bytes) → length (unfinished bytes) ≡ 0 → (b : Bool) → s.ended ≡ b → Begun s bytes
+begun s bytes h e true t = record {
+  lines = h.before ++ h.line ∷ [];
+  cut = AreFree-push h.before h.line h.cut h.free;
+  whole = h.whole ∙ ap (λ b. with_newlines h.before ++ ended_by b h.line) t ∙ sym (with_newlines-push h.before h.line);
+  count = ap (λ b. if b then s.lines + 1 else s.lines) t ∙ ap (λ n. n + 1) h.lines ∙ sym (length-push h.before h.line);
+}
+begun s bytes h e false t =
+    let none : h.line ≡ [] = no-bytes h.line (sym (ap (λ l. length l) (unfinished-open s bytes h t)) ∙ e) in
+    record {
+      lines = h.before;
+      cut = h.cut;
+      whole =
+          h.whole ∙ ap (λ b. with_newlines h.before ++ ended_by b h.line) t
+          ∙ ap (λ l. with_newlines h.before ++ l) none ∙ append-nil (with_newlines h.before);
+      count = ap (λ b. if b then s.lines + 1 else s.lines) t ∙ h.lines;
+    }
+
+passed : (s : Scan) (bytes line : List ℕ) (b : Begun s bytes) → bytes ++ (line ++ 10 ∷ []) ≡ with_newlines (b.lines ++ line ∷ [])
+passed s bytes line b = ap (λ x. x ++ (line ++ 10 ∷ [])) b.whole ∙ sym (with_newlines-push b.lines line)
+
+pub passed-line : (s : Scan) (bytes line : List ℕ) (n : ℕ) → n ≡ lines_begun s → HasNoNewline line → StandsFor s bytes
+    → length (unfinished bytes) ≡ 0 → IsLastLine (bytes ++ (line ++ 10 ∷ [])) (n + 1) line
+passed-line s bytes line n m free h e =
+    let b = begun s bytes h e s.ended refl in
+    at-last (bytes ++ (line ++ 10 ∷ [])) n b.lines line
+    (ap lines_of (passed s bytes line b) ∙ lines_of-whole (b.lines ++ line ∷ []) (AreFree-push b.lines line b.cut free)) (m ∙ b.count)
+
+pub stands-passed : (s : Scan) (new : Kept) (bytes line : List ℕ) (n : ℕ) → n ≡ lines_begun s → HasNoNewline line → Keeps new [] → StandsFor s bytes
+    → length (unfinished bytes) ≡ 0
+    → StandsFor (record { used = s.used + (length line + 1); lines = n + 1; kept = new; ended = false; ready = false }) (bytes ++ (line ++ 10 ∷ []))
+stands-passed s new bytes line n m free k h e =
+    let b = begun s bytes h e s.ended refl in
+    let long : length (line ++ 10 ∷ []) ≡ length line + 1 = length-push line 10 in
+    record {
+      before = b.lines ++ line ∷ [];
+      line = [];
+      cut = AreFree-push b.lines line b.cut free;
+      free = tt;
+      whole = passed s bytes line b ∙ sym (append-nil (with_newlines (b.lines ++ line ∷ [])));
+      used = ap (λ n. n + (length line + 1)) h.used ∙ ap (λ n. length bytes + n) (sym long) ∙ sym (length-append bytes (line ++ 10 ∷ []));
+      lines = ap (λ n. n + 1) (m ∙ b.count) ∙ sym (length-push b.lines line);
+      kept = k;
+      ready = λ f. cc;
+    }

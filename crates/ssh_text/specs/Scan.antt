@@ -72,6 +72,10 @@ pub record StandsFor (scan : Scan) (bytes : List ℕ) : Type 0 where
 abbrev pub open_count : Scan → ℕ
 open_count scan = if scan.ended then 1 else kept_count scan.kept
 
+-- how many lines were begun, apart from one that lacks its LF
+abbrev pub lines_begun : Scan → ℕ
+lines_begun scan = if scan.ended then scan.lines + 1 else scan.lines
+
 -- one line is kept at most; the lines are no more than the bytes, which a number can count; and a line that is ready is one
 pub record IsScan (scan : Scan) : Type 0 where
   pub bounded : length scan.kept.bytes ≤ line_limit

@@ -4,6 +4,7 @@ ghost use Rattle.std.specs.Prelude.{◌≡◌, ◌≤◌, length, drop};
 ghost use Rattle.std.specs.Iterator.{YieldsFirstBy, item_count};
 ghost use Rattle.ssh_text.specs.Text.{lines_of, numbered, line_len};
 
+use memchr::memchr;
 use std::marker::Model;
 
 /// The most bytes that a line may have, without its LF and with its CR.
@@ -43,7 +44,8 @@ impl<'a> Lines<'a> {
 impl<'a> Iterator for Lines<'a> {
     type Item = (u64, &'a [u8]);
 
-    ghost next_gives = { YieldsFirstBy (λ item. (item.0, item.1.now)) (λ s. numbered s.0 (lines_of s.1)) };
+    ghost next_gives = { YieldsFirstBy (λ item. (item.0, item.1.now))
+        (λ s. numbered s.0 (lines_of s.1)) };
 
     ghost remaining = { item_count (λ s. numbered s.0 (lines_of s.1)) };
 
@@ -75,10 +77,8 @@ pub(crate) fn line_len(text: &[u8]) -> usize
     ensures value { result ≡ line_len text.now }
     ensures bound { result ≤ length text.now }
 {
-    for (i, byte) in text.iter().enumerate() {
-        if *byte == b'\n' {
-            return i;
-        }
+    match memchr(b'\n', text) {
+        Some(end) => end,
+        None => text.len(),
     }
-    text.len()
 }

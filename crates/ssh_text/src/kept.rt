@@ -1,6 +1,19 @@
 //! A line as far as it is kept.
 
-ghost use Rattle.std.specs.Prelude.{◌≡◌, ◌↔◌, ◌≤◌, ◌+◌, IsTrue, ◌++◌, [], length, List, ℕ, OnOk, OnErr};
+ghost use Rattle.std.specs.Prelude.{
+  ◌≡◌,
+  ◌↔◌,
+  ◌≤◌,
+  ◌+◌,
+  IsTrue,
+  ◌++◌,
+  [],
+  length,
+  List,
+  ℕ,
+  OnOk,
+  OnErr,
+};
 ghost use Rattle.ssh_text.specs.Text.{line_limit};
 ghost use Rattle.ssh_text.specs.Kept.{Keeps, kept_count};
 
@@ -60,9 +73,20 @@ impl KeptLine {
         &self.bytes
     }
 
+    /// Begins a line that has no bytes.
+    pub(crate) fn clear(&mut self)
+        ensures keeps { Keeps self.new [] }
+        ensures count { kept_count self.new ≡ 0 }
+        ensures bound { length self.new.bytes ≤ line_limit }
+    {
+        self.bytes.clear();
+        self.too_long = false;
+    }
+
     /// Adds bytes to the line. Where memory is refused, it stays as it was.
     pub(crate) fn append(&mut self, part: &[u8]) -> Result<(), AllocError>
-        ensures ok { OnOk result ((line : List ℕ) → Keeps self.old line → Keeps self.new (line ++ part.now)) }
+        ensures ok { OnOk result
+            ((line : List ℕ) → Keeps self.old line → Keeps self.new (line ++ part.now)) }
         ensures count { OnOk result (kept_count self.new ≤ kept_count self.old + length part.now) }
         ensures bound { length self.new.bytes ≤ line_limit }
         ensures err { OnErr result (self.new ≡ self.old) }

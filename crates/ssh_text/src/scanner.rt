@@ -1,8 +1,40 @@
 //! The lines of a file that comes in pieces.
 
-ghost use Rattle.std.specs.Prelude.{◌≡◌, ◌↔◌, ◌<◌, ◌≤◌, ◌+◌, ◌^◌, ◌++◌, ◌∷◌, [], length, take, true, false, List, ℕ, IsTrue, IfOk, OnOk, OnErr};
+ghost use Rattle.std.specs.Prelude.{
+  ◌≡◌,
+  ◌↔◌,
+  ◌<◌,
+  ◌≤◌,
+  ◌+◌,
+  ◌^◌,
+  ◌++◌,
+  ◌∷◌,
+  [],
+  length,
+  take,
+  true,
+  false,
+  List,
+  ℕ,
+  IsTrue,
+  IsSome,
+  IfSome,
+  None,
+  IfOk,
+  OnOk,
+  OnErr,
+};
 ghost use Rattle.ssh_text.specs.Text.{line_limit};
-ghost use Rattle.ssh_text.specs.Scan.{HasNoNewline, IsReadyLine, StandsFor, has_newline, unfinished, up_to_newline};
+ghost use Rattle.ssh_text.specs.Scan.{
+  HasNoNewline,
+  IsLastLine,
+  IsReadyLine,
+  StandsFor,
+  has_newline,
+  lines_begun,
+  unfinished,
+  up_to_newline,
+};
 
 use crate::file::line_len;
 use crate::kept::KeptLine;
@@ -25,9 +57,13 @@ impl Model for Scanner {
 
     ghost Value = { Scan };
 
-    ghost view = { λ s. record { used = s.used; lines = s.lines; kept = s.kept; ended = s.ended; ready = s.ready } };
+    ghost view = { λ s.
+        record
+        { used = s.used; lines = s.lines; kept = s.kept; ended = s.ended; ready = s.ready } };
 
-    ghost invariant = { λ s. IsScan (record { used = s.used; lines = s.lines; kept = s.kept; ended = s.ended; ready = s.ready }) };
+    ghost invariant = { λ s.
+        IsScan (record
+        { used = s.used; lines = s.lines; kept = s.kept; ended = s.ended; ready = s.ready }) };
 }
 
 /// A line that is ready: its bytes without the LF, or the mark that they are more than a line may
@@ -63,8 +99,8 @@ impl Scanner {
         self.used
     }
 
-    /// Uses the piece up to and with its first LF, or all of it, and says how many bytes that is and
-    /// whether a line is ready. Where memory is refused, nothing is used.
+    /// Uses the piece up to and with its first LF, or all of it, and says how many bytes that is
+    /// and whether a line is ready. Where memory is refused, nothing is used.
     pub fn feed(&mut self, piece: &[u8]) -> Result<(usize, bool), AllocError>
         requires { self.old.used + length piece.now < 2 ^ 64 }
         ensures count { IfOk result (λ fed. fed.0 ≡ length (up_to_newline piece.now)) }
@@ -74,7 +110,10 @@ impl Scanner {
         ensures all { IfOk result (λ fed. fed.1 ≡ false → fed.0 ≡ length piece.now) }
         ensures newline { IfOk result (λ fed. fed.1 ≡ has_newline piece.now) }
         ensures ready { IfOk result (λ fed. self.new.ready ≡ fed.1) }
-        ensures stands_for { IfOk result (λ fed. (bytes : List ℕ) → StandsFor self.old bytes → StandsFor self.new (bytes ++ take fed.0 piece.now)) }
+        ensures stands_for { IfOk result (λ fed.
+            (bytes : List ℕ)
+            → StandsFor self.old bytes
+            → StandsFor self.new (bytes ++ take fed.0 piece.now)) }
         ensures used { IfOk result (λ fed. self.new.used ≡ self.old.used + fed.0) }
         ensures bounded { length self.new.kept.bytes ≤ line_limit }
         ensures err { OnErr result (self.new ≡ self.old) }
@@ -91,7 +130,10 @@ impl Scanner {
     /// Uses bytes that have no LF.
     fn take_part(&mut self, part: &[u8]) -> Result<(), AllocError>
         requires { self.old.used + length part.now < 2 ^ 64 }
-        ensures stands_for { OnOk result (HasNoNewline part.now → (bytes : List ℕ) → StandsFor self.old bytes → StandsFor self.new (bytes ++ part.now)) }
+        ensures stands_for { OnOk result (HasNoNewline part.now
+            → (bytes : List ℕ)
+            → StandsFor self.old bytes
+            → StandsFor self.new (bytes ++ part.now)) }
         ensures used { OnOk result (self.new.used ≡ self.old.used + length part.now) }
         ensures open { OnOk result (self.new.ended ≡ false) }
         ensures ready { OnOk result (self.new.ready ≡ false) }
@@ -114,7 +156,9 @@ impl Scanner {
     fn take_newline(&mut self)
         requires open { self.old.ended ≡ false }
         requires fits { self.old.used + 1 < 2 ^ 64 }
-        ensures stands_for { (bytes : List ℕ) → StandsFor self.old bytes → StandsFor self.new (bytes ++ 10 ∷ []) }
+        ensures stands_for { (bytes : List ℕ)
+            → StandsFor self.old bytes
+            → StandsFor self.new (bytes ++ 10 ∷ []) }
         ensures used { self.new.used ≡ self.old.used + 1 }
         ensures ready { self.new.ready ≡ true }
         ensures bounded { length self.new.kept.bytes ≤ line_limit }
@@ -122,6 +166,92 @@ impl Scanner {
         self.used += 1;
         self.ended = true;
         self.ready = true;
+    }
+
+    /// The line that the piece begins with, and its number, where no line is unfinished and the
+    /// piece has an LF: the line is used with its LF and lies in the piece, whatever its length, so
+    /// that it needs no copy. Else nothing is used.
+    pub fn whole_line<'a>(&mut self, piece: &'a [u8]) -> Option<(u64, &'a [u8])>
+        requires { self.old.used + length piece.now < 2 ^ 64 }
+        ensures found { (bytes : List ℕ)
+            → StandsFor self.old bytes
+            → (IsSome result ↔ ((length (unfinished bytes) ≡ 0) × (has_newline piece.now ≡ true))) }
+        ensures newline { IfSome result (λ line. has_newline piece.now ≡ true) }
+        ensures part { IfSome result (λ line. line.1.now ++ 10 ∷ [] ≡ up_to_newline piece.now) }
+        ensures line { IfSome result (λ line.
+            (bytes : List ℕ)
+            → StandsFor self.old bytes
+            → IsLastLine (bytes ++ up_to_newline piece.now) line.0 line.1.now) }
+        ensures stands_for { IfSome result (λ line.
+            (bytes : List ℕ)
+            → StandsFor self.old bytes
+            → StandsFor self.new (bytes ++ up_to_newline piece.now)) }
+        ensures used { IfSome result
+            (λ line. self.new.used ≡ self.old.used + (length line.1.now + 1)) }
+        ensures within { IfSome result (λ line. length line.1.now + 1 ≤ length piece.now) }
+        ensures ready { IfSome result (λ line. self.new.ready ≡ false) }
+        ensures bounded { IfSome result (λ line. length self.new.kept.bytes ≤ line_limit) }
+        ensures none { result ≡ None → self.new ≡ self.old }
+    {
+        if !self.is_between() {
+            return None;
+        }
+        let end = line_len(piece);
+        if piece.len() == end {
+            return None;
+        }
+        let number = self.pass_line(&piece[..end]);
+        Some((number, &piece[..end]))
+    }
+
+    /// Whether no line is unfinished.
+    fn is_between(&self) -> bool
+        ensures { (bytes : List ℕ)
+            → StandsFor self.now bytes
+            → (IsTrue result ↔ (length (unfinished bytes) ≡ 0)) }
+    {
+        if self.ended {
+            return true;
+        }
+        self.kept.is_empty()
+    }
+
+    /// How many lines were begun and are finished.
+    fn lines_begun(&self) -> u64
+        ensures value { result ≡ lines_begun self.now }
+        ensures bound { result ≤ self.now.used }
+    {
+        if self.ended {
+            self.lines + 1
+        } else {
+            self.lines
+        }
+    }
+
+    /// Uses a line and its LF, and keeps none of it. Its number is what comes back.
+    fn pass_line(&mut self, line: &[u8]) -> u64
+        requires { self.old.used + (length line.now + 1) < 2 ^ 64 }
+        ensures line { HasNoNewline line.now
+            → (bytes : List ℕ)
+            → StandsFor self.old bytes
+            → length (unfinished bytes) ≡ 0
+            → IsLastLine (bytes ++ (line.now ++ 10 ∷ [])) result line.now }
+        ensures stands_for { HasNoNewline line.now
+            → (bytes : List ℕ)
+            → StandsFor self.old bytes
+            → length (unfinished bytes) ≡ 0
+            → StandsFor self.new (bytes ++ (line.now ++ 10 ∷ [])) }
+        ensures used { self.new.used ≡ self.old.used + (length line.now + 1) }
+        ensures ready { self.new.ready ≡ false }
+        ensures bounded { length self.new.kept.bytes ≤ line_limit }
+    {
+        let number = self.lines_begun() + 1;
+        self.lines = number;
+        self.kept.clear();
+        self.used += line.len() as u64 + 1;
+        self.ended = false;
+        self.ready = false;
+        number
     }
 
     /// The line that is ready, and its number.
@@ -138,8 +268,12 @@ impl Scanner {
 
     /// Ends the file, and says whether a last line without an LF is ready.
     pub fn finish(&mut self) -> bool
-        ensures stands_for { (bytes : List ℕ) → StandsFor self.old bytes → StandsFor self.new bytes }
-        ensures last { (bytes : List ℕ) → StandsFor self.old bytes → (IsTrue result ↔ (0 < length (unfinished bytes))) }
+        ensures stands_for { (bytes : List ℕ)
+            → StandsFor self.old bytes
+            → StandsFor self.new bytes }
+        ensures last { (bytes : List ℕ)
+            → StandsFor self.old bytes
+            → (IsTrue result ↔ (0 < length (unfinished bytes))) }
         ensures ready { self.new.ready ≡ result }
         ensures used { self.new.used ≡ self.old.used }
         ensures bounded { length self.new.kept.bytes ≤ line_limit }

@@ -126,3 +126,20 @@ fn counts_what_is_used(rt: HostRuntime) -> Result<(), Fail> {
     assert!(rt; scanner.used() == 5 && scanner.finish());
     Ok(())
 }
+
+#[test]
+fn gives_lines_that_lie_in_the_piece(rt: HostRuntime) -> Result<(), Fail> {
+    let mut scanner = Scanner::new(rt.alloc());
+    assert!(rt; scanner.used() == 0);
+    let first = scanner.whole_line(b"ab\ncd");
+    assert!(rt; first.is_some_and(|line| line.0 == 1 && line.1 == b"ab".as_slice()));
+    assert!(rt; scanner.used() == 3 && scanner.whole_line(b"cd").is_none());
+    assert!(rt; scanner.used() == 3 && scanner.feed(b"cd")? == (2, false));
+    assert!(rt; scanner.used() == 5 && scanner.whole_line(b"\n\n").is_none());
+    assert!(rt; scanner.used() == 5 && scanner.feed(b"\n\n")? == (1, true));
+    assert!(rt; scanner.used() == 6);
+    let third = scanner.whole_line(b"\n");
+    assert!(rt; third.is_some_and(|line| line.0 == 3 && line.1.is_empty()));
+    assert!(rt; scanner.used() == 7 && !scanner.finish());
+    Ok(())
+}

@@ -1,7 +1,17 @@
 //! The parts of a line: its words, its blanks and its comment.
 
 ghost use Rattle.std.specs.Prelude.{◌≡◌, ◌≤◌, length, take, drop};
-ghost use Rattle.ssh_text.specs.Text.{is_blank, is_trailing, without_last, ends_with, skip_blanks, first_word, after_word, without_trailing, comment_of};
+ghost use Rattle.ssh_text.specs.Text.{
+  is_blank,
+  is_trailing,
+  without_last,
+  ends_with,
+  skip_blanks,
+  first_word,
+  after_word,
+  without_trailing,
+  comment_of,
+};
 
 use memchr::memchr2;
 
