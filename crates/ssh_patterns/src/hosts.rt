@@ -39,8 +39,8 @@ impl<'a> Asked for HostName<'a> {
 }
 
 /// `host_list`, and the turns of the matching loop over all its items, as `matches_counted` counts
-/// them: at most `(list.len() + 1) * (name.len() + 1)`, and no fewer than the bytes of a name that the
-/// list permits.
+/// them: at most `(list.len() + 1) * (name.len() + 1)`, and no fewer than the bytes of a name that
+/// the list permits.
 pub fn host_list_counted(list: &[u8], name: &[u8]) -> (bool, u128)
     ensures rule { IsTrue result.0 ↔ Permits (MatchesInLowerCase name.now) list.now }
     ensures value { result.0 ≡ host_list list.now name.now }
@@ -54,8 +54,9 @@ pub fn host_list_counted(list: &[u8], name: &[u8]) -> (bool, u128)
 
 /// Whether a list of host name patterns permits a name: no item after a `!` matches it, and some
 /// other item does. Items are the pieces between commas, and are compared in ASCII lower case
-/// (ssh_config(5), PATTERNS). An empty item matches the empty name alone. The matching loop takes at
-/// most `(list.len() + 1) * (name.len() + 1)` turns over all items, as `host_list_counted` counts them.
+/// (ssh_config(5), PATTERNS). An empty item matches the empty name alone. The matching loop takes
+/// at most `(list.len() + 1) * (name.len() + 1)` turns over all items, as `host_list_counted`
+/// counts them.
 pub fn host_list(list: &[u8], name: &[u8]) -> bool
     ensures rule { IsTrue result ↔ Permits (MatchesInLowerCase name.now) list.now }
     ensures value { result ≡ host_list list.now name.now }

@@ -1,7 +1,34 @@
 //! Lists: the pieces between commas, of which a `!` negates one (ssh_config(5), PATTERNS).
 
-ghost use Rattle.std.specs.Prelude.{◌≡◌, List, ℕ, Bool, IsTrue, Some, None, IfSome, if◌then◌else◌, ◌∷◌, ◌<◌, ◌≤◌, ◌+◌, ◌*◌, ◌^◌, length, option_copied, option_map};
-ghost use Rattle.ssh_patterns.specs.Lists.{Item, item_of, pieces, pieces_left, length_left, permit_of, is_yes};
+ghost use Rattle.std.specs.Prelude.{
+  ◌≡◌,
+  List,
+  ℕ,
+  Bool,
+  IsTrue,
+  Some,
+  None,
+  IfSome,
+  if◌then◌else◌,
+  ◌∷◌,
+  ◌<◌,
+  ◌≤◌,
+  ◌+◌,
+  ◌*◌,
+  ◌^◌,
+  length,
+  option_copied,
+  option_map,
+};
+ghost use Rattle.ssh_patterns.specs.Lists.{
+  Item,
+  item_of,
+  pieces,
+  pieces_left,
+  length_left,
+  permit_of,
+  is_yes,
+};
 
 use crate::permit::Permit;
 use crate::text::split_once;
@@ -23,16 +50,22 @@ pub(crate) trait Asked {
     /// Whether an item matches, and the turns that this took, or nothing where it cannot stand in
     /// such a list.
     fn judge(&self, negated: bool, item: &[u8]) -> Option<(bool, u128)>
-        ensures value { option_map (λ judged. judged.0) result ≡ (if is_bad self.now (record { negated = negated; text = item.now }) then None else Some (is_match self.now item.now)) }
-        ensures most { IfSome result (λ judged. judged.1 ≤ (length item.now + 1) * most_turns self.now) }
-        ensures least { IfSome result (λ judged. IsTrue judged.0 → least_turns self.now ≤ judged.1) };
+        ensures value { option_map (λ judged. judged.0) result
+            ≡ (if is_bad self.now (record { negated = negated; text = item.now }) then
+            None
+            else Some (is_match self.now item.now)) }
+        ensures most { IfSome result
+            (λ judged. judged.1 ≤ (length item.now + 1) * most_turns self.now) }
+        ensures least { IfSome result
+            (λ judged. IsTrue judged.0 → least_turns self.now ≤ judged.1) };
 }
 
 /// The first piece of a list, and what is left of the list after its comma.
 fn first_piece(list: &[u8]) -> (&[u8], Option<&[u8]>)
     ensures pieces { pieces list.now ≡ result.0.now ∷ pieces_left (option_copied result.1) }
     ensures shorter { IfSome result.1 (λ left. length left.now < length list.now) }
-    ensures lengths { length result.0.now + 1 + length_left (option_copied result.1) ≤ length list.now + 1 }
+    ensures lengths { length result.0.now + 1 + length_left (option_copied result.1)
+        ≤ length list.now + 1 }
 {
     match split_once(list, b",") {
         Some((piece, left)) => (piece, Some(left)),

@@ -2,7 +2,15 @@
 
 ghost use Rattle.std.specs.Prelude.{◌≡◌, ◌↔◌, IsTrue, IfOk, Ok, Err, ◌/◌, ◌%◌, ◌^◌, ◌==◌};
 ghost use Rattle.ssh_patterns.specs.Block.{Block, width, number};
-ghost use Rattle.ssh_patterns.specs.Nets.{IsNetText, HasBase, HasHostBits, LiesIn, in_net, net_of, prefix_of};
+ghost use Rattle.ssh_patterns.specs.Nets.{
+  IsNetText,
+  HasBase,
+  HasHostBits,
+  LiesIn,
+  in_net,
+  net_of,
+  prefix_of,
+};
 
 use crate::address::{Address, read_address};
 use crate::error::PatternError;

@@ -25,7 +25,8 @@ impl Case {
 
 /// What stands after a star at the front of the pattern.
 fn after_star(case: Case, pattern: &[u8]) -> Option<&[u8]>
-    ensures { option_map (λ rest. map (folded case) rest.now) result ≡ after_star (map (folded case) pattern.now) }
+    ensures { option_map (λ rest. map (folded case) rest.now) result
+        ≡ after_star (map (folded case) pattern.now) }
 {
     match pattern {
         [first, rest @ ..] if case.fold(*first) == b'*' => Some(rest),
@@ -36,7 +37,9 @@ fn after_star(case: Case, pattern: &[u8]) -> Option<&[u8]>
 /// What stands after the first bytes of the pattern and of the text, where the first is `?` or they
 /// are the same.
 fn after_byte<'p, 't>(case: Case, pattern: &'p [u8], text: &'t [u8]) -> Option<(&'p [u8], &'t [u8])>
-    ensures { option_map (λ left. (map (folded case) left.0.now, map (folded case) left.1.now)) result ≡ after_byte (map (folded case) pattern.entry.now) (map (folded case) text.entry.now) }
+    ensures { option_map (λ left. (map (folded case) left.0.now, map (folded case) left.1.now))
+        result
+        ≡ after_byte (map (folded case) pattern.entry.now) (map (folded case) text.entry.now) }
 {
     match (pattern, text) {
         ([wanted, rest @ ..], [first, others @ ..]) => {
@@ -55,7 +58,8 @@ fn after_byte<'p, 't>(case: Case, pattern: &'p [u8], text: &'t [u8]) -> Option<(
 /// loop. A star stands for no bytes at first. Where what follows it does not match, the last star
 /// stands for one byte more: an earlier one never needs to.
 pub(crate) fn matches_in(case: Case, pattern: &[u8], text: &[u8]) -> (bool, u128)
-    ensures value { result.0 ≡ is_match (map (folded case) pattern.now) (map (folded case) text.now) }
+    ensures value { result.0 ≡ is_match (map (folded case) pattern.now)
+        (map (folded case) text.now) }
     ensures most { result.1 ≤ (length pattern.now + 1) * (length text.now + 1) }
     ensures least { IsTrue result.0 → length text.now ≤ result.1 }
 {

@@ -3,7 +3,20 @@
 ghost use Rattle.std.specs.Prelude.{◌≡◌, ◌↔◌, ◌≤◌, ◌+◌, ◌*◌, ◌||◌, IsSome, length, option_copied};
 ghost use Rattle.std.specs.List.{Any};
 ghost use Rattle.ssh_patterns.specs.AddressReading.{address_of};
-ghost use Rattle.ssh_patterns.specs.Lists.{is_address, host_matches, is_match_in_lower_case, items_of, Permits, FitsSource, IsBadSource, host_length, source_list, FitsAddress, IsBadCidr, cidr_list};
+ghost use Rattle.ssh_patterns.specs.Lists.{
+  is_address,
+  host_matches,
+  is_match_in_lower_case,
+  items_of,
+  Permits,
+  FitsSource,
+  IsBadSource,
+  host_length,
+  source_list,
+  FitsAddress,
+  IsBadCidr,
+  cidr_list,
+};
 
 use crate::address::{Address, read_address};
 use crate::list::{Asked, permit};
@@ -26,7 +39,8 @@ fn is_address(item: &[u8], address: Address) -> bool
 /// this took.
 fn host_matches(host: Option<&[u8]>, pattern: &[u8]) -> (bool, u128)
     ensures value { result.0 ≡ host_matches (option_copied host.entry) pattern.now }
-    ensures most { result.1 ≤ (length pattern.now + 1) * (host_length (option_copied host.entry) + 1) }
+    ensures most { result.1 ≤ (length pattern.now + 1) *
+        (host_length (option_copied host.entry) + 1) }
 {
     match host {
         Some(host) => matches_in(Case::Lower, pattern, host),
@@ -37,8 +51,10 @@ fn host_matches(host: Option<&[u8]>, pattern: &[u8]) -> (bool, u128)
 /// Whether a host name, if one is known, or else the text of an address matches a pattern in ASCII
 /// lower case, and the turns that this took.
 fn name_matches(host: Option<&[u8]>, text: &[u8], pattern: &[u8]) -> (bool, u128)
-    ensures value { result.0 ≡ (host_matches (option_copied host.entry) pattern.now || is_match_in_lower_case text.now pattern.now) }
-    ensures most { result.1 ≤ (length pattern.now + 1) * (host_length (option_copied host.entry) + length text.now + 2) }
+    ensures value { result.0 ≡ (host_matches (option_copied host.entry) pattern.now
+        || is_match_in_lower_case text.now pattern.now) }
+    ensures most { result.1 ≤ (length pattern.now + 1) *
+        (host_length (option_copied host.entry) + length text.now + 2) }
 {
     let (on_host, turns) = host_matches(host, pattern);
     if on_host {
@@ -119,17 +135,21 @@ impl Asked for Address {
     }
 }
 
-/// `source_list`, and the turns of the matching loop over all its items, as `matches_counted` counts
-/// them: none for an item that is a net or the address, and at most
-/// `(list.len() + 1) * (host.len() + address_text.len() + 2)`, where no host counts as an empty one.
+/// `source_list`, and the turns of the matching loop over all its items, as `matches_counted`
+/// counts them: none for an item that is a net or the address, and at most `(list.len() + 1) *
+/// (host.len() + address_text.len() + 2)`, where no host counts as an empty one.
 pub fn source_list_counted(list: &[u8], host: Option<&[u8]>, address_text: &[u8]) -> (Permit, u128)
     requires { IsSome (address_of address_text.now) }
     // Some item cannot stand in such a list.
     ensures bad { (result.0 ≡ Permit.Bad) ↔ Any IsBadSource (items_of list.now) }
     // Else no negated item fits the source, and some other does.
-    ensures yes { (result.0 ≡ Permit.Yes) ↔ ((¬ Any IsBadSource (items_of list.now)) × Permits (FitsSource (record { host = option_copied host.entry; text = address_text.now })) list.now) }
+    ensures yes { (result.0 ≡ Permit.Yes) ↔ ((¬ Any IsBadSource (items_of list.now))
+        × Permits
+        (FitsSource (record { host = option_copied host.entry; text = address_text.now }))
+        list.now) }
     ensures value { result.0 ≡ source_list list.now (option_copied host.entry) address_text.now }
-    ensures most { result.1 ≤ (length list.now + 1) * (host_length (option_copied host.entry) + length address_text.now + 2) }
+    ensures most { result.1 ≤ (length list.now + 1) *
+        (host_length (option_copied host.entry) + length address_text.now + 2) }
 {
     match read_address(address_text) {
         Some(address) => permit(
@@ -156,21 +176,25 @@ pub fn source_list(list: &[u8], host: Option<&[u8]>, address_text: &[u8]) -> Per
     // Some item cannot stand in such a list.
     ensures bad { (result ≡ Permit.Bad) ↔ Any IsBadSource (items_of list.now) }
     // Else no negated item fits the source, and some other does.
-    ensures yes { (result ≡ Permit.Yes) ↔ ((¬ Any IsBadSource (items_of list.now)) × Permits (FitsSource (record { host = option_copied host.entry; text = address_text.now })) list.now) }
+    ensures yes { (result ≡ Permit.Yes) ↔ ((¬ Any IsBadSource (items_of list.now))
+        × Permits
+        (FitsSource (record { host = option_copied host.entry; text = address_text.now }))
+        list.now) }
     ensures value { result ≡ source_list list.now (option_copied host.entry) address_text.now }
 {
     source_list_counted(list, host, address_text).0
 }
 
-/// What the list of a certificate's `source-address` says of an address (PROTOCOL.certkeys): whether
-/// it is an item, or lies in the net that an item spells. It is `Bad` where an item is negated, or is
-/// neither a net nor an address (this project's rule). One pass over the list; nothing is matched as a
-/// pattern.
+/// What the list of a certificate's `source-address` says of an address (PROTOCOL.certkeys):
+/// whether it is an item, or lies in the net that an item spells. It is `Bad` where an item is
+/// negated, or is neither a net nor an address (this project's rule). One pass over the list;
+/// nothing is matched as a pattern.
 pub fn cidr_list(list: &[u8], address: &Address) -> Permit
     // Some item cannot stand in such a list.
     ensures bad { (result ≡ Permit.Bad) ↔ Any IsBadCidr (items_of list.now) }
     // Else some item fits the address.
-    ensures yes { (result ≡ Permit.Yes) ↔ ((¬ Any IsBadCidr (items_of list.now)) × Permits (FitsAddress address.now) list.now) }
+    ensures yes { (result ≡ Permit.Yes) ↔ ((¬ Any IsBadCidr (items_of list.now))
+        × Permits (FitsAddress address.now) list.now) }
     ensures value { result ≡ cidr_list list.now address.now }
 {
     permit(list, address).0

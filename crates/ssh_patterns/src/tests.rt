@@ -43,6 +43,55 @@ fn patterns(rt: HostRuntime) {
     }
 }
 
+/// The matcher as ssh_config(5) tells it: a star stands for nothing, or for a byte and what a star
+/// stands for. It goes back without a bound, and is a second opinion on short texts.
+fn matches_plainly(pattern: &[u8], text: &[u8]) -> bool {
+    match (pattern, text) {
+        ([], _) => text.is_empty(),
+        ([b'*', rest @ ..], []) => matches_plainly(rest, text),
+        ([b'*', rest @ ..], [_, others @ ..]) => {
+            matches_plainly(rest, text) || matches_plainly(pattern, others)
+        }
+        ([_, ..], []) => false,
+        ([wanted, rest @ ..], [first, others @ ..]) => {
+            (*wanted == b'?' || wanted == first) && matches_plainly(rest, others)
+        }
+    }
+}
+
+/// The word of four letters that the number tells, its last digit first.
+fn word_of(number: usize, letters: [u8; 4]) -> [u8; 4] {
+    let mut word = [0; 4];
+    let mut left = number;
+    for byte in word.iter_mut() {
+        *byte = letters[left % 4];
+        left /= 4;
+    }
+    word
+}
+
+#[test]
+fn second_opinion(rt: HostRuntime) {
+    for (p, t) in [
+        (0, 0),
+        (1, 0),
+        (1, 1),
+        (2, 1),
+        (2, 3),
+        (3, 2),
+        (3, 4),
+        (4, 2),
+        (4, 4),
+    ] {
+        for number in 0..16_384 {
+            let pattern = word_of(number, *b"a*?b");
+            let text = word_of(number / 256, *b"abba");
+            let (pattern, text) = (&pattern[..p], &text[..t]);
+            assert_eq!(rt; matches(pattern, text), matches_plainly(pattern, text));
+        }
+    }
+}
+
 #[test]
 fn turns(rt: HostRuntime) {
     let text = [b'a'; 1_000];
