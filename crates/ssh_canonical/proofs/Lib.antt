@@ -1,0 +1,4 @@
+pub mod Written
+pub mod KeyTextLemmas
+pub mod AuthLineLemmas
+pub mod KnownLineLemmas

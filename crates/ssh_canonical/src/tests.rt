@@ -1,0 +1,108 @@
+//! Worked lines, by both ways to write them.
+
+use crate::{canonical_auth_line, canonical_known_line, write_auth_line, write_known_line};
+use ssh_lines::{
+    AuthLine, AuthLineView, KeyBuffer, KnownLine, KnownLineView, read_auth_line, read_auth_view,
+    read_known_line, read_known_view,
+};
+use std::alloc::{AllocError, Global};
+use std::test::Fail;
+
+/// The base64 of an Ed25519 key of 32 zero bytes.
+const KEY: &[u8] = b"AAAAC3NzaC1lZDI1NTE5AAAAIAAAAAAAAAAAAAAAAAAAAAAAAAAAAAAAAAAAAAAAAAAA";
+
+/// What stands on a line in front of the base64, and after it.
+type Around = (&'static [u8], &'static [u8]);
+
+fn around(alloc: Global, (front, rest): Around) -> Result<Vec<u8>, AllocError> {
+    let mut line = front.to_vec(alloc)?;
+    line.extend_from_slice(KEY)?;
+    line.extend_from_slice(rest)?;
+    Ok(line)
+}
+
+#[test]
+fn writes_auth_lines(rt: HostRuntime) -> Result<(), Fail> {
+    let alloc = rt.alloc();
+    let rows: [(Around, Around); 4] = [
+        (
+            (b"  PTY,Restrict  ssh-ed25519\t", b"  me \r"),
+            (b"pty,restrict ssh-ed25519 ", b" me"),
+        ),
+        (
+            (b"NO-X11-FORWARDING,command=\"a\\\"\" ssh-ed25519 ", b""),
+            (b"no-X11-forwarding,command=\"a\\\"\" ssh-ed25519 ", b""),
+        ),
+        ((b"ssh-ed25519 ", b"\r"), (b"ssh-ed25519 ", b"")),
+        (
+            (
+                b"From=\"a b\",Environment=\"X=1\\\"\\\"\"\tssh-ed25519 ",
+                b"\tx  y",
+            ),
+            (
+                b"from=\"a b\",environment=\"X=1\\\"\\\"\" ssh-ed25519 ",
+                b" x  y",
+            ),
+        ),
+    ];
+    let mut buffer = KeyBuffer::new(alloc)?;
+    for (old, want) in rows {
+        let line = around(alloc, old)?;
+        let want = around(alloc, want)?;
+        let AuthLine::Entry(entry) = read_auth_line(alloc, &line)? else {
+            return Err(Fail::new("an entry"));
+        };
+        assert_eq!(rt;
+            canonical_auth_line(alloc, &entry)?.as_slice(),
+            want.as_slice()
+        );
+        let AuthLineView::Entry(entry) = read_auth_view(&line, &mut buffer) else {
+            return Err(Fail::new("an entry in its line"));
+        };
+        let mut out = Vec::new(alloc);
+        write_auth_line(&entry, &mut out)?;
+        assert_eq!(rt; out.as_slice(), want.as_slice());
+    }
+    Ok(())
+}
+
+#[test]
+fn writes_known_lines(rt: HostRuntime) -> Result<(), Fail> {
+    let alloc = rt.alloc();
+    let rows: [(Around, Around); 3] = [
+        ((b"h  ssh-ed25519  ", b""), (b"h ssh-ed25519 ", b"")),
+        (
+            (b"\t@cert-authority  *.A,!b\tssh-ed25519 ", b" x\r"),
+            (b"@cert-authority *.A,!b ssh-ed25519 ", b" x"),
+        ),
+        (
+            (
+                b"|1|2vVav4ZtrRlI9vZVi2rMTIUivYg=|REDDqWL/xrS5Nz1y/EZm6d7b1vw=  ssh-ed25519 ",
+                b"",
+            ),
+            (
+                b"|1|2vVav4ZtrRlI9vZVi2rMTIUivYg=|REDDqWL/xrS5Nz1y/EZm6d7b1vw= ssh-ed25519 ",
+                b"",
+            ),
+        ),
+    ];
+    let mut buffer = KeyBuffer::new(alloc)?;
+    for (old, want) in rows {
+        let line = around(alloc, old)?;
+        let want = around(alloc, want)?;
+        let KnownLine::Entry(entry) = read_known_line(alloc, &line)? else {
+            return Err(Fail::new("an entry"));
+        };
+        assert_eq!(rt;
+            canonical_known_line(alloc, &entry)?.as_slice(),
+            want.as_slice()
+        );
+        let KnownLineView::Entry(entry) = read_known_view(&line, &mut buffer) else {
+            return Err(Fail::new("an entry in its line"));
+        };
+        let mut out = Vec::new(alloc);
+        write_known_line(&entry, &mut out)?;
+        assert_eq!(rt; out.as_slice(), want.as_slice());
+    }
+    Ok(())
+}

@@ -1,0 +1,23 @@
+use Rattle.std.proofs.Common.{length, arith, sym, ap, ◌∙◌}
+use Rattle.ssh_names.proofs.ByteLemmas.{AreBytes-from}
+use Rattle.ssh_lines.specs.KnownGrammar.{known_line}
+use Rattle.ssh_rewriting.specs.CanonicalFile.{known_written, canonical_known_file}
+use Rattle.ssh_rewriting.specs.Facts.{known_facts}
+use Rattle.ssh_rewriting.proofs.FileLemmas.{file-length, file-says, file-twice}
+use Rattle.ssh_rewriting.proofs.LineLemmas.{known-kept}
+use Rattle.ssh_rewriting.proofs.rewrite.rewrite_known.Goals as goal
+
+pub returns-clause-again : goal.returns-clause-again
+returns-clause-again c =
+    let bytes = AreBytes-from c.args.file.now (λ i. omega (arith, c.type_inv.file i)) in
+    ap canonical_known_file c.in_ok-new.ensures.written ∙ file-twice known_line known_written known-kept c.args.file.now bytes ∙ sym c.in_ok-new.ensures.written
+
+pub returns-clause-facts : goal.returns-clause-facts
+returns-clause-facts c =
+    let bytes = AreBytes-from c.args.file.now (λ i. omega (arith, c.type_inv.file i)) in
+    ap known_facts c.in_ok-new.ensures.written ∙ file-says known_line known_written known-kept c.args.file.now bytes
+
+pub returns-clause-no_longer : goal.returns-clause-no_longer
+returns-clause-no_longer c =
+    let bytes = AreBytes-from c.args.file.now (λ i. omega (arith, c.type_inv.file i)) in
+    omega (arith, ap length c.in_ok-new.ensures.written, file-length known_line known_written known-kept c.args.file.now bytes)

@@ -1,0 +1,15 @@
+-- What a trust file says, line by line. A decision uses a file through its facts alone.
+use Rattle.std.specs.Prelude.{ℕ, List, map}
+use Rattle.ssh_text.specs.Text.{lines_of}
+use Rattle.ssh_lines.specs.declared.entry.AuthLine.{AuthLine}
+use Rattle.ssh_lines.specs.declared.known.KnownLine.{KnownLine}
+use Rattle.ssh_lines.specs.AuthGrammar.{auth_line}
+use Rattle.ssh_lines.specs.KnownGrammar.{known_line}
+
+-- each line's entry or first fault
+abbrev pub auth_facts : List ℕ → List AuthLine
+auth_facts file = map auth_line (lines_of file)
+
+-- each line's entry, first fault, revoked bytes, or that it may revoke any key
+abbrev pub known_facts : List ℕ → List KnownLine
+known_facts file = map known_line (lines_of file)

@@ -1,0 +1,84 @@
+//! Worked files.
+
+use crate::{FILE_LIMIT, RewriteError, rewrite_auth, rewrite_known};
+use std::alloc::{AllocError, Global};
+use std::test::Fail;
+
+/// The base64 of an Ed25519 key of 32 zero bytes.
+const KEY: &[u8] = b"AAAAC3NzaC1lZDI1NTE5AAAAIAAAAAAAAAAAAAAAAAAAAAAAAAAAAAAAAAAAAAAAAAAA";
+
+/// The text with the key in place of each `%`.
+fn with_keys(alloc: Global, text: &[u8]) -> Result<Vec<u8>, AllocError> {
+    let mut file = Vec::new(alloc);
+    for byte in text {
+        if *byte == b'%' {
+            file.extend_from_slice(KEY)?;
+        } else {
+            file.push(*byte)?;
+        }
+    }
+    Ok(file)
+}
+
+#[test]
+fn rewrites_auth_files(rt: HostRuntime) -> Result<(), Fail> {
+    let alloc = rt.alloc();
+    let rows: [(&[u8], &[u8]); 6] = [
+        (b"", b""),
+        (
+            b"  PTY,Restrict  ssh-ed25519\t%  me \r",
+            b"pty,restrict ssh-ed25519 % me\n",
+        ),
+        (
+            b"NO-X11-FORWARDING,command=\"a\\\"\" ssh-ed25519 %\n",
+            b"no-X11-forwarding,command=\"a\\\"\" ssh-ed25519 %\n",
+        ),
+        (
+            b"# x \r\n\n \t\nnosuch  ssh-ed25519 % \n",
+            b"# x \r\n\n \t\nnosuch  ssh-ed25519 % \n",
+        ),
+        (
+            b"ssh-ed25519  %\nPty\tssh-ed25519 %",
+            b"ssh-ed25519 %\npty ssh-ed25519 %\n",
+        ),
+        (b"#", b"#\n"),
+    ];
+    for (old, want) in rows {
+        let new = rewrite_auth(alloc, &with_keys(alloc, old)?)?;
+        assert_eq!(rt; new.as_slice(), with_keys(alloc, want)?.as_slice());
+        assert_eq!(rt; rewrite_auth(alloc, &new)?.as_slice(), new.as_slice());
+    }
+    Ok(())
+}
+
+#[test]
+fn rewrites_known_files(rt: HostRuntime) -> Result<(), Fail> {
+    let alloc = rt.alloc();
+    let rows: [(&[u8], &[u8]); 4] = [
+        (b"", b""),
+        (b"h  ssh-ed25519  %", b"h ssh-ed25519 %\n"),
+        (
+            b" @cert-authority\tH,*.g  ssh-ed25519 % \r\n",
+            b"@cert-authority H,*.g ssh-ed25519 %\n",
+        ),
+        (
+            b"@revoked  h ssh-ed25519 %\n@revoked  h\n#  c\r\nh,,g  ssh-ed25519 %",
+            b"@revoked  h ssh-ed25519 %\n@revoked  h\n#  c\r\nh,,g  ssh-ed25519 %\n",
+        ),
+    ];
+    for (old, want) in rows {
+        let new = rewrite_known(alloc, &with_keys(alloc, old)?)?;
+        assert_eq!(rt; new.as_slice(), with_keys(alloc, want)?.as_slice());
+        assert_eq!(rt; rewrite_known(alloc, &new)?.as_slice(), new.as_slice());
+    }
+    Ok(())
+}
+
+#[test]
+fn refuses_a_file_that_grows_past_the_limit(rt: HostRuntime) -> Result<(), Fail> {
+    let alloc = rt.alloc();
+    let file = vec![in alloc; b'#'; FILE_LIMIT]?;
+    assert!(rt; matches!(rewrite_auth(alloc, &file), Err(RewriteError::TooLong)));
+    assert!(rt; matches!(rewrite_known(alloc, &file), Err(RewriteError::TooLong)));
+    Ok(())
+}
