@@ -8,7 +8,13 @@ ghost use Rattle.ssh_keys.specs.PublicKey.{key_blob};
 ghost use Rattle.ssh_bodies.specs.PrivateKey.{PrivateBody, IsPrivateBlob, private_magic};
 ghost use Rattle.ssh_bodies.specs.PrivateFault.{IsPrivateFault};
 ghost use Rattle.ssh_bodies.specs.PrivateOf.{private_body};
-ghost use Rattle.ssh_bodies.specs.PrivateReading.{not_encrypted_at, section_start, section_at, body_at, private_in};
+ghost use Rattle.ssh_bodies.specs.PrivateReading.{
+  not_encrypted_at,
+  section_start,
+  section_at,
+  body_at,
+  private_in,
+};
 
 use crate::error::BodyError;
 use crate::private_section::{is_padding, take_private};
@@ -132,7 +138,9 @@ pub fn read_private(bytes: &[u8]) -> Result<PrivateView<'_>, BodyError>
     // What is read is a body of what is answered.
     ensures found { IfOk result (λ view. IsPrivateBlob (private_body view) bytes.now) }
     // A body, with any padding, is read as what it holds.
-    ensures only { (body : PrivateBody) → IsPrivateBlob body bytes.now → IsOkAnd result (λ view. private_body view ≡ body) }
+    ensures only { (body : PrivateBody)
+        → IsPrivateBlob body bytes.now
+        → IsOkAnd result (λ view. private_body view ≡ body) }
     // The first fault up to the private section, by the fields alone.
     ensures first { IfErr result (IsPrivateFault bytes.now) }
     // The same by reading from the left, in the private section too.

@@ -10,7 +10,14 @@ ghost use Rattle.ssh_keys.specs.View.{public_key};
 ghost use Rattle.ssh_bodies.specs.BodyReading.{positive_at};
 ghost use Rattle.ssh_bodies.specs.PrivateFrom.{private_key};
 ghost use Rattle.ssh_bodies.specs.PrivateKey.{padding};
-ghost use Rattle.ssh_bodies.specs.PrivateReading.{rsa_at, curve_at, ed25519_at, handle_at, private_at, is_padding};
+ghost use Rattle.ssh_bodies.specs.PrivateReading.{
+  rsa_at,
+  curve_at,
+  ed25519_at,
+  handle_at,
+  private_at,
+  is_padding,
+};
 ghost use Rattle.ssh_bodies.specs.PrivateParts.{rsa_numbers, on_curve, handle_of};
 
 use crate::error::BodyError;
@@ -123,7 +130,8 @@ fn take_handle<'a>(cursor: &mut Cursor<'a>) -> Result<HandlePart<'a>, BodyError>
 
 /// Whether the curve and the point are those of the public key.
 fn is_on_curve(part: &CurvePart<'_>, curve: Curve, point: &[u8]) -> bool
-    ensures { result ≡ (bytes_eq part.now.curve.now (curve_name_of curve) && bytes_eq part.now.point.now point.now) }
+    ensures { result ≡ (bytes_eq part.now.curve.now (curve_name_of curve)
+        && bytes_eq part.now.point.now point.now) }
 {
     part.curve == curve.name() && part.point == point
 }
@@ -142,7 +150,8 @@ pub(crate) fn take_private<'a>(
     public: KeyFields<'_>,
     cursor: &mut Cursor<'a>,
 ) -> Result<(PrivateFields<'a>, bool), BodyError>
-    ensures { Reads (λ k. (private_key k.0, k.1)) (private_at (public_key public.entry)) cursor.old result cursor.new }
+    ensures { Reads (λ k. (private_key k.0, k.1)) (private_at (public_key public.entry)) cursor.old
+        result cursor.new }
 {
     match public {
         KeyFields::Rsa {

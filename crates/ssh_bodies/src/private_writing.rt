@@ -1,7 +1,13 @@
 //! Writing private bodies.
 
 ghost use Rattle.std.specs.Prelude.{◌≡◌, ◌≤◌, ◌++◌, ℕ, length, take, OnOk, OnErr};
-ghost use Rattle.ssh_bodies.specs.PrivateKey.{IsPrivateBody, IsPrivateBlob, IsPadded, least_padding, private_blob};
+ghost use Rattle.ssh_bodies.specs.PrivateKey.{
+  IsPrivateBody,
+  IsPrivateBlob,
+  IsPadded,
+  least_padding,
+  private_blob,
+};
 ghost use Rattle.ssh_bodies.specs.PrivateOf.{private_body};
 
 use crate::private::{NO_OPTIONS, NONE, PRIVATE_MAGIC};
@@ -13,11 +19,14 @@ use std::alloc::AllocError;
 /// has a body of at most 262,144 bytes, as `read_private` gives. An `Err` changes nothing.
 pub fn write_private(view: &PrivateView<'_>, out: &mut Vec<u8>) -> Result<(), AllocError>
     requires { IsPrivateBody (private_body view.now) }
-    ensures ok { OnOk result (out.new.items ≡ out.old.items ++ private_blob (private_body view.now)) }
+    ensures ok { OnOk result
+        (out.new.items ≡ out.old.items ++ private_blob (private_body view.now)) }
     // What is written is a body of this value, so that it is read back.
     ensures is_body { IsPrivateBlob (private_body view.now) (private_blob (private_body view.now)) }
     // No fewer bytes of padding make the private section a multiple of 8.
-    ensures least { (count : ℕ) → IsPadded (private_body view.now) count → least_padding (private_body view.now) ≤ count }
+    ensures least { (count : ℕ)
+        → IsPadded (private_body view.now) count
+        → least_padding (private_body view.now) ≤ count }
     ensures err { OnErr result (out.new.items ≡ out.old.items) }
 {
     let start = out.len();
@@ -31,7 +40,8 @@ pub fn write_private(view: &PrivateView<'_>, out: &mut Vec<u8>) -> Result<(), Al
 /// Writes a body at the end. After an `Err` a part of it may stand there.
 fn put_body(view: &PrivateView<'_>, out: &mut Vec<u8>) -> Result<(), AllocError>
     requires { IsPrivateBody (private_body view.now) }
-    ensures ok { OnOk result (out.new.items ≡ out.old.items ++ private_blob (private_body view.now)) }
+    ensures ok { OnOk result
+        (out.new.items ≡ out.old.items ++ private_blob (private_body view.now)) }
     ensures err { OnErr result (take (length out.old.items) out.new.items ≡ out.old.items) }
 {
     let padding = (8 - view.section.len() % 8) % 8;

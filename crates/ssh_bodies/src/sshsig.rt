@@ -22,8 +22,10 @@ pub(crate) const SSHSIG_MAGIC: &[u8] = b"SSHSIG";
 /// Takes the signature, and gives its blob too.
 #[tactic(auto, unfolding(crate::specs::SshsigReading::signature_at))]
 fn take_signature<'a>(cursor: &mut Cursor<'a>) -> Result<(SignatureView<'a>, &'a [u8]), BodyError>
-    ensures exact { Reads (λ signature. signature_of signature.0) signature_at cursor.old result cursor.new }
-    ensures spelled { IfOk result (λ signature. signature.1.now ≡ spelled_signature (signature_of signature.0)) }
+    ensures exact { Reads (λ signature. signature_of signature.0) signature_at cursor.old result
+        cursor.new }
+    ensures spelled { IfOk result
+        (λ signature. signature.1.now ≡ spelled_signature (signature_of signature.0)) }
 {
     let blob = cursor.take_string()?;
     let first = cursor.place() - blob.len();
@@ -86,7 +88,9 @@ pub fn read_sshsig(bytes: &[u8]) -> Result<SshsigView<'_>, BodyError>
     // What is read is the body of the file signature.
     ensures found { IfOk result (λ view. IsSshsigBlob (sshsig_of view) bytes.now) }
     // The body of a file signature is read as that one.
-    ensures only { (value : Sshsig) → IsSshsigBlob value bytes.now → IsOkAnd result (λ view. sshsig_of view ≡ value) }
+    ensures only { (value : Sshsig)
+        → IsSshsigBlob value bytes.now
+        → IsOkAnd result (λ view. sshsig_of view ≡ value) }
     // The first fault, by the fields alone.
     ensures first { IfErr result (IsSshsigFault bytes.now) }
     // The same by reading from the left.

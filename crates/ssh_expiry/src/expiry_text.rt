@@ -3,7 +3,14 @@
 ghost use Rattle.std.specs.Prelude.{◌≡◌, ◌≤◌, ◌≤ℤ◌, pos, drop, is_some, IfSome, IsTrue};
 ghost use Rattle.std.specs.List.{list_all};
 ghost use Rattle.std.specs.Char.{is_ascii_digit, digit_value};
-ghost use Rattle.ssh_expiry.specs.Expiry.{number_at, year_of, has_form, is_civil_text, is_expiry_text, IsShown};
+ghost use Rattle.ssh_expiry.specs.Expiry.{
+  number_at,
+  year_of,
+  has_form,
+  is_civil_text,
+  is_expiry_text,
+  IsShown,
+};
 
 use jiff::civil::DateTime;
 use ssh_text::without_last;
@@ -82,8 +89,8 @@ pub(crate) fn read_civil(digits: &[u8]) -> Option<DateTime>
     DateTime::new(year(digits), month, day, hour, minute, second, 0).ok()
 }
 
-/// Whether the text is an expiry time (sshd(8), expiry-time): 8, 12 or 14 digits for a date and a time
-/// of day that exist, and an optional `Z`.
+/// Whether the text is an expiry time (sshd(8), expiry-time): 8, 12 or 14 digits for a date and a
+/// time of day that exist, and an optional `Z`.
 #[tactic(auto, unfolding(crate::specs::Expiry::is_expiry_text))]
 pub fn is_expiry_text(text: &[u8]) -> bool
     ensures { result ≡ is_expiry_text text.now }

@@ -1,8 +1,23 @@
 //! The moment of an expiry time.
 
 ghost use Rattle.std.specs.Prelude.{◌≡◌, pos, neg_ℤ, ◌-ℤ◌, ℤ, IfOk, IfSome, is_some, Ok, Some};
-ghost use Rattle.jiff.specs.Words.{plain_zone, civil_nanos, civil_seconds, ambiguous_at, compatible_offset, IsWithin, IsBetween};
-ghost use Rattle.ssh_expiry.specs.Expiry.{IsMoment, IsShown, without_z, is_expiry_text, is_utc, offset_seconds};
+ghost use Rattle.jiff.specs.Words.{
+  plain_zone,
+  civil_nanos,
+  civil_seconds,
+  ambiguous_at,
+  compatible_offset,
+  IsWithin,
+  IsBetween,
+};
+ghost use Rattle.ssh_expiry.specs.Expiry.{
+  IsMoment,
+  IsShown,
+  without_z,
+  is_expiry_text,
+  is_utc,
+  offset_seconds,
+};
 ghost use Rattle.ssh_expiry.specs.Moment.{moment_of};
 
 use crate::expiry_text::read_civil;
@@ -56,15 +71,18 @@ fn offset_of(text: &[u8], zone: &TimeZone<'_>, shown: DateTime) -> i64
 
 /// The moment of an expiry text (sshd(8), expiry-time), in seconds from the start of 1970 in UTC:
 /// `YYYYMMDD`, `YYYYMMDDHHMM` or `YYYYMMDDHHMMSS` and an optional `Z`, for a date and a time of day
-/// that exist. With `Z` it is read in UTC, else in the zone: a fold takes the earlier instant, a gap
-/// the offset before it, and in the year 9999 UTC is used. Any other text has no moment.
+/// that exist. With `Z` it is read in UTC, else in the zone: a fold takes the earlier instant, a
+/// gap the offset before it, and in the year 9999 UTC is used. Any other text has no moment.
 pub fn expiry(_alloc: Global, text: &[u8], zone: &TimeZone<'_>) -> Result<Option<i64>, AllocError>
     // The moment, or none.
     ensures exact { result ≡ Ok (moment_of text.now (plain_zone zone.now)) }
     // What is answered is the moment that the text says.
-    ensures found { IfOk result (λ moment. IfSome moment (IsMoment text.now (plain_zone zone.now))) }
+    ensures found { IfOk result
+        (λ moment. IfSome moment (IsMoment text.now (plain_zone zone.now))) }
     // The moment that the text says is answered.
-    ensures only { (moment : ℤ) → IsMoment text.now (plain_zone zone.now) moment → result ≡ Ok (Some moment) }
+    ensures only { (moment : ℤ)
+        → IsMoment text.now (plain_zone zone.now) moment
+        → result ≡ Ok (Some moment) }
     // Each text of the form has one.
     ensures some { IfOk result (λ moment. is_some moment ≡ is_expiry_text text.now) }
 {

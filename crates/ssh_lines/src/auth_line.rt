@@ -40,13 +40,15 @@ fn read_line(alloc: Global, line: &[u8]) -> Result<AuthLine, AllocError>
 }
 
 /// What a line of an authorized_keys file says (sshd(8), AUTHORIZED_KEYS FILE FORMAT). The line is
-/// given without its LF; one CR at its end counts for nothing. `Err` means out of memory, and nothing
-/// else.
+/// given without its LF; one CR at its end counts for nothing. `Err` means out of memory, and
+/// nothing else.
 pub fn read_auth_line(alloc: Global, line: &[u8]) -> Result<AuthLine, AllocError>
     // An entry that is read is one that the line spells.
-    ensures found { IfOk result (λ read. (entry : AuthEntry) → read ≡ AuthLine.Entry entry → SpellsEntry entry line.now) }
+    ensures found { IfOk result
+        (λ read. (entry : AuthEntry) → read ≡ AuthLine.Entry entry → SpellsEntry entry line.now) }
     // An entry that the line spells is the one that is read.
-    ensures only { IfOk result (λ read. (entry : AuthEntry) → SpellsEntry entry line.now → read ≡ AuthLine.Entry entry) }
+    ensures only { IfOk result
+        (λ read. (entry : AuthEntry) → SpellsEntry entry line.now → read ≡ AuthLine.Entry entry) }
     // Else the line is blank, a comment, or has this first fault.
     ensures exact { IfOk result (λ read. read ≡ auth_line line.now) }
 {

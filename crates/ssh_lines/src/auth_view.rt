@@ -25,7 +25,8 @@ impl<'a> Model for AuthEntryView<'a> {
 
     ghost Value = { AuthEntry };
 
-    ghost view = { λ v. record { options = v.options; key = v.part.key; comment = v.part.comment } };
+    ghost view = { λ v.
+        record { options = v.options; key = v.part.key; comment = v.part.comment } };
 }
 
 impl<'a> AuthEntryView<'a> {

@@ -7,7 +7,8 @@ use std::alloc::{AllocError, Global};
 /// The most bytes that the base64 of a line can stand for.
 const BUFFER_LEN: usize = 49_152;
 
-/// A buffer that the keys of lines are decoded into, one after the other. What it holds is of no account.
+/// A buffer that the keys of lines are decoded into, one after the other. What it holds is of no
+/// account.
 #[derive(Debug, Drop)]
 pub struct KeyBuffer {
     bytes: Vec<u8>,

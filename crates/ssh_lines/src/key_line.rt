@@ -26,8 +26,8 @@ pub(crate) fn split_fields(text: &[u8]) -> (&[u8], &[u8], &[u8])
 }
 
 /// The type, the base64 and the comment of a line of any length, such as a public key file has
-/// (sshd(8)). Blanks in front and one CR at the end count for nothing, and the comment ends before the
-/// spaces, tabs and CRs at the end. What the fields say is not looked at.
+/// (sshd(8)). Blanks in front and one CR at the end count for nothing, and the comment ends before
+/// the spaces, tabs and CRs at the end. What the fields say is not looked at.
 pub fn key_text(line: &[u8]) -> KeyText<'_>
     ensures type_name { result.type_name.now ≡ type_field line.now }
     ensures base64 { result.base64.now ≡ base64_field line.now }

@@ -11,14 +11,22 @@ ghost use Rattle.ssh_lines.specs.KnownGrammar.{Blind, RevokesBytes, SpellsKnown,
 
 /// A line spells at most one entry, and says an entry exactly if it spells that entry.
 pub fn entry_rule()
-    ensures one { (a b : AuthEntry) (line : List ℕ) → SpellsEntry a line → SpellsEntry b line → a ≡ b }
-    ensures read { (entry : AuthEntry) (line : List ℕ) → SpellsEntry entry line → auth_line line ≡ Entry entry }
-    ensures spelled { (line : List ℕ) (entry : AuthEntry) → AllByRecursion (λ c. c < 256) line → auth_line line ≡ Entry entry → SpellsEntry entry line }
+    ensures one { (a b : AuthEntry) (line : List ℕ)
+        → SpellsEntry a line
+        → SpellsEntry b line
+        → a ≡ b }
+    ensures read { (entry : AuthEntry) (line : List ℕ)
+        → SpellsEntry entry line
+        → auth_line line ≡ Entry entry }
+    ensures spelled { (line : List ℕ) (entry : AuthEntry)
+        → AllByRecursion (λ c. c < 256) line
+        → auth_line line ≡ Entry entry
+        → SpellsEntry entry line }
 {}
 
-/// A known_hosts line spells at most one entry, and says an entry exactly if it spells that entry. It
-/// says that it revokes bytes exactly if it revokes them, and that it may revoke any key exactly if it
-/// may.
+/// A known_hosts line spells at most one entry, and says an entry exactly if it spells that entry.
+/// It says that it revokes bytes exactly if it revokes them, and that it may revoke any key exactly
+/// if it may.
 pub fn known_rule()
     ensures one { (a b : KnownEntry) (line : List ℕ) →
         SpellsKnown a line → SpellsKnown b line → a ≡ b }

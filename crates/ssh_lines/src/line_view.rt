@@ -71,14 +71,18 @@ fn view_line<'a>(line: &'a [u8], buffer: &'a mut [u8]) -> AuthLineView<'a>
     }
 }
 
-/// What a line of an authorized_keys file says (sshd(8), AUTHORIZED_KEYS FILE FORMAT), in the line. The
-/// line is given without its LF; one CR at its end counts for nothing. The key is decoded into the
-/// buffer.
+/// What a line of an authorized_keys file says (sshd(8), AUTHORIZED_KEYS FILE FORMAT), in the line.
+/// The line is given without its LF; one CR at its end counts for nothing. The key is decoded into
+/// the buffer.
 pub fn read_auth_view<'a>(line: &'a [u8], buffer: &'a mut KeyBuffer) -> AuthLineView<'a>
     // An entry that is read is one that the line spells.
-    ensures found { (entry : AuthEntry) → line_seen result ≡ AuthLine.Entry entry → SpellsEntry entry line.entry.now }
+    ensures found { (entry : AuthEntry)
+        → line_seen result ≡ AuthLine.Entry entry
+        → SpellsEntry entry line.entry.now }
     // An entry that the line spells is the one that is read.
-    ensures only { (entry : AuthEntry) → SpellsEntry entry line.entry.now → line_seen result ≡ AuthLine.Entry entry }
+    ensures only { (entry : AuthEntry)
+        → SpellsEntry entry line.entry.now
+        → line_seen result ≡ AuthLine.Entry entry }
     // Else the line is blank, a comment, or has this first fault.
     ensures exact { line_seen result ≡ auth_line line.entry.now }
 {

@@ -1,8 +1,18 @@
 //! Worked examples of the definitions. No call needs these functions: the check proves what they
 //! ensure.
 
-ghost use Rattle.ssh_lines.specs.KnownSamples.{KnownSamplesRead, KnownFaultsRead, LongKnownLinesRead, RevocationsRead};
-ghost use Rattle.ssh_lines.specs.Samples.{EntrySamplesRead, OptionFaultsRead, KeyFaultsRead, LongLinesRead};
+ghost use Rattle.ssh_lines.specs.KnownSamples.{
+  KnownSamplesRead,
+  KnownFaultsRead,
+  LongKnownLinesRead,
+  RevocationsRead,
+};
+ghost use Rattle.ssh_lines.specs.Samples.{
+  EntrySamplesRead,
+  OptionFaultsRead,
+  KeyFaultsRead,
+  LongLinesRead,
+};
 
 /// Lines, as the definitions read them.
 fn lines_as_read()

@@ -2,7 +2,14 @@
 
 ghost use Rattle.std.specs.Prelude.{◌≡◌, IfOk, length, option_copied, codes, option_map};
 ghost use Rattle.ssh_patterns.specs.Cut.{after_mark};
-ghost use Rattle.ssh_names.specs.Names.{SpellsNames, base64, hashed_field, hashed_of, hidden, twenty_bytes_of};
+ghost use Rattle.ssh_names.specs.Names.{
+  SpellsNames,
+  base64,
+  hashed_field,
+  hashed_of,
+  hidden,
+  twenty_bytes_of,
+};
 
 use crate::hmac::hmac_sha1;
 use base64::engine::general_purpose::STANDARD;

@@ -3,7 +3,17 @@
 ghost use Rattle.std.specs.Prelude.{◌≡◌, ◌↔◌, IsTrue, IfErr, IfOk, Ok};
 ghost use Rattle.ssh_patterns.specs.Lists.{item_of};
 ghost use Rattle.ssh_patterns.specs.Matching.{is_empty};
-ghost use Rattle.ssh_names.specs.Names.{IsNamesFault, Names, NamesHost, SpellsNames, begins_with_bar, has_empty_item, names_host, names_of, names_text};
+ghost use Rattle.ssh_names.specs.Names.{
+  IsNamesFault,
+  Names,
+  NamesHost,
+  SpellsNames,
+  begins_with_bar,
+  has_empty_item,
+  names_host,
+  names_of,
+  names_text,
+};
 
 use crate::fault::NamesFault;
 use crate::hashed::{HashedName, read_hashed};
@@ -96,10 +106,10 @@ fn view_names(field: &[u8]) -> Result<HostNames<'_>, NamesFault>
     })
 }
 
-/// The names that a field of a known_hosts line spells: `|1|`, the base64 of a salt of 20 bytes, `|`
-/// and the base64 of a hash of 20 bytes, or a list of patterns with commas between them, which does
-/// not begin with `|` and of which no item is empty (sshd(8), SSH_KNOWN_HOSTS FILE FORMAT; the empty
-/// item is refused by this project's rule). No memory is taken.
+/// The names that a field of a known_hosts line spells: `|1|`, the base64 of a salt of 20 bytes,
+/// `|` and the base64 of a hash of 20 bytes, or a list of patterns with commas between them, which
+/// does not begin with `|` and of which no item is empty (sshd(8), SSH_KNOWN_HOSTS FILE FORMAT; the
+/// empty item is refused by this project's rule). No memory is taken.
 pub fn read_names(field: &[u8]) -> Result<HostNames<'_>, NamesFault>
     // Names that are read are those that the field spells.
     ensures found { IfOk result (λ names. SpellsNames names field.now) }

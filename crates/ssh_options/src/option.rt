@@ -1,7 +1,18 @@
 //! The options of an authorized_keys line.
 
 ghost use Rattle.std.specs.Prelude.{◌≡◌, Some, option_map, map};
-ghost use Rattle.ssh_options.specs.OptionNames.{options, row_of, row_named, option_named, flag_name, flag_named, value_name, value_named, is_single, same_name};
+ghost use Rattle.ssh_options.specs.OptionNames.{
+  options,
+  row_of,
+  row_named,
+  option_named,
+  flag_name,
+  flag_named,
+  value_name,
+  value_named,
+  is_single,
+  same_name,
+};
 ghost use Rattle.ssh_options.specs.OptionTexts.{table_row};
 
 use OptionName::{Setting, Switch};
@@ -62,7 +73,8 @@ pub(crate) enum Times {
     Any,
 }
 
-/// A row of the list of options: a name, what it stands for, and how often that may stand in a line.
+/// A row of the list of options: a name, what it stands for, and how often that may stand in a
+/// line.
 type Row = (&'static [u8], OptionName, Times);
 
 /// The options, as sshd(8) lists and spells them. What may stand once is this project's rule.

@@ -4,7 +4,12 @@ ghost use Rattle.std.specs.Prelude.{◌≡◌};
 ghost use Rattle.ssh_options.specs.OptionText.{option_of, options_of};
 ghost use Rattle.ssh_options.specs.OptionTexts.{plain_item};
 ghost use Rattle.ssh_options.specs.OptionsInLine.{option_in_line};
-ghost use Rattle.ssh_options.specs.OptionsInPlace.{and_read_seen, and_seen, and_item_seen, fault_in};
+ghost use Rattle.ssh_options.specs.OptionsInPlace.{
+  and_read_seen,
+  and_seen,
+  and_item_seen,
+  fault_in,
+};
 
 use crate::cause::LineCause;
 use crate::option::ValueName;

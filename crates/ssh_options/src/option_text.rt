@@ -1,8 +1,30 @@
 //! The text of options: where it ends, its items, and an item's name and value.
 
-ghost use Rattle.std.specs.Prelude.{◌≡◌, ◌≤◌, length, take, drop, false, IfOk, option_map, option_copied};
+ghost use Rattle.std.specs.Prelude.{
+  ◌≡◌,
+  ◌≤◌,
+  length,
+  take,
+  drop,
+  false,
+  IfOk,
+  option_map,
+  option_copied,
+};
 ghost use Rattle.std.specs.Iterator.{YieldsFirstRef, item_count};
-ghost use Rattle.ssh_options.specs.OptionText.{option_text_of, items_of, is_name_byte, name_part, after_name, begins_with_quote, closed_by_quote, unescaped, value_of, item_of, is_open_quote};
+ghost use Rattle.ssh_options.specs.OptionText.{
+  option_text_of,
+  items_of,
+  is_name_byte,
+  name_part,
+  after_name,
+  begins_with_quote,
+  closed_by_quote,
+  unescaped,
+  value_of,
+  item_of,
+  is_open_quote,
+};
 ghost use Rattle.ssh_options.specs.OptionTexts.{AreCut, texts_left, plain_item};
 
 use ssh_text::{Bytes, is_blank};
@@ -139,7 +161,8 @@ fn before_quote(text: &[u8]) -> Option<&[u8]>
 
 /// The value that follows a name: none, or what stands between `="` and a closing quote.
 fn read_value(text: &[u8]) -> Option<Option<&[u8]>>
-    ensures { option_map (λ value. option_map unescaped (option_copied value)) result ≡ value_of text.now }
+    ensures { option_map (λ value. option_map unescaped (option_copied value)) result
+        ≡ value_of text.now }
 {
     match text {
         [] => Some(None),

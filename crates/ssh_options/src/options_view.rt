@@ -33,7 +33,9 @@ impl<'a> Model for OptionsView<'a> {
 
     ghost view = { λ o. options_in (texts_left (option_copied o.rest)) };
 
-    ghost invariant = { λ o. each_option (texts_left (option_copied o.rest)) ≡ Some (options_in (texts_left (option_copied o.rest))) };
+    ghost invariant = { λ o.
+        each_option (texts_left (option_copied o.rest))
+        ≡ Some (options_in (texts_left (option_copied o.rest))) };
 }
 
 /// The option of an item, if it is one.
@@ -128,8 +130,8 @@ fn has_flag(flag: Flag, options: OptionsView<'_>) -> bool
     false
 }
 
-/// The values of the options with one name, in their line and in their order. Contracts see those that
-/// are left.
+/// The values of the options with one name, in their line and in their order. Contracts see those
+/// that are left.
 #[derive(Debug, Drop)]
 pub struct SettingViews<'a> {
     name: ValueName,

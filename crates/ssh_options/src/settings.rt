@@ -51,7 +51,8 @@ impl<'a> Iterator for Settings<'a> {
 
 /// The first value of the options with this name, and the options after it.
 fn next_value(name: ValueName, options: &[AuthOption]) -> Option<(&[u8], &[AuthOption])>
-    ensures { MatchOption result (settings name options.now ≡ []) (λ found. settings name options.now ≡ found.0.now ∷ settings name found.1.now) }
+    ensures { MatchOption result (settings name options.now ≡ [])
+        (λ found. settings name options.now ≡ found.0.now ∷ settings name found.1.now) }
 {
     for (i, option) in options.iter().enumerate() {
         if let AuthOption::Setting(other, value) = option

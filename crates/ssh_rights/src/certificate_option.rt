@@ -7,7 +7,15 @@ ghost use Rattle.ssh_wire.specs.Position.{start};
 ghost use Rattle.ssh_wire.specs.Reading.{Gives};
 ghost use Rattle.ssh_certs.specs.CertificateOf.{certificate_of};
 ghost use Rattle.ssh_certs.specs.Left.{options_left};
-ghost use Rattle.ssh_rights.specs.CertificateOptions.{forced_by_certificate, has_empty_option, has_option, one_string, option_in, text_in, whole_string_at};
+ghost use Rattle.ssh_rights.specs.CertificateOptions.{
+  forced_by_certificate,
+  has_empty_option,
+  has_option,
+  one_string,
+  option_in,
+  text_in,
+  whole_string_at,
+};
 
 use ssh_certs::{CertOptions, CertView};
 use ssh_wire::{Cursor, WireError};

@@ -1,5 +1,5 @@
-//! What a login that a line admits may do, and what its security key has to show; what the options of a
-//! certificate say.
+//! What a login that a line admits may do, and what its security key has to show; what the options
+//! of a certificate say.
 #![tactic(auto)]
 
 mod certificate_option;

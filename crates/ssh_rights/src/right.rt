@@ -3,7 +3,15 @@
 ghost use Rattle.std.specs.Prelude.{◌≡◌};
 ghost use Rattle.ssh_lines.specs.OptionsInLine.{option_in_line};
 ghost use Rattle.ssh_offers.specs.OfferView.{offer_of};
-ghost use Rattle.ssh_rights.specs.Rights.{effect_on, has_right, is_on, permit_name, permits, turns_off, turns_on};
+ghost use Rattle.ssh_rights.specs.Rights.{
+  effect_on,
+  has_right,
+  is_on,
+  permit_name,
+  permits,
+  turns_off,
+  turns_on,
+};
 
 use crate::certificate_option::has_empty_option;
 use ssh_lines::{Flag, OptionView, OptionsView};

@@ -5,7 +5,14 @@ ghost use Rattle.ssh_lines.specs.OptionsInLine.{option_in_line};
 ghost use Rattle.ssh_lines.specs.Settings.{setting};
 ghost use Rattle.ssh_options.specs.declared.option.ValueName.TheVariants.{Command};
 ghost use Rattle.ssh_offers.specs.OfferView.{offer_of};
-ghost use Rattle.ssh_rights.specs.Rights.{carried_name, carried_of, carried_texts, command_of, forced_by_offer, rights_of};
+ghost use Rattle.ssh_rights.specs.Rights.{
+  carried_name,
+  carried_of,
+  carried_texts,
+  command_of,
+  forced_by_offer,
+  rights_of,
+};
 
 use crate::certificate_option::forced_command;
 use crate::right::Right;
@@ -68,7 +75,8 @@ fn carry(
     carried: &mut Vec<Carried>,
     option: &OptionView<'_>,
 ) -> Result<(), AllocError>
-    ensures { OnOk result (carried.new.items ≡ carried.old.items ++ carried_of (option_in_line option.now)) }
+    ensures { OnOk result
+        (carried.new.items ≡ carried.old.items ++ carried_of (option_in_line option.now)) }
 {
     if let OptionView::Setting(name, value) = option
         && let Some(name) = carried_name(*name)
@@ -142,8 +150,9 @@ fn command(
     }
 }
 
-/// What a login by this line and this offer may do: the rights that the line leaves and a certificate
-/// gives, the forced command, and the texts that are carried on. `Err` is out of memory.
+/// What a login by this line and this offer may do: the rights that the line leaves and a
+/// certificate gives, the forced command, and the texts that are carried on. `Err` is out of
+/// memory.
 #[tactic(auto, unfolding(crate::specs::Rights::rights_of))]
 pub fn rights_of(
     alloc: Global,

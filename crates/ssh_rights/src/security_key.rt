@@ -3,7 +3,14 @@
 ghost use Rattle.std.specs.Prelude.{◌≡◌};
 ghost use Rattle.ssh_offers.specs.OfferView.{offer_of};
 ghost use Rattle.ssh_offers.specs.ClaimViews.{claim_of};
-ghost use Rattle.ssh_rights.specs.SecurityKeys.{has_sk_flag, is_present, is_touch_waived, is_touched, is_verification_asked, is_verified};
+ghost use Rattle.ssh_rights.specs.SecurityKeys.{
+  has_sk_flag,
+  is_present,
+  is_touch_waived,
+  is_touched,
+  is_verification_asked,
+  is_verified,
+};
 
 use crate::certificate_option::{VERIFY_REQUIRED, has_empty_option, has_option};
 use ssh_lines::{AuthEntryView, Flag};
@@ -51,10 +58,11 @@ fn is_verification_asked(offer: &Offer<'_>) -> bool
     }
 }
 
-/// Whether a security key was touched, where it has to be: not where the line says that it need not,
-/// and the certificate, if one is offered, says so too.
+/// Whether a security key was touched, where it has to be: not where the line says that it need
+/// not, and the certificate, if one is offered, says so too.
 pub fn is_touched(entry: &AuthEntryView<'_>, claim: &LoginClaimView<'_>) -> bool
-    ensures { result ≡ is_touched entry.now.options (claim_of claim.now).offer (claim_of claim.now).signature }
+    ensures { result ≡ is_touched entry.now.options (claim_of claim.now).offer
+        (claim_of claim.now).signature }
 {
     is_present(claim.signature.sk)
         || (entry.has_flag(Flag::NoTouchRequired) && is_touch_waived(&claim.offer))
@@ -62,7 +70,8 @@ pub fn is_touched(entry: &AuthEntryView<'_>, claim: &LoginClaimView<'_>) -> bool
 
 /// Whether a security key verified the user, where the line or the certificate asks for it.
 pub fn is_verified(entry: &AuthEntryView<'_>, claim: &LoginClaimView<'_>) -> bool
-    ensures { result ≡ is_verified entry.now.options (claim_of claim.now).offer (claim_of claim.now).signature }
+    ensures { result ≡ is_verified entry.now.options (claim_of claim.now).offer
+        (claim_of claim.now).signature }
 {
     let wanted = entry.has_flag(Flag::VerifyRequired) || is_verification_asked(&claim.offer);
     !wanted || has_sk_flag(USER_VERIFIED, claim.signature.sk)

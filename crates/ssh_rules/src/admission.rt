@@ -6,7 +6,19 @@ ghost use Rattle.ssh_options.specs.declared.option.ValueName.TheVariants.{Expiry
 ghost use Rattle.ssh_lines.specs.Settings.{setting, settings};
 ghost use Rattle.ssh_rules.specs.CertificateRules.{serves};
 ghost use Rattle.ssh_rules.specs.Obstacles.{first_obstacle};
-ghost use Rattle.ssh_rules.specs.Admission.{certificate_obstacle, commands_differ, critical_rows, is_expired, is_past, is_past_time, line_rows, line_source, login_obstacle, offer_obstacle, user_force_rows};
+ghost use Rattle.ssh_rules.specs.Admission.{
+  certificate_obstacle,
+  commands_differ,
+  critical_rows,
+  is_expired,
+  is_past,
+  is_past_time,
+  line_rows,
+  line_source,
+  login_obstacle,
+  offer_obstacle,
+  user_force_rows,
+};
 ghost use Rattle.ssh_offers.specs.Query.{login_of};
 ghost use Rattle.ssh_offers.specs.OfferView.{offer_of};
 ghost use Rattle.ssh_offers.specs.ClaimViews.{claim_of};
@@ -61,7 +73,8 @@ fn is_expired(
     entry: &AuthEntryView<'_>,
     claim: &LoginClaimView<'_>,
 ) -> Result<bool, AllocError>
-    ensures { IfOk result (λ expired. expired ≡ is_expired (claim_of claim.now).query (settings ExpiryTime entry.now.options)) }
+    ensures { IfOk result (λ expired.
+        expired ≡ is_expired (claim_of claim.now).query (settings ExpiryTime entry.now.options)) }
 {
     for value in entry.expiry_texts() {
         if is_past_time(alloc, &value, claim)? {
@@ -108,15 +121,17 @@ fn line_obstacle(
     Ok(permit_obstacle(Reason::SourceBad, Reason::SourceRefused, source))
 }
 
-/// Whether the certificate is for a principal that is asked for: one of the line's list, or without a
-/// list the user.
+/// Whether the certificate is for a principal that is asked for: one of the line's list, or without
+/// a list the user.
 fn has_served_principal(
     alloc: Global,
     entry: &AuthEntryView<'_>,
     claim: &LoginClaimView<'_>,
     certificate: &CertView<'_>,
 ) -> Result<bool, AllocError>
-    ensures { IfOk result (λ served. served ≡ serves (setting Principals entry.now.options) (claim_of claim.now).query.user (certificate_of certificate.now)) }
+    ensures { IfOk result (λ served.
+        served ≡ serves (setting Principals entry.now.options) (claim_of claim.now).query.user
+        (certificate_of certificate.now)) }
 {
     match entry.settings(ValueName::Principals).next() {
         None => Ok(serves(certificate, claim.query.user)),
@@ -134,7 +149,9 @@ fn force_obstacle(
     claim: &LoginClaimView<'_>,
     certificate: &CertView<'_>,
 ) -> Result<Option<Obstacle>, AllocError>
-    ensures { IfOk result (λ o. o ≡ first_obstacle (user_force_rows entry.now (claim_of claim.now).query (certificate_of certificate.now))) }
+    ensures { IfOk result (λ o.
+        o ≡ first_obstacle (user_force_rows entry.now (claim_of claim.now).query
+        (certificate_of certificate.now))) }
 {
     if let Some(obstacle) = period_obstacle(USER_CERTIFICATE, claim.query.now, certificate) {
         return Ok(Some(obstacle));
@@ -160,7 +177,9 @@ fn critical_obstacle(
     claim: &LoginClaimView<'_>,
     certificate: &CertView<'_>,
 ) -> Result<Option<Obstacle>, AllocError>
-    ensures { IfOk result (λ o. o ≡ first_obstacle (critical_rows entry.now (claim_of claim.now).address (certificate_of certificate.now))) }
+    ensures { IfOk result (λ o.
+        o ≡ first_obstacle (critical_rows entry.now (claim_of claim.now).address
+        (certificate_of certificate.now))) }
 {
     if let Some(obstacle) = unknown_obstacle(alloc, first_unknown(certificate.critical()))? {
         return Ok(Some(obstacle));
@@ -192,7 +211,8 @@ fn certificate_obstacle(
     claim: &LoginClaimView<'_>,
     certificate: &CertView<'_>,
 ) -> Result<Option<Obstacle>, AllocError>
-    ensures { IfOk result (λ o. o ≡ certificate_obstacle entry.now (claim_of claim.now) (certificate_of certificate.now)) }
+    ensures { IfOk result (λ o.
+        o ≡ certificate_obstacle entry.now (claim_of claim.now) (certificate_of certificate.now)) }
 {
     if let Some(obstacle) = force_obstacle(alloc, entry, claim, certificate)? {
         return Ok(Some(obstacle));
@@ -206,7 +226,8 @@ fn offer_obstacle(
     entry: &AuthEntryView<'_>,
     claim: &LoginClaimView<'_>,
 ) -> Result<Option<Obstacle>, AllocError>
-    ensures { IfOk result (λ o. o ≡ offer_obstacle entry.now (claim_of claim.now) (offer_of claim.now.offer)) }
+    ensures { IfOk result
+        (λ o. o ≡ offer_obstacle entry.now (claim_of claim.now) (offer_of claim.now.offer)) }
 {
     match &claim.offer {
         Offer::Plain(_) => Ok(None),
@@ -217,8 +238,8 @@ fn offer_obstacle(
     }
 }
 
-/// Why the entry does not admit the login: the first reason that holds, in the order of `G2` to `G18`;
-/// nothing where it admits.
+/// Why the entry does not admit the login: the first reason that holds, in the order of `G2` to
+/// `G18`; nothing where it admits.
 #[tactic(auto, unfolding(crate::specs::Admission::login_obstacle))]
 pub(crate) fn login_obstacle(
     alloc: Global,

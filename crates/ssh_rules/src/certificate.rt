@@ -5,7 +5,18 @@ ghost use Rattle.std.specs.List.{list_all, list_any};
 ghost use Rattle.ssh_certs.specs.CertificateOf.{certificate_of};
 ghost use Rattle.ssh_certs.specs.Left.{options_left};
 ghost use Rattle.ssh_rights.specs.CertificateOptions.{has_option, one_string, text_in};
-ghost use Rattle.ssh_rules.specs.CertificateRules.{certificate_source, first_unknown, has_its_form, has_principal, has_two, is_known, is_listed, listed_names, repeats, serves};
+ghost use Rattle.ssh_rules.specs.CertificateRules.{
+  certificate_source,
+  first_unknown,
+  has_its_form,
+  has_principal,
+  has_two,
+  is_known,
+  is_listed,
+  listed_names,
+  repeats,
+  serves,
+};
 
 use ssh_certs::{CertOptions, CertView};
 use ssh_patterns::{Address, Permit, cidr_list};
@@ -107,7 +118,8 @@ fn is_listed(certificate: &CertView<'_>, name: &[u8]) -> bool
 
 /// Whether one of the names of a list is a principal.
 pub(crate) fn has_listed(certificate: &CertView<'_>, list: &[u8]) -> bool
-    ensures { result ≡ list_any (is_listed (certificate_of certificate.now)) (listed_names list.now) }
+    ensures { result ≡ list_any (is_listed (certificate_of certificate.now))
+        (listed_names list.now) }
 {
     list.split(|b| *b == b',')
         .any(|name| is_listed(certificate, name))

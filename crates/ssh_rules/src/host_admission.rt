@@ -4,7 +4,15 @@ ghost use Rattle.std.specs.Prelude.{◌≡◌, IfOk, None, option_copied};
 ghost use Rattle.ssh_certs.specs.CertificateOf.{certificate_of};
 ghost use Rattle.ssh_certs.specs.Left.{options_left};
 ghost use Rattle.ssh_rules.specs.Obstacles.{first_obstacle};
-ghost use Rattle.ssh_rules.specs.HostAdmission.{first_name, host_certificate_obstacle, host_force_rows, host_line_rows, host_obstacle, host_offer_obstacle, marks_authority};
+ghost use Rattle.ssh_rules.specs.HostAdmission.{
+  first_name,
+  host_certificate_obstacle,
+  host_force_rows,
+  host_line_rows,
+  host_obstacle,
+  host_offer_obstacle,
+  marks_authority,
+};
 
 use crate::certificate::serves;
 use crate::obstacle::{period_obstacle, principal_obstacle, role_obstacle, unknown_obstacle};
@@ -49,7 +57,8 @@ fn line_obstacle(entry: &KnownEntryView<'_>, sought: &SoughtHost<'_>) -> Option<
 
 /// Why the certificate is not in force for the host.
 fn force_obstacle(sought: &SoughtHost<'_>, certificate: &CertView<'_>) -> Option<Obstacle>
-    ensures { result ≡ first_obstacle (host_force_rows sought.now.query (certificate_of certificate.now)) }
+    ensures { result ≡ first_obstacle
+        (host_force_rows sought.now.query (certificate_of certificate.now)) }
 {
     if let Some(obstacle) = period_obstacle(HOST_CERTIFICATE, sought.now(), certificate) {
         return Some(obstacle);
@@ -74,7 +83,8 @@ fn certificate_obstacle(
     sought: &SoughtHost<'_>,
     certificate: &CertView<'_>,
 ) -> Result<Option<Obstacle>, AllocError>
-    ensures { IfOk result (λ o. o ≡ host_certificate_obstacle sought.now.query (certificate_of certificate.now)) }
+    ensures { IfOk result
+        (λ o. o ≡ host_certificate_obstacle sought.now.query (certificate_of certificate.now)) }
 {
     if let Some(obstacle) = force_obstacle(sought, certificate) {
         return Ok(Some(obstacle));
@@ -95,8 +105,8 @@ fn offer_obstacle(alloc: Global, sought: &SoughtHost<'_>) -> Result<Option<Obsta
     }
 }
 
-/// Why the entry does not admit the host's key: the first reason that holds, in the order of `G2` to
-/// `G13`; nothing where it admits.
+/// Why the entry does not admit the host's key: the first reason that holds, in the order of `G2`
+/// to `G13`; nothing where it admits.
 #[tactic(auto, unfolding(crate::specs::HostAdmission::host_obstacle))]
 pub(crate) fn host_obstacle(
     alloc: Global,

@@ -17,7 +17,8 @@ fn entry_verdict<'a>(
     entry: KnownEntryView<'a>,
     sought: &SoughtHost<'_>,
 ) -> Result<LineVerdict<KnownEntryView<'a>>, AllocError>
-    ensures { IfOk result (λ verdict. verdict ≡ host_verdict sought.now (KnownLine.Entry entry.entry)) }
+    ensures { IfOk result
+        (λ verdict. verdict ≡ host_verdict sought.now (KnownLine.Entry entry.entry)) }
 {
     match host_obstacle(alloc, &entry, sought)? {
         None => Ok(LineVerdict::Admits(entry)),
@@ -25,9 +26,9 @@ fn entry_verdict<'a>(
     }
 }
 
-/// What a line is to a host's key: it admits it, or has the first reason in the order of `G1` to `G13`,
-/// or none where it is blank, a comment, a revocation, or about another key or another host. `Err` is
-/// out of memory.
+/// What a line is to a host's key: it admits it, or has the first reason in the order of `G1` to
+/// `G13`, or none where it is blank, a comment, a revocation, or about another key or another host.
+/// `Err` is out of memory.
 pub fn host_verdict<'a>(
     alloc: Global,
     line: KnownLineView<'a>,

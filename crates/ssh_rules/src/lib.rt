@@ -1,5 +1,5 @@
-//! Whether one line of a trust file admits one offer, and the first reason why it does not; what a line
-//! revokes.
+//! Whether one line of a trust file admits one offer, and the first reason why it does not; what a
+//! line revokes.
 #![tactic(auto)]
 
 mod admission;

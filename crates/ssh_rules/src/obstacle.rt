@@ -3,8 +3,18 @@
 ghost use Rattle.std.specs.Prelude.{◌≡◌, ◌==◌, [], ◌∷◌, IfOk, not, option_copied};
 ghost use Rattle.ssh_certs.specs.CertificateOf.{certificate_of};
 ghost use Rattle.ssh_certs.specs.Rules.{time_of};
-ghost use Rattle.ssh_rules.specs.declared.reason.Reason.TheVariants.{PrincipalRefused, WrongCertKind};
-ghost use Rattle.ssh_rules.specs.Obstacles.{first_obstacle, permit_row, role_row, time_row, unknown_row, when};
+ghost use Rattle.ssh_rules.specs.declared.reason.Reason.TheVariants.{
+  PrincipalRefused,
+  WrongCertKind,
+};
+ghost use Rattle.ssh_rules.specs.Obstacles.{
+  first_obstacle,
+  permit_row,
+  role_row,
+  time_row,
+  unknown_row,
+  when,
+};
 
 use crate::reason::{Obstacle, Reason};
 use ssh_certs::{CertView, Time};

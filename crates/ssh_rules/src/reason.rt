@@ -23,11 +23,11 @@ pub enum Reason {
     NotYetValid,
     /// `G11`: the certificate is no longer in force.
     NoLongerValid,
-    /// `G12`: the certificate is for none of the principals that the line or the login names, or not for
-    /// the host.
+    /// `G12`: the certificate is for none of the principals that the line or the login names, or
+    /// not for the host.
     PrincipalRefused,
-    /// `G13`: the certificate has a critical option of this name, which no login knows. For a host's key
-    /// none is known (this project's rule).
+    /// `G13`: the certificate has a critical option of this name, which no login knows. For a
+    /// host's key none is known (this project's rule).
     CriticalUnknown(Bytes),
     /// `G14`: a critical option stands twice in the certificate (this project's rule).
     CriticalRepeated,
@@ -41,8 +41,8 @@ pub enum Reason {
     CommandConflict,
 }
 
-/// Why an entry does not admit an offer: it is about another key or another host, which is not listed,
-/// or a reason that is.
+/// Why an entry does not admit an offer: it is about another key or another host, which is not
+/// listed, or a reason that is.
 #[derive(Debug, Drop)]
 pub enum Obstacle {
     /// It is about another key (`G2`), which is not listed.

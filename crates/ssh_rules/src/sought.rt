@@ -15,7 +15,8 @@ use ssh_offers::{HostClaimView, Offer, plain_blob};
 use std::alloc::{AllocError, Global};
 use std::marker::Model;
 
-/// A host's key that is sought, with what is made of it once for all lines. Contracts see its claim.
+/// A host's key that is sought, with what is made of it once for all lines. Contracts see its
+/// claim.
 #[derive(Drop)]
 pub struct SoughtHost<'a> {
     claim: HostClaimView<'a>,

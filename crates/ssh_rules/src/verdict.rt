@@ -35,7 +35,8 @@ fn entry_verdict<'a>(
     entry: AuthEntryView<'a>,
     claim: &LoginClaimView<'_>,
 ) -> Result<LineVerdict<AuthEntryView<'a>>, AllocError>
-    ensures { IfOk result (λ verdict. verdict ≡ login_verdict (claim_of claim.now) (AuthLine.Entry entry.entry)) }
+    ensures { IfOk result
+        (λ verdict. verdict ≡ login_verdict (claim_of claim.now) (AuthLine.Entry entry.entry)) }
 {
     match login_obstacle(alloc, &entry, claim)? {
         None => Ok(LineVerdict::Admits(entry)),
@@ -43,14 +44,15 @@ fn entry_verdict<'a>(
     }
 }
 
-/// What a line is to a login: it admits it, or has the first reason in the order of `G1` to `G18`, or
-/// none where it is blank, a comment or about another key. `Err` is out of memory.
+/// What a line is to a login: it admits it, or has the first reason in the order of `G1` to `G18`,
+/// or none where it is blank, a comment or about another key. `Err` is out of memory.
 pub fn login_verdict<'a>(
     alloc: Global,
     line: AuthLineView<'a>,
     claim: &LoginClaimView<'_>,
 ) -> Result<LineVerdict<AuthEntryView<'a>>, AllocError>
-    ensures { IfOk result (λ verdict. verdict ≡ login_verdict (claim_of claim.now) (line_seen line.entry)) }
+    ensures { IfOk result
+        (λ verdict. verdict ≡ login_verdict (claim_of claim.now) (line_seen line.entry)) }
 {
     match line {
         AuthLineView::Blank | AuthLineView::Comment => Ok(LineVerdict::Passes(None)),
