@@ -5,6 +5,8 @@ pub mod Algorithms
 pub mod Refusal
 pub mod LoginClaim
 pub mod HostClaim
+pub mod FileSignature
+pub mod FileSignatureView
 pub mod ClaimViews
 pub mod Evidence
 pub mod Vouching

@@ -2,7 +2,16 @@
 
 ghost use Rattle.std.specs.Prelude.{◌≡◌, ◌<◌, ◌^◌, length, OnOk};
 ghost use Rattle.ssh_wire.specs.Reading.{Gives};
-ghost use Rattle.ssh_offers.specs.Algorithms.{is_weak_name, other_algorithm, pairing_test, rsa_sha256_name, rsa_sha512_name, signer_test, type_name, wanted_algorithm};
+ghost use Rattle.ssh_offers.specs.Algorithms.{
+  is_weak_name,
+  other_algorithm,
+  pairing_test,
+  rsa_sha256_name,
+  rsa_sha512_name,
+  signer_test,
+  type_name,
+  wanted_algorithm,
+};
 ghost use Rattle.ssh_offers.specs.OfferView.{offer_of};
 
 use crate::error::AuditError;

@@ -3,6 +3,7 @@
 ghost use Rattle.std.specs.Prelude.{◌≡◌};
 ghost use Rattle.ssh_offers.specs.declared.error.AuditError.TheVariants.{Memory};
 
+use ssh_bodies::BodyError;
 use ssh_certs::CertError;
 use ssh_keys::KeyError;
 use ssh_wire::WireError;
@@ -20,8 +21,8 @@ pub enum OfferError {
     Certificate(CertError),
 }
 
-/// Why there is no decision. `A1` to `A6` are tested in this order, whatever memory does; `A7` after
-/// them.
+/// Why there is no decision. `A1` to `A6` are tested in this order, whatever memory does; `A7`
+/// after them.
 #[derive(Clone, Copy, Debug, PartialEq, Eq, Error)]
 pub enum AuditError {
     /// `A1`: the offered blob is neither a plain key nor a certificate.
@@ -30,14 +31,15 @@ pub enum AuditError {
     /// `A2`: the signature blob is none.
     #[error("the signature: {0}")]
     Signature(WireError),
-    /// `A3`: the algorithm name does not go with the offer, or the signature's algorithm not with the
-    /// name.
+    /// `A3`: the algorithm name does not go with the offer, or the signature's algorithm not with
+    /// the name.
     #[error("the algorithm does not fit the key")]
     WrongAlgorithm,
     /// `A4`: RSA with SHA-1, by its name or in the signature (RFC 8332).
     #[error("the signature is weak")]
     WeakSignature,
-    /// `A5`: the certificate's signature has an algorithm that does not fit its signer, or a weak one.
+    /// `A5`: the certificate's signature has an algorithm that does not fit its signer, or a weak
+    /// one.
     #[error("the certificate's signature does not fit its signer")]
     CertSignature,
     /// `A6`: the address is none.
@@ -52,6 +54,12 @@ pub enum AuditError {
     /// `A9`: the trust file cannot be read.
     #[error("the file cannot be read")]
     Read,
+    /// `A10`: a piece of the trust file was refused before.
+    #[error("a piece of the file was refused")]
+    Failed,
+    /// `A11`: the body of a file signature is none. It is tested before all others.
+    #[error("the body: {0}")]
+    Body(BodyError),
 }
 
 impl From<AllocError> for AuditError {

@@ -7,7 +7,15 @@ ghost use Rattle.ssh_certs.specs.CertificateOf.{certificate_of};
 ghost use Rattle.ssh_offers.specs.Query.{login_of};
 ghost use Rattle.ssh_offers.specs.Offer.{plain_key};
 ghost use Rattle.ssh_offers.specs.OfferView.{offer_of};
-ghost use Rattle.ssh_offers.specs.Evidence.{certificate_signed, host_evidence, host_signed, login_bytes, login_evidence, login_signed, signer_evidence};
+ghost use Rattle.ssh_offers.specs.Evidence.{
+  certificate_signed,
+  host_evidence,
+  host_signed,
+  login_bytes,
+  login_evidence,
+  login_signed,
+  signer_evidence,
+};
 ghost use Rattle.ssh_offers.specs.ClaimViews.{claim_of, host_claim_of};
 ghost use Rattle.ssh_offers.specs.Vouching.{is_same, is_vouched, first_unvouched};
 
@@ -58,7 +66,9 @@ pub fn plain_blob(alloc: Global, offer: &Offer<'_>) -> Result<Vec<u8>, AllocErro
 /// The signature of a login, by the key that is to be used.
 #[tactic(auto, unfolding(crate::specs::Evidence::login_signed))]
 fn login_signed(alloc: Global, claim: &LoginClaimView<'_>) -> Result<Signed, AllocError>
-    ensures { IfOk result (λ signed. signed ≡ login_signed (key_blob (plain_key (claim_of claim.now).offer)) (claim_of claim.now).query) }
+    ensures { IfOk result (λ signed.
+        signed ≡ login_signed (key_blob (plain_key (claim_of claim.now).offer))
+        (claim_of claim.now).query) }
 {
     Ok(Signed {
         key: Bytes::new(plain_blob(alloc, &claim.offer)?),
@@ -91,8 +101,8 @@ fn with_signer(alloc: Global, first: Signed, offer: &Offer<'_>) -> Result<Items<
     Ok(Items::from_vec(evidence))
 }
 
-/// What has to be vouched for, of a login: the offered key's signature over the login bytes, and of a
-/// certificate its signer's. `Err` is out of memory.
+/// What has to be vouched for, of a login: the offered key's signature over the login bytes, and of
+/// a certificate its signer's. `Err` is out of memory.
 pub fn login_evidence(
     alloc: Global,
     claim: &LoginClaimView<'_>,
@@ -107,7 +117,9 @@ pub fn login_evidence(
 /// The signature of the exchange hash, by the host's key.
 #[tactic(auto, unfolding(crate::specs::Evidence::host_signed))]
 fn host_signed(alloc: Global, claim: &HostClaimView<'_>) -> Result<Signed, AllocError>
-    ensures { IfOk result (λ signed. signed ≡ host_signed (key_blob (plain_key (host_claim_of claim.now).offer)) (host_claim_of claim.now).query) }
+    ensures { IfOk result (λ signed.
+        signed ≡ host_signed (key_blob (plain_key (host_claim_of claim.now).offer))
+        (host_claim_of claim.now).query) }
 {
     Ok(Signed {
         key: Bytes::new(plain_blob(alloc, &claim.offer)?),

@@ -19,7 +19,9 @@ pub struct HostClaimView<'a> {
     ghost own: { query.offered.now ≡ offer_blob (offer_of offer) },
 }
 
-fn test_fitting(fit: Fit) -> Result<(), AuditError>
+/// Whether a signature's algorithm serves the key that made it: else `A4` where it is weak, or
+/// `A3`.
+pub(crate) fn test_fitting(fit: Fit) -> Result<(), AuditError>
     ensures { result ≡ fitting_test fit }
 {
     match fit {

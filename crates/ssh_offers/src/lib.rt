@@ -1,20 +1,24 @@
-//! What is offered for a login or by a host, what is refused before any line is read, and the evidence
-//! that a decision rests on.
+//! What is offered for a login or by a host, or signed in a file signature, what is refused before
+//! any line is read, and the evidence that a decision rests on.
 #![tactic(auto)]
 
 mod algorithm;
 mod error;
 mod evidence;
+mod file_evidence;
 mod host_claim;
 mod items;
 mod login_claim;
 mod offer;
 mod query;
+mod sshsig_claim;
 
 pub use error::{AuditError, OfferError};
 pub use evidence::{first_unvouched, host_evidence, login_evidence, plain_blob};
+pub use file_evidence::sshsig_evidence;
 pub use host_claim::HostClaimView;
 pub use items::Items;
 pub use login_claim::LoginClaimView;
 pub use offer::Offer;
 pub use query::{HostQuery, LoginQuery, Signed};
+pub use sshsig_claim::SshsigClaimView;

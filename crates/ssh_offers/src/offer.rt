@@ -4,7 +4,14 @@ ghost use Rattle.std.specs.Prelude.{◌≡◌, ◌<◌, ◌^◌, length, IfOk};
 ghost use Rattle.ssh_wire.specs.Reading.{Gives};
 ghost use Rattle.ssh_keys.specs.KeyOf.{key_of};
 ghost use Rattle.ssh_keys.specs.PublicKey.{key_blob};
-ghost use Rattle.ssh_offers.specs.Offer.{is_certificate_blob, is_certified, offer_blob, offer_in, plain_key, subject};
+ghost use Rattle.ssh_offers.specs.Offer.{
+  is_certificate_blob,
+  is_certified,
+  offer_blob,
+  offer_in,
+  plain_key,
+  subject,
+};
 ghost use Rattle.ssh_offers.specs.OfferView.{offer_of};
 
 use crate::error::OfferError;

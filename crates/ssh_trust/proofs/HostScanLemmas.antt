@@ -5,9 +5,9 @@ use Rattle.ssh_lines.specs.Text.{lines_of, numbered}
 use Rattle.ssh_offers.specs.HostClaim.{HostClaim}
 use Rattle.ssh_trust.specs.declared.host_scan.HostScan.{HostScan}
 use Rattle.ssh_trust.specs.declared.scan.Scan.{Scan}
-use Rattle.ssh_trust.specs.Scan.{scan_of}
+use Rattle.ssh_trust.specs.Scan.{scan_of, scanned}
 use Rattle.ssh_trust.specs.HostScan.{empty_host_scan, first_number, first_so_far, host_line_verdict, host_scan_line, host_scan_of, is_blind, number_at, revokes_by}
-use Rattle.ssh_trust.proofs.ScanLemmas.{scanned, scanned-scan_of}
+use Rattle.ssh_trust.proofs.ScanLemmas.{scanned-scan_of}
 
 unfoldable pub host_scanned : HostClaim → HostScan → List (ℕ × List ℕ) → HostScan
 host_scanned claim s [] = s

@@ -1,5 +1,9 @@
 pub mod ScanLemmas
+pub mod AuditLemmas
+pub mod LongLines
+pub mod LoginAuditLemmas
 pub mod HostScanLemmas
 pub mod CandidateLemmas
 pub mod MeaningLemmas
 pub mod HostMeaningLemmas
+pub mod SignatureLemmas

@@ -10,16 +10,19 @@ use Rattle.ssh_rules.specs.declared.verdict.LineVerdict.{LineVerdict}
 use Rattle.ssh_rules.specs.declared.verdict.LineVerdict.TheVariants.{Admits, Passes}
 use Rattle.ssh_trust.specs.declared.scan.Scan.{Scan}
 use Rattle.ssh_trust.specs.Candidate.{admits, before_candidate, first_admitted, reasons_from, with_reason}
-use Rattle.ssh_trust.specs.Scan.{empty_scan, listed_with, scan_line, scan_of, scan_verdict}
+use Rattle.ssh_trust.specs.Scan.{empty_scan, listed_with, scan_line, scan_of, scan_verdict, scanned}
 
 abbrev scan_with : {C : Type 0} → Option C → List (ℕ × Reason) → Scan C
 scan_with candidate reasons = record { candidate = candidate; reasons = reasons }
 
 -- ---- the scan of numbered lines
 
-unfoldable pub scanned : {E C : Type 0} → (ℕ × E → C) → (List ℕ → LineVerdict E) → Scan C → List (ℕ × List ℕ) → Scan C
-scanned give verdict s [] = s
-scanned give verdict s (x ∷ xs) = scanned give verdict (scan_line give verdict s x) xs
+-- one more line
+pub scanned-push : {E C : Type 0} (give : ℕ × E → C) (verdict : List ℕ → LineVerdict E) (s : Scan C) (xs : List (ℕ × List ℕ)) (x : ℕ × List ℕ)
+    → scanned give verdict s (xs ++ x ∷ []) ≡ scan_line give verdict (scanned give verdict s xs) x
+unfolding scanned
+scanned-push give verdict s [] x = refl
+scanned-push give verdict s (y ∷ xs) x = scanned-push give verdict (scan_line give verdict s y) xs x
 
 line-kept : {E C : Type 0} (give : ℕ × E → C) (verdict : List ℕ → LineVerdict E) (s : Scan C) (x : ℕ × List ℕ) → is_some s.candidate ≡ true → scan_line give verdict s x ≡ s
 line-kept give verdict s x h = rw h refl
@@ -81,18 +84,3 @@ scanned-by give verdict rs n (line ∷ lines) le =
 pub scanned-scan_of : {E C : Type 0} (give : ℕ × E → C) (verdict : List ℕ → LineVerdict E) (file : List ℕ)
     → scanned give verdict empty_scan (numbered 1 (lines_of file)) ≡ scan_of give (map verdict (lines_of file))
 scanned-scan_of give verdict file = scanned-by give verdict [] 1 (lines_of file) (omega arith)
-
--- ---- what a loop over the lines keeps
-
-pub scan_next : {E C : Type 0} (give : ℕ × E → C) (verdict : List ℕ → LineVerdict E) (s t : Scan C) (n : ℕ) (line : List ℕ) (lines rest : List (ℕ × List ℕ)) (whole : Scan C)
-    → lines ≡ (n, line) ∷ rest → t ≡ scan_line give verdict s (n, line) → scanned give verdict s lines ≡ whole → scanned give verdict t rest ≡ whole
-unfolding scanned
-scan_next {C = C} give verdict s t n line lines rest whole first next kept =
-    ap (λ (x : Scan C). scanned give verdict x rest) next ∙ ap (scanned give verdict s) (sym first) ∙ kept
-
-pub scan_found : {E C : Type 0} (give : ℕ × E → C) (verdict : List ℕ → LineVerdict E) (s : Scan C) (lines : List (ℕ × List ℕ)) (whole : Scan C) → is_some s.candidate ≡ true → scanned give verdict s lines ≡ whole → s ≡ whole
-scan_found give verdict s lines whole some kept = sym (scanned-kept give verdict s lines some) ∙ kept
-
-pub scan_ended : {E C : Type 0} (give : ℕ × E → C) (verdict : List ℕ → LineVerdict E) (s : Scan C) (lines : List (ℕ × List ℕ)) (whole : Scan C) → lines ≡ [] → scanned give verdict s lines ≡ whole → s ≡ whole
-unfolding scanned
-scan_ended give verdict s lines whole none kept = ap (scanned give verdict s) (sym none) ∙ kept

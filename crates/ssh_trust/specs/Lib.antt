@@ -7,6 +7,7 @@ pub use Rattle.ssh_offers.specs.HostClaim
 pub use Rattle.ssh_offers.specs.ClaimViews
 pub use Rattle.ssh_offers.specs.Evidence
 pub use Rattle.ssh_offers.specs.Vouching
+pub use Rattle.ssh_offers.specs.FileSignature
 pub use Rattle.ssh_rights.specs.CertificateOptions
 pub use Rattle.ssh_rules.specs.CertificateRules
 pub use Rattle.ssh_rights.specs.Rights
@@ -24,3 +25,6 @@ pub mod Decision
 pub mod HostScan
 pub mod HostDecision
 pub mod Answer
+pub mod Findings
+pub mod Audit
+pub mod SignatureAnswer

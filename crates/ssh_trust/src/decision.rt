@@ -10,8 +10,9 @@ pub enum Cause {
     /// `N1`: this line of a known_hosts file revokes the offered key or the certificate's signer,
     /// whichever host it names; the first such line, counted from 1.
     Revoked(u64),
-    /// `N2`: this line of a known_hosts file may revoke any key: it is a revocation that cannot be read,
-    /// or longer than a line may be (this project's rule); the first such line, counted from 1.
+    /// `N2`: this line of a known_hosts file may revoke any key: it is a revocation that cannot be
+    /// read, or longer than a line may be (this project's rule); the first such line, counted from
+    /// 1.
     RevocationUnreadable(u64),
     /// `N3`: no line admits the offer.
     NoLine,
@@ -37,8 +38,8 @@ pub enum Decision {
     Denied {
         why: Cause,
         /// Why lines before the candidate do not admit the offer, or all lines where there is none:
-        /// the first 100, each with its number. A line with another key or about another host has no
-        /// reason.
+        /// the first 100, each with its number. A line with another key or about another host has
+        /// no reason.
         reasons: Items<(u64, Reason)>,
         evidence: Items<Signed>,
     },

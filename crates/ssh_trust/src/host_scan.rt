@@ -1,9 +1,15 @@
-//! What the lines of a known_hosts file say to a host's key: one line after the other. The whole file
-//! counts, for a later line may revoke.
+//! What the lines of a known_hosts file say to a host's key: one line after the other. The whole
+//! file counts, for a later line may revoke.
 
 ghost use Rattle.std.specs.Prelude.{◌≡◌, IfOk, OnOk};
 ghost use Rattle.ssh_trust.specs.Scan.{scan_verdict};
-ghost use Rattle.ssh_trust.specs.HostScan.{empty_host_scan, first_so_far, host_scan_line, host_scan_of, number_at};
+ghost use Rattle.ssh_trust.specs.HostScan.{
+  empty_host_scan,
+  first_so_far,
+  host_scan_line,
+  host_scan_of,
+  number_at,
+};
 
 use crate::scan::Scan;
 use ssh_lines::{KeyBuffer, KnownEntryView, Lines, read_known_view};
@@ -13,7 +19,8 @@ use std::alloc::{AllocError, Global};
 /// What the lines so far say.
 #[derive(Drop)]
 pub(crate) struct HostScan {
-    /// The number of the first line that admits the key, from 1, and the reasons of those before it.
+    /// The number of the first line that admits the key, from 1, and the reasons of those before
+    /// it.
     pub(crate) admission: Scan<u64>,
     /// The first line that revokes the key or the signer.
     pub(crate) revoked: Option<u64>,

@@ -11,7 +11,7 @@ ghost use Rattle.ssh_trust.specs.Answer.{Gives, OfClaim, RefusesAs, host_answer}
 use crate::decision::Decision;
 use crate::host_decide::decide_host;
 use crate::host_scan::scan_hosts;
-use crate::logins::FILE_LIMIT;
+use crate::pieces::FILE_LIMIT;
 use ssh_offers::{AuditError, HostClaimView, HostQuery, Items, Signed, host_evidence};
 use ssh_rules::SoughtHost;
 use std::alloc::Global;
@@ -35,10 +35,11 @@ fn answer_claim(
     Ok(decide_host(scan, evidence, vouched))
 }
 
-/// Answers a host's key by a whole known_hosts file: granted by the first line that admits it, where no
-/// line of the whole file revokes the key or its certificate's signer, none may revoke any key, and the
-/// evidence is among the vouched signatures; else denied, with the first cause. An offer is refused by
-/// `A1` to `A5` before any memory is taken, a file past the limit by `A7`, and out of memory is `A8`.
+/// Answers a host's key by a whole known_hosts file: granted by the first line that admits it,
+/// where no line of the whole file revokes the key or its certificate's signer, none may revoke any
+/// key, and the evidence is among the vouched signatures; else denied, with the first cause. An
+/// offer is refused by `A1` to `A5` before any memory is taken, a file past the limit by `A7`, and
+/// out of memory is `A8`.
 pub fn host(
     alloc: Global,
     file: &[u8],
@@ -47,24 +48,28 @@ pub fn host(
 ) -> Result<Decision, AuditError>
     // A refused offer is answered by its first refusal, whatever memory does.
     ensures refused { RefusesAs (host_claim (host_check_of query.entry.now)) result }
-    // Granted names the first line that admits the key, with all its conditions; denied means that this is false.
-    ensures means { OfClaim (host_claim (host_check_of query.entry.now)) (λ claim. IfOk result (HostMeans file.now claim vouched.now)) }
+    // Granted names the first line that admits the key, with all its conditions; denied means that
+    // this is false.
+    ensures means { OfClaim (host_claim (host_check_of query.entry.now))
+        (λ claim. IfOk result (HostMeans file.now claim vouched.now)) }
     // The whole answer, with cause, reasons and evidence, unless memory was refused.
-    ensures answer { OfClaim (host_claim (host_check_of query.entry.now)) (λ claim. Gives (host_answer file.now claim vouched.now) result) }
+    ensures answer { OfClaim (host_claim (host_check_of query.entry.now))
+        (λ claim. Gives (host_answer file.now claim vouched.now) result) }
 {
     let claim = HostClaimView::read(query)?;
     let decision = answer_claim(alloc, file, &claim, vouched)?;
     Ok(decision)
 }
 
-/// What a decision on this host's key rests on, whatever the file: the key's signature over the exchange
-/// hash, and for a certificate its signer's over the signed part. An offer is refused as by `host`, and
-/// out of memory is `A8`.
+/// What a decision on this host's key rests on, whatever the file: the key's signature over the
+/// exchange hash, and for a certificate its signer's over the signed part. An offer is refused as
+/// by `host`, and out of memory is `A8`.
 pub fn evidence_of_host(alloc: Global, query: &HostQuery<'_>) -> Result<Items<Signed>, AuditError>
     // A refused offer is answered by its first refusal, whatever memory does.
     ensures refused { RefusesAs (host_claim (host_check_of query.entry.now)) result }
     // The evidence, unless memory was refused.
-    ensures evidence { OfClaim (host_claim (host_check_of query.entry.now)) (λ claim. Gives (Ok (host_evidence claim)) result) }
+    ensures evidence { OfClaim (host_claim (host_check_of query.entry.now))
+        (λ claim. Gives (Ok (host_evidence claim)) result) }
 {
     let claim = HostClaimView::read(query)?;
     let evidence = host_evidence(alloc, &claim)?;

@@ -1,4 +1,5 @@
-//! Whether an authorized_keys file admits a login, and whether a known_hosts file trusts a host's key.
+//! Whether an authorized_keys file admits a login, whether a known_hosts file trusts a host's key,
+//! and whether a file signature is vouched for.
 #![tactic(auto)]
 
 mod decide;
@@ -7,17 +8,25 @@ mod host_decide;
 mod host_scan;
 mod hosts;
 mod laws;
+mod login_audit;
 mod login_scan;
 mod logins;
+mod pieces;
 mod scan;
+#[cfg(test)]
+mod signature_tests;
+mod signatures;
 #[cfg(test)]
 mod tests;
 
 pub use decision::{Cause, Decision};
 pub use hosts::{evidence_of_host, host};
 pub use laws::{decision_rule, host_decision_rule};
-pub use logins::{FILE_LIMIT, evidence_of_login, login};
+pub use login_audit::LoginAudit;
+pub use logins::{evidence_of_login, login};
+pub use pieces::FILE_LIMIT;
 pub use scan::REASON_LIMIT;
+pub use signatures::{SigAnswer, sshsig};
 pub use ssh_offers::{AuditError, HostQuery, Items, LoginQuery, OfferError, Signed};
 pub use ssh_rights::{Carried, CarriedName, Rights, rights_rule};
 pub use ssh_rules::{Reason, admission_rule, host_admission_rule};

@@ -1,16 +1,28 @@
-//! The first line that admits a login, and why the lines before it do not: one line after the other.
+//! The first line that admits a login, and why the lines before it do not: one line after the
+//! other.
 
-ghost use Rattle.std.specs.Prelude.{◌≡◌, IfOk, OnOk};
+ghost use Rattle.std.specs.Prelude.{◌≡◌, ◌≤◌, ℕ, List, length, IfOk, OnOk};
+ghost use Rattle.ssh_lines.specs.AuthGrammar.{auth_line};
+ghost use Rattle.ssh_lines.specs.LineView.{line_seen};
 ghost use Rattle.ssh_offers.specs.ClaimViews.{claim_of};
-ghost use Rattle.ssh_trust.specs.Scan.{scan_line, scan_of, scan_verdict};
-ghost use Rattle.ssh_trust.specs.Decision.{candidate_at, line_verdict, verdicts};
+ghost use Rattle.ssh_offers.specs.Evidence.{login_evidence};
+ghost use Rattle.ssh_trust.specs.Candidate.{reason_limit};
+ghost use Rattle.ssh_trust.specs.Decision.{candidate_at, decision_of, line_verdict};
+ghost use Rattle.ssh_trust.specs.Findings.{IsText, LoginFound, no_login_findings};
+ghost use Rattle.ssh_trust.specs.Scan.{scan_line, scan_verdict};
 
+use crate::decide::decide;
+use crate::decision::Decision;
+use crate::pieces::Search;
 use crate::scan::Scan;
-use ssh_lines::{AuthEntryView, KeyBuffer, Lines, read_auth_view};
-use ssh_offers::LoginClaimView;
+use ssh_lines::{AuthEntryView, AuthLineView, KeyBuffer, read_auth_view};
+use ssh_offers::{LoginClaimView, Signed, login_evidence};
+use ssh_options::LineCause;
 use ssh_rights::{Rights, is_touched, is_verified, rights_of};
 use ssh_rules::{LineVerdict, login_verdict};
+use ssh_text::Line;
 use std::alloc::{AllocError, Global};
+use std::marker::Model;
 
 /// The first line that admits the login, and what it gives.
 #[derive(Drop)]
@@ -51,7 +63,10 @@ fn take_verdict(
     verdict: LineVerdict<AuthEntryView<'_>>,
     claim: &LoginClaimView<'_>,
 ) -> Result<(), AllocError>
-    ensures { OnOk result (scan.new ≡ scan_verdict (candidate_at (claim_of claim.now)) scan.old number verdict.entry) }
+    ensures value { OnOk result (scan.new ≡ scan_verdict (candidate_at (claim_of claim.now))
+        scan.old number verdict.entry) }
+    ensures bounded { length scan.old.reasons ≤ reason_limit
+        → length scan.new.reasons ≤ reason_limit }
 {
     match verdict {
         LineVerdict::Admits(entry) => {
@@ -66,40 +81,102 @@ fn take_verdict(
     }
 }
 
-/// Takes the next line of the file, which has this number. Lines after the candidate change nothing.
+/// What a line says, where it is not longer than a line may be.
+#[tactic(auto, using(crate::proofs::LongLines::long_auth))]
+fn view_of<'a>(line: Line<'a>, buffer: &'a mut KeyBuffer) -> AuthLineView<'a>
+    ensures { (text : List ℕ) → IsText line.entry text → line_seen result ≡ auth_line text }
+{
+    match line {
+        Line::Whole(text) => read_auth_view(text, buffer),
+        Line::TooLong => AuthLineView::Unreadable(LineCause::TooLong),
+    }
+}
+
+/// Takes the next line of the file, which has this number. Lines after the candidate change
+/// nothing.
 fn take_line(
     scan: &mut Scan<Candidate>,
     alloc: Global,
     number: u64,
-    line: &[u8],
+    line: Line<'_>,
     buffer: &mut KeyBuffer,
     claim: &LoginClaimView<'_>,
 ) -> Result<(), AllocError>
-    ensures { OnOk result (scan.new ≡ scan_line (candidate_at (claim_of claim.now)) (line_verdict (claim_of claim.now)) scan.old (number, line.now)) }
+    ensures value { OnOk result ((text : List ℕ)
+        → IsText line.entry text
+        → scan.new ≡ scan_line (candidate_at (claim_of claim.now))
+        (line_verdict (claim_of claim.now)) scan.old (number, text)) }
+    ensures bounded { length scan.old.reasons ≤ reason_limit
+        → length scan.new.reasons ≤ reason_limit }
 {
     if scan.candidate.is_some() {
         return Ok(());
     }
-    let verdict = login_verdict(alloc, read_auth_view(line, buffer), claim)?;
+    let verdict = login_verdict(alloc, view_of(line, buffer), claim)?;
     take_verdict(scan, alloc, number, verdict, claim)?;
     Ok(())
 }
 
-/// What the lines of a file say to a login.
-pub(crate) fn scan_file(
+/// The search for the line that admits a login. Contracts see its claim, and what the lines say.
+#[derive(Drop)]
+pub(crate) struct LoginSearch<'a> {
     alloc: Global,
-    file: &[u8],
-    claim: &LoginClaimView<'_>,
-) -> Result<Scan<Candidate>, AllocError>
-    ensures { IfOk result (λ found. found ≡ scan_of (candidate_at (claim_of claim.now)) (verdicts (claim_of claim.now) file.now)) }
-{
-    let mut scan = Scan::new(alloc);
-    let mut buffer = KeyBuffer::new(alloc)?;
-    for (number, line) in Lines::new(file) {
-        take_line(&mut scan, alloc, number, line, &mut buffer, claim)?;
-        if scan.candidate.is_some() {
-            return Ok(scan);
-        }
+    claim: LoginClaimView<'a>,
+    buffer: KeyBuffer,
+    scan: Scan<Candidate>,
+}
+
+impl<'a> Model for LoginSearch<'a> {
+    ghost use Rattle.ssh_offers.specs.ClaimViews.{claim_of};
+    ghost use Rattle.ssh_trust.specs.Findings.{LoginFindings};
+
+    ghost Value = { LoginFindings };
+
+    ghost view = { λ s. record { claim = claim_of s.claim; said = s.scan } };
+}
+
+impl<'a> LoginSearch<'a> {
+    /// No line yet.
+    pub(crate) fn new(
+        alloc: Global,
+        claim: &LoginClaimView<'a>,
+    ) -> Result<LoginSearch<'a>, AllocError>
+        ensures { IfOk result (λ search. search ≡ no_login_findings (claim_of claim.now)) }
+    {
+        let buffer = KeyBuffer::new(alloc)?;
+        Ok(LoginSearch {
+            alloc,
+            claim: *claim,
+            buffer,
+            scan: Scan::new(alloc),
+        })
     }
-    Ok(scan)
+
+    /// The decision by what the lines say.
+    pub(crate) fn decide(self, vouched: &[Signed]) -> Result<Decision, AllocError>
+        ensures { IfOk result (λ decision.
+            decision ≡ decision_of (login_evidence self.entry.claim) vouched.now
+            self.entry.said.candidate self.entry.said.reasons) }
+    {
+        let evidence = login_evidence(self.alloc, &self.claim)?;
+        Ok(decide(self.scan, evidence, vouched))
+    }
+}
+
+impl<'a> Search for LoginSearch<'a> {
+    ghost found = { LoginFound };
+
+    ghost is_bounded = { λ s. length s.said.reasons ≤ reason_limit };
+
+    fn take_line(&mut self, number: u64, line: Line<'_>) -> Result<(), AllocError> {
+        take_line(
+            &mut self.scan,
+            self.alloc,
+            number,
+            line,
+            &mut self.buffer,
+            &self.claim,
+        )?;
+        Ok(())
+    }
 }

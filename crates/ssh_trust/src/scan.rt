@@ -1,6 +1,7 @@
 //! What the lines so far say to an offer, in a state whose size no file makes larger.
 
-ghost use Rattle.std.specs.Prelude.{◌≡◌, OnOk};
+ghost use Rattle.std.specs.Prelude.{◌≡◌, ◌≤◌, length, OnOk};
+ghost use Rattle.ssh_trust.specs.Candidate.{reason_limit};
 ghost use Rattle.ssh_trust.specs.Scan.{empty_scan, listed_with};
 
 use ssh_offers::Items;
@@ -31,7 +32,10 @@ impl<C> Scan<C> {
 
     /// Lists the reason of a line, unless enough is listed.
     pub(crate) fn list(&mut self, number: u64, reason: Option<Reason>) -> Result<(), AllocError>
-        ensures { OnOk result (self.new ≡ record self.old { reasons = listed_with self.old.reasons number reason }) }
+        ensures value { OnOk result
+            (self.new ≡ record self.old { reasons = listed_with self.old.reasons number reason }) }
+        ensures bounded { length self.old.reasons ≤ reason_limit
+            → length self.new.reasons ≤ reason_limit }
     {
         if let Some(why) = reason
             && self.reasons.len() < REASON_LIMIT

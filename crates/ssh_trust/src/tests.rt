@@ -1,11 +1,11 @@
-//! The public calls on their happy path, and the answers of a few worked rows. The rows at large stand
-//! in the program's tests, which print them.
+//! The public calls on their happy path, and the answers of a few worked rows. The rows at large
+//! stand in the program's tests, which print them.
 
 ghost use Rattle.std.specs.Prelude.{◌<◌, ◌^◌, length};
 
 use crate::{
-    Cause, Decision, HostQuery, LoginQuery, Signed, evidence_of_host, evidence_of_login, host,
-    login,
+    Cause, Decision, HostQuery, LoginAudit, LoginQuery, Signed, evidence_of_host,
+    evidence_of_login, host, login,
 };
 use jiff::tz::TimeZone;
 use std::test::Fail;
@@ -61,6 +61,29 @@ fn grants_what_is_vouched_for(rt: HostRuntime) -> Result<(), Fail> {
     match login(alloc, LINE, &query, none.as_slice())? {
         Decision::Denied { why, .. } => assert_eq!(rt; why, Cause::NotVouched(0)),
         Decision::Granted { .. } => return Err(Fail::new("denied")),
+    }
+    Ok(())
+}
+
+const NOTED: &[u8] =
+    b"# me\n\nssh-ed25519 AAAAC3NzaC1lZDI1NTE5AAAAIAAAAAAAAAAAAAAAAAAAAAAAAAAAAAAAAAAAAAAAAAAA me";
+
+#[test]
+fn answers_a_login_in_pieces(rt: HostRuntime) -> Result<(), Fail> {
+    let alloc = rt.alloc();
+    let zone = TimeZone::UTC;
+    let query = query(&zone);
+    let evidence = evidence_of_login(alloc, &query)?;
+    for less in [0u8, 2, 39, 99] {
+        let mut audit = LoginAudit::new(alloc, &query)?;
+        for piece in NOTED.chunks(usize::from(less) + 1) {
+            audit.feed(piece)?;
+            audit.feed(b"")?;
+        }
+        match audit.finish(evidence.as_slice())? {
+            Decision::Granted { line, .. } => assert_eq!(rt; line, 3),
+            Decision::Denied { .. } => return Err(Fail::new("granted")),
+        }
     }
     Ok(())
 }

@@ -1,0 +1,39 @@
+use Rattle.std.proofs.Common.{◌≡◌, ◌+◌, ◌≤◌, ◌++◌, ◌∙◌, length, take, drop, sym, subst, refl, ap, arith, append-nil}
+use Rattle.std.proofs.lemmas.List.{length-drop}
+use Rattle.ssh_trust.specs.Audit.{HasRead}
+use Rattle.ssh_trust.proofs.AuditLemmas.{parts-add, parts-all}
+use Rattle.ssh_trust.proofs.pieces.Pieces.take.Goals as goal
+
+pub loop-taken-init : goal.loop-taken-init
+loop-taken-init g c = (
+  omega arith,
+  omega arith,
+  refl,
+  λ h. h,
+  λ first bytes h. subst (λ s. HasRead g.T.Search.found first c.args.self.now s) (sym (append-nil bytes)) h,
+)
+
+pub returns-then-not-ready-clause-read : goal.returns-then-not-ready-clause-read
+returns-then-not-ready-clause-read g c first bytes h =
+    let fed = c.in_ok-taken.ensures in
+    let rest = c.split_at.ensures.back in
+    let read = fed.read first _ (c.loop-taken.invariant.4 first bytes h) in
+    rw (parts-all bytes c.args.piece.now c.loop-taken.done c.in_ok-taken.taken (fed.all c.if-not-ready.true ∙ ap (λ s. length s) rest), ← rest) read
+
+pub loop-taken-preserved : goal.loop-taken-preserved
+loop-taken-preserved g c =
+    let fed = c.in_ok-taken.ensures in
+    let rest = c.split_at.ensures.back in
+    let same = ap (λ s. length s) rest in
+    let within = fed.within in
+    let used = fed.used in
+    let left = length-drop c.loop-taken.done c.args.piece.now in
+    let bound = c.loop-taken.invariant.0 in
+    let before = c.loop-taken.invariant.1 in (
+      omega arith,
+      omega arith,
+      fed.failed ∙ c.loop-taken.invariant.2,
+      λ h. fed.bounded (c.loop-taken.invariant.3 h),
+      λ first bytes h.
+          rw (parts-add bytes c.args.piece.now c.loop-taken.done c.in_ok-taken.taken, ← rest) (fed.read first _ (c.loop-taken.invariant.4 first bytes h)),
+    )

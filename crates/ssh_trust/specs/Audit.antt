@@ -1,0 +1,36 @@
+-- What an audit of a file that comes in pieces stands for.
+use Rattle.std.specs.Prelude.{◌≡◌, ℕ, ◌≤◌, false, List, length}
+use Rattle.ssh_offers.specs.LoginClaim.{LoginClaim}
+use Rattle.ssh_text.specs.Scan as text
+use Rattle.ssh_text.specs.Scan.{whole_lines}
+use Rattle.ssh_text.specs.Text.{line_limit, numbered}
+use Rattle.ssh_trust.specs.declared.pieces.Pieces.{Pieces}
+use Rattle.ssh_trust.specs.declared.scan.Scan.{Scan}
+use Rattle.ssh_trust.specs.Answer.{file_limit}
+use Rattle.ssh_trust.specs.Candidate.{reason_limit}
+use Rattle.ssh_trust.specs.Findings.{Findings, LoginFindings, LoginFound, no_login_findings}
+
+-- the scanner used these bytes, and their whole lines led from the first findings to those of now
+pub record HasRead {T : Type 0} (Found : T → List (ℕ × List ℕ) → T → Type 0) (first : T) (audit : Pieces T) (bytes : List ℕ) : Type 0 where
+  pub scanned : text.StandsFor audit.scanner bytes
+  pub found : Found first (numbered 1 (whole_lines bytes)) audit.search
+
+-- The audit took these bytes, which are no more than a file may have, and refused none.
+pub record HasTaken {T : Type 0} (Found : T → List (ℕ × List ℕ) → T → Type 0) (first : T) (audit : Pieces T) (bytes : List ℕ) : Type 0 where
+  pub read : HasRead Found first audit bytes
+  pub short : length bytes ≤ file_limit
+  pub sound : audit.failed ≡ false
+
+-- one unfinished line at most is kept, and no more reasons than are listed
+pub record IsBounded {Q C : Type 0} (audit : Pieces (Findings Q (Scan C))) : Type 0 where
+  pub line : length audit.scanner.kept.bytes ≤ line_limit
+  pub reasons : length audit.search.said.reasons ≤ reason_limit
+
+-- ---- logins
+
+abbrev pub LoginState : Type 0
+LoginState = Pieces LoginFindings
+
+-- the audit of this claim stands for these bytes
+abbrev pub LoginStandsFor : LoginState → LoginClaim → List ℕ → Type 0
+LoginStandsFor audit claim bytes = HasTaken LoginFound (no_login_findings claim) audit bytes
