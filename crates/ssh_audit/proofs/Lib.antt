@@ -1,4 +1,6 @@
 mod PlainCommand
 mod WrittenText
 mod CommandLineLemmas
+mod SourceLemmas
+mod SignatureLemmas
 mod ResponseLemmas

@@ -5,7 +5,7 @@ use Rattle.std.specs.Str.{bytes_eq}
 use Rattle.ssh_inputs.specs.SourceState.{IfTells, SourceState, bytes_at, dash}
 use Rattle.ssh_inputs.specs.Parts.{cut_at_empty, after_line, after_part, after_whole, first_line, part_at}
 use Rattle.ssh_trust.specs.Answer.{Gives, file_limit}
-use Rattle.ssh_audit.specs.CommandLine.{AuditFiles, Request, host, login, show, request_of, LoginWords, ShowWords}
+use Rattle.ssh_audit.specs.CommandLine.{AuditFiles, Request, host, login, show, sshsig, request_of, LoginWords, ShowWords}
 use Rattle.ssh_inputs.specs.VouchFile.{vouched_of}
 use Rattle.ssh_inputs.specs.Words.{words_in}
 use Rattle.ssh_print.specs.Responses.{Response as Shown, no_file_response}
@@ -23,23 +23,15 @@ use Rattle.ssh_inputs.specs.declared.read.ReadFault.{ReadFault}
 use Rattle.ssh_inputs.specs.declared.read.ReadFault.TheVariants as fault
 use Rattle.ssh_audit.specs.Responding.{AnswersFile, IsFaultOf, IsUsageOf}
 use Rattle.ssh_audit.proofs.CommandLineLemmas.{no_request}
+use Rattle.ssh_audit.proofs.SignatureLemmas.{signature-same, signature_fault-since}
+use Rattle.ssh_audit.proofs.SourceLemmas.{file-alike, left-none, none-failed, one-failed, over_limit, vouched-same, vouching-alike}
 use Rattle.ssh_inputs.proofs.PieceLemmas.{words_long}
 
 -- ---- sources with the same files and the same input have the same answers
 
-file-at : (t : Bool) (a b : SourceState) (name : List ℕ) → a.named ≡ b.named → a.input ≡ b.input
-    → bytes_at (cond t (record a { input = (cut_at_empty true a.input).1 }) a) name ≡ bytes_at (cond t (record b { input = (cut_at_empty true b.input).1 }) b) name
-file-at true a b name n i = rw (n, i) refl
-file-at false a b name n i = rw (n, i) refl
-
 file-same : (vouch : Option (List ℕ)) (a b : SourceState) (name : List ℕ) → a.named ≡ b.named → a.input ≡ b.input
     → bytes_at (after_vouching vouch a) name ≡ bytes_at (after_vouching vouch b) name
-file-same None a b name n i = rw (n, i) refl
-file-same (Some v) a b name n i = file-at (bytes_eq v dash) a b name n i
-
-vouched-same : (vouch : Option (List ℕ)) (a b : SourceState) → a.named ≡ b.named → a.input ≡ b.input → vouched_in vouch a ≡ vouched_in vouch b
-vouched-same None a b n i = refl
-vouched-same (Some v) a b n i = rw (n, i) refl
+file-same vouch a b name n i = file-alike (after_vouching vouch a) (after_vouching vouch b) name (vouching-alike vouch a b (n, i))
 
 vouch-by : (by : Deciding) (name : List ℕ) (a b : SourceState) (v : Result (List Signed) Shown) → bytes_at a name ≡ bytes_at b name → vouched_response by name a v ≡ vouched_response by name b v
 vouch-by by name a b (Err r) e = refl
@@ -58,15 +50,8 @@ answers-same : (a b : SourceState) (q : Option Request) (r : Shown) → a.named 
 answers-same a b None r n i h = h
 answers-same a b (Some (login w)) r n i (zone, reads, is) = (zone, reads, is ∙ values-same login_by w.files a b (login_spelled w zone) n i)
 answers-same a b (Some (host w)) r n i h = h ∙ values-same host_by w.files a b (host_spelled w) n i
+answers-same a b (Some (sshsig w)) r n i h = h ∙ signature-same w a b n i
 answers-same a b (Some (show w)) r n i h = subst (λ (o : Answer). IsAnswer o r) (show-same w a b n i) h
-
-none-failed : (s t : SourceState) (u : Option SourceState) → t.failures ≡ s.failures → NoReadFailed t u → NoReadFailed s u
-none-failed s t None e h = h
-none-failed s t (Some x) e h = h ∙ e
-
-one-failed : (s t : SourceState) (u : Option SourceState) (name : List ℕ) → t.failures ≡ s.failures → OneReadFailed t u name → OneReadFailed s u name
-one-failed s t None name e h = h
-one-failed s t (Some x) name e h = (omega (arith, e, h), h.1)
 
 audit_fault-since : (f : AuditFiles) (s t : SourceState) (u : Option SourceState) (r : Shown) → t.failures ≡ s.failures → IsAuditFault f t u r → IsAuditFault f s u r
 audit_fault-since f s t u r e (inl h) = inl (one-failed s t u f.trust e h.0, h.1)
@@ -76,6 +61,7 @@ fault-since : (q : Option Request) (s t : SourceState) (u : Option SourceState) 
 fault-since None s t u r f h = h
 fault-since (Some (login w)) s t u r f h = audit_fault-since w.files s t u r f h
 fault-since (Some (host w)) s t u r f h = audit_fault-since w.files s t u r f h
+fault-since (Some (sshsig w)) s t u r f h = signature_fault-since w s t u r f h
 fault-since (Some (show w)) s t u r f h = (one-failed s t u w.file f h.0, h.1)
 
 shifted : (q : Option Request) (s t : SourceState) (u : Option SourceState) (r : Shown) → t.named ≡ (after_line s).named → t.input ≡ (after_line s).input → t.failures ≡ s.failures
@@ -89,10 +75,6 @@ shifted q s t u r n i f (inr h) = inr (fault-since q s t u r f h)
 alike : (by : Deciding) (a b : List ℕ) (vouched : List Signed) → file_limit < length a → file_limit < length b → answer_by by a vouched ≡ answer_by by b vouched
 alike (Err e) a b vouched long longer = refl
 alike (Ok decision) a b vouched long longer = rw (lt-ltb file_limit (length a) long, lt-ltb file_limit (length b) longer) refl
-
-left-none : (s rest : SourceState) (t : Option SourceState) → IsLeft s rest t → NoReadFailed s t
-left-none s rest None h = h
-left-none s rest (Some t) h = h.2
 
 gathered-answer : (by : Deciding) (vouched : List Signed) (bytes : Option (List ℕ)) (rest s : SourceState) (t : Option SourceState) (got : List ℕ) (res : Result Decision AuditError)
     → IsGathered bytes rest s t got → Gives (answer_by by got vouched) res → NoReadFailed s t × Gives (answer_over by vouched bytes) res
@@ -111,10 +93,6 @@ file_decided by vouched name got read (Some s) t res is gathered gives = λ coun
     inr (inr (gathered-answer by vouched (bytes_at s name) (after_whole s name) s t got res (gathered counts) (subst (λ (l : List ℕ). Gives (answer_by by l vouched) res) is gives)))
 
 -- ---- vouch files
-
-over_limit : (bytes : Option (List ℕ)) → IsTooLong bytes → within_limit bytes ≡ None
-over_limit None h = absurd h
-over_limit (Some bytes) h = rw (lt-ltb file_limit (length bytes) h) refl
 
 -- the answer where the vouch file has this name
 abbrev vouch_response_by : Deciding → List ℕ → Option (List ℕ) → SourceState → Shown
@@ -140,13 +118,10 @@ vouch_unread view f by name (Some s) u e (Ok r) v fails is = λ counts.
     let P : Option (List ℕ) → Type 0 = λ z. Audits f (vouch_response_by by f.trust z s) s u (view r) in
     subst P (sym v) (vouch_fault f by name s u e (view r) v (fails counts) is)
 
-same_file : (a b : SourceState) (name : List ℕ) → a.named ≡ b.named → a.input ≡ b.input → bytes_at a name ≡ bytes_at b name
-same_file a b name n i = rw (n, i) refl
-
 told : (by : Deciding) (trust : List ℕ) (s t : SourceState) (name bytes : List ℕ) → within_limit (part_at s name) ≡ Some bytes → t.named ≡ (after_part s name).named → t.input ≡ (after_part s name).input
     → vouched_response by trust t (or_vouch_fault (vouched_of bytes)) ≡ vouch_response_by by trust (Some name) s
 told by trust s t name bytes h n i =
-    vouch-by by trust t (after_part s name) (or_vouch_fault (vouched_of bytes)) (same_file t (after_part s name) trust n i)
+    vouch-by by trust t (after_part s name) (or_vouch_fault (vouched_of bytes)) (file-alike t (after_part s name) trust (n, i))
     ∙ ap (λ v. vouched_response by trust (after_part s name) (vouched_or_fault name v)) (sym h)
 
 -- a response from where the vouch file was read on
@@ -258,3 +233,10 @@ pub words_respond : {R E W : Type 0} (view : R → Shown) (text : W → List ℕ
 words_respond view text [] o u res some h = absurd (omega (arith, some))
 words_respond view text (w ∷ words) None u res some h = tt
 words_respond view text (w ∷ words) (Some s) u res some h = λ counts. given view (text w) (map text words) s u res (h counts)
+
+-- no words: those of the first line of standard input
+pub no_words_respond : {R E W : Type 0} (view : R → Shown) (text : W → List ℕ) (words : List W) (o u : Option SourceState) (res : Result R E) → length words ≡ 0
+    → IfTells o (λ s. IfOk res (λ r. Responds [] s u (view r)))
+    → IfTells o (λ s. IfOk res (λ r. Responds (map text words) s u (view r)))
+no_words_respond view text [] o u res none h = h
+no_words_respond view text (w ∷ words) o u res none h = absurd (omega (arith, none))

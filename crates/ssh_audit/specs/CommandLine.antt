@@ -35,9 +35,15 @@ show_options = (codes "kind", true) ∷ (codes "file", true) ∷ []
 unfoldable pub show_app : App
 show_app = with_options (new_app (codes "show")) show_options
 
+abbrev pub sshsig_options : List (Text × Bool)
+sshsig_options = (codes "body", true) ∷ (codes "message", true) ∷ (codes "namespace", true) ∷ (codes "vouch", false) ∷ []
+
+unfoldable pub sshsig_app : App
+sshsig_app = with_options (new_app (codes "sshsig")) sshsig_options
+
 -- the program and its subcommands
 abbrev pub with_commands : App
-with_commands = with_subcommand (with_subcommand (with_subcommand (new_app (codes "ssh_audit")) show_app.top) login_app.top) host_app.top
+with_commands = with_subcommand (with_subcommand (with_subcommand (with_subcommand (new_app (codes "ssh_audit")) show_app.top) login_app.top) host_app.top) sshsig_app.top
 
 -- the program's command line: the words begin with a subcommand, which has to be there
 abbrev pub command_line : App
@@ -76,11 +82,20 @@ pub record ShowWords : Type 0 where
   pub kind : Text
   pub file : Text
 
+-- the texts of the options of `sshsig`: the names of the body's file and of the message's, the namespace itself, and the
+-- name of a vouch file where one is given
+pub record SshsigWords : Type 0 where
+  pub body : Text
+  pub message : Text
+  pub namespace : Text
+  pub vouch : Option Text
+
 -- what the words may ask for
 pub data Request : Type 0 where
   login : LoginWords → Request
   host : HostWords → Request
   show : ShowWords → Request
+  sshsig : SshsigWords → Request
 
 infixl 10 ◌>>=◌
 abbrev pub ◌>>=◌ : {A B : Type 0} → Option A → (A → Option B) → Option B
@@ -131,10 +146,18 @@ show_words rows = do
   file ← first_of (codes "file") rows
   Some (record { kind = kind; file = file })
 
+unfoldable pub sshsig_words : List Row → Option SshsigWords
+sshsig_words rows = do
+  body ← first_of (codes "body") rows
+  message ← first_of (codes "message") rows
+  namespace ← first_of (codes "namespace") rows
+  Some (record { body = body; message = message; namespace = namespace; vouch = first_of (codes "vouch") rows })
+
 abbrev pub request_in : Text × List Row → Option Request
 request_in p = if bytes_eq p.0 (codes "login") then option_map (λ w. login w) (login_words p.1)
     else if bytes_eq p.0 (codes "host") then option_map (λ w. host w) (host_words p.1)
     else if bytes_eq p.0 (codes "show") then option_map (λ w. show w) (show_words p.1)
+    else if bytes_eq p.0 (codes "sshsig") then option_map (λ w. sshsig w) (sshsig_words p.1)
     else None
 
 -- what the words ask for, where they have no fault: the values that the command line gives to the options

@@ -3,13 +3,14 @@ use Rattle.std.specs.Prelude.{◌≡◌, ◌≢◌, ℕ, List, Some, None, Resul
 use Rattle.clap.specs.Words.{kind_of}
 use Rattle.clap.specs.declared.error.Error.{Error}
 use Rattle.clap.specs.declared.error.ErrorKind.TheVariants.{OutOfMemory}
-use Rattle.ssh_audit.specs.CommandLine.{AuditFiles as FileNames, HostWords as HostTexts, LoginWords as LoginTexts, ShowWords as ShowTexts, Request as Asked, host, login, show, request_of}
+use Rattle.ssh_audit.specs.CommandLine.{AuditFiles as FileNames, HostWords as HostTexts, LoginWords as LoginTexts, ShowWords as ShowTexts, SshsigWords as SshsigTexts, Request as Asked, host, login, show, sshsig, request_of}
 use Rattle.ssh_audit.specs.declared.request.AuditFiles.{AuditFiles}
 use Rattle.ssh_audit.specs.declared.request.HostWords.{HostWords}
 use Rattle.ssh_audit.specs.declared.request.LoginWords.{LoginWords}
 use Rattle.ssh_audit.specs.declared.request.Request.{Request}
-use Rattle.ssh_audit.specs.declared.request.Request.TheVariants.{Host, Login, Show}
+use Rattle.ssh_audit.specs.declared.request.Request.TheVariants.{Host, Login, Show, Sshsig}
 use Rattle.ssh_audit.specs.declared.request.ShowWords.{ShowWords}
+use Rattle.ssh_audit.specs.declared.request.SshsigWords.{SshsigWords}
 use Rattle.ssh_audit.specs.declared.request.WordsFault.{WordsFault}
 use Rattle.ssh_audit.specs.declared.request.WordsFault.TheVariants.{Usage, Memory}
 
@@ -46,10 +47,14 @@ host_texts_of w = record {
 abbrev pub show_texts_of : ShowWords → ShowTexts
 show_texts_of w = record { kind = w.kind.now; file = w.file.now }
 
+abbrev pub sshsig_texts_of : SshsigWords → SshsigTexts
+sshsig_texts_of w = record { body = w.body.now; message = w.message.now; namespace = w.namespace.now; vouch = option_map (λ s. s.now) w.vouch }
+
 abbrev pub request_in_memory : Request → Asked
 request_in_memory (Login w) = login (texts_of w)
 request_in_memory (Host w) = host (host_texts_of w)
 request_in_memory (Show w) = show (show_texts_of w)
+request_in_memory (Sshsig w) = sshsig (sshsig_texts_of w)
 
 -- the request that the words spell, or a usage fault where they spell none, unless memory was refused
 abbrev pub Parses : List (List ℕ) → Result Request WordsFault → Type 0

@@ -7,12 +7,12 @@ use Rattle.ssh_wire.specs.Reading.{◌>>=◌}
 use Rattle.ssh_audit.specs.declared.request.WordsFault.{WordsFault}
 use Rattle.ssh_audit.specs.declared.request.WordsFault.TheVariants.{Usage, Memory}
 use Rattle.ssh_trust.specs.Query.{HostCheck, Login}
-use Rattle.ssh_audit.specs.CommandLine.{HostWords, LoginWords, Request, ShowWords, host, login, show, request_of}
+use Rattle.ssh_audit.specs.CommandLine.{HostWords, LoginWords, Request, ShowWords, host, login, show, sshsig, request_of}
 use Rattle.ssh_audit.specs.Audits.{IsAuditFault, host_by, login_by, spelled_response}
+use Rattle.ssh_audit.specs.Signatures.{IsSignatureFault, signature_response}
 use Rattle.ssh_inputs.specs.SourceState.{SourceState, bytes_at}
 use Rattle.ssh_show.specs.declared.kind.ShowKind.{ShowKind}
-use Rattle.ssh_lines.specs.Text.{lines_of}
-use Rattle.ssh_show.specs.Showing.{ShowsLine, first_of_lines, show_kind}
+use Rattle.ssh_show.specs.Showing.{Shows, show_kind}
 use Rattle.ssh_inputs.specs.Parts.{first_line, after_line}
 use Rattle.ssh_inputs.specs.Values.{hex_bytes, number_below, short_bytes, short_hex, zone_text, ReadsZone}
 use Rattle.ssh_inputs.specs.Words.{words_in}
@@ -72,7 +72,7 @@ login_response w zone s = spelled_response login_by w.files s (login_spelled w z
 abbrev pub host_response : HostWords → SourceState → Response
 host_response w s = spelled_response host_by w.files s (host_spelled w)
 
--- what is to be answered: this response, that to a login in the zone of its text, or what a line is shown as
+-- what is to be answered: this response, that to a login in the zone of its text, or what a file is shown as
 pub data Answer : Type 0 where
   exactly : Response → Answer
   login_in_zone : LoginWords → SourceState → Answer
@@ -82,12 +82,11 @@ pub data Answer : Type 0 where
 abbrev pub IsAnswer : Answer → Response → Type 0
 IsAnswer (exactly wanted) r = r ≡ wanted
 IsAnswer (login_in_zone w s) r = (zone : Option TimeZone) × ReadsZone (zone_text w.zone) zone × (r ≡ login_response w zone s)
-IsAnswer (shown kind line) r = ShowsLine kind line r
+IsAnswer (shown kind file) r = Shows kind file r
 
--- the first line of a file, whatever its length
 abbrev pub show_over : ShowKind → List ℕ → Option (List ℕ) → Answer
 show_over kind name None = exactly (no_file_response name)
-show_over kind name (Some bytes) = shown kind (first_of_lines (lines_of bytes))
+show_over kind name (Some bytes) = shown kind bytes
 
 abbrev pub show_by_kind : Option ShowKind → List ℕ → Option (List ℕ) → Answer
 show_by_kind None name file = exactly (value_response (codes "kind"))
@@ -102,6 +101,7 @@ answer_in s None = exactly usage_response
 answer_in s (Some (login w)) = login_in_zone w s
 answer_in s (Some (host w)) = exactly (host_response w s)
 answer_in s (Some (show w)) = show_answer w s
+answer_in s (Some (sshsig w)) = exactly (signature_response w s)
 
 -- where no word is given, the words are those of the first line of standard input
 abbrev pub request_words : List (List ℕ) → SourceState → List (List ℕ)
@@ -124,6 +124,7 @@ IsReadFault None s t r = ⊥
 IsReadFault (Some (login w)) s t r = IsAuditFault w.files s t r
 IsReadFault (Some (host w)) s t r = IsAuditFault w.files s t r
 IsReadFault (Some (show w)) s t r = OneReadFailed s t w.file × (r ≡ no_file_response w.file)
+IsReadFault (Some (sshsig w)) s t r = IsSignatureFault w s t r
 
 -- the response is the wanted one, and no read failed; or one failed, and it is the fault of the file that was read
 abbrev pub RespondsBy : Option Request → Answer → SourceState → Option SourceState → Response → Type 0

@@ -1,7 +1,13 @@
 //! What a trust file answers to a question, with the signatures that a vouch file vouches for.
 
 ghost use Rattle.std.specs.Prelude.{◌≡◌, IfOk};
-ghost use Rattle.ssh_audit.specs.Audits.{Audits, audit_response, decided_response, or_vouch_fault, vouched_response};
+ghost use Rattle.ssh_audit.specs.Audits.{
+  Audits,
+  audit_response,
+  decided_response,
+  or_vouch_fault,
+  vouched_response,
+};
 ghost use Rattle.ssh_audit.specs.Responding.{AnswersFile, IsFaultOf, is_memory};
 ghost use Rattle.ssh_audit.specs.Parsing.{names_of};
 ghost use Rattle.ssh_print.specs.ResponseView.{response};
@@ -23,7 +29,9 @@ fn decide_by_file<Q: Question, F: Files>(
     vouched: &[Signed],
     files: &mut F,
 ) -> Result<Decision, AuditError>
-    ensures { IfTells (F.source_state files.old) (λ s. AnswersFile (Q.decides question.entry.now) vouched.now name.now (bytes_at s name.now) s (F.source_state files.new) result) }
+    ensures { IfTells (F.source_state files.old) (λ s.
+        AnswersFile (Q.decides question.entry.now) vouched.now name.now (bytes_at s name.now) s
+        (F.source_state files.new) result) }
 {
     match gather(alloc, files, name) {
         Ok(file) => question.decide(alloc, &file, vouched),

@@ -2,7 +2,14 @@
 
 ghost use Rattle.std.specs.Prelude.{◌≡◌, IfOk};
 ghost use Rattle.clap.specs.Words.{app_of, with_rule};
-ghost use Rattle.ssh_audit.specs.CommandLine.{command_line, option_rule, host_app, login_app, show_app};
+ghost use Rattle.ssh_audit.specs.CommandLine.{
+  command_line,
+  option_rule,
+  host_app,
+  login_app,
+  show_app,
+  sshsig_app,
+};
 
 use clap::{Arg, Command};
 use std::alloc::{AllocError, Global};
@@ -14,7 +21,8 @@ fn with_option<'a>(
     name: &'a str,
     required: bool,
 ) -> Result<Command<'a>, AllocError>
-    ensures { IfOk result (λ c. app_of c ≡ with_rule (app_of command.entry) (option_rule (name.entry.now, required))) }
+    ensures { IfOk result (λ c.
+        app_of c ≡ with_rule (app_of command.entry) (option_rule (name.entry.now, required))) }
 {
     let option = Arg::new(alloc, name).long(name).required(required);
     command.arg(option)
@@ -68,6 +76,19 @@ fn show_command<'a>(alloc: Global) -> Result<Command<'a>, AllocError>
     Ok(command)
 }
 
+/// The subcommand `sshsig`.
+#[tactic(auto, unfolding(crate::specs::CommandLine::sshsig_app))]
+fn sshsig_command<'a>(alloc: Global) -> Result<Command<'a>, AllocError>
+    ensures { IfOk result (λ c. app_of c ≡ sshsig_app) }
+{
+    let command = Command::new(alloc, "sshsig");
+    let command = with_option(alloc, command, "body", true)?;
+    let command = with_option(alloc, command, "message", true)?;
+    let command = with_option(alloc, command, "namespace", true)?;
+    let command = with_option(alloc, command, "vouch", false)?;
+    Ok(command)
+}
+
 /// The program's command line.
 pub fn program<'a>(alloc: Global) -> Result<Command<'a>, AllocError>
     ensures { IfOk result (λ c. app_of c ≡ command_line) }
@@ -75,8 +96,10 @@ pub fn program<'a>(alloc: Global) -> Result<Command<'a>, AllocError>
     let show = show_command(alloc)?;
     let login = login_command(alloc)?;
     let host = host_command(alloc)?;
+    let sshsig = sshsig_command(alloc)?;
     let showing = Command::new(alloc, "ssh_audit").subcommand(show)?;
     let logging_in = showing.subcommand(login)?;
-    let program = logging_in.subcommand(host)?;
+    let trusting = logging_in.subcommand(host)?;
+    let program = trusting.subcommand(sshsig)?;
     Ok(program.no_binary_name(true).subcommand_required(true))
 }

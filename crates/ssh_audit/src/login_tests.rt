@@ -1,75 +1,27 @@
-//! `login` on worked rows. What a row does not say is what [`PLAIN`] or [`CERTIFIED`] says. The
-//! certificates were made outside.
+//! `login` on worked rows. What a row does not say is what [`PLAIN`] or [`CERTIFIED`] says.
 
-use crate::tests::printed;
+use crate::tests::keys::{K0, K1, RSA, RSA_SHA2_SIGNATURE, RSA_SIGNATURE, S0, SK, SK_NAME};
+use crate::tests::user_certificates::{
+    BAD_SIGNER, ELSEWHERE, ENDLESS, EXTENDED, FORCED, HOST, NEGATED, NO_COMMAND, NO_PRINCIPALS,
+    PERMITTED, TWICE, UNKNOWN, VERIFIED, X0,
+};
+use crate::tests::{asked, compare, compare_head, filled, joined, printed};
 use std::alloc::Global;
+use std::process::Abort;
 use std::test::Fail;
 
-/// Ed25519 keys of 32 zero bytes, and the same with the last byte 1.
-const K0: &str = "AAAAC3NzaC1lZDI1NTE5AAAAIAAAAAAAAAAAAAAAAAAAAAAAAAAAAAAAAAAAAAAAAAAA";
+/// What has to be vouched for where K0 is offered, and where K1 is.
+pub(crate) const K0_TRIPLE: &str =
+    "0000000b7373682d65643235353139000000200000000000000000000000000000000000000000000000000000000000000000 00000004010203043200000003616e6e0000000e7373682d636f6e6e656374696f6e000000097075626c69636b6579010000000b7373682d65643235353139000000330000000b7373682d65643235353139000000200000000000000000000000000000000000000000000000000000000000000000 0000000b7373682d6564323535313900000001aa";
 
-const K1: &str = "AAAAC3NzaC1lZDI1NTE5AAAAIAAAAAAAAAAAAAAAAAAAAAAAAAAAAAAAAAAAAAAAAAAB";
+const K1_TRIPLE: &str =
+    "0000000b7373682d65643235353139000000200000000000000000000000000000000000000000000000000000000000000001 00000004010203043200000003616e6e0000000e7373682d636f6e6e656374696f6e000000097075626c69636b6579010000000b7373682d65643235353139000000330000000b7373682d65643235353139000000200000000000000000000000000000000000000000000000000000000000000001 0000000b7373682d6564323535313900000001aa";
 
-/// A signature of `ssh-ed25519`, whose bytes are `aa`.
-const S0: &str = "0000000b7373682d6564323535313900000001aa";
+/// The same where SK is: the key, and what was signed.
+const SK_SIGNED: &str =
+    "0000001a736b2d7373682d65643235353139406f70656e7373682e636f6d000000200000000000000000000000000000000000000000000000000000000000000000000000047373683a 00000004010203043200000003616e6e0000000e7373682d636f6e6e656374696f6e000000097075626c69636b6579010000001a736b2d7373682d65643235353139406f70656e7373682e636f6d0000004a0000001a736b2d7373682d65643235353139406f70656e7373682e636f6d000000200000000000000000000000000000000000000000000000000000000000000000000000047373683a";
 
-/// A certificate for K0 by K1, valid from 100 on and before 200, for the user `ann`.
-const X0: &str =
-    "AAAAIHNzaC1lZDI1NTE5LWNlcnQtdjAxQG9wZW5zc2guY29tAAAAAQcAAAAgAAAAAAAAAAAAAAAAAAAAAAAAAAAAAAAAAAAAAAAAAAAAAAAAAAAABQAAAAEAAAACaWQAAAAHAAAAA2FubgAAAAAAAABkAAAAAAAAAMgAAAAAAAAAAAAAAAAAAAAzAAAAC3NzaC1lZDI1NTE5AAAAIAAAAAAAAAAAAAAAAAAAAAAAAAAAAAAAAAAAAAAAAAABAAAAFAAAAAtzc2gtZWQyNTUxOQAAAAGq";
-
-/// The same, valid before the last second that can be told.
-const ENDLESS: &str =
-    "AAAAIHNzaC1lZDI1NTE5LWNlcnQtdjAxQG9wZW5zc2guY29tAAAAAQcAAAAgAAAAAAAAAAAAAAAAAAAAAAAAAAAAAAAAAAAAAAAAAAAAAAAAAAAABQAAAAEAAAACaWQAAAAHAAAAA2FubgAAAAAAAABk//////////8AAAAAAAAAAAAAAAAAAAAzAAAAC3NzaC1lZDI1NTE5AAAAIAAAAAAAAAAAAAAAAAAAAAAAAAAAAAAAAAAAAAAAAAABAAAAFAAAAAtzc2gtZWQyNTUxOQAAAAGq";
-
-/// The same, a host's.
-const HOST: &str =
-    "AAAAIHNzaC1lZDI1NTE5LWNlcnQtdjAxQG9wZW5zc2guY29tAAAAAQcAAAAgAAAAAAAAAAAAAAAAAAAAAAAAAAAAAAAAAAAAAAAAAAAAAAAAAAAABQAAAAIAAAACaWQAAAAHAAAAA2FubgAAAAAAAABkAAAAAAAAAMgAAAAAAAAAAAAAAAAAAAAzAAAAC3NzaC1lZDI1NTE5AAAAIAAAAAAAAAAAAAAAAAAAAAAAAAAAAAAAAAAAAAAAAAABAAAAFAAAAAtzc2gtZWQyNTUxOQAAAAGq";
-
-/// The same, without principals.
-const NO_PRINCIPALS: &str =
-    "AAAAIHNzaC1lZDI1NTE5LWNlcnQtdjAxQG9wZW5zc2guY29tAAAAAQcAAAAgAAAAAAAAAAAAAAAAAAAAAAAAAAAAAAAAAAAAAAAAAAAAAAAAAAAABQAAAAEAAAACaWQAAAAAAAAAAAAAAGQAAAAAAAAAyAAAAAAAAAAAAAAAAAAAADMAAAALc3NoLWVkMjU1MTkAAAAgAAAAAAAAAAAAAAAAAAAAAAAAAAAAAAAAAAAAAAAAAAEAAAAUAAAAC3NzaC1lZDI1NTE5AAAAAao=";
-
-/// The same, with the critical option `x@example.org`.
-const UNKNOWN: &str =
-    "AAAAIHNzaC1lZDI1NTE5LWNlcnQtdjAxQG9wZW5zc2guY29tAAAAAQcAAAAgAAAAAAAAAAAAAAAAAAAAAAAAAAAAAAAAAAAAAAAAAAAAAAAAAAAABQAAAAEAAAACaWQAAAAHAAAAA2FubgAAAAAAAABkAAAAAAAAAMgAAAAVAAAADXhAZXhhbXBsZS5vcmcAAAAAAAAAAAAAAAAAAAAzAAAAC3NzaC1lZDI1NTE5AAAAIAAAAAAAAAAAAAAAAAAAAAAAAAAAAAAAAAAAAAAAAAABAAAAFAAAAAtzc2gtZWQyNTUxOQAAAAGq";
-
-/// The same, with the extension `x@example.org`.
-const EXTENDED: &str =
-    "AAAAIHNzaC1lZDI1NTE5LWNlcnQtdjAxQG9wZW5zc2guY29tAAAAAQcAAAAgAAAAAAAAAAAAAAAAAAAAAAAAAAAAAAAAAAAAAAAAAAAAAAAAAAAABQAAAAEAAAACaWQAAAAHAAAAA2FubgAAAAAAAABkAAAAAAAAAMgAAAAAAAAAFQAAAA14QGV4YW1wbGUub3JnAAAAAAAAAAAAAAAzAAAAC3NzaC1lZDI1NTE5AAAAIAAAAAAAAAAAAAAAAAAAAAAAAAAAAAAAAAAAAAAAAAABAAAAFAAAAAtzc2gtZWQyNTUxOQAAAAGq";
-
-/// The same, with the forced command `a "b" c`.
-const FORCED: &str =
-    "AAAAIHNzaC1lZDI1NTE5LWNlcnQtdjAxQG9wZW5zc2guY29tAAAAAQcAAAAgAAAAAAAAAAAAAAAAAAAAAAAAAAAAAAAAAAAAAAAAAAAAAAAAAAAABQAAAAEAAAACaWQAAAAHAAAAA2FubgAAAAAAAABkAAAAAAAAAMgAAAAgAAAADWZvcmNlLWNvbW1hbmQAAAALAAAAB2EgImIiIGMAAAAAAAAAAAAAADMAAAALc3NoLWVkMjU1MTkAAAAgAAAAAAAAAAAAAAAAAAAAAAAAAAAAAAAAAAAAAAAAAAEAAAAUAAAAC3NzaC1lZDI1NTE5AAAAAao=";
-
-/// The same, with `verify-required` twice.
-const TWICE: &str =
-    "AAAAIHNzaC1lZDI1NTE5LWNlcnQtdjAxQG9wZW5zc2guY29tAAAAAQcAAAAgAAAAAAAAAAAAAAAAAAAAAAAAAAAAAAAAAAAAAAAAAAAAAAAAAAAABQAAAAEAAAACaWQAAAAHAAAAA2FubgAAAAAAAABkAAAAAAAAAMgAAAAuAAAAD3ZlcmlmeS1yZXF1aXJlZAAAAAAAAAAPdmVyaWZ5LXJlcXVpcmVkAAAAAAAAAAAAAAAAAAAAMwAAAAtzc2gtZWQyNTUxOQAAACAAAAAAAAAAAAAAAAAAAAAAAAAAAAAAAAAAAAAAAAAAAQAAABQAAAALc3NoLWVkMjU1MTkAAAABqg==";
-
-/// The same, with a forced command that is no string.
-const NO_COMMAND: &str =
-    "AAAAIHNzaC1lZDI1NTE5LWNlcnQtdjAxQG9wZW5zc2guY29tAAAAAQcAAAAgAAAAAAAAAAAAAAAAAAAAAAAAAAAAAAAAAAAAAAAAAAAAAAAAAAAABQAAAAEAAAACaWQAAAAHAAAAA2FubgAAAAAAAABkAAAAAAAAAMgAAAAVAAAADWZvcmNlLWNvbW1hbmQAAAAAAAAAAAAAAAAAAAAzAAAAC3NzaC1lZDI1NTE5AAAAIAAAAAAAAAAAAAAAAAAAAAAAAAAAAAAAAAAAAAAAAAABAAAAFAAAAAtzc2gtZWQyNTUxOQAAAAGq";
-
-/// The same, for the source addresses `!10.0.0.1`.
-const NEGATED: &str =
-    "AAAAIHNzaC1lZDI1NTE5LWNlcnQtdjAxQG9wZW5zc2guY29tAAAAAQcAAAAgAAAAAAAAAAAAAAAAAAAAAAAAAAAAAAAAAAAAAAAAAAAAAAAAAAAABQAAAAEAAAACaWQAAAAHAAAAA2FubgAAAAAAAABkAAAAAAAAAMgAAAAjAAAADnNvdXJjZS1hZGRyZXNzAAAADQAAAAkhMTAuMC4wLjEAAAAAAAAAAAAAADMAAAALc3NoLWVkMjU1MTkAAAAgAAAAAAAAAAAAAAAAAAAAAAAAAAAAAAAAAAAAAAAAAAEAAAAUAAAAC3NzaC1lZDI1NTE5AAAAAao=";
-
-/// The same, for the source addresses `10.0.0.0/8`.
-const ELSEWHERE: &str =
-    "AAAAIHNzaC1lZDI1NTE5LWNlcnQtdjAxQG9wZW5zc2guY29tAAAAAQcAAAAgAAAAAAAAAAAAAAAAAAAAAAAAAAAAAAAAAAAAAAAAAAAAAAAAAAAABQAAAAEAAAACaWQAAAAHAAAAA2FubgAAAAAAAABkAAAAAAAAAMgAAAAkAAAADnNvdXJjZS1hZGRyZXNzAAAADgAAAAoxMC4wLjAuMC84AAAAAAAAAAAAAAAzAAAAC3NzaC1lZDI1NTE5AAAAIAAAAAAAAAAAAAAAAAAAAAAAAAAAAAAAAAAAAAAAAAABAAAAFAAAAAtzc2gtZWQyNTUxOQAAAAGq";
-
-/// The same, with `verify-required`.
-const VERIFIED: &str =
-    "AAAAIHNzaC1lZDI1NTE5LWNlcnQtdjAxQG9wZW5zc2guY29tAAAAAQcAAAAgAAAAAAAAAAAAAAAAAAAAAAAAAAAAAAAAAAAAAAAAAAAAAAAAAAAABQAAAAEAAAACaWQAAAAHAAAAA2FubgAAAAAAAABkAAAAAAAAAMgAAAAXAAAAD3ZlcmlmeS1yZXF1aXJlZAAAAAAAAAAAAAAAAAAAADMAAAALc3NoLWVkMjU1MTkAAAAgAAAAAAAAAAAAAAAAAAAAAAAAAAAAAAAAAAAAAAAAAAEAAAAUAAAAC3NzaC1lZDI1NTE5AAAAAao=";
-
-/// The same, with `permit-pty` and `permit-X11-forwarding`, and `permit-user-rc` with data.
-const PERMITTED: &str =
-    "AAAAIHNzaC1lZDI1NTE5LWNlcnQtdjAxQG9wZW5zc2guY29tAAAAAQcAAAAgAAAAAAAAAAAAAAAAAAAAAAAAAAAAAAAAAAAAAAAAAAAAAAAAAAAABQAAAAEAAAACaWQAAAAHAAAAA2FubgAAAAAAAABkAAAAAAAAAMgAAAAAAAAARgAAAApwZXJtaXQtcHR5AAAAAAAAAA5wZXJtaXQtdXNlci1yYwAAAAF4AAAAFXBlcm1pdC1YMTEtZm9yd2FyZGluZwAAAAAAAAAAAAAAMwAAAAtzc2gtZWQyNTUxOQAAACAAAAAAAAAAAAAAAAAAAAAAAAAAAAAAAAAAAAAAAAAAAQAAABQAAAALc3NoLWVkMjU1MTkAAAABqg==";
-
-/// The same, whose signature is of `rsa-sha2-256`.
-const BAD_SIGNER: &str =
-    "AAAAIHNzaC1lZDI1NTE5LWNlcnQtdjAxQG9wZW5zc2guY29tAAAAAQcAAAAgAAAAAAAAAAAAAAAAAAAAAAAAAAAAAAAAAAAAAAAAAAAAAAAAAAAABQAAAAEAAAACaWQAAAAHAAAAA2FubgAAAAAAAABkAAAAAAAAAMgAAAAAAAAAAAAAAAAAAAAzAAAAC3NzaC1lZDI1NTE5AAAAIAAAAAAAAAAAAAAAAAAAAAAAAAAAAAAAAAAAAAAAAAABAAAAFQAAAAxyc2Etc2hhMi0yNTYAAAABqg==";
-
-/// What has to be vouched for where X0 is offered: the login's signature, and the signer's.
+/// The same where X0 is: the login's signature, and the signer's.
 const X0_LOGIN: &str =
     "0000000b7373682d65643235353139000000200000000000000000000000000000000000000000000000000000000000000000 00000004010203043200000003616e6e0000000e7373682d636f6e6e656374696f6e000000097075626c69636b657901000000207373682d656432353531392d636572742d763031406f70656e7373682e636f6d000000d5000000207373682d656432353531392d636572742d763031406f70656e7373682e636f6d00000001070000002000000000000000000000000000000000000000000000000000000000000000000000000000000005000000010000000269640000000700000003616e6e000000000000006400000000000000c8000000000000000000000000000000330000000b7373682d65643235353139000000200000000000000000000000000000000000000000000000000000000000000001000000140000000b7373682d6564323535313900000001aa 0000000b7373682d6564323535313900000001aa";
 
@@ -82,20 +34,19 @@ struct Asked<'a> {
     offer: &'a str,
     algorithm: &'a str,
     signature: &'a str,
-    host: Option<&'a str>,
     address: &'a str,
     now: &'a str,
-    zone: Option<&'a str>,
+    /// The options that may be left out.
+    more: &'a [&'a str],
 }
 
 const PLAIN: Asked<'static> = Asked {
     offer: K0,
     algorithm: "ssh-ed25519",
     signature: S0,
-    host: None,
     address: "192.0.2.1",
     now: "150",
-    zone: None,
+    more: &[],
 };
 
 const CERTIFIED: Asked<'static> = Asked {
@@ -104,15 +55,9 @@ const CERTIFIED: Asked<'static> = Asked {
     ..PLAIN
 };
 
-/// What a login is answered, where these signatures are vouched for.
-fn answer(
-    alloc: Global,
-    asked: &Asked<'_>,
-    file: &str,
-    vouched: &str,
-) -> Result<(u8, Vec<u8>), Fail> {
-    let mut words = Vec::new(alloc);
-    for word in [
+/// The words of the options that it has to have, the vouch file being standard input.
+fn first_words<'a>(asked: &Asked<'a>) -> [&'a str; 19] {
+    [
         "login",
         "--file",
         "f",
@@ -132,16 +77,15 @@ fn answer(
         asked.now,
         "--vouch",
         "-",
-    ] {
-        words.push(word)?;
-    }
-    for (name, value) in [("--host", asked.host), ("--zone", asked.zone)] {
-        if let Some(value) = value {
-            words.push(name)?;
-            words.push(value)?;
-        }
-    }
-    printed(alloc, words.as_slice(), file.as_bytes(), vouched.as_bytes())
+    ]
+}
+
+/// The words that ask for it.
+fn words_of<'a>(alloc: Global, asked: &Asked<'a>) -> Result<Vec<&'a str>, Fail> {
+    let mut words = Vec::new(alloc);
+    words.extend_from_slice(first_words(asked).as_slice())?;
+    words.extend_from_slice(asked.more)?;
+    Ok(words)
 }
 
 /// The signatures that an answer lists, as a vouch file.
@@ -158,239 +102,584 @@ fn listed(alloc: Global, answer: &str) -> Result<String, Fail> {
     Ok(triples)
 }
 
-/// What a login is answered, where all that is listed is vouched for: the lines before the evidence,
-/// and the status.
-fn answer_vouched(alloc: Global, asked: &Asked<'_>, file: &str) -> Result<(u8, String), Fail> {
-    let (_, first) = answer(alloc, asked, file, "")?;
+/// Compares the lines before the evidence, where all that is listed is vouched for.
+fn compare_vouched(
+    rt: &impl Abort,
+    alloc: Global,
+    asked: &Asked<'_>,
+    file: &str,
+    wanted: &str,
+) -> Result<(), Fail> {
+    let words = words_of(alloc, asked)?;
+    let (_, first) = printed(alloc, &words, file.as_bytes(), b"")?;
     let vouched = listed(alloc, str::from_utf8(&first).unwrap_or(""))?;
-    let (status, second) = answer(alloc, asked, file, &vouched)?;
-    let text = str::from_utf8(&second).unwrap_or("");
-    let head = match text.split_once("evidence ") {
-        Some((head, _)) => head,
-        None => text,
-    };
-    Ok((status, String::from_str(alloc, head)?))
+    compare_head(rt, alloc, &words, file.as_bytes(), &vouched, wanted)
+}
+
+/// The same of files of one line, which holds these options and this key.
+fn compare_lines(
+    rt: &impl Abort,
+    alloc: Global,
+    key: &str,
+    rows: &[(&str, Asked<'_>, &str)],
+) -> Result<(), Fail> {
+    for (options, asked, wanted) in rows {
+        let file = joined(alloc, [*options, " ssh-ed25519 ", key, "\n"].as_slice())?;
+        compare_vouched(rt, alloc, asked, &file, wanted)?;
+    }
+    Ok(())
 }
 
 const ALL_RIGHTS: &str = "granted line 1\nrights port agent x11 pty rc\n";
 
+const NO_RIGHTS: &str = "granted line 1\nrights none\n";
+
+/// Lines of two keys.
+const ONE: &[&str] = &["ssh-ed25519 ", K0, " me\n"];
+
+const BAD: &[&str] = &[
+    "ssh-dss AAAA\nnosuch ssh-ed25519 ",
+    K0,
+    "\nssh-ed25519 ",
+    K0,
+];
+
+const CAUSES: &[&str] = &[
+    "ssh-ed25519\n\n # x\nssh-ed25519-cert-v01@openssh.com ",
+    K0,
+    "\nssh-ed25519 ",
+    K0,
+    "*\nssh-ed25519 AAAA\nssh-rsa ",
+    K0,
+    "\nfrob\nssh-ed25519 ",
+    K0,
+    "\r\r\nssh-ed25519 ",
+    K0,
+    "=\n\tssh-ed25519\t ",
+    K1,
+    " a\r\n",
+];
+
+/// The key, the file, what is vouched for, the lines before the evidence, and the evidence.
+const KEY_ROWS: &[(&str, &[&str], &str, &str, &str)] = &[
+    (K0, ONE, K0_TRIPLE, ALL_RIGHTS, K0_TRIPLE),
+    (K0, &[], K0_TRIPLE, "denied N3\n", K0_TRIPLE),
+    (K0, ONE, "", "denied N6 0\n", K0_TRIPLE),
+    (K0, ONE, K1_TRIPLE, "denied N6 0\n", K0_TRIPLE),
+    (K1, ONE, K1_TRIPLE, "denied N3\n", K1_TRIPLE),
+    (
+        K0,
+        BAD,
+        K0_TRIPLE,
+        "granted line 3\nrights port agent x11 pty rc\n",
+        K0_TRIPLE,
+    ),
+    (
+        K1,
+        BAD,
+        K1_TRIPLE,
+        "denied N3\nreason 1 G1 L9\nreason 2 G1 L3\n",
+        K1_TRIPLE,
+    ),
+    (
+        K0,
+        CAUSES,
+        K0_TRIPLE,
+        "denied N3\nreason 1 G1 L7\nreason 4 G1 L13\nreason 5 G1 L10\nreason 6 G1 L11 K1 V1 0\nreason 7 G1 L12\nreason 8 G1 L3\nreason 9 G1 L10\nreason 10 G1 L10\n",
+        K0_TRIPLE,
+    ),
+    (
+        K1,
+        CAUSES,
+        K1_TRIPLE,
+        "granted line 11\nrights port agent x11 pty rc\n",
+        K1_TRIPLE,
+    ),
+];
+
+/// The lines of an answer with one piece of evidence.
+fn with_evidence(alloc: Global, head: &str, triple: &str) -> Result<String, Fail> {
+    joined(alloc, [head, "evidence 0 ", triple, "\n"].as_slice())
+}
+
 #[test]
-fn answers_plain_keys_by_options(rt: HostRuntime) -> Result<(), Fail> {
+fn answers_ed25519_rows(rt: HostRuntime) -> Result<(), Fail> {
     let alloc = rt.alloc();
-    let hosts = "from=\"*.example.org,!bad.example.org\"";
-    let on = |host| Asked {
-        host: Some(host),
-        ..PLAIN
-    };
-    let at = |now| Asked { now, ..PLAIN };
-    let ten = Asked {
-        address: "10.0.0.1",
-        ..PLAIN
-    };
-    let rows = [
-        (hosts, on("bad.example.org"), "denied N3\nreason 1 G8\n"),
-        (hosts, on("BAD.example.org"), "denied N3\nreason 1 G8\n"),
-        (hosts, on("good.example.org"), ALL_RIGHTS),
-        (hosts, PLAIN, "denied N3\nreason 1 G8\n"),
-        ("from=\"10.0.0.1/8\"", ten, "denied N3\nreason 1 G7\n"),
-        ("from=\"0.0.0.0/0\"", ten, ALL_RIGHTS),
-        ("from=\"::/0\"", ten, "denied N3\nreason 1 G8\n"),
-        ("restrict,pty", PLAIN, "granted line 1\nrights pty\n"),
-        ("pty,restrict", PLAIN, "granted line 1\nrights none\n"),
-        (
-            "no-pty,PTY,No-User-RC",
-            PLAIN,
-            "granted line 1\nrights port agent x11 pty\n",
-        ),
-        ("expiry-time=\"20240229Z\"", at("1709164800"), ALL_RIGHTS),
-        (
-            "expiry-time=\"20240229Z\"",
-            at("1709164801"),
-            "denied N3\nreason 1 G6\n",
-        ),
-        (
-            "expiry-time=\"20230229Z\"",
-            PLAIN,
-            "denied N3\nreason 1 G1 L6\n",
-        ),
-        (
-            "expiry-time=\"20300101\",expiry-time=\"19691231Z\"",
-            PLAIN,
-            "denied N3\nreason 1 G6\n",
-        ),
-        ("cert-authority", PLAIN, "denied N3\nreason 1 G3\n"),
-        ("verify-required", PLAIN, "denied N5\n"),
-        (
-            "command=\"\",environment=\"A=\\\"b\",tunnel=\"0\",permitopen=\"h:1\",permitlisten=\"2\"",
-            PLAIN,
-            "granted line 1\nrights port agent x11 pty rc\ncommand \ncarry environment A=\"b\ncarry tunnel 0\ncarry permitopen h:1\ncarry permitlisten 2\n",
-        ),
-    ];
-    for (options, asked, wanted) in rows {
-        let file = format!(in alloc; "{options} ssh-ed25519 {K0}\n")?;
-        let (_, found) = answer_vouched(alloc, &asked, &file)?;
-        assert_eq!(rt; found.as_str(), wanted, "{options}");
+    for (offer, file, vouched, head, triple) in KEY_ROWS {
+        let words = words_of(alloc, &Asked { offer, ..PLAIN })?;
+        let file = joined(alloc, file)?;
+        let wanted = with_evidence(alloc, head, triple)?;
+        compare(&rt, alloc, &words, file.as_bytes(), vouched, &wanted)?;
     }
     Ok(())
 }
+
+#[test]
+fn holds_the_limit_of_a_line(rt: HostRuntime) -> Result<(), Fail> {
+    let alloc = rt.alloc();
+    let words = words_of(alloc, &PLAIN)?;
+    let text = joined(alloc, ["ssh-ed25519 ", K0, " "].as_slice())?;
+    for (len, head) in [
+        (65_536, ALL_RIGHTS),
+        (65_537, "denied N3\nreason 1 G1 L1\n"),
+    ] {
+        let file = filled(alloc, &text, b'x', len)?;
+        let wanted = with_evidence(alloc, head, K0_TRIPLE)?;
+        compare(&rt, alloc, &words, &file, K0_TRIPLE, &wanted)?;
+    }
+    Ok(())
+}
+
+#[test]
+fn holds_the_limit_of_a_trust_file(rt: HostRuntime) -> Result<(), Fail> {
+    let alloc = rt.alloc();
+    let words = words_of(alloc, &PLAIN)?;
+    let file = filled(alloc, "#", b'x', 67_108_865)?;
+    compare(&rt, alloc, &words, &file, "", "fault A7\n")?;
+    let within = file.get(1..).unwrap_or(&[]);
+    let (status, _) = printed(alloc, &words, within, b"")?;
+    assert_eq!(rt; status, 1);
+    Ok(())
+}
+
+/// A signature by SK with these flags.
+macro_rules! touched {
+    ($flags:literal) => {
+        concat!(
+            "0000001a736b2d7373682d65643235353139406f70656e7373682e636f6d00000001aa",
+            $flags,
+            "00000007"
+        )
+    };
+}
+
+/// Compares what a login by SK with this signature is answered.
+fn compare_touch(rt: &impl Abort, alloc: Global, signature: &str, head: &str) -> Result<(), Fail> {
+    let asked = Asked {
+        offer: SK,
+        algorithm: SK_NAME,
+        signature,
+        ..PLAIN
+    };
+    let words = words_of(alloc, &asked)?;
+    let file = joined(alloc, [SK_NAME, " ", SK, "\n"].as_slice())?;
+    let triple = joined(alloc, [SK_SIGNED, " ", signature].as_slice())?;
+    let wanted = with_evidence(alloc, head, &triple)?;
+    compare(rt, alloc, &words, file.as_bytes(), &triple, &wanted)
+}
+
+#[test]
+fn asks_for_a_touch(rt: HostRuntime) -> Result<(), Fail> {
+    compare_touch(&rt, rt.alloc(), touched!("00"), "denied N4\n")?;
+    compare_touch(&rt, rt.alloc(), touched!("04"), "denied N4\n")?;
+    compare_touch(&rt, rt.alloc(), touched!("01"), ALL_RIGHTS)
+}
+
+/// The offer, the algorithm and the signature, and why they are refused.
+const REFUSED: &[(&str, &str, &str, &str)] = &[
+    ("", "ssh-ed25519", S0, "fault A1 K1 V1 0\n"),
+    (
+        "AAAAC3NzaC1lZDI1NTE5AAAAIAAAAAAAAAAAAAAAAAAAAAAAAAAAAAAAAAAAAAAAAAAAAA==",
+        "ssh-ed25519",
+        S0,
+        "fault A1 K1 V4 51\n",
+    ),
+    (
+        "AAAAIHNzaC1lZDI1NTE5LWNlcnQtdjAxQG9wZW5zc2guY29t",
+        "ssh-ed25519",
+        S0,
+        "fault A1 C1 V1 36\n",
+    ),
+    (K0, "ssh-ed25519", "00", "fault A2 V1 0\n"),
+    (K0, "ssh-rsa", S0, "fault A3\n"),
+    (K0, "ssh-ed25519", RSA_SHA2_SIGNATURE, "fault A3\n"),
+    (RSA, "ssh-rsa", S0, "fault A4\n"),
+    (RSA, "ssh-rsa-cert-v01@openssh.com", S0, "fault A4\n"),
+    (RSA, "rsa-sha2-256", RSA_SIGNATURE, "fault A4\n"),
+    (RSA, "rsa-sha2-256", S0, "fault A3\n"),
+    (RSA, "frob", RSA_SIGNATURE, "fault A3\n"),
+];
+
+#[test]
+fn refuses_offers(rt: HostRuntime) -> Result<(), Fail> {
+    let alloc = rt.alloc();
+    for (offer, algorithm, signature, fault) in REFUSED {
+        let asked = Asked {
+            offer,
+            algorithm,
+            signature,
+            ..PLAIN
+        };
+        compare(&rt, alloc, &words_of(alloc, &asked)?, b"", "", fault)?;
+    }
+    Ok(())
+}
+
+/// The words of a login as a line, with the trust file, the offer, the signature, the session, the
+/// moment and the vouch file to be filled in.
+pub(crate) fn login_line(alloc: Global, given: &[&str; 6]) -> Result<String, Fail> {
+    let [file, offer, signature, session, now, vouch] = given;
+    joined(
+        alloc,
+        [
+            "login --file ",
+            file,
+            " --offer ",
+            offer,
+            " --signature ",
+            signature,
+            " --algorithm ssh-ed25519 --session ",
+            session,
+            " --user ann --address ::1 --now ",
+            now,
+            " --vouch ",
+            vouch,
+            "\n",
+        ]
+        .as_slice(),
+    )
+}
+
+/// What is filled in, what follows the line, and the fault.
+const FAULTS: &[([&str; 6], &str, &str)] = &[
+    (["f", "A", "x", "x", "x", "g"], "", "fault value offer\n"),
+    (
+        ["f", K0, "aaa", "x", "x", "g"],
+        "",
+        "fault value signature\n",
+    ),
+    (["f", K0, S0, "0g", "x", "g"], "", "fault value session\n"),
+    (["f", K0, S0, "-", "+5", "g"], "", "fault value now\n"),
+    (
+        ["f", K0, S0, "-", "18446744073709551616", "g"],
+        "",
+        "fault value now\n",
+    ),
+    (
+        ["g", K0, S0, "-", "007", "g\\\u{e9}"],
+        "",
+        "fault file g\\x5c\\xc3\\xa9\n",
+    ),
+    (["g", "", S0, "-", "7", "-"], "\n#\n", "fault usage\n"),
+    (
+        ["g", K0, S0, "-", "7", "-"],
+        "#\n- - -\nx\n",
+        "fault vouch 3\n",
+    ),
+    (["g", K0, S0, "-", "7", "-"], "- - - -\n", "fault vouch 1\n"),
+    (["g", K0, S0, "-", "7", "-"], "\n- - - -\n", "fault A9\n"),
+    (["g", K0, "00", "-", "7", "-"], "", "fault A9\n"),
+    (
+        ["-", K0, "00", "-", "7", "-"],
+        "AA - -\n\nx",
+        "fault A2 V1 0\n",
+    ),
+];
+
+#[test]
+fn names_faults_in_their_order(rt: HostRuntime) -> Result<(), Fail> {
+    let alloc = rt.alloc();
+    for (given, rest, fault) in FAULTS {
+        let mut input = login_line(alloc, given)?;
+        input.push_str(rest)?;
+        compare(&rt, alloc, &[], b"", &input, fault)?;
+    }
+    Ok(())
+}
+
+/// First lines of standard input that ask for nothing.
+const NO_REQUESTS: &[&str] = &[
+    "",
+    "\n",
+    "frob\n",
+    "login\n",
+    "--help\n",
+    "  login  --user -x \n",
+];
+
+#[test]
+fn tells_usage_faults(rt: HostRuntime) -> Result<(), Fail> {
+    let alloc = rt.alloc();
+    for input in NO_REQUESTS {
+        compare(&rt, alloc, &[], b"", input, "fault usage\n")?;
+    }
+    let (_, found) = printed(alloc, &[], b"", b"login \xff\n")?;
+    assert_eq!(rt; found.as_slice(), b"fault usage\n".as_slice());
+    Ok(())
+}
+
+const HOSTS: &str = "from=\"*.example.org,!bad.example.org\"";
+
+const TEN: Asked<'static> = Asked {
+    address: "10.0.0.1",
+    ..PLAIN
+};
+
+/// The options of the line of K0, the login, and the lines before the evidence.
+const OPTION_ROWS: &[(&str, Asked<'static>, &str)] = &[
+    (
+        HOSTS,
+        asked!(PLAIN, more: &["--host", "bad.example.org"]),
+        "denied N3\nreason 1 G8\n",
+    ),
+    (
+        HOSTS,
+        asked!(PLAIN, more: &["--host", "BAD.example.org"]),
+        "denied N3\nreason 1 G8\n",
+    ),
+    (
+        HOSTS,
+        asked!(PLAIN, more: &["--host", "good.example.org"]),
+        ALL_RIGHTS,
+    ),
+    (HOSTS, PLAIN, "denied N3\nreason 1 G8\n"),
+    ("from=\"10.0.0.1/8\"", TEN, "denied N3\nreason 1 G7\n"),
+    ("from=\"0.0.0.0/0\"", TEN, ALL_RIGHTS),
+    ("from=\"::/0\"", TEN, "denied N3\nreason 1 G8\n"),
+    ("restrict,pty", PLAIN, "granted line 1\nrights pty\n"),
+    ("pty,restrict", PLAIN, NO_RIGHTS),
+    (
+        "no-pty,PTY,No-User-RC",
+        PLAIN,
+        "granted line 1\nrights port agent x11 pty\n",
+    ),
+    (
+        "expiry-time=\"20240229Z\"",
+        asked!(PLAIN, now: "1709164800"),
+        ALL_RIGHTS,
+    ),
+    (
+        "expiry-time=\"20240229Z\"",
+        asked!(PLAIN, now: "1709164801"),
+        "denied N3\nreason 1 G6\n",
+    ),
+    (
+        "expiry-time=\"20230229Z\"",
+        PLAIN,
+        "denied N3\nreason 1 G1 L6\n",
+    ),
+    (
+        "expiry-time=\"20300101\",expiry-time=\"19691231Z\"",
+        PLAIN,
+        "denied N3\nreason 1 G6\n",
+    ),
+    ("cert-authority", PLAIN, "denied N3\nreason 1 G3\n"),
+    ("verify-required", PLAIN, "denied N5\n"),
+    (
+        "command=\"\",environment=\"A=\\\"b\",tunnel=\"0\",permitopen=\"h:1\",permitlisten=\"2\"",
+        PLAIN,
+        "granted line 1\nrights port agent x11 pty rc\ncommand \ncarry environment A=\"b\ncarry tunnel 0\ncarry permitopen h:1\ncarry permitlisten 2\n",
+    ),
+];
+
+#[test]
+fn answers_plain_keys_by_options(rt: HostRuntime) -> Result<(), Fail> {
+    compare_lines(&rt, rt.alloc(), K0, OPTION_ROWS)
+}
+
+const IN_BERLIN: &[&str] = &["--zone", "CET-1CEST,M3.5.0,M10.5.0/3"];
+
+/// A local time that is there twice, and one that is not there: the last second before it is past,
+/// and the next one.
+const ZONE_ROWS: &[(&str, Asked<'static>, &str)] = &[
+    (
+        "expiry-time=\"202410270230\"",
+        asked!(PLAIN, now: "1729989000", more: IN_BERLIN),
+        ALL_RIGHTS,
+    ),
+    (
+        "expiry-time=\"202410270230\"",
+        asked!(PLAIN, now: "1729989001", more: IN_BERLIN),
+        "denied N3\nreason 1 G6\n",
+    ),
+    (
+        "expiry-time=\"202403310230\"",
+        asked!(PLAIN, now: "1711848600", more: IN_BERLIN),
+        ALL_RIGHTS,
+    ),
+    (
+        "expiry-time=\"202403310230\"",
+        asked!(PLAIN, now: "1711848601", more: IN_BERLIN),
+        "denied N3\nreason 1 G6\n",
+    ),
+];
 
 #[test]
 fn reads_expiry_times_in_a_zone(rt: HostRuntime) -> Result<(), Fail> {
+    compare_lines(&rt, rt.alloc(), K0, ZONE_ROWS)
+}
+
+/// Texts that are no zones.
+const NO_ZONES: &[&[&str]] = &[
+    &["--zone", ""],
+    &["--zone", "EST5EDT"],
+    &["--zone", "Europe/Berlin"],
+    &["--zone", "UTC0 "],
+];
+
+#[test]
+fn refuses_zones(rt: HostRuntime) -> Result<(), Fail> {
     let alloc = rt.alloc();
-    let zone = Some("CET-1CEST,M3.5.0,M10.5.0/3");
-    for (text, last) in [
-        ("202410270230", 1_729_989_000u64),
-        ("202403310230", 1_711_848_600),
-    ] {
-        let file = format!(in alloc; "expiry-time=\"{text}\" ssh-ed25519 {K0}\n")?;
-        for (now, wanted) in [(last, ALL_RIGHTS), (last + 1, "denied N3\nreason 1 G6\n")] {
-            let now = now.to_string(alloc)?;
-            let asked = Asked {
-                now: &now,
-                zone,
-                ..PLAIN
-            };
-            let (_, found) = answer_vouched(alloc, &asked, &file)?;
-            assert_eq!(rt; found.as_str(), wanted, "{text}");
-        }
-    }
-    for zone in ["", "EST5EDT", "Europe/Berlin", "UTC0 "] {
-        let asked = Asked {
-            zone: Some(zone),
-            ..PLAIN
-        };
-        let (status, found) = answer(alloc, &asked, "", "")?;
-        assert_eq!(rt;
-            found.as_slice(),
-            b"fault value zone\n".as_slice(),
-            "{zone}"
-        );
-        assert_eq!(rt; status, 2);
+    for more in NO_ZONES {
+        let words = words_of(alloc, &Asked { more, ..PLAIN })?;
+        compare(&rt, alloc, &words, b"", "", "fault value zone\n")?;
     }
     Ok(())
 }
 
+const AUTHORITY: &str = "cert-authority";
+
+/// The options of the line of K1, the login, and the lines before the evidence.
+const CERTIFICATE_ROWS: &[(&str, Asked<'static>, &str)] = &[
+    ("", CERTIFIED, "denied N3\nreason 1 G4\n"),
+    (
+        AUTHORITY,
+        asked!(CERTIFIED, now: "99"),
+        "denied N3\nreason 1 G10\n",
+    ),
+    (AUTHORITY, asked!(CERTIFIED, now: "100"), NO_RIGHTS),
+    (AUTHORITY, asked!(CERTIFIED, now: "199"), NO_RIGHTS),
+    (
+        AUTHORITY,
+        asked!(CERTIFIED, now: "200"),
+        "denied N3\nreason 1 G11\n",
+    ),
+    (
+        AUTHORITY,
+        asked!(CERTIFIED, offer: ENDLESS, now: "18446744073709551615"),
+        "denied N3\nreason 1 G11\n",
+    ),
+    (
+        AUTHORITY,
+        asked!(CERTIFIED, offer: HOST),
+        "denied N3\nreason 1 G9\n",
+    ),
+    (
+        AUTHORITY,
+        asked!(CERTIFIED, offer: NO_PRINCIPALS),
+        NO_RIGHTS,
+    ),
+    (
+        "cert-authority,principals=\"ann\"",
+        asked!(CERTIFIED, offer: NO_PRINCIPALS),
+        "denied N3\nreason 1 G12\n",
+    ),
+    (
+        "cert-authority,principals=\"bob,,ann\"",
+        CERTIFIED,
+        NO_RIGHTS,
+    ),
+    (
+        "cert-authority,principals=\"an,annn\"",
+        CERTIFIED,
+        "denied N3\nreason 1 G12\n",
+    ),
+    (
+        AUTHORITY,
+        asked!(CERTIFIED, offer: UNKNOWN),
+        "denied N3\nreason 1 G13 x@example.org\n",
+    ),
+    (AUTHORITY, asked!(CERTIFIED, offer: EXTENDED), NO_RIGHTS),
+    (
+        AUTHORITY,
+        asked!(CERTIFIED, offer: TWICE),
+        "denied N3\nreason 1 G14\n",
+    ),
+    (
+        AUTHORITY,
+        asked!(CERTIFIED, offer: NO_COMMAND),
+        "denied N3\nreason 1 G15\n",
+    ),
+    (
+        AUTHORITY,
+        asked!(CERTIFIED, offer: NEGATED),
+        "denied N3\nreason 1 G16\n",
+    ),
+    (
+        AUTHORITY,
+        asked!(CERTIFIED, offer: ELSEWHERE),
+        "denied N3\nreason 1 G17\n",
+    ),
+    (
+        AUTHORITY,
+        asked!(CERTIFIED, offer: ELSEWHERE, address: "10.255.0.1"),
+        NO_RIGHTS,
+    ),
+    (
+        "cert-authority,command=\"a \\\"b\\\" c\"",
+        asked!(CERTIFIED, offer: FORCED),
+        "granted line 1\nrights none\ncommand a \"b\" c\n",
+    ),
+    (
+        "cert-authority,command=\"a b c\"",
+        asked!(CERTIFIED, offer: FORCED),
+        "denied N3\nreason 1 G18\n",
+    ),
+    (
+        AUTHORITY,
+        asked!(CERTIFIED, offer: FORCED),
+        "granted line 1\nrights none\ncommand a \"b\" c\n",
+    ),
+    (AUTHORITY, asked!(CERTIFIED, offer: VERIFIED), "denied N5\n"),
+    (
+        AUTHORITY,
+        asked!(CERTIFIED, offer: PERMITTED),
+        "granted line 1\nrights x11 pty\n",
+    ),
+    (
+        "cert-authority,no-pty",
+        asked!(CERTIFIED, offer: PERMITTED),
+        "granted line 1\nrights x11\n",
+    ),
+    (
+        AUTHORITY,
+        asked!(CERTIFIED, offer: BAD_SIGNER),
+        "fault A5\n",
+    ),
+    (
+        AUTHORITY,
+        asked!(CERTIFIED, algorithm: "ssh-ed25519"),
+        "fault A3\n",
+    ),
+    (
+        AUTHORITY,
+        asked!(CERTIFIED, address: "10.0.0.256"),
+        "fault A6\n",
+    ),
+];
+
 #[test]
 fn answers_certificates(rt: HostRuntime) -> Result<(), Fail> {
-    let alloc = rt.alloc();
-    let none = "granted line 1\nrights none\n";
-    let at = |now| Asked { now, ..CERTIFIED };
-    let with = |offer| Asked { offer, ..CERTIFIED };
-    let authority = "cert-authority";
-    let rows = [
-        ("", CERTIFIED, "denied N3\nreason 1 G4\n"),
-        (authority, at("99"), "denied N3\nreason 1 G10\n"),
-        (authority, at("100"), none),
-        (authority, at("199"), none),
-        (authority, at("200"), "denied N3\nreason 1 G11\n"),
-        (
-            authority,
-            Asked {
-                offer: ENDLESS,
-                now: "18446744073709551615",
-                ..CERTIFIED
-            },
-            "denied N3\nreason 1 G11\n",
-        ),
-        (authority, with(HOST), "denied N3\nreason 1 G9\n"),
-        (authority, with(NO_PRINCIPALS), none),
-        (
-            "cert-authority,principals=\"ann\"",
-            with(NO_PRINCIPALS),
-            "denied N3\nreason 1 G12\n",
-        ),
-        ("cert-authority,principals=\"bob,,ann\"", CERTIFIED, none),
-        (
-            "cert-authority,principals=\"an,annn\"",
-            CERTIFIED,
-            "denied N3\nreason 1 G12\n",
-        ),
-        (
-            authority,
-            with(UNKNOWN),
-            "denied N3\nreason 1 G13 x@example.org\n",
-        ),
-        (authority, with(EXTENDED), none),
-        (authority, with(TWICE), "denied N3\nreason 1 G14\n"),
-        (authority, with(NO_COMMAND), "denied N3\nreason 1 G15\n"),
-        (authority, with(NEGATED), "denied N3\nreason 1 G16\n"),
-        (authority, with(ELSEWHERE), "denied N3\nreason 1 G17\n"),
-        (
-            authority,
-            Asked {
-                offer: ELSEWHERE,
-                address: "10.255.0.1",
-                ..CERTIFIED
-            },
-            none,
-        ),
-        (
-            "cert-authority,command=\"a \\\"b\\\" c\"",
-            with(FORCED),
-            "granted line 1\nrights none\ncommand a \"b\" c\n",
-        ),
-        (
-            "cert-authority,command=\"a b c\"",
-            with(FORCED),
-            "denied N3\nreason 1 G18\n",
-        ),
-        (
-            authority,
-            with(FORCED),
-            "granted line 1\nrights none\ncommand a \"b\" c\n",
-        ),
-        (authority, with(VERIFIED), "denied N5\n"),
-        (
-            authority,
-            with(PERMITTED),
-            "granted line 1\nrights x11 pty\n",
-        ),
-        (
-            "cert-authority,no-pty",
-            with(PERMITTED),
-            "granted line 1\nrights x11\n",
-        ),
-        (authority, with(BAD_SIGNER), "fault A5\n"),
-        (
-            authority,
-            Asked {
-                algorithm: "ssh-ed25519",
-                ..CERTIFIED
-            },
-            "fault A3\n",
-        ),
-        (
-            authority,
-            Asked {
-                address: "10.0.0.256",
-                ..CERTIFIED
-            },
-            "fault A6\n",
-        ),
-    ];
-    for (options, asked, wanted) in rows {
-        let file = format!(in alloc; "{options} ssh-ed25519 {K1}\n")?;
-        let (_, found) = answer_vouched(alloc, &asked, &file)?;
-        assert_eq!(rt; found.as_str(), wanted, "{file}");
-    }
-    Ok(())
+    compare_lines(&rt, rt.alloc(), K1, CERTIFICATE_ROWS)
 }
+
+/// What is vouched for, and the line before the evidence.
+const SIGNER_ROWS: &[(&[&str], &str)] = &[
+    (&[X0_SIGNER, "\n", X0_LOGIN, "\n"], NO_RIGHTS),
+    (&[X0_LOGIN], "denied N6 1\n"),
+    (&[X0_SIGNER], "denied N6 0\n"),
+];
 
 #[test]
 fn lists_what_a_signer_signed(rt: HostRuntime) -> Result<(), Fail> {
     let alloc = rt.alloc();
-    let file = format!(in alloc; "cert-authority ssh-ed25519 {K1}\n")?;
-    let evidence = format!(in alloc; "evidence 0 {X0_LOGIN}\nevidence 1 {X0_SIGNER}\n")?;
-    let both = format!(in alloc; "{X0_SIGNER}\n{X0_LOGIN}\n")?;
-    for (vouched, head, wanted) in [
-        (both.as_str(), "granted line 1\nrights none\n", 0),
-        (X0_LOGIN, "denied N6 1\n", 1),
-        (X0_SIGNER, "denied N6 0\n", 1),
-    ] {
-        let (status, found) = answer(alloc, &CERTIFIED, &file, vouched)?;
-        let text = format!(in alloc; "{head}{evidence}")?;
-        assert_eq!(rt; str::from_utf8(&found).ok(), Some(text.as_str()), "{head}");
-        assert_eq!(rt; status, wanted);
+    let words = words_of(alloc, &CERTIFIED)?;
+    let file = joined(alloc, ["cert-authority ssh-ed25519 ", K1, "\n"].as_slice())?;
+    for (vouched, head) in SIGNER_ROWS {
+        let vouched = joined(alloc, vouched)?;
+        let wanted = joined(
+            alloc,
+            [
+                *head,
+                "evidence 0 ",
+                X0_LOGIN,
+                "\nevidence 1 ",
+                X0_SIGNER,
+                "\n",
+            ]
+            .as_slice(),
+        )?;
+        compare(&rt, alloc, &words, file.as_bytes(), &vouched, &wanted)?;
     }
     Ok(())
 }

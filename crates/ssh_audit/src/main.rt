@@ -1,8 +1,11 @@
-//! An auditor of OpenSSH's trust files: it says which line of an authorized_keys file admits a login, or
-//! of a known_hosts file trusts a host's key, which line revokes a key, and why others do not.
+//! An auditor of OpenSSH's trust files: it says which line of an authorized_keys file admits a
+//! login, or of a known_hosts file trusts a host's key, which line revokes a key, and why others do
+//! not; and whether a file signature is vouched for.
 #![tactic(auto)]
 
 mod audit;
+#[cfg(test)]
+mod body_tests;
 mod command;
 #[cfg(test)]
 mod host_tests;
@@ -15,6 +18,9 @@ mod respond;
 mod run;
 #[cfg(test)]
 mod show_tests;
+mod signature;
+#[cfg(test)]
+mod signature_tests;
 mod system;
 #[cfg(test)]
 mod tests;

@@ -2,11 +2,29 @@
 
 ghost use Rattle.std.specs.Prelude.{◌≡◌, map, option_map, option_and_then};
 ghost use Rattle.clap.specs.Words.{first_of, found_of, rows_of, subcommand_rows_of};
-ghost use Rattle.ssh_audit.specs.CommandLine.{audit_files, host_words, login_words, show_words, request_in};
-ghost use Rattle.ssh_audit.specs.Parsing.{FaultIs, Parses, host_texts_of, names_of, request_in_memory, texts_of, show_texts_of};
+ghost use Rattle.ssh_audit.specs.CommandLine.{
+  audit_files,
+  host_words,
+  login_words,
+  show_words,
+  sshsig_words,
+  request_in,
+};
+ghost use Rattle.ssh_audit.specs.Parsing.{
+  FaultIs,
+  Parses,
+  host_texts_of,
+  names_of,
+  request_in_memory,
+  texts_of,
+  show_texts_of,
+  sshsig_texts_of,
+};
 
 use crate::command::program;
-use crate::request::{AuditFiles, HostWords, LoginWords, Request, ShowWords, WordsFault};
+use crate::request::{
+    AuditFiles, HostWords, LoginWords, Request, ShowWords, SshsigWords, WordsFault,
+};
 use clap::error::ErrorKind;
 use clap::{ArgMatches, Error};
 use std::alloc::Global;
@@ -86,9 +104,23 @@ fn show_words<'a>(matches: &ArgMatches<'a>) -> Option<ShowWords<'a>>
     })
 }
 
+/// The texts of the options of `sshsig`.
+#[tactic(auto, unfolding(crate::specs::CommandLine::sshsig_words))]
+fn sshsig_words<'a>(matches: &ArgMatches<'a>) -> Option<SshsigWords<'a>>
+    ensures { option_map sshsig_texts_of result ≡ sshsig_words (rows_of (found_of matches.now)) }
+{
+    Some(SshsigWords {
+        body: value(matches, "body")?,
+        message: value(matches, "message")?,
+        namespace: value(matches, "namespace")?,
+        vouch: value(matches, "vouch"),
+    })
+}
+
 /// The request of the subcommand.
 fn request<'a>(matches: &ArgMatches<'a>) -> Option<Request<'a>>
-    ensures { option_map request_in_memory result ≡ option_and_then request_in (subcommand_rows_of matches.now) }
+    ensures { option_map request_in_memory result
+        ≡ option_and_then request_in (subcommand_rows_of matches.now) }
 {
     match matches.subcommand() {
         Some((name, found)) if name == "login" => match login_words(found) {
@@ -101,6 +133,10 @@ fn request<'a>(matches: &ArgMatches<'a>) -> Option<Request<'a>>
         },
         Some((name, found)) if name == "show" => match show_words(found) {
             Some(words) => Some(Request::Show(words)),
+            None => None,
+        },
+        Some((name, found)) if name == "sshsig" => match sshsig_words(found) {
+            Some(words) => Some(Request::Sshsig(words)),
             None => None,
         },
         _ => None,

@@ -41,12 +41,22 @@ pub struct ShowWords<'a> {
     pub file: &'a str,
 }
 
+/// The texts of the options of `sshsig`.
+#[derive(Clone, Copy)]
+pub struct SshsigWords<'a> {
+    pub body: &'a str,
+    pub message: &'a str,
+    pub namespace: &'a str,
+    pub vouch: Option<&'a str>,
+}
+
 /// What is asked for.
 #[derive(Clone, Copy)]
 pub enum Request<'a> {
     Login(LoginWords<'a>),
     Host(HostWords<'a>),
     Show(ShowWords<'a>),
+    Sshsig(SshsigWords<'a>),
 }
 
 /// Why words give no request.

@@ -3,10 +3,23 @@
 ghost use Rattle.std.specs.Prelude.{◌<◌, ◌^◌, [], length, map, IfOk, Ok, Some};
 ghost use Rattle.ssh_audit.specs.CommandLine.{host, login, show, request_of};
 ghost use Rattle.ssh_audit.specs.Audits.{host_by, login_by, spelled_response};
-ghost use Rattle.ssh_audit.specs.Requests.{Responds, RespondsBy, answer_in, exactly, host_response, login_in_zone, show_answer};
+ghost use Rattle.ssh_audit.specs.Requests.{
+  Responds,
+  RespondsBy,
+  answer_in,
+  exactly,
+  host_response,
+  login_in_zone,
+  show_answer,
+};
 ghost use Rattle.ssh_audit.specs.ValuesRead.{host_with, login_with};
 ghost use Rattle.ssh_audit.specs.Responding.{IsUsageOf};
-ghost use Rattle.ssh_audit.specs.Parsing.{host_texts_of, request_in_memory, show_texts_of, texts_of};
+ghost use Rattle.ssh_audit.specs.Parsing.{
+  host_texts_of,
+  request_in_memory,
+  show_texts_of,
+  texts_of,
+};
 ghost use Rattle.ssh_print.specs.ResponseView.{response};
 ghost use Rattle.ssh_inputs.specs.SourceState.{IfTells};
 
@@ -14,6 +27,7 @@ use crate::audit::{respond_question, unread};
 use crate::parse::parse;
 use crate::question::LoginQuestion;
 use crate::request::{HostWords, LoginWords, Request, ShowWords, WordsFault};
+use crate::signature::respond_sshsig;
 use crate::values::{HostValues, LoginValues, ValueFault, read_host_values, read_login_values};
 use ssh_inputs::{Files, ReadFault, read_first_line, read_whole, read_words};
 use ssh_print::{Response, usage_fault, value_fault};
@@ -138,6 +152,7 @@ fn respond_words<S: AsStr, F: Files>(
         Ok(Request::Login(words)) => respond_login(alloc, &words, files),
         Ok(Request::Host(words)) => respond_host(alloc, &words, files),
         Ok(Request::Show(words)) => respond_show(alloc, &words, files),
+        Ok(Request::Sshsig(words)) => respond_sshsig(alloc, &words, files),
         Err(WordsFault::Usage) => usage_fault(alloc),
         Err(WordsFault::Memory) => Err(AllocError),
     }
@@ -155,7 +170,8 @@ fn unread_line(alloc: Global, fault: ReadFault) -> Result<Response, AllocError>
 
 /// The response to the words of the first line of standard input.
 fn respond_line<F: Files>(alloc: Global, files: &mut F) -> Result<Response, AllocError>
-    ensures { IfTells (F.source_state files.old) (λ s. IfOk result (λ r. Responds [] s (F.source_state files.new) (response r))) }
+    ensures { IfTells (F.source_state files.old)
+        (λ s. IfOk result (λ r. Responds [] s (F.source_state files.new) (response r))) }
 {
     match read_first_line(alloc, files) {
         Ok(line) => {
@@ -172,7 +188,9 @@ pub fn respond<S: AsStr, F: Files>(
     words: &[S],
     files: &mut F,
 ) -> Result<Response, AllocError>
-    ensures { IfTells (F.source_state files.old) (λ s. IfOk result (λ r. Responds (map S.text words.now) s (F.source_state files.new) (response r))) }
+    ensures { IfTells (F.source_state files.old) (λ s.
+        IfOk result
+        (λ r. Responds (map S.text words.now) s (F.source_state files.new) (response r))) }
 {
     if words.is_empty() {
         respond_line(alloc, files)

@@ -14,10 +14,12 @@ use ssh_print::FAULT;
 use std::alloc::{AllocError, Global};
 use std::convert::AsStr;
 
-/// Writes the text, and returns its status; or 2, where a write failed before all was taken. Nothing is written after that.
+/// Writes the text, and returns its status; or 2, where a write failed before all was taken.
+/// Nothing is written after that.
 fn put_out<W: Sink>(writer: &mut W, text: &[u8], status: u8) -> u8
     requires { NoneFailed (W.account writer.old) }
-    ensures { Prints (W.account writer.old) (W.account writer.new) (record { status = status; text = text.now }) result }
+    ensures { Prints (W.account writer.old) (W.account writer.new)
+        (record { status = status; text = text.now }) result }
 {
     let mut rest = text;
     while !rest.is_empty() {
@@ -30,8 +32,8 @@ fn put_out<W: Sink>(writer: &mut W, text: &[u8], status: u8) -> u8
     status
 }
 
-/// Runs the program on the words after its own name; where there are none, on those of the first line
-/// of standard input, which is the file `-`. It writes the lines of the answer and returns the
+/// Runs the program on the words after its own name; where there are none, on those of the first
+/// line of standard input, which is the file `-`. It writes the lines of the answer and returns the
 /// status: 0 for granted or done, 1 for denied, 2 for a fault, also of the writer, to which nothing
 /// is written after a failed write.
 pub fn run<S: AsStr, F: Files, W: Sink>(
@@ -41,9 +43,9 @@ pub fn run<S: AsStr, F: Files, W: Sink>(
     writer: &mut W,
 ) -> u8
     requires { NoneFailed (W.account writer.old) }
-    // Where the source tells its files: the writer took the answer's text whole, with its status; or a
-    // proper front of it, after which a write failed, with status 2. The answer is the defined one, or
-    // out of memory, or after a failed read that read's own fault.
+    // Where the source tells its files: the writer took the answer's text whole, with its status;
+    // or a proper front of it, after which a write failed, with status 2. The answer is the defined
+    // one, or out of memory, or after a failed read that read's own fault.
     ensures { IfTells (F.source_state files.old) (λ s. (r : Shown) × Answers (map S.text words.now) s (F.source_state files.new) r
         × Prints (W.account writer.old) (W.account writer.new) r result) }
 {

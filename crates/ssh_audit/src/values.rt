@@ -47,15 +47,16 @@ impl From<AllocError> for ValueFault {
     }
 }
 
-/// The values of the options of `login`, or the first in their order that spells none, where the zone
-/// is read.
+/// The values of the options of `login`, or the first in their order that spells none, where the
+/// zone is read.
 #[tactic(auto, unfolding(crate::specs::Requests::login_spelled))]
 fn read_values(
     alloc: Global,
     words: &LoginWords<'_>,
     zone: Option<TimeZone<'static>>,
 ) -> Result<LoginValues, ValueFault>
-    ensures spelled { SpellsIn (texts_of words.entry.now) (option_map plain_zone zone.entry) result }
+    ensures spelled { SpellsIn (texts_of words.entry.now) (option_map plain_zone zone.entry)
+        result }
     ensures session { IfOk result (λ v. length v.session.items < 2 ^ 32) }
     ensures user { OnOk result (length words.entry.now.user.now < 2 ^ 32) }
 {

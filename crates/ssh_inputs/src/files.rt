@@ -1,7 +1,13 @@
 //! The files that the program reads.
 ghost use Rattle.std.specs.Prelude.{◌≡◌, ◌↔◌, ℕ, List, Option, IsTrue, IsSome, IfSome, Some};
 ghost use Rattle.std.specs.Io.{ReadsAtMost};
-ghost use Rattle.ssh_inputs.specs.SourceState.{SourceState, left_of, bytes_at, ReadsKnown, ChoosesKnown};
+ghost use Rattle.ssh_inputs.specs.SourceState.{
+  SourceState,
+  left_of,
+  bytes_at,
+  ReadsKnown,
+  ChoosesKnown,
+};
 
 use std::io::{Read, Result};
 
@@ -10,10 +16,11 @@ pub trait Files: Read {
     /// What the source holds, where it tells.
     ghost source_state: { Self → Option SourceState };
 
-    /// Chooses the file of this name, whether it is there. The reads that follow give it from its start, or standard
-    /// input from where it stood; where it is not there they fail.
+    /// Chooses the file of this name, whether it is there. The reads that follow give it from its
+    /// start, or standard input from where it stood; where it is not there they fail.
     fn choose(&mut self, name: &str) -> bool
-        ensures there { IfSome (source_state self.old) (λ s. IsTrue result ↔ IsSome (bytes_at s name.now)) }
+        ensures there { IfSome (source_state self.old)
+            (λ s. IsTrue result ↔ IsSome (bytes_at s name.now)) }
         ensures chosen { ChoosesKnown (source_state self.old) (source_state self.new) name.now };
 
     /// Reads on in the chosen file. A failed read is counted, and the file's name is kept.
@@ -22,5 +29,6 @@ pub trait Files: Read {
         ensures bytes { ReadsKnown (source_state self.old) (source_state self.new) result buf.new };
 
     /// The reads of `Read` give the chosen file.
-    ghost tells: { (x : Self) → IfSome (source_state x) (λ s. Self.remaining x ≡ Some (left_of s)) };
+    ghost tells: { (x : Self)
+        → IfSome (source_state x) (λ s. Self.remaining x ≡ Some (left_of s)) };
 }

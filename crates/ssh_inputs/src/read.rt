@@ -25,7 +25,9 @@ const PIECE: usize = 4096;
 
 /// The bytes of the file of this name; of a file that passes the limit, as many as pass it.
 pub fn gather<F: Files>(alloc: Global, files: &mut F, name: &str) -> Result<Vec<u8>, ReadFault>
-    ensures { IfTells (F.source_state files.old) (λ s. Gathers (λ v. v.items) name.now (bytes_at s name.now) (after_whole s name.now) s (F.source_state files.new) result) }
+    ensures { IfTells (F.source_state files.old) (λ s.
+        Gathers (λ v. v.items) name.now (bytes_at s name.now) (after_whole s name.now) s
+        (F.source_state files.new) result) }
 {
     if !files.choose(name) {
         return Err(ReadFault::Missing);
@@ -48,7 +50,9 @@ pub fn gather<F: Files>(alloc: Global, files: &mut F, name: &str) -> Result<Vec<
 /// The bytes of the file of this name, which may not pass the limit.
 pub fn read_whole<F: Files>(alloc: Global, files: &mut F, name: &str) -> Result<Vec<u8>, ReadFault>
     ensures short { IfOk result (λ v. length v.items ≤ file_limit) }
-    ensures bytes { IfTells (F.source_state files.old) (λ s. Loads (λ v. v.items) name.now (bytes_at s name.now) (after_whole s name.now) s (F.source_state files.new) result) }
+    ensures bytes { IfTells (F.source_state files.old) (λ s.
+        Loads (λ v. v.items) name.now (bytes_at s name.now) (after_whole s name.now) s
+        (F.source_state files.new) result) }
 {
     match gather(alloc, files, name) {
         Ok(bytes) => {
@@ -72,7 +76,10 @@ fn ends_part(fresh: bool, byte: u8) -> bool
 /// The bytes of standard input up to the end of its first empty line.
 fn read_part<F: Files>(alloc: Global, files: &mut F) -> Result<Vec<u8>, ReadFault>
     ensures short { IfOk result (λ v. length v.items ≤ file_limit) }
-    ensures bytes { IfTells (F.source_state files.old) (λ s. Loads (λ v. v.items) dash (Some (cut_at_empty true s.input).0) (record s { input = (cut_at_empty true s.input).1 }) s (F.source_state files.new) result) }
+    ensures bytes { IfTells (F.source_state files.old) (λ s.
+        Loads (λ v. v.items) dash (Some (cut_at_empty true s.input).0)
+        (record s { input = (cut_at_empty true s.input).1 }) s (F.source_state files.new)
+        result) }
 {
     if !files.choose("-") {
         return Err(ReadFault::Missing);
@@ -109,7 +116,9 @@ pub fn read_vouch_file<F: Files>(
     name: &str,
 ) -> Result<Vec<u8>, ReadFault>
     ensures short { IfOk result (λ v. length v.items ≤ file_limit) }
-    ensures bytes { IfTells (F.source_state files.old) (λ s. Loads (λ v. v.items) name.now (part_at s name.now) (after_part s name.now) s (F.source_state files.new) result) }
+    ensures bytes { IfTells (F.source_state files.old) (λ s.
+        Loads (λ v. v.items) name.now (part_at s name.now) (after_part s name.now) s
+        (F.source_state files.new) result) }
 {
     if name == "-" {
         read_part(alloc, files)
@@ -120,7 +129,8 @@ pub fn read_vouch_file<F: Files>(
 
 /// The first line of standard input, without its LF.
 pub fn read_first_line<F: Files>(alloc: Global, files: &mut F) -> Result<Vec<u8>, ReadFault>
-    ensures { IfTells (F.source_state files.old) (λ s. LoadsLine (λ v. v.items) s (F.source_state files.new) result) }
+    ensures { IfTells (F.source_state files.old)
+        (λ s. LoadsLine (λ v. v.items) s (F.source_state files.new) result) }
 {
     if !files.choose("-") {
         return Err(ReadFault::Missing);

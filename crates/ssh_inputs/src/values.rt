@@ -2,7 +2,15 @@
 
 ghost use Rattle.std.specs.Prelude.{◌≡◌, ◌<◌, ◌^◌, length, nat_lt, option_map, IfOk, IfSome};
 ghost use Rattle.std.specs.List.{list_all};
-ghost use Rattle.ssh_inputs.specs.Values.{hex_value, pair_value, hex_bytes, pair_values, is_digit, number_below, short_hex};
+ghost use Rattle.ssh_inputs.specs.Values.{
+  hex_value,
+  pair_value,
+  hex_bytes,
+  pair_values,
+  is_digit,
+  number_below,
+  short_hex,
+};
 
 use std::alloc::{AllocError, Global};
 
@@ -49,8 +57,8 @@ fn read_pairs(alloc: Global, text: &[u8]) -> Result<Option<Vec<u8>>, AllocError>
     }
 }
 
-/// The bytes that a hexadecimal text spells: two digits for each byte, in either case, or `-` for no
-/// bytes. The empty text spells none.
+/// The bytes that a hexadecimal text spells: two digits for each byte, in either case, or `-` for
+/// no bytes. The empty text spells none.
 pub fn read_hex(alloc: Global, text: &[u8]) -> Result<Option<Vec<u8>>, AllocError>
     ensures { IfOk result (λ bytes. option_map (λ v. v.items) bytes ≡ hex_bytes text.now) }
 {
@@ -64,7 +72,8 @@ pub fn read_hex(alloc: Global, text: &[u8]) -> Result<Option<Vec<u8>>, AllocErro
     Ok(bytes)
 }
 
-/// Whether a string of the login bytes can have these bytes: it has fewer than 2^32 (RFC 4251 section 5).
+/// Whether a string of the login bytes can have these bytes: it has fewer than 2^32 (RFC 4251
+/// section 5).
 pub fn is_short(bytes: &[u8]) -> bool
     ensures { result ≡ nat_lt (length bytes.now) (2 ^ 32) }
 {

@@ -2,7 +2,16 @@
 
 ghost use Rattle.std.specs.Prelude.{◌≡◌, ◌≤◌, ◌++◌, ◌∷◌, [], length, option_map, IfOk, OnOk};
 ghost use Rattle.std.specs.List.{position};
-ghost use Rattle.ssh_inputs.specs.VouchFile.{cut_at_space, has_space, is_skipped, signed_of, three_fields, triple_of, vouched_of, Vouches};
+ghost use Rattle.ssh_inputs.specs.VouchFile.{
+  cut_at_space,
+  has_space,
+  is_skipped,
+  signed_of,
+  three_fields,
+  triple_of,
+  vouched_of,
+  Vouches,
+};
 ghost use Rattle.ssh_inputs.specs.Values.{hex_bytes};
 ghost use Rattle.ssh_inputs.specs.Words.{is_space};
 ghost use Rattle.ssh_inputs.specs.declared.vouch.VouchFault.TheVariants.{Memory};
@@ -69,7 +78,8 @@ fn read_signed(
     message: &[u8],
     signature: &[u8],
 ) -> Result<Option<Signed>, AllocError>
-    ensures { IfOk result (λ signed. signed ≡ signed_of (hex_bytes key.now) (hex_bytes message.now) (hex_bytes signature.now)) }
+    ensures { IfOk result (λ signed.
+        signed ≡ signed_of (hex_bytes key.now) (hex_bytes message.now) (hex_bytes signature.now)) }
 {
     let Some(key) = read_hex(alloc, key)? else {
         return Ok(None);

@@ -1,6 +1,16 @@
 //! Words, parted by spaces.
 
-ghost use Rattle.std.specs.Prelude.{◌≡◌, ◌≤◌, map, option_map, IfOk, length, Some, None, if◌then◌else◌};
+ghost use Rattle.std.specs.Prelude.{
+  ◌≡◌,
+  ◌≤◌,
+  map,
+  option_map,
+  IfOk,
+  length,
+  Some,
+  None,
+  if◌then◌else◌,
+};
 ghost use Rattle.std.specs.List.{position, position_or_len};
 ghost use Rattle.ssh_inputs.specs.Words.{is_space, is_text, words_in};
 

@@ -15,7 +15,8 @@ fn read_zone(text: &str) -> Option<TimeZone<'static>>
 
 /// The zone of expiry times that name none: that of the option, or UTC.
 pub fn zone_of(text: Option<&str>) -> Option<TimeZone<'static>>
-    ensures { ReadsZone (zone_text (option_map (λ s. s.now) text.entry)) (option_map plain_zone result) }
+    ensures { ReadsZone (zone_text (option_map (λ s. s.now) text.entry))
+        (option_map plain_zone result) }
 {
     match text {
         Some(text) => read_zone(text),

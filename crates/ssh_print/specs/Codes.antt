@@ -8,6 +8,8 @@ use Rattle.ssh_keys.specs.declared.error.KeyError.{KeyError}
 use Rattle.ssh_keys.specs.declared.error.KeyError.TheVariants as key
 use Rattle.ssh_certs.specs.declared.error.CertError.{CertError}
 use Rattle.ssh_certs.specs.declared.error.CertError.TheVariants as cert
+use Rattle.ssh_bodies.specs.declared.error.BodyError.{BodyError}
+use Rattle.ssh_bodies.specs.declared.error.BodyError.TheVariants as body
 use Rattle.ssh_trust.specs.declared.decision.Cause.{Cause}
 use Rattle.ssh_trust.specs.declared.decision.Cause.TheVariants as cause
 use Rattle.ssh_rules.specs.declared.reason.Reason.{Reason}
@@ -50,6 +52,22 @@ cert_codes (cert.Options place) = codes " C6" ++ spaced (decimal place)
 cert_codes (cert.Signature e) = codes " C7" ++ wire_codes e
 cert_codes cert.UnknownType = codes " C8"
 cert_codes cert.TooLong = codes " C9"
+
+abbrev pub body_codes : BodyError → List ℕ
+body_codes body.Magic = codes " B1"
+body_codes body.Encrypted = codes " B2"
+body_codes body.KeyCount = codes " B3"
+body_codes body.CheckMismatch = codes " B4"
+body_codes body.Padding = codes " B5"
+body_codes body.NotMultipleOfEight = codes " B6"
+body_codes body.PublicMismatch = codes " B7"
+body_codes body.Version = codes " B8"
+body_codes body.EmptyNamespace = codes " B9"
+body_codes body.Hash = codes " B10"
+body_codes (body.Key e) = codes " B11" ++ key_codes e
+body_codes (body.Wire e) = codes " B12" ++ wire_codes e
+body_codes body.Trailing = codes " B13"
+body_codes body.TooLong = codes " B14"
 
 abbrev pub line_codes : LineCause → List ℕ
 line_codes line_cause.TooLong = codes " L1"
@@ -109,3 +127,5 @@ fault_codes error.Address = codes " A6"
 fault_codes error.FileTooLong = codes " A7"
 fault_codes error.Memory = codes " A8"
 fault_codes error.Read = codes " A9"
+fault_codes error.Failed = codes " A10"
+fault_codes (error.Body e) = codes " A11" ++ body_codes e

@@ -1,14 +1,24 @@
 //! The responses to what was asked.
 
 ghost use Rattle.std.specs.Prelude.{◌≡◌, IfOk};
-ghost use Rattle.ssh_print.specs.Codes.{cert_codes, line_codes};
-ghost use Rattle.ssh_print.specs.Responses.{decision_status, decision_response, fault_response, no_file_response, usage_response, value_response, vouch_response};
+ghost use Rattle.ssh_print.specs.Codes.{body_codes, cert_codes, line_codes};
+ghost use Rattle.ssh_print.specs.Responses.{
+  decision_status,
+  decision_response,
+  fault_response,
+  no_file_response,
+  refused_response,
+  usage_response,
+  value_response,
+  vouch_response,
+};
 ghost use Rattle.ssh_print.specs.ResponseView.{response};
 
-use crate::codes::{push_cert_codes, push_fault_codes, push_line_codes};
+use crate::codes::{push_body_codes, push_cert_codes, push_fault_codes, push_line_codes};
 use crate::decision_text::push_decision;
 use crate::response::{FAULT, Response};
 use crate::text::{push_escaped, push_number};
+use ssh_bodies::BodyError;
 use ssh_certs::CertError;
 use ssh_lines::LineCause;
 use ssh_trust::{AuditError, Decision};
@@ -77,6 +87,20 @@ fn status_of(decision: &Decision) -> u8
     }
 }
 
+/// The response to a fault that stands in the place of an answer.
+pub(crate) fn audit_fault(alloc: Global, error: AuditError) -> Result<Response, AllocError>
+    ensures { IfOk result (λ r. response r ≡ refused_response error) }
+{
+    let mut text = Vec::new(alloc);
+    text.extend_from_slice(b"fault")?;
+    push_fault_codes(alloc, &mut text, error)?;
+    text.push(b'\n')?;
+    Ok(Response {
+        status: FAULT,
+        text,
+    })
+}
+
 /// The response of a decision, or of the fault that stands in its place.
 pub fn decision_response(
     alloc: Global,
@@ -84,24 +108,16 @@ pub fn decision_response(
 ) -> Result<Response, AllocError>
     ensures { IfOk result (λ r. response r ≡ decision_response answer.now) }
 {
-    let mut text = Vec::new(alloc);
     match answer {
         Ok(decision) => {
+            let mut text = Vec::new(alloc);
             push_decision(alloc, &mut text, decision)?;
             Ok(Response {
                 status: status_of(decision),
                 text,
             })
         }
-        Err(error) => {
-            text.extend_from_slice(b"fault")?;
-            push_fault_codes(alloc, &mut text, *error)?;
-            text.push(b'\n')?;
-            Ok(Response {
-                status: FAULT,
-                text,
-            })
-        }
+        Err(error) => audit_fault(alloc, *error),
     }
 }
 
@@ -126,6 +142,20 @@ pub fn cert_fault(alloc: Global, error: CertError) -> Result<Response, AllocErro
     let mut text = Vec::new(alloc);
     text.extend_from_slice(b"fault")?;
     push_cert_codes(alloc, &mut text, error)?;
+    text.push(b'\n')?;
+    Ok(Response {
+        status: FAULT,
+        text,
+    })
+}
+
+/// The response to a body with this fault.
+pub fn body_fault(alloc: Global, error: BodyError) -> Result<Response, AllocError>
+    ensures { IfOk result (λ r. response r ≡ fault_response (body_codes error)) }
+{
+    let mut text = Vec::new(alloc);
+    text.extend_from_slice(b"fault")?;
+    push_body_codes(alloc, &mut text, error)?;
     text.push(b'\n')?;
     Ok(Response {
         status: FAULT,

@@ -2,10 +2,22 @@
 
 ghost use Rattle.std.specs.Prelude.{◌≡◌, ◌++◌, OnOk};
 ghost use Rattle.std.specs.Fmt.{decimal};
-ghost use Rattle.ssh_print.specs.Codes.{cause_codes, cert_codes, fault_codes, key_codes, line_codes, offer_codes, wire_code, wire_codes, reason_codes};
+ghost use Rattle.ssh_print.specs.Codes.{
+  body_codes,
+  cause_codes,
+  cert_codes,
+  fault_codes,
+  key_codes,
+  line_codes,
+  offer_codes,
+  wire_code,
+  wire_codes,
+  reason_codes,
+};
 ghost use Rattle.ssh_print.specs.Texts.{spaced};
 
 use crate::text::{push_escaped, push_number};
+use ssh_bodies::BodyError;
 use ssh_certs::CertError;
 use ssh_keys::KeyError;
 use ssh_lines::LineCause;
@@ -127,6 +139,35 @@ pub fn push_cert_codes(alloc: Global, out: &mut Vec<u8>, error: CertError) -> Re
     Ok(())
 }
 
+/// The codes of a body's fault, `B1` to `B14`; after `B11` and `B12` those of an inner fault.
+pub fn push_body_codes(alloc: Global, out: &mut Vec<u8>, error: BodyError) -> Result<(), AllocError>
+    ensures { OnOk result (out.new.items ≡ out.old.items ++ body_codes error) }
+{
+    match error {
+        BodyError::Magic => out.extend_from_slice(b" B1")?,
+        BodyError::Encrypted => out.extend_from_slice(b" B2")?,
+        BodyError::KeyCount => out.extend_from_slice(b" B3")?,
+        BodyError::CheckMismatch => out.extend_from_slice(b" B4")?,
+        BodyError::Padding => out.extend_from_slice(b" B5")?,
+        BodyError::NotMultipleOfEight => out.extend_from_slice(b" B6")?,
+        BodyError::PublicMismatch => out.extend_from_slice(b" B7")?,
+        BodyError::Version => out.extend_from_slice(b" B8")?,
+        BodyError::EmptyNamespace => out.extend_from_slice(b" B9")?,
+        BodyError::Hash => out.extend_from_slice(b" B10")?,
+        BodyError::Key(e) => {
+            out.extend_from_slice(b" B11")?;
+            push_key_codes(alloc, out, e)?;
+        }
+        BodyError::Wire(e) => {
+            out.extend_from_slice(b" B12")?;
+            push_wire_codes(alloc, out, e)?;
+        }
+        BodyError::Trailing => out.extend_from_slice(b" B13")?,
+        BodyError::TooLong => out.extend_from_slice(b" B14")?,
+    }
+    Ok(())
+}
+
 /// The codes of what a blob's offer is refused for.
 fn push_offer_codes(alloc: Global, out: &mut Vec<u8>, error: OfferError) -> Result<(), AllocError>
     ensures { OnOk result (out.new.items ≡ out.old.items ++ offer_codes error) }
@@ -161,12 +202,17 @@ pub fn push_fault_codes(
         AuditError::FileTooLong => out.extend_from_slice(b" A7")?,
         AuditError::Memory => out.extend_from_slice(b" A8")?,
         AuditError::Read => out.extend_from_slice(b" A9")?,
+        AuditError::Failed => out.extend_from_slice(b" A10")?,
+        AuditError::Body(e) => {
+            out.extend_from_slice(b" A11")?;
+            push_body_codes(alloc, out, e)?;
+        }
     }
     Ok(())
 }
 
-/// The code of a reason, `G1` to `G18`; after `G1` those of the line's cause, after `G13` the name of
-/// the option.
+/// The code of a reason, `G1` to `G18`; after `G1` those of the line's cause, after `G13` the name
+/// of the option.
 pub fn push_reason_codes(
     alloc: Global,
     out: &mut Vec<u8>,
@@ -201,8 +247,8 @@ pub fn push_reason_codes(
     Ok(())
 }
 
-/// The code of why an offer is denied, `N1` to `N6`; after `N1` and `N2` the number of the line, after
-/// `N6` the index of what nobody vouches for.
+/// The code of why an offer is denied, `N1` to `N6`; after `N1` and `N2` the number of the line,
+/// after `N6` the index of what nobody vouches for.
 pub fn push_cause_codes(alloc: Global, out: &mut Vec<u8>, cause: Cause) -> Result<(), AllocError>
     ensures { OnOk result (out.new.items ≡ out.old.items ++ cause_codes cause) }
 {

@@ -2,7 +2,22 @@
 
 ghost use Rattle.std.specs.Prelude.{◌≡◌, ◌++◌, OnOk};
 ghost use Rattle.std.specs.List.{flat_map};
-ghost use Rattle.ssh_print.specs.DecisionText.{carried_line, carried_word, cause_line, command_line, decision_text, evidence_line, evidence_lines, granted_lines, has_no_right, reason_line, right_word, right_words, rights_line, rights_lines};
+ghost use Rattle.ssh_print.specs.DecisionText.{
+  carried_line,
+  carried_word,
+  cause_line,
+  command_line,
+  decision_text,
+  evidence_line,
+  evidence_lines,
+  granted_lines,
+  has_no_right,
+  reason_line,
+  right_word,
+  right_words,
+  rights_line,
+  rights_lines,
+};
 
 use crate::codes::{push_cause_codes, push_reason_codes};
 use crate::line::push_text_line;
@@ -31,8 +46,13 @@ fn push_evidence_line(
     Ok(())
 }
 
+/// The lines of the evidence, numbered from 0.
 #[tactic(auto, unfolding(crate::specs::DecisionText::evidence_lines))]
-fn push_evidence(alloc: Global, out: &mut Vec<u8>, evidence: &[Signed]) -> Result<(), AllocError>
+pub(crate) fn push_evidence(
+    alloc: Global,
+    out: &mut Vec<u8>,
+    evidence: &[Signed],
+) -> Result<(), AllocError>
     ensures { OnOk result (out.new.items ≡ out.old.items ++ evidence_lines evidence.now) }
 {
     for (index, signed) in evidence.iter().enumerate() {
@@ -119,8 +139,8 @@ fn push_carried(out: &mut Vec<u8>, carried: &[Carried]) -> Result<(), AllocError
     Ok(())
 }
 
-/// What a login may do: its rights, the command that is forced, and the texts that are carried on; for a
-/// host's key nothing.
+/// What a login may do: its rights, the command that is forced, and the texts that are carried on;
+/// for a host's key nothing.
 fn push_rights(out: &mut Vec<u8>, rights: &Option<Rights>) -> Result<(), AllocError>
     ensures { OnOk result (out.new.items ≡ out.old.items ++ rights_lines rights.now) }
 {
@@ -134,7 +154,12 @@ fn push_rights(out: &mut Vec<u8>, rights: &Option<Rights>) -> Result<(), AllocEr
     }
 }
 
-fn push_cause_line(alloc: Global, out: &mut Vec<u8>, cause: Cause) -> Result<(), AllocError>
+/// The first line of what is denied.
+pub(crate) fn push_cause_line(
+    alloc: Global,
+    out: &mut Vec<u8>,
+    cause: Cause,
+) -> Result<(), AllocError>
     ensures { OnOk result (out.new.items ≡ out.old.items ++ cause_line cause) }
 {
     out.extend_from_slice(b"denied")?;

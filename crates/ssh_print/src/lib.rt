@@ -1,4 +1,5 @@
-//! The printed lines of decisions and of faults, each answer with its status.
+//! The printed lines of decisions, of answers to file signatures and of faults, each answer with
+//! its status.
 #![tactic(auto)]
 
 mod answer;
@@ -6,11 +7,14 @@ mod codes;
 mod decision_text;
 mod line;
 mod response;
+mod signature_text;
 mod text;
 
 pub use answer::{
-    cert_fault, decision_response, file_fault, line_fault, usage_fault, value_fault, vouch_fault,
+    body_fault, cert_fault, decision_response, file_fault, line_fault, usage_fault, value_fault,
+    vouch_fault,
 };
 pub use line::{push_number_line, push_text_line, push_word_line};
 pub use response::{DONE, FAULT, Response};
+pub use signature_text::sshsig_response;
 pub use text::{push_escaped, push_hex, push_number};

@@ -3,7 +3,14 @@
 ghost use Rattle.std.specs.Prelude.{◌≡◌, ◌<◌, ◌++◌, OnOk};
 ghost use Rattle.std.specs.List.{flat_map};
 ghost use Rattle.std.specs.Fmt.{decimal};
-ghost use Rattle.ssh_print.specs.Texts.{hex_digit, hex_pair, hex_text, is_plain, escaped_byte, escaped};
+ghost use Rattle.ssh_print.specs.Texts.{
+  hex_digit,
+  hex_pair,
+  hex_text,
+  is_plain,
+  escaped_byte,
+  escaped,
+};
 
 use std::alloc::{AllocError, Global};
 

@@ -1,4 +1,4 @@
--- What is answered to `show` of a line is one response.
+-- What is answered to `show` of a file is one response.
 use Rattle.std.proofs.Common.{◌≡◌, ◌∙◌, ℕ, List, Option, Some, None, Result, Ok, Err, sym, ap, inl, inr, arith}
 use Rattle.jiff.proofs.Family.{same_datetime}
 use Rattle.ssh_keys.specs.PublicKey.{PublicKey, rsa, p256, p384, p521, ed25519, sk_p256, sk_ed25519}
@@ -8,7 +8,8 @@ use Rattle.ssh_lines.specs.KeyText.{comment_field}
 use Rattle.ssh_show.specs.declared.kind.ShowKind.{ShowKind}
 use Rattle.ssh_show.specs.declared.kind.ShowKind.TheVariants as shown
 use Rattle.ssh_show.specs.declared.fault.ShowFault.{ShowFault}
-use Rattle.ssh_show.specs.Showing.{IsAnswerTo, ShowsLine, cert_on, key_on}
+use Rattle.ssh_show.specs.Showing.{IsAnswerTo, Shows, cert_on, file_signature_in, key_on, public_half_in, shown_line}
+use Rattle.ssh_show.specs.ShownBodies.{IsHalfText, IsSignatureText}
 use Rattle.ssh_show.specs.ShownTexts.{IsCertText, IsDateText, IsKeyText, cert_lines, clock_text, key_lines}
 use Rattle.ssh_print.specs.Responses.{Response}
 
@@ -57,7 +58,10 @@ one-response : {A : Type 0} (IsTextOf : A → List ℕ → Type 0) (read : Resul
 one-response IsTextOf (Ok x) a b one h k = same-response a b (h.0 ∙ sym k.0) (one x a.text b.text h.1 k.1)
 one-response IsTextOf (Err e) a b one h k = h ∙ sym k
 
-pub one-answer : (kind : ShowKind) (line : List ℕ) (a b : Response) → ShowsLine kind line a → ShowsLine kind line b → a ≡ b
-one-answer shown.Key line a b h k =
-    one-response (λ key text. IsKeyText key (comment_field line) text) (key_on line) a b (λ key s t x y. one-key_text key (comment_field line) s t x y) h k
-one-answer shown.Cert line a b h k = one-response IsCertText (cert_on line) a b one-cert_text h k
+pub one-answer : (kind : ShowKind) (file : List ℕ) (a b : Response) → Shows kind file a → Shows kind file b → a ≡ b
+one-answer shown.Key file a b h k =
+    one-response (λ key text. IsKeyText key (comment_field (shown_line file)) text) (key_on (shown_line file)) a b
+    (λ key s t x y. one-key_text key (comment_field (shown_line file)) s t x y) h k
+one-answer shown.Cert file a b h k = one-response IsCertText (cert_on (shown_line file)) a b one-cert_text h k
+one-answer shown.Private file a b h k = one-response IsHalfText (public_half_in file) a b (λ v s t x y. x ∙ sym y) h k
+one-answer shown.Sshsig file a b h k = one-response IsSignatureText (file_signature_in file) a b (λ v s t x y. x ∙ sym y) h k

@@ -1,3 +1,4 @@
 pub mod ShownTexts
+pub mod ShownBodies
 pub mod Showing
 pub mod ShownLines

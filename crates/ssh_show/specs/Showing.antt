@@ -1,4 +1,5 @@
--- What `show` reads on a file's first line, and what it answers. A line of a key, or of a certificate, has its type, its base64 and a comment.
+-- What `show` reads of a file, and what it answers. The first line of a key's file, or of a certificate's, has its type,
+-- its base64 and a comment; the file of a private key or of a file signature is its body.
 use Rattle.std.specs.Prelude.{◌≡◌, ℕ, List, [], ◌∷◌, Option, Some, None, Result, Ok, Err, codes, if◌then◌else◌}
 use Rattle.std.specs.Str.{bytes_eq}
 use Rattle.base64.specs.Engines.{standard}
@@ -12,16 +13,23 @@ use Rattle.ssh_keys.specs.KeyReading.{key_in}
 use Rattle.ssh_certs.specs.Certificate as certs
 use Rattle.ssh_certs.specs.CertificateReading.{certificate_in}
 use Rattle.ssh_certs.specs.declared.error.CertError.{CertError}
+use Rattle.ssh_bodies.specs.declared.error.BodyError.{BodyError}
+use Rattle.ssh_bodies.specs.PrivateKey.{PrivateBody}
+use Rattle.ssh_bodies.specs.PrivateReading.{private_in}
+use Rattle.ssh_bodies.specs.Sshsig.{Sshsig}
+use Rattle.ssh_bodies.specs.SshsigReading.{sshsig_in}
+use Rattle.ssh_lines.specs.Text.{lines_of}
 use Rattle.ssh_lines.specs.KeyText.{base64_field, comment_field, type_field}
 use Rattle.ssh_options.specs.declared.cause.LineCause.{LineCause}
 use Rattle.ssh_options.specs.declared.cause.LineCause.TheVariants.{NoKey, KeyType, RetiredType, Base64, KeyBlob, TypeMismatch, CertificateOnLine}
 use Rattle.ssh_show.specs.declared.kind.ShowKind.{ShowKind}
 use Rattle.ssh_show.specs.declared.kind.ShowKind.TheVariants as shown
 use Rattle.ssh_show.specs.declared.fault.ShowFault.{ShowFault}
-use Rattle.ssh_show.specs.declared.fault.ShowFault.TheVariants.{Line, Cert, Memory}
+use Rattle.ssh_show.specs.declared.fault.ShowFault.TheVariants.{Line, Cert, Body, Memory}
+use Rattle.ssh_show.specs.ShownBodies.{IsHalfText, IsSignatureText, PublicHalf, public_half}
 use Rattle.ssh_show.specs.ShownTexts.{IsCertText, IsKeyText}
 use Rattle.ssh_print.specs.Responses.{Response, fault_response, out_of_memory}
-use Rattle.ssh_print.specs.Codes.{cert_codes, line_codes}
+use Rattle.ssh_print.specs.Codes.{body_codes, cert_codes, line_codes}
 
 -- ---- words
 
@@ -30,6 +38,8 @@ abbrev pub show_kind : List ℕ → Option ShowKind
 show_kind word =
     if bytes_eq word (codes "key") then Some shown.Key
     else if bytes_eq word (codes "cert") then Some shown.Cert
+    else if bytes_eq word (codes "private") then Some shown.Private
+    else if bytes_eq word (codes "sshsig") then Some shown.Sshsig
     else None
 
 -- ---- lines, with the first fault
@@ -38,6 +48,10 @@ show_kind word =
 abbrev pub first_of_lines : List (List ℕ) → List ℕ
 first_of_lines [] = []
 first_of_lines (line ∷ lines) = line
+
+-- the line of a file that is shown
+abbrev pub shown_line : List ℕ → List ℕ
+shown_line file = first_of_lines (lines_of file)
 
 -- a type that is no plain key's
 abbrev pub key_type_fault : NameClass → Option LineCause
@@ -94,11 +108,26 @@ cert_of_blob type (Ok blob) = cert_of_type type (certificate_in blob)
 unfoldable pub cert_on : List ℕ → Result certs.Certificate ShowFault
 cert_on line = cert_of_blob (type_field line) (blob_of_field (field_fault (base64_field line) (cert_type_fault (class_of (type_field line)))) (base64_field line))
 
+-- ---- bodies, with the first fault
+
+abbrev pub or_body_fault : {A B : Type 0} → (A → B) → Result A BodyError → Result B ShowFault
+or_body_fault f (Err e) = Err (Body e)
+or_body_fault f (Ok x) = Ok (f x)
+
+-- what is shown of the private key that a body holds
+unfoldable pub public_half_in : List ℕ → Result PublicHalf ShowFault
+public_half_in file = or_body_fault public_half (private_in file)
+
+-- the file signature that a body spells
+unfoldable pub file_signature_in : List ℕ → Result Sshsig ShowFault
+file_signature_in file = or_body_fault (λ v. v) (sshsig_in file)
+
 -- ---- answers
 
 abbrev pub show_fault_response : ShowFault → Response
 show_fault_response (Line cause) = fault_response (line_codes cause)
 show_fault_response (Cert e) = fault_response (cert_codes e)
+show_fault_response (Body e) = fault_response (body_codes e)
 show_fault_response Memory = out_of_memory
 
 -- the text of what was read with status 0, or its fault
@@ -106,7 +135,9 @@ abbrev pub IsAnswerTo : {A : Type 0} → (A → List ℕ → Type 0) → Result 
 IsAnswerTo IsTextOf (Ok x) r = (r.status ≡ 0) × IsTextOf x r.text
 IsAnswerTo IsTextOf (Err e) r = r ≡ show_fault_response e
 
--- the answer to `show` of a line as this kind
-abbrev pub ShowsLine : ShowKind → List ℕ → Response → Type 0
-ShowsLine shown.Key line r = IsAnswerTo (λ key text. IsKeyText key (comment_field line) text) (key_on line) r
-ShowsLine shown.Cert line r = IsAnswerTo IsCertText (cert_on line) r
+-- the answer to `show` of a file as this kind
+abbrev pub Shows : ShowKind → List ℕ → Response → Type 0
+Shows shown.Key file r = IsAnswerTo (λ key text. IsKeyText key (comment_field (shown_line file)) text) (key_on (shown_line file)) r
+Shows shown.Cert file r = IsAnswerTo IsCertText (cert_on (shown_line file)) r
+Shows shown.Private file r = IsAnswerTo IsHalfText (public_half_in file) r
+Shows shown.Sshsig file r = IsAnswerTo IsSignatureText (file_signature_in file) r

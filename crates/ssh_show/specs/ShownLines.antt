@@ -1,11 +1,12 @@
--- What reading and printing a line gives, unless memory was refused.
+-- What reading and printing a file gives, unless memory was refused.
 use Rattle.std.specs.Prelude.{◌≡◌, ⊤, ℕ, List, Result, Ok, Err}
 use Rattle.ssh_show.specs.declared.kind.ShowKind.{ShowKind}
 use Rattle.ssh_show.specs.declared.kind.ShowKind.TheVariants as shown
 use Rattle.ssh_show.specs.declared.fault.ShowFault.{ShowFault}
-use Rattle.ssh_show.specs.declared.fault.ShowFault.TheVariants.{Line, Cert, Memory}
+use Rattle.ssh_show.specs.declared.fault.ShowFault.TheVariants.{Line, Cert, Body, Memory}
 use Rattle.ssh_lines.specs.KeyText.{comment_field}
-use Rattle.ssh_show.specs.Showing.{cert_on, key_on}
+use Rattle.ssh_show.specs.Showing.{cert_on, file_signature_in, key_on, public_half_in, shown_line}
+use Rattle.ssh_show.specs.ShownBodies.{IsHalfText, IsSignatureText}
 use Rattle.ssh_show.specs.ShownTexts.{IsCertText, IsKeyText}
 
 -- a value was read, seen by view, or the first fault was met
@@ -13,6 +14,7 @@ abbrev pub Finds : {X A : Type 0} → (X → A) → Result A ShowFault → Resul
 Finds view read (Ok x) = read ≡ Ok (view x)
 Finds view read (Err (Line cause)) = read ≡ Err (Line cause)
 Finds view read (Err (Cert e)) = read ≡ Err (Cert e)
+Finds view read (Err (Body e)) = read ≡ Err (Body e)
 Finds view read (Err Memory) = ⊤
 
 -- the text of what was read
@@ -25,9 +27,12 @@ abbrev pub Prints : {X A : Type 0} → (X → List ℕ) → (A → List ℕ → 
 Prints view IsTextOf read (Ok x) = IsTextRead IsTextOf read (view x)
 Prints view IsTextOf read (Err (Line cause)) = read ≡ Err (Line cause)
 Prints view IsTextOf read (Err (Cert e)) = read ≡ Err (Cert e)
+Prints view IsTextOf read (Err (Body e)) = read ≡ Err (Body e)
 Prints view IsTextOf read (Err Memory) = ⊤
 
--- the same of a line that is shown as this kind
-abbrev pub PrintsLine : {X : Type 0} → (X → List ℕ) → ShowKind → List ℕ → Result X ShowFault → Type 0
-PrintsLine view shown.Key line result = Prints view (λ key text. IsKeyText key (comment_field line) text) (key_on line) result
-PrintsLine view shown.Cert line result = Prints view IsCertText (cert_on line) result
+-- the same of a file that is shown as this kind
+abbrev pub PrintsFile : {X : Type 0} → (X → List ℕ) → ShowKind → List ℕ → Result X ShowFault → Type 0
+PrintsFile view shown.Key file result = Prints view (λ key text. IsKeyText key (comment_field (shown_line file)) text) (key_on (shown_line file)) result
+PrintsFile view shown.Cert file result = Prints view IsCertText (cert_on (shown_line file)) result
+PrintsFile view shown.Private file result = Prints view IsHalfText (public_half_in file) result
+PrintsFile view shown.Sshsig file result = Prints view IsSignatureText (file_signature_in file) result

@@ -8,7 +8,18 @@ ghost use Rattle.ssh_certs.specs.CertificateReading.{certificate_in};
 ghost use Rattle.ssh_certs.specs.Left.{options_left, principals_left};
 ghost use Rattle.ssh_show.specs.Showing.{cert_of_type, cert_on, cert_type_fault};
 ghost use Rattle.ssh_show.specs.ShownLines.{Finds, Prints};
-ghost use Rattle.ssh_show.specs.ShownTexts.{IsCertText, cert_holder_lines, cert_key_lines, cert_lines, cert_option_lines, cert_time_lines, kind_word, moment_line, option_line, signer_line};
+ghost use Rattle.ssh_show.specs.ShownTexts.{
+  IsCertText,
+  cert_holder_lines,
+  cert_key_lines,
+  cert_lines,
+  cert_option_lines,
+  cert_time_lines,
+  kind_word,
+  moment_line,
+  option_line,
+  signer_line,
+};
 ghost use Rattle.ssh_print.specs.Texts.{text_line, word_line};
 
 use crate::date::date_text;
@@ -62,7 +73,8 @@ fn push_signer(alloc: Global, out: &mut Vec<u8>, signer: &KeyView<'_>) -> Result
 /// The certified key and the key that signed it.
 #[tactic(auto, unfolding(crate::specs::ShownTexts::cert_key_lines))]
 fn push_keys(alloc: Global, out: &mut Vec<u8>, cert: &CertView<'_>) -> Result<(), AllocError>
-    ensures { OnOk result (out.new.items ≡ out.old.items ++ cert_key_lines (certificate_of cert.now)) }
+    ensures { OnOk result
+        (out.new.items ≡ out.old.items ++ cert_key_lines (certificate_of cert.now)) }
 {
     let key = cert.key();
     push_word_line(out, b"type ", key.kind().certificate_name())?;
@@ -73,7 +85,8 @@ fn push_keys(alloc: Global, out: &mut Vec<u8>, cert: &CertView<'_>) -> Result<()
 
 /// 1 is a user's certificate, 2 a host's (PROTOCOL.certkeys).
 fn push_kind(alloc: Global, out: &mut Vec<u8>, kind_number: u32) -> Result<(), AllocError>
-    ensures { OnOk result (out.new.items ≡ out.old.items ++ word_line (codes "kind ") (kind_word kind_number)) }
+    ensures { OnOk result
+        (out.new.items ≡ out.old.items ++ word_line (codes "kind ") (kind_word kind_number)) }
 {
     match kind_number {
         1 => push_word_line(out, b"kind ", b"user"),
@@ -83,7 +96,8 @@ fn push_kind(alloc: Global, out: &mut Vec<u8>, kind_number: u32) -> Result<(), A
 }
 
 fn push_principals(out: &mut Vec<u8>, principals: Principals<'_>) -> Result<(), AllocError>
-    ensures { OnOk result (out.new.items ≡ out.old.items ++ flat_map (text_line (codes "principal ")) (principals_left principals.entry)) }
+    ensures { OnOk result (out.new.items ≡ out.old.items ++ flat_map
+        (text_line (codes "principal ")) (principals_left principals.entry)) }
 {
     for name in principals {
         push_text_line(out, b"principal ", name)?;
@@ -113,7 +127,8 @@ fn push_moment(
 /// For whom the certificate is.
 #[tactic(auto, unfolding(crate::specs::ShownTexts::cert_holder_lines))]
 fn push_holder(alloc: Global, out: &mut Vec<u8>, cert: &CertView<'_>) -> Result<(), AllocError>
-    ensures { OnOk result (out.new.items ≡ out.old.items ++ cert_holder_lines (certificate_of cert.now)) }
+    ensures { OnOk result
+        (out.new.items ≡ out.old.items ++ cert_holder_lines (certificate_of cert.now)) }
 {
     push_kind(alloc, out, cert.kind_number())?;
     push_number_line(alloc, out, b"serial ", cert.serial())?;
@@ -131,7 +146,8 @@ fn push_time(
     after: &[u8],
     before: &[u8],
 ) -> Result<(), AllocError>
-    ensures { OnOk result (out.new.items ≡ out.old.items ++ cert_time_lines (certificate_of cert.now) after.now before.now) }
+    ensures { OnOk result (out.new.items ≡ out.old.items ++ cert_time_lines
+        (certificate_of cert.now) after.now before.now) }
 {
     push_moment(alloc, out, b"valid-after ", cert.after(), after)?;
     push_moment(alloc, out, b"valid-before ", cert.before(), before)?;
@@ -140,7 +156,8 @@ fn push_time(
 
 #[tactic(auto, unfolding(ssh_print::specs::Texts::word_line))]
 fn push_option(out: &mut Vec<u8>, word: &[u8], name: &[u8], value: &[u8]) -> Result<(), AllocError>
-    ensures { OnOk result (out.new.items ≡ out.old.items ++ option_line word.now (record { name = name.now; value = value.now })) }
+    ensures { OnOk result (out.new.items ≡ out.old.items ++ option_line word.now
+        (record { name = name.now; value = value.now })) }
 {
     out.extend_from_slice(word)?;
     push_escaped(out, name)?;
@@ -151,7 +168,8 @@ fn push_option(out: &mut Vec<u8>, word: &[u8], name: &[u8], value: &[u8]) -> Res
 }
 
 fn push_options(out: &mut Vec<u8>, word: &[u8], options: CertOptions<'_>) -> Result<(), AllocError>
-    ensures { OnOk result (out.new.items ≡ out.old.items ++ flat_map (option_line word.now) (options_left options.entry)) }
+    ensures { OnOk result (out.new.items ≡ out.old.items ++ flat_map (option_line word.now)
+        (options_left options.entry)) }
 {
     for (name, value) in options {
         push_option(out, word, name, value)?;
@@ -162,7 +180,8 @@ fn push_options(out: &mut Vec<u8>, word: &[u8], options: CertOptions<'_>) -> Res
 /// The options of the certificate, and the algorithm of its signature.
 #[tactic(auto, unfolding(crate::specs::ShownTexts::cert_option_lines))]
 fn push_cert_options(out: &mut Vec<u8>, cert: &CertView<'_>) -> Result<(), AllocError>
-    ensures { OnOk result (out.new.items ≡ out.old.items ++ cert_option_lines (certificate_of cert.now)) }
+    ensures { OnOk result
+        (out.new.items ≡ out.old.items ++ cert_option_lines (certificate_of cert.now)) }
 {
     push_options(out, b"critical ", cert.critical())?;
     push_options(out, b"extension ", cert.extensions())?;
@@ -178,7 +197,8 @@ fn push_cert(
     after: &[u8],
     before: &[u8],
 ) -> Result<(), AllocError>
-    ensures { OnOk result (out.new.items ≡ out.old.items ++ cert_lines (certificate_of cert.now) after.now before.now) }
+    ensures { OnOk result (out.new.items ≡ out.old.items ++ cert_lines (certificate_of cert.now)
+        after.now before.now) }
 {
     push_keys(alloc, out, cert)?;
     push_holder(alloc, out, cert)?;

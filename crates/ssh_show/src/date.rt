@@ -11,9 +11,11 @@ use std::alloc::{AllocError, Global};
 /// The last second of the year 9999, counted from 1970-01-01 in UTC.
 const LAST_SECOND: u64 = 253_402_300_799;
 
-/// What a clock in UTC shows at a moment, counted in seconds from 1970-01-01; none after the year 9999.
+/// What a clock in UTC shows at a moment, counted in seconds from 1970-01-01; none after the year
+/// 9999.
 fn clock_at(moment: u64) -> Option<DateTime>
-    ensures { MatchOption result (last_second < moment) (λ shown. (moment ≤ last_second) × IsClockAt moment shown) }
+    ensures { MatchOption result (last_second < moment)
+        (λ shown. (moment ≤ last_second) × IsClockAt moment shown) }
 {
     if moment > LAST_SECOND {
         return None;
@@ -34,8 +36,8 @@ fn clock_text(alloc: Global, shown: DateTime) -> Result<Vec<u8>, AllocError>
     Ok(text)
 }
 
-/// The date of a moment, counted in seconds from 1970-01-01 in UTC, as `YYYY-MM-DDTHH:MM:SSZ`; or `-`
-/// after the year 9999.
+/// The date of a moment, counted in seconds from 1970-01-01 in UTC, as `YYYY-MM-DDTHH:MM:SSZ`; or
+/// `-` after the year 9999.
 pub fn date_text(alloc: Global, moment: u64) -> Result<Vec<u8>, AllocError>
     ensures { IfOk result (λ text. IsDateText moment text.items) }
 {

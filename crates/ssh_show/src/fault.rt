@@ -1,19 +1,22 @@
-//! Why a file's first line is not shown.
+//! Why a file is not shown.
 
 ghost use Rattle.std.specs.Prelude.{◌≡◌};
 ghost use Rattle.ssh_show.specs.declared.fault.ShowFault.TheVariants.{Memory};
 
+use ssh_bodies::BodyError;
 use ssh_certs::CertError;
 use ssh_lines::LineCause;
 use std::alloc::AllocError;
 
-/// Why a file's first line is not shown.
+/// Why a file is not shown.
 #[derive(Clone, Copy, Debug, PartialEq, Eq)]
 pub enum ShowFault {
-    /// It holds no key, or not what was asked for.
+    /// Its first line holds no key, or not what was asked for.
     Line(LineCause),
-    /// Its base64 is that of no certificate.
+    /// The base64 of its first line is that of no certificate.
     Cert(CertError),
+    /// It is no body of what was asked for.
+    Body(BodyError),
     Memory,
 }
 

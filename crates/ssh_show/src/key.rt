@@ -52,7 +52,8 @@ fn push_bits(alloc: Global, out: &mut Vec<u8>, bits: Option<u32>) -> Result<(), 
     }
 }
 
-fn push_comment(out: &mut Vec<u8>, comment: &[u8]) -> Result<(), AllocError>
+/// The line of a comment, if it has bytes.
+pub(crate) fn push_comment(out: &mut Vec<u8>, comment: &[u8]) -> Result<(), AllocError>
     ensures { OnOk result (out.new.items ≡ out.old.items ++ comment_line comment.now) }
 {
     if comment.is_empty() {
@@ -62,7 +63,8 @@ fn push_comment(out: &mut Vec<u8>, comment: &[u8]) -> Result<(), AllocError>
     }
 }
 
-/// The lines of a key: its type, the size of an RSA key, its fingerprint and its comment, if it has one.
+/// The lines of a key: its type, the size of an RSA key, its fingerprint and its comment, if it has
+/// one.
 fn push_key(
     alloc: Global,
     out: &mut Vec<u8>,
@@ -70,7 +72,8 @@ fn push_key(
     bits: Option<u32>,
     comment: &[u8],
 ) -> Result<(), AllocError>
-    ensures { OnOk result (out.new.items ≡ out.old.items ++ key_lines (key_of key.now) bits comment.now) }
+    ensures { OnOk result
+        (out.new.items ≡ out.old.items ++ key_lines (key_of key.now) bits comment.now) }
 {
     push_word_line(out, b"type ", key.kind().name())?;
     push_bits(alloc, out, bits)?;
@@ -82,7 +85,8 @@ fn push_key(
 /// What is printed of the key on a line, which is given without its LF.
 #[tactic(auto, unfolding(crate::specs::Showing::key_on))]
 pub fn show_key(alloc: Global, line: &[u8]) -> Result<Vec<u8>, ShowFault>
-    ensures { Prints (λ text. text.items) (λ key text. IsKeyText key (comment_field line.now) text) (key_on line.now) result }
+    ensures { Prints (λ text. text.items) (λ key text. IsKeyText key (comment_field line.now) text)
+        (key_on line.now) result }
 {
     let text = key_text(line);
     let type_fault = key_type_fault(name_class(text.type_name));

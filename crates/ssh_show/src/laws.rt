@@ -2,10 +2,13 @@
 
 ghost use Rattle.std.specs.Prelude.{◌≡◌, ℕ, List};
 ghost use Rattle.ssh_show.specs.declared.kind.ShowKind.{ShowKind};
-ghost use Rattle.ssh_show.specs.Showing.{ShowsLine};
+ghost use Rattle.ssh_show.specs.Showing.{Shows};
 ghost use Rattle.ssh_print.specs.Responses.{Response};
 
-/// What is answered to `show` of a line is one response.
+/// What is answered to `show` of a file is one response.
 pub fn show_rule()
-    ensures { (kind : ShowKind) (line : List ℕ) (a b : Response) → ShowsLine kind line a → ShowsLine kind line b → a ≡ b }
+    ensures { (kind : ShowKind) (file : List ℕ) (a b : Response)
+        → Shows kind file a
+        → Shows kind file b
+        → a ≡ b }
 {}

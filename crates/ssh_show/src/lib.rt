@@ -1,7 +1,9 @@
-//! What `show` prints of a public key and of a certificate.
+//! What `show` prints of a public key, of a certificate, of the public half of a private key and of
+//! a file signature.
 #![tactic(auto)]
 
 mod answer;
+mod body;
 mod cert;
 mod date;
 mod fault;

@@ -20,7 +20,8 @@ pub fn first_line(file: &[u8]) -> &[u8]
     }
 }
 
-/// The first fault of the fields, where `type_fault` is that of the type: a missing field comes first.
+/// The first fault of the fields, where `type_fault` is that of the type: a missing field comes
+/// first.
 fn field_fault(base64: &[u8], type_fault: Option<LineCause>) -> Option<LineCause>
     ensures { result ≡ field_fault base64.now type_fault }
 {
@@ -37,7 +38,8 @@ pub fn read_blob(
     base64: &[u8],
     type_fault: Option<LineCause>,
 ) -> Result<Vec<u8>, ShowFault>
-    ensures { Finds (λ blob. blob.items) (blob_of_field (field_fault base64.now type_fault) base64.now) result }
+    ensures { Finds (λ blob. blob.items)
+        (blob_of_field (field_fault base64.now type_fault) base64.now) result }
 {
     if let Some(cause) = field_fault(base64, type_fault) {
         return Err(ShowFault::Line(cause));

@@ -29,7 +29,8 @@ pub fn push_fingerprint_line(
     out: &mut Vec<u8>,
     key: &KeyView<'_>,
 ) -> Result<(), AllocError>
-    ensures { OnOk result (out.new.items ≡ out.old.items ++ word_line (codes "fingerprint ") (fingerprint_text (key_of key.now))) }
+    ensures { OnOk result (out.new.items ≡ out.old.items ++ word_line (codes "fingerprint ")
+        (fingerprint_text (key_of key.now))) }
 {
     out.extend_from_slice(b"fingerprint ")?;
     push_fingerprint(alloc, out, key)?;

@@ -109,7 +109,8 @@ impl Write for FailsOnce {
 }
 
 impl Sink for FailsOnce {
-    ghost account = { λ w. Some (record { taken = w.page.bytes.items; failures = w.page.failures }) };
+    ghost account = { λ w.
+        Some (record { taken = w.page.bytes.items; failures = w.page.failures }) };
 
     ghost tells = { λ w. refl };
 

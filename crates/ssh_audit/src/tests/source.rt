@@ -2,7 +2,14 @@
 
 ghost use Rattle.std.specs.Prelude.{Some, None, refl, if◌then◌else◌, option_map, Option, List, ℕ};
 ghost use Rattle.std.specs.Str.{bytes_eq};
-ghost use Rattle.ssh_inputs.specs.SourceState.{SourceState, Chosen, nothing, standard_input, named_file, left_of};
+ghost use Rattle.ssh_inputs.specs.SourceState.{
+  SourceState,
+  Chosen,
+  nothing,
+  standard_input,
+  named_file,
+  left_of,
+};
 ghost use Rattle.ssh_audit.specs.declared.tests.source.Place.TheVariants.{Nowhere, Input, File};
 
 use ssh_inputs::Files;

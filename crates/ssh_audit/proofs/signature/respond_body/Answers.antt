@@ -1,0 +1,17 @@
+use Rattle.std.proofs.Common.{rules}
+use Rattle.ssh_print.specs.ResponseView.{response}
+use Rattle.ssh_audit.specs.Parsing.{sshsig_texts_of}
+use Rattle.ssh_audit.proofs.SignatureLemmas.{message_responds, message_unread}
+use Rattle.ssh_audit.proofs.signature.respond_body.Goals as goal
+
+pub returns-in-Ok : goal.returns-in-Ok
+returns-in-Ok g c =
+    message_responds response (sshsig_texts_of c.args.words.now) c.args.vouched.now c.args.body.now c.in-Ok.message.items c.deref.result.now
+    (g.F.Files.source_state c.args.files.now) (g.F.Files.source_state c.read_whole.new.files) c.respond_bytes.result
+    (search rules) c.in-Ok.ensures.bytes c.respond_bytes.ensures
+
+pub returns-in-Err : goal.returns-in-Err
+returns-in-Err g c =
+    message_unread response (sshsig_texts_of c.args.words.now) c.args.vouched.now c.args.body.now
+    (g.F.Files.source_state c.args.files.now) (g.F.Files.source_state c.read_whole.new.files) c.in-Err.fault c.unread.result
+    c.in-Err.ensures.bytes c.unread.ensures

@@ -1,0 +1,73 @@
+-- What is answered to a file signature, over the files of a source.
+use Rattle.std.specs.Prelude.{◌≡◌, ◌⊎◌, ℕ, Bool, true, false, List, Option, Some, None, Result, Ok, Err}
+use Rattle.ssh_offers.specs.declared.error.AuditError.{AuditError}
+use Rattle.ssh_offers.specs.declared.error.AuditError.TheVariants.{Memory}
+use Rattle.ssh_offers.specs.declared.query.Signed.{Signed}
+use Rattle.ssh_offers.specs.FileSignature.{sshsig_claim}
+use Rattle.ssh_trust.specs.declared.signatures.SigAnswer.{SigAnswer}
+use Rattle.ssh_trust.specs.SignatureAnswer.{sig_answer}
+use Rattle.ssh_audit.specs.Audits.{after_vouching, vouched_in}
+use Rattle.ssh_audit.specs.CommandLine.{SshsigWords}
+use Rattle.ssh_inputs.specs.SourceState.{SourceState, bytes_at}
+use Rattle.ssh_inputs.specs.Parts.{after_whole}
+use Rattle.ssh_inputs.specs.Loading.{OneReadFailed, NoReadFailed, within_limit}
+use Rattle.ssh_print.specs.Responses.{Response, no_file_response}
+use Rattle.ssh_print.specs.SignatureText.{sshsig_response}
+
+-- ---- bytes
+
+-- the answer by a claim, which may be refused
+abbrev pub claim_answer : {C : Type 0} → (C → SigAnswer) → Result C AuditError → Result SigAnswer AuditError
+claim_answer answer (Err e) = Err e
+claim_answer answer (Ok v) = Ok (answer v)
+
+-- what is answered to a body and a message
+abbrev pub bytes_answer : SshsigWords → List Signed → List ℕ → List ℕ → Result SigAnswer AuditError
+bytes_answer w vouched body message = claim_answer (λ v. sig_answer v message w.namespace vouched) (sshsig_claim body)
+
+abbrev pub is_memory : Result SigAnswer AuditError → Bool
+is_memory (Err Memory) = true
+is_memory _ = false
+
+-- ---- files: the vouch file first, then the body's, then the message's
+
+abbrev pub message_over : SshsigWords → List Signed → List ℕ → Option (List ℕ) → Response
+message_over w vouched body None = no_file_response w.message
+message_over w vouched body (Some message) = sshsig_response (bytes_answer w vouched body message)
+
+-- the answer after the body was read
+abbrev pub message_response : SshsigWords → List Signed → List ℕ → SourceState → Response
+message_response w vouched body s = message_over w vouched body (within_limit (bytes_at s w.message))
+
+abbrev pub body_over : SshsigWords → List Signed → SourceState → Option (List ℕ) → Response
+body_over w vouched s None = no_file_response w.body
+body_over w vouched s (Some body) = message_response w vouched body (after_whole s w.body)
+
+-- the answer after the vouch file was read
+abbrev pub body_response : SshsigWords → List Signed → SourceState → Response
+body_response w vouched s = body_over w vouched s (within_limit (bytes_at s w.body))
+
+abbrev pub vouched_over : SshsigWords → SourceState → Result (List Signed) Response → Response
+vouched_over w s (Err r) = r
+vouched_over w s (Ok vouched) = body_response w vouched s
+
+-- the answer where the vouch file, if there is one, has this name
+abbrev pub signature_over : SshsigWords → Option (List ℕ) → SourceState → Response
+signature_over w vouch s = vouched_over w (after_vouching vouch s) (vouched_in vouch s)
+
+abbrev pub signature_response : SshsigWords → SourceState → Response
+signature_response w s = signature_over w w.vouch s
+
+-- ---- failed reads
+
+-- a file that is read for these words
+abbrev pub IsFileOf : SshsigWords → List ℕ → Type 0
+IsFileOf w name = (name ≡ w.body) ⊎ ((name ≡ w.message) ⊎ (w.vouch ≡ Some name))
+
+-- one read failed, and the response is that file's fault
+abbrev pub IsSignatureFault : SshsigWords → SourceState → Option SourceState → Response → Type 0
+IsSignatureFault w s t r = (name : List ℕ) × IsFileOf w name × OneReadFailed s t name × (r ≡ no_file_response name)
+
+-- the response is the wanted one, and no read failed; or one failed, and it is the fault of the file that was read
+abbrev pub Signs : SshsigWords → Response → SourceState → Option SourceState → Response → Type 0
+Signs w wanted s t r = (NoReadFailed s t × (r ≡ wanted)) ⊎ IsSignatureFault w s t r

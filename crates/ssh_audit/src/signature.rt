@@ -1,0 +1,139 @@
+//! What the program answers to a file signature, with the signatures that a vouch file vouches for.
+
+ghost use Rattle.std.specs.Prelude.{◌≡◌, IfOk, Some};
+ghost use Rattle.ssh_audit.specs.CommandLine.{sshsig as sshsig_request};
+ghost use Rattle.ssh_audit.specs.Audits.{or_vouch_fault};
+ghost use Rattle.ssh_audit.specs.Parsing.{sshsig_texts_of};
+ghost use Rattle.ssh_audit.specs.Requests.{RespondsBy, exactly};
+ghost use Rattle.ssh_audit.specs.Signatures.{
+  Signs,
+  body_response,
+  bytes_answer,
+  is_memory,
+  message_response,
+  signature_response,
+  vouched_over,
+};
+ghost use Rattle.ssh_trust.specs.Answer.{Gives};
+ghost use Rattle.ssh_print.specs.ResponseView.{response};
+ghost use Rattle.ssh_print.specs.SignatureText.{sshsig_response};
+ghost use Rattle.ssh_inputs.specs.SourceState.{IfTells};
+ghost use Rattle.ssh_inputs.specs.VouchFile.{vouched_of};
+
+use crate::audit::unread;
+use crate::request::SshsigWords;
+use ssh_inputs::{Files, VouchFault, read_vouch_file, read_vouched, read_whole};
+use ssh_print::{Response, sshsig_response, vouch_fault};
+use ssh_trust::{AuditError, SigAnswer, Signed, sshsig};
+use std::alloc::{AllocError, Global};
+
+/// The answer by the bytes of a body and of a message.
+fn answer_bytes(
+    alloc: Global,
+    words: &SshsigWords<'_>,
+    vouched: &[Signed],
+    body: &[u8],
+    message: &[u8],
+) -> Result<SigAnswer, AuditError>
+    ensures { Gives
+        (bytes_answer (sshsig_texts_of words.entry.now) vouched.now body.now message.now) result }
+{
+    let answer = sshsig(alloc, body, message, words.namespace.as_bytes(), vouched)?;
+    Ok(answer)
+}
+
+fn is_memory(answer: &Result<SigAnswer, AuditError>) -> bool
+    ensures { result ≡ is_memory answer.now }
+{
+    matches!(answer, Err(AuditError::Memory))
+}
+
+/// The response by the bytes of a body and of a message.
+fn respond_bytes(
+    alloc: Global,
+    words: &SshsigWords<'_>,
+    vouched: &[Signed],
+    body: &[u8],
+    message: &[u8],
+) -> Result<Response, AllocError>
+    ensures { IfOk result (λ r.
+        response r ≡ sshsig_response
+        (bytes_answer (sshsig_texts_of words.entry.now) vouched.now body.now message.now)) }
+{
+    let answer = answer_bytes(alloc, words, vouched, body, message);
+    if is_memory(&answer) {
+        return Err(AllocError);
+    }
+    sshsig_response(alloc, &answer)
+}
+
+/// The response after the body was read.
+fn respond_body<F: Files>(
+    alloc: Global,
+    words: &SshsigWords<'_>,
+    vouched: &[Signed],
+    body: &[u8],
+    files: &mut F,
+) -> Result<Response, AllocError>
+    ensures { IfTells (F.source_state files.old) (λ s. IfOk result (λ r.
+        Signs (sshsig_texts_of words.entry.now) (message_response (sshsig_texts_of words.entry.now) vouched.now body.now s) s (F.source_state files.new) (response r))) }
+{
+    match read_whole(alloc, files, words.message) {
+        Ok(message) => respond_bytes(alloc, words, vouched, body, &message),
+        Err(fault) => unread(alloc, words.message, fault),
+    }
+}
+
+/// The response after the signatures that are vouched for were read.
+fn respond_vouched<F: Files>(
+    alloc: Global,
+    words: &SshsigWords<'_>,
+    vouched: &[Signed],
+    files: &mut F,
+) -> Result<Response, AllocError>
+    ensures { IfTells (F.source_state files.old) (λ s. IfOk result (λ r.
+        Signs (sshsig_texts_of words.entry.now) (body_response (sshsig_texts_of words.entry.now) vouched.now s) s (F.source_state files.new) (response r))) }
+{
+    match read_whole(alloc, files, words.body) {
+        Ok(body) => respond_body(alloc, words, vouched, &body, files),
+        Err(fault) => unread(alloc, words.body, fault),
+    }
+}
+
+/// The response after the bytes of the vouch file were read.
+fn respond_vouch_bytes<F: Files>(
+    alloc: Global,
+    words: &SshsigWords<'_>,
+    bytes: &[u8],
+    files: &mut F,
+) -> Result<Response, AllocError>
+    ensures { IfTells (F.source_state files.old) (λ s. IfOk result (λ r.
+        Signs (sshsig_texts_of words.entry.now) (vouched_over (sshsig_texts_of words.entry.now) s (or_vouch_fault (vouched_of bytes.now))) s (F.source_state files.new) (response r))) }
+{
+    match read_vouched(alloc, bytes) {
+        Ok(vouched) => {
+            let response = respond_vouched(alloc, words, &vouched, files)?;
+            Ok(response)
+        }
+        Err(VouchFault::Line(number)) => vouch_fault(alloc, number),
+        Err(VouchFault::Memory) => Err(AllocError),
+    }
+}
+
+/// The response to a file signature.
+pub fn respond_sshsig<F: Files>(
+    alloc: Global,
+    words: &SshsigWords<'_>,
+    files: &mut F,
+) -> Result<Response, AllocError>
+    ensures { IfTells (F.source_state files.old) (λ s. IfOk result (λ r.
+        RespondsBy (Some (sshsig_request (sshsig_texts_of words.entry.now))) (exactly (signature_response (sshsig_texts_of words.entry.now) s)) s (F.source_state files.new) (response r))) }
+{
+    match words.vouch {
+        None => respond_vouched(alloc, words, &[], files),
+        Some(name) => match read_vouch_file(alloc, files, name) {
+            Ok(bytes) => respond_vouch_bytes(alloc, words, &bytes, files),
+            Err(fault) => unread(alloc, name, fault),
+        },
+    }
+}
