@@ -2,8 +2,10 @@
 """Runs the program once for each growth of memory that it asks for, with that growth refused, alone and with all later
 ones. Each run has to print the row's own answer, or `fault A8` with status 2. Needs gcc and the built program, which may
 be given as an argument."""
+import hashlib
 import os
 import pathlib
+import shutil
 import subprocess
 import sys
 import tempfile
@@ -54,8 +56,40 @@ def host_rows(login, key, triple):
         yield name, words, b"\n".join([vouched, b"", *lines, b""])
 
 
+def string(data):
+    """A string of the SSH protocols (RFC 4251 section 5)."""
+    return len(data).to_bytes(4, "big") + data
+
+
+KEY = string(b"ssh-ed25519") + string(bytes(32))
+SIGNATURE = string(b"ssh-ed25519") + string(b"\xaa")
+
+
+def private_body():
+    """An unencrypted private key with the comment `abc` (PROTOCOL.key)."""
+    section = bytes([0, 0, 0, 1] * 2) + KEY + string(bytes(64)) + string(b"abc") + b"\x01\x02"
+    return b"openssh-key-v1\0" + string(b"none") * 2 + string(b"") + bytes([0, 0, 0, 1]) + string(KEY) + string(section)
+
+
+def body_rows():
+    """A file signature of no bytes (PROTOCOL.sshsig), for its namespace and another one, vouched for and not; faults;
+    and `show` of it and of a private body."""
+    named = string(b"file") + string(b"") + string(b"sha256")
+    body = b"SSHSIG" + bytes([0, 0, 0, 1]) + string(KEY) + named + string(SIGNATURE)
+    signed = b"SSHSIG" + named + string(hashlib.sha256(b"").digest())
+    vouched = " ".join(part.hex() for part in (KEY, signed, SIGNATURE)).encode()
+    words = ["sshsig", "--body", "-", "--message", os.devnull, "--vouch", "-", "--namespace"]
+    yield "vouched file signature", [*words, "file"], vouched + b"\n\n" + body
+    yield "file signature that nobody vouches for", [*words, "file"], b"\n" + body
+    yield "another namespace", [*words, "git"], b"\n" + body
+    yield "cut file signature", [*words, "file"], b"\n" + body[:110]
+    yield "show a file signature", ["show", "--kind", "sshsig", "--file", "-"], body
+    yield "show a private key", ["show", "--kind", "private", "--file", "-"], private_body()
+
+
 def rows():
-    """The stored run, the same login over files and vouch files that give reasons, a denial and faults; `show`; `host`."""
+    """The stored run, the same login over files and vouch files that give reasons, a denial and faults; `show`; `host`;
+    `sshsig`."""
     stored = (CRATE / "stdin").read_bytes()
     words, vouched, rest = stored.split(b"\n", 2)
     key = next(line for line in rest.split(b"\n") if line.startswith(b"ssh-"))
@@ -70,6 +104,7 @@ def rows():
     yield "show a bad line", ["show", "--kind", "key", "--file", "-"], b"ssh-rsa AAAA\n"
     yield "words of the command line", words.decode().split(" "), stored.split(b"\n", 1)[1]
     yield from host_rows(words.decode().split(" "), key, vouched.split(b" "))
+    yield from body_rows()
 
 
 def check(preload, name, words, stdin):
@@ -91,11 +126,20 @@ def check(preload, name, words, stdin):
 
 
 def main():
+    """The last line is 'N passed, M failed', of rows. What cannot run has failed."""
+    if shutil.which("gcc") is None:
+        print("gcc is missing: nothing was tried\n0 passed, 1 failed")
+        return 1
+    if not PROGRAM.exists():
+        print(f"{PROGRAM} is not built: nothing was tried\n0 passed, 1 failed")
+        return 1
     with tempfile.TemporaryDirectory() as folder:
         preload = pathlib.Path(folder) / "refuse_growth.so"
         subprocess.run(["gcc", "-O2", "-Wall", "-shared", "-fPIC", "-o", str(preload), str(HERE / "refuse_growth.c"), "-ldl"], check=True)
         results = [check(preload, *row) for row in rows()]
-    sys.exit(0 if all(results) else 1)
+    print(f"{results.count(True)} passed, {results.count(False)} failed")
+    return 0 if all(results) else 1
 
 
-main()
+if __name__ == "__main__":
+    sys.exit(main())

@@ -1,24 +1,21 @@
 #!/usr/bin/env python3
-"""Reads each row below by `read_auth_line` or `read_known_line` with each growth of memory refused in turn. Each
-reading has to tell out of memory or give the row's own answer: a line that has an entry never becomes unreadable, and
-no revocation is lost. Run it as
+"""Reads each row below by `read_auth_line` or `read_known_line`, and writes files anew by `rewrite_auth` or
+`rewrite_known`, with each growth of memory refused in turn. Each call has to tell out of memory or give the row's own
+answer: a line that has an entry never becomes unreadable, no revocation is lost, and nothing is handed back of a file
+that was written in part. Run it as
 
     python3 checks/refused_lines.py
 
-It needs the kit's `rt`, proves nothing, and takes a few minutes: a copy of the repository gets one test for each row in
-place of the tests of ssh_lines, and `rt try --test --fail-alloc N` runs them for N = 1, 2, .. until no row has an Nth
-growth. Another repository's folder may be given as an argument."""
+It needs the kit's `rt`, proves nothing, and takes some minutes: a copy of the repository gets one test for each row in
+place of the tests of ssh_lines and of ssh_rewriting, and `rt try --test --fail-alloc N` runs them for N = 1, 2, ..
+until no row has an Nth growth. Another repository's folder may be given as an argument."""
 import pathlib
-import re
-import shutil
-import subprocess
 import sys
-import tempfile
+
+from refused import check_rows
 
 TOP = pathlib.Path(sys.argv[1] if len(sys.argv) > 1 else pathlib.Path(__file__).parent.parent).resolve()
 KEY = "AAAAC3NzaC1lZDI1NTE5AAAAI" + "A" * 43
-# As many runs in a row without a refusal end the check.
-QUIET_RUNS = 2
 
 # Lines that have an entry, each with how many options it has, and its comment.
 ENTRIES = [
@@ -66,6 +63,15 @@ KNOWN = [
     (" ", "Blank"),
 ]
 
+# Files, each with the call that writes it anew, and what it is written to.
+FILES = [
+    ("rewrite_auth", f"  PTY,Restrict  ssh-ed25519\t{KEY}  me \r", f"pty,restrict ssh-ed25519 {KEY} me\n"),
+    ("rewrite_auth", f'NO-X11-FORWARDING,command="a\\"" ssh-ed25519 {KEY}', f'no-X11-forwarding,command="a\\"" ssh-ed25519 {KEY}\n'),
+    ("rewrite_auth", "# a\r\nnosuch  x", "# a\r\nnosuch  x\n"),
+    ("rewrite_known", f"h  ssh-ed25519  {KEY}", f"h ssh-ed25519 {KEY}\n"),
+    ("rewrite_known", f"@revoked  h ssh-ed25519 {KEY}\n", f"@revoked  h ssh-ed25519 {KEY}\n"),
+]
+
 HEAD = """use crate::{
     AuthLine, KnownLine, LineCause, Marker, names_host, read_auth_line, read_known_line,
 };
@@ -83,9 +89,26 @@ fn row_%d(rt: HostRuntime) -> Result<(), Fail> {
 }
 """
 
+FILES_HEAD = """use crate::{rewrite_auth, rewrite_known};
+use std::test::Fail;
+"""
+
+FILE_ROW = """
+#[test]
+fn row_%d(rt: HostRuntime) -> Result<(), Fail> {
+    let new = %s(rt.alloc(), %s)?;
+    if new.as_slice() == %s.as_slice() {
+        Ok(())
+    } else {
+        Err(Fail::new("another file"))
+    }
+}
+"""
+
 
 def literal(text):
-    return 'b"' + text.replace("\\", "\\\\").replace('"', '\\"') + '"'
+    escapes = {"\\": "\\\\", '"': '\\"', "\r": "\\r", "\n": "\\n", "\t": "\\t"}
+    return 'b"' + "".join(escapes.get(char, char) for char in text) + '"'
 
 
 def tests():
@@ -99,44 +122,10 @@ def tests():
     return HEAD + "".join(rows), len(rows)
 
 
-def answers(crate, index):
-    """What each row answers where the growth of this index is refused: `ok`, or why its test failed."""
-    command = ["rt", "try", "--test"] + (["--fail-alloc", str(index)] if index else [])
-    printed = subprocess.run(command, cwd=crate, capture_output=True, text=True, check=False).stdout
-    found = re.findall(r"^test tests::row_(\d+) \.\.\. (ok|FAILED\n\s*.*)$", printed, re.MULTILINE)
-    return {int(row): answer.removeprefix("FAILED").strip() for row, answer in found}, printed
+def file_tests():
+    rows = [FILE_ROW % (number, call, literal(old), literal(new)) for number, (call, old, new) in enumerate(FILES, 1)]
+    return FILES_HEAD + "".join(rows), len(rows)
 
 
-def check(crate, count):
-    index = refused = quiet = 0
-    while quiet < QUIET_RUNS:
-        found, printed = answers(crate, index)
-        if len(found) != count:
-            print(f"growth {index} refused: {len(found)} of {count} rows answered\n{printed}")
-            return False
-        allowed = ("ok", "error: AllocError") if index else ("ok",)
-        for row, answer in found.items():
-            if answer not in allowed:
-                print(f"row {row}, growth {index} refused: {answer}")
-                return False
-        told = sum(answer != "ok" for answer in found.values())
-        print(f"growth {index} refused: {told} of {count} rows want memory, the others give their own answer" if index
-              else f"no growth refused: {count} rows give their own answer", flush=True)
-        refused += told
-        quiet = 0 if told or not index else quiet + 1
-        index += 1
-    return refused > 0
-
-
-def main():
-    with tempfile.TemporaryDirectory() as folder:
-        copy = pathlib.Path(folder) / "repository"
-        shutil.copytree(TOP, copy, ignore=shutil.ignore_patterns("out", ".git"))
-        crate = copy / "crates" / "ssh_lines"
-        text, count = tests()
-        (crate / "src" / "tests.rt").write_text(text)
-        (crate / "src" / "known_tests.rt").write_text("")
-        sys.exit(0 if check(crate, count) else 1)
-
-
-main()
+FILES_PASS = check_rows(TOP, "ssh_rewriting", *file_tests(), told_by="error: Memory")
+sys.exit(0 if FILES_PASS and check_rows(TOP, "ssh_lines", *tests(), emptied=["known_tests.rt"]) else 1)

@@ -1,0 +1,362 @@
+#!/usr/bin/env python3
+"""Runs the built program from outside: files by name, each status, and what cannot be read or written.
+
+usage: program.py [PROGRAM] [--after LOG]
+
+PROGRAM is crates/ssh_audit/out/ssh_audit where it is left out. After its own rows it starts the checks beside it:
+examples.py (keys, certificates and signatures of ssh-keygen and openssl through examples/) and refused_growth.py (each
+growth of memory refused in turn). The last line is 'N passed, M failed' for all of them; with --after, the counts in
+the last line of LOG, what `rt ci` printed, are added. The status is 0 where nothing failed. What cannot run has failed.
+
+Needs ssh-keygen (Debian: openssh-client), openssl 3, gcc, /dev/full, and the built program. It takes about half a minute.
+"""
+import argparse
+import fcntl
+import os
+import pathlib
+import re
+import shutil
+import subprocess
+import sys
+import tempfile
+import threading
+
+HERE = pathlib.Path(__file__).resolve().parent
+CRATE = HERE.parent / "crates" / "ssh_audit"
+NEEDS = {"ssh-keygen": "openssh-client", "openssl": "openssl", "gcc": "gcc"}
+COUNTS = re.compile(r"(\d+) passed, (\d+) failed")
+SECONDS = 60
+
+# An Ed25519 key of 32 zero bytes, another one, a signature, and what has to be vouched for: for a login, for a host.
+KEY = "AAAAC3NzaC1lZDI1NTE5AAAAIAAAAAAAAAAAAAAAAAAAAAAAAAAAAAAAAAAAAAAAAAAA"
+OTHER_KEY = KEY[:-1] + "B"
+SIGNATURE = "0000000b7373682d6564323535313900000001aa"
+BLOB = "0000000b7373682d6564323535313900000020" + 64 * "0"
+MESSAGE = (
+    "00000004010203043200000003616e6e0000000e7373682d636f6e6e656374696f6e000000097075626c69636b6579010000000b"
+    "7373682d6564323535313900000033" + BLOB
+)
+LOGIN_TRIPLE = f"{BLOB} {MESSAGE} {SIGNATURE}\n"
+HOST_TRIPLE = f"{BLOB} 01020304 {SIGNATURE}\n"
+GRANTED = f"granted line 1\nrights port agent x11 pty rc\nevidence 0 {LOGIN_TRIPLE}"
+UNVOUCHED = f"denied N6 0\nevidence 0 {LOGIN_TRIPLE}"
+NO_LINE = f"denied N3\nevidence 0 {LOGIN_TRIPLE}"
+TRUSTED = f"granted line 1\nevidence 0 {HOST_TRIPLE}"
+REVOKED = f"denied N1 2\nevidence 0 {HOST_TRIPLE}"
+SHOWN = "type ssh-ed25519\nfingerprint SHA256:kmYcvdi2GkPeWxB6XLjrZB8JHsy2Hm8luHMFp9GMvqk\ncomment me\n"
+# A certificate for this key by the other one, and what is shown of it.
+CERTIFICATE = (
+    "AAAAIHNzaC1lZDI1NTE5LWNlcnQtdjAxQG9wZW5zc2guY29tAAAAAQcAAAAgAAAAAAAAAAAAAAAAAAAAAAAAAAAAAAAAAAAAAAAAAAAAAAAAAAAA"
+    "BQAAAAEAAAACaWQAAAAHAAAAA2FubgAAAAAAAABkAAAAAAAAAMgAAAAAAAAAAAAAAAAAAAAzAAAAC3NzaC1lZDI1NTE5AAAAIAAAAAAAAAAAAAAA"
+    "AAAAAAAAAAAAAAAAAAAAAAAAAAABAAAAFAAAAAtzc2gtZWQyNTUxOQAAAAGq"
+)
+SHOWN_CERTIFICATE = (
+    "type ssh-ed25519-cert-v01@openssh.com\nfingerprint SHA256:kmYcvdi2GkPeWxB6XLjrZB8JHsy2Hm8luHMFp9GMvqk\n"
+    "signer ssh-ed25519 SHA256:gOPgXFWkBoXrFVwpjf0SBo3P1kFs+IvH5q/vnQhNpFw\nkind user\nserial 5\nid id\nprincipal ann\n"
+    "valid-after 100 1970-01-01T00:01:40Z\nvalid-before 200 1970-01-01T00:03:20Z\nsignature ssh-ed25519\n"
+)
+FILES = {
+    "keys": f"ssh-ed25519 {KEY} me\n",
+    "other keys": f"ssh-ed25519 {OTHER_KEY} me\n",
+    "vouched": LOGIN_TRIPLE,
+    "hosts": f"h ssh-ed25519 {KEY}\n",
+    "revoked": f"h ssh-ed25519 {KEY}\n@revoked * ssh-ed25519 {KEY}\n",
+    "host vouched": HOST_TRIPLE,
+    "certificate": f"ssh-ed25519-cert-v01@openssh.com {CERTIFICATE} me\n",
+    "bad vouch": "# none\nzz\n",
+    "empty": "",
+    "-": f"ssh-ed25519 {OTHER_KEY} me\n",
+    "\u00e9\\": f"ssh-ed25519 {KEY} me\n",
+}
+
+
+class Tally:
+    """How many checks passed and failed."""
+
+    passed = failed = 0
+
+    def check(self, name, found, wanted):
+        if found == wanted:
+            self.passed += 1
+        else:
+            self.failed += 1
+            print(f"FAILED {name}\n  wanted {str(wanted)[:600]}\n  found  {str(found)[:600]}", flush=True)
+
+
+class Program:
+    """The built program, in a folder with the files above."""
+
+    def __init__(self, path, room):
+        self.path, self.room = path, room
+
+    def start(self, words, **how):
+        return subprocess.Popen([self.path, *words], cwd=self.room, stderr=subprocess.PIPE, **how)
+
+    def run(self, words, stdin=b""):
+        """The status, what was written, and what went to standard error. `stdin` is bytes, or a file."""
+        given = stdin if isinstance(stdin, bytes) else None
+        how = subprocess.PIPE if given is not None else stdin
+        ran = self.start(words, stdin=how, stdout=subprocess.PIPE)
+        try:
+            out, errors = ran.communicate(given, timeout=SECONDS)
+        except subprocess.TimeoutExpired:
+            ran.kill()
+            return "no end", ran.communicate()[0], b""
+        return ran.returncode, out, errors
+
+    def status(self, words, stdout):
+        """The status where standard output is this file, and what went to standard error."""
+        ran = self.start(words, stdin=subprocess.DEVNULL, stdout=stdout)
+        try:
+            _, errors = ran.communicate(timeout=SECONDS)
+        except subprocess.TimeoutExpired:
+            ran.kill()
+            return "no end", ran.communicate()[1]
+        return ran.returncode, errors
+
+
+def login(trust, vouch=None, **other):
+    given = {"offer": KEY, "signature": SIGNATURE, "algorithm": "ssh-ed25519", "session": "01020304", "user": "ann"}
+    given.update({"address": "192.0.2.1", "now": "150"}, **other)
+    return words("login", trust, vouch, given)
+
+
+def host(trust, vouch=None, **other):
+    given = {"offer": KEY, "signature": SIGNATURE, "hash": "01020304", "host": "h", "port": "22", "now": "150"}
+    given.update(other)
+    return words("host", trust, vouch, given)
+
+
+def words(subcommand, trust, vouch, given):
+    files = ["--file", trust] + (["--vouch", vouch] if vouch is not None else [])
+    return [subcommand, *files, *(word for name, value in given.items() for word in ("--" + name, value))]
+
+
+def show(kind, file):
+    return ["show", "--kind", kind, "--file", file]
+
+
+# ---- rows
+
+
+def rows():
+    """The words, what is wanted, the status, and standard input where it matters."""
+    keys, hosts, certificate = (FILES[name].encode() for name in ("keys", "hosts", "certificate"))
+    # each status of each subcommand, its files by name
+    yield login("keys", "vouched"), GRANTED, 0
+    yield login("./keys", "./vouched"), GRANTED, 0
+    yield login("keys"), UNVOUCHED, 1
+    yield login("other keys", "vouched"), NO_LINE, 1
+    yield login("empty"), NO_LINE, 1
+    yield login("keys", "vouched", algorithm="ssh-rsa"), "fault A3\n", 2
+    yield login("keys", "bad vouch"), "fault vouch 2\n", 2
+    yield login("keys", session="0"), "fault value session\n", 2
+    yield host("hosts", "host vouched"), TRUSTED, 0
+    yield host("revoked", "host vouched"), REVOKED, 1
+    yield host("hosts", "host vouched", port="65536"), "fault value port\n", 2
+    yield show("key", "keys"), SHOWN, 0
+    yield show("cert", "certificate"), SHOWN_CERTIFICATE, 0
+    yield show("cert", "keys"), "fault L8\n", 2
+    yield show("frob", "keys"), "fault value kind\n", 2
+    # standard input by its name, also where a file has that name; another file does not look at it
+    yield login("-", "vouched"), GRANTED, 0, keys
+    yield login("keys", "-"), GRANTED, 0, LOGIN_TRIPLE.encode()
+    yield login("-", "-"), GRANTED, 0, LOGIN_TRIPLE.encode() + b"\n" + keys
+    yield login("./-", "vouched"), NO_LINE, 1, keys
+    yield login("other keys", "vouched"), NO_LINE, 1, keys
+    yield host("-", "host vouched"), TRUSTED, 0, hosts
+    yield show("key", "-"), SHOWN, 0, keys
+    yield show("cert", "-"), SHOWN_CERTIFICATE, 0, certificate
+    yield login("\u00e9\\", "vouched"), GRANTED, 0
+    # files that are not there, whatever standard input has
+    for name in ("missing", "", "keys/missing", "missing/", "\u00e8\\"):
+        told = "".join(f"\\x{byte:02x}" if byte == 0x5C or byte > 0x7E else chr(byte) for byte in name.encode())
+        yield login(name, "vouched"), "fault A9\n", 2, keys
+        yield login("keys", name), f"fault file {told}\n", 2, LOGIN_TRIPLE.encode()
+        yield host(name, "host vouched"), "fault A9\n", 2, hosts
+        yield host("hosts", name), f"fault file {told}\n", 2, HOST_TRIPLE.encode()
+        yield show("key", name), f"fault file {told}\n", 2, keys
+        yield show("cert", name), f"fault file {told}\n", 2, certificate
+    # files whose reads fail: a folder; the one that is read first is told
+    yield login(".", "vouched"), "fault A9\n", 2, keys
+    yield login("keys", "."), "fault file .\n", 2, keys
+    yield login("missing", "."), "fault file .\n", 2
+    yield login(".", "missing"), "fault file missing\n", 2
+    yield login(".", "bad vouch"), "fault vouch 2\n", 2
+    yield host(".", "host vouched"), "fault A9\n", 2, hosts
+    yield host("hosts", "."), "fault file .\n", 2
+    yield show("key", "."), "fault file .\n", 2, keys
+    # files without an end
+    yield login("/dev/zero"), "fault A7\n", 2
+    yield login("keys", "/dev/zero"), "fault file /dev/zero\n", 2
+    yield host("/dev/zero"), "fault A7\n", 2
+    yield show("key", "/dev/zero"), "fault file /dev/zero\n", 2
+    # words
+    yield ["frob"], "fault usage\n", 2
+    yield ["login"], "fault usage\n", 2
+    yield ["--help"], "fault usage\n", 2
+    yield login("keys") + ["--now", "150"], "fault usage\n", 2
+    yield login("keys", user=b"\xff"), "fault usage\n", 2
+    yield [], "fault usage\n", 2
+    yield [], "fault usage\n", 2, b"\xff\n"
+    yield [], GRANTED, 0, " ".join(login("keys", "vouched")).encode() + b"\n"
+    yield [], (CRATE / "stdout").read_text(), 0, (CRATE / "stdin").read_bytes()
+
+
+def answer_rows(program, tally):
+    for asked, wanted, status, *stdin in rows():
+        name = " ".join(word if isinstance(word, str) else repr(word) for word in asked) or repr(stdin)
+        tally.check(name, program.run(asked, *stdin), (status, wanted.encode(), b""))
+
+
+def size_rows(program, tally):
+    """A trust file at the limit and one byte past it, by name and through a pipe."""
+    size = 67_108_864
+    for length, wanted, status in ((size, NO_LINE, 1), (size + 1, "fault A7\n", 2)):
+        content = b"#" + b"x\n#" * (length // 3 + 1)
+        (program.room / "large").write_bytes(content[:length])
+        tally.check(f"a file of {length} bytes", program.run(login("large")), (status, wanted.encode(), b""))
+        tally.check(f"{length} bytes in a pipe", program.run(login("-"), content[:length]), (status, wanted.encode(), b""))
+    (program.room / "large").unlink()
+
+
+def input_rows(program, tally):
+    """A standard input that cannot be read."""
+    for asked, wanted in (
+        ([], "fault usage\n"),
+        (login("-", "vouched"), "fault A9\n"),
+        (login("keys", "-"), "fault file -\n"),
+        (show("key", "-"), "fault file -\n"),
+    ):
+        folder = os.open(program.room, os.O_RDONLY)
+        tally.check(f"a folder as input: {asked[:1]}", program.run(asked, folder), (2, wanted.encode(), b""))
+        os.close(folder)
+
+
+# ---- writers
+
+
+def closed_pipe():
+    read, write = os.pipe()
+    os.close(read)
+    return write
+
+
+def full_pipe():
+    """A pipe that takes no more and does not wait, and its other end."""
+    read, write = os.pipe()
+    os.set_blocking(write, False)
+    try:
+        while True:
+            os.write(write, bytes(4096))
+    except BlockingIOError:
+        pass
+    return read, write
+
+
+def writer_rows(program, tally):
+    """Writers that fail: the status is 2, whatever the answer's own status is."""
+    asked = (login("keys", "vouched"), login("keys"), host("revoked"), show("key", "keys"), ["frob"])
+    for words_asked in asked:
+        name = " ".join(words_asked[:3])
+        with open("/dev/full", "wb") as full:
+            tally.check(f"a full device: {name}", program.status(words_asked, full), (2, b""))
+        write = closed_pipe()
+        tally.check(f"a closed pipe: {name}", program.status(words_asked, write), (2, b""))
+        os.close(write)
+        read, write = full_pipe()
+        tally.check(f"a full pipe: {name}", program.status(words_asked, write), (2, b""))
+        os.close(read)
+        os.close(write)
+        closed = subprocess.run(["sh", "-c", 'exec "$@" >&-', "", program.path, *words_asked], cwd=program.room, stdin=subprocess.DEVNULL, stderr=subprocess.PIPE, check=False)
+        tally.check(f"no output: {name}", (closed.returncode, closed.stderr), (2, b""))
+
+
+def long_text_rows(program, tally):
+    """A text of a megabyte through a small pipe: a slow reader gets it whole, and one that goes away ends the program."""
+    comment = 1_000_000 * "c"
+    (program.room / "long").write_text(f"ssh-ed25519 {KEY} {comment}\n")
+    wanted = SHOWN.replace("comment me", "comment " + comment).encode()
+    for wants, status in ((len(wanted) + 1, 0), (5000, 2)):
+        read, write = os.pipe()
+        fcntl.fcntl(write, fcntl.F_SETPIPE_SZ, 4096)
+        ran = program.start(show("key", "long"), stdin=subprocess.DEVNULL, stdout=write)
+        os.close(write)
+        got = b""
+        ends = threading.Timer(SECONDS, ran.kill)
+        ends.start()
+        while len(got) < wants:
+            piece = os.read(read, min(1000, wants - len(got)))
+            if not piece:
+                break
+            got += piece
+        os.close(read)
+        ended = ran.wait(), ran.stderr.read()
+        ends.cancel()
+        tally.check(f"a long text, of which {wants} bytes are read", (ended, got == wanted[:wants]), ((status, b""), True))
+
+
+# ---- the other checks
+
+
+def counts_of(text):
+    """The counts in the last line of a check's output; a check that tells none has failed."""
+    found = COUNTS.search(text.rstrip().rsplit("\n", 1)[-1])
+    return (int(found[1]), int(found[2])) if found else None
+
+
+def other_check(name, path, tally):
+    ran = subprocess.run([sys.executable, HERE / name, path], stdout=subprocess.PIPE, stderr=subprocess.STDOUT, text=True, errors="replace", check=False)
+    passed, failed = counts_of(ran.stdout) or (0, 1)
+    if ran.returncode or failed:
+        failed = failed or 1
+        print(f"FAILED {name}\n{ran.stdout}", flush=True)
+    tally.passed += passed
+    tally.failed += failed
+    print(f"{name}: {passed} passed, {failed} failed", flush=True)
+
+
+def what_is_missing(path):
+    for need, package in NEEDS.items():
+        if shutil.which(need) is None:
+            yield f"{need} is missing (Debian: {package})"
+    if not os.access(path, os.X_OK):
+        yield f"{path} is not built"
+    if not os.path.exists("/dev/full"):
+        yield "/dev/full is missing"
+
+
+def try_all(path, tally):
+    missing = list(what_is_missing(path))
+    if missing:
+        print("\n".join(missing) + "\nnothing was tried", flush=True)
+        tally.failed += 1
+        return
+    with tempfile.TemporaryDirectory() as folder:
+        program = Program(path, pathlib.Path(folder))
+        for name, text in FILES.items():
+            (program.room / name).write_text(text)
+        for row in (answer_rows, size_rows, input_rows, writer_rows, long_text_rows):
+            row(program, tally)
+    print(f"program.py itself: {tally.passed} passed, {tally.failed} failed", flush=True)
+    for name in ("examples.py", "refused_growth.py"):
+        other_check(name, path, tally)
+
+
+def main():
+    parser = argparse.ArgumentParser(description="Runs the built program from outside.")
+    parser.add_argument("program", nargs="?", default=CRATE / "out" / "ssh_audit", type=pathlib.Path)
+    parser.add_argument("--after", metavar="LOG", type=pathlib.Path, help="what rt ci printed, whose counts are added")
+    asked = parser.parse_args()
+    tally = Tally()
+    try_all(asked.program.resolve(), tally)
+    if asked.after is not None:
+        passed, failed = counts_of(asked.after.read_text(errors="replace")) or (0, 1)
+        tally.passed += passed
+        tally.failed += failed
+    print(f"{tally.passed} passed, {tally.failed} failed")
+    return 1 if tally.failed else 0
+
+
+if __name__ == "__main__":
+    sys.exit(main())
