@@ -44,6 +44,17 @@ NO_LINE = f"denied N3\nevidence 0 {LOGIN_TRIPLE}"
 TRUSTED = f"granted line 1\nevidence 0 {HOST_TRIPLE}"
 REVOKED = f"denied N1 2\nevidence 0 {HOST_TRIPLE}"
 SHOWN = "type ssh-ed25519\nfingerprint SHA256:kmYcvdi2GkPeWxB6XLjrZB8JHsy2Hm8luHMFp9GMvqk\ncomment me\n"
+# A file signature by this key for the namespace `file`, the signature of its message `abc`, and what is shown of it.
+SIGNED_MESSAGE = b"abc"
+SSHSIG = bytes.fromhex(
+    "53534853494700000001" + "00000033" + BLOB + "0000000466696c65" + "00000000" + "00000006736861323536" + "00000014" + SIGNATURE
+)
+FILE_TRIPLE = (
+    f"{BLOB} 5353485349470000000466696c65000000000000000673686132353600000020"
+    f"ba7816bf8f01cfea414140de5dae2223b00361a396177a9cb410ff61f20015ad {SIGNATURE}\n"
+)
+VOUCHED = f"vouched\nevidence 0 {FILE_TRIPLE}"
+NOT_VOUCHED = f"denied N6 0\nevidence 0 {FILE_TRIPLE}"
 # A certificate for this key by the other one, and what is shown of it.
 CERTIFICATE = (
     "AAAAIHNzaC1lZDI1NTE5LWNlcnQtdjAxQG9wZW5zc2guY29tAAAAAQcAAAAgAAAAAAAAAAAAAAAAAAAAAAAAAAAAAAAAAAAAAAAAAAAAAAAAAAAA"
@@ -62,6 +73,7 @@ FILES = {
     "hosts": f"h ssh-ed25519 {KEY}\n",
     "revoked": f"h ssh-ed25519 {KEY}\n@revoked * ssh-ed25519 {KEY}\n",
     "host vouched": HOST_TRIPLE,
+    "file vouched": FILE_TRIPLE,
     "certificate": f"ssh-ed25519-cert-v01@openssh.com {CERTIFICATE} me\n",
     "bad vouch": "# none\nzz\n",
     "empty": "",
@@ -132,6 +144,11 @@ def words(subcommand, trust, vouch, given):
     return [subcommand, *files, *(word for name, value in given.items() for word in ("--" + name, value))]
 
 
+def sshsig(body, message, vouch=None, namespace="file"):
+    files = ["--body", body, "--message", message, "--namespace", namespace]
+    return ["sshsig", *files, *(["--vouch", vouch] if vouch is not None else [])]
+
+
 def show(kind, file):
     return ["show", "--kind", kind, "--file", file]
 
@@ -158,6 +175,10 @@ def rows():
     yield show("cert", "certificate"), SHOWN_CERTIFICATE, 0
     yield show("cert", "keys"), "fault L8\n", 2
     yield show("frob", "keys"), "fault value kind\n", 2
+    yield sshsig("body", "message", "file vouched"), VOUCHED, 0
+    yield sshsig("body", "message"), NOT_VOUCHED, 1
+    yield sshsig("body", "message", "file vouched", "git"), "denied namespace\n", 1
+    yield sshsig("keys", "message", "file vouched"), "fault A11 B1\n", 2
     # standard input by its name, also where a file has that name; another file does not look at it
     yield login("-", "vouched"), GRANTED, 0, keys
     yield login("keys", "-"), GRANTED, 0, LOGIN_TRIPLE.encode()
@@ -167,6 +188,9 @@ def rows():
     yield host("-", "host vouched"), TRUSTED, 0, hosts
     yield show("key", "-"), SHOWN, 0, keys
     yield show("cert", "-"), SHOWN_CERTIFICATE, 0, certificate
+    yield sshsig("body", "-", "file vouched"), VOUCHED, 0, SIGNED_MESSAGE
+    yield sshsig("-", "message", "file vouched"), VOUCHED, 0, SSHSIG
+    yield sshsig("body", "-", "-"), VOUCHED, 0, FILE_TRIPLE.encode() + b"\n" + SIGNED_MESSAGE
     yield login("\u00e9\\", "vouched"), GRANTED, 0
     # files that are not there, whatever standard input has
     for name in ("missing", "", "keys/missing", "missing/", "\u00e8\\"):
@@ -175,6 +199,9 @@ def rows():
         yield login("keys", name), f"fault file {told}\n", 2, LOGIN_TRIPLE.encode()
         yield host(name, "host vouched"), "fault A9\n", 2, hosts
         yield host("hosts", name), f"fault file {told}\n", 2, HOST_TRIPLE.encode()
+        yield sshsig(name, "message", "file vouched"), f"fault file {told}\n", 2, SSHSIG
+        yield sshsig("body", name, "file vouched"), f"fault file {told}\n", 2, SIGNED_MESSAGE
+        yield sshsig("body", "message", name), f"fault file {told}\n", 2, FILE_TRIPLE.encode()
         yield show("key", name), f"fault file {told}\n", 2, keys
         yield show("cert", name), f"fault file {told}\n", 2, certificate
     # files whose reads fail: a folder; the one that is read first is told
@@ -185,11 +212,14 @@ def rows():
     yield login(".", "bad vouch"), "fault vouch 2\n", 2
     yield host(".", "host vouched"), "fault A9\n", 2, hosts
     yield host("hosts", "."), "fault file .\n", 2
+    yield sshsig(".", "missing"), "fault file .\n", 2
+    yield sshsig("missing", "."), "fault file missing\n", 2
     yield show("key", "."), "fault file .\n", 2, keys
     # files without an end
     yield login("/dev/zero"), "fault A7\n", 2
     yield login("keys", "/dev/zero"), "fault file /dev/zero\n", 2
     yield host("/dev/zero"), "fault A7\n", 2
+    yield sshsig("body", "/dev/zero"), "fault file /dev/zero\n", 2
     yield show("key", "/dev/zero"), "fault file /dev/zero\n", 2
     # words
     yield ["frob"], "fault usage\n", 2
@@ -335,7 +365,9 @@ def try_all(path, tally):
     with tempfile.TemporaryDirectory() as folder:
         program = Program(path, pathlib.Path(folder))
         for name, text in FILES.items():
-            (program.room / name).write_text(text)
+            (program.room / name).write_text(text, encoding="utf-8")
+        (program.room / "body").write_bytes(SSHSIG)
+        (program.room / "message").write_bytes(SIGNED_MESSAGE)
         for row in (answer_rows, size_rows, input_rows, writer_rows, long_text_rows):
             row(program, tally)
     print(f"program.py itself: {tally.passed} passed, {tally.failed} failed", flush=True)
