@@ -32,7 +32,7 @@ same-self a b h =
     let signature : bytes_eq a.signature b.signature ≡ true = (bytes_eq-Decides a.signature b.signature).1 (ap (λ (s : Signed). s.signature) h) in
     rw (key, message, signature) refl
 
-any-has : (vouched : List Signed) (s : Signed) → is_vouched vouched s ≡ true → Has vouched s
+pub any-has : (vouched : List Signed) (s : Signed) → is_vouched vouched s ≡ true → Has vouched s
 any-has [] s h = cc
 any-has (v ∷ vouched) s h =
     elim (cases_Bool (is_same v s)) [
@@ -44,7 +44,7 @@ or-true : (b : Bool) → (b || true) ≡ true
 or-true true = refl
 or-true false = refl
 
-has-any : (vouched : List Signed) (s : Signed) → Has vouched s → is_vouched vouched s ≡ true
+pub has-any : (vouched : List Signed) (s : Signed) → Has vouched s → is_vouched vouched s ≡ true
 has-any [] s h = absurd h
 has-any (v ∷ vouched) s (inl e) = rw (same-self v s e) refl
 has-any (v ∷ vouched) s (inr h) = rw (has-any vouched s h) (or-true (is_same v s))

@@ -136,7 +136,7 @@ candidate-is verdict judges file i e bytes h =
     }
 
 -- a candidate admits by its verdict, where it stands
-stands-admits : {E : Type 0} {Spells : E → List ℕ → Type 0} {IsAdmitting : E → Type 0} (verdict : List ℕ → LineVerdict E)
+pub stands-admits : {E : Type 0} {Spells : E → List ℕ → Type 0} {IsAdmitting : E → Type 0} (verdict : List ℕ → LineVerdict E)
     (judges : Judges E Spells IsAdmitting verdict) (file : List ℕ) (i : ℕ) (e : E) → IsFirstAdmitted E Spells IsAdmitting file i e
     → slice_get (map verdict (lines_of file)) (i - 1) ≡ Some (Admits e)
 stands-admits verdict judges file i e c =

@@ -47,8 +47,8 @@ admits-line claim (Entry f) e h =
     let both = admits-by (host_obstacle f claim) f e h in
     (ap Entry both.1, subst (λ (x : KnownEntry). AdmitsHost x claim) both.1 (host_where_none f claim both.0))
 
-judges : (claim : HostClaim) → Judges KnownEntry SpellsKnown (λ e. AdmitsHost e claim) (host_line_verdict claim)
-judges claim = record {
+pub host-judges : (claim : HostClaim) → Judges KnownEntry SpellsKnown (λ e. AdmitsHost e claim) (host_line_verdict claim)
+host-judges claim = record {
   found = λ line e bytes h. let is = admits-line claim (known_line line) e h in (known_line-spells line e bytes is.0, is.1);
   only = λ line e spelled admits. ap (host_verdict claim) (known_line-spelled e line spelled) ∙ ap (λ (o : Option Obstacle). verdict_by o e) (none_where_host e claim admits);
 }
@@ -115,13 +115,13 @@ none-passes passes n (line ∷ lines) h k other at is =
 
 -- ---- by what holds of a line
 
-abbrev DecidesLines : (List ℕ → Bool) → (List ℕ → Type 0) → Type 0
+abbrev pub DecidesLines : (List ℕ → Bool) → (List ℕ → Type 0) → Type 0
 DecidesLines passes P = (line : List ℕ) → AreBytes line → Decides (passes line) (P line)
 
 bytes-at : (file : List ℕ) → AreBytes file → (k : ℕ) (line : List ℕ) → slice_get (lines_of file) k ≡ Some line → AreBytes line
 bytes-at file bytes k line at = line-bytes (lines_of file) file (lines_of-are file) bytes k line at
 
-least-at : (passes : List ℕ → Bool) (P : List ℕ → Type 0) → DecidesLines passes P → (file : List ℕ) → AreBytes file → (n : ℕ)
+pub least-at : (passes : List ℕ → Bool) (P : List ℕ → Type 0) → DecidesLines passes P → (file : List ℕ) → AreBytes file → (n : ℕ)
     → first_number passes 1 (lines_of file) ≡ Some n → IsLeast (HoldsAt P file) n
 least-at passes P decides file bytes n h =
     let first = number-is passes 1 (lines_of file) n h in
@@ -138,7 +138,7 @@ least-at passes P decides file bytes n h =
           first.earlier (k - 1) at.0 (omega arith) stands ((decides at.0 (bytes-at file bytes (k - 1) at.0 stands)).1 at.2);
     }
 
-none-at : (passes : List ℕ → Bool) (P : List ℕ → Type 0) → DecidesLines passes P → (file : List ℕ) → AreBytes file
+pub none-at : (passes : List ℕ → Bool) (P : List ℕ → Type 0) → DecidesLines passes P → (file : List ℕ) → AreBytes file
     → first_number passes 1 (lines_of file) ≡ None → (n : ℕ) → HoldsAt P file n → ⊥
 none-at passes P decides file bytes h n at =
     let stands = line-of file n at.0 at.1 in
@@ -176,7 +176,7 @@ revoking offer line bytes (Unreadable why) e h = cc
 revoking offer line bytes RevokedUnreadable e h = cc
 revoking offer line bytes (Revoked blob) e h = (blob, read-revokes line blob bytes e, (own-decides offer blob).0 h)
 
-revokes-decides : (claim : HostClaim) → DecidesLines (revokes_by claim) (RevokesOwn claim.offer)
+pub revokes-decides : (claim : HostClaim) → DecidesLines (revokes_by claim) (RevokesOwn claim.offer)
 revokes-decides claim line bytes = (
   λ h. revoking claim.offer line bytes (known_line line) refl h,
   λ h. ap (revokes_offer claim.offer) (revokes-read line h.0 h.1) ∙ (own-decides claim.offer h.0).1 h.2,
@@ -190,7 +190,7 @@ blinding line (Unreadable why) e h = cc
 blinding line (Revoked blob) e h = cc
 blinding line RevokedUnreadable e h = read-blind line e
 
-blind-decides : DecidesLines is_blind Blind
+pub blind-decides : DecidesLines is_blind Blind
 blind-decides line bytes = (
   λ h. blinding line (known_line line) refl h,
   λ h. ap may_revoke (blind-read line bytes h),
@@ -204,7 +204,7 @@ trusts : (file : List ℕ) (claim : HostClaim) (vouched : List Signed) (reasons 
     → (u : Option ℕ) → first_unvouched vouched (host_evidence claim) ≡ u
     → HostMeans file claim vouched (host_decision_by None (option_map number_at c) u reasons (host_evidence claim))
 trusts file claim vouched reasons bytes r b None c u v = (
-  λ i e grant. no-candidate (host_line_verdict claim) (judges claim) file c i e grant.candidate,
+  λ i e grant. no-candidate (host_line_verdict claim) (host-judges claim) file c i e grant.candidate,
   tt,
   refl,
 )
@@ -218,7 +218,7 @@ trusts file claim vouched reasons bytes r b (Some found) c (Some k) v = (
 trusts file claim vouched reasons bytes r b (Some found) c None v = (
   found.1,
   record {
-    candidate = candidate-is (host_line_verdict claim) (judges claim) file found.0 found.1 bytes c;
+    candidate = candidate-is (host_line_verdict claim) (host-judges claim) file found.0 found.1 bytes c;
     unrevoked = none-at (revokes_by claim) (RevokesOwn claim.offer) (revokes-decides claim) file bytes r;
     sighted = none-at is_blind Blind blind-decides file bytes b;
     all_vouched = none_unvouched vouched (host_evidence claim) v;

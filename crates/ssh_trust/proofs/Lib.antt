@@ -6,4 +6,5 @@ pub mod HostScanLemmas
 pub mod CandidateLemmas
 pub mod MeaningLemmas
 pub mod HostMeaningLemmas
+pub mod DenialLemmas
 pub mod SignatureLemmas

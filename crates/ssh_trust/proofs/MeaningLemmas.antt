@@ -36,8 +36,8 @@ admits-line claim (Entry f) e h =
     let both = admits-by (login_obstacle f claim) f e h in
     (ap Entry both.1, subst (λ (x : AuthEntry). AdmitsLogin x claim) both.1 (admits_where_none f claim both.0))
 
-judges : (claim : LoginClaim) → Judges AuthEntry SpellsEntry (λ e. AdmitsLogin e claim) (line_verdict claim)
-judges claim = record {
+pub login-judges : (claim : LoginClaim) → Judges AuthEntry SpellsEntry (λ e. AdmitsLogin e claim) (line_verdict claim)
+login-judges claim = record {
   found = λ line e bytes h. let is = admits-line claim (auth_line line) e h in (auth_line-spells line e bytes is.0, is.1);
   only = λ line e spelled admits. ap (login_verdict claim) (auth_line-spelled e line spelled) ∙ ap (λ (o : Option Obstacle). verdict_by o e) (none_where_admits e claim admits);
 }
@@ -47,10 +47,10 @@ judges claim = record {
 not-both : (b : Bool) → b ≡ true → b ≡ false → ⊥
 not-both b t f = let bad : true ≡ false = sym t ∙ f in cc
 
-abbrev touched_by : LoginClaim → AuthEntry → Bool
+abbrev pub touched_by : LoginClaim → AuthEntry → Bool
 touched_by claim e = is_touched e.options claim.offer claim.signature
 
-abbrev verified_by : LoginClaim → AuthEntry → Bool
+abbrev pub verified_by : LoginClaim → AuthEntry → Bool
 verified_by claim e = is_verified e.options claim.offer claim.signature
 
 means-at : (file : List ℕ) (claim : LoginClaim) (vouched : List Signed) (i : ℕ) (e : AuthEntry) (reasons : List (ℕ × Reason)) → IsCandidate file claim i e
@@ -59,13 +59,13 @@ means-at : (file : List ℕ) (claim : LoginClaim) (vouched : List Signed) (i : �
     → LoginMeans file claim vouched (decision_by (login_evidence claim) (candidate_at claim (i, e)) (cause_by touched verified unvouched) reasons)
 means-at file claim vouched i e reasons c false t verified v unvouched u = (
   λ j f grant.
-      let same = one-candidate (line_verdict claim) (judges claim) file i j e f c grant.candidate in
+      let same = one-candidate (line_verdict claim) (login-judges claim) file i j e f c grant.candidate in
       not-both (touched_by claim e) (ap (touched_by claim) same ∙ grant.touched) t,
   refl,
 )
 means-at file claim vouched i e reasons c true t false v unvouched u = (
   λ j f grant.
-      let same = one-candidate (line_verdict claim) (judges claim) file i j e f c grant.candidate in
+      let same = one-candidate (line_verdict claim) (login-judges claim) file i j e f c grant.candidate in
       not-both (verified_by claim e) (ap (verified_by claim) same ∙ grant.verified) v,
   refl,
 )
@@ -89,8 +89,8 @@ means-at file claim vouched i e reasons c true t true v None u = (
 
 means-by : (file : List ℕ) (claim : LoginClaim) (vouched : List Signed) (reasons : List (ℕ × Reason)) → AreBytes file
     → (c : Option (ℕ × AuthEntry)) → candidate_of (verdicts claim file) ≡ c → LoginMeans file claim vouched (decision_of (login_evidence claim) vouched (option_map (candidate_at claim) c) reasons)
-means-by file claim vouched reasons bytes None none = (λ i e grant. no-candidate (line_verdict claim) (judges claim) file none i e grant.candidate, refl)
-means-by file claim vouched reasons bytes (Some c) some = means-at file claim vouched c.0 c.1 reasons (candidate-is (line_verdict claim) (judges claim) file c.0 c.1 bytes some) _ refl _ refl _ refl
+means-by file claim vouched reasons bytes None none = (λ i e grant. no-candidate (line_verdict claim) (login-judges claim) file none i e grant.candidate, refl)
+means-by file claim vouched reasons bytes (Some c) some = means-at file claim vouched c.0 c.1 reasons (candidate-is (line_verdict claim) (login-judges claim) file c.0 c.1 bytes some) _ refl _ refl _ refl
 
 -- a decision means what is said of it
 pub login_means : (file : List ℕ) (claim : LoginClaim) (vouched : List Signed) → AreBytes file → LoginMeans file claim vouched (login_decision file claim vouched)

@@ -24,6 +24,7 @@ pub mod Scan
 pub mod Decision
 pub mod HostScan
 pub mod HostDecision
+pub mod Denial
 pub mod Answer
 pub mod Findings
 pub mod Audit

@@ -21,7 +21,7 @@ mod tests;
 
 pub use decision::{Cause, Decision};
 pub use hosts::{evidence_of_host, host};
-pub use laws::{decision_rule, host_decision_rule};
+pub use laws::{decision_rule, denial_rule, host_decision_rule, host_denial_rule};
 pub use login_audit::LoginAudit;
 pub use logins::{evidence_of_login, login};
 pub use pieces::FILE_LIMIT;
