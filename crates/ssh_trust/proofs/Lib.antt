@@ -7,3 +7,4 @@ pub mod CandidateLemmas
 pub mod MeaningLemmas
 pub mod HostMeaningLemmas
 pub mod SignatureLemmas
+pub mod RewritingLemmas
