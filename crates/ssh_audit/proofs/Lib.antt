@@ -1,6 +1,4 @@
 mod PlainCommand
 mod WrittenText
 mod CommandLineLemmas
-mod SourceLemmas
-mod SignatureLemmas
 mod ResponseLemmas

@@ -1,47 +1,33 @@
 -- From what the parts answer to what the program answers and prints.
-use Rattle.std.proofs.Common.{◌≡◌, ◌∙◌, ◌<◌, ℕ, Bool, true, false, cond, List, [], ◌∷◌, length, map, Option, Some, None, Result, Ok, Err, refl, sym, ap, subst, inl, inr, arith}
+use Rattle.std.proofs.Common.{◌≡◌, ◌∙◌, ◌<◌, ℕ, List, [], ◌∷◌, length, map, Option, Some, None, Result, Ok, Err, refl, sym, ap, subst, inl, inr, arith}
 use Rattle.std.specs.Prelude.{IfOk}
-use Rattle.std.specs.Str.{bytes_eq}
-use Rattle.ssh_inputs.specs.SourceState.{IfTells, SourceState, bytes_at, dash}
-use Rattle.ssh_inputs.specs.Parts.{cut_at_empty, after_line, after_part, after_whole, first_line, part_at}
-use Rattle.ssh_trust.specs.Answer.{Gives, file_limit}
-use Rattle.ssh_audit.specs.CommandLine.{AuditFiles, Request, host, login, show, sshsig, request_of, LoginWords, ShowWords}
-use Rattle.ssh_inputs.specs.VouchFile.{vouched_of}
+use Rattle.ssh_inputs.specs.SourceState.{IfTells, SourceState}
+use Rattle.ssh_inputs.specs.Parts.{after_line, first_line}
+use Rattle.ssh_audit.specs.CommandLine.{Request, host, login, show, sshsig, request_of, LoginWords, ShowWords}
 use Rattle.ssh_inputs.specs.Words.{words_in}
-use Rattle.ssh_print.specs.Responses.{Response as Shown, no_file_response}
+use Rattle.ssh_print.specs.Responses.{Response as Shown}
 use Rattle.jiff.specs.Types.{TimeZone}
-use Rattle.ssh_audit.specs.Audits.{Audits, Deciding, IsAuditFault, after_vouching, answer_by, answer_over, audit_response, host_by, login_by, or_vouch_fault, spelled_response, vouched_in, vouched_or_fault, vouched_response}
-use Rattle.ssh_audit.specs.Requests.{Answer, host_spelled, login_in_zone, login_spelled, show_answer, IsAnswer, Responds, RespondsBy, IsReadFault, answer_in}
+use Rattle.ssh_answers.specs.Asked.{AuditFiles}
+use Rattle.ssh_answers.specs.Audits.{Audits, Deciding, audit_response, host_by, login_by}
+use Rattle.ssh_audit.specs.Requests.{Answer, host_spelled, login_in_zone, login_spelled, show_answer, IsAnswer, Responds, RespondsBy, IsReadFault, answer_in, spelled_response}
 use Rattle.ssh_inputs.specs.Values.{ReadsZone, zone_text}
-use Rattle.ssh_inputs.specs.Loading.{NoReadFailed, OneReadFailed, within_limit, FailsLine, FailsLoad, IsGathered, IsLeft, IsTooLong, LoadsLine}
-use Rattle.ssh_offers.specs.declared.query.Signed.{Signed}
-use Rattle.ssh_offers.specs.declared.error.AuditError.{AuditError}
-use Rattle.ssh_trust.specs.declared.decision.Decision.{Decision}
+use Rattle.ssh_inputs.specs.Loading.{FailsLine, LoadsLine}
 use Rattle.ssh_trust.specs.Query.{Login}
-use Rattle.std.proofs.lemmas.Bool.{lt-leb, lt-ltb}
+use Rattle.std.proofs.lemmas.Bool.{lt-leb}
 use Rattle.ssh_inputs.specs.declared.read.ReadFault.{ReadFault}
 use Rattle.ssh_inputs.specs.declared.read.ReadFault.TheVariants as fault
-use Rattle.ssh_audit.specs.Responding.{AnswersFile, IsFaultOf, IsUsageOf}
+use Rattle.ssh_audit.specs.Responding.{IsUsageOf}
 use Rattle.ssh_audit.proofs.CommandLineLemmas.{no_request}
-use Rattle.ssh_audit.proofs.SignatureLemmas.{signature-same, signature_fault-since}
-use Rattle.ssh_audit.proofs.SourceLemmas.{file-alike, left-none, none-failed, one-failed, over_limit, vouched-same, vouching-alike}
+use Rattle.ssh_answers.proofs.AuditLemmas.{audit-same, audit_fault-since}
+use Rattle.ssh_answers.proofs.SignatureLemmas.{signature-same, signature_fault-since}
+use Rattle.ssh_answers.proofs.SourceLemmas.{none-failed, one-failed}
 use Rattle.ssh_inputs.proofs.PieceLemmas.{words_long}
 
 -- ---- sources with the same files and the same input have the same answers
 
-file-same : (vouch : Option (List ℕ)) (a b : SourceState) (name : List ℕ) → a.named ≡ b.named → a.input ≡ b.input
-    → bytes_at (after_vouching vouch a) name ≡ bytes_at (after_vouching vouch b) name
-file-same vouch a b name n i = file-alike (after_vouching vouch a) (after_vouching vouch b) name (vouching-alike vouch a b (n, i))
-
-vouch-by : (by : Deciding) (name : List ℕ) (a b : SourceState) (v : Result (List Signed) Shown) → bytes_at a name ≡ bytes_at b name → vouched_response by name a v ≡ vouched_response by name b v
-vouch-by by name a b (Err r) e = refl
-vouch-by by name a b (Ok vouched) e = rw e refl
-
 values-same : {Q : Type 0} (by : Q → Deciding) (f : AuditFiles) (a b : SourceState) (q : Result Q Shown) → a.named ≡ b.named → a.input ≡ b.input → spelled_response by f a q ≡ spelled_response by f b q
 values-same by f a b (Err r) n i = refl
-values-same by f a b (Ok q) n i =
-    vouch-by (by q) f.trust (after_vouching f.vouch a) (after_vouching f.vouch b) (vouched_in f.vouch a) (file-same f.vouch a b f.trust n i)
-    ∙ ap (λ v. vouched_response (by q) f.trust (after_vouching f.vouch b) v) (vouched-same f.vouch a b n i)
+values-same by f a b (Ok q) n i = audit-same (by q) f a b n i
 
 show-same : (w : ShowWords) (a b : SourceState) → a.named ≡ b.named → a.input ≡ b.input → show_answer w a ≡ show_answer w b
 show-same w a b n i = rw (n, i) refl
@@ -52,10 +38,6 @@ answers-same a b (Some (login w)) r n i (zone, reads, is) = (zone, reads, is ∙
 answers-same a b (Some (host w)) r n i h = h ∙ values-same host_by w.files a b (host_spelled w) n i
 answers-same a b (Some (sshsig w)) r n i h = h ∙ signature-same w a b n i
 answers-same a b (Some (show w)) r n i h = subst (λ (o : Answer). IsAnswer o r) (show-same w a b n i) h
-
-audit_fault-since : (f : AuditFiles) (s t : SourceState) (u : Option SourceState) (r : Shown) → t.failures ≡ s.failures → IsAuditFault f t u r → IsAuditFault f s u r
-audit_fault-since f s t u r e (inl h) = inl (one-failed s t u f.trust e h.0, h.1)
-audit_fault-since f s t u r e (inr h) = inr (h.0, h.1, one-failed s t u h.0 e h.2, h.3)
 
 fault-since : (q : Option Request) (s t : SourceState) (u : Option SourceState) (r : Shown) → t.failures ≡ s.failures → IsReadFault q t u r → IsReadFault q s u r
 fault-since None s t u r f h = h
@@ -68,81 +50,6 @@ shifted : (q : Option Request) (s t : SourceState) (u : Option SourceState) (r :
     → RespondsBy q (answer_in t q) t u r → RespondsBy q (answer_in (after_line s) q) s u r
 shifted q s t u r n i f (inl h) = inl (none-failed s t u f h.0, answers-same t (after_line s) q r n i h.1)
 shifted q s t u r n i f (inr h) = inr (fault-since q s t u r f h)
-
--- ---- trust files
-
--- files past the limit are answered alike
-alike : (by : Deciding) (a b : List ℕ) (vouched : List Signed) → file_limit < length a → file_limit < length b → answer_by by a vouched ≡ answer_by by b vouched
-alike (Err e) a b vouched long longer = refl
-alike (Ok decision) a b vouched long longer = rw (lt-ltb file_limit (length a) long, lt-ltb file_limit (length b) longer) refl
-
-gathered-answer : (by : Deciding) (vouched : List Signed) (bytes : Option (List ℕ)) (rest s : SourceState) (t : Option SourceState) (got : List ℕ) (res : Result Decision AuditError)
-    → IsGathered bytes rest s t got → Gives (answer_by by got vouched) res → NoReadFailed s t × Gives (answer_over by vouched bytes) res
-gathered-answer by vouched bytes rest s t got res (inl (is, left)) gives =
-    (left-none s rest t left, subst (λ (b : Option (List ℕ)). Gives (answer_over by vouched b) res) (sym is) gives)
-gathered-answer by vouched None rest s t got res (inr (long, longer, none)) gives = absurd longer
-gathered-answer by vouched (Some bytes) rest s t got res (inr (long, longer, none)) gives =
-    (none, subst (λ (a : Result Decision AuditError). Gives a res) (alike by got bytes vouched long longer) gives)
-
--- the decision by the bytes that were read
-pub file_decided : (by : Deciding) (vouched : List Signed) (name got read : List ℕ) (o t : Option SourceState) (res : Result Decision AuditError) → read ≡ got
-    → IfTells o (λ s. IsGathered (bytes_at s name) (after_whole s name) s t got) → Gives (answer_by by read vouched) res
-    → IfTells o (λ s. AnswersFile by vouched name (bytes_at s name) s t res)
-file_decided by vouched name got read None t res is gathered gives = tt
-file_decided by vouched name got read (Some s) t res is gathered gives = λ counts.
-    inr (inr (gathered-answer by vouched (bytes_at s name) (after_whole s name) s t got res (gathered counts) (subst (λ (l : List ℕ). Gives (answer_by by l vouched) res) is gives)))
-
--- ---- vouch files
-
--- the answer where the vouch file has this name
-abbrev vouch_response_by : Deciding → List ℕ → Option (List ℕ) → SourceState → Shown
-vouch_response_by by trust vouch s = vouched_response by trust (after_vouching vouch s) (vouched_in vouch s)
-
-not_told : (by : Deciding) (trust : List ℕ) (s : SourceState) (name : List ℕ) → within_limit (part_at s name) ≡ None → vouch_response_by by trust (Some name) s ≡ no_file_response name
-not_told by trust s name h = rw h refl
-
-vouch_fault : (f : AuditFiles) (by : Deciding) (name : List ℕ) (s : SourceState) (u : Option SourceState) (e : ReadFault) (r : Shown) → f.vouch ≡ Some name
-    → FailsLoad name (part_at s name) s u e → IsFaultOf name e r → Audits f (vouch_response_by by f.trust (Some name) s) s u r
-vouch_fault f by name s u fault.Missing r v fails is = inl (fails.1, is ∙ sym (not_told by f.trust s name (rw fails.0 refl)))
-vouch_fault f by name s u fault.TooLong r v fails is = inl (fails.1, is ∙ sym (not_told by f.trust s name (over_limit (part_at s name) fails.0)))
-vouch_fault f by name s u fault.Failed r v fails is = inr (inr (name, v, fails, is))
-vouch_fault f by name s u fault.Memory r v fails is = absurd is
-
--- a vouch file that gives no bytes
-pub vouch_unread : {R E : Type 0} (view : R → Shown) (f : AuditFiles) (by : Deciding) (name : List ℕ) (o u : Option SourceState) (e : ReadFault) (res : Result R E) → f.vouch ≡ Some name
-    → IfTells o (λ s. FailsLoad name (part_at s name) s u e) → IfOk res (λ r. IsFaultOf name e (view r))
-    → IfTells o (λ s. IfOk res (λ r. Audits f (audit_response by f s) s u (view r)))
-vouch_unread view f by name None u e res v fails is = tt
-vouch_unread view f by name (Some s) u e (Err x) v fails is = λ counts. tt
-vouch_unread view f by name (Some s) u e (Ok r) v fails is = λ counts.
-    let P : Option (List ℕ) → Type 0 = λ z. Audits f (vouch_response_by by f.trust z s) s u (view r) in
-    subst P (sym v) (vouch_fault f by name s u e (view r) v (fails counts) is)
-
-told : (by : Deciding) (trust : List ℕ) (s t : SourceState) (name bytes : List ℕ) → within_limit (part_at s name) ≡ Some bytes → t.named ≡ (after_part s name).named → t.input ≡ (after_part s name).input
-    → vouched_response by trust t (or_vouch_fault (vouched_of bytes)) ≡ vouch_response_by by trust (Some name) s
-told by trust s t name bytes h n i =
-    vouch-by by trust t (after_part s name) (or_vouch_fault (vouched_of bytes)) (file-alike t (after_part s name) trust (n, i))
-    ∙ ap (λ v. vouched_response by trust (after_part s name) (vouched_or_fault name v)) (sym h)
-
--- a response from where the vouch file was read on
-vouch_shifted : (f : AuditFiles) (a b : Shown) (s t : SourceState) (u : Option SourceState) (r : Shown) → t.failures ≡ s.failures → a ≡ b → Audits f a t u r → Audits f b s u r
-vouch_shifted f a b s t u r same e (inl h) = inl (none-failed s t u same h.0, h.1 ∙ e)
-vouch_shifted f a b s t u r same e (inr h) = inr (audit_fault-since f s t u r same h)
-
--- a vouch file that was read
-pub vouch_responds : {R E : Type 0} (view : R → Shown) (f : AuditFiles) (by : Deciding) (name bytes read : List ℕ) (o t u : Option SourceState) (res : Result R E) → f.vouch ≡ Some name → read ≡ bytes
-    → IfTells o (λ s. (within_limit (part_at s name) ≡ Some bytes) × IsLeft s (after_part s name) t)
-    → IfTells t (λ s. IfOk res (λ r. Audits f (vouched_response by f.trust s (or_vouch_fault (vouched_of read))) s u (view r)))
-    → IfTells o (λ s. IfOk res (λ r. Audits f (audit_response by f s) s u (view r)))
-vouch_responds view f by name bytes read None t u res v is loads h = tt
-vouch_responds view f by name bytes read (Some s) None u res v is loads h = λ counts. absurd ((loads counts).1)
-vouch_responds view f by name bytes read (Some s) (Some t) u (Err e) v is loads h = λ counts. tt
-vouch_responds view f by name bytes read (Some s) (Some t) u (Ok r) v is loads h = λ counts.
-    let load = loads counts in
-    let same = load.1.2 in
-    let P : Option (List ℕ) → Type 0 = λ z. Audits f (vouch_response_by by f.trust z s) s u (view r) in
-    let same_answer = ap (λ b. vouched_response by f.trust t (or_vouch_fault (vouched_of b))) is ∙ told by f.trust s t name bytes load.0 load.1.0 load.1.1 in
-    subst P (sym v) (vouch_shifted f _ _ s t u (view r) same same_answer (h (omega (arith, counts, same))))
 
 -- ---- values
 

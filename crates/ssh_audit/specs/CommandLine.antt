@@ -5,6 +5,7 @@ use Rattle.clap.specs.Words.{App, Row, Rule, Text, first_of, new_app, new_rule, 
 use Rattle.clap.specs.Faults.{fault_of}
 use Rattle.clap.specs.declared.error.ErrorKind.{ErrorKind}
 use Rattle.clap.specs.Simple.{on_top}
+use Rattle.ssh_answers.specs.Asked.{AuditFiles, SshsigWords}
 
 -- an option with a value, `--name value`, which may be required
 abbrev pub option_rule : Text × Bool → Rule
@@ -49,11 +50,6 @@ with_commands = with_subcommand (with_subcommand (with_subcommand (with_subcomma
 abbrev pub command_line : App
 command_line = on_top (λ s. record s { no_binary_name = true; subcommand_required = true }) with_commands
 
--- the names of a trust file, and of a vouch file where one is given
-pub record AuditFiles : Type 0 where
-  pub trust : Text
-  pub vouch : Option Text
-
 -- the texts of the options of `login`
 pub record LoginWords : Type 0 where
   pub files : AuditFiles
@@ -81,14 +77,6 @@ pub record HostWords : Type 0 where
 pub record ShowWords : Type 0 where
   pub kind : Text
   pub file : Text
-
--- the texts of the options of `sshsig`: the names of the body's file and of the message's, the namespace itself, and the
--- name of a vouch file where one is given
-pub record SshsigWords : Type 0 where
-  pub body : Text
-  pub message : Text
-  pub namespace : Text
-  pub vouch : Option Text
 
 -- what the words may ask for
 pub data Request : Type 0 where

@@ -1,7 +1,5 @@
 pub mod CommandLine
 pub mod Parsing
-pub mod Audits
-pub mod Signatures
 pub mod Requests
 pub mod ValuesRead
 pub mod Responding

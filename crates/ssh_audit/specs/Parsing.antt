@@ -3,20 +3,15 @@ use Rattle.std.specs.Prelude.{◌≡◌, ◌≢◌, ℕ, List, Some, None, Resul
 use Rattle.clap.specs.Words.{kind_of}
 use Rattle.clap.specs.declared.error.Error.{Error}
 use Rattle.clap.specs.declared.error.ErrorKind.TheVariants.{OutOfMemory}
-use Rattle.ssh_audit.specs.CommandLine.{AuditFiles as FileNames, HostWords as HostTexts, LoginWords as LoginTexts, ShowWords as ShowTexts, SshsigWords as SshsigTexts, Request as Asked, host, login, show, sshsig, request_of}
-use Rattle.ssh_audit.specs.declared.request.AuditFiles.{AuditFiles}
+use Rattle.ssh_audit.specs.CommandLine.{HostWords as HostTexts, LoginWords as LoginTexts, ShowWords as ShowTexts, Request as Asked, host, login, show, sshsig, request_of}
+use Rattle.ssh_answers.specs.AskedView.{names_of, sshsig_texts_of}
 use Rattle.ssh_audit.specs.declared.request.HostWords.{HostWords}
 use Rattle.ssh_audit.specs.declared.request.LoginWords.{LoginWords}
 use Rattle.ssh_audit.specs.declared.request.Request.{Request}
 use Rattle.ssh_audit.specs.declared.request.Request.TheVariants.{Host, Login, Show, Sshsig}
 use Rattle.ssh_audit.specs.declared.request.ShowWords.{ShowWords}
-use Rattle.ssh_audit.specs.declared.request.SshsigWords.{SshsigWords}
 use Rattle.ssh_audit.specs.declared.request.WordsFault.{WordsFault}
 use Rattle.ssh_audit.specs.declared.request.WordsFault.TheVariants.{Usage, Memory}
-
--- the names, without where they lie in memory
-abbrev pub names_of : AuditFiles → FileNames
-names_of f = record { trust = f.trust.now; vouch = option_map (λ s. s.now) f.vouch }
 
 -- the texts, without where they lie in memory
 abbrev pub texts_of : LoginWords → LoginTexts
@@ -46,9 +41,6 @@ host_texts_of w = record {
 
 abbrev pub show_texts_of : ShowWords → ShowTexts
 show_texts_of w = record { kind = w.kind.now; file = w.file.now }
-
-abbrev pub sshsig_texts_of : SshsigWords → SshsigTexts
-sshsig_texts_of w = record { body = w.body.now; message = w.message.now; namespace = w.namespace.now; vouch = option_map (λ s. s.now) w.vouch }
 
 abbrev pub request_in_memory : Request → Asked
 request_in_memory (Login w) = login (texts_of w)

@@ -8,8 +8,9 @@ use Rattle.ssh_audit.specs.declared.request.WordsFault.{WordsFault}
 use Rattle.ssh_audit.specs.declared.request.WordsFault.TheVariants.{Usage, Memory}
 use Rattle.ssh_trust.specs.Query.{HostCheck, Login}
 use Rattle.ssh_audit.specs.CommandLine.{HostWords, LoginWords, Request, ShowWords, host, login, show, sshsig, request_of}
-use Rattle.ssh_audit.specs.Audits.{IsAuditFault, host_by, login_by, spelled_response}
-use Rattle.ssh_audit.specs.Signatures.{IsSignatureFault, signature_response}
+use Rattle.ssh_answers.specs.Asked.{AuditFiles}
+use Rattle.ssh_answers.specs.Audits.{Deciding, IsAuditFault, audit_response, host_by, login_by}
+use Rattle.ssh_answers.specs.Signatures.{IsSignatureFault, signature_response}
 use Rattle.ssh_inputs.specs.SourceState.{SourceState, bytes_at}
 use Rattle.ssh_show.specs.declared.kind.ShowKind.{ShowKind}
 use Rattle.ssh_show.specs.Showing.{Shows, show_kind}
@@ -65,6 +66,11 @@ host_spelled w = do
   })
 
 -- ---- answers
+
+-- the answer to the question that was spelled, or that a value of it was not
+abbrev pub spelled_response : {Q : Type 0} → (Q → Deciding) → AuditFiles → SourceState → Result Q Response → Response
+spelled_response by f s (Err r) = r
+spelled_response by f s (Ok q) = audit_response (by q) f s
 
 abbrev pub login_response : LoginWords → Option TimeZone → SourceState → Response
 login_response w zone s = spelled_response login_by w.files s (login_spelled w zone)

@@ -3,7 +3,6 @@
 //! not; and whether a file signature is vouched for.
 #![tactic(auto)]
 
-mod audit;
 #[cfg(test)]
 mod body_tests;
 mod command;
@@ -12,13 +11,11 @@ mod host_tests;
 #[cfg(test)]
 mod login_tests;
 mod parse;
-mod question;
 mod request;
 mod respond;
 mod run;
 #[cfg(test)]
 mod show_tests;
-mod signature;
 #[cfg(test)]
 mod signature_tests;
 mod system;

@@ -14,19 +14,17 @@ ghost use Rattle.ssh_audit.specs.Parsing.{
   FaultIs,
   Parses,
   host_texts_of,
-  names_of,
   request_in_memory,
   texts_of,
   show_texts_of,
-  sshsig_texts_of,
 };
+ghost use Rattle.ssh_answers.specs.AskedView.{names_of, sshsig_texts_of};
 
 use crate::command::program;
-use crate::request::{
-    AuditFiles, HostWords, LoginWords, Request, ShowWords, SshsigWords, WordsFault,
-};
+use crate::request::{HostWords, LoginWords, Request, ShowWords, WordsFault};
 use clap::error::ErrorKind;
 use clap::{ArgMatches, Error};
+use ssh_answers::{AuditFiles, SshsigWords};
 use std::alloc::Global;
 use std::convert::AsStr;
 

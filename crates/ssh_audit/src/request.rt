@@ -1,11 +1,6 @@
 //! What the words ask for.
 
-/// The names of a trust file, and of a vouch file where one is given.
-#[derive(Clone, Copy)]
-pub struct AuditFiles<'a> {
-    pub trust: &'a str,
-    pub vouch: Option<&'a str>,
-}
+use ssh_answers::{AuditFiles, SshsigWords};
 
 /// The texts of the options of `login`.
 #[derive(Clone, Copy)]
@@ -39,15 +34,6 @@ pub struct HostWords<'a> {
 pub struct ShowWords<'a> {
     pub kind: &'a str,
     pub file: &'a str,
-}
-
-/// The texts of the options of `sshsig`.
-#[derive(Clone, Copy)]
-pub struct SshsigWords<'a> {
-    pub body: &'a str,
-    pub message: &'a str,
-    pub namespace: &'a str,
-    pub vouch: Option<&'a str>,
 }
 
 /// What is asked for.

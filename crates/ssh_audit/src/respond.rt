@@ -2,7 +2,7 @@
 
 ghost use Rattle.std.specs.Prelude.{◌<◌, ◌^◌, [], length, map, IfOk, Ok, Some};
 ghost use Rattle.ssh_audit.specs.CommandLine.{host, login, show, request_of};
-ghost use Rattle.ssh_audit.specs.Audits.{host_by, login_by, spelled_response};
+ghost use Rattle.ssh_answers.specs.Audits.{host_by, login_by};
 ghost use Rattle.ssh_audit.specs.Requests.{
   Responds,
   RespondsBy,
@@ -11,6 +11,7 @@ ghost use Rattle.ssh_audit.specs.Requests.{
   host_response,
   login_in_zone,
   show_answer,
+  spelled_response,
 };
 ghost use Rattle.ssh_audit.specs.ValuesRead.{host_with, login_with};
 ghost use Rattle.ssh_audit.specs.Responding.{IsUsageOf};
@@ -23,12 +24,10 @@ ghost use Rattle.ssh_audit.specs.Parsing.{
 ghost use Rattle.ssh_print.specs.ResponseView.{response};
 ghost use Rattle.ssh_inputs.specs.SourceState.{IfTells};
 
-use crate::audit::{respond_question, unread};
 use crate::parse::parse;
-use crate::question::LoginQuestion;
 use crate::request::{HostWords, LoginWords, Request, ShowWords, WordsFault};
-use crate::signature::respond_sshsig;
 use crate::values::{HostValues, LoginValues, ValueFault, read_host_values, read_login_values};
+use ssh_answers::{LoginQuestion, respond_question, respond_sshsig, unread};
 use ssh_inputs::{Files, ReadFault, read_first_line, read_whole, read_words};
 use ssh_print::{Response, usage_fault, value_fault};
 use ssh_show::{show, show_kind};

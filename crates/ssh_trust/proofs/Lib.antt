@@ -8,3 +8,4 @@ pub mod MeaningLemmas
 pub mod HostMeaningLemmas
 pub mod DenialLemmas
 pub mod SignatureLemmas
+pub mod RewritingLemmas

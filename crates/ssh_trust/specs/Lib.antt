@@ -18,6 +18,8 @@ pub use Rattle.ssh_rules.specs.Admission
 pub use Rattle.ssh_rules.specs.HostAdmission
 pub use Rattle.ssh_rules.specs.Revocation
 pub use Rattle.ssh_rules.specs.Verdict
+pub use Rattle.ssh_rewriting.specs.CanonicalFile
+pub use Rattle.ssh_rewriting.specs.Facts
 pub mod FileLines
 pub mod Candidate
 pub mod Scan

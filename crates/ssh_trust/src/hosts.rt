@@ -11,8 +11,8 @@ ghost use Rattle.ssh_trust.specs.Answer.{Gives, OfClaim, RefusesAs, host_answer}
 use crate::decision::Decision;
 use crate::host_decide::decide_host;
 use crate::host_scan::scan_hosts;
-use crate::pieces::FILE_LIMIT;
 use ssh_offers::{AuditError, HostClaimView, HostQuery, Items, Signed, host_evidence};
+use ssh_rewriting::FILE_LIMIT;
 use ssh_rules::SoughtHost;
 use std::alloc::Global;
 

@@ -21,12 +21,15 @@ mod tests;
 
 pub use decision::{Cause, Decision};
 pub use hosts::{evidence_of_host, host};
-pub use laws::{decision_rule, denial_rule, host_decision_rule, host_denial_rule};
+pub use laws::{
+    decision_rule, denial_rule, host_decision_rule, host_denial_rule, host_rewritten_rule,
+    login_rewritten_rule,
+};
 pub use login_audit::LoginAudit;
 pub use logins::{evidence_of_login, login};
-pub use pieces::FILE_LIMIT;
 pub use scan::REASON_LIMIT;
 pub use signatures::{SigAnswer, sshsig};
 pub use ssh_offers::{AuditError, HostQuery, Items, LoginQuery, OfferError, Signed};
+pub use ssh_rewriting::{FILE_LIMIT, RewriteError, rewrite_auth, rewrite_known};
 pub use ssh_rights::{Carried, CarriedName, Rights, rights_rule};
 pub use ssh_rules::{Reason, admission_rule, host_admission_rule};

@@ -32,11 +32,9 @@ ghost use Rattle.ssh_trust.specs.Audit.{HasRead};
 ghost use Rattle.ssh_trust.specs.Findings.{IsText};
 
 use ssh_offers::AuditError;
+use ssh_rewriting::FILE_LIMIT;
 use ssh_text::{Line, Scanner};
 use std::alloc::{AllocError, Global};
-
-/// The most bytes that a trust file may have (this project's rule).
-pub const FILE_LIMIT: usize = 67_108_864;
 
 /// A search of lines, which keeps what those so far say.
 pub(crate) trait Search {

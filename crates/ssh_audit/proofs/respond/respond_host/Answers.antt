@@ -1,5 +1,5 @@
 use Rattle.std.proofs.Common.{ℕ, Ok, sym}
-use Rattle.ssh_audit.specs.Audits.{host_by}
+use Rattle.ssh_answers.specs.Audits.{host_by}
 use Rattle.ssh_audit.specs.Parsing.{host_texts_of}
 use Rattle.ssh_audit.specs.Requests.{host_spelled}
 use Rattle.ssh_audit.specs.ValuesRead.{host_with}

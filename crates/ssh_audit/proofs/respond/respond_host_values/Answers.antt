@@ -1,6 +1,7 @@
 use Rattle.std.proofs.Common.{rules}
-use Rattle.ssh_audit.specs.Audits.{host_by}
-use Rattle.ssh_audit.specs.Parsing.{host_texts_of, names_of}
+use Rattle.ssh_answers.specs.Audits.{host_by}
+use Rattle.ssh_answers.specs.AskedView.{names_of}
+use Rattle.ssh_audit.specs.Parsing.{host_texts_of}
 use Rattle.ssh_audit.specs.ValuesRead.{host_with}
 use Rattle.ssh_print.specs.ResponseView.{response}
 use Rattle.ssh_audit.proofs.ResponseLemmas.{same_question}

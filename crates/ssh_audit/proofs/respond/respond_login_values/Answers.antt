@@ -1,6 +1,7 @@
 use Rattle.std.proofs.Common.{rules}
-use Rattle.ssh_audit.specs.Audits.{login_by}
-use Rattle.ssh_audit.specs.Parsing.{names_of, texts_of}
+use Rattle.ssh_answers.specs.Audits.{login_by}
+use Rattle.ssh_answers.specs.AskedView.{names_of}
+use Rattle.ssh_audit.specs.Parsing.{texts_of}
 use Rattle.ssh_audit.specs.ValuesRead.{login_with}
 use Rattle.ssh_print.specs.ResponseView.{response}
 use Rattle.ssh_audit.proofs.ResponseLemmas.{same_question}

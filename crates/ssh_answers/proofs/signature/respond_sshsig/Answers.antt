@@ -1,8 +1,8 @@
 use Rattle.std.proofs.Common.{rules}
 use Rattle.ssh_print.specs.ResponseView.{response}
-use Rattle.ssh_audit.specs.Parsing.{sshsig_texts_of}
-use Rattle.ssh_audit.proofs.SignatureLemmas.{vouch_file_responds, vouch_file_unread, words_signed}
-use Rattle.ssh_audit.proofs.signature.respond_sshsig.Goals as goal
+use Rattle.ssh_answers.specs.AskedView.{sshsig_texts_of}
+use Rattle.ssh_answers.proofs.SignatureLemmas.{vouch_file_responds, vouch_file_unread, words_signed}
+use Rattle.ssh_answers.proofs.signature.respond_sshsig.Goals as goal
 
 pub returns-in-None : goal.returns-in-None
 returns-in-None g c =

@@ -1,11 +1,9 @@
-//! What the program answers to a file signature, with the signatures that a vouch file vouches for.
+//! What files answer to a file signature, with the signatures that a vouch file vouches for.
 
-ghost use Rattle.std.specs.Prelude.{◌≡◌, IfOk, Some};
-ghost use Rattle.ssh_audit.specs.CommandLine.{sshsig as sshsig_request};
-ghost use Rattle.ssh_audit.specs.Audits.{or_vouch_fault};
-ghost use Rattle.ssh_audit.specs.Parsing.{sshsig_texts_of};
-ghost use Rattle.ssh_audit.specs.Requests.{RespondsBy, exactly};
-ghost use Rattle.ssh_audit.specs.Signatures.{
+ghost use Rattle.std.specs.Prelude.{◌≡◌, IfOk};
+ghost use Rattle.ssh_answers.specs.Audits.{or_vouch_fault};
+ghost use Rattle.ssh_answers.specs.AskedView.{sshsig_texts_of};
+ghost use Rattle.ssh_answers.specs.Signatures.{
   Signs,
   body_response,
   bytes_answer,
@@ -20,8 +18,8 @@ ghost use Rattle.ssh_print.specs.SignatureText.{sshsig_response};
 ghost use Rattle.ssh_inputs.specs.SourceState.{IfTells};
 ghost use Rattle.ssh_inputs.specs.VouchFile.{vouched_of};
 
+use crate::asked::SshsigWords;
 use crate::audit::unread;
-use crate::request::SshsigWords;
 use ssh_inputs::{Files, VouchFault, read_vouch_file, read_vouched, read_whole};
 use ssh_print::{Response, sshsig_response, vouch_fault};
 use ssh_trust::{AuditError, SigAnswer, Signed, sshsig};
@@ -127,7 +125,7 @@ pub fn respond_sshsig<F: Files>(
     files: &mut F,
 ) -> Result<Response, AllocError>
     ensures { IfTells (F.source_state files.old) (λ s. IfOk result (λ r.
-        RespondsBy (Some (sshsig_request (sshsig_texts_of words.entry.now))) (exactly (signature_response (sshsig_texts_of words.entry.now) s)) s (F.source_state files.new) (response r))) }
+        Signs (sshsig_texts_of words.entry.now) (signature_response (sshsig_texts_of words.entry.now) s) s (F.source_state files.new) (response r))) }
 {
     match words.vouch {
         None => respond_vouched(alloc, words, &[], files),

@@ -1,14 +1,12 @@
 -- Sources with the same files and the same input tell the same, and what reads that did not fail leave.
-use Rattle.std.proofs.Common.{◌≡◌, ◌∙◌, ◌<◌, ℕ, Bool, true, false, cond, List, [], length, Option, Some, None, Result, refl, ap, arith}
+use Rattle.std.proofs.Common.{◌≡◌, ◌∙◌, ℕ, Bool, true, false, cond, List, [], length, Option, Some, None, refl, ap, arith}
 use Rattle.std.specs.Str.{bytes_eq}
 use Rattle.std.proofs.lemmas.Bool.{lt-ltb}
 use Rattle.ssh_inputs.specs.SourceState.{SourceState, bytes_at, dash}
 use Rattle.ssh_inputs.specs.Parts.{after_whole, cut_at_empty}
 use Rattle.ssh_inputs.specs.Loading.{NoReadFailed, OneReadFailed, IsLeft, IsTooLong, within_limit}
-use Rattle.ssh_offers.specs.declared.query.Signed.{Signed}
-use Rattle.ssh_print.specs.Responses.{Response as Shown}
 use Rattle.ssh_trust.specs.Answer.{file_limit}
-use Rattle.ssh_audit.specs.Audits.{after_vouching, vouched_in}
+use Rattle.ssh_answers.specs.Audits.{after_vouching, vouched_in}
 
 -- ---- the same files and the same input
 

@@ -1,8 +1,8 @@
 use Rattle.std.proofs.Common.{rules}
-use Rattle.ssh_audit.specs.Parsing.{names_of}
+use Rattle.ssh_answers.specs.AskedView.{names_of}
 use Rattle.ssh_print.specs.ResponseView.{response}
-use Rattle.ssh_audit.proofs.ResponseLemmas.{vouch_responds, vouch_unread}
-use Rattle.ssh_audit.proofs.audit.respond_question.Goals as goal
+use Rattle.ssh_answers.proofs.AuditLemmas.{vouch_responds, vouch_unread}
+use Rattle.ssh_answers.proofs.audit.respond_question.Goals as goal
 
 pub returns-in-Ok : goal.returns-in-Ok
 returns-in-Ok g c =

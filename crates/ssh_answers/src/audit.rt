@@ -1,21 +1,21 @@
 //! What a trust file answers to a question, with the signatures that a vouch file vouches for.
 
 ghost use Rattle.std.specs.Prelude.{◌≡◌, IfOk};
-ghost use Rattle.ssh_audit.specs.Audits.{
+ghost use Rattle.ssh_answers.specs.Audits.{
   Audits,
   audit_response,
   decided_response,
   or_vouch_fault,
   vouched_response,
 };
-ghost use Rattle.ssh_audit.specs.Responding.{AnswersFile, IsFaultOf, is_memory};
-ghost use Rattle.ssh_audit.specs.Parsing.{names_of};
+ghost use Rattle.ssh_answers.specs.Responding.{AnswersFile, IsFaultOf, is_memory};
+ghost use Rattle.ssh_answers.specs.AskedView.{names_of};
 ghost use Rattle.ssh_print.specs.ResponseView.{response};
 ghost use Rattle.ssh_inputs.specs.SourceState.{IfTells, bytes_at};
 ghost use Rattle.ssh_inputs.specs.VouchFile.{vouched_of};
 
+use crate::asked::AuditFiles;
 use crate::question::Question;
-use crate::request::AuditFiles;
 use ssh_inputs::{Files, ReadFault, VouchFault, gather, read_vouch_file, read_vouched};
 use ssh_print::{Response, decision_response, file_fault, vouch_fault};
 use ssh_trust::{AuditError, Decision, Signed};

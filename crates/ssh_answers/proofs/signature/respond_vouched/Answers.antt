@@ -1,8 +1,8 @@
 use Rattle.std.proofs.Common.{rules}
 use Rattle.ssh_print.specs.ResponseView.{response}
-use Rattle.ssh_audit.specs.Parsing.{sshsig_texts_of}
-use Rattle.ssh_audit.proofs.SignatureLemmas.{body_responds, body_unread}
-use Rattle.ssh_audit.proofs.signature.respond_vouched.Goals as goal
+use Rattle.ssh_answers.specs.AskedView.{sshsig_texts_of}
+use Rattle.ssh_answers.proofs.SignatureLemmas.{body_responds, body_unread}
+use Rattle.ssh_answers.proofs.signature.respond_vouched.Goals as goal
 
 pub returns-in-Ok : goal.returns-in-Ok
 returns-in-Ok g c =

@@ -3,7 +3,7 @@
 ghost use Rattle.std.specs.Prelude.{◌<◌, ◌^◌, length};
 ghost use Rattle.ssh_trust.specs.Answer.{Gives};
 ghost use Rattle.ssh_trust.specs.Query.{host_check_of, login_of};
-ghost use Rattle.ssh_audit.specs.Audits.{Deciding, answer_by, host_by, login_by};
+ghost use Rattle.ssh_answers.specs.Audits.{Deciding, answer_by, host_by, login_by};
 
 use ssh_trust::{AuditError, Decision, HostQuery, LoginQuery, Signed, host, login};
 use std::alloc::Global;

@@ -10,11 +10,11 @@ use Rattle.ssh_inputs.specs.declared.read.ReadFault.TheVariants as fault
 use Rattle.ssh_offers.specs.declared.query.Signed.{Signed}
 use Rattle.ssh_print.specs.Responses.{Response as Shown, no_file_response}
 use Rattle.ssh_print.specs.SignatureText.{sshsig_response}
-use Rattle.ssh_audit.specs.Audits.{after_vouching, or_vouch_fault, vouched_in, vouched_or_fault}
-use Rattle.ssh_audit.specs.CommandLine.{SshsigWords}
-use Rattle.ssh_audit.specs.Responding.{IsFaultOf}
-use Rattle.ssh_audit.specs.Signatures.{IsFileOf, IsSignatureFault, Signs, body_over, body_response, bytes_answer, message_over, message_response, signature_over, signature_response, vouched_over}
-use Rattle.ssh_audit.proofs.SourceLemmas.{Alike, file-alike, left-none, none-failed, one-failed, over_limit, vouched-same, vouching-alike, whole-alike}
+use Rattle.ssh_answers.specs.Audits.{after_vouching, or_vouch_fault, vouched_in, vouched_or_fault}
+use Rattle.ssh_answers.specs.Asked.{SshsigWords}
+use Rattle.ssh_answers.specs.Responding.{IsFaultOf}
+use Rattle.ssh_answers.specs.Signatures.{IsFileOf, IsSignatureFault, Signs, body_over, body_response, bytes_answer, message_over, message_response, signature_over, signature_response, vouched_over}
+use Rattle.ssh_answers.proofs.SourceLemmas.{Alike, file-alike, left-none, none-failed, one-failed, over_limit, vouched-same, vouching-alike, whole-alike}
 
 -- ---- sources with the same files and the same input have the same answers
 

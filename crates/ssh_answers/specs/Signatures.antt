@@ -6,8 +6,8 @@ use Rattle.ssh_offers.specs.declared.query.Signed.{Signed}
 use Rattle.ssh_offers.specs.FileSignature.{sshsig_claim}
 use Rattle.ssh_trust.specs.declared.signatures.SigAnswer.{SigAnswer}
 use Rattle.ssh_trust.specs.SignatureAnswer.{sig_answer}
-use Rattle.ssh_audit.specs.Audits.{after_vouching, vouched_in}
-use Rattle.ssh_audit.specs.CommandLine.{SshsigWords}
+use Rattle.ssh_answers.specs.Audits.{after_vouching, vouched_in}
+use Rattle.ssh_answers.specs.Asked.{SshsigWords}
 use Rattle.ssh_inputs.specs.SourceState.{SourceState, bytes_at}
 use Rattle.ssh_inputs.specs.Parts.{after_whole}
 use Rattle.ssh_inputs.specs.Loading.{OneReadFailed, NoReadFailed, within_limit}

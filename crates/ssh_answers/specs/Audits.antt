@@ -10,7 +10,7 @@ use Rattle.ssh_trust.specs.LoginClaim.{login_claim}
 use Rattle.ssh_trust.specs.Answer.{if_short}
 use Rattle.ssh_trust.specs.Decision.{login_decision}
 use Rattle.ssh_trust.specs.HostDecision.{host_decision}
-use Rattle.ssh_audit.specs.CommandLine.{AuditFiles}
+use Rattle.ssh_answers.specs.Asked.{AuditFiles}
 use Rattle.ssh_inputs.specs.SourceState.{SourceState, bytes_at}
 use Rattle.ssh_inputs.specs.Parts.{part_at, after_part}
 use Rattle.ssh_inputs.specs.VouchFile.{vouched_of}
@@ -76,11 +76,6 @@ vouched_response by name s (Ok vouched) = decided_response by vouched (bytes_at 
 
 abbrev pub audit_response : Deciding → AuditFiles → SourceState → Response
 audit_response by f s = vouched_response by f.trust (after_vouching f.vouch s) (vouched_in f.vouch s)
-
--- the answer to the question that was spelled, or that a value of it was not
-abbrev pub spelled_response : {Q : Type 0} → (Q → Deciding) → AuditFiles → SourceState → Result Q Response → Response
-spelled_response by f s (Err r) = r
-spelled_response by f s (Ok q) = audit_response (by q) f s
 
 -- ---- failed reads
 

@@ -1,6 +1,6 @@
 use Rattle.std.proofs.Common.{rules}
-use Rattle.ssh_audit.proofs.ResponseLemmas.{file_decided}
-use Rattle.ssh_audit.proofs.audit.decide_by_file.Goals as goal
+use Rattle.ssh_answers.proofs.AuditLemmas.{file_decided}
+use Rattle.ssh_answers.proofs.audit.decide_by_file.Goals as goal
 
 pub returns-in-Ok : goal.returns-in-Ok
 returns-in-Ok g c =

@@ -1,0 +1,3 @@
+pub mod SourceLemmas
+pub mod SignatureLemmas
+pub mod AuditLemmas

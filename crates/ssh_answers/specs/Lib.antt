@@ -1,0 +1,5 @@
+pub mod Asked
+pub mod AskedView
+pub mod Audits
+pub mod Signatures
+pub mod Responding

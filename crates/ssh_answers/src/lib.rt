@@ -1,0 +1,13 @@
+//! What files answer to a question: a trust file to a login or to a host's key, and a body and a
+//! message to a file signature, with the signatures that a vouch file vouches for.
+#![tactic(auto)]
+
+mod asked;
+mod audit;
+mod question;
+mod signature;
+
+pub use asked::{AuditFiles, SshsigWords};
+pub use audit::{respond_question, unread};
+pub use question::{LoginQuestion, Question};
+pub use signature::respond_sshsig;
