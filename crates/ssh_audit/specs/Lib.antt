@@ -1,7 +1,1 @@
-pub mod CommandLine
-pub mod Parsing
-pub mod Requests
-pub mod ValuesRead
-pub mod Responding
-pub mod Printing
 pub mod Places

@@ -3,28 +3,9 @@
 //! not; and whether a file signature is vouched for.
 #![tactic(auto)]
 
-#[cfg(test)]
-mod body_tests;
-mod command;
-#[cfg(test)]
-mod host_tests;
-#[cfg(test)]
-mod login_tests;
-mod parse;
-mod request;
-mod respond;
-mod run;
-#[cfg(test)]
-mod show_tests;
-#[cfg(test)]
-mod signature_tests;
 mod system;
-#[cfg(test)]
-mod tests;
-mod values;
 
-use request::WordsFault;
-use run::{refuse, run};
+use ssh_command::{WordsFault, refuse, run};
 use std::alloc::Global;
 use std::io::{ErrorKind, Result};
 use std::process::ExitCode;

@@ -1,0 +1,6 @@
+pub mod CommandLine
+pub mod Parsing
+pub mod Requests
+pub mod ValuesRead
+pub mod Responding
+pub mod Printing

@@ -1,0 +1,105 @@
+//! The command line.
+
+ghost use Rattle.std.specs.Prelude.{◌≡◌, IfOk};
+ghost use Rattle.clap.specs.Words.{app_of, with_rule};
+ghost use Rattle.ssh_command.specs.CommandLine.{
+  command_line,
+  option_rule,
+  host_app,
+  login_app,
+  show_app,
+  sshsig_app,
+};
+
+use clap::{Arg, Command};
+use std::alloc::{AllocError, Global};
+
+/// The command with one more option, which takes a value.
+fn with_option<'a>(
+    alloc: Global,
+    command: Command<'a>,
+    name: &'a str,
+    required: bool,
+) -> Result<Command<'a>, AllocError>
+    ensures { IfOk result (λ c.
+        app_of c ≡ with_rule (app_of command.entry) (option_rule (name.entry.now, required))) }
+{
+    let option = Arg::new(alloc, name).long(name).required(required);
+    command.arg(option)
+}
+
+/// The subcommand `login`.
+#[tactic(auto, unfolding(crate::specs::CommandLine::login_app))]
+fn login_command<'a>(alloc: Global) -> Result<Command<'a>, AllocError>
+    ensures { IfOk result (λ c. app_of c ≡ login_app) }
+{
+    let command = Command::new(alloc, "login");
+    let command = with_option(alloc, command, "file", true)?;
+    let command = with_option(alloc, command, "offer", true)?;
+    let command = with_option(alloc, command, "signature", true)?;
+    let command = with_option(alloc, command, "algorithm", true)?;
+    let command = with_option(alloc, command, "session", true)?;
+    let command = with_option(alloc, command, "user", true)?;
+    let command = with_option(alloc, command, "address", true)?;
+    let command = with_option(alloc, command, "now", true)?;
+    let command = with_option(alloc, command, "host", false)?;
+    let command = with_option(alloc, command, "zone", false)?;
+    let command = with_option(alloc, command, "vouch", false)?;
+    Ok(command)
+}
+
+/// The subcommand `host`.
+#[tactic(auto, unfolding(crate::specs::CommandLine::host_app))]
+fn host_command<'a>(alloc: Global) -> Result<Command<'a>, AllocError>
+    ensures { IfOk result (λ c. app_of c ≡ host_app) }
+{
+    let command = Command::new(alloc, "host");
+    let command = with_option(alloc, command, "file", true)?;
+    let command = with_option(alloc, command, "offer", true)?;
+    let command = with_option(alloc, command, "signature", true)?;
+    let command = with_option(alloc, command, "hash", true)?;
+    let command = with_option(alloc, command, "host", true)?;
+    let command = with_option(alloc, command, "port", true)?;
+    let command = with_option(alloc, command, "now", true)?;
+    let command = with_option(alloc, command, "vouch", false)?;
+    Ok(command)
+}
+
+/// The subcommand `show`.
+#[tactic(auto, unfolding(crate::specs::CommandLine::show_app))]
+fn show_command<'a>(alloc: Global) -> Result<Command<'a>, AllocError>
+    ensures { IfOk result (λ c. app_of c ≡ show_app) }
+{
+    let command = Command::new(alloc, "show");
+    let command = with_option(alloc, command, "kind", true)?;
+    let command = with_option(alloc, command, "file", true)?;
+    Ok(command)
+}
+
+/// The subcommand `sshsig`.
+#[tactic(auto, unfolding(crate::specs::CommandLine::sshsig_app))]
+fn sshsig_command<'a>(alloc: Global) -> Result<Command<'a>, AllocError>
+    ensures { IfOk result (λ c. app_of c ≡ sshsig_app) }
+{
+    let command = Command::new(alloc, "sshsig");
+    let command = with_option(alloc, command, "body", true)?;
+    let command = with_option(alloc, command, "message", true)?;
+    let command = with_option(alloc, command, "namespace", true)?;
+    let command = with_option(alloc, command, "vouch", false)?;
+    Ok(command)
+}
+
+/// The program's command line.
+pub fn program<'a>(alloc: Global) -> Result<Command<'a>, AllocError>
+    ensures { IfOk result (λ c. app_of c ≡ command_line) }
+{
+    let show = show_command(alloc)?;
+    let login = login_command(alloc)?;
+    let host = host_command(alloc)?;
+    let sshsig = sshsig_command(alloc)?;
+    let showing = Command::new(alloc, "ssh_audit").subcommand(show)?;
+    let logging_in = showing.subcommand(login)?;
+    let trusting = logging_in.subcommand(host)?;
+    let program = trusting.subcommand(sshsig)?;
+    Ok(program.no_binary_name(true).subcommand_required(true))
+}

@@ -1,0 +1,12 @@
+//! The program but for its system: what it answers to words, over files by name, and writes out.
+#![tactic(auto)]
+
+mod command;
+mod parse;
+mod program;
+mod request;
+mod respond;
+mod values;
+
+pub use program::{refuse, run};
+pub use request::WordsFault;

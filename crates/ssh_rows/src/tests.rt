@@ -1,0 +1,177 @@
+//! What no clause says: the printed lines of worked rows, and what stands after failed reads and
+//! writes.
+
+pub(crate) mod host_certificates;
+pub(crate) mod keys;
+mod sink;
+mod source;
+pub(crate) mod user_certificates;
+
+use crate::login_tests::{K0_TRIPLE, login_line};
+use keys::{K0, S0};
+use sink::{FailsOnce, Page};
+use source::{FailsAt, OneFile};
+use ssh_command::{WordsFault, refuse, run};
+use std::alloc::Global;
+use std::io::ErrorKind;
+use std::process::Abort;
+use std::test::Fail;
+
+/// What is asked in a row that differs from another in these fields.
+macro_rules! asked {
+    ($other:ident, $($field:ident: $value:expr),+) => {
+        Asked { $($field: $value,)+ ..$other }
+    };
+}
+
+pub(crate) use asked;
+
+/// The parts of a text, one after the other.
+pub(crate) fn joined(alloc: Global, parts: &[&str]) -> Result<String, Fail> {
+    let mut text = String::new(alloc);
+    for part in parts {
+        text.push_str(part)?;
+    }
+    Ok(text)
+}
+
+/// The bytes of this text, filled to the length.
+pub(crate) fn filled(alloc: Global, text: &str, fill: u8, len: usize) -> Result<Vec<u8>, Fail> {
+    let mut bytes = Vec::from_slice(alloc, text.as_bytes())?;
+    bytes.resize(len, fill)?;
+    Ok(bytes)
+}
+
+/// What the program prints for words over a file `f` and standard input, with its status.
+pub(crate) fn printed(
+    alloc: Global,
+    words: &[&str],
+    file: &[u8],
+    input: &[u8],
+) -> Result<(u8, Vec<u8>), Fail> {
+    let mut files = OneFile::new("f", file, input);
+    let mut page = Page::new(alloc);
+    let status = run(alloc, words, &mut files, &mut page);
+    Ok((status, Vec::from_slice(alloc, page.taken())?))
+}
+
+/// The status that goes with an answer.
+fn status_of(answer: &str) -> u8 {
+    match answer.split_once(' ') {
+        Some(("granted", _)) => 0,
+        Some(("denied", _)) => 1,
+        _ => 2,
+    }
+}
+
+/// The lines of an answer before the evidence.
+fn head_of(answer: &str) -> &str {
+    match answer.split_once("evidence ") {
+        Some((head, _)) => head,
+        None => answer,
+    }
+}
+
+/// Compares a text with the wanted one, and its status.
+fn compare_text(rt: &impl Abort, status: u8, found: Option<&str>, wanted: &str) {
+    assert_eq!(rt; found, Some(wanted));
+    assert_eq!(rt; status, status_of(wanted), "{wanted}");
+}
+
+/// Compares what the program prints for words over a file `f` and standard input, and its status.
+pub(crate) fn compare(
+    rt: &impl Abort,
+    alloc: Global,
+    words: &[&str],
+    file: &[u8],
+    input: &str,
+    wanted: &str,
+) -> Result<(), Fail> {
+    let (status, found) = printed(alloc, words, file, input.as_bytes())?;
+    compare_text(rt, status, str::from_utf8(&found).ok(), wanted);
+    Ok(())
+}
+
+/// The same of the lines before the evidence.
+pub(crate) fn compare_head(
+    rt: &impl Abort,
+    alloc: Global,
+    words: &[&str],
+    file: &[u8],
+    input: &str,
+    wanted: &str,
+) -> Result<(), Fail> {
+    let (status, found) = printed(alloc, words, file, input.as_bytes())?;
+    compare_text(rt, status, str::from_utf8(&found).ok().map(head_of), wanted);
+    Ok(())
+}
+
+#[test]
+fn stops_at_a_failed_write(rt: HostRuntime) -> Result<(), Fail> {
+    let words = ["frob"];
+    for kind in [ErrorKind::Interrupted, ErrorKind::BrokenPipe] {
+        for index in 1..14u64 {
+            let mut files = OneFile::new("f", b"", b"");
+            let mut writer = FailsOnce::new(rt.alloc(), index, kind);
+            let status = run(rt.alloc(), words.as_slice(), &mut files, &mut writer);
+            assert_eq!(rt; status, 2);
+            assert_eq!(rt; writer.calls(), index.min(12));
+            let taken = (index - 1).min(12) as usize;
+            assert_eq!(rt; Some(writer.taken()), b"fault usage\n".get(..taken));
+        }
+    }
+    Ok(())
+}
+
+#[test]
+fn refuses_words_that_cannot_be_read(rt: HostRuntime) -> Result<(), Fail> {
+    for (fault, wanted) in [
+        (WordsFault::Usage, "fault usage\n"),
+        (WordsFault::Memory, "fault A8\n"),
+    ] {
+        let mut page = Page::new(rt.alloc());
+        let status = refuse(fault, &mut page);
+        assert_eq!(rt; str::from_utf8(page.taken()).ok(), Some(wanted));
+        assert_eq!(rt; status, 2);
+    }
+    Ok(())
+}
+
+/// What is printed where the read of this index fails, and every later one.
+fn compare_failed(
+    rt: &impl Abort,
+    alloc: Global,
+    file: &str,
+    input: &str,
+    index: u64,
+    wanted: &str,
+) -> Result<(), Fail> {
+    let mut files = FailsAt::new(OneFile::new("f", file.as_bytes(), input.as_bytes()), index);
+    let mut page = Page::new(alloc);
+    let none: [&str; 0] = [];
+    let status = run(alloc, none.as_slice(), &mut files, &mut page);
+    assert_eq!(rt; str::from_utf8(page.taken()).ok(), Some(wanted), "{index}");
+    assert_eq!(rt; status, 2, "{index}");
+    Ok(())
+}
+
+#[test]
+fn prints_a_reads_own_fault(rt: HostRuntime) -> Result<(), Fail> {
+    let alloc = rt.alloc();
+    let line = login_line(alloc, &["f", K0, S0, "01020304", "150", "-"])?;
+    let input = joined(alloc, [line.as_str(), K0_TRIPLE, "\n\n"].as_slice())?;
+    let file = joined(alloc, ["ssh-ed25519 ", K0, " me\n"].as_slice())?;
+    let first = line.len() as u64;
+    let second = input.len() as u64;
+    for (index, wanted) in [
+        (1, "fault usage\n"),
+        (first, "fault usage\n"),
+        (first + 1, "fault file -\n"),
+        (second, "fault file -\n"),
+        (second + 1, "fault A9\n"),
+        (second + 2, "fault A9\n"),
+    ] {
+        compare_failed(&rt, alloc, &file, &input, index, wanted)?;
+    }
+    Ok(())
+}

@@ -1,0 +1,166 @@
+//! Sources in memory: one that tells its files, and one that fails.
+
+ghost use Rattle.std.specs.Prelude.{Some, None, refl, if◌then◌else◌, option_map, Option, List, ℕ};
+ghost use Rattle.std.specs.Str.{bytes_eq};
+ghost use Rattle.ssh_inputs.specs.SourceState.{
+  SourceState,
+  Chosen,
+  nothing,
+  standard_input,
+  named_file,
+  left_of,
+};
+ghost use Rattle.ssh_rows.specs.declared.tests.source.Place.TheVariants.{Nowhere, Input, File};
+
+use ssh_inputs::Files;
+use std::io::{Error, ErrorKind, Read, Result};
+
+/// What is being read.
+#[derive(Clone, Copy, Debug, PartialEq, Eq)]
+pub enum Place {
+    Nowhere,
+    Input,
+    File,
+}
+
+/// One file, and standard input, with a count of failed reads and the name of the last.
+#[derive(Drop)]
+pub struct OneFile<'a> {
+    name: &'a str,
+    bytes: &'a [u8],
+    left: &'a [u8],
+    input: &'a [u8],
+    place: Place,
+    failures: u64,
+    failed: Option<&'a str>,
+}
+
+impl<'a> OneFile<'a> {
+    /// A file of this name, and standard input.
+    pub fn new(name: &'a str, bytes: &'a [u8], input: &'a [u8]) -> Self {
+        OneFile {
+            name,
+            bytes,
+            left: b"",
+            input,
+            place: Place::Nowhere,
+            failures: 0,
+            failed: None,
+        }
+    }
+}
+
+impl Read for OneFile<'_> {
+    ghost remaining = { λ m. Some (left_of (record {
+      named = λ name. if bytes_eq name m.name.now then Some m.bytes.now else None;
+      input = m.input.now;
+      chosen = elim m.place [ Nowhere ↦ nothing | Input ↦ standard_input | File ↦ named_file m.name.now m.left.now ];
+      failures = m.failures;
+      failed = option_map (λ n. n.now) m.failed;
+    })) };
+
+    fn read(&mut self, buf: &mut [u8]) -> Result<usize> {
+        self.read_chosen(buf)
+    }
+}
+
+impl Files for OneFile<'_> {
+    ghost source_state = { λ m. Some (record {
+      named = λ name. if bytes_eq name m.name.now then Some m.bytes.now else None;
+      input = m.input.now;
+      chosen = elim m.place [ Nowhere ↦ nothing | Input ↦ standard_input | File ↦ named_file m.name.now m.left.now ];
+      failures = m.failures;
+      failed = option_map (λ n. n.now) m.failed;
+    }) };
+
+    ghost tells = { λ x. refl };
+
+    fn choose(&mut self, name: &str) -> bool {
+        if name == "-" {
+            self.place = Place::Input;
+            true
+        } else if name == self.name {
+            self.left = self.bytes;
+            self.place = Place::File;
+            true
+        } else {
+            self.place = Place::Nowhere;
+            false
+        }
+    }
+
+    fn read_chosen(&mut self, buf: &mut [u8]) -> Result<usize> {
+        match self.place {
+            Place::Nowhere => {
+                self.failures = self.failures.saturating_add(1);
+                self.failed = None;
+                Err(Error::from(ErrorKind::NotFound))
+            }
+            Place::Input => self.input.read(buf),
+            Place::File => self.left.read(buf),
+        }
+    }
+}
+
+/// A source whose reads fail from one of them on.
+#[derive(Drop)]
+pub struct FailsAt<'a> {
+    source: OneFile<'a>,
+    index: u64,
+    reads: u64,
+}
+
+impl<'a> FailsAt<'a> {
+    /// The source, of which the read of this index fails, and every later one.
+    pub fn new(source: OneFile<'a>, index: u64) -> Self {
+        FailsAt {
+            source,
+            index,
+            reads: 0,
+        }
+    }
+}
+
+impl Read for FailsAt<'_> {
+    ghost remaining = { λ m. Some (left_of (record {
+      named = λ name. if bytes_eq name m.source.name.now then Some m.source.bytes.now else None;
+      input = m.source.input.now;
+      chosen = elim m.source.place [ Nowhere ↦ nothing | Input ↦ standard_input | File ↦ named_file m.source.name.now m.source.left.now ];
+      failures = m.source.failures;
+      failed = option_map (λ n. n.now) m.source.failed;
+    })) };
+
+    fn read(&mut self, buf: &mut [u8]) -> Result<usize> {
+        self.read_chosen(buf)
+    }
+}
+
+impl Files for FailsAt<'_> {
+    ghost source_state = { λ m. Some (record {
+      named = λ name. if bytes_eq name m.source.name.now then Some m.source.bytes.now else None;
+      input = m.source.input.now;
+      chosen = elim m.source.place [ Nowhere ↦ nothing | Input ↦ standard_input | File ↦ named_file m.source.name.now m.source.left.now ];
+      failures = m.source.failures;
+      failed = option_map (λ n. n.now) m.source.failed;
+    }) };
+
+    ghost tells = { λ x. refl };
+
+    fn choose(&mut self, name: &str) -> bool {
+        self.source.choose(name)
+    }
+
+    fn read_chosen(&mut self, buf: &mut [u8]) -> Result<usize> {
+        self.reads = self.reads.saturating_add(1);
+        if self.reads >= self.index {
+            self.source.failures = self.source.failures.saturating_add(1);
+            self.source.failed = match self.source.place {
+                Place::Nowhere => None,
+                Place::Input => Some("-"),
+                Place::File => Some(self.source.name),
+            };
+            return Err(Error::from(ErrorKind::Interrupted));
+        }
+        self.source.read_chosen(buf)
+    }
+}
