@@ -1,3 +1,5 @@
 pub mod SourceLemmas
 pub mod SignatureLemmas
 pub mod AuditLemmas
+pub mod EvidenceLemmas
+pub mod GrantingLemmas

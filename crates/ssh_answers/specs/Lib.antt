@@ -3,3 +3,5 @@ pub mod AskedView
 pub mod Audits
 pub mod Signatures
 pub mod Responding
+pub mod VouchLines
+pub mod Granting

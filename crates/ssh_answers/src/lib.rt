@@ -4,10 +4,12 @@
 
 mod asked;
 mod audit;
+mod laws;
 mod question;
 mod signature;
 
 pub use asked::{AuditFiles, SshsigWords};
 pub use audit::{respond_question, unread};
+pub use laws::{evidence_rule, status_rule};
 pub use question::{LoginQuestion, Question};
 pub use signature::respond_sshsig;

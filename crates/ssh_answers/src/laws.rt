@@ -1,0 +1,36 @@
+//! Laws of the definitions, each proved on a function without a body.
+
+ghost use Rattle.std.specs.Prelude.{◌≡◌, ◌++◌, ℕ, List, Ok, codes};
+ghost use Rattle.std.specs.Fmt.{decimal};
+ghost use Rattle.std.specs.List.{AllByRecursion};
+ghost use Rattle.ssh_offers.specs.declared.query.Signed.{Signed as SignedValue};
+ghost use Rattle.ssh_offers.specs.Query.{HostCheck, Login};
+ghost use Rattle.ssh_print.specs.DecisionText.{evidence_line};
+ghost use Rattle.ssh_inputs.specs.SourceState.{SourceState};
+ghost use Rattle.ssh_inputs.specs.VouchFile.{vouched_of};
+ghost use Rattle.ssh_answers.specs.Asked.{AuditFiles};
+ghost use Rattle.ssh_answers.specs.Audits.{audit_response, host_by, login_by};
+ghost use Rattle.ssh_answers.specs.Granting.{HostGranted, IsOfBytes, LoginGranted};
+ghost use Rattle.ssh_answers.specs.VouchLines.{HasBytes, vouch_file, vouch_line};
+
+/// What is printed of a signature is, after its number, a line of a vouch file; and a vouch file of
+/// such lines vouches for exactly these signatures.
+pub fn evidence_rule()
+    ensures line { (n : ℕ) (s : SignedValue)
+        → evidence_line n s ≡ codes "evidence " ++ decimal n ++ codes " " ++ vouch_line s
+        ++ codes "\n" }
+    ensures back { (evidence : List SignedValue) → AllByRecursion HasBytes evidence
+        → vouched_of (vouch_file evidence) ≡ Ok evidence }
+{}
+
+/// An answer with status 0 is a grant: of a login and of a host's key, by a line of the trust file
+/// that meets all conditions, where the vouch file vouches for all that it rests on; and the text is
+/// that grant's.
+pub fn status_rule()
+    ensures login { (q : Login) (f : AuditFiles) (s : SourceState) → IsOfBytes f s
+        → (audit_response (login_by q) f s).status ≡ 0
+        → LoginGranted q f s (audit_response (login_by q) f s) }
+    ensures host { (q : HostCheck) (f : AuditFiles) (s : SourceState) → IsOfBytes f s
+        → (audit_response (host_by q) f s).status ≡ 0
+        → HostGranted q f s (audit_response (host_by q) f s) }
+{}
