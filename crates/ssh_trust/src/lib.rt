@@ -4,6 +4,7 @@
 
 mod decide;
 mod decision;
+mod host_audit;
 mod host_decide;
 mod host_scan;
 mod hosts;
@@ -20,6 +21,7 @@ mod signatures;
 mod tests;
 
 pub use decision::{Cause, Decision};
+pub use host_audit::HostAudit;
 pub use hosts::{evidence_of_host, host};
 pub use laws::{
     decision_rule, denial_rule, host_decision_rule, host_denial_rule, host_rewritten_rule,

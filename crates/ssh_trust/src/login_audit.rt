@@ -26,7 +26,7 @@ ghost use Rattle.ssh_offers.specs.declared.error.AuditError.TheVariants.{
 ghost use Rattle.ssh_offers.specs.LoginClaim.{LoginClaim, login_claim};
 ghost use Rattle.ssh_offers.specs.Query.{login_of};
 ghost use Rattle.ssh_trust.specs.Answer.{Gives, OfClaim, RefusesAs, file_limit, login_answer};
-ghost use Rattle.ssh_trust.specs.Audit.{IsBounded, LoginStandsFor};
+ghost use Rattle.ssh_trust.specs.Audit.{IsLoginBounded, LoginStandsFor};
 
 use crate::decision::Decision;
 use crate::login_scan::LoginSearch;
@@ -43,13 +43,13 @@ pub struct LoginAudit<'a> {
 }
 
 impl<'a> Model for LoginAudit<'a> {
-    ghost use Rattle.ssh_trust.specs.Audit.{IsBounded, LoginState};
+    ghost use Rattle.ssh_trust.specs.Audit.{IsLoginBounded, LoginState};
 
     ghost Value = { LoginState };
 
     ghost view = { λ s. s.pieces };
 
-    ghost invariant = { λ s. IsBounded s.pieces };
+    ghost invariant = { λ s. IsLoginBounded s.pieces };
 }
 
 impl<'a> LoginAudit<'a> {
@@ -67,7 +67,7 @@ impl<'a> LoginAudit<'a> {
         ensures else_memory { OfClaim (login_claim (login_of query.entry.now))
             (λ claim. OnErr result (result ≡ Err Memory)) }
         // It keeps no more than it may.
-        ensures bounded { IfOk result (λ audit. IsBounded audit) }
+        ensures bounded { IfOk result (λ audit. IsLoginBounded audit) }
     {
         let claim = LoginClaimView::read(query)?;
         let search = LoginSearch::new(alloc, &claim)?;
@@ -97,7 +97,7 @@ impl<'a> LoginAudit<'a> {
         // A refusal is for ever.
         ensures left { OnErr result (self.new.failed ≡ true) }
         // The audit keeps no more than it may.
-        ensures bounded { IsBounded self.new }
+        ensures bounded { IsLoginBounded self.new }
     {
         self.pieces.feed(piece)?;
         Ok(())
