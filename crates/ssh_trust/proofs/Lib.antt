@@ -7,3 +7,5 @@ pub mod CandidateLemmas
 pub mod MeaningLemmas
 pub mod HostMeaningLemmas
 pub mod SignatureLemmas
+pub mod ReadLemmas
+pub mod RefusalLemmas

@@ -27,4 +27,5 @@ pub mod HostDecision
 pub mod Answer
 pub mod Findings
 pub mod Audit
+pub mod Reads
 pub mod SignatureAnswer

@@ -2,6 +2,7 @@
 //! and whether a file signature is vouched for.
 #![tactic(auto)]
 
+mod counted;
 mod decide;
 mod decision;
 mod host_decide;
@@ -12,21 +13,26 @@ mod login_audit;
 mod login_scan;
 mod logins;
 mod pieces;
+#[cfg(test)]
+mod reader_tests;
 mod scan;
 #[cfg(test)]
 mod signature_tests;
 mod signatures;
+mod source;
 #[cfg(test)]
 mod tests;
 
+pub use counted::Counted;
 pub use decision::{Cause, Decision};
 pub use hosts::{evidence_of_host, host};
 pub use laws::{decision_rule, host_decision_rule};
 pub use login_audit::LoginAudit;
-pub use logins::{evidence_of_login, login};
+pub use logins::{evidence_of_login, login, login_from};
 pub use pieces::FILE_LIMIT;
 pub use scan::REASON_LIMIT;
 pub use signatures::{SigAnswer, sshsig};
+pub use source::Source;
 pub use ssh_offers::{AuditError, HostQuery, Items, LoginQuery, OfferError, Signed};
 pub use ssh_rights::{Carried, CarriedName, Rights, rights_rule};
 pub use ssh_rules::{Reason, admission_rule, host_admission_rule};
