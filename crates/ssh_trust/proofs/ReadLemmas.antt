@@ -178,9 +178,9 @@ answers-whole P old new of_file result h answer = record {
   answer = λ _. answer h.given h.stops.0;
 }
 
--- an audit that was not made for want of memory
-pub answers-unread : (left : Option (List ℕ)) (of_file : List ℕ → Result Decision AuditError) → AnswersReader left left of_file (Err Memory)
-answers-unread left of_file = record { given = []; consumed = consumes-none left; bounded = omega arith; to_end = tt; answer = λ _. tt }
+-- want of memory is no failed read
+pub memory-reads-not : (e : AuditError) → e ≡ Memory → e ≡ Read → ⊥
+memory-reads-not e is r = let bad : Memory ≡ Read = sym is ∙ r in cc
 
 -- a file's answer is no failed read
 pub answers-not : (file : List ℕ) (d : Decision) → Gives (if_short file d) (Err Read) → ⊥
