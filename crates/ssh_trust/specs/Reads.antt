@@ -10,7 +10,6 @@ use Rattle.ssh_trust.specs.Answer.{Gives, file_limit}
 abbrev pub piece_size : ℕ
 piece_size = 4096
 
-
 -- The reader gave some bytes, and the answer is that of the file that they are, unless a read failed. Where there is a
 -- decision they are all that the reader had.
 pub record AnswersReader (old new : Option (List ℕ)) (of_file : List ℕ → Result Decision AuditError) (result : Result Decision AuditError) : Type 0 where
