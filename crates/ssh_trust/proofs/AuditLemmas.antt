@@ -1,4 +1,4 @@
--- One more line, or a piece without one.
+-- What an audit has read, whatever it searches for: no piece, one more line, or a piece without one.
 use Rattle.std.proofs.Common.{◌≡◌, ℕ, zero, suc, ◌+◌, ◌<◌, ◌≤◌, Bool, true, false, List, [], ◌∷◌, ◌++◌, length, take, drop, append_assoc, refl, sym, ap, subst, ◌∙◌, arith}
 use Rattle.std.proofs.lemmas.List.{length-append, take_all, take-append-drop}
 use Rattle.std.proofs.Math.Seq.{take-add}
@@ -10,7 +10,38 @@ use Rattle.ssh_text.proofs.PieceLemmas.{adds-none, adds-one, ends-none, ends-one
 use Rattle.ssh_trust.specs.declared.pieces.Pieces.{Pieces}
 use Rattle.ssh_trust.specs.Answer.{file_limit}
 use Rattle.ssh_trust.specs.Audit.{HasRead, HasTaken}
-use Rattle.ssh_trust.specs.Findings.{IsText}
+use Rattle.ssh_trust.specs.Findings.{Findings, FoundBy, IsText, no_findings}
+use Rattle.ssh_trust.specs.Scan.{after_lines}
+use Rattle.ssh_trust.proofs.ScanLemmas.{after_lines-push}
+
+-- ---- what was found
+
+abbrev findings : {Q S : Type 0} → Q → S → Findings Q S
+findings claim said = record { claim = claim; said = said }
+
+none-found : {Q S : Type 0} (add : Q → S → ℕ × List ℕ → S) (first : Findings Q S) → FoundBy add first [] first
+unfolding after_lines
+none-found add first = refl
+
+-- one more line
+pub found-push : {Q S : Type 0} (add : Q → S → ℕ × List ℕ → S) (first : Findings Q S) (lines : List (ℕ × List ℕ)) (claim : Q) (old new : S) (x : ℕ × List ℕ)
+    → FoundBy add first lines (findings claim old) → new ≡ add claim old x → FoundBy add first (lines ++ x ∷ []) (findings claim new)
+found-push {Q = Q} {S = S} add first lines claim old new x h e =
+    ap (λ (n : S). findings claim n) e
+    ∙ ap (λ (f : Findings Q S). findings f.claim (add f.claim f.said x)) h
+    ∙ ap (λ (n : S). findings first.claim n) (sym (after_lines-push (add first.claim) first.said lines x))
+
+-- no piece yet
+pub stands-new : {Q S : Type 0} (add : Q → S → ℕ × List ℕ → S) (nothing : S) (claim : Q) (first : Findings Q S) (audit : Pieces (Findings Q S))
+    → first ≡ no_findings nothing claim → (FoundBy add first [] first → HasRead (FoundBy add) first audit []) → audit.failed ≡ false
+    → HasTaken (FoundBy add) (no_findings nothing claim) audit []
+stands-new {Q = Q} {S = S} add nothing claim first audit e read sound = record {
+  read = subst (λ (f : Findings Q S). HasRead (FoundBy add) f audit []) e (read (none-found add first));
+  short = omega arith;
+  sound = sound;
+}
+
+-- ---- lines and pieces
 
 -- a line that is ready is the last one, with its text
 pub record Ready (bytes : List ℕ) (number : ℕ) (line : Line) : Type 0 where

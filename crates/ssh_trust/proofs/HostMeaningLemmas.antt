@@ -245,15 +245,3 @@ pub host_means : (file : List ℕ) (claim : HostClaim) (vouched : List Signed) �
 unfolding host_decision host_scan_of
 host_means file claim vouched bytes =
     means-by file claim vouched (reasons_of (map (host_line_verdict claim) (lines_of file))) bytes _ refl _ refl _ refl
-
--- ---- the answer
-
-answer_means : (file : List ℕ) (claim : HostClaim) (vouched : List Signed) (d : Decision) → AreBytes file
-    → host_answer file claim vouched ≡ Ok d → HostMeans file claim vouched d
-answer_means file claim vouched d bytes h =
-    subst (λ (x : Decision). HostMeans file claim vouched x) (answer-by (nat_lt file_limit (length file)) (host_decision file claim vouched) d h)
-    (host_means file claim vouched bytes)
-
-pub host_claimed_means : (r : Result HostClaim AuditError) (claim : HostClaim) (file : List ℕ) (vouched : List Signed) (d : Decision) → r ≡ Ok claim → AreBytes file
-    → host_answer file claim vouched ≡ Ok d → OfClaim r (λ c. HostMeans file c vouched d)
-host_claimed_means r claim file vouched d e bytes h = rw e (answer_means file claim vouched d bytes h)

@@ -5,13 +5,9 @@ use Rattle.ssh_lines.specs.Text.{lines_of, numbered}
 use Rattle.ssh_offers.specs.HostClaim.{HostClaim}
 use Rattle.ssh_trust.specs.declared.host_scan.HostScan.{HostScan}
 use Rattle.ssh_trust.specs.declared.scan.Scan.{Scan}
-use Rattle.ssh_trust.specs.Scan.{scan_of, scanned}
+use Rattle.ssh_trust.specs.Scan.{after_lines, scan_of}
 use Rattle.ssh_trust.specs.HostScan.{empty_host_scan, first_number, first_so_far, host_line_verdict, host_scan_line, host_scan_of, is_blind, number_at, revokes_by}
-use Rattle.ssh_trust.proofs.ScanLemmas.{scanned-scan_of}
-
-unfoldable pub host_scanned : HostClaim → HostScan → List (ℕ × List ℕ) → HostScan
-host_scanned claim s [] = s
-host_scanned claim s (x ∷ xs) = host_scanned claim (host_scan_line claim s x) xs
+use Rattle.ssh_trust.proofs.ScanLemmas.{scanned, scanned-scan_of}
 
 -- ---- its three parts
 
@@ -35,19 +31,20 @@ unfolding first_after
 first-numbered passes n [] = refl
 first-numbered passes n (line ∷ lines) = first-by passes n lines (numbered (n + 1) lines) (passes line) (first-numbered passes (n + 1) lines)
 
-parts : (claim : HostClaim) (s : HostScan) (xs : List (ℕ × List ℕ)) → host_scanned claim s xs ≡ record {
+parts : (claim : HostClaim) (s : HostScan) (xs : List (ℕ × List ℕ)) → after_lines (host_scan_line claim) s xs ≡ record {
   admission = scanned number_at (host_line_verdict claim) s.admission xs;
   revoked = first_after s.revoked (revokes_by claim) xs;
   blind = first_after s.blind is_blind xs;
 }
-unfolding host_scanned scanned first_after
+unfolding after_lines first_after
 parts claim s [] = refl
 parts claim s (x ∷ xs) = parts claim (host_scan_line claim s x) xs
 
 host_scan : Scan ℕ → Option ℕ → Option ℕ → HostScan
 host_scan admission revoked blind = record { admission = admission; revoked = revoked; blind = blind }
 
-pub host_scanned-all : (claim : HostClaim) (file : List ℕ) → host_scanned claim empty_host_scan (numbered 1 (lines_of file)) ≡ host_scan_of claim file
+-- all lines of a file
+pub host_scanned-all : (claim : HostClaim) (file : List ℕ) → after_lines (host_scan_line claim) empty_host_scan (numbered 1 (lines_of file)) ≡ host_scan_of claim file
 unfolding host_scan_of host_scan
 host_scanned-all claim file =
     parts claim empty_host_scan (numbered 1 (lines_of file))
@@ -57,15 +54,3 @@ host_scanned-all claim file =
     (first-numbered (revokes_by claim) 1 (lines_of file))
     ∙ ap (λ (b : Option ℕ). host_scan (scan_of number_at (map (host_line_verdict claim) (lines_of file))) (first_number (revokes_by claim) 1 (lines_of file)) b)
     (first-numbered is_blind 1 (lines_of file))
-
--- ---- what a loop over the lines keeps
-
-pub host_scan_next : (claim : HostClaim) (s t : HostScan) (n : ℕ) (line : List ℕ) (lines rest : List (ℕ × List ℕ)) (whole : HostScan)
-    → lines ≡ (n, line) ∷ rest → t ≡ host_scan_line claim s (n, line) → host_scanned claim s lines ≡ whole → host_scanned claim t rest ≡ whole
-unfolding host_scanned
-host_scan_next claim s t n line lines rest whole first next kept =
-    ap (λ (x : HostScan). host_scanned claim x rest) next ∙ ap (host_scanned claim s) (sym first) ∙ kept
-
-pub host_scan_ended : (claim : HostClaim) (s : HostScan) (lines : List (ℕ × List ℕ)) (whole : HostScan) → lines ≡ [] → host_scanned claim s lines ≡ whole → s ≡ whole
-unfolding host_scanned
-host_scan_ended claim s lines whole none kept = ap (host_scanned claim s) (sym none) ∙ kept

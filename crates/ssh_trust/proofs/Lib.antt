@@ -1,9 +1,11 @@
 pub mod ScanLemmas
 pub mod AuditLemmas
 pub mod LongLines
-pub mod LoginAuditLemmas
 pub mod HostScanLemmas
 pub mod CandidateLemmas
+pub mod AnswerLemmas
+pub mod LoginAuditLemmas
+pub mod HostAuditLemmas
 pub mod MeaningLemmas
 pub mod HostMeaningLemmas
 pub mod SignatureLemmas

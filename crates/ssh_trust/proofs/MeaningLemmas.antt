@@ -96,17 +96,3 @@ means-by file claim vouched reasons bytes (Some c) some = means-at file claim vo
 pub login_means : (file : List ℕ) (claim : LoginClaim) (vouched : List Signed) → AreBytes file → LoginMeans file claim vouched (login_decision file claim vouched)
 unfolding login_decision
 login_means file claim vouched bytes = means-by file claim vouched (reasons_of (verdicts claim file)) bytes _ refl
-
--- ---- the answer
-
--- an answer that is a decision means what is said of it
-pub answer_means : (file : List ℕ) (claim : LoginClaim) (vouched : List Signed) (d : Decision) → AreBytes file
-    → login_answer file claim vouched ≡ Ok d → LoginMeans file claim vouched d
-answer_means file claim vouched d bytes h =
-    subst (λ (x : Decision). LoginMeans file claim vouched x) (answer-by (nat_lt file_limit (length file)) (login_decision file claim vouched) d h)
-    (login_means file claim vouched bytes)
-
--- the same of the claim that a query gives
-pub claimed_means : (r : Result LoginClaim AuditError) (claim : LoginClaim) (file : List ℕ) (vouched : List Signed) (d : Decision) → r ≡ Ok claim → AreBytes file
-    → login_answer file claim vouched ≡ Ok d → OfClaim r (λ c. LoginMeans file c vouched d)
-claimed_means r claim file vouched d e bytes h = rw e (answer_means file claim vouched d bytes h)

@@ -10,7 +10,7 @@ use Rattle.ssh_rules.specs.declared.verdict.LineVerdict.{LineVerdict}
 use Rattle.ssh_rules.specs.declared.verdict.LineVerdict.TheVariants.{Admits, Passes}
 use Rattle.ssh_trust.specs.declared.scan.Scan.{Scan}
 use Rattle.ssh_trust.specs.Candidate.{admits, before_candidate, first_admitted, reasons_from, with_reason}
-use Rattle.ssh_trust.specs.Scan.{empty_scan, listed_with, scan_line, scan_of, scan_verdict, scanned}
+use Rattle.ssh_trust.specs.Scan.{after_lines, empty_scan, listed_with, scan_line, scan_of, scan_verdict}
 
 abbrev scan_with : {C : Type 0} → Option C → List (ℕ × Reason) → Scan C
 scan_with candidate reasons = record { candidate = candidate; reasons = reasons }
@@ -18,18 +18,21 @@ scan_with candidate reasons = record { candidate = candidate; reasons = reasons 
 -- ---- the scan of numbered lines
 
 -- one more line
-pub scanned-push : {E C : Type 0} (give : ℕ × E → C) (verdict : List ℕ → LineVerdict E) (s : Scan C) (xs : List (ℕ × List ℕ)) (x : ℕ × List ℕ)
-    → scanned give verdict s (xs ++ x ∷ []) ≡ scan_line give verdict (scanned give verdict s xs) x
-unfolding scanned
-scanned-push give verdict s [] x = refl
-scanned-push give verdict s (y ∷ xs) x = scanned-push give verdict (scan_line give verdict s y) xs x
+pub after_lines-push : {S : Type 0} (add : S → ℕ × List ℕ → S) (s : S) (xs : List (ℕ × List ℕ)) (x : ℕ × List ℕ)
+    → after_lines add s (xs ++ x ∷ []) ≡ add (after_lines add s xs) x
+unfolding after_lines
+after_lines-push add s [] x = refl
+after_lines-push add s (y ∷ xs) x = after_lines-push add (add s y) xs x
+
+abbrev pub scanned : {E C : Type 0} → (ℕ × E → C) → (List ℕ → LineVerdict E) → Scan C → List (ℕ × List ℕ) → Scan C
+scanned give verdict s xs = after_lines (scan_line give verdict) s xs
 
 line-kept : {E C : Type 0} (give : ℕ × E → C) (verdict : List ℕ → LineVerdict E) (s : Scan C) (x : ℕ × List ℕ) → is_some s.candidate ≡ true → scan_line give verdict s x ≡ s
 line-kept give verdict s x h = rw h refl
 
 -- lines after the candidate change nothing
 scanned-kept : {E C : Type 0} (give : ℕ × E → C) (verdict : List ℕ → LineVerdict E) (s : Scan C) (xs : List (ℕ × List ℕ)) → is_some s.candidate ≡ true → scanned give verdict s xs ≡ s
-unfolding scanned
+unfolding after_lines
 scanned-kept give verdict s [] h = refl
 scanned-kept {E = E} {C = C} give verdict s (x ∷ xs) h = ap (λ (t : Scan C). scanned give verdict t xs) (line-kept give verdict s x h) ∙ scanned-kept give verdict s xs h
 
@@ -75,7 +78,7 @@ verdict-by {E = E} give verdict (Passes why) rs n lines rest le h =
 
 scanned-by : {E C : Type 0} (give : ℕ × E → C) (verdict : List ℕ → LineVerdict E) (rs : List (ℕ × Reason)) (n : ℕ) (lines : List (List ℕ)) → length rs ≤ 100
     → scanned give verdict (scan_with None rs) (numbered n lines) ≡ scan_by give rs n (map verdict lines)
-unfolding scanned
+unfolding after_lines
 scanned-by give verdict rs n [] le = rw (append-nil, take_all 100 rs le) refl
 scanned-by give verdict rs n (line ∷ lines) le =
     verdict-by give verdict (verdict line) rs n (map verdict lines) (numbered (n + 1) lines) le

@@ -1,14 +1,15 @@
 -- What an audit of a file that comes in pieces stands for.
 use Rattle.std.specs.Prelude.{◌≡◌, ℕ, ◌≤◌, false, List, length}
+use Rattle.ssh_offers.specs.HostClaim.{HostClaim}
 use Rattle.ssh_offers.specs.LoginClaim.{LoginClaim}
+use Rattle.ssh_rules.specs.declared.reason.Reason.{Reason}
 use Rattle.ssh_text.specs.Scan as text
 use Rattle.ssh_text.specs.Scan.{whole_lines}
 use Rattle.ssh_text.specs.Text.{line_limit, numbered}
 use Rattle.ssh_trust.specs.declared.pieces.Pieces.{Pieces}
-use Rattle.ssh_trust.specs.declared.scan.Scan.{Scan}
 use Rattle.ssh_trust.specs.Answer.{file_limit}
 use Rattle.ssh_trust.specs.Candidate.{reason_limit}
-use Rattle.ssh_trust.specs.Findings.{Findings, LoginFindings, LoginFound, no_login_findings}
+use Rattle.ssh_trust.specs.Findings.{HostFindings, HostFound, LoginFindings, LoginFound, host_reasons, login_reasons, no_host_findings, no_login_findings}
 
 -- the scanner used these bytes, and their whole lines led from the first findings to those of now
 pub record HasRead {T : Type 0} (Found : T → List (ℕ × List ℕ) → T → Type 0) (first : T) (audit : Pieces T) (bytes : List ℕ) : Type 0 where
@@ -22,9 +23,9 @@ pub record HasTaken {T : Type 0} (Found : T → List (ℕ × List ℕ) → T →
   pub sound : audit.failed ≡ false
 
 -- one unfinished line at most is kept, and no more reasons than are listed
-pub record IsBounded {Q C : Type 0} (audit : Pieces (Findings Q (Scan C))) : Type 0 where
+pub record IsBounded {T : Type 0} (reasons_of : T → List (ℕ × Reason)) (audit : Pieces T) : Type 0 where
   pub line : length audit.scanner.kept.bytes ≤ line_limit
-  pub reasons : length audit.search.said.reasons ≤ reason_limit
+  pub reasons : length (reasons_of audit.search) ≤ reason_limit
 
 -- ---- logins
 
@@ -34,3 +35,19 @@ LoginState = Pieces LoginFindings
 -- the audit of this claim stands for these bytes
 abbrev pub LoginStandsFor : LoginState → LoginClaim → List ℕ → Type 0
 LoginStandsFor audit claim bytes = HasTaken LoginFound (no_login_findings claim) audit bytes
+
+abbrev pub IsLoginBounded : LoginState → Type 0
+IsLoginBounded audit = IsBounded login_reasons audit
+
+-- ---- hosts' keys
+
+abbrev pub HostState : Type 0
+HostState = Pieces HostFindings
+
+-- the audit of this claim stands for these bytes
+abbrev pub HostStandsFor : HostState → HostClaim → List ℕ → Type 0
+HostStandsFor audit claim bytes = HasTaken HostFound (no_host_findings claim) audit bytes
+
+-- besides, a candidate's number and those of two lines are kept
+abbrev pub IsHostBounded : HostState → Type 0
+IsHostBounded audit = IsBounded host_reasons audit

@@ -28,7 +28,7 @@ scan_verdict give s n (Passes why) = record s { reasons = listed_with s.reasons 
 abbrev pub scan_line : {E C : Type 0} → (ℕ × E → C) → (List ℕ → LineVerdict E) → Scan C → ℕ × List ℕ → Scan C
 scan_line give verdict s x = if is_some s.candidate then s else scan_verdict give s x.0 (verdict x.1)
 
--- all of these lines, after what was scanned
-unfoldable pub scanned : {E C : Type 0} → (ℕ × E → C) → (List ℕ → LineVerdict E) → Scan C → List (ℕ × List ℕ) → Scan C
-scanned give verdict s [] = s
-scanned give verdict s (x ∷ xs) = scanned give verdict (scan_line give verdict s x) xs
+-- all of these lines, after what was said so far, by what one line adds
+unfoldable pub after_lines : {S : Type 0} → (S → ℕ × List ℕ → S) → S → List (ℕ × List ℕ) → S
+after_lines add s [] = s
+after_lines add s (x ∷ xs) = after_lines add (add s x) xs

@@ -1,20 +1,32 @@
 //! What the lines of a known_hosts file say to a host's key: one line after the other. The whole
 //! file counts, for a later line may revoke.
 
-ghost use Rattle.std.specs.Prelude.{◌≡◌, IfOk, OnOk};
-ghost use Rattle.ssh_trust.specs.Scan.{scan_verdict};
+ghost use Rattle.std.specs.Prelude.{◌≡◌, ◌≤◌, ℕ, List, length, IfOk, OnOk};
+ghost use Rattle.ssh_lines.specs.KnownGrammar.{known_line};
+ghost use Rattle.ssh_lines.specs.KnownSeen.{known_seen};
+ghost use Rattle.ssh_offers.specs.ClaimViews.{host_claim_of};
+ghost use Rattle.ssh_offers.specs.Evidence.{host_evidence};
+ghost use Rattle.ssh_trust.specs.Candidate.{reason_limit};
+ghost use Rattle.ssh_trust.specs.Findings.{HostFound, IsText, host_reasons, no_host_findings};
+ghost use Rattle.ssh_trust.specs.HostDecision.{host_decision_of};
 ghost use Rattle.ssh_trust.specs.HostScan.{
   empty_host_scan,
   first_so_far,
   host_scan_line,
-  host_scan_of,
   number_at,
 };
+ghost use Rattle.ssh_trust.specs.Scan.{scan_verdict};
 
+use crate::decision::Decision;
+use crate::host_decide::decide_host;
+use crate::pieces::Search;
 use crate::scan::Scan;
-use ssh_lines::{KeyBuffer, KnownEntryView, Lines, read_known_view};
+use ssh_lines::{KeyBuffer, KnownEntryView, KnownLineView, read_known_view};
+use ssh_offers::{HostClaimView, Signed, host_evidence};
 use ssh_rules::{LineVerdict, SoughtHost, host_verdict, may_revoke};
+use ssh_text::Line;
 use std::alloc::{AllocError, Global};
+use std::marker::Model;
 
 /// What the lines so far say.
 #[derive(Drop)]
@@ -45,7 +57,10 @@ fn take_verdict(
     number: u64,
     verdict: LineVerdict<KnownEntryView<'_>>,
 ) -> Result<(), AllocError>
-    ensures { OnOk result (scan.new ≡ scan_verdict number_at scan.old number verdict.entry) }
+    ensures value { OnOk result
+        (scan.new ≡ scan_verdict number_at scan.old number verdict.entry) }
+    ensures bounded { length scan.old.reasons ≤ reason_limit
+        → length scan.new.reasons ≤ reason_limit }
 {
     match verdict {
         LineVerdict::Admits(_) => {
@@ -56,6 +71,17 @@ fn take_verdict(
             scan.list(number, reason)?;
             Ok(())
         }
+    }
+}
+
+/// What a line says; one that is longer than a line may be is a revocation that cannot be read.
+#[tactic(auto, using(crate::proofs::LongLines::long_known))]
+fn view_of<'a>(line: Line<'a>, buffer: &'a mut KeyBuffer) -> KnownLineView<'a>
+    ensures { (text : List ℕ) → IsText line.entry text → known_seen result ≡ known_line text }
+{
+    match line {
+        Line::Whole(text) => read_known_view(text, buffer),
+        Line::TooLong => KnownLineView::RevokedUnreadable,
     }
 }
 
@@ -77,13 +103,17 @@ impl HostScan {
         &mut self,
         alloc: Global,
         number: u64,
-        line: &[u8],
+        line: Line<'_>,
         buffer: &mut KeyBuffer,
         sought: &SoughtHost<'_>,
     ) -> Result<(), AllocError>
-        ensures { OnOk result (self.new ≡ host_scan_line sought.now self.old (number, line.now)) }
+        ensures value { OnOk result ((text : List ℕ)
+            → IsText line.entry text
+            → self.new ≡ host_scan_line sought.now self.old (number, text)) }
+        ensures bounded { length self.old.admission.reasons ≤ reason_limit
+            → length self.new.admission.reasons ≤ reason_limit }
     {
-        let view = read_known_view(line, buffer);
+        let view = view_of(line, buffer);
         self.revoked = first_so_far(self.revoked, number, sought.is_revoked_by(&view));
         self.blind = first_so_far(self.blind, number, may_revoke(&view));
         if self.admission.candidate.is_some() {
@@ -95,18 +125,67 @@ impl HostScan {
     }
 }
 
-/// What the lines of a file say to a host's key.
-pub(crate) fn scan_hosts(
+/// The search for the line that trusts a host's key, and for those that revoke it. Contracts see
+/// its claim, and what the lines say.
+#[derive(Drop)]
+pub(crate) struct HostSearch<'a> {
     alloc: Global,
-    file: &[u8],
-    sought: &SoughtHost<'_>,
-) -> Result<HostScan, AllocError>
-    ensures { IfOk result (λ found. found ≡ host_scan_of sought.now file.now) }
-{
-    let mut scan = HostScan::new(alloc);
-    let mut buffer = KeyBuffer::new(alloc)?;
-    for (number, line) in Lines::new(file) {
-        scan.take_line(alloc, number, line, &mut buffer, sought)?;
+    claim: HostClaimView<'a>,
+    sought: SoughtHost<'a>,
+    buffer: KeyBuffer,
+    scan: HostScan,
+}
+
+impl<'a> Model for HostSearch<'a> {
+    ghost use Rattle.std.specs.Prelude.{◌≡◌};
+    ghost use Rattle.ssh_offers.specs.ClaimViews.{host_claim_of};
+    ghost use Rattle.ssh_trust.specs.Findings.{HostFindings};
+
+    ghost Value = { HostFindings };
+
+    ghost view = { λ s. record { claim = host_claim_of s.claim; said = s.scan } };
+
+    ghost invariant = { λ s. s.sought ≡ host_claim_of s.claim };
+}
+
+impl<'a> HostSearch<'a> {
+    /// No line yet.
+    pub(crate) fn new(
+        alloc: Global,
+        claim: &HostClaimView<'a>,
+    ) -> Result<HostSearch<'a>, AllocError>
+        ensures { IfOk result (λ search. search ≡ no_host_findings (host_claim_of claim.now)) }
+    {
+        let sought = SoughtHost::new(alloc, claim)?;
+        let buffer = KeyBuffer::new(alloc)?;
+        Ok(HostSearch {
+            alloc,
+            claim: *claim,
+            sought,
+            buffer,
+            scan: HostScan::new(alloc),
+        })
     }
-    Ok(scan)
+
+    /// The decision by what the lines say.
+    pub(crate) fn decide(self, vouched: &[Signed]) -> Result<Decision, AllocError>
+        ensures { IfOk result (λ decision.
+            decision ≡ host_decision_of self.entry.said vouched.now
+            (host_evidence self.entry.claim)) }
+    {
+        let evidence = host_evidence(self.alloc, &self.claim)?;
+        Ok(decide_host(self.scan, evidence, vouched))
+    }
+}
+
+impl<'a> Search for HostSearch<'a> {
+    ghost found = { HostFound };
+
+    ghost is_bounded = { λ s. length (host_reasons s) ≤ reason_limit };
+
+    fn take_line(&mut self, number: u64, line: Line<'_>) -> Result<(), AllocError> {
+        self.scan
+            .take_line(self.alloc, number, line, &mut self.buffer, &self.sought)?;
+        Ok(())
+    }
 }

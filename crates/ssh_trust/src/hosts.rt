@@ -2,38 +2,15 @@
 
 ghost use Rattle.std.specs.Prelude.{◌≡◌, IfOk, Ok};
 ghost use Rattle.ssh_offers.specs.Query.{host_check_of};
-ghost use Rattle.ssh_offers.specs.ClaimViews.{host_claim_of};
 ghost use Rattle.ssh_offers.specs.HostClaim.{host_claim};
 ghost use Rattle.ssh_offers.specs.Evidence.{host_evidence};
 ghost use Rattle.ssh_trust.specs.HostDecision.{HostMeans};
 ghost use Rattle.ssh_trust.specs.Answer.{Gives, OfClaim, RefusesAs, host_answer};
 
 use crate::decision::Decision;
-use crate::host_decide::decide_host;
-use crate::host_scan::scan_hosts;
-use crate::pieces::FILE_LIMIT;
+use crate::host_audit::HostAudit;
 use ssh_offers::{AuditError, HostClaimView, HostQuery, Items, Signed, host_evidence};
-use ssh_rules::SoughtHost;
 use std::alloc::Global;
-
-/// Answers a claim.
-#[tactic(auto, unfolding(crate::specs::HostDecision::host_decision))]
-fn answer_claim(
-    alloc: Global,
-    file: &[u8],
-    claim: &HostClaimView<'_>,
-    vouched: &[Signed],
-) -> Result<Decision, AuditError>
-    ensures { Gives (host_answer file.now (host_claim_of claim.now) vouched.now) result }
-{
-    if file.len() > FILE_LIMIT {
-        return Err(AuditError::FileTooLong);
-    }
-    let sought = SoughtHost::new(alloc, claim)?;
-    let scan = scan_hosts(alloc, file, &sought)?;
-    let evidence = host_evidence(alloc, claim)?;
-    Ok(decide_host(scan, evidence, vouched))
-}
 
 /// Answers a host's key by a whole known_hosts file: granted by the first line that admits it,
 /// where no line of the whole file revokes the key or its certificate's signer, none may revoke any
@@ -56,8 +33,9 @@ pub fn host(
     ensures answer { OfClaim (host_claim (host_check_of query.entry.now))
         (λ claim. Gives (host_answer file.now claim vouched.now) result) }
 {
-    let claim = HostClaimView::read(query)?;
-    let decision = answer_claim(alloc, file, &claim, vouched)?;
+    let mut audit = HostAudit::new(alloc, query)?;
+    audit.feed(file)?;
+    let decision = audit.finish(vouched)?;
     Ok(decision)
 }
 

@@ -5,6 +5,7 @@
 mod counted;
 mod decide;
 mod decision;
+mod host_audit;
 mod host_decide;
 mod host_scan;
 mod hosts;
@@ -25,6 +26,7 @@ mod tests;
 
 pub use counted::Counted;
 pub use decision::{Cause, Decision};
+pub use host_audit::HostAudit;
 pub use hosts::{evidence_of_host, host};
 pub use laws::{decision_rule, host_decision_rule};
 pub use login_audit::LoginAudit;

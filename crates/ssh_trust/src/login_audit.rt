@@ -27,7 +27,7 @@ ghost use Rattle.ssh_offers.specs.declared.error.AuditError.TheVariants.{
 ghost use Rattle.ssh_offers.specs.LoginClaim.{LoginClaim, login_claim};
 ghost use Rattle.ssh_offers.specs.Query.{login_of};
 ghost use Rattle.ssh_trust.specs.Answer.{Gives, OfClaim, RefusesAs, file_limit, login_answer};
-ghost use Rattle.ssh_trust.specs.Audit.{IsBounded, LoginStandsFor};
+ghost use Rattle.ssh_trust.specs.Audit.{IsLoginBounded, LoginStandsFor};
 ghost use Rattle.ssh_trust.specs.Reads.{IsFedBy};
 
 use crate::decision::Decision;
@@ -46,13 +46,13 @@ pub struct LoginAudit<'a> {
 }
 
 impl<'a> Model for LoginAudit<'a> {
-    ghost use Rattle.ssh_trust.specs.Audit.{IsBounded, LoginState};
+    ghost use Rattle.ssh_trust.specs.Audit.{IsLoginBounded, LoginState};
 
     ghost Value = { LoginState };
 
     ghost view = { λ s. s.pieces };
 
-    ghost invariant = { λ s. IsBounded s.pieces };
+    ghost invariant = { λ s. IsLoginBounded s.pieces };
 }
 
 impl<'a> LoginAudit<'a> {
@@ -70,7 +70,7 @@ impl<'a> LoginAudit<'a> {
         ensures else_memory { OfClaim (login_claim (login_of query.entry.now))
             (λ claim. OnErr result (result ≡ Err Memory)) }
         // It keeps no more than it may.
-        ensures bounded { IfOk result (λ audit. IsBounded audit) }
+        ensures bounded { IfOk result (λ audit. IsLoginBounded audit) }
     {
         let claim = LoginClaimView::read(query)?;
         let search = LoginSearch::new(alloc, &claim)?;
@@ -100,7 +100,7 @@ impl<'a> LoginAudit<'a> {
         // A refusal is for ever.
         ensures left { OnErr result (self.new.failed ≡ true) }
         // The audit keeps no more than it may.
-        ensures bounded { IsBounded self.new }
+        ensures bounded { IsLoginBounded self.new }
     {
         self.pieces.feed(piece)?;
         Ok(())
@@ -120,7 +120,7 @@ impl<'a> LoginAudit<'a> {
         // A refusal is for ever.
         ensures left { OnErr result (self.new.failed ≡ true) }
         // The audit keeps no more than it may.
-        ensures bounded { IsBounded self.new }
+        ensures bounded { IsLoginBounded self.new }
     {
         self.pieces.feed_from(reader)
     }

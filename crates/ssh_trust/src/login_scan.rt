@@ -8,7 +8,7 @@ ghost use Rattle.ssh_offers.specs.ClaimViews.{claim_of};
 ghost use Rattle.ssh_offers.specs.Evidence.{login_evidence};
 ghost use Rattle.ssh_trust.specs.Candidate.{reason_limit};
 ghost use Rattle.ssh_trust.specs.Decision.{candidate_at, decision_of, line_verdict};
-ghost use Rattle.ssh_trust.specs.Findings.{IsText, LoginFound, no_login_findings};
+ghost use Rattle.ssh_trust.specs.Findings.{IsText, LoginFound, login_reasons, no_login_findings};
 ghost use Rattle.ssh_trust.specs.Scan.{scan_line, scan_verdict};
 
 use crate::decide::decide;
@@ -166,7 +166,7 @@ impl<'a> LoginSearch<'a> {
 impl<'a> Search for LoginSearch<'a> {
     ghost found = { LoginFound };
 
-    ghost is_bounded = { λ s. length s.said.reasons ≤ reason_limit };
+    ghost is_bounded = { λ s. length (login_reasons s) ≤ reason_limit };
 
     fn take_line(&mut self, number: u64, line: Line<'_>) -> Result<(), AllocError> {
         take_line(

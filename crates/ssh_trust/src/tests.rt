@@ -4,7 +4,7 @@
 ghost use Rattle.std.specs.Prelude.{◌<◌, ◌^◌, length};
 
 use crate::{
-    Cause, Decision, HostQuery, LoginAudit, LoginQuery, Signed, evidence_of_host,
+    Cause, Decision, HostAudit, HostQuery, LoginAudit, LoginQuery, Signed, evidence_of_host,
     evidence_of_login, host, login,
 };
 use jiff::tz::TimeZone;
@@ -131,6 +131,33 @@ fn trusts_a_host_that_is_not_revoked(rt: HostRuntime) -> Result<(), Fail> {
         match host(alloc, file, &query, evidence.as_slice())? {
             Decision::Denied { why, .. } => assert_eq!(rt; why, cause),
             Decision::Granted { .. } => return Err(Fail::new("denied")),
+        }
+    }
+    Ok(())
+}
+
+/// The line that is granted, or why none is.
+fn told(decision: &Decision) -> (u64, Option<Cause>) {
+    match decision {
+        Decision::Granted { line, .. } => (*line, None),
+        Decision::Denied { why, .. } => (0, Some(*why)),
+    }
+}
+
+#[test]
+fn answers_a_host_in_pieces(rt: HostRuntime) -> Result<(), Fail> {
+    let alloc = rt.alloc();
+    let query = host_query();
+    let evidence = evidence_of_host(alloc, &query)?;
+    for file in [KNOWN, REVOKED, BLIND] {
+        let whole = host(alloc, file, &query, evidence.as_slice())?;
+        for less in 0..file.len() {
+            let mut audit = HostAudit::new(alloc, &query)?;
+            for piece in file.chunks(less + 1) {
+                audit.feed(piece)?;
+            }
+            let decision = audit.finish(evidence.as_slice())?;
+            assert_eq!(rt; told(&decision), told(&whole));
         }
     }
     Ok(())

@@ -2,7 +2,8 @@ use Rattle.std.proofs.Common.{◌∙◌, sym, subst}
 use Rattle.std.proofs.lemmas.Result.{err_from_is_err_and}
 use Rattle.ssh_trust.specs.Audit.{LoginStandsFor, LoginState}
 use Rattle.ssh_trust.specs.Findings.{no_login_findings}
-use Rattle.ssh_trust.proofs.LoginAuditLemmas.{decided, err-inj}
+use Rattle.ssh_trust.proofs.AnswerLemmas.{err-inj}
+use Rattle.ssh_trust.proofs.LoginAuditLemmas.{login-decided}
 use Rattle.ssh_trust.proofs.login_audit.LoginAudit.finish.Goals as goal
 
 pub returns-in_err-search-clause-answer : goal.returns-in_err-search-clause-answer
@@ -15,5 +16,5 @@ returns-in_err-search-clause-answer c claim bytes h =
 pub returns-clause-answer : goal.returns-clause-answer
 returns-clause-answer c claim bytes h =
     let stands = subst (λ (s : LoginState). LoginStandsFor s claim bytes) (sym c.self.view_is) h in
-    decided bytes claim c.args.vouched.now c.in_ok-search.search c.in_ok-decision.decision stands.short
+    login-decided bytes claim c.args.vouched.now c.in_ok-search.search c.in_ok-decision.decision stands.short
     (c.in_ok-search.ensures.found (no_login_findings claim) bytes stands.read) c.in_ok-decision.ensures

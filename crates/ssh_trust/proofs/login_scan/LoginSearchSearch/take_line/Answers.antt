@@ -1,10 +1,10 @@
 use Rattle.std.proofs.Common.{sym, subst}
 use Rattle.ssh_offers.specs.ClaimViews.{claim_of}
-use Rattle.ssh_trust.specs.Findings.{LoginFindings, LoginFound}
-use Rattle.ssh_trust.proofs.LoginAuditLemmas.{found-push}
+use Rattle.ssh_trust.specs.Findings.{LoginFindings, LoginFound, login_scan_line}
+use Rattle.ssh_trust.proofs.AuditLemmas.{found-push}
 use Rattle.ssh_trust.proofs.login_scan.LoginSearchSearch.take_line.Goals as goal
 
 pub returns-clause-found : goal.returns-clause-found
 returns-clause-found c text is first lines h =
-    found-push first lines (claim_of c.self.inside.claim) c.self.inside.scan c.take_line.new.scan (c.args.number, text)
+    found-push login_scan_line first lines (claim_of c.self.inside.claim) c.self.inside.scan c.take_line.new.scan (c.args.number, text)
     (subst (λ (s : LoginFindings). LoginFound first lines s) (sym c.self.view_is) h) (c.in_ok-take_line.ensures.value text is)
