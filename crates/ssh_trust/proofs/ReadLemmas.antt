@@ -1,18 +1,18 @@
 -- What a reader gave, read by read, and what is answered on it.
 use Rattle.std.proofs.Common.{◌≡◌, ◌∙◌, ◌+◌, ◌<◌, ◌≤◌, ◌↔◌, ℕ, Bool, true, false, List, [], ◌++◌, length, nat_lt, Option, Some, None, Result, Ok, Err, inl, inr, refl, sym, ap, subst, arith, append-nil, append_assoc}
-use Rattle.std.specs.Prelude.{◌⊎◌, OnOk}
+use Rattle.std.specs.Prelude.{OnErr, OnOk}
 use Rattle.std.specs.Io.KnownBytes.{Consumes, IsAtEnd, Keeps}
-use Rattle.std.proofs.lemmas.Bool.{cases_Bool, ltb-false, ltb-true}
+use Rattle.std.proofs.lemmas.Bool.{cases_Bool, lt-ltb, ltb-false, ltb-true}
 use Rattle.std.proofs.lemmas.List.{length-append}
 use Rattle.ssh_offers.specs.declared.error.AuditError.{AuditError}
 use Rattle.ssh_offers.specs.declared.error.AuditError.TheVariants.{Offer, Signature, WrongAlgorithm, WeakSignature, CertSignature, Address, FileTooLong, Memory, Read, Failed, Body}
 use Rattle.ssh_trust.specs.declared.decision.Decision.{Decision}
 use Rattle.ssh_trust.specs.declared.pieces.Pieces.{Pieces}
-use Rattle.ssh_trust.specs.Answer.{Gives, file_limit, if_short}
+use Rattle.ssh_trust.specs.Answer.{Gives, OfClaim, RefusesAs, file_limit, if_short}
 use Rattle.ssh_trust.specs.Audit.{HasRead, HasTaken}
 use Rattle.ssh_trust.specs.Reads.{AnswersReader, IsFedBy, StopsBy, piece_size}
 use Rattle.ssh_trust.proofs.AuditLemmas.{taken-more}
-use Rattle.ssh_trust.proofs.LoginAuditLemmas.{err-inj}
+use Rattle.ssh_trust.proofs.AnswerLemmas.{err-inj}
 
 -- ---- the bytes that are left
 
@@ -137,30 +137,29 @@ fed-partly Found first audit after bytes piece old now new e h consumed few why 
 
 -- ---- the answer
 
-stopped : (P : Type 0) (new : Option (List ℕ)) (of_file : List ℕ → Result Decision AuditError) (given : List ℕ) (e : AuditError)
-    → ((file : List ℕ) → file_limit < length file → of_file file ≡ Err FileTooLong) → StopsBy P new (0 + length given) (Err e)
-    → (◌≡◌ {A = Result Decision AuditError} (Err e) (Err Read) → ⊥) → Gives (of_file given) (Err e)
-stopped P new of_file given FileTooLong too_long h n = too_long given (omega (arith, h))
-stopped P new of_file given Memory too_long h n = tt
-stopped P new of_file given Read too_long h n = absurd (n refl)
-stopped P new of_file given (Offer x) too_long h n = absurd h
-stopped P new of_file given (Signature x) too_long h n = absurd h
-stopped P new of_file given WrongAlgorithm too_long h n = absurd h
-stopped P new of_file given WeakSignature too_long h n = absurd h
-stopped P new of_file given CertSignature too_long h n = absurd h
-stopped P new of_file given Address too_long h n = absurd h
-stopped P new of_file given Failed too_long h n = absurd h
-stopped P new of_file given (Body x) too_long h n = absurd h
+stopped : (P : Type 0) (new : Option (List ℕ)) (given : List ℕ) (d : Decision) (e : AuditError) → StopsBy P new (0 + length given) (Err e)
+    → (◌≡◌ {A = Result Decision AuditError} (Err e) (Err Read) → ⊥) → Gives (if_short given d) (Err e)
+stopped P new given d FileTooLong h n = rw (lt-ltb file_limit (length given) (omega (arith, h))) refl
+stopped P new given d Memory h n = tt
+stopped P new given d Read h n = absurd (n refl)
+stopped P new given d (Offer x) h n = absurd h
+stopped P new given d (Signature x) h n = absurd h
+stopped P new given d WrongAlgorithm h n = absurd h
+stopped P new given d WeakSignature h n = absurd h
+stopped P new given d CertSignature h n = absurd h
+stopped P new given d Address h n = absurd h
+stopped P new given d Failed h n = absurd h
+stopped P new given d (Body x) h n = absurd h
 
 -- an audit that stopped before the reader's end
-pub answers-stopped : (P : List ℕ → Type 0) (old new : Option (List ℕ)) (of_file : List ℕ → Result Decision AuditError) (e : AuditError)
-    → ((file : List ℕ) → file_limit < length file → of_file file ≡ Err FileTooLong) → IsFedBy P old new 0 (Err e) → AnswersReader old new of_file (Err e)
-answers-stopped P old new of_file e too_long h = record {
+pub answers-stopped : (P : List ℕ → Type 0) (old new : Option (List ℕ)) (decision : List ℕ → Decision) (e : AuditError)
+    → IsFedBy P old new 0 (Err e) → AnswersReader old new (λ file. if_short file (decision file)) (Err e)
+answers-stopped P old new decision e h = record {
   given = h.given;
   consumed = h.consumed;
   bounded = omega (arith, h.bounded);
   to_end = tt;
-  answer = stopped (P h.given) new of_file h.given e too_long h.stops;
+  answer = stopped (P h.given) new h.given (decision h.given) e h.stops;
 }
 
 at-end : (new : Option (List ℕ)) (result : Result Decision AuditError) → IsAtEnd new → OnOk result (IsAtEnd new)
@@ -178,9 +177,26 @@ answers-whole P old new of_file result h answer = record {
   answer = λ _. answer h.given h.stops.0;
 }
 
--- want of memory is no failed read
-pub memory-reads-not : (e : AuditError) → e ≡ Memory → e ≡ Read → ⊥
-memory-reads-not e is r = let bad : Memory ≡ Read = sym is ∙ r in cc
+-- ---- where no audit was made, or no decision
+
+abbrev refused-by : {Q : Type 0} → AuditError → Result Q AuditError
+refused-by e = Err e
+
+-- the refusal of an offer, or of memory, is no failed read
+pub unmade-reads-not : {Q : Type 0} (A : Type 0) (r : Result Q AuditError) (e : AuditError) → (r ≡ Err Read → ⊥) → RefusesAs {A = A} r (Err e)
+    → OfClaim r (λ _. ◌≡◌ {A = Result A AuditError} (Err e) (Err Memory)) → e ≡ Read → ⊥
+unmade-reads-not A (Ok claim) e claimed refused memory read = let bad : Memory ≡ Read = sym (err-inj e Memory memory) ∙ read in cc
+unmade-reads-not {Q = Q} A (Err f) e claimed refused memory read =
+    claimed (ap (λ (x : AuditError). refused-by {Q = Q} x) (sym (err-inj e f refused) ∙ read))
+
+-- where an audit was made, the offer is not refused
+pub on-claim : {Q A : Type 0} (r : Result Q AuditError) (audit : A) → RefusesAs r (Ok audit) → ((claim : Q) → r ≡ Ok claim → ⊥) → ⊥
+on-claim (Ok claim) audit h k = k claim refl
+on-claim (Err e) audit h k = cc
+
+pub made-claims : {Q A : Type 0} (r : Result Q AuditError) (audit : A) (P : Type 0) → RefusesAs r (Ok audit) → OnErr r P
+made-claims (Ok claim) audit P h = tt
+made-claims (Err e) audit P h = cc
 
 -- a file's answer is no failed read
 pub answers-not : (file : List ℕ) (d : Decision) → Gives (if_short file d) (Err Read) → ⊥

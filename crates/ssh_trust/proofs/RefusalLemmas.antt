@@ -15,9 +15,10 @@ use Rattle.ssh_patterns.specs.AddressReading.{address_of}
 use Rattle.ssh_offers.specs.declared.error.AuditError.{AuditError}
 use Rattle.ssh_offers.specs.declared.error.AuditError.TheVariants.{Offer as BadOffer, Signature, WrongAlgorithm, WeakSignature, Read}
 use Rattle.ssh_offers.specs.Algorithms.{fit_test, other_algorithm, pairing_test, rsa_sha256_name, rsa_sha512_name, is_weak_name, signer_test, type_name, wanted_algorithm}
-use Rattle.ssh_offers.specs.LoginClaim.{LoginClaim, address_test, login_claim}
+use Rattle.ssh_offers.specs.HostClaim.{fitting_test, host_claim}
+use Rattle.ssh_offers.specs.LoginClaim.{address_test, login_claim}
 use Rattle.ssh_offers.specs.Offer.{Offer, certified, is_certified, offer_in, plain, plain_key}
-use Rattle.ssh_offers.specs.Query.{Login}
+use Rattle.ssh_offers.specs.Query.{HostCheck, Login}
 use Rattle.ssh_offers.specs.Refusal.{or_refuse}
 
 abbrev IsNoRead : AuditError → Type 0
@@ -92,10 +93,28 @@ login-reads-not q =
     (λ _. bound (signer_test offer) _ (signed offer)
     (λ _. bound (address_test (address_of q.address)) _ (addressed (address_of q.address)) (λ address. tt))))))
 
--- ----
+-- ---- the tests of a host's offer
+
+served : (fit : Fit) → ReadsNot (fitting_test fit)
+served Yes = tt
+served Weak = tt
+served No = tt
+
+host-reads-not : (q : HostCheck) → ReadsNot (host_claim q)
+unfolding host_claim
+host-reads-not q =
+    bound (or_refuse BadOffer (offer_in q.offered)) _ (offered BadOffer (offer_in q.offered) (λ e. tt))
+    (λ offer. bound (or_refuse Signature (signature_in q.signature)) _ (offered Signature (signature_in q.signature) (λ e. tt))
+    (λ signature. bound (fitting_test (fit_of (kind_of (plain_key offer)) signature.algorithm)) _ (served (fit_of (kind_of (plain_key offer)) signature.algorithm))
+    (λ _. bound (signer_test offer) _ (signed offer) (λ _. tt))))
+
+-- ---- both
 
 refused-not : {C : Type 0} (r : Result C AuditError) → ReadsNot r → r ≡ Err Read → ⊥
 refused-not {C = C} r h e = subst (λ (s : Result C AuditError). ReadsNot s) e h
 
 pub login-claim-reads-not : (q : Login) → login_claim q ≡ Err Read → ⊥
 login-claim-reads-not q = refused-not (login_claim q) (login-reads-not q)
+
+pub host-claim-reads-not : (q : HostCheck) → host_claim q ≡ Err Read → ⊥
+host-claim-reads-not q = refused-not (host_claim q) (host-reads-not q)

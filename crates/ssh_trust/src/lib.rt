@@ -27,7 +27,7 @@ mod tests;
 pub use counted::Counted;
 pub use decision::{Cause, Decision};
 pub use host_audit::HostAudit;
-pub use hosts::{evidence_of_host, host};
+pub use hosts::{evidence_of_host, host, host_from};
 pub use laws::{decision_rule, host_decision_rule};
 pub use login_audit::LoginAudit;
 pub use logins::{evidence_of_login, login, login_from};
