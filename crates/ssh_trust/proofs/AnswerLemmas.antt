@@ -29,10 +29,10 @@ made-refused (Ok claim) audit result h = tt
 made-refused (Err e) audit result h = cc
 
 -- where none was, the refusal is passed on
-pub same-refused : {Q A B : Type 0} (r : Result Q AuditError) (e : AuditError) (result : Result B AuditError)
+pub same-refused : {Q B : Type 0} (A : Type 0) (r : Result Q AuditError) (e : AuditError) (result : Result B AuditError)
     → RefusesAs {A = A} r (Err e) → result ≡ Err e → RefusesAs r result
-same-refused (Ok claim) e result h same = tt
-same-refused (Err f) e result h same = same ∙ err-same e f (err-inj e f h)
+same-refused A (Ok claim) e result h same = tt
+same-refused A (Err f) e result h same = same ∙ err-same e f (err-inj e f h)
 
 -- ---- the answer
 

@@ -1,5 +1,5 @@
 -- A decision means what is said of granted and denied hosts' keys.
-use Rattle.std.proofs.Common.{◌≡◌, ◌∙◌, ◌+◌, ◌-◌, ◌<◌, ◌⊎◌, ◌||◌, cond, ℕ, zero, suc, Bool, true, false, List, [], ◌∷◌, length, map, Option, Some, None, Result, Ok, ap, subst, sym, refl, inl, inr, arith, nat_lt}
+use Rattle.std.proofs.Common.{◌≡◌, ◌∙◌, ◌+◌, ◌-◌, ◌<◌, ◌⊎◌, ◌||◌, cond, ℕ, zero, suc, Bool, true, false, List, [], ◌∷◌, map, Option, Some, None, ap, subst, sym, refl, inl, inr, arith}
 use Rattle.std.specs.Prelude.{option_map, slice_get}
 use Rattle.std.specs.Bool.{Decides}
 use Rattle.std.specs.Str.{bytes_eq}
@@ -13,7 +13,6 @@ use Rattle.ssh_lines.specs.KnownGrammar.{Blind, SpellsKnown, known_line}
 use Rattle.ssh_lines.proofs.ReadKnown.{known_line-spelled, known_line-spells}
 use Rattle.ssh_lines.proofs.RevokedLemmas.{blind-read, read-blind, read-revokes, revokes-read}
 use Rattle.ssh_text.proofs.LineLemmas.{lines_of-are}
-use Rattle.ssh_offers.specs.declared.error.AuditError.{AuditError}
 use Rattle.ssh_offers.specs.declared.query.Signed.{Signed}
 use Rattle.ssh_offers.specs.Evidence.{host_evidence}
 use Rattle.ssh_offers.specs.HostClaim.{HostClaim}
@@ -27,13 +26,10 @@ use Rattle.ssh_rules.specs.HostAdmission.{AdmitsHost, host_obstacle}
 use Rattle.ssh_rules.specs.Revocation.{IsOwn, is_own, may_revoke, revokes_offer}
 use Rattle.ssh_rules.specs.Verdict.{host_verdict, verdict_by}
 use Rattle.ssh_rules.proofs.HostAdmissionLemmas.{host_where_none, none_where_host}
-use Rattle.ssh_trust.specs.declared.decision.Decision.{Decision}
-use Rattle.ssh_trust.specs.Answer.{OfClaim, file_limit, host_answer}
 use Rattle.ssh_trust.specs.Candidate.{candidate_of, reasons_of}
-use Rattle.ssh_trust.specs.FileLines.{IsLineAt}
-use Rattle.ssh_trust.specs.HostDecision.{BlindAt, HoldsAt, HostMeans, IsHostGrant, IsLeast, RevokesAt, RevokesOwn, host_decision, host_decision_by, revocation_cause}
+use Rattle.ssh_trust.specs.HostDecision.{HoldsAt, HostMeans, IsLeast, RevokesOwn, host_decision, host_decision_by, revocation_cause}
 use Rattle.ssh_trust.specs.HostScan.{first_number, host_line_verdict, host_scan_of, is_blind, number_at, revokes_by}
-use Rattle.ssh_trust.proofs.CandidateLemmas.{AreBytes, Judges, admits-by, answer-by, at-place, candidate-is, line-bytes, line-of, no-candidate, some-same}
+use Rattle.ssh_trust.proofs.CandidateLemmas.{AreBytes, Judges, admits-by, at-place, candidate-is, line-bytes, line-of, no-candidate, some-same}
 
 -- ---- a line that admits
 

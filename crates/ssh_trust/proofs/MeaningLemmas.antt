@@ -1,5 +1,5 @@
 -- A decision means what is said of granted and denied logins.
-use Rattle.std.proofs.Common.{◌≡◌, ◌∙◌, ◌<◌, ℕ, Bool, true, false, List, [], ◌∷◌, length, Option, Some, None, Result, Ok, Err, ap, subst, sym, refl, nat_lt}
+use Rattle.std.proofs.Common.{◌≡◌, ◌∙◌, ℕ, Bool, true, false, List, Option, Some, None, ap, subst, sym, refl}
 use Rattle.std.specs.Prelude.{option_map}
 use Rattle.ssh_lines.specs.declared.entry.AuthEntry.{AuthEntry}
 use Rattle.ssh_lines.specs.declared.entry.AuthLine.{AuthLine}
@@ -9,9 +9,7 @@ use Rattle.ssh_lines.proofs.AuthLemmas.{auth_line-spelled}
 use Rattle.ssh_lines.proofs.ReadAuth.{auth_line-spells}
 use Rattle.ssh_rules.specs.declared.reason.Obstacle.{Obstacle}
 use Rattle.ssh_rules.specs.declared.verdict.LineVerdict.TheVariants.{Admits}
-use Rattle.ssh_trust.specs.declared.decision.Decision.{Decision}
 use Rattle.ssh_rules.specs.declared.reason.Reason.{Reason}
-use Rattle.ssh_offers.specs.declared.error.AuditError.{AuditError}
 use Rattle.ssh_offers.specs.declared.query.Signed.{Signed}
 use Rattle.ssh_offers.specs.LoginClaim.{LoginClaim}
 use Rattle.ssh_offers.specs.Evidence.{login_evidence}
@@ -21,10 +19,9 @@ use Rattle.ssh_rules.specs.Admission.{AdmitsLogin, login_obstacle}
 use Rattle.ssh_rules.specs.Verdict.{login_verdict, verdict_by}
 use Rattle.ssh_trust.specs.Candidate.{candidate_of, reasons_of}
 use Rattle.ssh_trust.specs.Decision.{IsCandidate, LoginMeans, cause_by, candidate_at, decision_by, decision_of, line_verdict, login_decision, verdicts}
-use Rattle.ssh_trust.specs.Answer.{OfClaim, login_answer, file_limit}
 use Rattle.ssh_rules.proofs.AdmissionLemmas.{admits_where_none, none_where_admits}
 use Rattle.ssh_offers.proofs.VouchingLemmas.{none_unvouched, all_vouched}
-use Rattle.ssh_trust.proofs.CandidateLemmas.{AreBytes, Judges, admits-by, answer-by, candidate-is, no-candidate, one-candidate}
+use Rattle.ssh_trust.proofs.CandidateLemmas.{AreBytes, Judges, admits-by, candidate-is, no-candidate, one-candidate}
 
 -- ---- a line that admits
 

@@ -11,7 +11,7 @@ use Rattle.ssh_trust.proofs.logins.login.Goals as goal
 pub returns-in_err-audit-clause-refused : goal.returns-in_err-audit-clause-refused
 returns-in_err-audit-clause-refused c =
     let p = err_from_is_err_and c.from_residual.result c.from_residual.ensures.1 in
-    rw (p.1, p.2) (same-refused (login_claim (login_of c.args.query.now)) _ _ c.in_err-audit.ensures.refused refl)
+    rw (p.1, p.2) (same-refused _ (login_claim (login_of c.args.query.now)) _ _ c.in_err-audit.ensures.refused refl)
 
 pub returns-in_err-audit-clause-means : goal.returns-in_err-audit-clause-means
 returns-in_err-audit-clause-means c =
