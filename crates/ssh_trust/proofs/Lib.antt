@@ -11,3 +11,5 @@ pub mod HostMeaningLemmas
 pub mod DenialLemmas
 pub mod SignatureLemmas
 pub mod RewritingLemmas
+pub mod ReadLemmas
+pub mod RefusalLemmas

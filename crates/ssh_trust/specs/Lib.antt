@@ -30,4 +30,5 @@ pub mod Denial
 pub mod Answer
 pub mod Findings
 pub mod Audit
+pub mod Reads
 pub mod SignatureAnswer

@@ -21,15 +21,18 @@ ghost use Rattle.ssh_offers.specs.declared.error.AuditError.TheVariants.{
   Failed,
   FileTooLong,
   Memory,
+  Read,
 };
 ghost use Rattle.ssh_offers.specs.HostClaim.{HostClaim, host_claim};
 ghost use Rattle.ssh_offers.specs.Query.{host_check_of};
 ghost use Rattle.ssh_trust.specs.Answer.{Gives, OfClaim, RefusesAs, file_limit, host_answer};
 ghost use Rattle.ssh_trust.specs.Audit.{HostStandsFor, IsHostBounded};
+ghost use Rattle.ssh_trust.specs.Reads.{IsFedBy};
 
 use crate::decision::Decision;
 use crate::host_scan::HostSearch;
 use crate::pieces::Pieces;
+use crate::source::Source;
 use ssh_offers::{AuditError, HostClaimView, HostQuery, Signed};
 use std::alloc::Global;
 use std::marker::Model;
@@ -99,6 +102,25 @@ impl<'a> HostAudit<'a> {
     {
         self.pieces.feed(piece)?;
         Ok(())
+    }
+
+    /// Takes what a reader has left, up to its end. A failed read is `A9`, and after it the audit
+    /// answers `A10`.
+    pub(crate) fn feed_from<S: Source>(&mut self, reader: &mut S) -> Result<(), AuditError>
+        // A9 is answered exactly where the last read failed.
+        ensures read { result ≡ Err Read → S.failed reader.old reader.new }
+        ensures unfailed { (result ≡ Err Read → ⊥) → S.unfailed reader.old reader.new }
+        // The audit stands for what the reader gave too.
+        ensures fed { (claim : HostClaim) (bytes : List ℕ)
+            → HostStandsFor self.old claim bytes
+            → IsFedBy (λ given. HostStandsFor self.new claim (bytes ++ given))
+            (S.left reader.old) (S.left reader.new) (length bytes) result }
+        // A refusal is for ever.
+        ensures left { OnErr result (self.new.failed ≡ true) }
+        // The audit keeps no more than it may.
+        ensures bounded { IsHostBounded self.new }
+    {
+        self.pieces.feed_from(reader)
     }
 
     /// Answers by all pieces, as `host` answers by the file that they are together. After a refused

@@ -1,14 +1,17 @@
 //! Whether a known_hosts file trusts a host's key.
 
-ghost use Rattle.std.specs.Prelude.{◌≡◌, IfOk, Ok};
+ghost use Rattle.std.specs.Prelude.{◌≡◌, Err, IfOk, Ok, OnErr};
+ghost use Rattle.ssh_offers.specs.declared.error.AuditError.TheVariants.{Read};
 ghost use Rattle.ssh_offers.specs.Query.{host_check_of};
 ghost use Rattle.ssh_offers.specs.HostClaim.{host_claim};
 ghost use Rattle.ssh_offers.specs.Evidence.{host_evidence};
 ghost use Rattle.ssh_trust.specs.HostDecision.{HostMeans};
 ghost use Rattle.ssh_trust.specs.Answer.{Gives, OfClaim, RefusesAs, host_answer};
+ghost use Rattle.ssh_trust.specs.Reads.{AnswersReader};
 
 use crate::decision::Decision;
 use crate::host_audit::HostAudit;
+use crate::source::Source;
 use ssh_offers::{AuditError, HostClaimView, HostQuery, Items, Signed, host_evidence};
 use std::alloc::Global;
 
@@ -35,6 +38,36 @@ pub fn host(
 {
     let mut audit = HostAudit::new(alloc, query)?;
     audit.feed(file)?;
+    let decision = audit.finish(vouched)?;
+    Ok(decision)
+}
+
+/// Answers a host's key by what a known_hosts file's reader has left, as `host` answers by the
+/// bytes that it gives, in reads of at most 4,096 bytes. An offer is refused by `A1` to `A5` before
+/// any read and before any memory is taken. A failed read is `A9`, whatever stands in the file
+/// before it, and no read follows it. The first byte past the limit is `A7`, so a reader that never
+/// ends is left there, and out of memory is `A8`.
+pub fn host_from<S: Source>(
+    alloc: Global,
+    reader: &mut S,
+    query: &HostQuery<'_>,
+    vouched: &[Signed],
+) -> Result<Decision, AuditError>
+    // A refused offer is answered by its first refusal, whatever memory and the reader do,
+    ensures refused { RefusesAs (host_claim (host_check_of query.entry.now)) result }
+    // and nothing is read.
+    ensures unread { OnErr (host_claim (host_check_of query.entry.now))
+        (reader.new ≡ reader.old) }
+    // A9 is answered exactly where the last read failed.
+    ensures read { result ≡ Err Read → S.failed reader.old reader.new }
+    ensures unfailed { (result ≡ Err Read → ⊥) → S.unfailed reader.old reader.new }
+    // The whole answer on the bytes that the reader gave, unless memory or a read was refused.
+    ensures answer { OfClaim (host_claim (host_check_of query.entry.now))
+        (λ claim. AnswersReader (S.left reader.old) (S.left reader.new)
+        (λ file. host_answer file claim vouched.now) result) }
+{
+    let mut audit = HostAudit::new(alloc, query)?;
+    audit.feed_from(reader)?;
     let decision = audit.finish(vouched)?;
     Ok(decision)
 }

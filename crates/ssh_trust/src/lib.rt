@@ -2,6 +2,7 @@
 //! and whether a file signature is vouched for.
 #![tactic(auto)]
 
+mod counted;
 mod decide;
 mod decision;
 mod host_audit;
@@ -13,24 +14,29 @@ mod login_audit;
 mod login_scan;
 mod logins;
 mod pieces;
+#[cfg(test)]
+mod reader_tests;
 mod scan;
 #[cfg(test)]
 mod signature_tests;
 mod signatures;
+mod source;
 #[cfg(test)]
 mod tests;
 
+pub use counted::Counted;
 pub use decision::{Cause, Decision};
 pub use host_audit::HostAudit;
-pub use hosts::{evidence_of_host, host};
+pub use hosts::{evidence_of_host, host, host_from};
 pub use laws::{
     decision_rule, denial_rule, host_decision_rule, host_denial_rule, host_rewritten_rule,
     login_rewritten_rule,
 };
 pub use login_audit::LoginAudit;
-pub use logins::{evidence_of_login, login};
+pub use logins::{evidence_of_login, login, login_from};
 pub use scan::REASON_LIMIT;
 pub use signatures::{SigAnswer, sshsig};
+pub use source::Source;
 pub use ssh_offers::{AuditError, HostQuery, Items, LoginQuery, OfferError, Signed};
 pub use ssh_rewriting::{FILE_LIMIT, RewriteError, rewrite_auth, rewrite_known};
 pub use ssh_rights::{Carried, CarriedName, Rights, rights_rule};

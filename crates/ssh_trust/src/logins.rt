@@ -1,14 +1,17 @@
 //! Whether an authorized_keys file admits a login.
 
-ghost use Rattle.std.specs.Prelude.{◌≡◌, ◌<◌, ◌^◌, length, IfOk, Ok};
+ghost use Rattle.std.specs.Prelude.{◌≡◌, ◌<◌, ◌^◌, length, Err, IfOk, Ok, OnErr};
+ghost use Rattle.ssh_offers.specs.declared.error.AuditError.TheVariants.{Read};
 ghost use Rattle.ssh_offers.specs.Query.{login_of};
 ghost use Rattle.ssh_offers.specs.LoginClaim.{login_claim};
 ghost use Rattle.ssh_offers.specs.Evidence.{login_evidence};
 ghost use Rattle.ssh_trust.specs.Decision.{LoginMeans};
 ghost use Rattle.ssh_trust.specs.Answer.{Gives, OfClaim, RefusesAs, login_answer};
+ghost use Rattle.ssh_trust.specs.Reads.{AnswersReader};
 
 use crate::decision::Decision;
 use crate::login_audit::LoginAudit;
+use crate::source::Source;
 use ssh_offers::{AuditError, Items, LoginClaimView, LoginQuery, Signed, login_evidence};
 use std::alloc::Global;
 
@@ -38,6 +41,38 @@ pub fn login(
 {
     let mut audit = LoginAudit::new(alloc, query)?;
     audit.feed(file)?;
+    let decision = audit.finish(vouched)?;
+    Ok(decision)
+}
+
+/// Answers a login by what an authorized_keys file's reader has left, as `login` answers by the
+/// bytes that it gives, in reads of at most 4,096 bytes. An offer is refused by `A1` to `A6` before
+/// any read and before any memory is taken. A failed read is `A9`, whatever stands in the file
+/// before it, and no read follows it. The first byte past the limit is `A7`, so a reader that never
+/// ends is left there, and out of memory is `A8`. The query's session and user have fewer than 2^32
+/// bytes each.
+pub fn login_from<S: Source>(
+    alloc: Global,
+    reader: &mut S,
+    query: &LoginQuery<'_>,
+    vouched: &[Signed],
+) -> Result<Decision, AuditError>
+    requires session { length query.now.session.now < 2 ^ 32 }
+    requires user { length query.now.user.now < 2 ^ 32 }
+    // A refused offer is answered by its first refusal, whatever memory and the reader do,
+    ensures refused { RefusesAs (login_claim (login_of query.entry.now)) result }
+    // and nothing is read.
+    ensures unread { OnErr (login_claim (login_of query.entry.now)) (reader.new ≡ reader.old) }
+    // A9 is answered exactly where the last read failed.
+    ensures read { result ≡ Err Read → S.failed reader.old reader.new }
+    ensures unfailed { (result ≡ Err Read → ⊥) → S.unfailed reader.old reader.new }
+    // The whole answer on the bytes that the reader gave, unless memory or a read was refused.
+    ensures answer { OfClaim (login_claim (login_of query.entry.now))
+        (λ claim. AnswersReader (S.left reader.old) (S.left reader.new)
+        (λ file. login_answer file claim vouched.now) result) }
+{
+    let mut audit = LoginAudit::new(alloc, query)?;
+    audit.feed_from(reader)?;
     let decision = audit.finish(vouched)?;
     Ok(decision)
 }

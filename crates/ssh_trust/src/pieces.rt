@@ -25,16 +25,22 @@ ghost use Rattle.ssh_offers.specs.declared.error.AuditError.TheVariants.{
   Failed,
   FileTooLong,
   Memory,
+  Read,
 };
 ghost use Rattle.ssh_text.specs.Text.{line_limit, lines_of, numbered};
 ghost use Rattle.ssh_trust.specs.Answer.{file_limit};
-ghost use Rattle.ssh_trust.specs.Audit.{HasRead};
+ghost use Rattle.ssh_trust.specs.Audit.{HasRead, HasTaken};
 ghost use Rattle.ssh_trust.specs.Findings.{IsText};
+ghost use Rattle.ssh_trust.specs.Reads.{IsFedBy};
 
+use crate::source::Source;
 use ssh_offers::AuditError;
 use ssh_rewriting::FILE_LIMIT;
 use ssh_text::{Line, Scanner};
 use std::alloc::{AllocError, Global};
+
+/// The most bytes of one read (this project's rule).
+const PIECE: usize = 4096;
 
 /// A search of lines, which keeps what those so far say.
 pub(crate) trait Search {
@@ -112,6 +118,8 @@ impl<T: Search + Drop> Pieces<T> {
         ensures read { OnOk result ((first : T) (bytes : List ℕ)
             → HasRead T.found first self.old bytes
             → HasRead T.found first self.new (bytes ++ piece.now)) }
+        ensures used { OnOk result
+            (self.new.scanner.used ≡ self.old.scanner.used + length piece.now) }
         ensures failed { self.new.failed ≡ self.old.failed }
         ensures bounded { T.is_bounded self.old.search → T.is_bounded self.new.search }
         ensures line { length self.new.scanner.kept.bytes ≤ line_limit }
@@ -133,6 +141,8 @@ impl<T: Search + Drop> Pieces<T> {
         ensures read { OnOk result ((first : T) (bytes : List ℕ)
             → HasRead T.found first self.old bytes
             → HasRead T.found first self.new (bytes ++ piece.now)) }
+        ensures used { OnOk result
+            (self.new.scanner.used ≡ self.old.scanner.used + length piece.now) }
         ensures short { OnOk result (self.old.scanner.used + length piece.now ≤ file_limit) }
         ensures sound { OnOk result (self.new.failed ≡ false) }
         ensures left { OnErr result (self.new.failed ≡ true) }
@@ -160,6 +170,32 @@ impl<T: Search + Drop> Pieces<T> {
             Err(_) => {
                 self.failed = true;
                 Err(AuditError::Memory)
+            }
+        }
+    }
+
+    /// Takes what a reader has left, up to its end. A failed read is `A9`.
+    pub(crate) fn feed_from<S: Source>(&mut self, reader: &mut S) -> Result<(), AuditError>
+        ensures read { result ≡ Err Read → S.failed reader.old reader.new }
+        ensures unfailed { (result ≡ Err Read → ⊥) → S.unfailed reader.old reader.new }
+        ensures fed { (first : T) (bytes : List ℕ)
+            → HasTaken T.found first self.old bytes
+            → IsFedBy (λ given. HasTaken T.found first self.new (bytes ++ given))
+            (S.left reader.old) (S.left reader.new) (length bytes) result }
+        ensures left { OnErr result (self.new.failed ≡ true) }
+        ensures bounded { T.is_bounded self.old.search → T.is_bounded self.new.search }
+        ensures line { length self.old.scanner.kept.bytes ≤ line_limit
+            → length self.new.scanner.kept.bytes ≤ line_limit }
+    {
+        let mut buffer = [0u8; PIECE];
+        loop {
+            match reader.read_piece(&mut buffer) {
+                Ok(0) => return Ok(()),
+                Ok(n) => self.feed(&buffer[..n])?,
+                Err(_) => {
+                    self.failed = true;
+                    return Err(AuditError::Read);
+                }
             }
         }
     }

@@ -21,10 +21,10 @@ const S0: [u8; 20] = *b"\x00\x00\x00\x0bssh-ed25519\x00\x00\x00\x01\xaa";
 const M0: [u8; 118] =
     *b"\x00\x00\x00\x04\x01\x02\x03\x04\x32\x00\x00\x00\x03ann\x00\x00\x00\x0essh-connection\x00\x00\x00\x09publickey\x01\x00\x00\x00\x0bssh-ed25519\x00\x00\x00\x33\x00\x00\x00\x0bssh-ed25519\x00\x00\x00\x20\x00\x00\x00\x00\x00\x00\x00\x00\x00\x00\x00\x00\x00\x00\x00\x00\x00\x00\x00\x00\x00\x00\x00\x00\x00\x00\x00\x00\x00\x00\x00\x00";
 
-const LINE: &[u8] =
+pub(crate) const LINE: &[u8] =
     b"ssh-ed25519 AAAAC3NzaC1lZDI1NTE5AAAAIAAAAAAAAAAAAAAAAAAAAAAAAAAAAAAAAAAAAAAAAAAA me\n";
 
-fn query<'a>(zone: &'a TimeZone<'a>) -> LoginQuery<'a>
+pub(crate) fn query<'a>(zone: &'a TimeZone<'a>) -> LoginQuery<'a>
     ensures session { length result.session.now < 2 ^ 32 }
     ensures user { length result.user.now < 2 ^ 32 }
 {
@@ -89,7 +89,7 @@ fn answers_a_login_in_pieces(rt: HostRuntime) -> Result<(), Fail> {
 }
 
 /// A host that offers that key and signed the exchange hash `01020304`.
-fn host_query() -> HostQuery<'static> {
+pub(crate) fn host_query() -> HostQuery<'static> {
     HostQuery {
         offered: &K0,
         signature: &S0,
@@ -100,7 +100,7 @@ fn host_query() -> HostQuery<'static> {
     }
 }
 
-const KNOWN: &[u8] =
+pub(crate) const KNOWN: &[u8] =
     b"h ssh-ed25519 AAAAC3NzaC1lZDI1NTE5AAAAIAAAAAAAAAAAAAAAAAAAAAAAAAAAAAAAAAAAAAAAAAAA\n";
 
 const REVOKED: &[u8] =

@@ -1,0 +1,206 @@
+-- What a reader gave, read by read, and what is answered on it.
+use Rattle.std.proofs.Common.{◌≡◌, ◌∙◌, ◌+◌, ◌<◌, ◌≤◌, ◌↔◌, ℕ, Bool, true, false, List, [], ◌++◌, length, nat_lt, Option, Some, None, Result, Ok, Err, inl, inr, refl, sym, ap, subst, arith, append-nil, append_assoc}
+use Rattle.std.specs.Prelude.{OnErr, OnOk}
+use Rattle.std.specs.Io.KnownBytes.{Consumes, IsAtEnd, Keeps}
+use Rattle.std.proofs.lemmas.Bool.{cases_Bool, lt-ltb, ltb-false, ltb-true}
+use Rattle.std.proofs.lemmas.List.{length-append}
+use Rattle.ssh_offers.specs.declared.error.AuditError.{AuditError}
+use Rattle.ssh_offers.specs.declared.error.AuditError.TheVariants.{Offer, Signature, WrongAlgorithm, WeakSignature, CertSignature, Address, FileTooLong, Memory, Read, Failed, Body}
+use Rattle.ssh_trust.specs.declared.decision.Decision.{Decision}
+use Rattle.ssh_trust.specs.declared.pieces.Pieces.{Pieces}
+use Rattle.ssh_trust.specs.Answer.{Gives, OfClaim, RefusesAs, file_limit, if_short}
+use Rattle.ssh_trust.specs.Audit.{HasRead, HasTaken}
+use Rattle.ssh_trust.specs.Reads.{AnswersReader, IsFedBy, StopsBy, piece_size}
+use Rattle.ssh_trust.proofs.AuditLemmas.{taken-more}
+use Rattle.ssh_trust.proofs.AnswerLemmas.{err-inj}
+
+-- ---- the bytes that are left
+
+pub consumes-none : (left : Option (List ℕ)) → Consumes left left []
+consumes-none None = tt
+consumes-none (Some xs) = refl
+
+consumes-more : (old now new : Option (List ℕ)) (xs ys : List ℕ) → Consumes old now xs → Consumes now new ys → Consumes old new (xs ++ ys)
+consumes-more None now new xs ys h k = tt
+consumes-more (Some was) None new xs ys h k = absurd h
+consumes-more (Some was) (Some is) None xs ys h k = absurd k
+consumes-more (Some was) (Some is) (Some are) xs ys h k = h ∙ ap (λ s. xs ++ s) k ∙ sym (append_assoc xs ys are)
+
+consumes-kept : (old now new : Option (List ℕ)) (xs : List ℕ) → Consumes old now xs → Keeps now new → Consumes old new xs
+consumes-kept None now new xs h k = tt
+consumes-kept (Some was) None new xs h k = absurd h
+consumes-kept (Some was) (Some is) None xs h k = absurd k
+consumes-kept (Some was) (Some is) (Some are) xs h k = h ∙ ap (λ s. xs ++ s) (sym k)
+
+-- ---- the loop
+
+-- the audit stands for the bytes before, and for what the reader gave so far
+pub record IsFeeding {T : Type 0} (Found : T → List (ℕ × List ℕ) → T → Type 0) (first : T) (audit : Pieces T) (bytes : List ℕ) (old now : Option (List ℕ)) : Type 0 where
+  pub given : List ℕ
+  pub consumed : Consumes old now given
+  pub taken : HasTaken Found first audit (bytes ++ given)
+
+pub feeding-none : {T : Type 0} (Found : T → List (ℕ × List ℕ) → T → Type 0) (first : T) (audit : Pieces T) (bytes : List ℕ) (left : Option (List ℕ))
+    → HasTaken Found first audit bytes → IsFeeding Found first audit bytes left left
+feeding-none Found first audit bytes left h = record {
+  given = [];
+  consumed = consumes-none left;
+  taken = subst (λ s. HasTaken Found first audit s) (sym (append-nil bytes)) h;
+}
+
+pub feeding-more : {T : Type 0} (Found : T → List (ℕ × List ℕ) → T → Type 0) (first : T) (audit after : Pieces T) (bytes piece : List ℕ) (old now new : Option (List ℕ))
+    → IsFeeding Found first audit bytes old now → Consumes now new piece
+    → audit.scanner.used + length piece ≤ file_limit → after.failed ≡ false
+    → ((used : List ℕ) → HasRead Found first audit used → HasRead Found first after (used ++ piece))
+    → IsFeeding Found first after bytes old new
+feeding-more Found first audit after bytes piece old now new h consumed short sound read = record {
+  given = h.given ++ piece;
+  consumed = consumes-more old now new h.given piece h.consumed consumed;
+  taken = subst (λ s. HasTaken Found first after s) (append_assoc bytes h.given piece)
+      (taken-more Found first audit after (bytes ++ h.given) piece h.taken short sound (read (bytes ++ h.given) h.taken.read));
+}
+
+-- the reader ended
+pub fed-whole : {T : Type 0} (Found : T → List (ℕ × List ℕ) → T → Type 0) (first : T) (audit : Pieces T) (bytes : List ℕ) (old now new : Option (List ℕ))
+    → IsFeeding Found first audit bytes old now → Consumes now new [] → IsAtEnd new
+    → IsFedBy (λ given. HasTaken Found first audit (bytes ++ given)) old new (length bytes) (Ok tt)
+fed-whole Found first audit bytes old now new h consumed end =
+    let short = h.taken.short in
+    let long = length-append bytes h.given in
+    record {
+      given = h.given;
+      consumed = subst (λ s. Consumes old new s) (append-nil h.given) (consumes-more old now new h.given [] h.consumed consumed);
+      bounded = omega (arith, short, long);
+      stops = (h.taken, end);
+    }
+
+-- a read failed
+pub fed-unread : {T : Type 0} (Found : T → List (ℕ × List ℕ) → T → Type 0) (first : T) (audit after : Pieces T) (bytes : List ℕ) (old now new : Option (List ℕ))
+    → IsFeeding Found first audit bytes old now → Keeps now new
+    → IsFedBy (λ given. HasTaken Found first after (bytes ++ given)) old new (length bytes) (Err Read)
+fed-unread Found first audit after bytes old now new h kept =
+    let short = h.taken.short in
+    let long = length-append bytes h.given in
+    record {
+      given = h.given;
+      consumed = consumes-kept old now new h.given h.consumed kept;
+      bounded = omega (arith, short, long);
+      stops = tt;
+    }
+
+-- why a piece was refused
+pub data Refusal (failed : Bool) (size : ℕ) (e : AuditError) : Type 0 where
+  again : failed ≡ true → e ≡ Failed → Refusal failed size e
+  too-long : file_limit < size → e ≡ FileTooLong → Refusal failed size e
+  no-memory : e ≡ Memory → Refusal failed size e
+
+abbrev Refused : AuditError → Result (Unit {0}) AuditError
+Refused e = Err e
+
+pub refusal : (failed : Bool) (size : ℕ) (e : AuditError) → ((Refused e ≡ Refused Failed) ↔ (failed ≡ true))
+    → (failed ≡ false → ((Refused e ≡ Refused FileTooLong) ↔ (file_limit < size)))
+    → (failed ≡ false → size ≤ file_limit → Refused e ≡ Refused Memory) → Refusal failed size e
+refusal true size e before long memory = again refl (err-inj e Failed (before.1 refl))
+refusal false size e before long memory =
+    elim (cases_Bool (nat_lt file_limit size)) [
+      | inl t ↦ let more = ltb-true file_limit size t in too-long more (err-inj e FileTooLong ((long refl).1 more))
+      | inr f ↦ no-memory (err-inj e Memory (memory refl (ltb-false file_limit size f)))
+    ]
+
+pub reads-not : (failed : Bool) (size : ℕ) (e : AuditError) → Refusal failed size e → e ≡ Read → ⊥
+reads-not failed size e (again h is) r = let bad : Failed ≡ Read = sym is ∙ r in cc
+reads-not failed size e (too-long h is) r = let bad : FileTooLong ≡ Read = sym is ∙ r in cc
+reads-not failed size e (no-memory is) r = let bad : Memory ≡ Read = sym is ∙ r in cc
+
+stops-by : (P : Type 0) (new : Option (List ℕ)) (size : ℕ) (e : AuditError) → Refusal false size e → StopsBy P new size (Err e)
+stops-by P new size e (again h is) = let bad : false ≡ true = h in cc
+stops-by P new size e (too-long h is) = rw is h
+stops-by P new size e (no-memory is) = rw is tt
+
+-- a piece was refused
+pub fed-partly : {T : Type 0} (Found : T → List (ℕ × List ℕ) → T → Type 0) (first : T) (audit after : Pieces T) (bytes piece : List ℕ) (old now new : Option (List ℕ)) (e : AuditError)
+    → IsFeeding Found first audit bytes old now → Consumes now new piece → length piece ≤ piece_size
+    → Refusal audit.failed (audit.scanner.used + length piece) e
+    → IsFedBy (λ given. HasTaken Found first after (bytes ++ given)) old new (length bytes) (Err e)
+fed-partly Found first audit after bytes piece old now new e h consumed few why =
+    let short = h.taken.short in
+    let long = length-append bytes h.given in
+    let more = length-append h.given piece in
+    let used = h.taken.read.scanned.used in
+    let size : audit.scanner.used + length piece ≡ length bytes + length (h.given ++ piece) = omega (arith, long, more, used) in
+    record {
+      given = h.given ++ piece;
+      consumed = consumes-more old now new h.given piece h.consumed consumed;
+      bounded = omega (arith, short, long, more, few);
+      stops = stops-by (HasTaken Found first after (bytes ++ (h.given ++ piece))) new (length bytes + length (h.given ++ piece)) e (rw (h.taken.sound, size) at why);
+    }
+
+-- ---- the answer
+
+stopped : (P : Type 0) (new : Option (List ℕ)) (given : List ℕ) (d : Decision) (e : AuditError) → StopsBy P new (0 + length given) (Err e)
+    → (◌≡◌ {A = Result Decision AuditError} (Err e) (Err Read) → ⊥) → Gives (if_short given d) (Err e)
+stopped P new given d FileTooLong h n = rw (lt-ltb file_limit (length given) (omega (arith, h))) refl
+stopped P new given d Memory h n = tt
+stopped P new given d Read h n = absurd (n refl)
+stopped P new given d (Offer x) h n = absurd h
+stopped P new given d (Signature x) h n = absurd h
+stopped P new given d WrongAlgorithm h n = absurd h
+stopped P new given d WeakSignature h n = absurd h
+stopped P new given d CertSignature h n = absurd h
+stopped P new given d Address h n = absurd h
+stopped P new given d Failed h n = absurd h
+stopped P new given d (Body x) h n = absurd h
+
+-- an audit that stopped before the reader's end
+pub answers-stopped : (P : List ℕ → Type 0) (old new : Option (List ℕ)) (decision : List ℕ → Decision) (e : AuditError)
+    → IsFedBy P old new 0 (Err e) → AnswersReader old new (λ file. if_short file (decision file)) (Err e)
+answers-stopped P old new decision e h = record {
+  given = h.given;
+  consumed = h.consumed;
+  bounded = omega (arith, h.bounded);
+  to_end = tt;
+  answer = stopped (P h.given) new h.given (decision h.given) e h.stops;
+}
+
+at-end : (new : Option (List ℕ)) (result : Result Decision AuditError) → IsAtEnd new → OnOk result (IsAtEnd new)
+at-end new (Ok d) h = h
+at-end new (Err e) h = tt
+
+-- an audit that took all that the reader had
+pub answers-whole : (P : List ℕ → Type 0) (old new : Option (List ℕ)) (of_file : List ℕ → Result Decision AuditError) (result : Result Decision AuditError)
+    → (h : IsFedBy P old new 0 (Ok tt)) → ((file : List ℕ) → P file → Gives (of_file file) result) → AnswersReader old new of_file result
+answers-whole P old new of_file result h answer = record {
+  given = h.given;
+  consumed = h.consumed;
+  bounded = omega (arith, h.bounded);
+  to_end = at-end new result h.stops.1;
+  answer = λ _. answer h.given h.stops.0;
+}
+
+-- ---- where no audit was made, or no decision
+
+abbrev refused-by : {Q : Type 0} → AuditError → Result Q AuditError
+refused-by e = Err e
+
+-- the refusal of an offer, or of memory, is no failed read
+pub unmade-reads-not : {Q : Type 0} (A : Type 0) (r : Result Q AuditError) (e : AuditError) → (r ≡ Err Read → ⊥) → RefusesAs {A = A} r (Err e)
+    → OfClaim r (λ _. ◌≡◌ {A = Result A AuditError} (Err e) (Err Memory)) → e ≡ Read → ⊥
+unmade-reads-not A (Ok claim) e claimed refused memory read = let bad : Memory ≡ Read = sym (err-inj e Memory memory) ∙ read in cc
+unmade-reads-not {Q = Q} A (Err f) e claimed refused memory read =
+    claimed (ap (λ (x : AuditError). refused-by {Q = Q} x) (sym (err-inj e f refused) ∙ read))
+
+-- where an audit was made, the offer is not refused
+pub on-claim : {Q A : Type 0} (r : Result Q AuditError) (audit : A) → RefusesAs r (Ok audit) → ((claim : Q) → r ≡ Ok claim → ⊥) → ⊥
+on-claim (Ok claim) audit h k = k claim refl
+on-claim (Err e) audit h k = cc
+
+pub made-claims : {Q A : Type 0} (r : Result Q AuditError) (audit : A) (P : Type 0) → RefusesAs r (Ok audit) → OnErr r P
+made-claims (Ok claim) audit P h = tt
+made-claims (Err e) audit P h = cc
+
+-- a file's answer is no failed read
+pub answers-not : (file : List ℕ) (d : Decision) → Gives (if_short file d) (Err Read) → ⊥
+answers-not file d h = elim (cases_Bool (nat_lt file_limit (length file))) [
+  | inl t ↦ let bad : ◌≡◌ {A = Result Decision AuditError} (Err FileTooLong) (Err Read) = rw t at h in cc
+  | inr f ↦ let bad : ◌≡◌ {A = Result Decision AuditError} (Ok d) (Err Read) = rw f at h in cc
+]

@@ -1,0 +1,41 @@
+use Rattle.std.proofs.Common.{◌∙◌, length, take, arith}
+use Rattle.std.proofs.lemmas.Result.{err_from_is_err_and}
+use Rattle.ssh_trust.proofs.ReadLemmas.{fed-partly, fed-unread, feeding-more, feeding-none, reads-not, refusal}
+use Rattle.ssh_trust.proofs.pieces.Pieces.feed_from.Goals as goal
+
+pub loop-n-init : goal.loop-n-init
+loop-n-init g c = record {
+  unfailed = g.met.S.Source.begins c.args.reader.now;
+  fed = λ first bytes h. feeding-none g.T.Search.found first c.args.self.now bytes (g.S.Source.left c.args.reader.now) h;
+  bounded = λ h. h;
+  line = λ h. h;
+}
+
+pub loop-n-preserved : goal.loop-n-preserved
+loop-n-preserved g c =
+    let fed = c.in_ok-feed-in-Ok.ensures in
+    let before = c.loop-n.invariant in
+    record {
+      unfailed = c.in-Ok.ensures.unfailed c.args.reader.now before.unfailed;
+      fed = λ first bytes h.
+          feeding-more g.T.Search.found first c.loop-n.self c.feed.new.self bytes (take c.in-Ok.n c.read_piece.new.buf) (g.S.Source.left c.args.reader.now)
+          (g.S.Source.left c.loop-n.reader) (g.S.Source.left c.read_piece.new.self) (before.fed first bytes h) c.in-Ok.ensures.bytes.0 fed.short fed.sound
+          (λ used k. fed.read first used k);
+      bounded = λ h. c.feed.ensures.bounded (before.bounded h);
+      line = λ h. c.feed.ensures.line (before.line h);
+    }
+
+pub returns-in_err-feed-in-Ok-clause-fed : goal.returns-in_err-feed-in-Ok-clause-fed
+returns-in_err-feed-in-Ok-clause-fed g c first bytes h =
+    let p = err_from_is_err_and c.from_residual.result c.from_residual.ensures.1 in
+    let fed = c.in_err-feed-in-Ok.ensures in
+    rw (p.1, p.2)
+    (fed-partly g.T.Search.found first c.loop-n.self c.feed.new.self bytes (take c.in-Ok.n c.read_piece.new.buf) (g.S.Source.left c.args.reader.now)
+    (g.S.Source.left c.loop-n.reader) (g.S.Source.left c.read_piece.new.self) _ (c.loop-n.invariant.fed first bytes h) c.in-Ok.ensures.bytes.0
+    (let same = c.read_piece.auto.buf in let bound = c.in-Ok.ensures.bound.0 in let size = c.in-Ok.ensures.bound.1 in omega (arith, same, bound, size))
+    (refusal _ _ _ fed.failed fed.too_long fed.else_memory))
+
+pub returns-in-Err-clause-fed : goal.returns-in-Err-clause-fed
+returns-in-Err-clause-fed g c first bytes h =
+    fed-unread g.T.Search.found first c.loop-n.self _ bytes (g.S.Source.left c.args.reader.now) (g.S.Source.left c.loop-n.reader)
+    (g.S.Source.left c.read_piece.new.self) (c.loop-n.invariant.fed first bytes h) c.in-Err.ensures.bytes

@@ -1,0 +1,97 @@
+//! Decisions over readers that give a byte at a time, that fail, and that never end.
+
+use crate::tests::{LINE, query};
+use crate::{AuditError, Counted, Decision, Signed, evidence_of_login, login_from};
+use jiff::tz::TimeZone;
+use std::io;
+use std::io::{Error, ErrorKind, Read};
+use std::test::Fail;
+
+/// Gives the bytes one by one. The read of this number fails, counted from 1.
+#[derive(Drop)]
+struct OneByOne<'a> {
+    left: &'a [u8],
+    reads: usize,
+    failing: usize,
+}
+
+impl<'a> OneByOne<'a> {
+    fn failing_at(left: &'a [u8], failing: usize) -> Self {
+        OneByOne {
+            left,
+            reads: 0,
+            failing,
+        }
+    }
+}
+
+impl Read for OneByOne<'_> {
+    fn read(&mut self, buf: &mut [u8]) -> io::Result<usize> {
+        self.reads = self.reads.saturating_add(1);
+        if self.reads == self.failing {
+            return Err(Error::from(ErrorKind::Interrupted));
+        }
+        let count = buf.len().min(self.left.len()).min(1);
+        let (piece, rest) = self.left.split_at(count);
+        buf[..count].copy_from_slice(piece);
+        self.left = rest;
+        Ok(count)
+    }
+}
+
+/// Gives `a` for ever.
+#[derive(Drop)]
+struct Endless;
+
+impl Read for Endless {
+    fn read(&mut self, buf: &mut [u8]) -> io::Result<usize> {
+        buf.fill(b'a');
+        Ok(buf.len())
+    }
+}
+
+#[test]
+fn counts_failed_reads(rt: HostRuntime) -> Result<(), Fail> {
+    let mut buf = [0u8; 4];
+    let mut reader = Counted::new(OneByOne::failing_at(b"ab", 2));
+    assert_eq!(rt; reader.failures(), 0);
+    for (read, failures) in [(Some(1), 0), (None, 1), (Some(1), 1), (Some(0), 1)] {
+        assert_eq!(rt; reader.read(&mut buf).ok(), read);
+        assert_eq!(rt; reader.failures(), failures);
+    }
+    Ok(())
+}
+
+#[test]
+fn answers_a_login_over_a_reader(rt: HostRuntime) -> Result<(), Fail> {
+    let alloc = rt.alloc();
+    let zone = TimeZone::UTC;
+    let query = query(&zone);
+    let evidence = evidence_of_login(alloc, &query)?;
+    let vouched = evidence.as_slice();
+    let mut reader = Counted::new(OneByOne::failing_at(LINE, 0));
+    match login_from(alloc, &mut reader, &query, vouched)? {
+        Decision::Granted { line, .. } => assert_eq!(rt; line, 1),
+        Decision::Denied { .. } => return Err(Fail::new("granted")),
+    }
+    // The last read is the one that finds the end, after the line that admits.
+    for failing in 1..LINE.len().saturating_add(2) {
+        let mut reader = Counted::new(OneByOne::failing_at(LINE, failing));
+        let answer = login_from(alloc, &mut reader, &query, vouched);
+        assert_eq!(rt; answer.err(), Some(AuditError::Read));
+        assert_eq!(rt; reader.failures(), 1);
+    }
+    Ok(())
+}
+
+#[test]
+fn leaves_a_reader_that_never_ends(rt: HostRuntime) -> Result<(), Fail> {
+    let zone = TimeZone::UTC;
+    let query = query(&zone);
+    let none: [Signed; 0] = [];
+    let mut reader = Counted::new(Endless);
+    let answer = login_from(rt.alloc(), &mut reader, &query, none.as_slice());
+    assert_eq!(rt; answer.err(), Some(AuditError::FileTooLong));
+    assert_eq!(rt; reader.failures(), 0);
+    Ok(())
+}
