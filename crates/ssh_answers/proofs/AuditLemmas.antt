@@ -1,22 +1,18 @@
 -- From what the files give to what is answered to a question.
-use Rattle.std.proofs.Common.{◌≡◌, ◌∙◌, ◌<◌, ℕ, List, length, Option, Some, None, Result, Ok, Err, refl, sym, ap, subst, inl, inr, arith}
+use Rattle.std.proofs.Common.{◌≡◌, ◌∙◌, ℕ, List, Option, Some, None, Result, Ok, Err, refl, sym, ap, subst, inl, inr, arith}
 use Rattle.std.specs.Prelude.{IfOk}
 use Rattle.ssh_inputs.specs.SourceState.{IfTells, SourceState, bytes_at}
-use Rattle.ssh_inputs.specs.Parts.{after_part, after_whole, part_at}
-use Rattle.ssh_inputs.specs.Loading.{FailsLoad, IsGathered, IsLeft, NoReadFailed, within_limit}
+use Rattle.ssh_inputs.specs.Parts.{after_part, part_at}
+use Rattle.ssh_inputs.specs.Loading.{FailsLoad, IsLeft, within_limit}
 use Rattle.ssh_inputs.specs.VouchFile.{vouched_of}
 use Rattle.ssh_inputs.specs.declared.read.ReadFault.{ReadFault}
 use Rattle.ssh_inputs.specs.declared.read.ReadFault.TheVariants as fault
-use Rattle.ssh_trust.specs.Answer.{Gives, file_limit}
-use Rattle.ssh_trust.specs.declared.decision.Decision.{Decision}
 use Rattle.ssh_offers.specs.declared.query.Signed.{Signed}
-use Rattle.ssh_offers.specs.declared.error.AuditError.{AuditError}
 use Rattle.ssh_print.specs.Responses.{Response as Shown, no_file_response}
-use Rattle.std.proofs.lemmas.Bool.{lt-ltb}
 use Rattle.ssh_answers.specs.Asked.{AuditFiles}
-use Rattle.ssh_answers.specs.Audits.{Audits, Deciding, IsAuditFault, after_vouching, answer_by, answer_over, audit_response, or_vouch_fault, vouched_in, vouched_or_fault, vouched_response}
-use Rattle.ssh_answers.specs.Responding.{AnswersFile, IsFaultOf}
-use Rattle.ssh_answers.proofs.SourceLemmas.{file-alike, left-none, none-failed, one-failed, over_limit, vouched-same, vouching-alike}
+use Rattle.ssh_answers.specs.Audits.{Audits, Deciding, IsAuditFault, after_vouching, audit_response, or_vouch_fault, vouched_in, vouched_or_fault, vouched_response}
+use Rattle.ssh_answers.specs.Responding.{IsFaultOf}
+use Rattle.ssh_answers.proofs.SourceLemmas.{file-alike, none-failed, one-failed, over_limit, vouched-same, vouching-alike}
 
 -- ---- sources with the same files and the same input have the same answers
 
@@ -38,29 +34,6 @@ audit-same by f a b n i =
 pub audit_fault-since : (f : AuditFiles) (s t : SourceState) (u : Option SourceState) (r : Shown) → t.failures ≡ s.failures → IsAuditFault f t u r → IsAuditFault f s u r
 audit_fault-since f s t u r e (inl h) = inl (one-failed s t u f.trust e h.0, h.1)
 audit_fault-since f s t u r e (inr h) = inr (h.0, h.1, one-failed s t u h.0 e h.2, h.3)
-
--- ---- trust files
-
--- files past the limit are answered alike
-alike : (by : Deciding) (a b : List ℕ) (vouched : List Signed) → file_limit < length a → file_limit < length b → answer_by by a vouched ≡ answer_by by b vouched
-alike (Err e) a b vouched long longer = refl
-alike (Ok decision) a b vouched long longer = rw (lt-ltb file_limit (length a) long, lt-ltb file_limit (length b) longer) refl
-
-gathered-answer : (by : Deciding) (vouched : List Signed) (bytes : Option (List ℕ)) (rest s : SourceState) (t : Option SourceState) (got : List ℕ) (res : Result Decision AuditError)
-    → IsGathered bytes rest s t got → Gives (answer_by by got vouched) res → NoReadFailed s t × Gives (answer_over by vouched bytes) res
-gathered-answer by vouched bytes rest s t got res (inl (is, left)) gives =
-    (left-none s rest t left, subst (λ (b : Option (List ℕ)). Gives (answer_over by vouched b) res) (sym is) gives)
-gathered-answer by vouched None rest s t got res (inr (long, longer, none)) gives = absurd longer
-gathered-answer by vouched (Some bytes) rest s t got res (inr (long, longer, none)) gives =
-    (none, subst (λ (a : Result Decision AuditError). Gives a res) (alike by got bytes vouched long longer) gives)
-
--- the decision by the bytes that were read
-pub file_decided : (by : Deciding) (vouched : List Signed) (name got read : List ℕ) (o t : Option SourceState) (res : Result Decision AuditError) → read ≡ got
-    → IfTells o (λ s. IsGathered (bytes_at s name) (after_whole s name) s t got) → Gives (answer_by by read vouched) res
-    → IfTells o (λ s. AnswersFile by vouched name (bytes_at s name) s t res)
-file_decided by vouched name got read None t res is gathered gives = tt
-file_decided by vouched name got read (Some s) t res is gathered gives = λ counts.
-    inr (inr (gathered-answer by vouched (bytes_at s name) (after_whole s name) s t got res (gathered counts) (subst (λ (l : List ℕ). Gives (answer_by by l vouched) res) is gives)))
 
 -- ---- vouch files
 

@@ -3,3 +3,4 @@ pub mod SignatureLemmas
 pub mod AuditLemmas
 pub mod EvidenceLemmas
 pub mod GrantingLemmas
+mod ChosenLemmas

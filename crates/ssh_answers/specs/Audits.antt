@@ -8,6 +8,7 @@ use Rattle.ssh_trust.specs.Query.{HostCheck, Login}
 use Rattle.ssh_trust.specs.HostClaim.{host_claim}
 use Rattle.ssh_trust.specs.LoginClaim.{login_claim}
 use Rattle.ssh_trust.specs.Answer.{if_short}
+use Rattle.ssh_trust.specs.Reads.{AnswersReader}
 use Rattle.ssh_trust.specs.Decision.{login_decision}
 use Rattle.ssh_trust.specs.HostDecision.{host_decision}
 use Rattle.ssh_answers.specs.Asked.{AuditFiles}
@@ -39,10 +40,21 @@ abbrev pub answer_by : Deciding → List ℕ → List Signed → Result Decision
 answer_by (Err e) file vouched = Err e
 answer_by (Ok decision) file vouched = if_short file (decision file vouched)
 
--- A trust file that is not there, or that cannot be read, is told before the offer is tested.
+-- The refusal of the offer is told before a trust file that is not there.
 abbrev pub answer_over : Deciding → List Signed → Option (List ℕ) → Result Decision AuditError
-answer_over by vouched None = Err Read
+answer_over (Err e) vouched None = Err e
+answer_over (Ok decision) vouched None = Err Read
 answer_over by vouched (Some file) = answer_by by file vouched
+
+-- why the offer is refused, if it is
+abbrev pub refusal_of : Deciding → Option AuditError
+refusal_of (Err e) = Some e
+refusal_of (Ok decision) = None
+
+-- what is decided on what a reader gives: the refusal of the offer, or what the bytes decide
+abbrev pub DecidesReader : Deciding → List Signed → Option (List ℕ) → Option (List ℕ) → Result Decision AuditError → Type 0
+DecidesReader (Err e) vouched old new result = result ≡ Err e
+DecidesReader (Ok decision) vouched old new result = AnswersReader old new (λ file. if_short file (decision file vouched)) result
 
 abbrev pub decided_response : Deciding → List Signed → Option (List ℕ) → Response
 decided_response by vouched file = decision_response (answer_over by vouched file)

@@ -5,3 +5,4 @@ pub mod Signatures
 pub mod Responding
 pub mod VouchLines
 pub mod Granting
+pub mod ChosenReads

@@ -1,7 +1,6 @@
 -- What the files answer, part by part.
 use Rattle.std.specs.Prelude.{◌≡◌, ◌⊎◌, ℕ, Bool, true, false, List, Option, Result, Err}
 use Rattle.ssh_inputs.specs.SourceState.{SourceState}
-use Rattle.ssh_trust.specs.Answer.{Gives}
 use Rattle.ssh_trust.specs.declared.decision.Decision.{Decision}
 use Rattle.ssh_offers.specs.declared.error.AuditError.{AuditError}
 use Rattle.ssh_offers.specs.declared.error.AuditError.TheVariants.{Read, Memory}
@@ -20,7 +19,7 @@ IsFaultOf name e r = r ≡ no_file_response name
 -- what a question is answered by the trust file of this name with these bytes: memory was refused, or a read of it failed, or it is the answer
 abbrev pub AnswersFile : Deciding → List Signed → List ℕ → Option (List ℕ) → SourceState → Option SourceState → Result Decision AuditError → Type 0
 AnswersFile by vouched name bytes s t result = (result ≡ Err Memory)
-    ⊎ ((OneReadFailed s t name × (result ≡ Err Read)) ⊎ (NoReadFailed s t × Gives (answer_over by vouched bytes) result))
+    ⊎ ((OneReadFailed s t name × (result ≡ Err Read)) ⊎ (NoReadFailed s t × (result ≡ answer_over by vouched bytes)))
 
 abbrev pub is_memory : Result Decision AuditError → Bool
 is_memory (Err Memory) = true

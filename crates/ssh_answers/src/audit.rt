@@ -1,27 +1,50 @@
 //! What a trust file answers to a question, with the signatures that a vouch file vouches for.
 
-ghost use Rattle.std.specs.Prelude.{◌≡◌, IfOk};
+ghost use Rattle.std.specs.Prelude.{◌≡◌, Err, IfOk, option_map};
+ghost use Rattle.ssh_offers.specs.declared.error.AuditError.TheVariants.{Read};
 ghost use Rattle.ssh_answers.specs.Audits.{
   Audits,
+  DecidesReader,
   audit_response,
   decided_response,
   or_vouch_fault,
   vouched_response,
 };
+ghost use Rattle.ssh_answers.specs.ChosenReads.{FailsOn, ReadsOn};
 ghost use Rattle.ssh_answers.specs.Responding.{AnswersFile, IsFaultOf, is_memory};
 ghost use Rattle.ssh_answers.specs.AskedView.{names_of};
 ghost use Rattle.ssh_print.specs.ResponseView.{response};
-ghost use Rattle.ssh_inputs.specs.SourceState.{IfTells, bytes_at};
+ghost use Rattle.ssh_inputs.specs.SourceState.{IfTells, bytes_at, left_of};
 ghost use Rattle.ssh_inputs.specs.VouchFile.{vouched_of};
 
 use crate::asked::AuditFiles;
+use crate::chosen::ChosenFile;
 use crate::question::Question;
-use ssh_inputs::{Files, ReadFault, VouchFault, gather, read_vouch_file, read_vouched};
+use ssh_inputs::{Files, ReadFault, VouchFault, read_vouch_file, read_vouched};
 use ssh_print::{Response, decision_response, file_fault, vouch_fault};
 use ssh_trust::{AuditError, Decision, Signed};
 use std::alloc::{AllocError, Global};
 
-/// The decision by the trust file of this name.
+/// The decision by the chosen file, which goes on lending the same source.
+fn decide_chosen<Q: Question, F: Files>(
+    alloc: Global,
+    question: &Q,
+    vouched: &[Signed],
+    file: &mut ChosenFile<'_, F>,
+) -> Result<Decision, AuditError>
+    ensures same { file.new.files.ghost_name ≡ file.old.files.ghost_name }
+    ensures read { result ≡ Err Read → FailsOn (F.source_state file.old.files.now)
+        (F.source_state file.new.files.now) }
+    ensures unfailed { (result ≡ Err Read → ⊥) → ReadsOn (F.source_state file.old.files.now)
+        (F.source_state file.new.files.now) }
+    ensures answer { DecidesReader (Q.decides question.entry.now) vouched.now
+        (option_map left_of (F.source_state file.old.files.now))
+        (option_map left_of (F.source_state file.new.files.now)) result }
+{
+    question.decide(alloc, file, vouched)
+}
+
+/// The decision by the trust file of this name. One that is not there is not read.
 fn decide_by_file<Q: Question, F: Files>(
     alloc: Global,
     name: &str,
@@ -33,11 +56,11 @@ fn decide_by_file<Q: Question, F: Files>(
         AnswersFile (Q.decides question.entry.now) vouched.now name.now (bytes_at s name.now) s
         (F.source_state files.new) result) }
 {
-    match gather(alloc, files, name) {
-        Ok(file) => question.decide(alloc, &file, vouched),
-        Err(ReadFault::Memory) => Err(AuditError::Memory),
-        Err(_) => Err(AuditError::Read),
+    if !files.choose(name) {
+        return Err(question.refusal().unwrap_or(AuditError::Read));
     }
+    let mut file = ChosenFile::new(files);
+    decide_chosen(alloc, question, vouched, &mut file)
 }
 
 fn is_memory(answer: &Result<Decision, AuditError>) -> bool

@@ -4,6 +4,7 @@
 
 mod asked;
 mod audit;
+mod chosen;
 mod laws;
 mod question;
 mod signature;

@@ -1,11 +1,20 @@
 //! What is asked of a trust file.
 
-ghost use Rattle.std.specs.Prelude.{◌<◌, ◌^◌, length};
-ghost use Rattle.ssh_trust.specs.Answer.{Gives};
+ghost use Rattle.std.specs.Prelude.{◌≡◌, ◌<◌, ◌^◌, Err, length};
+ghost use Rattle.ssh_offers.specs.declared.error.AuditError.TheVariants.{Read};
 ghost use Rattle.ssh_trust.specs.Query.{host_check_of, login_of};
-ghost use Rattle.ssh_answers.specs.Audits.{Deciding, answer_by, host_by, login_by};
+ghost use Rattle.ssh_answers.specs.Audits.{
+  Deciding,
+  DecidesReader,
+  host_by,
+  login_by,
+  refusal_of,
+};
 
-use ssh_trust::{AuditError, Decision, HostQuery, LoginQuery, Signed, host, login};
+use ssh_offers::{HostClaimView, LoginClaimView};
+use ssh_trust::{
+    AuditError, Decision, HostQuery, LoginQuery, Signed, Source, host_from, login_from,
+};
 use std::alloc::Global;
 
 /// What is asked of a trust file.
@@ -13,9 +22,21 @@ pub trait Question {
     /// What a trust file decides of it, or its refusal.
     ghost decides: { Self → Deciding };
 
-    /// The decision by the bytes of a trust file, where these signatures are vouched for.
-    fn decide(&self, alloc: Global, file: &[u8], vouched: &[Signed]) -> Result<Decision, AuditError>
-        ensures { Gives (answer_by (decides self.entry.now) file.now vouched.now) result };
+    /// Why the offer is refused, whatever the file, if it is.
+    fn refusal(&self) -> Option<AuditError>
+        ensures { result ≡ refusal_of (decides self.entry.now) };
+
+    /// The decision by what a trust file's reader has left, where these signatures are vouched for.
+    fn decide<S: Source>(
+        &self,
+        alloc: Global,
+        file: &mut S,
+        vouched: &[Signed],
+    ) -> Result<Decision, AuditError>
+        ensures read { result ≡ Err Read → S.failed file.old file.new }
+        ensures unfailed { (result ≡ Err Read → ⊥) → S.unfailed file.old file.new }
+        ensures answer { DecidesReader (decides self.entry.now) vouched.now (S.left file.old)
+            (S.left file.new) result };
 }
 
 /// A login whose session and user can be strings of the login bytes.
@@ -29,27 +50,33 @@ pub struct LoginQuestion<'a> {
 impl Question for LoginQuestion<'_> {
     ghost decides = { λ x. login_by (login_of x.query) };
 
-    fn decide(
+    fn refusal(&self) -> Option<AuditError> {
+        LoginClaimView::read(&self.query).err()
+    }
+
+    fn decide<S: Source>(
         &self,
         alloc: Global,
-        file: &[u8],
+        file: &mut S,
         vouched: &[Signed],
     ) -> Result<Decision, AuditError> {
-        let decision = login(alloc, file, &self.query, vouched)?;
-        Ok(decision)
+        login_from(alloc, file, &self.query, vouched)
     }
 }
 
 impl Question for HostQuery<'_> {
     ghost decides = { λ x. host_by (host_check_of x) };
 
-    fn decide(
+    fn refusal(&self) -> Option<AuditError> {
+        HostClaimView::read(self).err()
+    }
+
+    fn decide<S: Source>(
         &self,
         alloc: Global,
-        file: &[u8],
+        file: &mut S,
         vouched: &[Signed],
     ) -> Result<Decision, AuditError> {
-        let decision = host(alloc, file, self, vouched)?;
-        Ok(decision)
+        host_from(alloc, file, self, vouched)
     }
 }

@@ -73,9 +73,10 @@ Reads old new r buf = MatchResult r
     × (n ≡ 0 → 0 < length buf → left_of new ≡ []) × (old.chosen ≡ nothing → ⊥))
     (λ _. new ≡ with_failure old)
 
--- the same, of a source that may not tell
+-- the same, of a source that may not tell, and then goes on telling nothing
 abbrev pub ReadsKnown : {E : Type 0} → Option SourceState → Option SourceState → Result ℕ E → List ℕ → Type 0
-ReadsKnown None new r buf = ⊤
+ReadsKnown None None r buf = ⊤
+ReadsKnown None (Some t) r buf = ⊥
 ReadsKnown (Some s) None r buf = ⊥
 ReadsKnown (Some s) (Some t) r buf = Reads s t r buf
 

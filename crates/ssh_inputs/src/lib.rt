@@ -13,7 +13,7 @@ mod zone;
 
 pub use base64_text::decode;
 pub use files::Files;
-pub use read::{ReadFault, gather, read_first_line, read_vouch_file, read_whole};
+pub use read::{ReadFault, read_first_line, read_vouch_file, read_whole};
 pub use sink::Sink;
 pub use values::{is_short, read_hex, read_number, read_port, read_short_hex};
 pub use vouch::{VouchFault, read_vouched};

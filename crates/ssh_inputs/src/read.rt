@@ -24,7 +24,7 @@ pub enum ReadFault {
 const PIECE: usize = 4096;
 
 /// The bytes of the file of this name; of a file that passes the limit, as many as pass it.
-pub fn gather<F: Files>(alloc: Global, files: &mut F, name: &str) -> Result<Vec<u8>, ReadFault>
+fn gather<F: Files>(alloc: Global, files: &mut F, name: &str) -> Result<Vec<u8>, ReadFault>
     ensures { IfTells (F.source_state files.old) (λ s.
         Gathers (λ v. v.items) name.now (bytes_at s name.now) (after_whole s name.now) s
         (F.source_state files.new) result) }
