@@ -1,7 +1,10 @@
 //! Decisions over readers that give a byte at a time, that fail, and that never end.
 
-use crate::tests::{LINE, query};
-use crate::{AuditError, Counted, Decision, Signed, evidence_of_login, login_from};
+use crate::tests::{KNOWN, LINE, host_query, query};
+use crate::{
+    AuditError, Counted, Decision, Signed, evidence_of_host, evidence_of_login, host_from,
+    login_from,
+};
 use jiff::tz::TimeZone;
 use std::io;
 use std::io::{Error, ErrorKind, Read};
@@ -78,6 +81,26 @@ fn answers_a_login_over_a_reader(rt: HostRuntime) -> Result<(), Fail> {
     for failing in 1..LINE.len().saturating_add(2) {
         let mut reader = Counted::new(OneByOne::failing_at(LINE, failing));
         let answer = login_from(alloc, &mut reader, &query, vouched);
+        assert_eq!(rt; answer.err(), Some(AuditError::Read));
+        assert_eq!(rt; reader.failures(), 1);
+    }
+    Ok(())
+}
+
+#[test]
+fn answers_a_host_over_a_reader(rt: HostRuntime) -> Result<(), Fail> {
+    let alloc = rt.alloc();
+    let query = host_query();
+    let evidence = evidence_of_host(alloc, &query)?;
+    let vouched = evidence.as_slice();
+    let mut reader = Counted::new(OneByOne::failing_at(KNOWN, 0));
+    match host_from(alloc, &mut reader, &query, vouched)? {
+        Decision::Granted { line, .. } => assert_eq!(rt; line, 1),
+        Decision::Denied { .. } => return Err(Fail::new("granted")),
+    }
+    for failing in 1..KNOWN.len().saturating_add(2) {
+        let mut reader = Counted::new(OneByOne::failing_at(KNOWN, failing));
+        let answer = host_from(alloc, &mut reader, &query, vouched);
         assert_eq!(rt; answer.err(), Some(AuditError::Read));
         assert_eq!(rt; reader.failures(), 1);
     }
