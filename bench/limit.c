@@ -4,6 +4,8 @@
  *   limit login FILE BASE64 HOST ADDRESS       authorized_keys: the first line that admits the key
  *   limit authority FILE BASE64 HOST ADDRESS   the same of a certificate that the key signed: a cert-authority line
  *   limit host FILE BASE64 NAME                known_hosts: the first line of that name, and the first revocation
+ *   limit auth FILE                            authorized_keys: the lines, each ended by an LF
+ *   limit known FILE                           the same of known_hosts
  *
  * It streams the file. Of each line it finds the end, skips blanks and comments, cuts options or names off, looks the
  * type up, decodes the base64, walks the fields of the key blob, and compares the blob with the key. Only where that is
@@ -11,7 +13,8 @@
  * A login ends at the line that is found, a host at the end of the file.
  *
  * It prints "line N", "revoked N" or "none", and "unreadable N" where it met such lines. Status: 0 found, 1 not found,
- * 2 no such file, command or base64.
+ * 2 no such file, command or base64. Of auth and known it writes the lines as they are, each after it was looked at in
+ * the same way, and nothing else; the status is 0.
  */
 #include <fcntl.h>
 #include <stdint.h>
@@ -396,6 +399,7 @@ typedef struct {
 
 static const Command COMMANDS[] = {
     {"login", 6, 0, 1, login_line}, {"authority", 6, 1, 1, login_line}, {"host", 5, 0, 0, host_line},
+    {"auth", 3, 0, 0, login_line}, {"known", 3, 0, 0, host_line},
 };
 
 static const Command *find_command(int words, char **argv) {
@@ -411,6 +415,18 @@ static Verdict verdict_of(Span line, const Command *command, const Sought *sough
     return line.len == 0 || *line.at == '#' ? PASSES : command->verdict(line, sought);
 }
 
+/* Writes each line, after it was looked at. */
+static int copy_lines(Lines *lines, const Command *command) {
+    static const Sought nothing;
+    Span line;
+    while (next_line(lines, &line)) {
+        verdict_of(line, command, &nothing);
+        fwrite(line.at, 1, line.len, stdout);
+        putc_unlocked('\n', stdout);
+    }
+    return 0;
+}
+
 int main(int argc, char **argv) {
     static Lines lines;
     static uint8_t key[LINE_LIMIT];
@@ -418,7 +434,8 @@ int main(int argc, char **argv) {
     if (!command) return 2;
     fill_digits();
     lines.file = open(argv[2], O_RDONLY);
-    long len = decode(text_of(argv[3]), key);
+    if (lines.file >= 0 && argc == 3) return copy_lines(&lines, command);
+    long len = argc == 3 ? -1 : decode(text_of(argv[3]), key);
     if (lines.file < 0 || len < 0) return 2;
     Sought sought = {{key, (size_t)len}, {{NULL, 0}}, argc - 4, command->by_authority};
     for (int i = 0; i < sought.count; i++) sought.texts[i] = text_of(argv[4 + i]);

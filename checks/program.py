@@ -76,6 +76,8 @@ FILES = {
     "file vouched": FILE_TRIPLE,
     "certificate": f"ssh-ed25519-cert-v01@openssh.com {CERTIFICATE} me\n",
     "bad vouch": "# none\nzz\n",
+    "loose keys": f"  PTY,Restrict  ssh-ed25519\t{KEY}  me \r\n#  x",
+    "loose hosts": f"h,g\tssh-ed25519  {KEY}\r\n@revoked  *  ssh-ed25519 {KEY}\n",
     "empty": "",
     "-": f"ssh-ed25519 {OTHER_KEY} me\n",
     "\u00e9\\": f"ssh-ed25519 {KEY} me\n",
@@ -153,6 +155,10 @@ def show(kind, file):
     return ["show", "--kind", kind, "--file", file]
 
 
+def rewrite(kind, file):
+    return ["rewrite", "--kind", kind, "--file", file]
+
+
 # ---- rows
 
 
@@ -175,6 +181,10 @@ def rows():
     yield show("cert", "certificate"), SHOWN_CERTIFICATE, 0
     yield show("cert", "keys"), "fault L8\n", 2
     yield show("frob", "keys"), "fault value kind\n", 2
+    yield rewrite("auth", "loose keys"), f"pty,restrict ssh-ed25519 {KEY} me\n#  x\n", 0
+    yield rewrite("known", "loose hosts"), f"h,g ssh-ed25519 {KEY}\n@revoked  *  ssh-ed25519 {KEY}\n", 0
+    yield rewrite("auth", "empty"), "", 0
+    yield rewrite("hosts", "loose hosts"), "fault value kind\n", 2
     yield sshsig("body", "message", "file vouched"), VOUCHED, 0
     yield sshsig("body", "message"), NOT_VOUCHED, 1
     yield sshsig("body", "message", "file vouched", "git"), "denied namespace\n", 1
@@ -188,6 +198,7 @@ def rows():
     yield host("-", "host vouched"), TRUSTED, 0, hosts
     yield show("key", "-"), SHOWN, 0, keys
     yield show("cert", "-"), SHOWN_CERTIFICATE, 0, certificate
+    yield rewrite("auth", "-"), FILES["keys"], 0, keys
     yield sshsig("body", "-", "file vouched"), VOUCHED, 0, SIGNED_MESSAGE
     yield sshsig("-", "message", "file vouched"), VOUCHED, 0, SSHSIG
     yield sshsig("body", "-", "-"), VOUCHED, 0, FILE_TRIPLE.encode() + b"\n" + SIGNED_MESSAGE
@@ -204,6 +215,7 @@ def rows():
         yield sshsig("body", "message", name), f"fault file {told}\n", 2, FILE_TRIPLE.encode()
         yield show("key", name), f"fault file {told}\n", 2, keys
         yield show("cert", name), f"fault file {told}\n", 2, certificate
+        yield rewrite("auth", name), "fault A9\n", 2, keys
     # files whose reads fail: a folder; the one that is read first is told
     yield login(".", "vouched"), "fault A9\n", 2, keys
     yield login("keys", "."), "fault file .\n", 2, keys
@@ -212,6 +224,7 @@ def rows():
     yield login(".", "bad vouch"), "fault vouch 2\n", 2
     yield host(".", "host vouched"), "fault A9\n", 2, hosts
     yield host("hosts", "."), "fault file .\n", 2
+    yield rewrite("known", "."), "fault A9\n", 2, hosts
     yield sshsig(".", "missing"), "fault file .\n", 2
     yield sshsig("missing", "."), "fault file missing\n", 2
     yield show("key", "."), "fault file .\n", 2, keys
@@ -221,6 +234,7 @@ def rows():
     yield host("/dev/zero"), "fault A7\n", 2
     yield sshsig("body", "/dev/zero"), "fault file /dev/zero\n", 2
     yield show("key", "/dev/zero"), "fault file /dev/zero\n", 2
+    yield rewrite("auth", "/dev/zero"), "fault A7\n", 2
     # words
     yield ["frob"], "fault usage\n", 2
     yield ["login"], "fault usage\n", 2
@@ -240,13 +254,14 @@ def answer_rows(program, tally):
 
 
 def size_rows(program, tally):
-    """A trust file at the limit and one byte past it, by name and through a pipe."""
+    """A trust file at the limit and one byte past it, by name and through a pipe; written anew both would pass it."""
     size = 67_108_864
     for length, wanted, status in ((size, NO_LINE, 1), (size + 1, "fault A7\n", 2)):
         content = b"#" + b"x\n#" * (length // 3 + 1)
         (program.room / "large").write_bytes(content[:length])
         tally.check(f"a file of {length} bytes", program.run(login("large")), (status, wanted.encode(), b""))
         tally.check(f"{length} bytes in a pipe", program.run(login("-"), content[:length]), (status, wanted.encode(), b""))
+        tally.check(f"{length} bytes written anew", program.run(rewrite("auth", "large")), (2, b"fault A7\n", b""))
     (program.room / "large").unlink()
 
 
@@ -257,6 +272,7 @@ def input_rows(program, tally):
         (login("-", "vouched"), "fault A9\n"),
         (login("keys", "-"), "fault file -\n"),
         (show("key", "-"), "fault file -\n"),
+        (rewrite("auth", "-"), "fault A9\n"),
     ):
         folder = os.open(program.room, os.O_RDONLY)
         tally.check(f"a folder as input: {asked[:1]}", program.run(asked, folder), (2, wanted.encode(), b""))
@@ -286,7 +302,7 @@ def full_pipe():
 
 def writer_rows(program, tally):
     """Writers that fail: the status is 2, whatever the answer's own status is."""
-    asked = (login("keys", "vouched"), login("keys"), host("revoked"), show("key", "keys"), ["frob"])
+    asked = (login("keys", "vouched"), login("keys"), host("revoked"), show("key", "keys"), rewrite("auth", "keys"), ["frob"])
     for words_asked in asked:
         name = " ".join(words_asked[:3])
         with open("/dev/full", "wb") as full:

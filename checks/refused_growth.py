@@ -87,9 +87,18 @@ def body_rows():
     yield "show a private key", ["show", "--kind", "private", "--file", "-"], private_body()
 
 
+def rewrite_rows(key):
+    """Files written anew, a long one too; and a kind that is none."""
+    words = ["rewrite", "--file", "-", "--kind"]
+    yield "rewritten keys", [*words, "auth"], b" PTY,from=\"\\\"\"\t" + key + b" \r\n# x\nfrob"
+    yield "rewritten hosts", [*words, "known"], b"h,g  " + key + b"\n@revoked  x\n"
+    yield "a long file", [*words, "auth"], 300 * (b"  " + key + b"\n")
+    yield "no kind", [*words, "key"], key
+
+
 def rows():
     """The stored run, the same login over files and vouch files that give reasons, a denial and faults; `show`; `host`;
-    `sshsig`."""
+    `sshsig`; `rewrite`."""
     stored = (CRATE / "stdin").read_bytes()
     words, vouched, rest = stored.split(b"\n", 2)
     key = next(line for line in rest.split(b"\n") if line.startswith(b"ssh-"))
@@ -105,6 +114,7 @@ def rows():
     yield "words of the command line", words.decode().split(" "), stored.split(b"\n", 1)[1]
     yield from host_rows(words.decode().split(" "), key, vouched.split(b" "))
     yield from body_rows()
+    yield from rewrite_rows(key)
 
 
 def check(preload, name, words, stdin):

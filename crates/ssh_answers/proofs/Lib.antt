@@ -4,3 +4,4 @@ pub mod AuditLemmas
 pub mod EvidenceLemmas
 pub mod GrantingLemmas
 mod ChosenLemmas
+pub mod RewritingLemmas

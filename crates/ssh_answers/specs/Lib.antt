@@ -3,6 +3,7 @@ pub mod AskedView
 pub mod Audits
 pub mod Signatures
 pub mod Responding
+pub mod Rewritings
 pub mod VouchLines
 pub mod Granting
 pub mod ChosenReads

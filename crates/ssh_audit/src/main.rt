@@ -1,6 +1,7 @@
 //! An auditor of OpenSSH's trust files: it says which line of an authorized_keys file admits a
 //! login, or of a known_hosts file trusts a host's key, which line revokes a key, and why others do
-//! not; and whether a file signature is vouched for.
+//! not; whether a file signature is vouched for; and it writes a trust file anew, which keeps every
+//! answer.
 #![tactic(auto)]
 
 mod system;

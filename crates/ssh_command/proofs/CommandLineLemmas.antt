@@ -13,15 +13,15 @@ use Rattle.ssh_command.specs.declared.request.WordsFault.TheVariants.{Usage, Mem
 use Rattle.clap.specs.Faults.{fault_of, is_simple_and_free}
 use Rattle.clap.specs.declared.error.ErrorKind.{ErrorKind}
 use Rattle.clap.proofs.OnLiterals.{clap_on_literals}
-use Rattle.ssh_command.specs.CommandLine.{Request as Asked, command_line, host_app, login_app, show_app, sshsig_app, request_in, request_of, spelled}
+use Rattle.ssh_command.specs.CommandLine.{Request as Asked, command_line, host_app, login_app, rewrite_app, show_app, sshsig_app, request_in, request_of, spelled}
 
 pub is_plain : is_simple_and_free command_line ≡ true
-unfolding host_app login_app show_app sshsig_app clap_on_literals
+unfolding host_app login_app rewrite_app show_app sshsig_app clap_on_literals
 is_plain = refl
 
 -- no words spell no request
 pub no_request : request_of [] ≡ None
-unfolding host_app login_app show_app sshsig_app clap_on_literals
+unfolding host_app login_app rewrite_app show_app sshsig_app clap_on_literals
 no_request = refl
 
 -- words with a fault spell no request

@@ -3,13 +3,13 @@ use Rattle.std.proofs.Common.{◌≡◌, ◌∙◌, ◌<◌, ℕ, List, [], ◌�
 use Rattle.std.specs.Prelude.{IfOk}
 use Rattle.ssh_inputs.specs.SourceState.{IfTells, SourceState}
 use Rattle.ssh_inputs.specs.Parts.{after_line, first_line}
-use Rattle.ssh_command.specs.CommandLine.{Request, host, login, show, sshsig, request_of, LoginWords, ShowWords}
+use Rattle.ssh_command.specs.CommandLine.{Request, host, login, rewrite, show, sshsig, request_of, LoginWords, RewriteWords, ShowWords}
 use Rattle.ssh_inputs.specs.Words.{words_in}
 use Rattle.ssh_print.specs.Responses.{Response as Shown}
 use Rattle.jiff.specs.Types.{TimeZone}
 use Rattle.ssh_answers.specs.Asked.{AuditFiles}
 use Rattle.ssh_answers.specs.Audits.{Audits, Deciding, audit_response, host_by, login_by}
-use Rattle.ssh_command.specs.Requests.{Answer, host_spelled, login_in_zone, login_spelled, show_answer, IsAnswer, Responds, RespondsBy, IsReadFault, answer_in, spelled_response}
+use Rattle.ssh_command.specs.Requests.{Answer, host_spelled, login_in_zone, login_spelled, rewrite_response, show_answer, IsAnswer, Responds, RespondsBy, IsReadFault, answer_in, spelled_response}
 use Rattle.ssh_inputs.specs.Values.{ReadsZone, zone_text}
 use Rattle.ssh_inputs.specs.Loading.{FailsLine, LoadsLine}
 use Rattle.ssh_trust.specs.Query.{Login}
@@ -32,11 +32,15 @@ values-same by f a b (Ok q) n i = audit-same (by q) f a b n i
 show-same : (w : ShowWords) (a b : SourceState) → a.named ≡ b.named → a.input ≡ b.input → show_answer w a ≡ show_answer w b
 show-same w a b n i = rw (n, i) refl
 
+rewrite-same : (w : RewriteWords) (a b : SourceState) → a.named ≡ b.named → a.input ≡ b.input → rewrite_response w a ≡ rewrite_response w b
+rewrite-same w a b n i = rw (n, i) refl
+
 answers-same : (a b : SourceState) (q : Option Request) (r : Shown) → a.named ≡ b.named → a.input ≡ b.input → IsAnswer (answer_in a q) r → IsAnswer (answer_in b q) r
 answers-same a b None r n i h = h
 answers-same a b (Some (login w)) r n i (zone, reads, is) = (zone, reads, is ∙ values-same login_by w.files a b (login_spelled w zone) n i)
 answers-same a b (Some (host w)) r n i h = h ∙ values-same host_by w.files a b (host_spelled w) n i
 answers-same a b (Some (sshsig w)) r n i h = h ∙ signature-same w a b n i
+answers-same a b (Some (rewrite w)) r n i h = h ∙ rewrite-same w a b n i
 answers-same a b (Some (show w)) r n i h = subst (λ (o : Answer). IsAnswer o r) (show-same w a b n i) h
 
 fault-since : (q : Option Request) (s t : SourceState) (u : Option SourceState) (r : Shown) → t.failures ≡ s.failures → IsReadFault q t u r → IsReadFault q s u r
@@ -44,6 +48,7 @@ fault-since None s t u r f h = h
 fault-since (Some (login w)) s t u r f h = audit_fault-since w.files s t u r f h
 fault-since (Some (host w)) s t u r f h = audit_fault-since w.files s t u r f h
 fault-since (Some (sshsig w)) s t u r f h = signature_fault-since w s t u r f h
+fault-since (Some (rewrite w)) s t u r f h = (one-failed s t u w.file f h.0, h.1)
 fault-since (Some (show w)) s t u r f h = (one-failed s t u w.file f h.0, h.1)
 
 shifted : (q : Option Request) (s t : SourceState) (u : Option SourceState) (r : Shown) → t.named ≡ (after_line s).named → t.input ≡ (after_line s).input → t.failures ≡ s.failures

@@ -42,9 +42,15 @@ sshsig_options = (codes "body", true) ∷ (codes "message", true) ∷ (codes "na
 unfoldable pub sshsig_app : App
 sshsig_app = with_options (new_app (codes "sshsig")) sshsig_options
 
+abbrev pub rewrite_options : List (Text × Bool)
+rewrite_options = (codes "kind", true) ∷ (codes "file", true) ∷ []
+
+unfoldable pub rewrite_app : App
+rewrite_app = with_options (new_app (codes "rewrite")) rewrite_options
+
 -- the program and its subcommands
 abbrev pub with_commands : App
-with_commands = with_subcommand (with_subcommand (with_subcommand (with_subcommand (new_app (codes "ssh_audit")) show_app.top) login_app.top) host_app.top) sshsig_app.top
+with_commands = with_subcommand (with_subcommand (with_subcommand (with_subcommand (with_subcommand (new_app (codes "ssh_audit")) show_app.top) login_app.top) host_app.top) sshsig_app.top) rewrite_app.top
 
 -- the program's command line: the words begin with a subcommand, which has to be there
 abbrev pub command_line : App
@@ -78,12 +84,18 @@ pub record ShowWords : Type 0 where
   pub kind : Text
   pub file : Text
 
+-- the texts of the options of `rewrite`
+pub record RewriteWords : Type 0 where
+  pub kind : Text
+  pub file : Text
+
 -- what the words may ask for
 pub data Request : Type 0 where
   login : LoginWords → Request
   host : HostWords → Request
   show : ShowWords → Request
   sshsig : SshsigWords → Request
+  rewrite : RewriteWords → Request
 
 infixl 10 ◌>>=◌
 abbrev pub ◌>>=◌ : {A B : Type 0} → Option A → (A → Option B) → Option B
@@ -141,11 +153,18 @@ sshsig_words rows = do
   namespace ← first_of (codes "namespace") rows
   Some (record { body = body; message = message; namespace = namespace; vouch = first_of (codes "vouch") rows })
 
+unfoldable pub rewrite_words : List Row → Option RewriteWords
+rewrite_words rows = do
+  kind ← first_of (codes "kind") rows
+  file ← first_of (codes "file") rows
+  Some (record { kind = kind; file = file })
+
 abbrev pub request_in : Text × List Row → Option Request
 request_in p = if bytes_eq p.0 (codes "login") then option_map (λ w. login w) (login_words p.1)
     else if bytes_eq p.0 (codes "host") then option_map (λ w. host w) (host_words p.1)
     else if bytes_eq p.0 (codes "show") then option_map (λ w. show w) (show_words p.1)
     else if bytes_eq p.0 (codes "sshsig") then option_map (λ w. sshsig w) (sshsig_words p.1)
+    else if bytes_eq p.0 (codes "rewrite") then option_map (λ w. rewrite w) (rewrite_words p.1)
     else None
 
 -- what the words ask for, where they have no fault: the values that the command line gives to the options

@@ -3,12 +3,13 @@ use Rattle.std.specs.Prelude.{◌≡◌, ◌≢◌, ℕ, List, Some, None, Resul
 use Rattle.clap.specs.Words.{kind_of}
 use Rattle.clap.specs.declared.error.Error.{Error}
 use Rattle.clap.specs.declared.error.ErrorKind.TheVariants.{OutOfMemory}
-use Rattle.ssh_command.specs.CommandLine.{HostWords as HostTexts, LoginWords as LoginTexts, ShowWords as ShowTexts, Request as Asked, host, login, show, sshsig, request_of}
+use Rattle.ssh_command.specs.CommandLine.{HostWords as HostTexts, LoginWords as LoginTexts, RewriteWords as RewriteTexts, ShowWords as ShowTexts, Request as Asked, host, login, rewrite, show, sshsig, request_of}
 use Rattle.ssh_answers.specs.AskedView.{names_of, sshsig_texts_of}
 use Rattle.ssh_command.specs.declared.request.HostWords.{HostWords}
 use Rattle.ssh_command.specs.declared.request.LoginWords.{LoginWords}
 use Rattle.ssh_command.specs.declared.request.Request.{Request}
-use Rattle.ssh_command.specs.declared.request.Request.TheVariants.{Host, Login, Show, Sshsig}
+use Rattle.ssh_command.specs.declared.request.Request.TheVariants.{Host, Login, Rewrite, Show, Sshsig}
+use Rattle.ssh_command.specs.declared.request.RewriteWords.{RewriteWords}
 use Rattle.ssh_command.specs.declared.request.ShowWords.{ShowWords}
 use Rattle.ssh_command.specs.declared.request.WordsFault.{WordsFault}
 use Rattle.ssh_command.specs.declared.request.WordsFault.TheVariants.{Usage, Memory}
@@ -42,11 +43,15 @@ host_texts_of w = record {
 abbrev pub show_texts_of : ShowWords → ShowTexts
 show_texts_of w = record { kind = w.kind.now; file = w.file.now }
 
+abbrev pub rewrite_texts_of : RewriteWords → RewriteTexts
+rewrite_texts_of w = record { kind = w.kind.now; file = w.file.now }
+
 abbrev pub request_in_memory : Request → Asked
 request_in_memory (Login w) = login (texts_of w)
 request_in_memory (Host w) = host (host_texts_of w)
 request_in_memory (Show w) = show (show_texts_of w)
 request_in_memory (Sshsig w) = sshsig (sshsig_texts_of w)
+request_in_memory (Rewrite w) = rewrite (rewrite_texts_of w)
 
 -- the request that the words spell, or a usage fault where they spell none, unless memory was refused
 abbrev pub Parses : List (List ℕ) → Result Request WordsFault → Type 0

@@ -7,10 +7,12 @@ use Rattle.ssh_wire.specs.Reading.{◌>>=◌}
 use Rattle.ssh_command.specs.declared.request.WordsFault.{WordsFault}
 use Rattle.ssh_command.specs.declared.request.WordsFault.TheVariants.{Usage, Memory}
 use Rattle.ssh_trust.specs.Query.{HostCheck, Login}
-use Rattle.ssh_command.specs.CommandLine.{HostWords, LoginWords, Request, ShowWords, host, login, show, sshsig, request_of}
+use Rattle.ssh_command.specs.CommandLine.{HostWords, LoginWords, Request, RewriteWords, ShowWords, host, login, rewrite, show, sshsig, request_of}
 use Rattle.ssh_answers.specs.Asked.{AuditFiles}
 use Rattle.ssh_answers.specs.Audits.{Deciding, IsAuditFault, audit_response, host_by, login_by}
 use Rattle.ssh_answers.specs.Signatures.{IsSignatureFault, signature_response}
+use Rattle.ssh_answers.specs.declared.rewriting.RewriteKind.{RewriteKind}
+use Rattle.ssh_answers.specs.Rewritings.{IsRewriteFault, rewrite_kind, rewrite_over}
 use Rattle.ssh_inputs.specs.SourceState.{SourceState, bytes_at}
 use Rattle.ssh_show.specs.declared.kind.ShowKind.{ShowKind}
 use Rattle.ssh_show.specs.Showing.{Shows, show_kind}
@@ -101,6 +103,13 @@ show_by_kind (Some kind) name file = show_over kind name (within_limit file)
 abbrev pub show_answer : ShowWords → SourceState → Answer
 show_answer w s = show_by_kind (show_kind w.kind) w.file (bytes_at s w.file)
 
+abbrev pub rewrite_by_kind : Option RewriteKind → Option (List ℕ) → Response
+rewrite_by_kind None file = value_response (codes "kind")
+rewrite_by_kind (Some kind) file = rewrite_over kind file
+
+abbrev pub rewrite_response : RewriteWords → SourceState → Response
+rewrite_response w s = rewrite_by_kind (rewrite_kind w.kind) (bytes_at s w.file)
+
 -- the answer to a request
 abbrev pub answer_in : SourceState → Option Request → Answer
 answer_in s None = exactly usage_response
@@ -108,6 +117,7 @@ answer_in s (Some (login w)) = login_in_zone w s
 answer_in s (Some (host w)) = exactly (host_response w s)
 answer_in s (Some (show w)) = show_answer w s
 answer_in s (Some (sshsig w)) = exactly (signature_response w s)
+answer_in s (Some (rewrite w)) = exactly (rewrite_response w s)
 
 -- where no word is given, the words are those of the first line of standard input
 abbrev pub request_words : List (List ℕ) → SourceState → List (List ℕ)
@@ -131,6 +141,7 @@ IsReadFault (Some (login w)) s t r = IsAuditFault w.files s t r
 IsReadFault (Some (host w)) s t r = IsAuditFault w.files s t r
 IsReadFault (Some (show w)) s t r = OneReadFailed s t w.file × (r ≡ no_file_response w.file)
 IsReadFault (Some (sshsig w)) s t r = IsSignatureFault w s t r
+IsReadFault (Some (rewrite w)) s t r = IsRewriteFault w.file s t r
 
 -- the response is the wanted one, and no read failed; or one failed, and it is the fault of the file that was read
 abbrev pub RespondsBy : Option Request → Answer → SourceState → Option SourceState → Response → Type 0

@@ -1,12 +1,13 @@
 //! The command line.
 
-ghost use Rattle.std.specs.Prelude.{◌≡◌, IfOk};
-ghost use Rattle.clap.specs.Words.{app_of, with_rule};
+ghost use Rattle.std.specs.Prelude.{◌≡◌, IfOk, true};
+ghost use Rattle.clap.specs.Words.{app_of, with_rule, with_subcommand};
 ghost use Rattle.ssh_command.specs.CommandLine.{
   command_line,
   option_rule,
   host_app,
   login_app,
+  rewrite_app,
   show_app,
   sshsig_app,
 };
@@ -89,6 +90,29 @@ fn sshsig_command<'a>(alloc: Global) -> Result<Command<'a>, AllocError>
     Ok(command)
 }
 
+/// The subcommand `rewrite`.
+#[tactic(auto, unfolding(crate::specs::CommandLine::rewrite_app))]
+fn rewrite_command<'a>(alloc: Global) -> Result<Command<'a>, AllocError>
+    ensures { IfOk result (λ c. app_of c ≡ rewrite_app) }
+{
+    let command = Command::new(alloc, "rewrite");
+    let command = with_option(alloc, command, "kind", true)?;
+    let command = with_option(alloc, command, "file", true)?;
+    Ok(command)
+}
+
+/// The command with one more subcommand.
+fn with_command<'a>(
+    command: Command<'a>,
+    subcommand: Command<'a>,
+) -> Result<Command<'a>, AllocError>
+    ensures { (app_of subcommand.entry).top.is_plain ≡ true → IfOk result (λ c.
+        app_of c ≡ with_subcommand (app_of command.entry) (app_of subcommand.entry).top) }
+{
+    let command = command.subcommand(subcommand)?;
+    Ok(command)
+}
+
 /// The program's command line.
 pub fn program<'a>(alloc: Global) -> Result<Command<'a>, AllocError>
     ensures { IfOk result (λ c. app_of c ≡ command_line) }
@@ -97,9 +121,11 @@ pub fn program<'a>(alloc: Global) -> Result<Command<'a>, AllocError>
     let login = login_command(alloc)?;
     let host = host_command(alloc)?;
     let sshsig = sshsig_command(alloc)?;
-    let showing = Command::new(alloc, "ssh_audit").subcommand(show)?;
-    let logging_in = showing.subcommand(login)?;
-    let trusting = logging_in.subcommand(host)?;
-    let program = trusting.subcommand(sshsig)?;
+    let rewrite = rewrite_command(alloc)?;
+    let showing = with_command(Command::new(alloc, "ssh_audit"), show)?;
+    let logging_in = with_command(showing, login)?;
+    let trusting = with_command(logging_in, host)?;
+    let signing = with_command(trusting, sshsig)?;
+    let program = with_command(signing, rewrite)?;
     Ok(program.no_binary_name(true).subcommand_required(true))
 }

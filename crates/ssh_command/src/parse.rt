@@ -6,6 +6,7 @@ ghost use Rattle.ssh_command.specs.CommandLine.{
   audit_files,
   host_words,
   login_words,
+  rewrite_words,
   show_words,
   sshsig_words,
   request_in,
@@ -15,13 +16,14 @@ ghost use Rattle.ssh_command.specs.Parsing.{
   Parses,
   host_texts_of,
   request_in_memory,
+  rewrite_texts_of,
   texts_of,
   show_texts_of,
 };
 ghost use Rattle.ssh_answers.specs.AskedView.{names_of, sshsig_texts_of};
 
 use crate::command::program;
-use crate::request::{HostWords, LoginWords, Request, ShowWords, WordsFault};
+use crate::request::{HostWords, LoginWords, Request, RewriteWords, ShowWords, WordsFault};
 use clap::error::ErrorKind;
 use clap::{ArgMatches, Error};
 use ssh_answers::{AuditFiles, SshsigWords};
@@ -115,6 +117,17 @@ fn sshsig_words<'a>(matches: &ArgMatches<'a>) -> Option<SshsigWords<'a>>
     })
 }
 
+/// The texts of the options of `rewrite`.
+#[tactic(auto, unfolding(crate::specs::CommandLine::rewrite_words))]
+fn rewrite_words<'a>(matches: &ArgMatches<'a>) -> Option<RewriteWords<'a>>
+    ensures { option_map rewrite_texts_of result ≡ rewrite_words (rows_of (found_of matches.now)) }
+{
+    Some(RewriteWords {
+        kind: value(matches, "kind")?,
+        file: value(matches, "file")?,
+    })
+}
+
 /// The request of the subcommand.
 fn request<'a>(matches: &ArgMatches<'a>) -> Option<Request<'a>>
     ensures { option_map request_in_memory result
@@ -135,6 +148,10 @@ fn request<'a>(matches: &ArgMatches<'a>) -> Option<Request<'a>>
         },
         Some((name, found)) if name == "sshsig" => match sshsig_words(found) {
             Some(words) => Some(Request::Sshsig(words)),
+            None => None,
+        },
+        Some((name, found)) if name == "rewrite" => match rewrite_words(found) {
+            Some(words) => Some(Request::Rewrite(words)),
             None => None,
         },
         _ => None,

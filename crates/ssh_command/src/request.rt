@@ -36,6 +36,13 @@ pub struct ShowWords<'a> {
     pub file: &'a str,
 }
 
+/// The texts of the options of `rewrite`.
+#[derive(Clone, Copy)]
+pub struct RewriteWords<'a> {
+    pub kind: &'a str,
+    pub file: &'a str,
+}
+
 /// What is asked for.
 #[derive(Clone, Copy)]
 pub enum Request<'a> {
@@ -43,6 +50,7 @@ pub enum Request<'a> {
     Host(HostWords<'a>),
     Show(ShowWords<'a>),
     Sshsig(SshsigWords<'a>),
+    Rewrite(RewriteWords<'a>),
 }
 
 /// Why words give no request.

@@ -1,7 +1,7 @@
 //! From words and files to what is printed.
 
 ghost use Rattle.std.specs.Prelude.{◌<◌, ◌^◌, [], length, map, IfOk, Ok, Some};
-ghost use Rattle.ssh_command.specs.CommandLine.{host, login, show, request_of};
+ghost use Rattle.ssh_command.specs.CommandLine.{host, login, rewrite, show, request_of};
 ghost use Rattle.ssh_answers.specs.Audits.{host_by, login_by};
 ghost use Rattle.ssh_command.specs.Requests.{
   Responds,
@@ -10,6 +10,7 @@ ghost use Rattle.ssh_command.specs.Requests.{
   exactly,
   host_response,
   login_in_zone,
+  rewrite_response,
   show_answer,
   spelled_response,
 };
@@ -18,6 +19,7 @@ ghost use Rattle.ssh_command.specs.Responding.{IsUsageOf};
 ghost use Rattle.ssh_command.specs.Parsing.{
   host_texts_of,
   request_in_memory,
+  rewrite_texts_of,
   show_texts_of,
   texts_of,
 };
@@ -25,9 +27,11 @@ ghost use Rattle.ssh_print.specs.ResponseView.{response};
 ghost use Rattle.ssh_inputs.specs.SourceState.{IfTells};
 
 use crate::parse::parse;
-use crate::request::{HostWords, LoginWords, Request, ShowWords, WordsFault};
+use crate::request::{HostWords, LoginWords, Request, RewriteWords, ShowWords, WordsFault};
 use crate::values::{HostValues, LoginValues, ValueFault, read_host_values, read_login_values};
-use ssh_answers::{LoginQuestion, respond_question, respond_sshsig, unread};
+use ssh_answers::{
+    LoginQuestion, respond_question, respond_rewrite, respond_sshsig, rewrite_kind, unread,
+};
 use ssh_inputs::{Files, ReadFault, read_first_line, read_whole, read_words};
 use ssh_print::{Response, usage_fault, value_fault};
 use ssh_show::{show, show_kind};
@@ -138,6 +142,43 @@ fn respond_show<F: Files>(
     }
 }
 
+/// The response to `rewrite`.
+fn respond_rewriting<F: Files>(
+    alloc: Global,
+    words: &RewriteWords<'_>,
+    files: &mut F,
+) -> Result<Response, AllocError>
+    ensures { IfTells (F.source_state files.old) (λ s. IfOk result (λ r.
+        RespondsBy (Some (rewrite (rewrite_texts_of words.entry.now)))
+        (exactly (rewrite_response (rewrite_texts_of words.entry.now) s)) s
+        (F.source_state files.new) (response r))) }
+{
+    match rewrite_kind(words.kind) {
+        Some(kind) => respond_rewrite(alloc, kind, words.file, files),
+        None => value_fault(alloc, "kind"),
+    }
+}
+
+/// The response to a request.
+fn respond_request<F: Files>(
+    alloc: Global,
+    request: &Request<'_>,
+    files: &mut F,
+) -> Result<Response, AllocError>
+    ensures { IfTells (F.source_state files.old) (λ s. IfOk result (λ r.
+        RespondsBy (Some (request_in_memory request.entry.now))
+        (answer_in s (Some (request_in_memory request.entry.now))) s
+        (F.source_state files.new) (response r))) }
+{
+    match request {
+        Request::Login(words) => respond_login(alloc, words, files),
+        Request::Host(words) => respond_host(alloc, words, files),
+        Request::Show(words) => respond_show(alloc, words, files),
+        Request::Sshsig(words) => respond_sshsig(alloc, words, files),
+        Request::Rewrite(words) => respond_rewriting(alloc, words, files),
+    }
+}
+
 /// The response to words, of which there are some.
 fn respond_words<S: AsStr, F: Files>(
     alloc: Global,
@@ -148,10 +189,7 @@ fn respond_words<S: AsStr, F: Files>(
         RespondsBy (request_of (map S.text words.now)) (answer_in s (request_of (map S.text words.now))) s (F.source_state files.new) (response r))) }
 {
     match parse(alloc, words) {
-        Ok(Request::Login(words)) => respond_login(alloc, &words, files),
-        Ok(Request::Host(words)) => respond_host(alloc, &words, files),
-        Ok(Request::Show(words)) => respond_show(alloc, &words, files),
-        Ok(Request::Sshsig(words)) => respond_sshsig(alloc, &words, files),
+        Ok(request) => respond_request(alloc, &request, files),
         Err(WordsFault::Usage) => usage_fault(alloc),
         Err(WordsFault::Memory) => Err(AllocError),
     }

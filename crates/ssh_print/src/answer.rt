@@ -88,7 +88,7 @@ fn status_of(decision: &Decision) -> u8
 }
 
 /// The response to a fault that stands in the place of an answer.
-pub(crate) fn audit_fault(alloc: Global, error: AuditError) -> Result<Response, AllocError>
+pub fn audit_fault(alloc: Global, error: AuditError) -> Result<Response, AllocError>
     ensures { IfOk result (λ r. response r ≡ refused_response error) }
 {
     let mut text = Vec::new(alloc);

@@ -11,8 +11,8 @@ mod signature_text;
 mod text;
 
 pub use answer::{
-    body_fault, cert_fault, decision_response, file_fault, line_fault, usage_fault, value_fault,
-    vouch_fault,
+    audit_fault, body_fault, cert_fault, decision_response, file_fault, line_fault, usage_fault,
+    value_fault, vouch_fault,
 };
 pub use line::{push_number_line, push_text_line, push_word_line};
 pub use response::{DONE, FAULT, Response};

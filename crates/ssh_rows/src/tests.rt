@@ -55,6 +55,17 @@ pub(crate) fn printed(
     Ok((status, Vec::from_slice(alloc, page.taken())?))
 }
 
+/// The file of a login or of a host's key, written anew.
+fn anew(alloc: Global, words: &[&str], file: &[u8]) -> Result<Vec<u8>, Fail> {
+    let kind = match words.first() {
+        Some(&"login") => "auth",
+        _ => "known",
+    };
+    let words = ["rewrite", "--kind", kind, "--file", "f"];
+    let (_, new) = printed(alloc, words.as_slice(), file, b"")?;
+    Ok(new)
+}
+
 /// The status that goes with an answer.
 fn status_of(answer: &str) -> u8 {
     match answer.split_once(' ') {
@@ -92,7 +103,7 @@ pub(crate) fn compare(
     Ok(())
 }
 
-/// The same of the lines before the evidence.
+/// The same of the lines before the evidence, and of those over the file written anew.
 pub(crate) fn compare_head(
     rt: &impl Abort,
     alloc: Global,
@@ -101,8 +112,10 @@ pub(crate) fn compare_head(
     input: &str,
     wanted: &str,
 ) -> Result<(), Fail> {
-    let (status, found) = printed(alloc, words, file, input.as_bytes())?;
-    compare_text(rt, status, str::from_utf8(&found).ok().map(head_of), wanted);
+    for file in [file, anew(alloc, words, file)?.as_slice()] {
+        let (status, found) = printed(alloc, words, file, input.as_bytes())?;
+        compare_text(rt, status, str::from_utf8(&found).ok().map(head_of), wanted);
+    }
     Ok(())
 }
 
@@ -138,7 +151,7 @@ fn refuses_words_that_cannot_be_read(rt: HostRuntime) -> Result<(), Fail> {
 }
 
 /// What is printed where the read of this index fails, and every later one.
-fn compare_failed(
+pub(crate) fn compare_failed(
     rt: &impl Abort,
     alloc: Global,
     file: &str,
