@@ -146,6 +146,14 @@ words_respond view text [] o u res some h = absurd (omega (arith, some))
 words_respond view text (w ∷ words) None u res some h = tt
 words_respond view text (w ∷ words) (Some s) u res some h = λ counts. given view (text w) (map text words) s u res (h counts)
 
+-- what is answered to a request is answered to the words that spell it
+pub request_responds : {R E : Type 0} (view : R → Shown) (p q : Option Request) (o u : Option SourceState) (res : Result R E) → p ≡ q
+    → IfTells o (λ s. IfOk res (λ r. RespondsBy q (answer_in s q) s u (view r)))
+    → IfTells o (λ s. IfOk res (λ r. RespondsBy p (answer_in s p) s u (view r)))
+request_responds view p q o u res e h =
+    let P : Option Request → Type 0 = λ x. IfTells o (λ s. IfOk res (λ r. RespondsBy x (answer_in s x) s u (view r))) in
+    subst P (sym e) h
+
 -- no words: those of the first line of standard input
 pub no_words_respond : {R E W : Type 0} (view : R → Shown) (text : W → List ℕ) (words : List W) (o u : Option SourceState) (res : Result R E) → length words ≡ 0
     → IfTells o (λ s. IfOk res (λ r. Responds [] s u (view r)))

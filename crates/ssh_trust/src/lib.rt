@@ -13,6 +13,8 @@ mod laws;
 mod login_audit;
 mod login_scan;
 mod logins;
+#[cfg(test)]
+mod piece_tests;
 mod pieces;
 #[cfg(test)]
 mod reader_tests;

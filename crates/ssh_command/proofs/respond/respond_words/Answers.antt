@@ -1,0 +1,12 @@
+use Rattle.std.proofs.Common.{Some, map, rules}
+use Rattle.ssh_print.specs.ResponseView.{response}
+use Rattle.ssh_command.specs.CommandLine.{request_of}
+use Rattle.ssh_command.specs.Parsing.{request_in_memory}
+use Rattle.ssh_command.proofs.ResponseLemmas.{request_responds}
+use Rattle.ssh_command.proofs.respond.respond_words.Goals as goal
+
+pub returns-in-Ok : goal.returns-in-Ok
+returns-in-Ok g c =
+    request_responds response (request_of (map g.S.AsStr.text c.args.words.now)) (Some (request_in_memory c.in-Ok.request))
+    (g.F.Files.source_state c.args.files.now) (g.F.Files.source_state c.respond_request.new.files) c.respond_request.result
+    (search rules) c.respond_request.ensures

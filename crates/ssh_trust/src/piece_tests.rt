@@ -1,0 +1,100 @@
+//! Lines at the limit and past it, in pieces of any size.
+
+use crate::tests::{host_query, query};
+use crate::{
+    Cause, Decision, HostAudit, LoginAudit, Reason, Signed, evidence_of_host, evidence_of_login,
+};
+use jiff::tz::TimeZone;
+use ssh_options::LineCause;
+use std::alloc::Global;
+use std::test::Fail;
+
+const NO_SIGNATURE: [Signed; 0] = [];
+
+/// A line of an authorized_keys file that holds the key.
+const OPEN: &[u8] =
+    b"ssh-ed25519 AAAAC3NzaC1lZDI1NTE5AAAAIAAAAAAAAAAAAAAAAAAAAAAAAAAAAAAAAAAAAAAAAAAA ";
+
+/// A line of a known_hosts file that holds the key.
+const KNOWN_OPEN: &[u8] =
+    b"h ssh-ed25519 AAAAC3NzaC1lZDI1NTE5AAAAIAAAAAAAAAAAAAAAAAAAAAAAAAAAAAAAAAAAAAAAAAAA ";
+
+/// The line, filled with its comment to this length.
+fn filled(alloc: Global, line: &[u8], len: usize) -> Result<Vec<u8>, Fail> {
+    let mut bytes = Vec::from_slice(alloc, line)?;
+    bytes.resize(len, b'x')?;
+    Ok(bytes)
+}
+
+/// Whether this is a denial since no line admits, the first being too long.
+fn is_too_long(decision: &Decision) -> bool {
+    match decision {
+        Decision::Denied { why, reasons, .. } => {
+            *why == Cause::NoLine
+                && matches!(
+                    reasons.as_slice(),
+                    [(1, Reason::Unreadable(LineCause::TooLong))]
+                )
+        }
+        Decision::Granted { .. } => false,
+    }
+}
+
+#[test]
+fn holds_the_limit_of_a_line_in_pieces(rt: HostRuntime) -> Result<(), Fail> {
+    let alloc = rt.alloc();
+    let zone = TimeZone::UTC;
+    let query = query(&zone);
+    let evidence = evidence_of_login(alloc, &query)?;
+    for (len, admits) in [(65_536, true), (65_537, false)] {
+        let mut audit = LoginAudit::new(alloc, &query)?;
+        for piece in filled(alloc, OPEN, len)?.chunks(1000) {
+            audit.feed(b"")?;
+            audit.feed(piece)?;
+        }
+        let decision = audit.finish(evidence.as_slice())?;
+        assert_eq!(rt; matches!(decision, Decision::Granted { line: 1, .. }), admits);
+        assert_eq!(rt; is_too_long(&decision), !admits);
+    }
+    Ok(())
+}
+
+#[test]
+fn holds_the_limit_of_a_known_line_in_pieces(rt: HostRuntime) -> Result<(), Fail> {
+    let alloc = rt.alloc();
+    let query = host_query();
+    let evidence = evidence_of_host(alloc, &query)?;
+    for (len, admits) in [(65_536, true), (65_537, false)] {
+        let mut audit = HostAudit::new(alloc, &query)?;
+        for piece in filled(alloc, KNOWN_OPEN, len)?.chunks(1000) {
+            audit.feed(piece)?;
+        }
+        match audit.finish(evidence.as_slice())? {
+            Decision::Granted { line, .. } => assert_eq!(rt; (line, admits), (1, true)),
+            Decision::Denied { why, .. } => {
+                assert_eq!(rt; (why, admits), (Cause::RevocationUnreadable(1), false));
+            }
+        }
+    }
+    Ok(())
+}
+
+#[test]
+fn takes_a_long_line_byte_by_byte(rt: HostRuntime) -> Result<(), Fail> {
+    let alloc = rt.alloc();
+    let zone = TimeZone::UTC;
+    let login_query = query(&zone);
+    let host_query = host_query();
+    let mut login = LoginAudit::new(alloc, &login_query)?;
+    let mut host = HostAudit::new(alloc, &host_query)?;
+    for _ in 0..1_000_000 {
+        login.feed(b"a")?;
+        host.feed(b"a")?;
+    }
+    assert!(rt; is_too_long(&login.finish(NO_SIGNATURE.as_slice())?));
+    match host.finish(NO_SIGNATURE.as_slice())? {
+        Decision::Denied { why, .. } => assert_eq!(rt; why, Cause::RevocationUnreadable(1)),
+        Decision::Granted { .. } => return Err(Fail::new("denied")),
+    }
+    Ok(())
+}
