@@ -86,10 +86,10 @@ unvouched-at vouched [] h = absurd (omega arith)
 unvouched-at vouched (s ∷ evidence) h =
     elim (cases_Bool (is_vouched vouched s)) [
       | inl e ↦
-      let below : 1 + vouched_len vouched evidence < suc (length evidence) = rw e at h in
-      let next : suc (vouched_len vouched evidence) ≡ 1 + vouched_len vouched evidence = omega arith in
-      rw e (subst (IsFirstUnvouched vouched (s ∷ evidence)) next
-      (unvouched-later vouched s evidence (vouched_len vouched evidence) e (unvouched-at vouched evidence (omega arith))))
+          let below : 1 + vouched_len vouched evidence < suc (length evidence) = rw e at h in
+          let next : suc (vouched_len vouched evidence) ≡ 1 + vouched_len vouched evidence = omega arith in
+          rw e (subst (IsFirstUnvouched vouched (s ∷ evidence)) next
+          (unvouched-later vouched s evidence (vouched_len vouched evidence) e (unvouched-at vouched evidence (omega arith))))
       | inr e ↦ rw e (unvouched-here vouched s evidence e)
     ]
 
@@ -252,10 +252,10 @@ are-reasons {E = E} {Spells = Spells} {IsAdmitting = IsAdmitting} {Reasoned = Re
         listed-in 1 (map verdict (lines_of file)) n why (n - 1) (omega (arith, one))
         (map-at verdict (lines_of file) (n - 1) p.line at ∙ ap (λ x. Some x) is)
         (λ j e le admitted.
-            let first = first-below 1 (map verdict (lines_of file)) j e admitted in
-            let low = first.2 in
-            let after = p.before first.0.0 first.0.1 (candidate-is verdict judges file first.0.0 first.0.1 bytes first.1) in
-            absurd (omega (arith, low, after, le, one)))
+        let first = first-below 1 (map verdict (lines_of file)) j e admitted in
+        let low = first.2 in
+        let after = p.before first.0.0 first.0.1 (candidate-is verdict judges file first.0.0 first.0.1 bytes first.1) in
+        absurd (omega (arith, low, after, le, one)))
 
 -- an entry with an obstacle
 obstacle-is : {E : Type 0} (o : Option Obstacle) (e : E) (why : Reason) → verdict_by o e ≡ Passes (Some why) → o ≡ Some (Listed why)

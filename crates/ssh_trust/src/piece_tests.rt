@@ -53,7 +53,10 @@ fn holds_the_limit_of_a_line_in_pieces(rt: HostRuntime) -> Result<(), Fail> {
             audit.feed(piece)?;
         }
         let decision = audit.finish(evidence.as_slice())?;
-        assert_eq!(rt; matches!(decision, Decision::Granted { line: 1, .. }), admits);
+        assert_eq!(rt;
+            matches!(decision, Decision::Granted { line: 1, .. }),
+            admits
+        );
         assert_eq!(rt; is_too_long(&decision), !admits);
     }
     Ok(())
