@@ -228,6 +228,10 @@ def rows():
     yield sshsig(".", "missing"), "fault file .\n", 2
     yield sshsig("missing", "."), "fault file missing\n", 2
     yield show("key", "."), "fault file .\n", 2, keys
+    # a refused offer is told first
+    yield login("missing", "vouched", algorithm="ssh-rsa"), "fault A3\n", 2
+    yield login(".", "vouched", algorithm="ssh-rsa"), "fault A3\n", 2
+    yield host("missing", "host vouched", signature="00"), "fault A2 V1 0\n", 2
     # files without an end
     yield login("/dev/zero"), "fault A7\n", 2
     yield login("keys", "/dev/zero"), "fault file /dev/zero\n", 2
