@@ -2,3 +2,4 @@ mod PlainCommand
 mod WrittenText
 mod CommandLineLemmas
 mod ResponseLemmas
+mod GrantedRunLemmas

@@ -4,3 +4,4 @@ pub mod Requests
 pub mod ValuesRead
 pub mod Responding
 pub mod Printing
+pub mod GrantedRuns

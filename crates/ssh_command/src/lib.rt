@@ -2,11 +2,13 @@
 #![tactic(auto)]
 
 mod command;
+mod laws;
 mod parse;
 mod program;
 mod request;
 mod respond;
 mod values;
 
+pub use laws::granted_rule;
 pub use program::{refuse, run};
 pub use request::WordsFault;
