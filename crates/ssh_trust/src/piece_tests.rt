@@ -28,16 +28,16 @@ fn filled(alloc: Global, line: &[u8], len: usize) -> Result<Vec<u8>, Fail> {
 
 /// Whether this is a denial since no line admits, the first being too long.
 fn is_too_long(decision: &Decision) -> bool {
-    match decision {
-        Decision::Denied { why, reasons, .. } => {
-            *why == Cause::NoLine
-                && matches!(
-                    reasons.as_slice(),
-                    [(1, Reason::Unreadable(LineCause::TooLong))]
-                )
-        }
-        Decision::Granted { .. } => false,
-    }
+    let Decision::Denied { why, reasons, .. } = decision else {
+        return false;
+    };
+    let [only] = reasons.as_slice() else {
+        return false;
+    };
+    let (number, reason) = only;
+    *why == Cause::NoLine
+        && *number == 1
+        && matches!(reason, Reason::Unreadable(LineCause::TooLong))
 }
 
 #[test]
