@@ -1,6 +1,6 @@
 //! A key that keeps its blob.
 
-ghost use Rattle.std.specs.Prelude.{◌≡◌, IfOk, Ok};
+ghost use Rattle.std.specs.Prelude.{◌≡◌, ◌↔◌, IfOk, IsTrue, Ok};
 ghost use Rattle.ssh_keys.specs.KeyReading.{key_in};
 ghost use Rattle.ssh_keys.specs.PublicKey.{PublicKey, IsKeyBlob, key_blob};
 
@@ -62,4 +62,31 @@ impl Key {
     {
         &self.blob
     }
+}
+
+/// Keys are equal exactly where their blobs are.
+impl PartialEq for Key {
+    ghost use Rattle.std.specs.Cmp.{on_per, partial_equiv_from_equiv};
+    ghost use Rattle.std.specs.Cmp.Lexicographic.{nat_list_eq_equiv};
+    ghost use Rattle.std.specs.Str.{bytes_eq};
+    ghost use Rattle.ssh_keys.specs.PublicKey.{key_blob};
+
+    ghost eq = { λ a b. bytes_eq (key_blob a) (key_blob b) };
+
+    ghost laws = { on_per key_blob (partial_equiv_from_equiv nat_list_eq_equiv) };
+
+    fn eq(&self, other: &Self) -> bool
+        ensures blobs { result ≡ bytes_eq (key_blob self.now) (key_blob other.now) }
+        ensures same { IsTrue result ↔ (self.now ≡ other.now) }
+    {
+        self.blob.as_slice() == other.blob.as_slice()
+    }
+}
+
+impl Eq for Key {
+    ghost use Rattle.std.specs.Cmp.{on_equiv};
+    ghost use Rattle.std.specs.Cmp.Lexicographic.{nat_list_eq_equiv};
+    ghost use Rattle.ssh_keys.specs.PublicKey.{key_blob};
+
+    ghost laws = { on_equiv key_blob nat_list_eq_equiv };
 }
