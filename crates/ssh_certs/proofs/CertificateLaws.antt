@@ -335,6 +335,10 @@ certificate_again c is =
 pub certificate_only : (bytes : List ℕ) (found c : Certificate) → certificate_in bytes ≡ Ok found → IsCertificateBlob c bytes → found ≡ c
 certificate_only bytes found c given blob = ok_is {E = CertError} found c (sym given ∙ ap certificate_in blob.spelled ∙ certificate_again c blob.is_certificate)
 
+-- two certificates with one blob are one certificate
+pub one_certificate : (a b : Certificate) → IsCertificate a → IsCertificate b → certificate_blob a ≡ certificate_blob b → a ≡ b
+one_certificate a b a_is b_is e = ok_is {E = CertError} a b (sym (certificate_again a a_is) ∙ ap certificate_in e ∙ certificate_again b b_is)
+
 -- what is refused is no certificate's blob
 pub certificate_refused : (bytes : List ℕ) (e : CertError) (c : Certificate) → certificate_in bytes ≡ Err e → IsCertificateBlob c bytes → ⊥
 certificate_refused bytes e c given blob = let read : certificate_in bytes ≡ Ok c = ap certificate_in blob.spelled ∙ certificate_again c blob.is_certificate in cc

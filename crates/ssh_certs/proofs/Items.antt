@@ -244,3 +244,14 @@ module _ {A : Type 0} (spelling : A → List ℕ) (Fits : A → Type 0) (item : 
   is_done text at none on =
       let one : items_within item on.turns at ≡ Ok [] = ap (λ (r : List ℕ). items_within item on.turns (record { place = at.place; rest = r })) (nil_from_length at.rest none) ∙ no_turn spelling Fits item is on.turns at.place in
       sym (ap (λ (r : Result (List A) WireError). without_items r) one) ∙ on.same
+
+-- ---- what a string holds that is read to its end
+
+module _ {A : Type 0} (spelling : A → List ℕ) (Fits : A → Type 0) (item : Position → Read A) (is : IsItem spelling Fits item) where
+  unpacked_by : (packed : List ℕ) (r : Result (List A) WireError) → items_in item packed ≡ r → IsBytes packed → IsOk r → packed ≡ flat_map spelling (result_unwrap_or r [])
+  unpacked_by packed (Ok xs) e fits read = (items_take spelling Fits item is (length packed) 0 packed xs fits (omega arith) e).0
+  unpacked_by packed (Err f) e fits read = absurd cc
+
+  -- it packs its items
+  pub unpacked : (packed : List ℕ) → IsBytes packed → IsOk (items_in item packed) → packed ≡ flat_map spelling (result_unwrap_or (items_in item packed) [])
+  unpacked packed fits read = unpacked_by packed (items_in item packed) refl fits read

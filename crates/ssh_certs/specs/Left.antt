@@ -2,7 +2,7 @@
 use Rattle.std.specs.Prelude.{ℕ, List}
 use Rattle.ssh_certs.specs.declared.packed.Principals.{Principals}
 use Rattle.ssh_certs.specs.declared.packed.CertOptions.{CertOptions}
-use Rattle.ssh_certs.specs.Certificate.{CertOption}
+use Rattle.ssh_certs.specs.Certificate.{CertOption, packed_names, packed_options}
 use Rattle.ssh_certs.specs.Packed.{names_of, options_of}
 
 -- the principals that are still to come
@@ -12,3 +12,11 @@ principals_left names = names_of names.packed.now
 -- the options that are still to come
 abbrev pub options_left : CertOptions → List CertOption
 options_left options = options_of options.packed.now
+
+-- the string that packs those principals
+abbrev pub packed_names_left : Principals → List ℕ
+packed_names_left names = packed_names (principals_left names)
+
+-- the string that packs those options
+abbrev pub packed_options_left : CertOptions → List ℕ
+packed_options_left options = packed_options (options_left options)

@@ -13,13 +13,13 @@ use thiserror::Error;
 /// inside the signature key and the signature from the first byte of that inner blob.
 #[derive(Clone, Copy, Debug, PartialEq, Eq, Error)]
 pub enum CertError {
-    /// C1: a field passes the end, or bytes stand after the signature.
+    /// C1: a field passes the end (V1), or bytes stand after the signature (V4).
     #[error("{0}")]
     Wire(WireError),
-    /// C2: a fault of the certified public key.
+    /// C2: a fault of the certified public key's fields: K1, or K5 to K7.
     #[error("public key: {0}")]
     Key(KeyError),
-    /// C3: a fault of the signature key.
+    /// C3: a fault of the signature key: K1 to K3, or K5 to K7.
     #[error("signature key: {0}")]
     Signer(KeyError),
     /// C4: the signature key is itself a certificate.
@@ -32,7 +32,7 @@ pub enum CertError {
     /// options.
     #[error("an option at byte {0} passes the end of the options")]
     Options(usize),
-    /// C7: a fault of the signature.
+    /// C7: a fault of the signature: V1 or V4.
     #[error("signature: {0}")]
     Signature(WireError),
     /// C8: the type name is no certificate's.

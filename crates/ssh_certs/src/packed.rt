@@ -1,8 +1,22 @@
 //! Lists that are packed into one string: strings one after the other.
 
-ghost use Rattle.std.specs.Prelude.{◌≡◌, ◌≤◌, [], ◌∷◌, length, IfErr, IfSome, IsOk, MatchOption};
+ghost use Rattle.std.specs.Prelude.{
+  ◌≡◌,
+  ◌≤◌,
+  ◌↔◌,
+  [],
+  ◌∷◌,
+  length,
+  IfErr,
+  IfSome,
+  IsOk,
+  IsTrue,
+  MatchOption,
+};
 ghost use Rattle.std.specs.Iterator.{YieldsFirstRef, YieldsFirstBy, item_count};
+ghost use Rattle.std.specs.Str.{bytes_eq};
 ghost use Rattle.ssh_wire.specs.Reading.{Reads, string_at};
+ghost use Rattle.ssh_certs.specs.Certificate.{packed_names, packed_options};
 ghost use Rattle.ssh_certs.specs.CertificateReading.{items_in, option_at};
 ghost use Rattle.ssh_certs.specs.Packed.{names_of, options_of, option_of, without_items};
 
@@ -43,6 +57,32 @@ impl<'a> Iterator for Principals<'a> {
     }
 }
 
+/// What is left of two lists is equal name for name, in order.
+impl PartialEq for Principals<'_> {
+    ghost use Rattle.std.specs.Cmp.{on_per, partial_equiv_from_equiv};
+    ghost use Rattle.std.specs.Cmp.Lexicographic.{nat_list_eq_equiv};
+    ghost use Rattle.ssh_certs.specs.Left.{principals_left, packed_names_left};
+
+    ghost eq = { λ a b. bytes_eq (packed_names_left a) (packed_names_left b) };
+
+    ghost laws = { on_per packed_names_left (partial_equiv_from_equiv nat_list_eq_equiv) };
+
+    fn eq(&self, other: &Self) -> bool
+        ensures packed { result ≡ bytes_eq (packed_names_left self.now) (packed_names_left other.now) }
+        ensures same { IsTrue result ↔ (principals_left self.now ≡ principals_left other.now) }
+    {
+        equal_names(self.packed, other.packed)
+    }
+}
+
+impl Eq for Principals<'_> {
+    ghost use Rattle.std.specs.Cmp.{on_equiv};
+    ghost use Rattle.std.specs.Cmp.Lexicographic.{nat_list_eq_equiv};
+    ghost use Rattle.ssh_certs.specs.Left.{packed_names_left};
+
+    ghost laws = { on_equiv packed_names_left nat_list_eq_equiv };
+}
+
 /// The critical options or the extensions of a certificate, in the order of the blob: a name and
 /// its data, which are slices of the blob.
 #[derive(Debug, Drop)]
@@ -77,6 +117,55 @@ impl<'a> Iterator for CertOptions<'a> {
         self.packed = rest;
         Some(option)
     }
+}
+
+/// What is left of two lists is equal option for option, in order.
+impl PartialEq for CertOptions<'_> {
+    ghost use Rattle.std.specs.Cmp.{on_per, partial_equiv_from_equiv};
+    ghost use Rattle.std.specs.Cmp.Lexicographic.{nat_list_eq_equiv};
+    ghost use Rattle.ssh_certs.specs.Left.{options_left, packed_options_left};
+
+    ghost eq = { λ a b. bytes_eq (packed_options_left a) (packed_options_left b) };
+
+    ghost laws = { on_per packed_options_left (partial_equiv_from_equiv nat_list_eq_equiv) };
+
+    fn eq(&self, other: &Self) -> bool
+        ensures packed { result
+            ≡ bytes_eq (packed_options_left self.now) (packed_options_left other.now) }
+        ensures same { IsTrue result ↔ (options_left self.now ≡ options_left other.now) }
+    {
+        equal_options(self.packed, other.packed)
+    }
+}
+
+impl Eq for CertOptions<'_> {
+    ghost use Rattle.std.specs.Cmp.{on_equiv};
+    ghost use Rattle.std.specs.Cmp.Lexicographic.{nat_list_eq_equiv};
+    ghost use Rattle.ssh_certs.specs.Left.{packed_options_left};
+
+    ghost laws = { on_equiv packed_options_left nat_list_eq_equiv };
+}
+
+/// Packed names are equal where their strings are.
+fn equal_names(a: &[u8], b: &[u8]) -> bool
+    requires a { IsOk (items_in string_at a.now) }
+    requires b { IsOk (items_in string_at b.now) }
+    ensures packed { result
+        ≡ bytes_eq (packed_names (names_of a.now)) (packed_names (names_of b.now)) }
+    ensures same { IsTrue result ↔ (names_of a.now ≡ names_of b.now) }
+{
+    *a == *b
+}
+
+/// Packed options are equal where their strings are.
+fn equal_options(a: &[u8], b: &[u8]) -> bool
+    requires a { IsOk (items_in option_at a.now) }
+    requires b { IsOk (items_in option_at b.now) }
+    ensures packed { result
+        ≡ bytes_eq (packed_options (options_of a.now)) (packed_options (options_of b.now)) }
+    ensures same { IsTrue result ↔ (options_of a.now ≡ options_of b.now) }
+{
+    *a == *b
 }
 
 /// The first name, and what is packed after it.

@@ -11,7 +11,7 @@ pub struct CertParts<'a> {
     pub key: KeyView<'a>,
     /// The serial number: 0 where the signer counts none.
     pub serial: u64,
-    /// 1 for a user's certificate, 2 for a host's.
+    /// 1 for a user's certificate, 2 for a host's. No number is refused.
     pub kind_number: u32,
     /// The signer's name for the certificate: any bytes.
     pub key_id: &'a [u8],
@@ -19,11 +19,11 @@ pub struct CertParts<'a> {
     pub principals: &'a [&'a [u8]],
     /// The first second in force, counted from 1970-01-01 in UTC.
     pub after: u64,
-    /// The first second no longer in force.
+    /// The first second no longer in force, counted from 1970-01-01 in UTC.
     pub before: u64,
-    /// Names and their data.
+    /// The options that a verifier must know: names and their data, in the order of the blob.
     pub critical: &'a [(&'a [u8], &'a [u8])],
-    /// Names and their data.
+    /// The options that a verifier may pass over: names and their data, in the order of the blob.
     pub extensions: &'a [(&'a [u8], &'a [u8])],
     /// Reserved bytes. They mean nothing.
     pub reserved: &'a [u8],

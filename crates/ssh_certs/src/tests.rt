@@ -1,10 +1,11 @@
 //! What no clause says: certificates from outside with their faults, and that calls that take
 //! memory can succeed.
 
+ghost use Rattle.std.specs.Prelude.{IfOk};
 ghost use Rattle.ssh_keys.specs.Signature.{IsSignature, signature_of};
 
-use crate::{CertError, CertParts, CertView, Time, plain_blob, read_cert, write_cert};
-use ssh_keys::{KeyError, KeyView, SignatureView, read_key};
+use crate::{CertError, CertParts, CertView, Time, WriteError, plain_blob, read_cert, write_cert};
+use ssh_keys::{KeyError, KeyFields, KeyView, SignatureView, read_key};
 use ssh_wire::{WireCause, WireError};
 use std::test::Fail;
 
@@ -263,5 +264,86 @@ fn finds_principals(rt: HostRuntime) -> Result<(), Fail> {
     for (name, want) in rows {
         assert_eq!(rt; view.has_principal(name), want);
     }
+    Ok(())
+}
+
+/// A certificate whose nonce is given and whose other fields were never read.
+fn unread_parts<'a>(
+    nonce: &'a [u8],
+    signature: SignatureView<'a>,
+) -> Result<CertParts<'a>, KeyError>
+    requires { IsSignature (signature_of signature) }
+    ensures { IfOk result (λ parts. IsSignature (signature_of parts.signature)) }
+{
+    let key = KeyView::from_fields(KeyFields::Ed25519 {
+        public: b"abcdefghijklmnopqrstuvwxyz012345",
+    })?;
+    let signer = KeyView::from_fields(KeyFields::SkEd25519 {
+        public: b"012345abcdefghijklmnopqrstuvwxyz",
+        application: b"ssh:",
+    })?;
+    Ok(CertParts {
+        nonce,
+        key,
+        serial: 5,
+        kind_number: 2,
+        key_id: b"host",
+        principals: &[b"a.example", b"b.example"],
+        after: 100,
+        before: 200,
+        critical: &[(b"force-command", b"\0\0\0\x01x")],
+        extensions: &[(b"permit-pty", b"")],
+        reserved: b"",
+        signer,
+        signature,
+    })
+}
+
+/// A certificate made of parts that were never read is read back field by field.
+#[test]
+fn reads_what_was_never_read(rt: HostRuntime) -> Result<(), Fail> {
+    let algorithm = b"sk-ssh-ed25519@openssh.com";
+    let signature = SignatureView::from_fields(algorithm, b"\xaa", Some((1, 7)))?;
+    let parts = unread_parts(b"n", signature)?;
+    let mut out = Vec::new(rt.alloc());
+    write_cert(&parts, &mut out)?;
+    let view = read_cert(&out)?;
+    assert!(rt; view.principals().eq(parts.principals.iter().copied()));
+    assert!(rt; view.critical().eq(parts.critical.iter().copied()));
+    assert!(rt; view.extensions().eq(parts.extensions.iter().copied()));
+    let back = parts_of(&view, parts.principals, parts.critical, parts.extensions);
+    assert_eq!(rt; back, parts);
+    let (same, other) = (read_cert(&out)?, read_cert(X0)?);
+    assert!(rt; view == same && view != other);
+    assert!(rt; view.principals() == same.principals());
+    assert!(rt; view.principals() != other.principals());
+    assert!(rt; view.critical() == same.critical());
+    assert!(rt; view.critical() != view.extensions());
+    Ok(())
+}
+
+/// The longest blob is written and read, and one byte more is refused by both.
+#[test]
+fn keeps_the_limit(rt: HostRuntime) -> Result<(), Fail> {
+    let long = vec![in rt.alloc(); 255; 262_145]?;
+    assert_eq!(rt; read_cert(&long).map(|_| ()), Err(CertError::TooLong));
+    assert_eq!(rt;
+        read_cert(&long[1..]).map(|_| ()),
+        Err(CertError::Wire(short(0)))
+    );
+    let signature = SignatureView::from_fields(b"ssh-ed25519", b"\xaa", None)?;
+    let mut out = Vec::new(rt.alloc());
+    write_cert(&unread_parts(b"", signature)?, &mut out)?;
+    let room = 262_144 - out.len();
+    out.clear();
+    assert_eq!(rt;
+        write_cert(&unread_parts(&long[..room + 1], signature)?, &mut out),
+        Err(WriteError::TooLong)
+    );
+    write_cert(&unread_parts(&long[..room], signature)?, &mut out)?;
+    assert_eq!(rt; out.len(), 262_144);
+    assert_eq!(rt; read_cert(&out)?.nonce().len(), room);
+    out.push(0)?;
+    assert_eq!(rt; read_cert(&out).map(|_| ()), Err(CertError::TooLong));
     Ok(())
 }

@@ -152,7 +152,8 @@ impl<'a> CertView<'a> {
         &self.blob[..self.blob.len() - signature_field]
     }
 
-    /// Where the moment lies: in force from `after` on, and no longer at `before`.
+    /// Where the moment lies, in seconds from 1970-01-01 in UTC: in force from `after` on, and no
+    /// longer at `before` (PROTOCOL.certkeys).
     pub fn in_time(&self, now: u64) -> Time
         ensures { result ≡ time_of (certificate_of self.now) now }
     {
@@ -171,4 +172,31 @@ impl<'a> CertView<'a> {
     {
         self.principals().any(|principal| principal == name)
     }
+}
+
+/// Views are equal exactly where their certificates are, and that is where their blobs are.
+impl PartialEq for CertView<'_> {
+    ghost use Rattle.std.specs.Cmp.{on_per, partial_equiv_from_equiv};
+    ghost use Rattle.std.specs.Cmp.Lexicographic.{nat_list_eq_equiv};
+    ghost use Rattle.std.specs.Str.{bytes_eq};
+    ghost use Rattle.ssh_certs.specs.CertificateOf.{certificate_of, blob_of};
+
+    ghost eq = { λ a b. bytes_eq (blob_of a) (blob_of b) };
+
+    ghost laws = { on_per blob_of (partial_equiv_from_equiv nat_list_eq_equiv) };
+
+    fn eq(&self, other: &Self) -> bool
+        ensures blobs { result ≡ bytes_eq (blob_of self.now) (blob_of other.now) }
+        ensures same { IsTrue result ↔ (certificate_of self.now ≡ certificate_of other.now) }
+    {
+        *self.blob == *other.blob
+    }
+}
+
+impl Eq for CertView<'_> {
+    ghost use Rattle.std.specs.Cmp.{on_equiv};
+    ghost use Rattle.std.specs.Cmp.Lexicographic.{nat_list_eq_equiv};
+    ghost use Rattle.ssh_certs.specs.CertificateOf.{blob_of};
+
+    ghost laws = { on_equiv blob_of nat_list_eq_equiv };
 }

@@ -48,7 +48,7 @@ fn row<'a>(parts: &CertParts<'a>) -> [Field<'a>; 14]
     ]
 }
 
-/// Writes the blob of a certificate at the end. An `Err` changes nothing.
+/// Writes the blob of a certificate at the end (PROTOCOL.certkeys). An `Err` changes nothing.
 ///
 /// It is `TooLong` exactly where the blob would have more than 262,144 bytes, and then no memory is
 /// asked for; else want of memory. The signature is not made here: its flags and counter stand
@@ -78,7 +78,8 @@ pub fn write_cert(parts: &CertParts<'_>, out: &mut Vec<u8>) -> Result<(), WriteE
     }
 }
 
-/// The blob of the certified key, as a plain key. An `Err` is want of memory.
+/// The blob of the certified key, as `write_key` writes it: at most 262,144 bytes. An `Err` is want
+/// of memory.
 pub fn plain_blob(alloc: Global, view: &CertView<'_>) -> Result<Vec<u8>, AllocError>
     ensures { IfOk result (λ blob. blob.items ≡ key_blob (certificate_of view.now).key) }
 {
