@@ -23,9 +23,9 @@ one_blob a b a_is b_is e = ok_is {E = KeyError} a b (sym (key_again a a_is) ∙ 
 -- a test of two blobs tells whether their keys are one key
 pub told_blobs : (a b : PublicKey) (s t : List ℕ) → IsKeyBlob a s → IsKeyBlob b t → Decides (bytes_eq s t) (a ≡ b)
 told_blobs a b s t a_is b_is = (
-    λ yes. one_blob a b a_is.is_key b_is.is_key (sym a_is.spelled ∙ same_text s t (sym yes) ∙ b_is.spelled),
-    λ same. (bytes_decides s t).1 (a_is.spelled ∙ ap key_blob same ∙ sym b_is.spelled),
-  )
+  λ yes. one_blob a b a_is.is_key b_is.is_key (sym a_is.spelled ∙ same_text s t (sym yes) ∙ b_is.spelled),
+  λ same. (bytes_decides s t).1 (a_is.spelled ∙ ap key_blob same ∙ sym b_is.spelled),
+)
 
 -- the fields as a writer joins them
 abbrev pub joined : PublicKey → List ℕ

@@ -31,7 +31,7 @@ impl Key {
     ghost use Rattle.ssh_keys.specs.KeyOf.{key_of};
 
     /// The key that a blob spells, all of the bytes, with the faults of `read_key`. It keeps the
-    /// blob; a refusal drops it.
+    /// blob and takes no memory; a refusal drops the blob.
     pub fn read(blob: Vec<u8>) -> Result<Key, KeyError>
         // The key whose blob these bytes are.
         ensures found { IfOk result (λ key. IsKeyBlob key blob.items) }

@@ -9,7 +9,8 @@ ghost use Rattle.ssh_keys.specs.KeyOf.{key_of};
 use crate::fields::KeyFields;
 use crate::view::KeyView;
 
-/// How many binary digits the modulus of an RSA key has; none of any other key.
+/// How many binary digits the modulus of an RSA key has, as `ssh-keygen -l` prints it; none of any
+/// other key.
 pub fn rsa_bits(key: &KeyView<'_>) -> Option<u32>
     ensures { IsRsaSize (key_of key.now) result }
 {

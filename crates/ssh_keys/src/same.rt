@@ -9,7 +9,7 @@ use crate::fields::KeyFields;
 use crate::view::KeyView;
 
 /// Whether two keys are the same: of one kind, and equal in each field. Keys are the same exactly
-/// where their blobs are.
+/// where their blobs are, and so are views by `==`.
 pub fn same_key(a: &KeyView<'_>, b: &KeyView<'_>) -> bool
     ensures values { IsTrue result ↔ (key_of a.now ≡ key_of b.now) }
     ensures blobs { IsTrue result ↔ (key_blob (key_of a.now) ≡ key_blob (key_of b.now)) }

@@ -101,6 +101,7 @@ fn writes_what_was_read(rt: HostRuntime) -> Result<(), Fail> {
         let key = Key::read(out)?;
         assert_eq!(rt; key.blob(), blob);
         assert!(rt; key.view() == view);
+        assert!(rt; key == Key::read(Vec::from_slice(rt.alloc(), blob)?)?);
     }
     for blob in [S0, SK_SIGNATURE] {
         let mut out = Vec::new(rt.alloc());
