@@ -199,3 +199,27 @@ fn keeps_the_limit(rt: HostRuntime) -> Result<(), Fail> {
     assert_eq!(rt; read_signature(longest).map(|_| ()), Err(short));
     Ok(())
 }
+
+/// A security key's Ed25519 key with this application.
+fn sk_key<'a>(public: &'a [u8], application: &'a [u8]) -> Result<KeyView<'a>, KeyError> {
+    KeyView::from_fields(KeyFields::SkEd25519 {
+        public,
+        application,
+    })
+}
+
+/// A key whose blob is the longest is written and read, and one byte more is refused by both.
+#[test]
+fn reads_the_longest_key(rt: HostRuntime) -> Result<(), Fail> {
+    let public = b"abcdefghijklmnopqrstuvwxyz012345";
+    let long = vec![in rt.alloc(); 255; 262_075]?;
+    assert_eq!(rt; sk_key(public, &long), Err(KeyError::TooLong));
+    let longest = sk_key(public, &long[1..])?;
+    let mut out = Vec::new(rt.alloc());
+    write_key(&longest, &mut out)?;
+    assert_eq!(rt; out.len(), 262_144);
+    assert!(rt; read_key(&out)? == longest);
+    out.push(0)?;
+    assert_eq!(rt; read_key(&out), Err(KeyError::TooLong));
+    Ok(())
+}
