@@ -12,9 +12,9 @@ use Rattle.ssh_wire.specs.Spelling.{string, uint32}
 use Rattle.ssh_wire.specs.Position.{Position, start, advance}
 use Rattle.ssh_wire.specs.Reading.{◌>>=◌, Read, byte_at, number_at, string_at}
 use Rattle.ssh_wire.specs.Laws.{IsBytes, IsBytes-drop, Took, Took-then, wide32, number_takes, number_again, string_takes, string_again, string_fits, refused_none, ok_is, fine}
-use Rattle.ssh_wire.specs.Rows.{test_err, string_is_short}
+use Rattle.ssh_wire.proofs.RowLemmas.{test_err, string_is_short}
 use Rattle.ssh_keys.specs.FirstFault.{IsFirstFault}
-use Rattle.ssh_keys.specs.KeyLaws.{key_takes, key_again}
+use Rattle.ssh_keys.proofs.KeyLaws.{key_takes, key_again}
 use Rattle.ssh_keys.specs.KeyReading.{key_in}
 use Rattle.ssh_keys.specs.PublicKey.{PublicKey, key_blob, IsKey}
 use Rattle.ssh_keys.proofs.KeyFaults.{key_fault}

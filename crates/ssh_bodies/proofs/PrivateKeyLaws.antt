@@ -12,9 +12,9 @@ use Rattle.ssh_wire.specs.Position.{Position}
 use Rattle.ssh_wire.specs.Reading.{◌>>=◌, Read, byte_at, string_at, mpint_at}
 use Rattle.ssh_wire.specs.Laws.{IsBytes, Took, guard_ok, ok_is, fine}
 use Rattle.ssh_wire.specs.MpintLaws.{mpint_takes, mpint_again}
-use Rattle.ssh_keys.specs.KeyLaws.{and_ok}
+use Rattle.ssh_keys.proofs.KeyLaws.{and_ok}
 use Rattle.ssh_keys.specs.PublicKey.{PublicKey, rsa, p256, p384, p521, ed25519, sk_p256, sk_ed25519, is_in_range}
-use Rattle.ssh_keys.specs.SignatureLaws.{byte_takes}
+use Rattle.ssh_keys.proofs.SignatureLaws.{byte_takes}
 use Rattle.ssh_bodies.specs.declared.error.BodyError.{BodyError}
 use Rattle.ssh_bodies.specs.declared.error.BodyError.TheVariants as errors
 use Rattle.ssh_bodies.specs.BodyReading.{ReadBody, of_wire, positive_at}

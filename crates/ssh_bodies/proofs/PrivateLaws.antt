@@ -11,7 +11,7 @@ use Rattle.ssh_wire.specs.Spelling.{string, uint32}
 use Rattle.ssh_wire.specs.Position.{Position, start}
 use Rattle.ssh_wire.specs.Reading.{◌>>=◌, Read, number_at, string_at}
 use Rattle.ssh_wire.specs.Laws.{IsBytes, Took, Took-then, ok_is, fine, string_fits}
-use Rattle.ssh_keys.specs.KeyLaws.{and_ok, name_short}
+use Rattle.ssh_keys.proofs.KeyLaws.{and_ok, name_short}
 use Rattle.ssh_keys.specs.Names.{name_of}
 use Rattle.ssh_keys.specs.PublicKey.{PublicKey, kind_of, key_blob, longest, IsKey}
 use Rattle.ssh_bodies.specs.declared.error.BodyError.{BodyError}

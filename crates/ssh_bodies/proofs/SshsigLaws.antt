@@ -14,7 +14,7 @@ use Rattle.ssh_wire.specs.Reading.{◌>>=◌, Read, number_at, string_at}
 use Rattle.ssh_wire.specs.Laws.{IsBytes, Took, ok_is, fine, string_fits}
 use Rattle.ssh_keys.specs.PublicKey.{PublicKey, key_blob, longest, IsKey}
 use Rattle.ssh_keys.specs.Signature.{Signature, signature_blob, IsSignature, signature_in}
-use Rattle.ssh_keys.specs.SignatureLaws.{signature_takes, signature_again}
+use Rattle.ssh_keys.proofs.SignatureLaws.{signature_takes, signature_again}
 use Rattle.ssh_bodies.specs.declared.error.BodyError.{BodyError}
 use Rattle.ssh_bodies.specs.declared.error.BodyError.TheVariants as errors
 use Rattle.ssh_bodies.specs.declared.hash.HashName.{HashName}

@@ -13,9 +13,9 @@ use Rattle.ssh_wire.specs.declared.error.WireError.{WireError}
 use Rattle.ssh_wire.specs.Spelling.{string, uint32, uint64}
 use Rattle.ssh_wire.specs.Position.{Position, start, advance}
 use Rattle.ssh_wire.specs.Reading.{◌>>=◌, Read, number_at, string_at, end_at}
-use Rattle.ssh_wire.specs.Laws.{IsBytes, Took, Took-then, Begins, wide32, wide64, number_takes, number_again, string_takes, string_again, string_fits, refused_none, fine}
-use Rattle.ssh_wire.specs.Rows.{bind_err, test_err, string_is_short}
-use Rattle.ssh_wire.specs.Stands.{NoNumber, NoLongNumber, NoString, BeginsString}
+use Rattle.ssh_wire.specs.Laws.{IsBytes, Took, Took-then, wide32, wide64, number_takes, number_again, string_takes, string_again, string_fits, refused_none, fine}
+use Rattle.ssh_wire.proofs.RowLemmas.{bind_err, test_err, string_is_short}
+use Rattle.ssh_wire.specs.Stands.{NoString, BeginsString}
 use Rattle.ssh_keys.specs.declared.error.KeyError.{KeyError}
 use Rattle.ssh_keys.specs.declared.error.KeyError.TheVariants as key_errors
 use Rattle.ssh_keys.specs.declared.kind.KeyKind.{KeyKind}
@@ -23,7 +23,7 @@ use Rattle.ssh_keys.specs.declared.kind.NameClass.{NameClass}
 use Rattle.ssh_keys.specs.declared.kind.NameClass.TheVariants.{Plain, Certificate as CertificateOf, Retired, Other}
 use Rattle.ssh_keys.specs.FieldFaults.{IsFieldFault}
 use Rattle.ssh_keys.specs.FirstFault.{IsFirstFault}
-use Rattle.ssh_keys.specs.KeyLaws.{fields_take}
+use Rattle.ssh_keys.proofs.KeyLaws.{fields_take}
 use Rattle.ssh_keys.specs.KeyReading.{fields_at, key_in}
 use Rattle.ssh_keys.specs.Names.{certificate_name_of, class_of}
 use Rattle.ssh_keys.specs.PublicKey.{PublicKey, ed25519, kind_of, fields_of, key_blob, is_in_range, longest, IsKey}
@@ -36,7 +36,7 @@ use Rattle.ssh_certs.specs.declared.error.CertError.TheVariants as errors
 use Rattle.ssh_certs.specs.Certificate.{Certificate, CertOption, packed_names, packed_options, certificate_blob}
 use Rattle.ssh_certs.specs.CertificateReading.{as_fault, of_wire, kind_from, items_within, items_in, packed_at, names_at, options_at, option_at, signer_fault, signer_at, signature_at, certificate_at, certificate_in}
 use Rattle.ssh_certs.specs.CertificateFault.{Sort, long, short, text, names, options, signer, signature, sorts, front_of, tail_of, IsInRange, IsCut, NameIsCut, OptionIsCut, IsWrong, InTail, InKey, IsLonger, IsOtherName, IsFaultWithin, IsCertificateFault}
-use Rattle.ssh_certs.proofs.CertificateLaws.{kind_named, named_kind, signer_takes, signature_at_takes, laid_out, laid_out_is}
+use Rattle.ssh_certs.proofs.CertificateLaws.{kind_named, named_kind, signer_takes, signature_at_takes, laid_out_is}
 use Rattle.ssh_certs.proofs.Items.{IsItem, FitsString, FitsOption, string_item, option_item, spelled_option}
 use Rattle.ssh_certs.proofs.PackedLists.{as_fault_ok, packed_takes}
 

@@ -17,9 +17,9 @@ use Rattle.ssh_keys.specs.declared.kind.KeyKind.TheVariants.{Rsa, P256, P384, P5
 use Rattle.ssh_keys.specs.Names.{name_of, certificate_name_of, class_of, class_by, plain_kind, certificate_kind, kinds}
 use Rattle.ssh_keys.specs.PublicKey.{PublicKey, kind_of, fields_of, key_blob, is_in_range, longest, IsKey}
 use Rattle.ssh_keys.specs.KeyReading.{ReadKey, fields_at, key_in}
-use Rattle.ssh_keys.specs.KeyLaws.{fields_take, fields_again, key_takes, key_again}
+use Rattle.ssh_keys.proofs.KeyLaws.{fields_take, fields_again, key_takes, key_again}
 use Rattle.ssh_keys.specs.Signature.{Signature, signature_blob, IsSignature, signature_in}
-use Rattle.ssh_keys.specs.SignatureLaws.{signature_takes, signature_again}
+use Rattle.ssh_keys.proofs.SignatureLaws.{signature_takes, signature_again}
 use Rattle.ssh_certs.specs.declared.error.CertError.{CertError}
 use Rattle.ssh_certs.specs.declared.error.CertError.TheVariants as errors
 use Rattle.ssh_certs.specs.Certificate.{Certificate, CertOption, packed_names, packed_options, rest_row, signed_row, signed_part, certificate_blob, IsCertificate, IsCertificateBlob}

@@ -2,7 +2,7 @@
 use Rattle.std.specs.Prelude.{◌≡◌, ◌≢◌, ℕ, ◌+◌, ◌^◌, ◌<◌, ◌≤◌, List, [], ◌∷◌, ◌++◌, length, take, IsTrue, ◌⊎◌}
 use Rattle.std.specs.List.{concat}
 use Rattle.ssh_wire.specs.declared.error.WireCause.{WireCause}
-use Rattle.ssh_wire.specs.declared.error.WireCause.TheVariants.{Short, MpintNotMinimal, MpintNegative, Trailing, Value}
+use Rattle.ssh_wire.specs.declared.error.WireCause.TheVariants.{Short, Trailing}
 use Rattle.ssh_wire.specs.Spelling.{string}
 use Rattle.ssh_wire.specs.Stands.{NoNumber, NoLongNumber, NoString, BeginsString}
 use Rattle.ssh_keys.specs.declared.error.KeyError.{KeyError}

@@ -1,8 +1,8 @@
 -- Certificates that `ssh-keygen` of OpenSSH 9.2 made: of a host's ECDSA key signed by an RSA key, and of users' security
 -- keys signed by ECDSA keys.
-use Rattle.std.specs.Prelude.{◌≡◌, ℕ, List, [], ◌∷◌, ◌++◌, length, take, drop, codes, None, Some, Ok, Err}
+use Rattle.std.specs.Prelude.{◌≡◌, ℕ, List, [], ◌∷◌, ◌++◌, take, drop, codes, None, Some, Ok, Err}
 use Rattle.ssh_wire.specs.declared.error.WireCause.{WireCause}
-use Rattle.ssh_wire.specs.declared.error.WireCause.TheVariants.{Short, MpintNotMinimal, Trailing}
+use Rattle.ssh_wire.specs.declared.error.WireCause.TheVariants.{Short, Trailing}
 use Rattle.ssh_wire.specs.Spelling.{mpint_bytes, string}
 use Rattle.ssh_keys.specs.declared.error.KeyError.TheVariants as key_errors
 use Rattle.ssh_keys.specs.PublicKey.{rsa, p256, p384, p521, sk_p256, sk_ed25519}

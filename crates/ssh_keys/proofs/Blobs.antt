@@ -14,7 +14,7 @@ use Rattle.ssh_keys.specs.declared.error.KeyError.{KeyError}
 use Rattle.ssh_keys.specs.Names.{name_of}
 use Rattle.ssh_keys.specs.PublicKey.{PublicKey, rsa, p256, p384, p521, ed25519, sk_p256, sk_ed25519, kind_of, fields_of, key_blob, IsKey, IsKeyBlob}
 use Rattle.ssh_keys.specs.KeyReading.{key_in}
-use Rattle.ssh_keys.specs.KeyLaws.{key_again}
+use Rattle.ssh_keys.proofs.KeyLaws.{key_again}
 
 -- two keys with one blob are one key
 pub one_blob : (a b : PublicKey) → IsKey a → IsKey b → key_blob a ≡ key_blob b → a ≡ b

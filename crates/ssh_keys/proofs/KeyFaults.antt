@@ -12,10 +12,11 @@ use Rattle.ssh_wire.specs.declared.error.WireError.{WireError}
 use Rattle.ssh_wire.specs.Spelling.{string, mpint, mpint_bytes, natural, is_least, is_not_negative}
 use Rattle.ssh_wire.specs.Position.{Position, start}
 use Rattle.ssh_wire.specs.Reading.{◌>>=◌, Read, fault, string_at, mpint_at, end_at}
-use Rattle.ssh_wire.specs.Laws.{IsBytes, Took, bind_ok, string_takes, string_again, refused_none, fine}
+use Rattle.ssh_wire.specs.Laws.{IsBytes, string_takes, string_again, refused_none, fine}
 use Rattle.ssh_wire.specs.MpintLaws.{mpint_takes}
-use Rattle.ssh_wire.specs.Rows.{GoesOnAt, bind_err, string_is_short}
-use Rattle.ssh_wire.specs.Stands.{Stands, NoString, BeginsString}
+use Rattle.ssh_wire.specs.Rows.{GoesOnAt}
+use Rattle.ssh_wire.proofs.RowLemmas.{bind_err, string_is_short}
+use Rattle.ssh_wire.specs.Stands.{NoString, BeginsString}
 use Rattle.ssh_keys.specs.declared.curve.Curve.{Curve}
 use Rattle.ssh_keys.specs.declared.curve.Curve.TheVariants.{Nistp256, Nistp384, Nistp521}
 use Rattle.ssh_keys.specs.declared.error.KeyError.{KeyError}
@@ -23,9 +24,9 @@ use Rattle.ssh_keys.specs.declared.error.KeyError.TheVariants as errors
 use Rattle.ssh_keys.specs.declared.kind.KeyKind.{KeyKind}
 use Rattle.ssh_keys.specs.declared.kind.KeyKind.TheVariants.{Rsa, P256, P384, P521, Ed25519, SkP256, SkEd25519}
 use Rattle.ssh_keys.specs.Curves.{curve_name_of, point_len_of}
-use Rattle.ssh_keys.specs.FieldFaults.{Sort, number, curve, point, public, text, sorts_of, IsUnread, IsWrong, IsOfKind, IsFieldFault}
+use Rattle.ssh_keys.specs.FieldFaults.{Sort, number, curve, point, public, text, sorts_of, IsWrong, IsOfKind, IsFieldFault}
 use Rattle.ssh_keys.specs.FirstFault.{AreShort, IsSpelled, IsUnknownName, IsFaultWithin, InFields, IsFirstFault}
-use Rattle.ssh_keys.specs.KeyLaws.{of_wire_ok, wants_ok, kind_named, find_some, positive_takes, point_takes, public_takes, fields_take}
+use Rattle.ssh_keys.proofs.KeyLaws.{of_wire_ok, wants_ok, kind_named, find_some, positive_takes, point_takes, public_takes, fields_take}
 use Rattle.ssh_keys.specs.KeyReading.{ReadKey, of_wire, wants, kind_from, positive_at, point_at, public_at, fields_at, blob_at, key_in}
 use Rattle.ssh_keys.specs.Names.{name_of, certificate_name_of, class_of, class_by, plain_kind, certificate_kind, kinds}
 use Rattle.ssh_keys.specs.PublicKey.{PublicKey, rsa, p256, p384, p521, ed25519, sk_p256, sk_ed25519, kind_of, fields_of, row_of, is_point, longest}

@@ -1,3 +1,5 @@
+pub mod KeyLaws
+pub mod SignatureLaws
 pub mod Blobs
 pub mod Ranges
 pub mod Bits

@@ -10,11 +10,12 @@ use Rattle.ssh_wire.specs.Spelling.{string, uint32}
 use Rattle.ssh_wire.specs.Position.{Position, start, advance}
 use Rattle.ssh_wire.specs.Reading.{◌>>=◌, Read, byte_at, number_at, string_at, end_at}
 use Rattle.ssh_wire.specs.Laws.{IsBytes, wide32, number_again, string_takes, string_again, no_prefix_of, fine}
-use Rattle.ssh_wire.specs.Rows.{StopsAt, GoesOnAt, row_by, FitsBy, stops_first, stops_after, goes_on_after, IsRenamed, stops_renamed, goes_on_renamed, bind_err, test_err, string_is_short}
-use Rattle.ssh_keys.specs.KeyLaws.{and_ok}
+use Rattle.ssh_wire.specs.Rows.{StopsAt, GoesOnAt, row_by, FitsBy}
+use Rattle.ssh_wire.proofs.RowLemmas.{stops_first, stops_after, goes_on_after, IsRenamed, stops_renamed, goes_on_renamed, bind_err, test_err, string_is_short}
+use Rattle.ssh_keys.proofs.KeyLaws.{and_ok}
 use Rattle.ssh_keys.specs.PublicKey.{longest}
 use Rattle.ssh_keys.specs.Signature.{Signature, is_sk_algorithm, sk_row, signature_row, is_sk_in_range, sk_at, signature_at, signature_in}
-use Rattle.ssh_keys.specs.SignatureLaws.{byte_takes, sk_takes}
+use Rattle.ssh_keys.proofs.SignatureLaws.{byte_takes, sk_takes}
 use Rattle.ssh_keys.specs.SignatureFault.{IsSpelledSignature, IsSignatureFault}
 
 -- ---- the fields of a signature, by its algorithm

@@ -1,7 +1,7 @@
 -- What is wrong with the first field of a public key that does not stand, by its row of fields alone.
-use Rattle.std.specs.Prelude.{◌≡◌, ◌≢◌, ℕ, ◌+◌, Bool, true, false, List, [], ◌∷◌, ◌++◌, length, IsTrue}
+use Rattle.std.specs.Prelude.{◌≡◌, ◌≢◌, ℕ, ◌+◌, true, false, List, [], ◌∷◌, ◌++◌, length, IsTrue}
 use Rattle.ssh_wire.specs.declared.error.WireCause.{WireCause}
-use Rattle.ssh_wire.specs.declared.error.WireCause.TheVariants.{Short, MpintNotMinimal, MpintNegative, Trailing, Value}
+use Rattle.ssh_wire.specs.declared.error.WireCause.TheVariants.{Short, MpintNotMinimal, MpintNegative, Value}
 use Rattle.ssh_wire.specs.Spelling.{is_least, is_not_negative}
 use Rattle.ssh_wire.specs.Stands.{Stands, NoString, BeginsString}
 use Rattle.ssh_keys.specs.declared.curve.Curve.{Curve}

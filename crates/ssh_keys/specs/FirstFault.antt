@@ -1,7 +1,7 @@
 -- The first fault of bytes that are no key's blob, by the row of fields alone.
 use Rattle.std.specs.Prelude.{◌≡◌, ◌≢◌, ℕ, ◌+◌, ◌^◌, ◌<◌, ◌≤◌, List, [], ◌∷◌, ◌++◌, length, codes, IsTrue, ◌⊎◌}
 use Rattle.ssh_wire.specs.declared.error.WireCause.{WireCause}
-use Rattle.ssh_wire.specs.declared.error.WireCause.TheVariants.{Short, MpintNotMinimal, MpintNegative, Trailing, Value}
+use Rattle.ssh_wire.specs.declared.error.WireCause.TheVariants.{Short, Trailing}
 use Rattle.ssh_wire.specs.Rows.{GoesOnAt}
 use Rattle.ssh_wire.specs.Spelling.{string}
 use Rattle.ssh_wire.specs.Stands.{NoString, BeginsString}

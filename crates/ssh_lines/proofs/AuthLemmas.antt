@@ -21,7 +21,7 @@ use Rattle.ssh_lines.specs.AuthGrammar.{SpellsEntry, SpellsOptions, auth_line, l
 use Rattle.ssh_text.proofs.TextLemmas.{ends_word, gap-test, skip_blanks-after, skip_blanks-at_word, comment_of-cr, comment_of-tail}
 use Rattle.ssh_lines.proofs.KeyLemmas.{base64-no_cr, base64-some, spelling-some, name-no_blank, first_field-at, key_part-at, without_cr-at}
 use Rattle.ssh_options.proofs.OptionLemmas.{is_option_name, stops_name, AreNameBytes, BeginsWithName, begins-items, other_byte, plain-from_name_byte, name_part-at, text_of-items, options_of-spelled, quotable}
-use Rattle.ssh_keys.specs.KeyLaws.{key_again}
+use Rattle.ssh_keys.proofs.KeyLaws.{key_again}
 use Rattle.ssh_lines.proofs.KeyNames.{class-of_name, plain_kind-named, certificate_kind-named}
 use Rattle.ssh_lines.specs.KeyPart.{base64, is_type, begins_with_type, key_part_of}
 

@@ -9,7 +9,7 @@ use Rattle.ssh_keys.specs.declared.error.KeyError.{KeyError}
 use Rattle.ssh_keys.specs.declared.kind.KeyKind.{KeyKind}
 use Rattle.ssh_keys.specs.declared.kind.NameClass.{NameClass}
 use Rattle.ssh_keys.specs.declared.kind.NameClass.TheVariants.{Plain, Certificate, Retired, Other}
-use Rattle.ssh_keys.specs.KeyLaws.{key_takes}
+use Rattle.ssh_keys.proofs.KeyLaws.{key_takes}
 use Rattle.ssh_keys.specs.KeyReading.{key_in}
 use Rattle.ssh_keys.specs.Names.{name_of, class_of}
 use Rattle.ssh_keys.specs.PublicKey.{PublicKey, kind_of, IsKeyBlob}

@@ -9,7 +9,7 @@ use Rattle.ssh_names.proofs.FieldLemmas.{names-read, names-spelled}
 use Rattle.ssh_keys.specs.Names.{name_of}
 use Rattle.ssh_keys.specs.PublicKey.{kind_of, key_blob}
 use Rattle.ssh_keys.specs.KeyReading.{key_in}
-use Rattle.ssh_keys.specs.KeyLaws.{key_again}
+use Rattle.ssh_keys.proofs.KeyLaws.{key_again}
 use Rattle.ssh_options.specs.declared.cause.LineCause.{LineCause}
 use Rattle.ssh_options.specs.declared.cause.LineCause.TheVariants as causes
 use Rattle.ssh_text.specs.Text.{line_limit, body_of, skip_blanks, first_word, after_word, next_field, without_cr, AreBlanks, HasNoBlank, IsGap, begins_with_blank}

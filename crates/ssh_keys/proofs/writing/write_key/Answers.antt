@@ -4,7 +4,7 @@ use Rattle.ssh_wire.specs.Mpint.{number_of}
 use Rattle.ssh_keys.specs.Names.{name_of}
 use Rattle.ssh_keys.specs.PublicKey.{PublicKey, rsa, p256, p384, p521, ed25519, sk_p256, sk_ed25519, IsKey}
 use Rattle.ssh_keys.specs.KeyOf.{key_of}
-use Rattle.ssh_keys.specs.KeyLaws.{name_short}
+use Rattle.ssh_keys.proofs.KeyLaws.{name_short}
 use Rattle.ssh_keys.proofs.Blobs.{wrote, rsa_short, sk_p256_short, sk_ed25519_short}
 use Rattle.ssh_keys.proofs.writing.write_key.Goals as goal
 
