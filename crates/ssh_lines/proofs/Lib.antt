@@ -10,3 +10,4 @@ pub mod MarkerLemmas
 pub mod ReadKnown
 pub mod RevokedLemmas
 pub mod KnownFaultLemmas
+pub mod AuthFaultLemmas

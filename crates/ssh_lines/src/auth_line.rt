@@ -2,6 +2,8 @@
 
 ghost use Rattle.std.specs.Prelude.{◌≡◌, List, IfOk};
 ghost use Rattle.ssh_lines.specs.declared.entry.AuthEntry.{AuthEntry};
+ghost use Rattle.ssh_options.specs.declared.cause.LineCause.{LineCause};
+ghost use Rattle.ssh_lines.specs.AuthFaults.{IsAuthFault};
 ghost use Rattle.ssh_lines.specs.AuthGrammar.{SpellsEntry, auth_line, entry_of};
 ghost use Rattle.ssh_lines.specs.Fault.{SaysEntry};
 
@@ -49,6 +51,9 @@ pub fn read_auth_line(alloc: Global, line: &[u8]) -> Result<AuthLine, AllocError
     // An entry that the line spells is the one that is read.
     ensures only { IfOk result
         (λ read. (entry : AuthEntry) → SpellsEntry entry line.now → read ≡ AuthLine.Entry entry) }
+    // A line that is told as unreadable has that fault, and none before it.
+    ensures fault { IfOk result (λ read. (cause : LineCause)
+        → read ≡ AuthLine.Unreadable cause → IsAuthFault cause line.now) }
     // Else the line is blank, a comment, or has this first fault.
     ensures exact { IfOk result (λ read. read ≡ auth_line line.now) }
 {

@@ -5,6 +5,8 @@ ghost use Rattle.base64.specs.Decode.{decoded_estimate};
 ghost use Rattle.ssh_wire.specs.Reading.{Gives};
 ghost use Rattle.ssh_lines.specs.declared.entry.AuthEntry.{AuthEntry};
 ghost use Rattle.ssh_lines.specs.declared.entry.AuthLine.{AuthLine};
+ghost use Rattle.ssh_options.specs.declared.cause.LineCause.{LineCause};
+ghost use Rattle.ssh_lines.specs.AuthFaults.{IsAuthFault};
 ghost use Rattle.ssh_lines.specs.AuthGrammar.{SpellsEntry, auth_line, entry_of, entry_of_key};
 ghost use Rattle.ssh_lines.specs.KeyPart.{key_part_of};
 ghost use Rattle.ssh_lines.specs.LineView.{SaysView, line_seen};
@@ -83,6 +85,10 @@ pub fn read_auth_view<'a>(line: &'a [u8], buffer: &'a mut KeyBuffer) -> AuthLine
     ensures only { (entry : AuthEntry)
         → SpellsEntry entry line.entry.now
         → line_seen result ≡ AuthLine.Entry entry }
+    // A line that is told as unreadable has that fault, and none before it.
+    ensures fault { (cause : LineCause)
+        → line_seen result ≡ AuthLine.Unreadable cause
+        → IsAuthFault cause line.entry.now }
     // Else the line is blank, a comment, or has this first fault.
     ensures exact { line_seen result ≡ auth_line line.entry.now }
 {
