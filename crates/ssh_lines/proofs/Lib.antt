@@ -11,3 +11,4 @@ pub mod ReadKnown
 pub mod RevokedLemmas
 pub mod KnownFaultLemmas
 pub mod AuthFaultLemmas
+pub mod BytesLemmas

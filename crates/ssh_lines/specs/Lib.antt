@@ -27,3 +27,4 @@ pub mod Samples
 pub mod KnownFaults
 pub mod KnownSamples
 pub mod AuthFaults
+pub mod EntryFields
