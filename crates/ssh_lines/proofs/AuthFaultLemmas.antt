@@ -1,5 +1,5 @@
 -- A line of an authorized_keys file that is read as one with a fault has that fault.
-use Rattle.std.proofs.Common.{◌≡◌, ◌≢◌, ℕ, nat_lt, Bool, true, false, ◌||◌, if◌then◌else◌, inl, inr, List, [], length, drop, Result, Ok, Err, refl, sym, ap, subst, ◌∙◌}
+use Rattle.std.proofs.Common.{◌≡◌, ◌≢◌, ℕ, nat_lt, Bool, true, false, if◌then◌else◌, inl, inr, List, [], length, drop, Result, Ok, Err, refl, ap, subst, ◌∙◌}
 use Rattle.ssh_keys.specs.declared.kind.NameClass.{NameClass}
 use Rattle.ssh_keys.specs.declared.kind.NameClass.TheVariants.{Plain, Certificate, Retired, Other}
 use Rattle.ssh_keys.specs.Names.{class_of}
@@ -8,7 +8,7 @@ use Rattle.ssh_options.specs.declared.cause.LineCause.{LineCause}
 use Rattle.ssh_options.specs.declared.cause.LineCause.TheVariants as causes
 use Rattle.ssh_options.specs.declared.option.AuthOption.{AuthOption}
 use Rattle.ssh_options.specs.OptionFaults.{IsOptionsFault}
-use Rattle.ssh_options.specs.OptionText.{option_text_of, options_of}
+use Rattle.ssh_options.specs.OptionText.{options_of}
 use Rattle.ssh_options.proofs.OptionFaultLemmas.{options_of-fault}
 use Rattle.ssh_options.proofs.ReadOptions.{read_options, text_cut}
 use Rattle.ssh_text.proofs.ReadText.{skipped}

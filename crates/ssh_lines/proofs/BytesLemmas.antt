@@ -14,7 +14,6 @@ use Rattle.ssh_options.specs.declared.option.AuthOption.{AuthOption}
 use Rattle.ssh_text.specs.Text.{comment_of}
 use Rattle.ssh_lines.specs.declared.entry.AuthLine.{AuthLine}
 use Rattle.ssh_lines.specs.declared.entry_fields.EntryFields.{EntryFields}
-use Rattle.ssh_lines.specs.declared.key_part.KeyPart.{KeyPart}
 use Rattle.ssh_lines.specs.AuthGrammar.{entry_of_key}
 use Rattle.ssh_lines.specs.EntryFields.{entry_of_fields, needs_bytes}
 use Rattle.ssh_lines.specs.KeyPart.{key_of_blob, key_of_kind}
