@@ -77,7 +77,7 @@ field-fault key kind (Ok blob) cause are c d h =
     blob-fault key blob kind (key_in blob) cause c (decoded-bytes (field_of key) blob are d)
     (decode_of_strict standard (field_of key) blob (refl, refl) are d) refl h
 
-class-fault : (key : List ℕ) (class : NameClass) (cause : LineCause) → IsBytes (field_of key) → class_of (first_word key) ≡ class
+pub class-fault : (key : List ℕ) (class : NameClass) (cause : LineCause) → IsBytes (field_of key) → class_of (first_word key) ≡ class
     → key_by_class class (field_of key) (after_word (next_field key)) ≡ Err cause → IsKeyFault cause key
 class-fault key Other cause are c h = let e : causes.KeyType ≡ cause = cc in subst (λ x. IsKeyFault x key) e c
 class-fault key Retired cause are c h = let e : causes.RetiredType ≡ cause = cc in subst (λ x. IsKeyFault x key) e c
@@ -87,7 +87,7 @@ class-fault key (Plain kind) cause are c h = field-fault key kind (decode_of sta
 
 -- ---- names and key
 
-is-some : (text : List ℕ) → is_empty text ≡ false → text ≢ []
+pub is-some : (text : List ℕ) → is_empty text ≡ false → text ≢ []
 is-some [] h e = cc
 is-some (c ∷ cs) h e = cc
 
@@ -95,13 +95,13 @@ is-none : (text : List ℕ) → is_empty text ≡ true → text ≡ []
 is-none [] h = refl
 is-none (c ∷ cs) h = cc
 
-missing : (key : List ℕ) (word field : Bool) → is_empty (first_word key) ≡ word → is_empty (field_of key) ≡ field → (word || field) ≡ true
+pub missing : (key : List ℕ) (word field : Bool) → is_empty (first_word key) ≡ word → is_empty (field_of key) ≡ field → (word || field) ≡ true
     → (first_word key ≡ []) ⊎ (field_of key ≡ [])
 missing key true field w f h = inl (is-none (first_word key) w)
 missing key false true w f h = inr (is-none (field_of key) f)
 missing key false false w f h = cc
 
-there : (key : List ℕ) (word field : Bool) → is_empty (first_word key) ≡ word → is_empty (field_of key) ≡ field → (word || field) ≡ false
+pub there : (key : List ℕ) (word field : Bool) → is_empty (first_word key) ≡ word → is_empty (field_of key) ≡ field → (word || field) ≡ false
     → HasKey key
 there key true field w f h = cc
 there key false true w f h = cc

@@ -22,13 +22,13 @@ step-after : (b : Bool) (c : ℕ) (cs rest : List ℕ) → length rest ≤ lengt
 step-after true c cs rest h = omega arith
 step-after false c cs rest h = omega arith
 
-pub length-after : (text : List ℕ) → length (after_word text) ≤ length text
-length-after [] = omega arith
-length-after (c ∷ cs) = step-after (is_blank c) c cs (after_word cs) (length-after cs)
+pub length_after : (text : List ℕ) → length (after_word text) ≤ length text
+length_after [] = omega arith
+length_after (c ∷ cs) = step-after (is_blank c) c cs (after_word cs) (length_after cs)
 
 pub length_field : (text : List ℕ) → length (first_word (next_field text)) ≤ length text
 length_field text =
-    let a = length-after text in
+    let a = length_after text in
     let b = length-skip (after_word text) in
     let c = length-word (next_field text) in
     omega arith
@@ -56,6 +56,12 @@ length_body b text =
 
 pub length-next : (text : List ℕ) → length (next_field text) ≤ length text
 length-next text =
-    let a = length-after text in
+    let a = length_after text in
     let b = length-skip (after_word text) in
+    omega arith
+
+pub length_next_word : (text : List ℕ) → length (first_word (skip_blanks text)) ≤ length text
+length_next_word text =
+    let a = length-skip text in
+    let b = length-word (skip_blanks text) in
     omega arith

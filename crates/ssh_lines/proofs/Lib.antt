@@ -3,6 +3,7 @@ pub mod KeyLemmas
 pub mod AuthLemmas
 pub mod ReadKey
 pub mod ReadAuth
+pub mod EntryFieldLemmas
 pub mod LengthLemmas
 pub mod FrontLemmas
 pub mod FieldLemmas
@@ -10,3 +11,5 @@ pub mod MarkerLemmas
 pub mod ReadKnown
 pub mod RevokedLemmas
 pub mod KnownFaultLemmas
+pub mod AuthFaultLemmas
+pub mod BytesLemmas

@@ -170,7 +170,7 @@ read-revokes line bytes are h = by (read-front line (Revoked bytes) refl h)
         let spelled = bytes-by (fourth_field line) bytes (is_empty (fourth_field line)) (decode_of standard (fourth_field line)) (fourth-bytes line are) refl refl r.says in
         record { short = r.short; marker = r.marker; some = spelled.some; bytes = spelled.bytes_are; spelled = spelled.spelled }
 
-long-by : (line : List ℕ) (long : Bool) → nat_lt line_limit (length line) ≡ long → (if long then past_limit else front_of_body (body_of line)) ≡ past_limit
+pub long-by : (line : List ℕ) (long : Bool) → nat_lt line_limit (length line) ≡ long → (if long then past_limit else front_of_body (body_of line)) ≡ past_limit
     → line_limit < length line
 long-by line true l h = ltb-true line_limit (length line) l
 long-by line false l h = absurd (fields-within (body_of line) h)

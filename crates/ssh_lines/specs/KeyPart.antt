@@ -13,7 +13,7 @@ use Rattle.ssh_keys.specs.KeyReading.{key_in}
 use Rattle.ssh_lines.specs.declared.key_part.KeyPart.{KeyPart}
 use Rattle.ssh_options.specs.declared.cause.LineCause.{LineCause}
 use Rattle.ssh_options.specs.declared.cause.LineCause.TheVariants as causes
-use Rattle.ssh_text.specs.Text.{first_word, next_field, after_word, comment_of, IsGap, SpellsTail, IsComment}
+use Rattle.ssh_text.specs.Text.{skip_blanks, first_word, next_field, after_word, comment_of, IsGap, SpellsTail, IsComment}
 
 -- the base64 of bytes, in the standard alphabet with padding (RFC 4648, section 4)
 abbrev pub base64 : List ℕ → List ℕ
@@ -63,6 +63,12 @@ key_by_class Other field rest = Err causes.KeyType
 key_by_class Retired field rest = Err causes.RetiredType
 key_by_class (Certificate kind) field rest = Err causes.CertificateOnLine
 key_by_class (Plain kind) field rest = key_of_blob kind (comment_of rest) (decode_of standard field)
+
+-- the key of a type field, which is of this class, and of what follows it, or the first fault
+abbrev pub key_of_class : NameClass → List ℕ → List ℕ → Result KeyPart LineCause
+key_of_class class word after =
+    if is_empty word || is_empty (first_word (skip_blanks after)) then Err causes.NoKey
+    else key_by_class class (first_word (skip_blanks after)) (after_word (skip_blanks after))
 
 -- what the text says after NoKey has been tested
 abbrev pub key_after_fields : List ℕ → Result KeyPart LineCause

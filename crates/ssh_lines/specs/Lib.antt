@@ -7,6 +7,7 @@ pub use Rattle.ssh_expiry.specs.Expiry
 pub use Rattle.ssh_expiry.specs.CivilFacts
 pub use Rattle.ssh_expiry.specs.Moment
 pub use Rattle.ssh_options.specs.OptionText
+pub use Rattle.ssh_options.specs.OptionFaults
 pub use Rattle.ssh_options.specs.OptionsInPlace
 pub use Rattle.ssh_options.specs.OptionsInLine
 pub use Rattle.ssh_options.specs.Settings
@@ -25,3 +26,5 @@ pub mod KnownSeen
 pub mod Samples
 pub mod KnownFaults
 pub mod KnownSamples
+pub mod AuthFaults
+pub mod EntryFields

@@ -1,31 +1,37 @@
 //! Reading a line of an authorized_keys file.
 
-ghost use Rattle.std.specs.Prelude.{◌≡◌, List, IfOk};
+ghost use Rattle.std.specs.Prelude.{◌≡◌, List, false, IfOk, IsOk};
 ghost use Rattle.ssh_lines.specs.declared.entry.AuthEntry.{AuthEntry};
+ghost use Rattle.ssh_options.specs.declared.cause.LineCause.{LineCause};
+ghost use Rattle.ssh_lines.specs.AuthFaults.{IsAuthFault};
 ghost use Rattle.ssh_lines.specs.AuthGrammar.{SpellsEntry, auth_line, entry_of};
+ghost use Rattle.ssh_lines.specs.EntryFields.{needs_bytes};
 ghost use Rattle.ssh_lines.specs.Fault.{SaysEntry};
 
 use crate::entry::{AuthEntry, AuthLine};
+use crate::entry_fields::EntryFields;
 use crate::fault::Fault;
 use crate::front::{Front, front_of};
-use crate::line_view::view_entry;
 use base64::decoded_len_estimate;
 use ssh_options::LineCause;
 use std::alloc::{AllocError, Global};
 
 /// The entry of a line that is neither blank nor a comment, without the blanks at its front.
+#[tactic(auto, using(crate::proofs::BytesLemmas::fields_need_bytes))]
 fn entry_in(alloc: Global, body: &[u8]) -> Result<AuthEntry, Fault>
     ensures { SaysEntry result (entry_of body.now) }
 {
-    let mut buffer = vec![in alloc; 0u8; decoded_len_estimate(body.len())]?;
-    let view = view_entry(body, buffer.as_mut_slice())?;
+    let fields = EntryFields::read(body)?;
+    let mut buffer = vec![in alloc; 0u8; decoded_len_estimate(fields.base64.len())]?;
+    let view = fields.view(buffer.as_mut_slice())?;
     let entry = view.to_entry(alloc)?;
     Ok(entry)
 }
 
 #[tactic(auto, unfolding(crate::specs::AuthGrammar::auth_line))]
 fn read_line(alloc: Global, line: &[u8]) -> Result<AuthLine, AllocError>
-    ensures { IfOk result (λ read. read ≡ auth_line line.now) }
+    ensures exact { IfOk result (λ read. read ≡ auth_line line.now) }
+    ensures spare { needs_bytes (auth_line line.now) ≡ false → IsOk result }
 {
     match front_of(line) {
         Front::TooLong => Ok(AuthLine::Unreadable(LineCause::TooLong)),
@@ -49,8 +55,14 @@ pub fn read_auth_line(alloc: Global, line: &[u8]) -> Result<AuthLine, AllocError
     // An entry that the line spells is the one that is read.
     ensures only { IfOk result
         (λ read. (entry : AuthEntry) → SpellsEntry entry line.now → read ≡ AuthLine.Entry entry) }
+    // A line that is told as unreadable has that fault, and none before it.
+    ensures fault { IfOk result (λ read. (cause : LineCause)
+        → read ≡ AuthLine.Unreadable cause → IsAuthFault cause line.now) }
     // Else the line is blank, a comment, or has this first fault.
     ensures exact { IfOk result (λ read. read ≡ auth_line line.now) }
+    // Only an entry and a fault of a key's bytes take memory: what is blank, a comment, too long,
+    // or has a fault before the base64, is answered whatever memory does.
+    ensures spare { needs_bytes (auth_line line.now) ≡ false → IsOk result }
 {
     let read = read_line(alloc, line)?;
     Ok(read)

@@ -1,14 +1,17 @@
 //! Key type, base64 key and comment of a line, in place.
 
-ghost use Rattle.std.specs.Prelude.{◌≡◌, ◌≤◌, true, false, length, IfOk, IfErr};
+ghost use Rattle.std.specs.Prelude.{◌≡◌, ◌≤◌, ℕ, List, true, false, length, Err, IfOk, IfErr};
 ghost use Rattle.base64.specs.Decode.{decoded_estimate};
+ghost use Rattle.base64.specs.Engines.{standard};
+ghost use Rattle.base64.specs.GeneralPurpose.{decode_of};
 ghost use Rattle.ssh_wire.specs.Reading.{Gives};
 ghost use Rattle.ssh_keys.specs.KeyOf.{key_of};
+ghost use Rattle.ssh_keys.specs.declared.kind.NameClass.TheVariants.{Plain};
 ghost use Rattle.ssh_keys.specs.KeyReading.{key_in};
 ghost use Rattle.ssh_keys.specs.PublicKey.{key_blob};
 ghost use Rattle.ssh_options.specs.declared.cause.LineCause.TheVariants.{NoKey};
-ghost use Rattle.ssh_text.specs.Text.{after_word, first_word, next_field};
-ghost use Rattle.ssh_lines.specs.KeyPart.{key_of_kind, key_by_class, key_part_of, lacks_key};
+ghost use Rattle.ssh_text.specs.Text.{after_word, comment_of, first_word, next_field};
+ghost use Rattle.ssh_lines.specs.KeyPart.{key_of_blob, key_of_kind, key_by_class, lacks_key};
 
 use crate::blob::decode_into;
 use crate::key_line::split_fields;
@@ -91,6 +94,37 @@ fn key_in_blob<'a>(
     Ok(KeyPartView { key, blob, comment })
 }
 
+/// The kind of key that a type field names, if a line can hold one.
+pub(crate) fn kind_of_class(class: NameClass) -> Result<KeyKind, LineCause>
+    ensures ok { IfOk result (λ kind. class ≡ Plain kind) }
+    ensures err { IfErr result (λ cause. (field rest : List ℕ)
+        → key_by_class class field rest ≡ Err cause) }
+{
+    match class {
+        NameClass::Plain(kind) => Ok(kind),
+        NameClass::Other => Err(LineCause::KeyType),
+        NameClass::Retired => Err(LineCause::RetiredType),
+        NameClass::Certificate(_) => Err(LineCause::CertificateOnLine),
+    }
+}
+
+/// The key of a base64 field, whose type field named this kind, decoded into the buffer.
+pub(crate) fn key_of_kind<'a>(
+    kind: KeyKind,
+    field: &[u8],
+    rest: &'a [u8],
+    buffer: &'a mut [u8],
+) -> Result<KeyPartView<'a>, LineCause>
+    requires { decoded_estimate (length field.now) ≤ length buffer.old }
+    ensures { Gives (λ p. p) result
+        (key_of_blob kind (comment_of rest.entry.now) (decode_of standard field.now)) }
+{
+    match decode_into(field, buffer) {
+        Ok(blob) => key_in_blob(kind, blob, comment_in(rest)),
+        Err(_) => Err(LineCause::Base64),
+    }
+}
+
 /// The key of a base64 field, decoded into the buffer.
 pub(crate) fn key_in_field<'a>(
     class: NameClass,
@@ -101,16 +135,8 @@ pub(crate) fn key_in_field<'a>(
     requires { decoded_estimate (length field.now) ≤ length buffer.old }
     ensures { Gives (λ p. p) result (key_by_class class field.now rest.entry.now) }
 {
-    let kind = match class {
-        NameClass::Plain(kind) => kind,
-        NameClass::Other => return Err(LineCause::KeyType),
-        NameClass::Retired => return Err(LineCause::RetiredType),
-        NameClass::Certificate(_) => return Err(LineCause::CertificateOnLine),
-    };
-    match decode_into(field, buffer) {
-        Ok(blob) => key_in_blob(kind, blob, comment_in(rest)),
-        Err(_) => Err(LineCause::Base64),
-    }
+    let kind = kind_of_class(class)?;
+    key_of_kind(kind, field, rest, buffer)
 }
 
 /// The type and the base64 at the front of a text, which are both there, and what follows them.
@@ -127,18 +153,4 @@ pub(crate) fn key_fields(text: &[u8]) -> Result<(&[u8], &[u8], &[u8]), LineCause
         return Err(LineCause::NoKey);
     }
     Ok((word, field, rest))
-}
-
-/// The key and the comment that a text spells, or its first fault. The key is decoded into the
-/// buffer.
-#[tactic(auto, unfolding(crate::specs::KeyPart::key_part_of), using(crate::proofs::LengthLemmas::length_field))]
-pub(crate) fn view_key_part<'a>(
-    text: &'a [u8],
-    buffer: &'a mut [u8],
-) -> Result<KeyPartView<'a>, LineCause>
-    requires { decoded_estimate (length text.now) ≤ length buffer.old }
-    ensures { Gives (λ p. p) result (key_part_of text.entry.now) }
-{
-    let (word, field, rest) = key_fields(text)?;
-    key_in_field(name_class(word), field, rest, buffer)
 }

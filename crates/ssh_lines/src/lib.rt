@@ -5,6 +5,7 @@ mod auth_line;
 mod auth_view;
 mod blob;
 mod entry;
+mod entry_fields;
 mod fault;
 mod front;
 mod key_buffer;

@@ -2,20 +2,18 @@
 
 ghost use Rattle.std.specs.Prelude.{◌≡◌, ◌≤◌, List, length};
 ghost use Rattle.base64.specs.Decode.{decoded_estimate};
-ghost use Rattle.ssh_wire.specs.Reading.{Gives};
 ghost use Rattle.ssh_lines.specs.declared.entry.AuthEntry.{AuthEntry};
 ghost use Rattle.ssh_lines.specs.declared.entry.AuthLine.{AuthLine};
-ghost use Rattle.ssh_lines.specs.AuthGrammar.{SpellsEntry, auth_line, entry_of, entry_of_key};
-ghost use Rattle.ssh_lines.specs.KeyPart.{key_part_of};
+ghost use Rattle.ssh_options.specs.declared.cause.LineCause.{LineCause};
+ghost use Rattle.ssh_lines.specs.AuthFaults.{IsAuthFault};
+ghost use Rattle.ssh_lines.specs.AuthGrammar.{SpellsEntry, auth_line, entry_of};
 ghost use Rattle.ssh_lines.specs.LineView.{SaysView, line_seen};
 
 use crate::auth_view::AuthEntryView;
+use crate::entry_fields::EntryFields;
 use crate::front::{Front, front_of};
 use crate::key_buffer::KeyBuffer;
-use crate::key_part::begins_with_type;
-use crate::key_view::view_key_part;
-use ssh_options::{LineCause, OptionsView, split_option_text};
-use ssh_text::skip_blanks;
+use ssh_options::LineCause;
 
 /// What a line of an authorized_keys file says, in the line.
 #[derive(Debug, Drop)]
@@ -26,33 +24,12 @@ pub enum AuthLineView<'a> {
     Unreadable(LineCause),
 }
 
-/// The entry of the options, and of the key that a text spells.
-fn entry_with<'a>(
-    options: OptionsView<'a>,
-    text: &'a [u8],
-    buffer: &'a mut [u8],
-) -> Result<AuthEntryView<'a>, LineCause>
-    requires { decoded_estimate (length text.now) ≤ length buffer.old }
-    ensures { SaysView result (entry_of_key options.entry (key_part_of text.entry.now)) }
-{
-    let part = view_key_part(text, buffer)?;
-    Ok(AuthEntryView::new(options, part))
-}
-
 /// The entry of a line that is neither blank nor a comment, without the blanks at its front.
-pub(crate) fn view_entry<'a>(
-    body: &'a [u8],
-    buffer: &'a mut [u8],
-) -> Result<AuthEntryView<'a>, LineCause>
+fn view_entry<'a>(body: &'a [u8], buffer: &'a mut [u8]) -> Result<AuthEntryView<'a>, LineCause>
     requires { decoded_estimate (length body.now) ≤ length buffer.old }
     ensures { SaysView result (entry_of body.entry.now) }
 {
-    if begins_with_type(body) {
-        return entry_with(OptionsView::none(), body, buffer);
-    }
-    let (text, rest) = split_option_text(body);
-    let options = OptionsView::read(text)?;
-    entry_with(options, skip_blanks(rest), buffer)
+    EntryFields::read(body)?.view(buffer)
 }
 
 #[tactic(auto, unfolding(crate::specs::AuthGrammar::auth_line))]
@@ -83,6 +60,10 @@ pub fn read_auth_view<'a>(line: &'a [u8], buffer: &'a mut KeyBuffer) -> AuthLine
     ensures only { (entry : AuthEntry)
         → SpellsEntry entry line.entry.now
         → line_seen result ≡ AuthLine.Entry entry }
+    // A line that is told as unreadable has that fault, and none before it.
+    ensures fault { (cause : LineCause)
+        → line_seen result ≡ AuthLine.Unreadable cause
+        → IsAuthFault cause line.entry.now }
     // Else the line is blank, a comment, or has this first fault.
     ensures exact { line_seen result ≡ auth_line line.entry.now }
 {

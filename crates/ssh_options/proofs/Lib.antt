@@ -6,3 +6,4 @@ pub mod ReadOptions
 pub mod EscapeLemmas
 pub mod SeenLemmas
 pub mod InLineLemmas
+pub mod OptionFaultLemmas

@@ -60,7 +60,7 @@ text-after_name (c ∷ name) cont end n h last =
     let plain = plain-from_name_byte c n.0 in
     rw (plain.blank, plain.quote) (ap (λ s. c ∷ s) (text-after_name name cont end n.1 h c))
 
-items-after_name : (name cont part : List ℕ) (parts : List (List ℕ)) → AreNameBytes name
+pub items-after_name : (name cont part : List ℕ) (parts : List (List ℕ)) → AreNameBytes name
     → ((last : ℕ) → items_of false last cont ≡ part ∷ parts)
     → (last : ℕ) → items_of false last (name ++ cont) ≡ (name ++ part) ∷ parts
 items-after_name [] cont part parts n h last = h last
@@ -93,7 +93,7 @@ items-in_quotes (c ∷ cs) cont part parts h last b =
       | inr e ↦ rw (e, e) (ap (λ s. onto_first c s) (items-in_quotes cs cont part parts h c b))
     ]
 
-backslash-after_quote : (v : List ℕ) → not (ends_with_backslash v) ≡ true → ends_with_backslash (34 ∷ v) ≡ false
+pub backslash-after_quote : (v : List ℕ) → not (ends_with_backslash v) ≡ true → ends_with_backslash (34 ∷ v) ≡ false
 backslash-after_quote [] h = refl
 backslash-after_quote (c ∷ cs) h =
     elim (cases_Bool (ends_with_backslash (c ∷ cs))) [ inl e ↦ let f : false ≡ true = rw e at h in cc | inr e ↦ e ]
@@ -107,7 +107,7 @@ text-after_value (Setting name v) cont end q h last =
     let inside = text-in_quotes v cont end h 34 (backslash-after_quote v q) in
     rw (append_assoc (escaped v) (34 ∷ []) cont, append_assoc (escaped v) (34 ∷ []) end) (ap (λ s. 61 ∷ 34 ∷ s) inside)
 
-items-after_value : (option : AuthOption) (cont part : List ℕ) (parts : List (List ℕ)) → can_be_quoted option ≡ true
+pub items-after_value : (option : AuthOption) (cont part : List ℕ) (parts : List (List ℕ)) → can_be_quoted option ≡ true
     → ((last : ℕ) → items_of false last cont ≡ part ∷ parts)
     → (last : ℕ) → items_of false last (value_part option ++ cont) ≡ (value_part option ++ part) ∷ parts
 items-after_value (Switch flag) cont part parts q h last = h last
@@ -118,7 +118,7 @@ items-after_value (Setting name v) cont part parts q h last =
 
 -- ---- names
 
-lower-equal : (a b : List ℕ) → same_name a b ≡ true → str_to_ascii_lowercase a ≡ str_to_ascii_lowercase b
+pub lower-equal : (a b : List ℕ) → same_name a b ≡ true → str_to_ascii_lowercase a ≡ str_to_ascii_lowercase b
 lower-equal a b h = (bytes_eq-Decides (str_to_ascii_lowercase a) (str_to_ascii_lowercase b)).0 h
 
 bytes-from_test : (text : List ℕ) → list_all is_name_byte text ≡ true → AreNameBytes text
@@ -162,7 +162,7 @@ pub spelled-bytes : (name : List ℕ) (option : AuthOption) → same_name name (
 spelled-bytes name option h =
     names-from_lower name (rw (lower-equal name (option_name option) h) (bytes-from_test (str_to_ascii_lowercase (option_name option)) (option-bytes option)))
 
-flag-found : (flag : Flag) (name : List ℕ) → str_to_ascii_lowercase name ≡ str_to_ascii_lowercase (flag_name flag) → option_named name ≡ Some (names.Switch flag)
+pub flag-found : (flag : Flag) (name : List ℕ) → str_to_ascii_lowercase name ≡ str_to_ascii_lowercase (flag_name flag) → option_named name ≡ Some (names.Switch flag)
 unfolding row_of row_named
 flag-found AgentForwarding name e = rw e refl
 flag-found CertAuthority name e = rw e refl
@@ -179,7 +179,7 @@ flag-found Restrict name e = rw e refl
 flag-found UserRc name e = rw e refl
 flag-found X11Forwarding name e = rw e refl
 
-value-found : (value : ValueName) (name : List ℕ) → str_to_ascii_lowercase name ≡ str_to_ascii_lowercase (value_name value)
+pub value-found : (value : ValueName) (name : List ℕ) → str_to_ascii_lowercase name ≡ str_to_ascii_lowercase (value_name value)
     → option_named name ≡ Some (names.Setting value)
 unfolding row_of row_named
 value-found Command name e = rw e refl
@@ -202,7 +202,7 @@ name_part-at [] [] n s = refl
 name_part-at [] (c ∷ cs) n s = elim (cases_Bool (is_name_byte c)) [ inl e ↦ let f : false ≡ true = rw e at s in cc | inr e ↦ rw e refl ]
 name_part-at (c ∷ name) rest n s = rw n.0 (ap (λ x. c ∷ x) (name_part-at name rest n.1 s))
 
-after_name-at : (name rest : List ℕ) → AreNameBytes name → stops_name rest ≡ true → after_name (name ++ rest) ≡ rest
+pub after_name-at : (name rest : List ℕ) → AreNameBytes name → stops_name rest ≡ true → after_name (name ++ rest) ≡ rest
 after_name-at [] [] n s = refl
 after_name-at [] (c ∷ cs) n s = elim (cases_Bool (is_name_byte c)) [ inl e ↦ let f : false ≡ true = rw e at s in cc | inr e ↦ rw e refl ]
 after_name-at (c ∷ name) rest n s = rw n.0 (after_name-at name rest n.1 s)

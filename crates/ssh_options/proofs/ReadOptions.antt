@@ -1,5 +1,5 @@
 -- Options that are read are spelled by their text.
-use Rattle.std.proofs.Common.{◌≡◌, ℕ, Bool, true, false, not, ◌&&◌, ◌==◌, if◌then◌else◌, ◌⊎◌, inl, inr, List, [], ◌∷◌, ◌++◌, length, drop, bytes_eq, Option, Some, None, option_map, find, Result, Ok, Err, refl, sym, ap, subst, ◌∙◌, arith, append_assoc, append-nil}
+use Rattle.std.proofs.Common.{◌≡◌, ◌≢◌, ℕ, Bool, true, false, not, ◌&&◌, ◌==◌, if◌then◌else◌, ◌⊎◌, inl, inr, List, [], ◌∷◌, ◌++◌, length, drop, bytes_eq, Option, Some, None, option_map, find, Result, Ok, Err, refl, sym, ap, subst, ◌∙◌, arith, append_assoc, append-nil}
 use Rattle.std.specs.List.{AllByRecursion, AllZip, list_all, onto_first, join_with_byte}
 use Rattle.std.proofs.lemmas.Bool.{cases_Bool, and_parts, eqb-true, ne_eqb}
 use Rattle.std.proofs.lemmas.Slice.Eq.{bytes_eq-Decides}
@@ -11,8 +11,10 @@ use Rattle.ssh_text.specs.Text.{is_blank}
 use Rattle.ssh_options.specs.declared.option.OptionName.{OptionName}
 use Rattle.ssh_options.specs.declared.option.OptionName.TheVariants as names
 use Rattle.ssh_options.specs.OptionNames.{OptionRow, options, row_of, row_named, name_in, option_named, same_name}
+use Rattle.ssh_options.specs.OptionFaults.{SpellsValue, SpellsItem}
 use Rattle.ssh_options.specs.OptionText.{Item, escaped, unescaped, quoted, ends_with_backslash, SpellsOption, SpellsItems, AreAllowed, can_be_quoted, repeats, has_bad_expiry, option_text_of, items_of, is_open_quote, turned, is_name_byte, name_part, after_name, value_of, named_item, item_of, each_item, option_by_name, option_of, and_option, options_from, options_of_items, options_of, closed_by_quote}
 use Rattle.ssh_text.proofs.TextLemmas.{ends_word}
+use Rattle.ssh_options.proofs.OptionLemmas.{AreNameBytes}
 
 -- ---- values
 
@@ -163,47 +165,47 @@ name-cut : (text : List ℕ) → text ≡ name_part text ++ after_name text
 name-cut [] = refl
 name-cut (c ∷ cs) = elim (cases_Bool (is_name_byte c)) [ inl e ↦ rw e (ap (λ s. c ∷ s) (name-cut cs)) | inr e ↦ rw e refl ]
 
--- what follows a name, by the value that it is read as
-abbrev ReadPart : List ℕ → Option (List ℕ) → Type 0
-ReadPart text None = text ≡ []
-ReadPart text (Some value) = (text ≡ quoted value) × (not (ends_with_backslash value) ≡ true)
-
 part-of_value : (c d : ℕ) (cs : List ℕ) (value : Option (List ℕ)) (found : Option (List ℕ)) → closed_by_quote 34 cs ≡ found
-    → (c == 61) ≡ true → (d == 34) ≡ true → option_map (λ text. Some (unescaped text)) found ≡ Some value → ReadPart (c ∷ d ∷ cs) value
+    → (c == 61) ≡ true → (d == 34) ≡ true → option_map (λ text. Some (unescaped text)) found ≡ Some value → SpellsValue value (c ∷ d ∷ cs)
 part-of_value c d cs value None f e q h = cc
 part-of_value c d cs value (Some raw) f e q h =
     let read = read_value cs raw f in
     let v : Some (unescaped raw) ≡ value = cc in
-    let P : Option (List ℕ) → Type 0 = λ x. ReadPart (c ∷ d ∷ cs) x in
+    let P : Option (List ℕ) → Type 0 = λ x. SpellsValue x (c ∷ d ∷ cs) in
     subst P v (rw (eqb-true c 61 e, eqb-true d 34 q) (ap (λ s. 61 ∷ 34 ∷ s) read.whole), read.quotable)
 
 part-by : (c d : ℕ) (cs : List ℕ) (value : Option (List ℕ)) (opens : Bool) → ((c == 61) && (d == 34)) ≡ opens
-    → (if opens then option_map (λ text. Some (unescaped text)) (closed_by_quote 34 cs) else None) ≡ Some value → ReadPart (c ∷ d ∷ cs) value
+    → (if opens then option_map (λ text. Some (unescaped text)) (closed_by_quote 34 cs) else None) ≡ Some value → SpellsValue value (c ∷ d ∷ cs)
 part-by c d cs value true o h =
     let parts = and_parts (c == 61) (d == 34) o in part-of_value c d cs value (closed_by_quote 34 cs) refl parts.0 parts.1 h
 part-by c d cs value false o h = cc
 
-read_part : (text : List ℕ) (value : Option (List ℕ)) → value_of text ≡ Some value → ReadPart text value
-read_part [] value h = let e : None ≡ value = cc in let P : Option (List ℕ) → Type 0 = λ x. ReadPart [] x in subst P e refl
+read_part : (text : List ℕ) (value : Option (List ℕ)) → value_of text ≡ Some value → SpellsValue value text
+read_part [] value h = let e : None ≡ value = cc in let P : Option (List ℕ) → Type 0 = λ x. SpellsValue x [] in subst P e refl
 read_part (c ∷ []) value h = cc
 read_part (c ∷ d ∷ cs) value h = part-by c d cs value ((c == 61) && (d == 34)) refl h
 
-pub record ReadItem (text : List ℕ) (item : Item) : Type 0 where
-  pub part : List ℕ
-  pub whole : text ≡ item.name ++ part
-  pub value : ReadPart part item.value
+name-by : (c : ℕ) (cs : List ℕ) (is : Bool) → is_name_byte c ≡ is → AreNameBytes cs → AreNameBytes (if is then c ∷ cs else [])
+name-by c cs true e h = (e, h)
+name-by c cs false e h = tt
 
-item-named : (text name part : List ℕ) (value : Option (Option (List ℕ))) (item : Item) → text ≡ name ++ part → value_of part ≡ value
-    → named_item name value ≡ Some item → ReadItem text item
-item-named text [] part value item w v h = cc
-item-named text (c ∷ cs) part None item w v h = cc
-item-named text (c ∷ cs) part (Some value) item w v h =
+name-bytes : (text : List ℕ) → AreNameBytes (name_part text)
+name-bytes [] = tt
+name-bytes (c ∷ cs) = name-by c (name_part cs) (is_name_byte c) refl (name-bytes cs)
+
+item-named : (text name part : List ℕ) (value : Option (Option (List ℕ))) (item : Item) → text ≡ name ++ part → AreNameBytes name
+    → value_of part ≡ value → named_item name value ≡ Some item → SpellsItem item text
+item-named text [] part value item w b v h = cc
+item-named text (c ∷ cs) part None item w b v h = cc
+item-named text (c ∷ cs) part (Some value) item w b v h =
     let e : record { name = c ∷ cs; value = value } ≡ item = cc in
-    let P : Item → Type 0 = λ x. ReadItem text x in
-    subst P e (record { part = part; whole = w; value = read_part part value v })
+    let P : Item → Type 0 = λ x. SpellsItem x text in
+    let some : (c ∷ cs) ≢ [] = λ f. cc in
+    subst P e (part, some, b, read_part part value v, w)
 
-read_item : (text : List ℕ) (item : Item) → item_of text ≡ Some item → ReadItem text item
-read_item text item h = item-named text (name_part text) (after_name text) (value_of (after_name text)) item (name-cut text) refl h
+pub read_item : (text : List ℕ) (item : Item) → item_of text ≡ Some item → SpellsItem item text
+read_item text item h =
+    item-named text (name_part text) (after_name text) (value_of (after_name text)) item (name-cut text) (name-bytes text) refl h
 
 -- ---- options by name
 
@@ -238,7 +240,7 @@ named-by name option (Some row) r h =
     let P : OptionName → Type 0 = λ x. same_name name (name_in (row_of x)) ≡ true in
     subst P e (found-own name options row each_own r)
 
-named-same : (name : List ℕ) (option : OptionName) → option_named name ≡ Some option → same_name name (name_in (row_of option)) ≡ true
+pub named-same : (name : List ℕ) (option : OptionName) → option_named name ≡ Some option → same_name name (name_in (row_of option)) ≡ true
 named-same name option h = named-by name option (row_named name) refl h
 
 pub record ReadOption (text : List ℕ) (option : AuthOption) : Type 0 where
@@ -246,7 +248,7 @@ pub record ReadOption (text : List ℕ) (option : AuthOption) : Type 0 where
   pub quotable : can_be_quoted option ≡ true
 
 option-by : (text name part : List ℕ) (value : Option (List ℕ)) (option : AuthOption) (named : Option OptionName)
-    → text ≡ name ++ part → ReadPart part value → option_named name ≡ named
+    → text ≡ name ++ part → SpellsValue value part → option_named name ≡ named
     → option_by_name named value ≡ Ok option → ReadOption text option
 option-by text name part value option None w r n h = cc
 option-by text name part None option (Some (names.Switch flag)) w r n h =
@@ -259,9 +261,10 @@ option-by text name part (Some value) option (Some (names.Setting setting)) w r 
     subst P e (record { spelled = (name, named-same name (names.Setting setting) n, w ∙ ap (λ p. name ++ p) r.0); quotable = r.1 })
 
 read_option : (text : List ℕ) (item : Item) (option : AuthOption) → item_of text ≡ Some item → option_of item ≡ Ok option → ReadOption text option
-read_option text item option i o =
-    let read = read_item text item i in
-    option-by text item.name read.part item.value option (option_named item.name) read.whole read.value refl o
+read_option text item option i o = by (read_item text item i)
+  where
+    by : SpellsItem item text → ReadOption text option
+    by (part, some, bytes, value, whole) = option-by text item.name part item.value option (option_named item.name) whole value refl o
 
 -- ---- the items of a text
 
@@ -297,7 +300,7 @@ items-by inside last c cs false s here more =
           ∙ ap (λ t. c ∷ t) (ap (join_with_byte 44) (sym more.are) ∙ more.joined);
     }
 
-some_items : (inside : Bool) (last : ℕ) (text : List ℕ) → SomeItems inside last text
+pub some_items : (inside : Bool) (last : ℕ) (text : List ℕ) → SomeItems inside last text
 some_items inside last [] = record { first = []; others = []; are = refl; joined = refl }
 some_items inside last (c ∷ cs) =
     items-by inside last c cs (not inside && (c == 44)) refl (some_items false c cs) (some_items (turned (is_open_quote last c) inside) c cs)
@@ -309,7 +312,7 @@ pub record EachCut (text : List ℕ) (texts : List (List ℕ)) (items : List Ite
   pub later : each_item texts ≡ Some rest
   pub whole : items ≡ item ∷ rest
 
-each-by : (text : List ℕ) (texts : List (List ℕ)) (items : List Item) (item : Option Item) (rest : Option (List Item))
+pub each-by : (text : List ℕ) (texts : List (List ℕ)) (items : List Item) (item : Option Item) (rest : Option (List Item))
     → item_of text ≡ item → each_item texts ≡ rest → each_item (text ∷ texts) ≡ Some items → EachCut text texts items
 each-by text texts items None rest i r h = let f : None ≡ Some items = rw i at h in cc
 each-by text texts items (Some item) None i r h = let f : None ≡ Some items = rw (i, r) at h in cc
@@ -360,7 +363,7 @@ spells-items text (next ∷ texts) items options h z =
 
 -- ---- the tests of options, from the left
 
-abbrev AreTested : List AuthOption → List AuthOption → Type 0
+abbrev pub AreTested : List AuthOption → List AuthOption → Type 0
 AreTested before [] = Unit {0}
 AreTested before (option ∷ options) =
     (repeats before option ≡ false) × (has_bad_expiry option ≡ false) × AreTested (before ++ option ∷ []) options
@@ -405,7 +408,7 @@ taken [] before options h =
 taken (item ∷ items) before options h =
     taken-by before item items options (option_of item) refl h (λ b k. taken items b options k)
 
-tested-allowed : (before options : List AuthOption) → AllQuotable options → AreTested before options → AreAllowed before options
+pub tested-allowed : (before options : List AuthOption) → AllQuotable options → AreTested before options → AreAllowed before options
 tested-allowed before [] q t = tt
 tested-allowed before (option ∷ options) q t = (q.0, t.0, t.1, tested-allowed (before ++ option ∷ []) options q.1 t.2)
 

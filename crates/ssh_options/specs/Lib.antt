@@ -4,3 +4,4 @@ pub mod OptionTexts
 pub mod OptionsInPlace
 pub mod OptionsInLine
 pub mod Settings
+pub mod OptionFaults

@@ -1,5 +1,6 @@
 use Rattle.std.proofs.Common.{arith, sym, ◌∙◌}
 use Rattle.ssh_names.proofs.ByteLemmas.{AreBytes-from}
+use Rattle.ssh_lines.proofs.AuthFaultLemmas.{auth_line-fault}
 use Rattle.ssh_lines.proofs.ReadAuth.{auth_line-spells}
 use Rattle.ssh_lines.proofs.AuthLemmas.{auth_line-spelled}
 use Rattle.ssh_lines.proofs.line_view.read_auth_view.Goals as goal
@@ -10,3 +11,7 @@ returns-clause-found c =
 
 pub returns-clause-only : goal.returns-clause-only
 returns-clause-only c = λ entry spells. c.view_line.ensures ∙ auth_line-spelled entry c.args.line.now spells
+
+pub returns-clause-fault : goal.returns-clause-fault
+returns-clause-fault c =
+    λ cause is. auth_line-fault c.args.line.now cause (AreBytes-from c.args.line.now (λ i. omega (arith, c.type_inv.line i))) (sym c.view_line.ensures ∙ is)

@@ -1,0 +1,45 @@
+-- What is said of a key's bytes.
+use Rattle.std.proofs.Common.{◌≡◌, true, false, Bool, bytes_eq, List, ℕ, Result, Ok, Err, IfOk, refl, sym, ap, ◌∙◌, if◌then◌else◌, ◌≤◌, length, arith}
+use Rattle.base64.specs.Engines.{standard}
+use Rattle.base64.specs.GeneralPurpose.{decode_of}
+use Rattle.base64.specs.declared.decode.DecodeError.{DecodeError}
+use Rattle.ssh_keys.specs.declared.error.KeyError.{KeyError}
+use Rattle.ssh_keys.specs.declared.kind.KeyKind.{KeyKind}
+use Rattle.ssh_keys.specs.KeyReading.{key_in}
+use Rattle.ssh_keys.specs.Names.{name_of}
+use Rattle.ssh_keys.specs.PublicKey.{PublicKey, kind_of}
+use Rattle.ssh_options.specs.declared.cause.LineCause.{LineCause}
+use Rattle.ssh_options.specs.declared.cause.LineCause.TheVariants as causes
+use Rattle.ssh_options.specs.declared.option.AuthOption.{AuthOption}
+use Rattle.ssh_text.specs.Text.{comment_of}
+use Rattle.ssh_lines.specs.declared.entry.AuthLine.{AuthLine}
+use Rattle.ssh_lines.specs.declared.entry_fields.EntryFields.{EntryFields}
+use Rattle.ssh_lines.specs.AuthGrammar.{entry_of_key}
+use Rattle.ssh_lines.specs.EntryFields.{entry_of_fields, needs_bytes}
+use Rattle.ssh_lines.specs.KeyPart.{key_of_blob, key_of_kind}
+
+of-type : (options : List AuthOption) (comment : List ℕ) (key : PublicKey) (same : Bool)
+    → needs_bytes (entry_of_key options (if same then Ok (record { key = key; comment = comment }) else Err causes.TypeMismatch)) ≡ true
+of-type options comment key true = refl
+of-type options comment key false = refl
+
+of-kind : (options : List AuthOption) (kind : KeyKind) (comment : List ℕ) (read : Result PublicKey KeyError)
+    → needs_bytes (entry_of_key options (key_of_kind kind comment read)) ≡ true
+of-kind options kind comment (Err e) = refl
+of-kind options kind comment (Ok key) = of-type options comment key (bytes_eq (name_of kind) (name_of (kind_of key)))
+
+of-blob : (options : List AuthOption) (kind : KeyKind) (comment : List ℕ) (decoded : Result (List ℕ) DecodeError)
+    → needs_bytes (entry_of_key options (key_of_blob kind comment decoded)) ≡ true
+of-blob options kind comment (Err e) = refl
+of-blob options kind comment (Ok blob) = of-kind options kind comment (key_in blob)
+
+-- what fields say, they say with the bytes of the key
+pub fields_need_bytes : (f : EntryFields) (line : AuthLine) → entry_of_fields f ≡ line → needs_bytes line ≡ true
+fields_need_bytes f line e =
+    ap needs_bytes (sym e) ∙ of-blob f.options f.kind (comment_of f.rest.now) (decode_of standard f.base64.now)
+
+-- a field within a part of a text is within the text
+pub room-within : (fields : Result EntryFields LineCause) (part whole : ℕ) → part ≤ whole
+    → IfOk fields (λ f. length f.base64.now ≤ part) → IfOk fields (λ f. length f.base64.now ≤ whole)
+room-within (Err cause) part whole h room = tt
+room-within (Ok f) part whole h room = omega arith

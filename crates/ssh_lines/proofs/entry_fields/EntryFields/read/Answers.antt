@@ -1,0 +1,24 @@
+use Rattle.std.proofs.Common.{◌≡◌, ◌≤◌, ℕ, List, length, IfOk, IfErr, subst, sym}
+use Rattle.ssh_lines.specs.declared.entry.AuthLine.TheVariants.{Unreadable}
+use Rattle.ssh_lines.specs.AuthGrammar.{entry_of, entry_of_key}
+use Rattle.ssh_lines.specs.EntryFields.{entry_of_fields}
+use Rattle.ssh_lines.specs.KeyPart.{key_of_class}
+use Rattle.ssh_lines.proofs.BytesLemmas.{room-within}
+use Rattle.ssh_lines.proofs.EntryFieldLemmas.{entry-of_class}
+use Rattle.ssh_lines.proofs.LengthLemmas.{length_after}
+use Rattle.ssh_lines.proofs.entry_fields.EntryFields.read.Goals as goal
+
+pub returns-in_default : goal.returns-in_default
+returns-in_default c =
+    let body : List ℕ = c.args.body.now in
+    let after : List ℕ = c.split_word.result.1.now in
+    let same : entry_of_key c.none.result (key_of_class c.name_class.result c.split_word.result.0.now after) ≡ entry_of body =
+    entry-of_class c.none.result body c.split_word.result.0.now after c.name_class.result c.none.ensures
+    c.split_word.ensures.word c.split_word.ensures.rest c.name_class.ensures c.in_default.not-Other in
+    let short : length after ≤ length body =
+    subst (λ t. length t ≤ length body) (sym c.split_word.ensures.rest) (length_after body) in
+    record {
+      ok = subst (λ line. IfOk c.fields_of_class.result (λ f. entry_of_fields f ≡ line)) same c.fields_of_class.ensures.ok;
+      room = room-within c.fields_of_class.result (length after) (length body) short c.fields_of_class.ensures.room;
+      err = subst (λ line. IfErr c.fields_of_class.result (λ cause. line ≡ Unreadable cause)) same c.fields_of_class.ensures.err;
+    }

@@ -1,0 +1,100 @@
+//! The fields of an authorized_keys line that has a key, as far as they are read without its bytes.
+
+ghost use Rattle.std.specs.Prelude.{◌≡◌, ◌≤◌, List, length, IfOk, IfErr};
+ghost use Rattle.base64.specs.Decode.{decoded_estimate};
+ghost use Rattle.ssh_lines.specs.AuthGrammar.{entry_of, entry_of_key, entry_with_options};
+ghost use Rattle.ssh_lines.specs.KeyPart.{key_of_class, key_part_of};
+ghost use Rattle.ssh_lines.specs.EntryFields.{entry_of_fields};
+ghost use Rattle.ssh_lines.specs.LineView.{SaysView};
+ghost use Rattle.ssh_lines.specs.declared.entry.AuthLine.TheVariants.{Unreadable};
+
+use crate::auth_view::AuthEntryView;
+use crate::key_view::{key_of_kind, kind_of_class};
+use ssh_keys::{KeyKind, NameClass, name_class};
+use ssh_options::{LineCause, OptionsView, split_option_text};
+use ssh_text::{skip_blanks, split_word};
+
+/// The options, the kind of key that the type names, the base64, and what follows it.
+#[derive(Drop)]
+pub(crate) struct EntryFields<'a> {
+    options: OptionsView<'a>,
+    kind: KeyKind,
+    pub(crate) base64: &'a [u8],
+    rest: &'a [u8],
+}
+
+/// The fields of the options, of a type field with its class, and of what follows it.
+#[tactic(auto, using(crate::proofs::LengthLemmas::length_next_word))]
+fn fields_of_class<'a>(
+    options: OptionsView<'a>,
+    class: NameClass,
+    type_name: &[u8],
+    after: &'a [u8],
+) -> Result<EntryFields<'a>, LineCause>
+    ensures ok { IfOk result (λ f. entry_of_fields f
+        ≡ entry_of_key options.entry (key_of_class class type_name.now after.entry.now)) }
+    ensures room { IfOk result (λ f. length f.base64.now ≤ length after.entry.now) }
+    ensures err { IfErr result (λ cause.
+        entry_of_key options.entry (key_of_class class type_name.now after.entry.now)
+        ≡ Unreadable cause) }
+{
+    let (base64, rest) = split_word(skip_blanks(after));
+    if type_name.is_empty() || base64.is_empty() {
+        return Err(LineCause::NoKey);
+    }
+    let kind = kind_of_class(class)?;
+    Ok(EntryFields {
+        options,
+        kind,
+        base64,
+        rest,
+    })
+}
+
+/// The fields of the options, and of a text of type and base64.
+#[tactic(auto, unfolding(crate::specs::KeyPart::key_part_of), using(crate::proofs::LengthLemmas::length_after))]
+fn fields_with<'a>(options: OptionsView<'a>, text: &'a [u8]) -> Result<EntryFields<'a>, LineCause>
+    ensures ok { IfOk result (λ f. entry_of_fields f
+        ≡ entry_of_key options.entry (key_part_of text.entry.now)) }
+    ensures room { IfOk result (λ f. length f.base64.now ≤ length text.entry.now) }
+    ensures err { IfErr result (λ cause. entry_of_key options.entry (key_part_of text.entry.now)
+        ≡ Unreadable cause) }
+{
+    let (type_name, after) = split_word(text);
+    fields_of_class(options, name_class(type_name), type_name, after)
+}
+
+/// The fields of a text that begins with options.
+fn fields_after_options<'a>(body: &'a [u8]) -> Result<EntryFields<'a>, LineCause>
+    ensures ok { IfOk result (λ f. entry_of_fields f ≡ entry_with_options body.entry.now) }
+    ensures room { IfOk result (λ f. length f.base64.now ≤ length body.entry.now) }
+    ensures err { IfErr result (λ cause. entry_with_options body.entry.now ≡ Unreadable cause) }
+{
+    let (text, rest) = split_option_text(body);
+    let options = OptionsView::read(text)?;
+    fields_with(options, skip_blanks(rest))
+}
+
+impl<'a> EntryFields<'a> {
+    /// The fields of a line that is neither blank nor a comment, without the blanks at its front.
+    pub(crate) fn read(body: &'a [u8]) -> Result<EntryFields<'a>, LineCause>
+        ensures ok { IfOk result (λ f. entry_of_fields f ≡ entry_of body.entry.now) }
+        ensures room { IfOk result (λ f. length f.base64.now ≤ length body.entry.now) }
+        ensures err { IfErr result (λ cause. entry_of body.entry.now ≡ Unreadable cause) }
+    {
+        let (type_name, after) = split_word(body);
+        match name_class(type_name) {
+            NameClass::Other => fields_after_options(body),
+            class => fields_of_class(OptionsView::none(), class, type_name, after),
+        }
+    }
+
+    /// The entry, its key decoded into the buffer.
+    pub(crate) fn view(self, buffer: &'a mut [u8]) -> Result<AuthEntryView<'a>, LineCause>
+        requires { decoded_estimate (length self.base64.now) ≤ length buffer.old }
+        ensures { SaysView result (entry_of_fields self.entry) }
+    {
+        let part = key_of_kind(self.kind, self.base64, self.rest, buffer)?;
+        Ok(AuthEntryView::new(self.options, part))
+    }
+}
