@@ -72,7 +72,8 @@ fn offset_of(text: &[u8], zone: &TimeZone<'_>, shown: DateTime) -> i64
 /// The moment of an expiry text (sshd(8), expiry-time), in seconds from the start of 1970 in UTC:
 /// `YYYYMMDD`, `YYYYMMDDHHMM` or `YYYYMMDDHHMMSS` and an optional `Z`, for a date and a time of day
 /// that exist. With `Z` it is read in UTC, else in the zone: a fold takes the earlier instant, a
-/// gap the offset before it, and in the year 9999 UTC is used. Any other text has no moment.
+/// gap the offset before it, and in the year 9999 UTC is used. Any other text has no moment. No
+/// memory is taken, so `Err` is never answered.
 pub fn expiry(_alloc: Global, text: &[u8], zone: &TimeZone<'_>) -> Result<Option<i64>, AllocError>
     // The moment, or none.
     ensures exact { result ≡ Ok (moment_of text.now (plain_zone zone.now)) }

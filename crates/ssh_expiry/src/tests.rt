@@ -1,7 +1,7 @@
 //! What no clause says: worked moments, and that a call that may take memory succeeds.
 
-use crate::expiry;
-use jiff::tz::TimeZone;
+use crate::{TimeZone, expiry};
+use std::alloc::Global;
 use std::test::Fail;
 
 #[test]
@@ -19,6 +19,26 @@ fn converts_expiry_times(rt: HostRuntime) -> Result<(), Fail> {
     ];
     for (text, want) in rows {
         assert_eq!(rt; expiry(rt.alloc(), text, &europe)?, want);
+    }
+    Ok(())
+}
+
+/// What the example in the crate's root does.
+fn has_expired(alloc: Global, text: &[u8], now: i64) -> Result<Option<bool>, Fail> {
+    let zone = TimeZone::posix("CET-1CEST,M3.5.0,M10.5.0/3")?;
+    let moment = expiry(alloc, text, &zone)?;
+    Ok(moment.map(|moment| moment <= now))
+}
+
+#[test]
+fn runs_the_example(rt: HostRuntime) -> Result<(), Fail> {
+    let rows: [(&[u8], i64, Option<bool>); 3] = [
+        (b"20240229Z", 1_709_164_800, Some(true)),
+        (b"20240229Z", 1_709_164_799, Some(false)),
+        (b"20230229Z", 0, None),
+    ];
+    for (text, now, want) in rows {
+        assert_eq!(rt; has_expired(rt.alloc(), text, now)?, want);
     }
     Ok(())
 }

@@ -8,9 +8,11 @@ use Rattle.ssh_keys.specs.Names.{plain_kind, certificate_kind}
 use Rattle.ssh_keys.specs.PublicKey.{PublicKey, ed25519}
 use Rattle.ssh_keys.specs.KeyReading.{key_in, blob_at, fields_at, public_at}
 use Rattle.ssh_options.specs.declared.cause.LineCause.TheVariants as causes
-use Rattle.ssh_options.specs.declared.option.Flag.TheVariants.{Pty}
-use Rattle.ssh_options.specs.declared.option.ValueName.TheVariants.{Command, ExpiryTime}
+use Rattle.ssh_options.specs.declared.option.Flag.TheVariants.{AgentForwarding, CertAuthority, NoAgentForwarding, NoPortForwarding, NoPty, NoUserRc, NoX11Forwarding, PortForwarding, Pty, NoTouchRequired, VerifyRequired, Restrict, UserRc, X11Forwarding}
+use Rattle.ssh_options.specs.declared.option.ValueName.TheVariants.{Command, Environment, ExpiryTime, From, PermitListen, PermitOpen, Principals, Tunnel}
+use Rattle.ssh_options.specs.declared.option.AuthOption.{AuthOption}
 use Rattle.ssh_options.specs.declared.option.AuthOption.TheVariants.{Switch, Setting}
+use Rattle.ssh_lines.specs.declared.entry.AuthLine.{AuthLine}
 use Rattle.ssh_lines.specs.declared.entry.AuthLine.TheVariants.{Blank, Comment, Entry, Unreadable}
 use Rattle.ssh_expiry.specs.Expiry.{is_expiry_text}
 use Rattle.ssh_options.specs.OptionNames.{row_of, row_named}
@@ -40,6 +42,45 @@ EntrySamplesRead =
 pub entry_samples_read : EntrySamplesRead
 unfolding auth_line options_of row_of row_named key_part_of is_expiry_text key_in blob_at fields_at public_at string_at plain_kind certificate_kind base64_on_literals
 entry_samples_read = (refl, refl, refl, refl, refl)
+
+-- the entry of these options and the key
+abbrev pub zero_with : List AuthOption → AuthLine
+zero_with options = Entry (record { options = options; key = zero_key; comment = [] })
+
+-- the lines of sshd(8)'s EXAMPLES, with this key in place of theirs
+abbrev pub ExamplesRead : Type 0
+ExamplesRead =
+    (auth_line (codes "# Comments are allowed at start of line. Blank lines are allowed.") ≡ Comment)
+    × (auth_line [] ≡ Blank)
+    × (auth_line zero_line ≡ zero_with [])
+    × (auth_line (codes "restrict,command=\"dump /home\" " ++ zero_line) ≡ zero_with (Switch Restrict ∷ Setting Command (codes "dump /home") ∷ []))
+    × (auth_line (codes "permitopen=\"192.0.2.1:80\",permitopen=\"192.0.2.2:25\" " ++ zero_line) ≡ zero_with (Setting PermitOpen (codes "192.0.2.1:80") ∷ Setting PermitOpen (codes "192.0.2.2:25") ∷ []))
+    × (auth_line (codes "permitlisten=\"localhost:8080\",permitlisten=\"[::1]:22000\" " ++ zero_line) ≡ zero_with (Setting PermitListen (codes "localhost:8080") ∷ Setting PermitListen (codes "[::1]:22000") ∷ []))
+    × (auth_line (codes "tunnel=\"0\",command=\"sh /etc/netstart tun0\" " ++ zero_line) ≡ zero_with (Setting Tunnel (codes "0") ∷ Setting Command (codes "sh /etc/netstart tun0") ∷ []))
+    × (auth_line (codes "restrict,pty,command=\"nethack\" " ++ zero_line) ≡ zero_with (Switch Restrict ∷ Switch Pty ∷ Setting Command (codes "nethack") ∷ []))
+    × (auth_line (codes "no-touch-required " ++ zero_line) ≡ zero_with (Switch NoTouchRequired ∷ []))
+    × (auth_line (codes "verify-required " ++ zero_line) ≡ zero_with (Switch VerifyRequired ∷ []))
+    × (auth_line (codes "cert-authority,no-touch-required,principals=\"user_a\" " ++ zero_line) ≡ zero_with (Switch CertAuthority ∷ Switch NoTouchRequired ∷ Setting Principals (codes "user_a") ∷ []))
+
+pub examples_read : ExamplesRead
+unfolding auth_line options_of row_of row_named key_part_of is_expiry_text key_in blob_at fields_at public_at string_at plain_kind certificate_kind base64_on_literals
+examples_read = (refl, refl, refl, refl, refl, refl, refl, refl, refl, refl, refl)
+
+-- every option of sshd(8)'s list: those without a value, and those with one
+abbrev pub EveryOptionRead : Type 0
+EveryOptionRead =
+    (auth_line (codes "agent-forwarding,cert-authority,no-agent-forwarding,no-port-forwarding,no-pty,no-user-rc,no-X11-forwarding " ++ zero_line)
+    ≡ zero_with (Switch AgentForwarding ∷ Switch CertAuthority ∷ Switch NoAgentForwarding ∷ Switch NoPortForwarding ∷ Switch NoPty ∷ Switch NoUserRc ∷ Switch NoX11Forwarding ∷ []))
+    × (auth_line (codes "port-forwarding,pty,no-touch-required,verify-required,restrict,user-rc,X11-forwarding " ++ zero_line)
+    ≡ zero_with (Switch PortForwarding ∷ Switch Pty ∷ Switch NoTouchRequired ∷ Switch VerifyRequired ∷ Switch Restrict ∷ Switch UserRc ∷ Switch X11Forwarding ∷ []))
+    × (auth_line (codes "command=\"echo \\\"a b\\\"\",environment=\"LANG=C\",expiry-time=\"20240229\",from=\"*.example.com,!bad\" " ++ zero_line)
+    ≡ zero_with (Setting Command (codes "echo \"a b\"") ∷ Setting Environment (codes "LANG=C") ∷ Setting ExpiryTime (codes "20240229") ∷ Setting From (codes "*.example.com,!bad") ∷ []))
+    × (auth_line (codes "permitlisten=\"8080\",permitopen=\"[2001:db8::1]:80\",principals=\"a,b\",tunnel=\"0\" " ++ zero_line)
+    ≡ zero_with (Setting PermitListen (codes "8080") ∷ Setting PermitOpen (codes "[2001:db8::1]:80") ∷ Setting Principals (codes "a,b") ∷ Setting Tunnel (codes "0") ∷ []))
+
+pub every_option_read : EveryOptionRead
+unfolding auth_line options_of row_of row_named key_part_of is_expiry_text key_in blob_at fields_at public_at string_at plain_kind certificate_kind base64_on_literals
+every_option_read = (refl, refl, refl, refl)
 
 -- lines with a fault: in their options, in the order of the tests
 abbrev pub OptionFaultsRead : Type 0

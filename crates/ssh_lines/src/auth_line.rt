@@ -46,8 +46,9 @@ fn read_line(alloc: Global, line: &[u8]) -> Result<AuthLine, AllocError>
 }
 
 /// What a line of an authorized_keys file says (sshd(8), AUTHORIZED_KEYS FILE FORMAT). The line is
-/// given without its LF; one CR at its end counts for nothing. `Err` means out of memory, and
-/// nothing else.
+/// given without its LF; one CR at its end counts for nothing. A line of more than 65,536 bytes is
+/// unreadable as `TooLong`, any other for its first fault. `Err` means out of memory, and nothing
+/// else.
 pub fn read_auth_line(alloc: Global, line: &[u8]) -> Result<AuthLine, AllocError>
     // An entry that is read is one that the line spells.
     ensures found { IfOk result

@@ -95,7 +95,7 @@ impl<'a> AuthEntryView<'a> {
         self.settings(ValueName::ExpiryTime)
     }
 
-    /// The entry, copied.
+    /// The entry, copied. `Err` means out of memory, and nothing else.
     pub fn to_entry(&self, alloc: Global) -> Result<AuthEntry, AllocError>
         ensures { IfOk result (λ entry. entry ≡ self.now) }
     {

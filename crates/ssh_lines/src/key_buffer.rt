@@ -24,7 +24,8 @@ fn zeros(alloc: Global, len: usize) -> Result<Vec<u8>, AllocError>
 }
 
 impl KeyBuffer {
-    /// A buffer that holds the key of any line.
+    /// A buffer of 49,152 bytes, which holds the key of any line. `Err` means out of memory, and
+    /// nothing else.
     pub fn new(alloc: Global) -> Result<KeyBuffer, AllocError> {
         let bytes = zeros(alloc, BUFFER_LEN)?;
         Ok(KeyBuffer { bytes })

@@ -40,7 +40,7 @@ pub enum KnownLineView<'a> {
 }
 
 impl KnownLineView<'_> {
-    /// The line, copied.
+    /// The line, copied. `Err` means out of memory, and nothing else.
     pub fn to_line(&self, alloc: Global) -> Result<KnownLine, AllocError>
         ensures { IfOk result (λ line. line ≡ known_seen self.entry.now) }
     {

@@ -96,7 +96,7 @@ impl<'a> KnownEntryView<'a> {
         blob == self.blob()
     }
 
-    /// The entry, copied.
+    /// The entry, copied. `Err` means out of memory, and nothing else.
     pub fn to_entry(&self, alloc: Global) -> Result<KnownEntry, AllocError>
         ensures { IfOk result (λ entry. entry ≡ self.now) }
     {

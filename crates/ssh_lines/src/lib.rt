@@ -1,4 +1,21 @@
 //! The lines of authorized_keys and known_hosts files.
+//!
+//! A line is given without its LF and has at most 65,536 bytes; what is told of one that has no
+//! reading is its first fault, as `LineCause`. Reading in place takes no memory but the buffer for
+//! keys, and copies nothing. A caller that looks for the options of a key among the lines of a file
+//! (a test runs these lines):
+//!
+//! ```
+//! let mut buffer = KeyBuffer::new(alloc)?;
+//! for (_number, line) in Lines::new(file) {
+//!     if let AuthLineView::Entry(entry) = read_auth_view(line, &mut buffer)
+//!         && entry.has_blob(blob)
+//!     {
+//!         return Ok(Some(entry.to_entry(alloc)?));
+//!     }
+//! }
+//! Ok(None)
+//! ```
 #![tactic(auto)]
 
 mod auth_line;
@@ -39,7 +56,7 @@ pub use known_view::KnownEntryView;
 pub use laws::{entry_rule, known_rule};
 pub use line_view::{AuthLineView, read_auth_view};
 pub use marker::Marker;
-pub use ssh_expiry::{epoch, expiry};
+pub use ssh_expiry::{TimeZone, epoch, expiry};
 pub use ssh_names::{
     HostNames, NamesFault, hash_name, hmac_sha1, lookup_name, names_host, names_rule, read_names,
 };

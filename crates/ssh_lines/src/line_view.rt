@@ -50,7 +50,8 @@ fn view_line<'a>(line: &'a [u8], buffer: &'a mut [u8]) -> AuthLineView<'a>
 
 /// What a line of an authorized_keys file says (sshd(8), AUTHORIZED_KEYS FILE FORMAT), in the line.
 /// The line is given without its LF; one CR at its end counts for nothing. The key is decoded into
-/// the buffer.
+/// the buffer. A line of more than 65,536 bytes is unreadable as `TooLong`, any other for its first
+/// fault. No memory is taken.
 pub fn read_auth_view<'a>(line: &'a [u8], buffer: &'a mut KeyBuffer) -> AuthLineView<'a>
     // An entry that is read is one that the line spells.
     ensures found { (entry : AuthEntry)

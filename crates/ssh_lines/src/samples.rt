@@ -9,6 +9,8 @@ ghost use Rattle.ssh_lines.specs.KnownSamples.{
 };
 ghost use Rattle.ssh_lines.specs.Samples.{
   EntrySamplesRead,
+  ExamplesRead,
+  EveryOptionRead,
   OptionFaultsRead,
   KeyFaultsRead,
   LongLinesRead,
@@ -17,6 +19,8 @@ ghost use Rattle.ssh_lines.specs.Samples.{
 /// Lines, as the definitions read them.
 fn lines_as_read()
     ensures entries { EntrySamplesRead }
+    ensures examples { ExamplesRead }
+    ensures every_option { EveryOptionRead }
     ensures options { OptionFaultsRead }
     ensures keys { KeyFaultsRead }
     ensures long { LongLinesRead }

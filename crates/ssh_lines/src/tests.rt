@@ -1,8 +1,8 @@
 //! What no clause says: worked lines, and that calls that take memory can succeed.
 
 use crate::{
-    AuthLine, AuthLineView, AuthOption, Flag, KeyBuffer, LINE_LIMIT, LineCause, OptionView,
-    ValueName, read_auth_line, read_auth_view,
+    AuthEntry, AuthLine, AuthLineView, AuthOption, Flag, KeyBuffer, LINE_LIMIT, LineCause, Lines,
+    OptionView, ValueName, read_auth_line, read_auth_view,
 };
 use ssh_keys::KeyError;
 use ssh_wire::{WireCause, WireError};
@@ -131,5 +131,99 @@ fn reads_up_to_the_limit(rt: HostRuntime) -> Result<(), Fail> {
     assert_eq!(rt; cause(rt.alloc(), &line)?, None);
     line.push(b'e')?;
     assert_eq!(rt; cause(rt.alloc(), &line)?, Some(LineCause::TooLong));
+    Ok(())
+}
+
+/// The lines of sshd(8)'s EXAMPLES, with keys in place of what it leaves out, and a line with every
+/// option.
+const FILE: &[u8] = b"# Comments are allowed at start of line. Blank lines are allowed.
+
+ssh-rsa AAAAB3NzaC1yc2EAAAADAQABAAAAAgCA
+restrict,command=\"dump /home\" ssh-rsa AAAAB3NzaC1yc2EAAAADAQABAAAAAgCA
+permitopen=\"192.0.2.1:80\",permitopen=\"192.0.2.2:25\" ssh-rsa AAAAB3NzaC1yc2EAAAADAQABAAAAAgCA
+permitlisten=\"localhost:8080\",permitlisten=\"[::1]:22000\" ssh-rsa AAAAB3NzaC1yc2EAAAADAQABAAAAAgCA
+tunnel=\"0\",command=\"sh /etc/netstart tun0\" ssh-rsa AAAAB3NzaC1yc2EAAAADAQABAAAAAgCA
+restrict,pty,command=\"nethack\" ssh-rsa AAAAB3NzaC1yc2EAAAADAQABAAAAAgCA
+no-touch-required sk-ecdsa-sha2-nistp256@openssh.com AAAAInNrLWVjZHNhLXNoYTItbmlzdHAyNTZAb3BlbnNzaC5jb20AAAAIbmlzdHAyNTYAAABBBDAxMjM0NTY3ODlhYmNkZWYwMTIzNDU2Nzg5YWJjZGVmMDEyMzQ1Njc4OWFiY2RlZjAxMjM0NTY3ODlhYmNkZWYAAAAEc3NoOg==
+verify-required sk-ecdsa-sha2-nistp256@openssh.com AAAAInNrLWVjZHNhLXNoYTItbmlzdHAyNTZAb3BlbnNzaC5jb20AAAAIbmlzdHAyNTYAAABBBDAxMjM0NTY3ODlhYmNkZWYwMTIzNDU2Nzg5YWJjZGVmMDEyMzQ1Njc4OWFiY2RlZjAxMjM0NTY3ODlhYmNkZWYAAAAEc3NoOg== user@host
+cert-authority,no-touch-required,principals=\"user_a\" ssh-rsa AAAAB3NzaC1yc2EAAAADAQABAAAAAgCA
+agent-forwarding,cert-authority,no-agent-forwarding,no-port-forwarding,no-pty,no-user-rc,no-X11-forwarding,port-forwarding,pty,no-touch-required,verify-required,restrict,user-rc,X11-forwarding,command=\"echo \\\"a b\\\"\",environment=\"LANG=C\",expiry-time=\"20240229\",from=\"*.example.com,!bad\",permitlisten=\"8080\",permitopen=\"[2001:db8::1]:80\",principals=\"a,b\",tunnel=\"0\" ssh-rsa AAAAB3NzaC1yc2EAAAADAQABAAAAAgCA all of them
+";
+
+/// An entry by its options and its comment.
+fn shown_entry(entry: &AuthEntry, out: &mut Vec<u8>) -> Result<(), AllocError> {
+    for option in entry.options.as_slice() {
+        out.extend_from_slice(option.name())?;
+        if let AuthOption::Setting(_, value) = option {
+            out.push(b'=')?;
+            out.extend_from_slice(value.as_slice())?;
+        }
+        out.push(b';')?;
+    }
+    out.extend_from_slice(entry.comment.as_slice())
+}
+
+fn shown(alloc: Global, line: &[u8]) -> Result<Vec<u8>, AllocError> {
+    let mut out = Vec::new(alloc);
+    match read_auth_line(alloc, line)? {
+        AuthLine::Blank => out.extend_from_slice(b"blank")?,
+        AuthLine::Comment => out.extend_from_slice(b"comment")?,
+        AuthLine::Unreadable(_) => out.extend_from_slice(b"unreadable")?,
+        AuthLine::Entry(entry) => shown_entry(&entry, &mut out)?,
+    }
+    Ok(out)
+}
+
+#[test]
+fn reads_the_examples_of_sshd(rt: HostRuntime) -> Result<(), Fail> {
+    let rows: [&[u8]; 12] = [
+        b"comment",
+        b"blank",
+        b"",
+        b"restrict;command=dump /home;",
+        b"permitopen=192.0.2.1:80;permitopen=192.0.2.2:25;",
+        b"permitlisten=localhost:8080;permitlisten=[::1]:22000;",
+        b"tunnel=0;command=sh /etc/netstart tun0;",
+        b"restrict;pty;command=nethack;",
+        b"no-touch-required;",
+        b"verify-required;user@host",
+        b"cert-authority;no-touch-required;principals=user_a;",
+        b"agent-forwarding;cert-authority;no-agent-forwarding;no-port-forwarding;no-pty;no-user-rc;no-X11-forwarding;port-forwarding;pty;no-touch-required;verify-required;restrict;user-rc;X11-forwarding;command=echo \"a b\";environment=LANG=C;expiry-time=20240229;from=*.example.com,!bad;permitlisten=8080;permitopen=[2001:db8::1]:80;principals=a,b;tunnel=0;all of them",
+    ];
+    let mut buffer = KeyBuffer::new(rt.alloc())?;
+    for ((_number, line), want) in Lines::new(FILE).zip(rows) {
+        assert_eq!(rt; shown(rt.alloc(), line)?.as_slice(), want);
+        if let AuthLineView::Entry(entry) = read_auth_view(line, &mut buffer) {
+            let mut out = Vec::new(rt.alloc());
+            shown_entry(&entry.to_entry(rt.alloc())?, &mut out)?;
+            assert_eq!(rt; out.as_slice(), want);
+        }
+    }
+    assert_eq!(rt; Lines::new(FILE).count(), rows.len());
+    Ok(())
+}
+
+/// What the example in the crate's root does.
+fn entry_of_blob(alloc: Global, file: &[u8], blob: &[u8]) -> Result<Option<AuthEntry>, AllocError> {
+    let mut buffer = KeyBuffer::new(alloc)?;
+    for (_number, line) in Lines::new(file) {
+        if let AuthLineView::Entry(entry) = read_auth_view(line, &mut buffer)
+            && entry.has_blob(blob)
+        {
+            return Ok(Some(entry.to_entry(alloc)?));
+        }
+    }
+    Ok(None)
+}
+
+#[test]
+fn runs_the_example(rt: HostRuntime) -> Result<(), Fail> {
+    let blob = b"\0\0\0\x07ssh-rsa\0\0\0\x03\x01\0\x01\0\0\0\x02\0\x80";
+    let found = entry_of_blob(rt.alloc(), FILE, blob)?;
+    let Some(entry) = found else {
+        return Err(Fail::new("no entry"));
+    };
+    assert!(rt; entry.options.as_slice().is_empty());
+    assert!(rt; entry_of_blob(rt.alloc(), FILE, b"x")?.is_none());
     Ok(())
 }

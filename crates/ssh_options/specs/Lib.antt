@@ -5,3 +5,4 @@ pub mod OptionsInPlace
 pub mod OptionsInLine
 pub mod Settings
 pub mod OptionFaults
+pub mod AllNames

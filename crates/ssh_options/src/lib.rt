@@ -1,4 +1,19 @@
 //! The options of authorized_keys lines (sshd(8), AUTHORIZED_KEYS FILE FORMAT).
+//!
+//! They are read in place: no memory is taken until a caller copies them. A refusal is the first
+//! fault, as `LineCause`: that of the whole text's form, then those of its items from the left. A
+//! caller that asks whether a line grants a terminal, and for its forced command (a test runs these
+//! lines):
+//!
+//! ```
+//! let (text, _key) = split_option_text(line);
+//! let options = OptionsView::read(text)?;
+//! let terminal = options.has_flag(Flag::Pty);
+//! match options.settings(ValueName::Command).next() {
+//!     Some(command) => Ok((terminal, Some(command.to_bytes(alloc)?))),
+//!     None => Ok((terminal, None)),
+//! }
+//! ```
 #![tactic(auto)]
 
 mod cause;
@@ -8,6 +23,7 @@ mod option_text;
 mod option_view;
 mod options;
 mod options_view;
+mod samples;
 mod settings;
 #[cfg(test)]
 mod tests;

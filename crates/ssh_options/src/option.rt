@@ -13,6 +13,7 @@ ghost use Rattle.ssh_options.specs.OptionNames.{
   is_single,
   same_name,
 };
+ghost use Rattle.ssh_options.specs.OptionText.{option_name};
 ghost use Rattle.ssh_options.specs.OptionTexts.{table_row};
 
 use OptionName::{Setting, Switch};
@@ -137,6 +138,24 @@ pub(crate) fn option_named(name: &[u8]) -> Option<OptionName>
 }
 
 impl Flag {
+    /// Every flag, in the order of the list of sshd(8).
+    pub const ALL: [Flag; 14] = [
+        Flag::AgentForwarding,
+        Flag::CertAuthority,
+        Flag::NoAgentForwarding,
+        Flag::NoPortForwarding,
+        Flag::NoPty,
+        Flag::NoUserRc,
+        Flag::NoX11Forwarding,
+        Flag::PortForwarding,
+        Flag::Pty,
+        Flag::NoTouchRequired,
+        Flag::VerifyRequired,
+        Flag::Restrict,
+        Flag::UserRc,
+        Flag::X11Forwarding,
+    ];
+
     /// The name, as sshd(8) spells it.
     pub fn name(self) -> &'static [u8]
         ensures { result.now ≡ flag_name self }
@@ -156,6 +175,18 @@ impl Flag {
 }
 
 impl ValueName {
+    /// Every option with a value, in the order of the list of sshd(8).
+    pub const ALL: [ValueName; 8] = [
+        ValueName::Command,
+        ValueName::Environment,
+        ValueName::ExpiryTime,
+        ValueName::From,
+        ValueName::PermitListen,
+        ValueName::PermitOpen,
+        ValueName::Principals,
+        ValueName::Tunnel,
+    ];
+
     /// The name, as sshd(8) spells it.
     pub fn name(self) -> &'static [u8]
         ensures { result.now ≡ value_name self }
@@ -178,6 +209,18 @@ impl ValueName {
         ensures { result ≡ is_single self }
     {
         row_of(OptionName::Setting(self)).2 == Times::Once
+    }
+}
+
+impl AuthOption {
+    /// The name, as sshd(8) spells it.
+    pub fn name(&self) -> &'static [u8]
+        ensures { result.now ≡ option_name self.now }
+    {
+        match self {
+            AuthOption::Switch(flag) => flag.name(),
+            AuthOption::Setting(name, _) => name.name(),
+        }
     }
 }
 

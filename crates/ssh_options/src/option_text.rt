@@ -57,7 +57,9 @@ fn option_text_len(text: &[u8]) -> usize
     text.len()
 }
 
-/// The option text at the front of a line, up to its first blank outside quotes, and what follows.
+/// The option text at the front of a line, up to its first blank outside quotes, and what follows
+/// (sshd(8), AUTHORIZED_KEYS FILE FORMAT). A blank is a space or a tab; a quote right after a
+/// backslash does not count.
 pub fn split_option_text(text: &[u8]) -> (&[u8], &[u8])
     ensures front { result.0.now ≡ option_text_of false 0 text.now }
     ensures rest { result.1.now ≡ drop (length (option_text_of false 0 text.now)) text.now }

@@ -36,7 +36,7 @@ pub(crate) fn view_option(item: ItemText<'_>) -> Result<OptionView<'_>, LineCaus
 impl OptionView<'_> {
     ghost use Rattle.ssh_options.specs.OptionsInLine.{option_in_line};
 
-    /// The option, copied.
+    /// The option, copied. `Err` means out of memory, and nothing else.
     pub fn to_option(&self, alloc: Global) -> Result<AuthOption, AllocError>
         ensures { IfOk result (λ option. option ≡ option_in_line self.now) }
     {

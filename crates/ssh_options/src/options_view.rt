@@ -54,7 +54,8 @@ impl<'a> OptionsView<'a> {
         OptionsView { rest: None }
     }
 
-    /// The options of an option text, or its first fault.
+    /// The options of an option text (sshd(8), AUTHORIZED_KEYS FILE FORMAT), or its first fault: that
+    /// of its form, then those of its items from the left. No memory is taken.
     pub fn read(text: &'a [u8]) -> Result<OptionsView<'a>, LineCause>
         ensures { Gives (λ o. o) result (options_of text.entry.now) }
     {
@@ -88,7 +89,7 @@ impl<'a> OptionsView<'a> {
         }
     }
 
-    /// The options, copied.
+    /// The options, copied, in their order. `Err` means out of memory, and nothing else.
     pub fn to_options(&self, alloc: Global) -> Result<Options, AllocError>
         ensures { IfOk result (λ options. options ≡ self.now) }
     {

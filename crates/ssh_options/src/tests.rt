@@ -1,6 +1,8 @@
 //! What no clause says: worked options, and that calls that take memory can succeed.
 
-use crate::{Flag, OptionView, OptionsView, ValueName, split_option_text};
+use crate::{AuthOption, Flag, OptionView, OptionsView, ValueName, split_option_text};
+use ssh_text::Bytes;
+use std::alloc::Global;
 use std::test::Fail;
 
 #[test]
@@ -29,5 +31,57 @@ fn reads_options_in_their_line(rt: HostRuntime) -> Result<(), Fail> {
         return Err(Fail::new("no from"));
     };
     assert_eq!(rt; from.in_place(), Some(b"*.a".as_slice()));
+    Ok(())
+}
+
+/// What the example in the crate's root does.
+fn look_at(alloc: Global, line: &[u8]) -> Result<(bool, Option<Bytes>), Fail> {
+    let (text, _key) = split_option_text(line);
+    let options = OptionsView::read(text)?;
+    let terminal = options.has_flag(Flag::Pty);
+    match options.settings(ValueName::Command).next() {
+        Some(command) => Ok((terminal, Some(command.to_bytes(alloc)?))),
+        None => Ok((terminal, None)),
+    }
+}
+
+#[test]
+fn runs_the_example(rt: HostRuntime) -> Result<(), Fail> {
+    let (terminal, command) = look_at(rt.alloc(), b"restrict,pty,command=\"nethack\" ssh-rsa")?;
+    let Some(command) = command else {
+        return Err(Fail::new("no command"));
+    };
+    assert!(rt; terminal && command.as_slice() == b"nethack".as_slice());
+    Ok(())
+}
+
+/// Every option by its name, and each in a text of all of them, one by one.
+#[test]
+fn reads_every_option(rt: HostRuntime) -> Result<(), Fail> {
+    let mut text = Vec::new(rt.alloc());
+    for flag in Flag::ALL {
+        assert_eq!(rt; Flag::named(flag.name()), Some(flag));
+        text.extend_from_slice(flag.name())?;
+        text.push(b',')?;
+    }
+    for name in ValueName::ALL {
+        assert_eq!(rt; ValueName::named(name.name()), Some(name));
+        text.extend_from_slice(name.name())?;
+        text.extend_from_slice(b"=\"20240229Z\",")?;
+    }
+    text.pop();
+    let kept = OptionsView::read(&text)?.to_options(rt.alloc())?;
+    assert_eq!(rt; kept.as_slice().len(), 22);
+    for (i, option) in kept.as_slice().iter().enumerate() {
+        let name = if i < 14 {
+            Flag::ALL[i].name()
+        } else {
+            ValueName::ALL[i - 14].name()
+        };
+        assert_eq!(rt; option.name(), name);
+        if let AuthOption::Setting(_, value) = option {
+            assert_eq!(rt; value.as_slice(), b"20240229Z".as_slice());
+        }
+    }
     Ok(())
 }

@@ -83,7 +83,7 @@ impl<'a> ValueView<'a> {
         !has_escape(self.quoted) && is_expiry_text(self.quoted)
     }
 
-    /// The value, copied.
+    /// The value, copied. `Err` means out of memory, and nothing else.
     pub fn to_bytes(&self, alloc: Global) -> Result<Bytes, AllocError>
         ensures { IfOk result (λ value. value ≡ self.now) }
     {
