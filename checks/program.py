@@ -1,5 +1,5 @@
 #!/usr/bin/env python3
-"""Runs the built program from outside: files by name, each status, and what cannot be read or written.
+"""Runs the built program from outside: files by name, each status, what cannot be read or written, and large files.
 
 usage: program.py [PROGRAM] [--after LOG]
 
@@ -8,9 +8,10 @@ examples.py (keys, certificates and signatures of ssh-keygen and openssl through
 growth of memory refused in turn). The last line is 'N passed, M failed' for all of them; with --after, the counts in
 the last line of LOG, what `rt ci` printed, are added. The status is 0 where nothing failed. What cannot run has failed.
 
-Needs ssh-keygen (Debian: openssh-client), openssl 3, gcc, /dev/full, and the built program. It takes about half a minute.
+Needs ssh-keygen (Debian: openssh-client), openssl 3, gcc, /dev/full, and the built program. It takes one to two minutes.
 """
 import argparse
+import base64
 import fcntl
 import os
 import pathlib
@@ -22,10 +23,16 @@ import tempfile
 import threading
 
 HERE = pathlib.Path(__file__).resolve().parent
+sys.dont_write_bytecode = True
+sys.path.insert(0, str(HERE.parent / "bench"))
+import inputs
+from rewrite import kind_of, loosened
+
 CRATE = HERE.parent / "crates" / "ssh_audit"
 NEEDS = {"ssh-keygen": "openssh-client", "openssl": "openssl", "gcc": "gcc"}
 COUNTS = re.compile(r"(\d+) passed, (\d+) failed")
 SECONDS = 60
+FILE_LIMIT = inputs.FILE_LIMIT
 
 # An Ed25519 key of 32 zero bytes, another one, a signature, and what has to be vouched for: for a login, for a host.
 KEY = "AAAAC3NzaC1lZDI1NTE5AAAAIAAAAAAAAAAAAAAAAAAAAAAAAAAAAAAAAAAAAAAAAAAA"
@@ -43,7 +50,8 @@ UNVOUCHED = f"denied N6 0\nevidence 0 {LOGIN_TRIPLE}"
 NO_LINE = f"denied N3\nevidence 0 {LOGIN_TRIPLE}"
 TRUSTED = f"granted line 1\nevidence 0 {HOST_TRIPLE}"
 REVOKED = f"denied N1 2\nevidence 0 {HOST_TRIPLE}"
-SHOWN = "type ssh-ed25519\nfingerprint SHA256:kmYcvdi2GkPeWxB6XLjrZB8JHsy2Hm8luHMFp9GMvqk\ncomment me\n"
+SHOWN_KEY = "type ssh-ed25519\nfingerprint SHA256:kmYcvdi2GkPeWxB6XLjrZB8JHsy2Hm8luHMFp9GMvqk\n"
+SHOWN = f"{SHOWN_KEY}comment me\n"
 # A file signature by this key for the namespace `file`, the signature of its message `abc`, and what is shown of it.
 SIGNED_MESSAGE = b"abc"
 SSHSIG = bytes.fromhex(
@@ -53,6 +61,7 @@ FILE_TRIPLE = (
     f"{BLOB} 5353485349470000000466696c65000000000000000673686132353600000020"
     f"ba7816bf8f01cfea414140de5dae2223b00361a396177a9cb410ff61f20015ad {SIGNATURE}\n"
 )
+SHOWN_SIGNATURE = f"{SHOWN_KEY}namespace file\nreserved -\nhash sha256\nsignature ssh-ed25519\n"
 VOUCHED = f"vouched\nevidence 0 {FILE_TRIPLE}"
 NOT_VOUCHED = f"denied N6 0\nevidence 0 {FILE_TRIPLE}"
 # A certificate for this key by the other one, and what is shown of it.
@@ -180,6 +189,8 @@ def rows():
     yield show("key", "keys"), SHOWN, 0
     yield show("cert", "certificate"), SHOWN_CERTIFICATE, 0
     yield show("cert", "keys"), "fault L8\n", 2
+    yield show("sshsig", "body"), SHOWN_SIGNATURE, 0
+    yield show("private", "body"), "fault B1\n", 2
     yield show("frob", "keys"), "fault value kind\n", 2
     yield rewrite("auth", "loose keys"), f"pty,restrict ssh-ed25519 {KEY} me\n#  x\n", 0
     yield rewrite("known", "loose hosts"), f"h,g ssh-ed25519 {KEY}\n@revoked  *  ssh-ed25519 {KEY}\n", 0
@@ -215,6 +226,8 @@ def rows():
         yield sshsig("body", "message", name), f"fault file {told}\n", 2, FILE_TRIPLE.encode()
         yield show("key", name), f"fault file {told}\n", 2, keys
         yield show("cert", name), f"fault file {told}\n", 2, certificate
+        yield show("private", name), f"fault file {told}\n", 2, keys
+        yield show("sshsig", name), f"fault file {told}\n", 2, SSHSIG
         yield rewrite("auth", name), "fault A9\n", 2, keys
     # files whose reads fail: a folder; the one that is read first is told
     yield login(".", "vouched"), "fault A9\n", 2, keys
@@ -237,7 +250,8 @@ def rows():
     yield login("keys", "/dev/zero"), "fault file /dev/zero\n", 2
     yield host("/dev/zero"), "fault A7\n", 2
     yield sshsig("body", "/dev/zero"), "fault file /dev/zero\n", 2
-    yield show("key", "/dev/zero"), "fault file /dev/zero\n", 2
+    for kind in ("key", "cert", "private", "sshsig"):
+        yield show(kind, "/dev/zero"), "fault file /dev/zero\n", 2
     yield rewrite("auth", "/dev/zero"), "fault A7\n", 2
     # words
     yield ["frob"], "fault usage\n", 2
@@ -259,8 +273,7 @@ def answer_rows(program, tally):
 
 def size_rows(program, tally):
     """A trust file at the limit and one byte past it, by name and through a pipe; written anew both would pass it."""
-    size = 67_108_864
-    for length, wanted, status in ((size, NO_LINE, 1), (size + 1, "fault A7\n", 2)):
+    for length, wanted, status in ((FILE_LIMIT, NO_LINE, 1), (FILE_LIMIT + 1, "fault A7\n", 2)):
         content = b"#" + b"x\n#" * (length // 3 + 1)
         (program.room / "large").write_bytes(content[:length])
         tally.check(f"a file of {length} bytes", program.run(login("large")), (status, wanted.encode(), b""))
@@ -281,6 +294,124 @@ def input_rows(program, tally):
         folder = os.open(program.room, os.O_RDONLY)
         tally.check(f"a folder as input: {asked[:1]}", program.run(asked, folder), (2, wanted.encode(), b""))
         os.close(folder)
+
+
+def endless_rows(program, tally):
+    """An input of LFs alone, without an end: as a file by its name, and as `-`. Where `-` is the vouch file, the first
+    line ends it."""
+    for asked, wanted, status in (
+        (login("-"), "fault A7\n", 2),
+        (login("/dev/stdin"), "fault A7\n", 2),
+        (host("-"), "fault A7\n", 2),
+        (host("/dev/stdin"), "fault A7\n", 2),
+        (rewrite("auth", "-"), "fault A7\n", 2),
+        (rewrite("known", "/dev/stdin"), "fault A7\n", 2),
+        (sshsig("body", "-"), "fault file -\n", 2),
+        (login("keys", "/dev/stdin"), "fault file /dev/stdin\n", 2),
+        (login("keys", "-"), UNVOUCHED, 1),
+    ):
+        lines = subprocess.Popen(["yes", ""], stdout=subprocess.PIPE)
+        name = " ".join(asked[:5])
+        tally.check(f"lines without an end: {name}", program.run(asked, lines.stdout), (status, wanted.encode(), b""))
+        lines.stdout.close()
+        lines.wait()
+
+
+# ---- large files
+
+# A name, and a pattern of ten stars that matches it up to its end, and then not.
+LONG_NAME = 63 * "a"
+TEN_STARS = 9 * "*a" + "*b"
+
+
+def cost_of(program, meter, asked):
+    """The status and what was written, then the microseconds of processor time and the KiB of memory at the most."""
+    out = program.room / "metered"
+    ran = subprocess.run([meter, out, program.path, *asked], cwd=program.room, stdout=subprocess.PIPE, timeout=SECONDS, check=True)
+    took, peak, status = map(int, ran.stdout.split())
+    return (status, out.read_bytes()), took, peak
+
+
+def star_rows(program, tally):
+    """Files of lines with ten stars. Linear time: eight times the bytes take less than 24 times as long, not 64 times.
+    Constant memory: no more than 4 MiB for 64 MiB."""
+    meter = program.room / "meter"
+    subprocess.run(["gcc", "-O2", "-static", "-o", meter, HERE.parent / "bench" / "meter.c"], check=True)
+    refused = "".join(f"reason {number} G8\n" for number in range(1, 101))
+    for line, asked, wanted in (
+        (f'from="{TEN_STARS}" ssh-ed25519 {KEY}\n', login("stars", host=LONG_NAME), NO_LINE.replace("\n", "\n" + refused, 1)),
+        (f"{TEN_STARS} ssh-ed25519 {KEY}\n", host("stars", host=LONG_NAME), f"denied N3\nevidence 0 {HOST_TRIPLE}"),
+    ):
+        times = []
+        for size in (FILE_LIMIT // 8, FILE_LIMIT):
+            (program.room / "stars").write_bytes(size // len(line) * line.encode())
+            answer, took, peak = cost_of(program, meter, asked)
+            tally.check(f"{asked[0]}: {size} bytes of lines with ten stars", answer, (1, wanted.encode()))
+            tally.check(f"{asked[0]}: {size} bytes in {peak} KiB", peak <= 4096, True)
+            times.append(took)
+        tally.check(f"{asked[0]}: linear time, of {times} microseconds", times[1] < 24 * times[0], True)
+    (program.room / "stars").unlink()
+
+
+def bench_rows(program, tally):
+    """The bench's files of 100,000 lines, spelled loosely: written anew they are the bench's, and that is its own."""
+    for kind in ("options", "names"):
+        file = inputs.write(program.room, kind, "100k")
+        wanted = pathlib.Path(file.path).read_bytes()
+        loose = b"".join(map(loosened, wanted.splitlines(keepends=True)))
+        tally.check(f"{kind}: 100,000 lines, some of them loose", (file.lines, loose != wanted), (100_000, True))
+        (program.room / "loose").write_bytes(loose)
+        for spelled in ("loose", file.path):
+            status, new, errors = program.run(rewrite(kind_of(file), spelled))
+            tally.check(f"{kind}: {spelled} written anew", (status, new == wanted, errors), (0, True, b""))
+
+
+# ---- what ssh-keygen makes
+
+
+def armoured(text):
+    """The bytes inside an armour."""
+    return base64.b64decode("".join(line for line in text.splitlines() if not line.startswith("-----")))
+
+
+def keygen(program, *words_given, **how):
+    ran = subprocess.run(["ssh-keygen", "-q", *words_given], cwd=program.room, stdout=subprocess.PIPE, stderr=subprocess.DEVNULL, check=True, **how)
+    return ran.stdout.decode()
+
+
+def vouched_for(program, tally, asked):
+    """Hands in what an answer without a vouch file lists. What is answered then, without the evidence."""
+    status, answer, _ = program.run(asked)
+    tally.check(f"nothing vouched: {asked[0]}", (status, answer.split(b"\n")[0]), (1, b"denied N6 0"))
+    triples = [line.split(b" ", 2)[2] + b"\n" for line in answer.splitlines() if line.startswith(b"evidence ")]
+    (program.room / "triples").write_bytes(b"".join(triples))
+    status, answer, _ = program.run([*asked, "--vouch", "triples"])
+    return status, answer.split(b"evidence ")[0]
+
+
+def keygen_rows(program, tally):
+    """A private key, a hashed known_hosts file and a file signature of ssh-keygen."""
+    room = program.room
+    keygen(program, "-t", "ed25519", "-N", "", "-C", "a  b", "-f", "real")
+    key = (room / "real.pub").read_text().split()[1]
+    (room / "known").write_text(f"# c\n[h.example]:2222 ssh-ed25519 {key}\n")
+    keygen(program, "-H", "-f", "known")
+    asked = host("known", offer=key, host="H.example", port="2222")
+    tally.check("a hashed name", (room / "known").read_text().split("\n")[1].startswith("|1|"), True)
+    tally.check("a hashed host", vouched_for(program, tally, asked), (0, b"granted line 2\n"))
+    with (room / "known").open("a") as known:
+        known.write(f"@revoked x ssh-ed25519 {key}\n")
+    status, answer, _ = program.run([*asked, "--vouch", "triples"])
+    tally.check("a revoked hashed host", (status, answer.split(b"\n")[0]), (1, b"denied N1 3"))
+    body = armoured((room / "real").read_text())
+    (room / "raw").write_bytes(body)
+    fingerprint = keygen(program, "-l", "-f", "real.pub").split()[1]
+    check = int.from_bytes(body[98:102], "big")
+    shown = f"type ssh-ed25519\nfingerprint {fingerprint}\ncheck {check}\ncomment a  b\n"
+    tally.check("a private key", program.run(show("private", "raw")), (0, shown.encode(), b""))
+    (room / "raw").write_bytes(armoured(keygen(program, "-Y", "sign", "-n", "file", "-f", "real", input=SIGNED_MESSAGE)))
+    tally.check("a file signature", vouched_for(program, tally, sshsig("raw", "message")), (0, b"vouched\n"))
+    tally.check("another namespace", program.run(sshsig("raw", "message", namespace="File")), (1, b"denied namespace\n", b""))
 
 
 # ---- writers
@@ -346,6 +477,9 @@ def long_text_rows(program, tally):
         tally.check(f"a long text, of which {wants} bytes are read", (ended, got == wanted[:wants]), ((status, b""), True))
 
 
+ROWS = (answer_rows, size_rows, input_rows, endless_rows, star_rows, bench_rows, keygen_rows, writer_rows, long_text_rows)
+
+
 # ---- the other checks
 
 
@@ -388,8 +522,11 @@ def try_all(path, tally):
             (program.room / name).write_text(text, encoding="utf-8")
         (program.room / "body").write_bytes(SSHSIG)
         (program.room / "message").write_bytes(SIGNED_MESSAGE)
-        for row in (answer_rows, size_rows, input_rows, writer_rows, long_text_rows):
-            row(program, tally)
+        for row in ROWS:
+            try:
+                row(program, tally)
+            except (OSError, subprocess.SubprocessError) as error:
+                tally.check(row.__name__, repr(error), "no error")
     print(f"program.py itself: {tally.passed} passed, {tally.failed} failed", flush=True)
     for name in ("examples.py", "refused_growth.py"):
         other_check(name, path, tally)

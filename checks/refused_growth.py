@@ -2,6 +2,7 @@
 """Runs the program once for each growth of memory that it asks for, with that growth refused, alone and with all later
 ones. Each run has to print the row's own answer, or `fault A8` with status 2. Needs gcc and the built program, which may
 be given as an argument."""
+import base64
 import hashlib
 import os
 import pathlib
@@ -14,7 +15,7 @@ HERE = pathlib.Path(__file__).resolve().parent
 CRATE = HERE.parent / "crates" / "ssh_audit"
 PROGRAM = pathlib.Path(sys.argv[1] if len(sys.argv) > 1 else CRATE / "out" / "ssh_audit")
 OUT_OF_MEMORY = (2, b"fault A8\n")
-# A certificate with two principals, a critical option and an extension.
+# A certificate of an unknown kind, with two principals, a critical option and an extension.
 CERTIFICATE = (
     b"ssh-ed25519-cert-v01@openssh.com "
     b"AAAAIHNzaC1lZDI1NTE5LWNlcnQtdjAxQG9wZW5zc2guY29tAAAAAQcAAAAgAAAAAAAAAAAAAAAAAAAAAAAAAAAAAAAAAAAA"
@@ -35,6 +36,14 @@ def run(words, stdin, preload=None, index=0, later=False):
     return (done.returncode, done.stdout), b"refused" in done.stderr
 
 
+# The same key's certificate for `ann`, by the key whose last byte is 1, valid from 100 to 200, with no options.
+PLAIN_CERTIFICATE = (
+    "AAAAIHNzaC1lZDI1NTE5LWNlcnQtdjAxQG9wZW5zc2guY29tAAAAAQcAAAAgAAAAAAAAAAAAAAAAAAAAAAAAAAAAAAAAAAAAAAAAAAAAAAAAAAAA"
+    "BQAAAAEAAAACaWQAAAAHAAAAA2FubgAAAAAAAABkAAAAAAAAAMgAAAAAAAAAAAAAAAAAAAAzAAAAC3NzaC1lZDI1NTE5AAAAIAAAAAAAAAAAAAAA"
+    "AAAAAAAAAAAAAAAAAAAAAAAAAAABAAAAFAAAAAtzc2gtZWQyNTUxOQAAAAGq"
+)
+SIGNER = b"ssh-ed25519 AAAAC3NzaC1lZDI1NTE5AAAAIAAAAAAAAAAAAAAAAAAAAAAAAAAAAAAAAAAAAAAAAAAB"
+
 # The name `[h]:2222`, hashed by ssh-keygen.
 HASHED = b"|1|VlQCaiW1+U7/co5nYlEPYWJvj74=|sGtCcOsAz7rsnFiMHHGUTaU2BAY="
 
@@ -52,8 +61,45 @@ def host_rows(login, key, triple):
         ("hashed host", [HASHED + b" " + key]),
         ("revoked host", [trusted, b"@revoked x " + key]),
         ("unreadable revocation", [trusted, b"@revoked x"]),
+        ("many hosts", [*100 * [b"# " + key], trusted]),
     ):
         yield name, words, b"\n".join([vouched, b"", *lines, b""])
+
+
+def changed(words, **values):
+    """The words with these values of options."""
+    new = list(words)
+    for option, value in values.items():
+        new[new.index("--" + option) + 1] = value
+    return new
+
+
+def all_vouched(words, line):
+    """Standard input that vouches for all that this login is told to verify, over a file of this line."""
+    (_, answer), _ = run(words, b"\n" + line)
+    listed = [text.split(b" ", 2)[2] for text in answer.splitlines() if text.startswith(b"evidence ")]
+    return b"\n".join([*listed, b"", line])
+
+
+def login_rows(words, vouched, key):
+    """Logins by certificates, in time and not, and with a forced command, the certificate made a user's; expiry times;
+    files of more than one read, whose last line has no LF."""
+    certified = changed(words, algorithm="ssh-ed25519-cert-v01@openssh.com", offer=PLAIN_CERTIFICATE)
+    authority = b"cert-authority " + SIGNER
+    yield "certificate", certified, all_vouched(certified, authority)
+    yield "certificate that is not yet valid", changed(certified, now="99"), b"\n" + authority
+    blob = base64.b64decode(CERTIFICATE.split(b" ")[1]).replace(b"\3\0\0\0\2id", b"\1\0\0\0\2id")
+    forced = changed(certified, offer=base64.b64encode(blob).decode(), now="1700000000")
+    for command in (b'a \\"b\\" c', b"a b c"):
+        line = b'cert-authority,command="' + command + b'" ' + SIGNER
+        yield f"forced command {command.decode()}", forced, all_vouched(forced, line)
+    dated = b'expiry-time="20240229",from="192.0.2.0/24",environment="A=\\"b" ' + key
+    for now in ("1709161200", "1709161201"):
+        zoned = changed(words, now=now) + ["--zone", "CET-1CEST,M3.5.0,M10.5.0/3"]
+        yield f"expiry time at {now}", zoned, vouched + b"\n\n" + dated
+    many = b"\n".join(100 * [b"# " + key])
+    yield "a long file", words, vouched + b"\n\n" + many + b"\n" + key
+    yield "a long file without the key", words, b"\n" + many
 
 
 def string(data):
@@ -111,8 +157,10 @@ def rows():
     yield "show", ["show", "--kind", "key", "--file", "-"], key + b"\n"
     yield "show a certificate", ["show", "--kind", "cert", "--file", "-"], CERTIFICATE + b"\n"
     yield "show a bad line", ["show", "--kind", "key", "--file", "-"], b"ssh-rsa AAAA\n"
-    yield "words of the command line", words.decode().split(" "), stored.split(b"\n", 1)[1]
-    yield from host_rows(words.decode().split(" "), key, vouched.split(b" "))
+    words = words.decode().split(" ")
+    yield "words of the command line", words, stored.split(b"\n", 1)[1]
+    yield from login_rows(words, vouched, key)
+    yield from host_rows(words, key, vouched.split(b" "))
     yield from body_rows()
     yield from rewrite_rows(key)
 
