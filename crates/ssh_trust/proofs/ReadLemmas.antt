@@ -74,6 +74,10 @@ fed-whole Found first audit bytes old now new h consumed end =
       stops = (h.taken, end);
     }
 
+-- the reader's end is no failed read
+pub ends-read : ◌≡◌ {A = Result (Unit {0}) AuditError} (Ok tt) (Err Read) → ⊥
+ends-read h = cc
+
 -- a read failed
 pub fed-unread : {T : Type 0} (Found : T → List (ℕ × List ℕ) → T → Type 0) (first : T) (audit after : Pieces T) (bytes : List ℕ) (old now new : Option (List ℕ))
     → IsFeeding Found first audit bytes old now → Keeps now new

@@ -1,7 +1,6 @@
 -- A file is decided by what its lines say, and so is the file of canonical lines.
 use Rattle.std.proofs.Common.{◌≡◌, ◌∙◌, ℕ, ◌+◌, Bool, true, false, cond, ltb, List, [], ◌∷◌, length, map, Option, Some, None, Result, Ok, Err, refl, sym, ap}
 use Rattle.ssh_text.specs.Text.{lines_of}
-use Rattle.ssh_lines.specs.declared.entry.AuthLine.{AuthLine}
 use Rattle.ssh_lines.specs.declared.known.KnownLine.{KnownLine}
 use Rattle.ssh_lines.specs.AuthGrammar.{auth_line}
 use Rattle.ssh_lines.specs.KnownGrammar.{known_line}
@@ -12,8 +11,6 @@ use Rattle.ssh_rewriting.specs.CanonicalFile.{auth_written, canonical_auth_file,
 use Rattle.ssh_rewriting.specs.Facts.{auth_facts, known_facts}
 use Rattle.ssh_rewriting.proofs.FileLemmas.{file-says}
 use Rattle.ssh_rewriting.proofs.LineLemmas.{auth-kept, known-kept}
-use Rattle.ssh_offers.specs.declared.error.AuditError.{AuditError}
-use Rattle.ssh_offers.specs.declared.error.AuditError.TheVariants.{FileTooLong}
 use Rattle.ssh_offers.specs.declared.query.Signed.{Signed}
 use Rattle.ssh_offers.specs.HostClaim.{HostClaim}
 use Rattle.ssh_offers.specs.LoginClaim.{LoginClaim}
@@ -23,9 +20,9 @@ use Rattle.ssh_rules.specs.Verdict.{host_verdict, login_verdict}
 use Rattle.ssh_trust.specs.declared.decision.Decision.{Decision}
 use Rattle.ssh_trust.specs.declared.host_scan.HostScan.{HostScan}
 use Rattle.ssh_trust.specs.Answer.{host_answer, login_answer}
-use Rattle.ssh_trust.specs.Decision.{candidate_at, decision_of, line_verdict, login_decision, verdicts}
+use Rattle.ssh_trust.specs.Decision.{candidate_at, decision_of, login_decision, verdicts}
 use Rattle.ssh_trust.specs.HostDecision.{host_decision, host_decision_of}
-use Rattle.ssh_trust.specs.HostScan.{first_number, host_line_verdict, host_scan_of, is_blind, number_at, revokes_by}
+use Rattle.ssh_trust.specs.HostScan.{first_number, host_scan_of, is_blind, number_at, revokes_by}
 use Rattle.ssh_trust.specs.Scan.{scan_of}
 use Rattle.ssh_trust.proofs.CandidateLemmas.{AreBytes}
 

@@ -1,7 +1,6 @@
 -- What the lines of a known_hosts file say to a host's key. The whole file counts, for a later line may revoke.
 use Rattle.std.specs.Prelude.{ℕ, ◌+◌, Bool, true, false, if◌then◌else◌, List, [], ◌∷◌, map, Option, Some, None}
 use Rattle.ssh_lines.specs.declared.known.KnownEntry.{KnownEntry}
-use Rattle.ssh_lines.specs.declared.known.KnownLine.{KnownLine}
 use Rattle.ssh_lines.specs.KnownGrammar.{known_line}
 use Rattle.ssh_lines.specs.Text.{lines_of}
 use Rattle.ssh_offers.specs.HostClaim.{HostClaim}

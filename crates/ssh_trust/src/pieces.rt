@@ -207,8 +207,8 @@ impl<T: Search + Drop> Pieces<T> {
             → T.found first (numbered 1 (lines_of bytes)) self.new.search) }
     {
         if self.scanner.finish() {
-            let (number, line) = self.scanner.line();
-            self.search.take_line(number, line)?;
+            let (number, last) = self.scanner.line();
+            self.search.take_line(number, last)?;
         }
         Ok(())
     }

@@ -1,6 +1,7 @@
-use Rattle.std.proofs.Common.{◌∙◌, length, take, arith}
+use Rattle.std.proofs.Common.{take, subst, refl, arith}
+use Rattle.std.specs.Io.KnownBytes.{Consumes}
 use Rattle.std.proofs.lemmas.Result.{err_from_is_err_and}
-use Rattle.ssh_trust.proofs.ReadLemmas.{fed-partly, fed-unread, feeding-more, feeding-none, reads-not, refusal}
+use Rattle.ssh_trust.proofs.ReadLemmas.{ends-read, fed-partly, fed-unread, fed-whole, feeding-more, feeding-none, refusal}
 use Rattle.ssh_trust.proofs.pieces.Pieces.feed_from.Goals as goal
 
 pub loop-n-init : goal.loop-n-init
@@ -25,6 +26,27 @@ loop-n-preserved g c =
       line = λ h. c.feed.ensures.line (before.line h);
     }
 
+-- the reader's end
+pub returns-in-Ok-eq0-clause-read : goal.returns-in-Ok-eq0-clause-read
+returns-in-Ok-eq0-clause-read g c read = absurd (ends-read read)
+
+pub returns-in-Ok-eq0-clause-unfailed : goal.returns-in-Ok-eq0-clause-unfailed
+returns-in-Ok-eq0-clause-unfailed g c not = c.in-Ok-eq0.ensures.unfailed c.args.reader.now c.loop-n.invariant.unfailed
+
+pub returns-in-Ok-eq0-clause-fed : goal.returns-in-Ok-eq0-clause-fed
+returns-in-Ok-eq0-clause-fed g c first bytes h =
+    let given = c.in-Ok-eq0.ensures.bytes in
+    let old = g.S.Source.left c.loop-n.reader in
+    let new = g.S.Source.left c.read_piece.new.self in
+    let same = c.read_piece.auto.buf in
+    fed-whole g.T.Search.found first c.loop-n.self bytes (g.S.Source.left c.args.reader.now) old new (c.loop-n.invariant.fed first bytes h)
+    (subst (λ n. Consumes old new (take n c.read_piece.new.buf)) c.in-Ok-eq0.field-0-test given.0)
+    (given.1 c.in-Ok-eq0.field-0-test (omega (arith, same)))
+
+pub returns-in-Ok-eq0-clause-left : goal.returns-in-Ok-eq0-clause-left
+returns-in-Ok-eq0-clause-left g c = tt
+
+-- a piece that was refused
 pub returns-in_err-feed-in-Ok-clause-fed : goal.returns-in_err-feed-in-Ok-clause-fed
 returns-in_err-feed-in-Ok-clause-fed g c first bytes h =
     let p = err_from_is_err_and c.from_residual.result c.from_residual.ensures.1 in
@@ -34,6 +56,16 @@ returns-in_err-feed-in-Ok-clause-fed g c first bytes h =
     (g.S.Source.left c.loop-n.reader) (g.S.Source.left c.read_piece.new.self) _ (c.loop-n.invariant.fed first bytes h) c.in-Ok.ensures.bytes.0
     (let same = c.read_piece.auto.buf in let bound = c.in-Ok.ensures.bound.0 in let size = c.in-Ok.ensures.bound.1 in omega (arith, same, bound, size))
     (refusal _ _ _ fed.failed fed.too_long fed.else_memory))
+
+-- a read that failed
+pub returns-in-Err-clause-read : goal.returns-in-Err-clause-read
+returns-in-Err-clause-read g c read = c.in-Err.ensures.failed c.args.reader.now c.loop-n.invariant.unfailed
+
+pub returns-in-Err-clause-unfailed : goal.returns-in-Err-clause-unfailed
+returns-in-Err-clause-unfailed g c not = absurd (not refl)
+
+pub returns-in-Err-clause-left : goal.returns-in-Err-clause-left
+returns-in-Err-clause-left g c = refl
 
 pub returns-in-Err-clause-fed : goal.returns-in-Err-clause-fed
 returns-in-Err-clause-fed g c first bytes h =

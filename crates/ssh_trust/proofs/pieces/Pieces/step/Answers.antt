@@ -1,4 +1,4 @@
-use Rattle.std.proofs.Common.{◌≡◌, ◌+◌, ◌∙◌, true, false, length, take, sym, refl, subst, arith}
+use Rattle.std.proofs.Common.{◌≡◌, ◌∙◌, true, false, sym, refl, subst, arith}
 use Rattle.std.proofs.lemmas.List.{take_all}
 use Rattle.ssh_text.specs.Scan.{StandsFor, has_newline, up_to_newline}
 use Rattle.ssh_trust.proofs.AuditLemmas.{found-line, found-part, part-of, ready}

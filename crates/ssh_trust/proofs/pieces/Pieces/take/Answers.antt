@@ -1,4 +1,4 @@
-use Rattle.std.proofs.Common.{◌≡◌, ◌+◌, ◌≤◌, ◌++◌, ◌∙◌, length, take, drop, sym, subst, refl, ap, arith, append-nil}
+use Rattle.std.proofs.Common.{◌∙◌, length, sym, subst, refl, ap, arith, append-nil}
 use Rattle.std.proofs.lemmas.List.{length-drop}
 use Rattle.ssh_trust.specs.Audit.{HasRead}
 use Rattle.ssh_trust.proofs.AuditLemmas.{parts-add, parts-all}
