@@ -155,6 +155,7 @@ fn answers_a_host_in_pieces(rt: HostRuntime) -> Result<(), Fail> {
             let mut audit = HostAudit::new(alloc, &query)?;
             for piece in file.chunks(less + 1) {
                 audit.feed(piece)?;
+                audit.feed(b"")?;
             }
             let decision = audit.finish(evidence.as_slice())?;
             assert_eq!(rt; told(&decision), told(&whole));
