@@ -10,7 +10,7 @@ use std::process::Abort;
 use std::test::Fail;
 
 /// What has to be vouched for: the host's signature over the exchange hash, and the signer's of X1.
-const K0_TRIPLE: &str =
+pub(crate) const K0_TRIPLE: &str =
     "0000000b7373682d65643235353139000000200000000000000000000000000000000000000000000000000000000000000000 01020304 0000000b7373682d6564323535313900000001aa";
 
 const X1_SIGNER: &str =
@@ -363,7 +363,7 @@ fn holds_the_limit_of_a_line(rt: HostRuntime) -> Result<(), Fail> {
 
 /// The words of a host's key as a line, with the trust file, the offer, the signature, the exchange
 /// hash, the port, the moment and the vouch file to be filled in.
-fn host_line(alloc: Global, given: &[&str; 7]) -> Result<String, Fail> {
+pub(crate) fn host_line(alloc: Global, given: &[&str; 7]) -> Result<String, Fail> {
     let [file, offer, signature, hash, port, now, vouch] = given;
     joined(
         alloc,

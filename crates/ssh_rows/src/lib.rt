@@ -10,6 +10,8 @@ mod host_tests;
 #[cfg(test)]
 mod login_tests;
 #[cfg(test)]
+mod piece_tests;
+#[cfg(test)]
 mod rewrite_tests;
 #[cfg(test)]
 mod show_tests;

@@ -219,15 +219,31 @@ fn holds_the_limit_of_a_line(rt: HostRuntime) -> Result<(), Fail> {
     let alloc = rt.alloc();
     let words = words_of(alloc, &PLAIN)?;
     let text = joined(alloc, ["ssh-ed25519 ", K0, " "].as_slice())?;
-    for (len, head) in [
-        (65_536, ALL_RIGHTS),
-        (65_537, "denied N3\nreason 1 G1 L1\n"),
+    for (text, fill, len, head) in [
+        (text.as_str(), b'x', 65_536, ALL_RIGHTS),
+        (text.as_str(), b'x', 65_537, "denied N3\nreason 1 G1 L1\n"),
+        ("", 0xff, 65_536, "denied N3\nreason 1 G1 L2\n"),
+        ("", 0xff, 65_537, "denied N3\nreason 1 G1 L1\n"),
     ] {
-        let file = filled(alloc, &text, b'x', len)?;
+        let file = filled(alloc, text, fill, len)?;
         let wanted = with_evidence(alloc, head, K0_TRIPLE)?;
         compare(&rt, alloc, &words, &file, K0_TRIPLE, &wanted)?;
     }
     Ok(())
+}
+
+#[test]
+fn lists_the_first_hundred_reasons(rt: HostRuntime) -> Result<(), Fail> {
+    let alloc = rt.alloc();
+    let mut file = String::new(alloc);
+    let mut wanted = joined(alloc, ["denied N3\n"].as_slice())?;
+    for number in 1..102u64 {
+        file.push_str("ssh-dss AAAA\n")?;
+        if number <= 100 {
+            wanted.push_str(&format!(in alloc; "reason {number} G1 L9\n")?)?;
+        }
+    }
+    compare_vouched(&rt, alloc, &PLAIN, &file, &wanted)
 }
 
 #[test]

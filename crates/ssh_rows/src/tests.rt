@@ -3,8 +3,8 @@
 
 pub(crate) mod host_certificates;
 pub(crate) mod keys;
-mod sink;
-mod source;
+pub(crate) mod sink;
+pub(crate) mod source;
 pub(crate) mod user_certificates;
 
 use crate::login_tests::{K0_TRIPLE, login_line};
@@ -132,6 +132,26 @@ fn stops_at_a_failed_write(rt: HostRuntime) -> Result<(), Fail> {
             let taken = (index - 1).min(12) as usize;
             assert_eq!(rt; Some(writer.taken()), b"fault usage\n".get(..taken));
         }
+    }
+    Ok(())
+}
+
+#[test]
+fn stops_an_answer_at_a_failed_write(rt: HostRuntime) -> Result<(), Fail> {
+    let alloc = rt.alloc();
+    let line = login_line(alloc, &["f", K0, S0, "01020304", "150", "-"])?;
+    let input = joined(alloc, [line.as_str(), K0_TRIPLE, "\n\n"].as_slice())?;
+    let file = joined(alloc, ["ssh-ed25519 ", K0, " me\n"].as_slice())?;
+    let head = "granted line 1\nrights port agent x11 pty rc\nevidence 0 ";
+    let wanted = joined(alloc, [head, K0_TRIPLE, "\n"].as_slice())?;
+    for taken in 0..wanted.len() {
+        let index = taken as u64 + 1;
+        let mut files = OneFile::new("f", file.as_bytes(), input.as_bytes());
+        let mut writer = FailsOnce::new(alloc, index, ErrorKind::BrokenPipe);
+        let none: [&str; 0] = [];
+        let status = run(alloc, none.as_slice(), &mut files, &mut writer);
+        assert_eq!(rt; (status, writer.calls()), (2, index));
+        assert_eq!(rt; Some(writer.taken()), wanted.as_bytes().get(..taken));
     }
     Ok(())
 }

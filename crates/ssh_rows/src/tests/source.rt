@@ -1,4 +1,4 @@
-//! Sources in memory: one that tells its files, and one that fails.
+//! Sources in memory: one that tells its files, one that fails, and one of single bytes.
 
 ghost use Rattle.std.specs.Prelude.{Some, None, refl, if◌then◌else◌, option_map, Option, List, ℕ};
 ghost use Rattle.std.specs.Str.{bytes_eq};
@@ -162,5 +162,47 @@ impl Files for FailsAt<'_> {
             return Err(Error::from(ErrorKind::Interrupted));
         }
         self.source.read_chosen(buf)
+    }
+}
+
+/// A source that gives a byte at a time, and whose reads of its file fail after so many. It tells
+/// nothing.
+#[derive(Drop)]
+pub struct Sips<'a> {
+    source: OneFile<'a>,
+    good: u64,
+}
+
+impl<'a> Sips<'a> {
+    /// The source, of whose file so many reads are good.
+    pub fn new(source: OneFile<'a>, good: u64) -> Self {
+        Sips { source, good }
+    }
+}
+
+impl Read for Sips<'_> {
+    fn read(&mut self, buf: &mut [u8]) -> Result<usize> {
+        self.read_chosen(buf)
+    }
+}
+
+impl Files for Sips<'_> {
+    ghost source_state = { λ _. None };
+
+    ghost tells = { λ x. tt };
+
+    fn choose(&mut self, name: &str) -> bool {
+        self.source.choose(name)
+    }
+
+    fn read_chosen(&mut self, buf: &mut [u8]) -> Result<usize> {
+        if self.source.place == Place::File {
+            if self.good == 0 {
+                return Err(Error::from(ErrorKind::Interrupted));
+            }
+            self.good -= 1;
+        }
+        let most = buf.len().min(1);
+        self.source.read_chosen(&mut buf[..most])
     }
 }
