@@ -14,8 +14,6 @@ mod reading;
 mod sshsig;
 mod sshsig_view;
 mod sshsig_writing;
-#[cfg(test)]
-mod tests;
 
 pub use error::BodyError;
 pub use hash::HashName;

@@ -6,8 +6,6 @@ mod key_text;
 mod known_line;
 mod laws;
 mod options;
-#[cfg(test)]
-mod tests;
 
 pub use auth_line::{canonical_auth_line, write_auth_line};
 pub use known_line::{canonical_known_line, write_known_line};

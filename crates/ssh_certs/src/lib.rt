@@ -16,16 +16,12 @@
 
 mod error;
 mod fields;
-#[cfg(test)]
-mod made_tests;
 mod packed;
 mod parts;
 mod reading;
 mod row;
 mod samples;
 mod spelled;
-#[cfg(test)]
-mod tests;
 mod view;
 mod writing;
 

@@ -13,8 +13,6 @@
 mod expiry_text;
 mod moment;
 mod samples;
-#[cfg(test)]
-mod tests;
 
 pub use expiry_text::is_expiry_text;
 pub use jiff::tz::TimeZone;

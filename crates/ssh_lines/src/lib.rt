@@ -33,15 +33,11 @@ mod known;
 mod known_line;
 mod known_line_view;
 mod known_names;
-#[cfg(test)]
-mod known_tests;
 mod known_view;
 mod laws;
 mod line_view;
 mod marker;
 mod samples;
-#[cfg(test)]
-mod tests;
 
 pub use auth_line::read_auth_line;
 pub use auth_view::AuthEntryView;

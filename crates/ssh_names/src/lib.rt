@@ -9,8 +9,6 @@ mod laws;
 mod lookup;
 mod names;
 mod samples;
-#[cfg(test)]
-mod tests;
 
 pub use fault::NamesFault;
 pub use hashed::hash_name;

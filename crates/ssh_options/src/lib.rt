@@ -25,8 +25,6 @@ mod options;
 mod options_view;
 mod samples;
 mod settings;
-#[cfg(test)]
-mod tests;
 mod value_view;
 
 pub use cause::LineCause;

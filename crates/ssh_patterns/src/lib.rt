@@ -11,8 +11,6 @@ mod pattern;
 mod permit;
 mod samples;
 mod sources;
-#[cfg(test)]
-mod tests;
 mod text;
 
 pub use address::{Address, parse_address};

@@ -7,8 +7,6 @@ mod file;
 mod kind;
 mod known_file;
 mod rewrite;
-#[cfg(test)]
-mod tests;
 
 pub use error::RewriteError;
 pub use file::FILE_LIMIT;

@@ -7,8 +7,6 @@ mod kept;
 mod laws;
 mod samples;
 mod scanner;
-#[cfg(test)]
-mod tests;
 mod text;
 
 pub use bytes::Bytes;

@@ -13,18 +13,10 @@ mod laws;
 mod login_audit;
 mod login_scan;
 mod logins;
-#[cfg(test)]
-mod piece_tests;
 mod pieces;
-#[cfg(test)]
-mod reader_tests;
 mod scan;
-#[cfg(test)]
-mod signature_tests;
 mod signatures;
 mod source;
-#[cfg(test)]
-mod tests;
 
 pub use counted::Counted;
 pub use decision::{Cause, Decision};

@@ -1,6 +1,6 @@
 //! What no clause says: values from outside, and that calls that take memory can succeed.
 
-use crate::{
+use ssh_bodies::{
     BodyError, HashName, PrivateFields, read_private, read_sshsig, sshsig_message, write_private,
     write_sshsig,
 };

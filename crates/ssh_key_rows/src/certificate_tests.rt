@@ -4,7 +4,9 @@
 ghost use Rattle.std.specs.Prelude.{IfOk};
 ghost use Rattle.ssh_keys.specs.Signature.{IsSignature, signature_of};
 
-use crate::{CertError, CertParts, CertView, Time, WriteError, plain_blob, read_cert, write_cert};
+use ssh_certs::{
+    CertError, CertParts, CertView, Time, WriteError, plain_blob, read_cert, write_cert,
+};
 use ssh_keys::{KeyError, KeyFields, KeyView, SignatureView, read_key};
 use ssh_wire::{WireCause, WireError};
 use std::test::Fail;

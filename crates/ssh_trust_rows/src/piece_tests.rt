@@ -1,11 +1,11 @@
 //! Lines at the limit and past it, in pieces of any size.
 
 use crate::tests::{host_query, query};
-use crate::{
-    Cause, Decision, HostAudit, LoginAudit, Reason, Signed, evidence_of_host, evidence_of_login,
-};
 use jiff::tz::TimeZone;
 use ssh_options::LineCause;
+use ssh_trust::{
+    Cause, Decision, HostAudit, LoginAudit, Reason, Signed, evidence_of_host, evidence_of_login,
+};
 use std::alloc::Global;
 use std::test::Fail;
 

@@ -1,11 +1,11 @@
 //! What no clause says of known_hosts lines: worked lines, and that calls that take memory can
 //! succeed.
 
-use crate::{
+use ssh_keys::KeyError;
+use ssh_lines::{
     KeyBuffer, KnownEntry, KnownLine, KnownLineView, LINE_LIMIT, LineCause, Marker, lookup_name,
     names_host, read_known_line, read_known_view,
 };
-use ssh_keys::KeyError;
 use ssh_wire::{WireCause, WireError};
 use std::alloc::{AllocError, Global};
 use std::test::Fail;

@@ -1,6 +1,6 @@
 //! What no clause says: that calls that take memory can succeed, with worked files in pieces.
 
-use crate::{LINE_LIMIT, Line, Lines, Scanner};
+use ssh_text::{LINE_LIMIT, Line, Lines, Scanner};
 use std::alloc::{AllocError, Global};
 use std::process::Abort;
 use std::test::Fail;

@@ -1,10 +1,10 @@
 //! What no clause says: worked lines, and that calls that take memory can succeed.
 
-use crate::{
+use ssh_keys::KeyError;
+use ssh_lines::{
     AuthEntry, AuthLine, AuthLineView, AuthOption, Flag, KeyBuffer, LINE_LIMIT, LineCause, Lines,
     OptionView, ValueName, read_auth_line, read_auth_view,
 };
-use ssh_keys::KeyError;
 use ssh_wire::{WireCause, WireError};
 use std::alloc::{AllocError, Global};
 use std::test::Fail;

@@ -1,6 +1,6 @@
 //! Worked lines, by both ways to write them.
 
-use crate::{canonical_auth_line, canonical_known_line, write_auth_line, write_known_line};
+use ssh_canonical::{canonical_auth_line, canonical_known_line, write_auth_line, write_known_line};
 use ssh_lines::{
     AuthLine, AuthLineView, KeyBuffer, KnownLine, KnownLineView, read_auth_line, read_auth_view,
     read_known_line, read_known_view,

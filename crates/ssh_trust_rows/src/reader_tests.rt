@@ -1,11 +1,11 @@
 //! Decisions over readers that give a byte at a time, that fail, and that never end.
 
 use crate::tests::{KNOWN, LINE, host_query, query};
-use crate::{
+use jiff::tz::TimeZone;
+use ssh_trust::{
     AuditError, Counted, Decision, Signed, evidence_of_host, evidence_of_login, host_from,
     login_from,
 };
-use jiff::tz::TimeZone;
 use std::io;
 use std::io::{Error, ErrorKind, Read};
 use std::test::Fail;

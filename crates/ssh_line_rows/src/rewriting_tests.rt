@@ -1,6 +1,6 @@
 //! Worked files.
 
-use crate::{FILE_LIMIT, RewriteError, rewrite_auth, rewrite_known};
+use ssh_rewriting::{FILE_LIMIT, RewriteError, rewrite_auth, rewrite_known};
 use std::alloc::{AllocError, Global};
 use std::test::Fail;
 

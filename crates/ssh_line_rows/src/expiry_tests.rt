@@ -1,6 +1,6 @@
 //! What no clause says: worked moments, and that a call that may take memory succeeds.
 
-use crate::{TimeZone, expiry};
+use ssh_expiry::{TimeZone, expiry};
 use std::alloc::Global;
 use std::test::Fail;
 

@@ -1,6 +1,6 @@
 //! A key of each kind from outside, whole, cut and with faults.
 
-use crate::{KeyError, KeyKind, KeyView, fingerprint, read_key, write_key};
+use ssh_keys::{KeyError, KeyKind, KeyView, fingerprint, read_key, write_key};
 use ssh_wire::{WireCause, WireError};
 use std::test::Fail;
 

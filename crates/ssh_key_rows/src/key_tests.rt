@@ -1,6 +1,6 @@
 //! What no clause says: values from outside, and that calls that take memory can succeed.
 
-use crate::{
+use ssh_keys::{
     Fit, Key, KeyError, KeyFields, KeyKind, KeyView, SignatureView, digest_text, fingerprint, fits,
     read_key, read_signature, rsa_bits, same_key, write_key, write_signature,
 };

@@ -1,4 +1,4 @@
-use crate::{
+use ssh_patterns::{
     Address, PatternError, Permit, cidr_list, contains, host_list, host_list_counted, matches,
     matches_counted, parse_address, parse_net, source_list, source_list_counted,
 };

@@ -3,11 +3,11 @@
 
 ghost use Rattle.std.specs.Prelude.{◌<◌, ◌^◌, length};
 
-use crate::{
+use jiff::tz::TimeZone;
+use ssh_trust::{
     Cause, Decision, HostAudit, HostQuery, LoginAudit, LoginQuery, Signed, evidence_of_host,
     evidence_of_login, host, login,
 };
-use jiff::tz::TimeZone;
 use std::test::Fail;
 
 /// The blob of the Ed25519 key of 32 zero bytes.

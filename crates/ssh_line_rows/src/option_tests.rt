@@ -1,6 +1,6 @@
 //! What no clause says: worked options, and that calls that take memory can succeed.
 
-use crate::{AuthOption, Flag, OptionView, OptionsView, ValueName, split_option_text};
+use ssh_options::{AuthOption, Flag, OptionView, OptionsView, ValueName, split_option_text};
 use ssh_text::Bytes;
 use std::alloc::Global;
 use std::test::Fail;

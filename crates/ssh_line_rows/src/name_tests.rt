@@ -1,6 +1,6 @@
 //! What no clause says: outside vectors, and that calls that take memory can succeed.
 
-use crate::{NamesFault, hash_name, hmac_sha1, lookup_name, names_host, read_names};
+use ssh_names::{NamesFault, hash_name, hmac_sha1, lookup_name, names_host, read_names};
 use std::alloc::{AllocError, Global};
 use std::test::Fail;
 

@@ -1,8 +1,8 @@
 //! Certificates that `ssh-keygen` of OpenSSH 9.2 made over an ECDSA key and over security keys,
 //! signed by RSA and ECDSA keys: whole, cut and with faults.
 
-use crate::tests::parts_of;
-use crate::{CertError, read_cert, write_cert};
+use crate::certificate_tests::parts_of;
+use ssh_certs::{CertError, read_cert, write_cert};
 use ssh_keys::{KeyError, KeyKind};
 use ssh_wire::{WireCause, WireError};
 use std::test::Fail;
