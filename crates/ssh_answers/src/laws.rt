@@ -15,7 +15,7 @@ ghost use Rattle.ssh_answers.specs.VouchLines.{HasBytes, vouch_file, vouch_line}
 
 /// What is printed of a signature is, after its number, a line of a vouch file; and a vouch file of
 /// such lines vouches for exactly these signatures.
-pub fn evidence_rule()
+fn evidence_rule()
     ensures line { (n : ℕ) (s : SignedValue)
         → evidence_line n s ≡ codes "evidence " ++ decimal n ++ codes " " ++ vouch_line s
         ++ codes "\n" }
@@ -26,7 +26,7 @@ pub fn evidence_rule()
 /// An answer with status 0 is a grant: of a login and of a host's key, by a line of the trust file
 /// that meets all conditions, where the vouch file vouches for all that it rests on; and the text is
 /// that grant's.
-pub fn status_rule()
+fn status_rule()
     ensures login { (q : Login) (f : AuditFiles) (s : SourceState) → IsOfBytes f s
         → (audit_response (login_by q) f s).status ≡ 0
         → LoginGranted q f s (audit_response (login_by q) f s) }

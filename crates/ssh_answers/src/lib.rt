@@ -13,7 +13,6 @@ mod signature;
 
 pub use asked::{AuditFiles, SshsigWords};
 pub use audit::{respond_question, unread};
-pub use laws::{evidence_rule, status_rule};
 pub use question::{LoginQuestion, Question};
 pub use rewriting::{RewriteKind, respond_rewrite, rewrite_kind};
 pub use signature::respond_sshsig;

@@ -1,4 +1,4 @@
-//! Laws of the definitions, which callers cite.
+//! Laws of the definitions, each proved on a function without a body.
 
 ghost use Rattle.std.specs.Prelude.{◌≡◌, ◌≤◌, ℕ, List, length};
 ghost use Rattle.ssh_text.specs.Scan.{HasNoNewline};
@@ -12,7 +12,7 @@ ghost use Rattle.ssh_canonical.specs.Canonical.{canonical_auth, canonical_known}
 
 /// The canonical line of an authorized_keys entry spells that entry and is read as it, is no longer
 /// than a line that spells it, and is one line.
-pub fn canonical_auth_rule()
+fn canonical_auth_rule()
     ensures spelled { (entry : AuthEntry) (line : List ℕ) →
         SpellsEntry entry line → SpellsEntry entry (canonical_auth entry) }
     ensures read { (entry : AuthEntry) (line : List ℕ) →
@@ -25,7 +25,7 @@ pub fn canonical_auth_rule()
 
 /// The canonical line of a known_hosts entry spells that entry and is read as it, is no longer than
 /// a line that spells it, and is one line.
-pub fn canonical_known_rule()
+fn canonical_known_rule()
     ensures spelled { (entry : KnownEntry) (line : List ℕ) →
         SpellsKnown entry line → SpellsKnown entry (canonical_known entry) }
     ensures read { (entry : KnownEntry) (line : List ℕ) →

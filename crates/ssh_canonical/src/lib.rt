@@ -9,4 +9,3 @@ mod options;
 
 pub use auth_line::{canonical_auth_line, write_auth_line};
 pub use known_line::{canonical_known_line, write_known_line};
-pub use laws::{canonical_auth_rule, canonical_known_rule};

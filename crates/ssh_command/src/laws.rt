@@ -17,7 +17,7 @@ ghost use Rattle.ssh_command.specs.Requests.{Answers, request_words, source_of};
 /// An answer of `run` with status 0 to words that ask for a login, or of a host's key, is a grant:
 /// the options spell what was asked, and a line of the trust file grants it; the text is that
 /// grant's.
-pub fn granted_rule()
+fn granted_rule()
     ensures login { (words : List (List ℕ)) (w : LoginWords) (s : SourceState)
         (t : Option SourceState) (r : Shown)
         → request_of (request_words words s) ≡ Some (asks_login w)

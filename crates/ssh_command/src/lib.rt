@@ -9,6 +9,5 @@ mod request;
 mod respond;
 mod values;
 
-pub use laws::granted_rule;
 pub use program::{refuse, run};
 pub use request::WordsFault;

@@ -1,4 +1,4 @@
-//! Laws of the definitions, which callers cite.
+//! Laws of the definitions, each proved on a function without a body.
 
 ghost use Rattle.std.specs.Prelude.{◌≡◌, ◌<◌, ℕ, List};
 ghost use Rattle.std.specs.List.{AllByRecursion};
@@ -10,7 +10,7 @@ ghost use Rattle.ssh_lines.specs.declared.known.KnownLine.TheVariants as known;
 ghost use Rattle.ssh_lines.specs.KnownGrammar.{Blind, RevokesBytes, SpellsKnown, known_line};
 
 /// A line spells at most one entry, and says an entry exactly if it spells that entry.
-pub fn entry_rule()
+fn entry_rule()
     ensures one { (a b : AuthEntry) (line : List ℕ)
         → SpellsEntry a line
         → SpellsEntry b line
@@ -27,7 +27,7 @@ pub fn entry_rule()
 /// A known_hosts line spells at most one entry, and says an entry exactly if it spells that entry.
 /// It says that it revokes bytes exactly if it revokes them, and that it may revoke any key exactly
 /// if it may.
-pub fn known_rule()
+fn known_rule()
     ensures one { (a b : KnownEntry) (line : List ℕ) →
         SpellsKnown a line → SpellsKnown b line → a ≡ b }
     ensures read { (entry : KnownEntry) (line : List ℕ) →

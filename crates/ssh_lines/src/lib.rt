@@ -49,17 +49,14 @@ pub use known_line::read_known_line;
 pub use known_line_view::{KnownLineView, read_known_view};
 pub use known_names::KnownNames;
 pub use known_view::KnownEntryView;
-pub use laws::{entry_rule, known_rule};
 pub use line_view::{AuthLineView, read_auth_view};
 pub use marker::Marker;
 pub use ssh_expiry::{TimeZone, epoch, expiry};
 pub use ssh_names::{
-    HostNames, NamesFault, hash_name, hmac_sha1, lookup_name, names_host, names_rule, read_names,
+    HostNames, NamesFault, hash_name, hmac_sha1, lookup_name, names_host, read_names,
 };
 pub use ssh_options::{
     AuthOption, Flag, LineCause, OptionView, Options, OptionsView, SettingViews, Settings,
     ValueBytes, ValueName, ValueView,
 };
-pub use ssh_text::{
-    Bytes, LINE_LIMIT, Line, Lines, Scanner, lines_rule, pieces_rule, scanned_rule,
-};
+pub use ssh_text::{Bytes, LINE_LIMIT, Line, Lines, Scanner};

@@ -1,4 +1,4 @@
-//! Laws of the definitions, which callers cite.
+//! Laws of the definitions, each proved on a function without a body.
 
 ghost use Rattle.std.specs.Prelude.{◌≡◌, ◌≢◌, ◌<◌, ℕ, List, [], Ok};
 ghost use Rattle.std.specs.List.{AllByRecursion};
@@ -6,7 +6,7 @@ ghost use Rattle.ssh_names.specs.Names.{Names, SpellsNames, names_of};
 
 /// A field spells at most one list or hashed name, and says names exactly if it spells them; one
 /// that spells names is not empty.
-pub fn names_rule()
+fn names_rule()
     ensures one { (a b : Names) (field : List ℕ) →
         SpellsNames a field → SpellsNames b field → a ≡ b }
     ensures read { (names : Names) (field : List ℕ) →

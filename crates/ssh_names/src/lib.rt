@@ -13,6 +13,5 @@ mod samples;
 pub use fault::NamesFault;
 pub use hashed::hash_name;
 pub use hmac::hmac_sha1;
-pub use laws::names_rule;
 pub use lookup::lookup_name;
 pub use names::{HostNames, names_host, read_names};

@@ -6,6 +6,6 @@ ghost use Rattle.ssh_rights.specs.declared.right.Right.{Right};
 ghost use Rattle.ssh_rights.specs.Rights.{IsOn, is_on};
 
 /// A right is on if no option speaks of it, or the last that does turns it on.
-pub fn rights_rule()
+fn rights_rule()
     ensures { (x : Right) (options : List AuthOption) → (is_on x options ≡ true) ↔ IsOn x options }
 {}

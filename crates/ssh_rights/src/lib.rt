@@ -11,6 +11,5 @@ mod security_key;
 pub use certificate_option::{
     FORCE_COMMAND, VERIFY_REQUIRED, forced_command, has_option, one_string, text_in,
 };
-pub use laws::rights_rule;
 pub use rights::{Carried, CarriedName, Rights, line_command, rights_of};
 pub use security_key::{is_touched, is_verified};

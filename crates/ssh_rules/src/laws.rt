@@ -9,13 +9,13 @@ ghost use Rattle.ssh_rules.specs.Admission.{AdmitsLogin, login_obstacle};
 ghost use Rattle.ssh_rules.specs.HostAdmission.{AdmitsHost, host_obstacle};
 
 /// An entry admits a login exactly where no reason holds against it.
-pub fn admission_rule()
+fn admission_rule()
     ensures { (e : AuthEntry) (claim : LoginClaim)
         → (login_obstacle e claim ≡ None) ↔ AdmitsLogin e claim }
 {}
 
 /// An entry admits a host's key exactly where no reason holds against it.
-pub fn host_admission_rule()
+fn host_admission_rule()
     ensures { (e : KnownEntry) (claim : HostClaim)
         → (host_obstacle e claim ≡ None) ↔ AdmitsHost e claim }
 {}

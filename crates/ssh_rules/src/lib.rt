@@ -14,7 +14,6 @@ mod value_text;
 mod verdict;
 
 pub use host_line::host_verdict;
-pub use laws::{admission_rule, host_admission_rule};
 pub use reason::{Obstacle, Reason};
 pub use sought::{SoughtHost, may_revoke};
 pub use verdict::{LineVerdict, login_verdict};

@@ -6,7 +6,7 @@ ghost use Rattle.ssh_show.specs.Showing.{Shows};
 ghost use Rattle.ssh_print.specs.Responses.{Response};
 
 /// What is answered to `show` of a file is one response.
-pub fn show_rule()
+fn show_rule()
     ensures { (kind : ShowKind) (file : List ℕ) (a b : Response)
         → Shows kind file a
         → Shows kind file b

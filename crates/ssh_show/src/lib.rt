@@ -16,4 +16,3 @@ mod text;
 pub use answer::show;
 pub use date::date_text;
 pub use kind::{ShowKind, show_kind};
-pub use laws::show_rule;

@@ -1,4 +1,4 @@
-//! Laws of the definitions, which callers cite.
+//! Laws of the definitions, each proved on a function without a body.
 
 ghost use Rattle.std.specs.Prelude.{◌≡◌, ◌<◌, ℕ, true, false, List, [], ◌∷◌, ◌++◌, length};
 ghost use Rattle.std.specs.List.{concat};
@@ -13,7 +13,7 @@ ghost use Rattle.ssh_text.specs.Scan.{
 ghost use Rattle.ssh_text.specs.Pieces.{ComeOutOf};
 
 /// The lines of a file are those between its LFs, and no others.
-pub fn lines_rule()
+fn lines_rule()
     ensures are { (file : List ℕ) → AreLines (lines_of file) file }
     ensures only { (lines : List (List ℕ)) (file : List ℕ)
         → AreLines lines file
@@ -21,7 +21,7 @@ pub fn lines_rule()
 {}
 
 /// What a scanner's calls add to the lines that have their LF, and what is left at the end.
-pub fn scanned_rule()
+fn scanned_rule()
     ensures none { whole_lines [] ≡ [] }
     ensures unready { (used piece : List ℕ)
         → has_newline piece ≡ false
@@ -39,7 +39,7 @@ pub fn scanned_rule()
 {}
 
 /// However a file is cut in pieces, its lines come out, with their numbers, and no others.
-pub fn pieces_rule()
+fn pieces_rule()
     ensures come { (pieces : List (List ℕ))
         → ComeOutOf [] pieces (numbered 1 (lines_of (concat pieces))) }
     ensures only { (pieces : List (List ℕ)) (lines : List (ℕ × List ℕ))

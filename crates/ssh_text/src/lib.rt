@@ -11,6 +11,5 @@ mod text;
 
 pub use bytes::Bytes;
 pub use file::{LINE_LIMIT, Lines};
-pub use laws::{lines_rule, pieces_rule, scanned_rule};
 pub use scanner::{Line, Scanner};
 pub use text::{comment_in, ends_with, is_blank, skip_blanks, split_word, without_last};

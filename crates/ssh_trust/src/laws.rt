@@ -14,33 +14,33 @@ ghost use Rattle.ssh_trust.specs.Denial.{HostDenialMeans, LoginDenialMeans};
 ghost use Rattle.ssh_trust.specs.HostDecision.{HostMeans, host_decision};
 
 /// The decision is what is said of granted and denied logins, both ways.
-pub fn decision_rule()
+fn decision_rule()
     ensures { (file : List ℕ) (claim : LoginClaim) (vouched : List SignedValue) → AllByRecursion (λ c. c < 256) file →
         LoginMeans file claim vouched (login_decision file claim vouched) }
 {}
 
 /// The same of a host's key.
-pub fn host_decision_rule()
+fn host_decision_rule()
     ensures { (file : List ℕ) (claim : HostClaim) (vouched : List SignedValue) → AllByRecursion (λ c. c < 256) file →
         HostMeans file claim vouched (host_decision file claim vouched) }
 {}
 
 /// The cause and the reasons of a denied login are what is said of them: the first cause that holds,
 /// and the first reason of each line that is passed over.
-pub fn denial_rule()
+fn denial_rule()
     ensures { (file : List ℕ) (claim : LoginClaim) (vouched : List SignedValue) → AllByRecursion (λ c. c < 256) file →
         LoginDenialMeans file claim vouched (login_decision file claim vouched) }
 {}
 
 /// The same of a host's key.
-pub fn host_denial_rule()
+fn host_denial_rule()
     ensures { (file : List ℕ) (claim : HostClaim) (vouched : List SignedValue) → AllByRecursion (λ c. c < 256) file →
         HostDenialMeans file claim vouched (host_decision file claim vouched) }
 {}
 
 /// A decision on a login uses a file through what its lines say alone, and so a file that is
 /// written anew is answered as the file that it was made from.
-pub fn login_rewritten_rule()
+fn login_rewritten_rule()
     // Files that say the same, line by line, decide the same.
     ensures facts { (file other : List ℕ) (claim : LoginClaim) (vouched : List SignedValue)
         → auth_facts file ≡ auth_facts other
@@ -59,7 +59,7 @@ pub fn login_rewritten_rule()
 {}
 
 /// The same of a host's key, and of revocations.
-pub fn host_rewritten_rule()
+fn host_rewritten_rule()
     // Files that say the same, line by line, decide the same.
     ensures facts { (file other : List ℕ) (claim : HostClaim) (vouched : List SignedValue)
         → known_facts file ≡ known_facts other

@@ -22,10 +22,6 @@ pub use counted::Counted;
 pub use decision::{Cause, Decision};
 pub use host_audit::HostAudit;
 pub use hosts::{evidence_of_host, host, host_from};
-pub use laws::{
-    decision_rule, denial_rule, host_decision_rule, host_denial_rule, host_rewritten_rule,
-    login_rewritten_rule,
-};
 pub use login_audit::LoginAudit;
 pub use logins::{evidence_of_login, login, login_from};
 pub use scan::REASON_LIMIT;
@@ -33,5 +29,5 @@ pub use signatures::{SigAnswer, sshsig};
 pub use source::Source;
 pub use ssh_offers::{AuditError, HostQuery, Items, LoginQuery, OfferError, Signed};
 pub use ssh_rewriting::{FILE_LIMIT, RewriteError, rewrite_auth, rewrite_known};
-pub use ssh_rights::{Carried, CarriedName, Rights, rights_rule};
-pub use ssh_rules::{Reason, admission_rule, host_admission_rule};
+pub use ssh_rights::{Carried, CarriedName, Rights};
+pub use ssh_rules::Reason;
