@@ -169,3 +169,26 @@ fn reads_known_lines_up_to_the_limit(rt: HostRuntime) -> Result<(), Fail> {
     );
     Ok(())
 }
+
+/// Entries are equal where marker, names, key and comment are; so are they in their lines.
+#[test]
+fn tells_entries_apart(rt: HostRuntime) -> Result<(), Fail> {
+    let alloc = rt.alloc();
+    let line = joined(alloc, b"h,g ", KEY)?;
+    for (front, want) in [
+        (b"h,g ".as_slice(), true),
+        (b" h,g\t".as_slice(), true),
+        (b"h ".as_slice(), false),
+        (b"@cert-authority h,g ".as_slice(), false),
+        (b"@revoked h,g ".as_slice(), false),
+    ] {
+        let other = joined(alloc, front, KEY)?;
+        let kept = read_known_line(alloc, &line)?;
+        assert_eq!(rt; kept == read_known_line(alloc, &other)?, want);
+        let mut buffer = KeyBuffer::new(alloc)?;
+        let mut other_buffer = KeyBuffer::new(alloc)?;
+        let view = read_known_view(&line, &mut buffer);
+        assert_eq!(rt; view == read_known_view(&other, &mut other_buffer), want);
+    }
+    Ok(())
+}

@@ -227,3 +227,26 @@ fn runs_the_example(rt: HostRuntime) -> Result<(), Fail> {
     assert!(rt; entry_of_blob(rt.alloc(), FILE, b"x")?.is_none());
     Ok(())
 }
+
+/// Entries are equal where options, key and comment are, and so are lines; so are they copied.
+#[test]
+fn tells_entries_apart(rt: HostRuntime) -> Result<(), Fail> {
+    let alloc = rt.alloc();
+    for (front, rest, want) in [
+        (b"pty ".as_slice(), b" me".as_slice(), true),
+        (b"PTY\t ".as_slice(), b"  me ".as_slice(), true),
+        (b"no-pty ".as_slice(), b" me".as_slice(), false),
+        (b"pty ".as_slice(), b" you".as_slice(), false),
+        (b"# pty ".as_slice(), b" me".as_slice(), false),
+    ] {
+        let line = joined(alloc, b"pty ", joined(alloc, ENTRY, b" me")?.as_slice())?;
+        let other = joined(alloc, front, joined(alloc, ENTRY, rest)?.as_slice())?;
+        let kept = read_auth_line(alloc, &line)?;
+        assert_eq!(rt; kept == read_auth_line(alloc, &other)?, want);
+        let mut buffer = KeyBuffer::new(alloc)?;
+        let mut other_buffer = KeyBuffer::new(alloc)?;
+        let view = read_auth_view(&line, &mut buffer);
+        assert_eq!(rt; view == read_auth_view(&other, &mut other_buffer), want);
+    }
+    Ok(())
+}

@@ -85,3 +85,30 @@ fn reads_every_option(rt: HostRuntime) -> Result<(), Fail> {
     }
     Ok(())
 }
+
+/// Options are equal one by one, whatever of their values a line escapes; so are they copied.
+#[test]
+fn tells_options_apart(rt: HostRuntime) -> Result<(), Fail> {
+    let alloc = rt.alloc();
+    for (text, other, want) in [
+        (
+            b"pty,from=\"a\"".as_slice(),
+            b"PTY,From=\"a\"".as_slice(),
+            true,
+        ),
+        (b"pty,from=\"a\"", b"pty,from=\"b\"", false),
+        (b"pty,from=\"a\"", b"from=\"a\",pty", false),
+        (b"pty", b"pty,pty", false),
+        (b"tunnel=\"1\"", b"permitopen=\"1\"", false),
+        (b"command=\"a\\\"\"", b"command=\"a\\\"\"", true),
+    ] {
+        let options = OptionsView::read(text)?;
+        let others = OptionsView::read(other)?;
+        assert_eq!(rt; options == others, want);
+        assert_eq!(rt;
+            options.to_options(alloc)? == others.to_options(alloc)?,
+            want
+        );
+    }
+    Ok(())
+}

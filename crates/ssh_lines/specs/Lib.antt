@@ -28,3 +28,5 @@ pub mod KnownFaults
 pub mod KnownSamples
 pub mod AuthFaults
 pub mod EntryFields
+pub mod SameEntries
+pub mod SameLaws

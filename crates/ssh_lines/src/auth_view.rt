@@ -5,6 +5,7 @@ ghost use Rattle.ssh_keys.specs.KeyOf.{key_of};
 ghost use Rattle.ssh_keys.specs.PublicKey.{key_blob};
 ghost use Rattle.ssh_options.specs.declared.option.ValueName.TheVariants.{ExpiryTime};
 ghost use Rattle.ssh_options.specs.Settings.{has_flag, settings};
+ghost use Rattle.ssh_lines.specs.SameEntries.{are_same_entries};
 
 use crate::entry::AuthEntry;
 use crate::key_view::KeyPartView;
@@ -107,4 +108,30 @@ impl<'a> AuthEntryView<'a> {
             comment: part.comment,
         })
     }
+}
+
+/// Entries are equal exactly where their options, keys and comments are.
+impl PartialEq for AuthEntryView<'_> {
+    ghost use Rattle.std.specs.Cmp.{partial_equiv_from_equiv};
+    ghost use Rattle.ssh_lines.specs.SameEntries.{are_same_entries};
+    ghost use Rattle.ssh_lines.specs.SameLaws.{entries_equiv};
+
+    ghost eq = { are_same_entries };
+
+    ghost laws = { partial_equiv_from_equiv entries_equiv };
+
+    fn eq(&self, other: &Self) -> bool
+        ensures value { result ≡ are_same_entries self.now other.now }
+        ensures same { IsTrue result ↔ (self.now ≡ other.now) }
+    {
+        self.options == other.options
+            && self.key() == other.key()
+            && self.comment() == other.comment()
+    }
+}
+
+impl Eq for AuthEntryView<'_> {
+    ghost use Rattle.ssh_lines.specs.SameLaws.{entries_equiv};
+
+    ghost laws = { entries_equiv };
 }

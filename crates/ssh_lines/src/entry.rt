@@ -8,7 +8,7 @@ use ssh_options::{Flag, LineCause, Options, Settings, ValueName};
 use ssh_text::Bytes;
 
 /// A key that may log in, with what its line says of it.
-#[derive(Debug, Drop)]
+#[derive(Debug, Drop, PartialEq, Eq)]
 pub struct AuthEntry {
     pub options: Options,
     pub key: Key,
@@ -39,7 +39,7 @@ impl AuthEntry {
 }
 
 /// What a line of an authorized_keys file says.
-#[derive(Debug, Drop)]
+#[derive(Debug, Drop, PartialEq, Eq)]
 pub enum AuthLine {
     Blank,
     Comment,

@@ -11,7 +11,7 @@ use ssh_options::LineCause;
 use ssh_text::Bytes;
 
 /// A key that hosts may have, or that may sign their certificates.
-#[derive(Debug, Drop)]
+#[derive(Debug, Drop, PartialEq, Eq)]
 pub struct KnownEntry {
     pub marker: Marker,
     pub names: KnownNames,
@@ -20,7 +20,7 @@ pub struct KnownEntry {
 }
 
 /// What a line of a known_hosts file says.
-#[derive(Debug, Drop)]
+#[derive(Debug, Drop, PartialEq, Eq)]
 pub enum KnownLine {
     Blank,
     Comment,

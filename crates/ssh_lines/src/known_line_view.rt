@@ -27,7 +27,7 @@ use ssh_text::{Bytes, skip_blanks, split_word};
 use std::alloc::{AllocError, Global};
 
 /// What a line of a known_hosts file says, in the line.
-#[derive(Debug, Drop)]
+#[derive(Debug, Drop, PartialEq, Eq)]
 pub enum KnownLineView<'a> {
     Blank,
     Comment,

@@ -1,6 +1,7 @@
 //! The names of a known_hosts line, kept.
 
-ghost use Rattle.std.specs.Prelude.{◌≡◌, IfOk};
+ghost use Rattle.std.specs.Prelude.{◌≡◌, ◌↔◌, IfOk, IsTrue};
+ghost use Rattle.ssh_names.specs.Names.{are_same_names};
 
 use ssh_names::{HostNames, read_names};
 use std::alloc::{AllocError, Global};
@@ -42,4 +43,30 @@ impl KnownNames {
             Err(_) => unreachable!(),
         }
     }
+}
+
+/// Names are equal exactly where they stand on a line as the same text.
+impl PartialEq for KnownNames {
+    ghost use Rattle.std.specs.Cmp.{on_per, partial_equiv_from_equiv};
+    ghost use Rattle.std.specs.Cmp.Lexicographic.{nat_list_eq_equiv};
+    ghost use Rattle.ssh_names.specs.Names.{are_same_names, names_text};
+
+    ghost eq = { are_same_names };
+
+    ghost laws = { on_per names_text (partial_equiv_from_equiv nat_list_eq_equiv) };
+
+    fn eq(&self, other: &Self) -> bool
+        ensures value { result ≡ are_same_names self.now other.now }
+        ensures same { IsTrue result ↔ (self.now ≡ other.now) }
+    {
+        self.view() == other.view()
+    }
+}
+
+impl Eq for KnownNames {
+    ghost use Rattle.std.specs.Cmp.{on_equiv};
+    ghost use Rattle.std.specs.Cmp.Lexicographic.{nat_list_eq_equiv};
+    ghost use Rattle.ssh_names.specs.Names.{names_text};
+
+    ghost laws = { on_equiv names_text nat_list_eq_equiv };
 }

@@ -4,6 +4,7 @@ ghost use Rattle.std.specs.Prelude.{◌≡◌, ◌↔◌, IsTrue, IfOk};
 ghost use Rattle.ssh_keys.specs.KeyOf.{key_of};
 ghost use Rattle.ssh_keys.specs.PublicKey.{key_blob};
 ghost use Rattle.ssh_names.specs.Names.{names_host};
+ghost use Rattle.ssh_lines.specs.SameEntries.{are_same_known};
 
 use crate::key_view::KeyPartView;
 use crate::known::KnownEntry;
@@ -109,4 +110,31 @@ impl<'a> KnownEntryView<'a> {
             comment: part.comment,
         })
     }
+}
+
+/// Entries are equal exactly where their names, markers, keys and comments are.
+impl PartialEq for KnownEntryView<'_> {
+    ghost use Rattle.std.specs.Cmp.{partial_equiv_from_equiv};
+    ghost use Rattle.ssh_lines.specs.SameEntries.{are_same_known};
+    ghost use Rattle.ssh_lines.specs.SameLaws.{known_equiv};
+
+    ghost eq = { are_same_known };
+
+    ghost laws = { partial_equiv_from_equiv known_equiv };
+
+    fn eq(&self, other: &Self) -> bool
+        ensures value { result ≡ are_same_known self.now other.now }
+        ensures same { IsTrue result ↔ (self.now ≡ other.now) }
+    {
+        self.names == other.names
+            && self.marker() == other.marker()
+            && self.key() == other.key()
+            && self.comment() == other.comment()
+    }
+}
+
+impl Eq for KnownEntryView<'_> {
+    ghost use Rattle.ssh_lines.specs.SameLaws.{known_equiv};
+
+    ghost laws = { known_equiv };
 }

@@ -16,7 +16,7 @@ use crate::key_buffer::KeyBuffer;
 use ssh_options::LineCause;
 
 /// What a line of an authorized_keys file says, in the line.
-#[derive(Debug, Drop)]
+#[derive(Debug, Drop, PartialEq, Eq)]
 pub enum AuthLineView<'a> {
     Blank,
     Comment,

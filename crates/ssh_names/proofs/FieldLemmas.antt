@@ -1,8 +1,10 @@
 -- Fields and the names that they spell.
 use Rattle.std.proofs.Common.{◌≡◌, ◌≢◌, ℕ, ◌<◌, Bool, true, false, ◌==◌, if◌then◌else◌, inl, inr, List, [], ◌++◌, length, take, drop, codes, Option, Some, None, Result, Ok, Err, refl, sym, ap, subst, ◌∙◌, arith, append_assoc, eqb-true}
-use Rattle.std.specs.Prelude.{IfErr, IfOk}
+use Rattle.std.specs.Prelude.{IfErr, IfOk, bytes_eq}
+use Rattle.std.specs.Bool.{Decides}
 use Rattle.std.specs.List.{Any}
 use Rattle.std.proofs.lemmas.Bool.{cases_Bool}
+use Rattle.std.proofs.lemmas.Slice.Eq.{bytes_eq-Decides}
 use Rattle.std.proofs.lemmas.List.{length-append, take_at, drop_at, drop_all, take-append-drop}
 use Rattle.base64.specs.GeneralPurpose.{decode_of}
 use Rattle.base64.specs.Engines.{standard}
@@ -160,6 +162,13 @@ pub one-names : (a b : Names) (field : List ℕ) → SpellsNames a field → Spe
 one-names a b field h k =
     let both : Ok a ≡ Ok b = sym (names-read a field h) ∙ names-read b field k in
     cc both
+
+-- texts that spell names are the same exactly where the names are
+pub same-names : (a b : Names) (text other : List ℕ) → SpellsNames a text → SpellsNames b other → Decides (bytes_eq text other) (a ≡ b)
+same-names a b text other h k = (
+  λ e. one-names a b text h (subst (λ t. SpellsNames b t) (sym ((bytes_eq-Decides text other).0 e)) k),
+  λ e. (bytes_eq-Decides text other).1 (h.text ∙ ap names_text e ∙ sym k.text),
+)
 
 none-empty : (names : Names) → names_of [] ≡ Ok names → ⊥
 unfolding names_of

@@ -51,6 +51,10 @@ abbrev pub names_text : Names → List ℕ
 names_text (Patterns list) = list
 names_text (Hashed salt hash) = codes "|1|" ++ base64 salt ++ codes "|" ++ base64 hash
 
+-- whether names stand on a line as the same text
+abbrev pub are_same_names : Names → Names → Bool
+are_same_names a b = bytes_eq (names_text a) (names_text b)
+
 -- a name that is hidden after a salt, and its field
 abbrev pub hidden : List ℕ → List ℕ → Names
 hidden salt name = Hashed salt (name_hash salt name)

@@ -8,6 +8,7 @@ ghost use Rattle.ssh_names.specs.Names.{
   Names,
   NamesHost,
   SpellsNames,
+  are_same_names,
   begins_with_bar,
   has_empty_item,
   names_host,
@@ -57,6 +58,32 @@ impl<'a> HostNames<'a> {
             hashed: self.hashed,
         }
     }
+}
+
+/// Names are equal exactly where they stand on a line as the same text.
+impl PartialEq for HostNames<'_> {
+    ghost use Rattle.std.specs.Cmp.{on_per, partial_equiv_from_equiv};
+    ghost use Rattle.std.specs.Cmp.Lexicographic.{nat_list_eq_equiv};
+    ghost use Rattle.ssh_names.specs.Names.{are_same_names, names_text};
+
+    ghost eq = { are_same_names };
+
+    ghost laws = { on_per names_text (partial_equiv_from_equiv nat_list_eq_equiv) };
+
+    fn eq(&self, other: &Self) -> bool
+        ensures value { result ≡ are_same_names self.now other.now }
+        ensures same { IsTrue result ↔ (self.now ≡ other.now) }
+    {
+        *self.text() == *other.text()
+    }
+}
+
+impl Eq for HostNames<'_> {
+    ghost use Rattle.std.specs.Cmp.{on_equiv};
+    ghost use Rattle.std.specs.Cmp.Lexicographic.{nat_list_eq_equiv};
+    ghost use Rattle.ssh_names.specs.Names.{names_text};
+
+    ghost laws = { on_equiv names_text nat_list_eq_equiv };
 }
 
 /// The text begins with `|`, as hashed names do.

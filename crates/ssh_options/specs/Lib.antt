@@ -4,5 +4,7 @@ pub mod OptionTexts
 pub mod OptionsInPlace
 pub mod OptionsInLine
 pub mod Settings
+pub mod SameOptions
+pub mod SameLaws
 pub mod OptionFaults
 pub mod AllNames

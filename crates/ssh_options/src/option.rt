@@ -1,6 +1,6 @@
 //! The options of an authorized_keys line.
 
-ghost use Rattle.std.specs.Prelude.{◌≡◌, Some, option_map, map};
+ghost use Rattle.std.specs.Prelude.{◌≡◌, ◌↔◌, IsTrue, Some, option_map, map};
 ghost use Rattle.ssh_options.specs.OptionNames.{
   options,
   row_of,
@@ -15,6 +15,7 @@ ghost use Rattle.ssh_options.specs.OptionNames.{
 };
 ghost use Rattle.ssh_options.specs.OptionText.{option_name};
 ghost use Rattle.ssh_options.specs.OptionTexts.{table_row};
+ghost use Rattle.ssh_options.specs.SameOptions.{is_same_option};
 
 use OptionName::{Setting, Switch};
 use Times::{Any, Once};
@@ -222,6 +223,39 @@ impl AuthOption {
             AuthOption::Setting(name, _) => name.name(),
         }
     }
+}
+
+/// Options are equal exactly where they are one flag, or one name with the same value.
+impl PartialEq for AuthOption {
+    ghost use Rattle.std.specs.Cmp.{decided, partial_equiv_from_equiv};
+    ghost use Rattle.ssh_options.specs.SameLaws.{option_decides};
+    ghost use Rattle.ssh_options.specs.SameOptions.{is_same_option};
+
+    ghost eq = { is_same_option };
+
+    ghost laws = { partial_equiv_from_equiv (decided is_same_option option_decides) };
+
+    #[tactic(auto, using(crate::specs::SameLaws::option_decides))]
+    fn eq(&self, other: &Self) -> bool
+        ensures value { result ≡ is_same_option self.now other.now }
+        ensures same { IsTrue result ↔ (self.now ≡ other.now) }
+    {
+        match (self, other) {
+            (AuthOption::Switch(flag), AuthOption::Switch(other)) => *flag == *other,
+            (AuthOption::Setting(name, value), AuthOption::Setting(other, other_value)) => {
+                *name == *other && *value == *other_value
+            }
+            _ => false,
+        }
+    }
+}
+
+impl Eq for AuthOption {
+    ghost use Rattle.std.specs.Cmp.{decided};
+    ghost use Rattle.ssh_options.specs.SameLaws.{option_decides};
+    ghost use Rattle.ssh_options.specs.SameOptions.{is_same_option};
+
+    ghost laws = { decided is_same_option option_decides };
 }
 
 /// The names are the same without regard to ASCII case.

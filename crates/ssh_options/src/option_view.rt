@@ -13,7 +13,7 @@ use crate::value_view::ValueView;
 use std::alloc::{AllocError, Global};
 
 /// An option of an authorized_keys line, in the line.
-#[derive(Debug, Drop)]
+#[derive(Debug, Drop, PartialEq, Eq)]
 pub enum OptionView<'a> {
     Switch(Flag),
     Setting(ValueName, ValueView<'a>),

@@ -1,6 +1,7 @@
 //! The options of a line, in their order.
 
-ghost use Rattle.std.specs.Prelude.{◌≡◌, [], ◌++◌, ◌∷◌, OnOk, OnErr};
+ghost use Rattle.std.specs.Prelude.{◌≡◌, ◌↔◌, [], ◌++◌, ◌∷◌, IsTrue, OnOk, OnErr};
+ghost use Rattle.ssh_options.specs.SameOptions.{are_same_options};
 ghost use Rattle.ssh_options.specs.Settings.{has_flag, settings};
 
 use crate::option::{AuthOption, Flag, ValueName};
@@ -62,4 +63,31 @@ impl Options {
     {
         Settings::new(name, &self.kept)
     }
+}
+
+/// Lists of options are equal exactly where the options are, one by one.
+impl PartialEq for Options {
+    ghost use Rattle.std.specs.Cmp.{decided, partial_equiv_from_equiv};
+    ghost use Rattle.ssh_options.specs.SameLaws.{options_decide};
+    ghost use Rattle.ssh_options.specs.SameOptions.{are_same_options};
+
+    ghost eq = { are_same_options };
+
+    ghost laws = { partial_equiv_from_equiv (decided are_same_options options_decide) };
+
+    #[tactic(auto, using(crate::specs::SameLaws::options_decide))]
+    fn eq(&self, other: &Self) -> bool
+        ensures value { result ≡ are_same_options self.now other.now }
+        ensures same { IsTrue result ↔ (self.now ≡ other.now) }
+    {
+        self.as_slice() == other.as_slice()
+    }
+}
+
+impl Eq for Options {
+    ghost use Rattle.std.specs.Cmp.{decided};
+    ghost use Rattle.ssh_options.specs.SameLaws.{options_decide};
+    ghost use Rattle.ssh_options.specs.SameOptions.{are_same_options};
+
+    ghost laws = { decided are_same_options options_decide };
 }

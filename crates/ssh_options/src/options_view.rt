@@ -1,9 +1,10 @@
 //! The options of a line, in its text.
 
-ghost use Rattle.std.specs.Prelude.{◌≡◌, [], ◌++◌, List, IfOk, option_map, option_copied};
+ghost use Rattle.std.specs.Prelude.{◌≡◌, ◌↔◌, [], ◌++◌, List, IfOk, IsTrue, option_map, option_copied};
 ghost use Rattle.std.specs.Iterator.{YieldsFirst, YieldsFirstBy, item_count};
 ghost use Rattle.ssh_wire.specs.Reading.{Gives};
 ghost use Rattle.ssh_options.specs.OptionText.{option_of, options_of};
+ghost use Rattle.ssh_options.specs.SameOptions.{are_same_options};
 ghost use Rattle.ssh_options.specs.Settings.{has_flag, settings};
 ghost use Rattle.ssh_options.specs.OptionsInLine.{option_in_line, option_at};
 
@@ -115,6 +116,46 @@ impl<'a> Iterator for OptionsView<'a> {
         self.rest = rest;
         Some(option)
     }
+}
+
+/// Lists of options are equal exactly where the options are, one by one,
+/// whatever of their values the lines escape.
+impl PartialEq for OptionsView<'_> {
+    ghost use Rattle.std.specs.Cmp.{decided, partial_equiv_from_equiv};
+    ghost use Rattle.ssh_options.specs.SameLaws.{options_decide};
+    ghost use Rattle.ssh_options.specs.SameOptions.{are_same_options};
+
+    ghost eq = { are_same_options };
+
+    ghost laws = { partial_equiv_from_equiv (decided are_same_options options_decide) };
+
+    #[tactic(auto, using(crate::specs::SameLaws::options_decide))]
+    fn eq(&self, other: &Self) -> bool
+        ensures value { result ≡ are_same_options self.now other.now }
+        ensures same { IsTrue result ↔ (self.now ≡ other.now) }
+    {
+        are_same_options(self.again(), other.again())
+    }
+}
+
+impl Eq for OptionsView<'_> {
+    ghost use Rattle.std.specs.Cmp.{decided};
+    ghost use Rattle.ssh_options.specs.SameLaws.{options_decide};
+    ghost use Rattle.ssh_options.specs.SameOptions.{are_same_options};
+
+    ghost laws = { decided are_same_options options_decide };
+}
+
+/// Whether both lists have the same options, one by one.
+fn are_same_options(options: OptionsView<'_>, mut others: OptionsView<'_>) -> bool
+    ensures { result ≡ are_same_options options.entry others.entry }
+{
+    for option in options {
+        if others.next() != Some(option) {
+            return false;
+        }
+    }
+    others.next().is_none()
 }
 
 /// Whether the flag is among the options.

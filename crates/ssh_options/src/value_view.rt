@@ -92,6 +92,42 @@ impl<'a> ValueView<'a> {
     }
 }
 
+/// Values are equal exactly where what is meant is, whatever of it the lines escape.
+impl PartialEq for ValueView<'_> {
+    ghost use Rattle.std.specs.Cmp.{partial_equiv_from_equiv};
+    ghost use Rattle.std.specs.Cmp.Lexicographic.{nat_list_eq_equiv};
+    ghost use Rattle.std.specs.Str.{bytes_eq};
+
+    ghost eq = { bytes_eq };
+
+    ghost laws = { partial_equiv_from_equiv nat_list_eq_equiv };
+
+    fn eq(&self, other: &Self) -> bool
+        ensures value { result ≡ bytes_eq self.now other.now }
+        ensures same { IsTrue result ↔ (self.now ≡ other.now) }
+    {
+        are_same_bytes(self.bytes(), other.bytes())
+    }
+}
+
+impl Eq for ValueView<'_> {
+    ghost use Rattle.std.specs.Cmp.Lexicographic.{nat_list_eq_equiv};
+
+    ghost laws = { nat_list_eq_equiv };
+}
+
+/// Whether the bytes that are left are the same.
+fn are_same_bytes(bytes: ValueBytes<'_>, mut other: ValueBytes<'_>) -> bool
+    ensures { result ≡ bytes_eq bytes.entry other.entry }
+{
+    for byte in bytes {
+        if other.next() != Some(byte) {
+            return false;
+        }
+    }
+    other.next().is_none()
+}
+
 /// The bytes of a value in its line. Contracts see those that are left.
 #[derive(Debug, Drop)]
 pub struct ValueBytes<'a> {
