@@ -1,5 +1,17 @@
 //! Bodies of private keys that are not encrypted (PROTOCOL.key) and of file signatures
 //! (PROTOCOL.sshsig).
+//!
+//! Reading borrows from the bytes and copies nothing; a refusal tells the first fault, and its place
+//! in bytes from the body's first one. A caller that asks what a file signature signs (a test runs
+//! these lines):
+//!
+//! ```
+//! let view = read_sshsig(body)?;
+//! if view.namespace != namespace {
+//!     return Ok(None);
+//! }
+//! Ok(Some(sshsig_message(alloc, &view, message)?))
+//! ```
 #![tactic(auto)]
 
 mod error;

@@ -1,4 +1,14 @@
 //! The canonical line of an entry of an authorized_keys or a known_hosts file.
+//!
+//! It is read as that entry, is no longer than a line that spells it, and has no LF. A caller that
+//! writes a line anew (a test runs these lines):
+//!
+//! ```
+//! match read_auth_line(alloc, line)? {
+//!     AuthLine::Entry(entry) => Ok(Some(canonical_auth_line(alloc, &entry)?)),
+//!     _ => Ok(None),
+//! }
+//! ```
 #![tactic(auto)]
 
 mod auth_line;

@@ -5,6 +5,7 @@ use ssh_bodies::{
     write_sshsig,
 };
 use ssh_wire::{WireCause, WireError};
+use std::alloc::Global;
 use std::test::Fail;
 
 /// A body of an Ed25519 key of 32 zero bytes with the seed of 32 zero bytes: the fields before the
@@ -222,5 +223,27 @@ fn prints_no_secret(rt: HostRuntime) -> Result<(), Fail> {
         let listed = format!(in rt.alloc(); "{}, {}, {}", pair[0], pair[1], pair[2])?;
         assert!(rt; !shown.contains(listed.as_str()));
     }
+    Ok(())
+}
+
+/// What the example in the crate's root does.
+fn signs(
+    alloc: Global,
+    body: &[u8],
+    message: &[u8],
+    namespace: &[u8],
+) -> Result<Option<Vec<u8>>, Fail> {
+    let view = read_sshsig(body)?;
+    if view.namespace != namespace {
+        return Ok(None);
+    }
+    Ok(Some(sshsig_message(alloc, &view, message)?))
+}
+
+#[test]
+fn runs_the_example(rt: HostRuntime) -> Result<(), Fail> {
+    let signed = signs(rt.alloc(), SSHSIG, b"abc", b"file")?;
+    assert!(rt; signed.is_some_and(|bytes| bytes.starts_with(b"SSHSIG\0\0\0\x04file")));
+    assert!(rt; signs(rt.alloc(), SSHSIG, b"abc", b"git")?.is_none());
     Ok(())
 }

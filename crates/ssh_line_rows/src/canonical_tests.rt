@@ -106,3 +106,20 @@ fn writes_known_lines(rt: HostRuntime) -> Result<(), Fail> {
     }
     Ok(())
 }
+
+/// What the example in the crate's root does.
+fn anew(alloc: Global, line: &[u8]) -> Result<Option<Vec<u8>>, AllocError> {
+    match read_auth_line(alloc, line)? {
+        AuthLine::Entry(entry) => Ok(Some(canonical_auth_line(alloc, &entry)?)),
+        _ => Ok(None),
+    }
+}
+
+#[test]
+fn runs_the_example(rt: HostRuntime) -> Result<(), Fail> {
+    let line = around(rt.alloc(), (b"PTY ssh-ed25519 ", b""))?;
+    let want = around(rt.alloc(), (b"pty ssh-ed25519 ", b""))?;
+    assert!(rt; anew(rt.alloc(), &line)?.is_some_and(|new| new.as_slice() == want.as_slice()));
+    assert!(rt; anew(rt.alloc(), b"# PTY")?.is_none());
+    Ok(())
+}

@@ -137,3 +137,32 @@ fn lists(rt: HostRuntime) -> Result<(), Fail> {
     assert_eq!(rt; read.again().text(), b"h,!g".as_slice());
     Ok(())
 }
+
+/// What the example in the crate's root does.
+fn hides(alloc: Global, salt: &[u8; 20], host: &[u8], port: u16) -> Result<bool, AllocError> {
+    let name = lookup_name(alloc, host, port)?;
+    let field = hash_name(alloc, salt, &name)?;
+    match read_names(&field) {
+        Ok(names) => Ok(names_host(&names, &name)),
+        Err(_) => Ok(false),
+    }
+}
+
+#[test]
+fn runs_the_example(rt: HostRuntime) -> Result<(), Fail> {
+    assert!(rt; hides(rt.alloc(), &KEYGEN_SALT, b"Example.ORG", 2222)?);
+    Ok(())
+}
+
+/// Names are equal where they stand on a line as the same text.
+#[test]
+fn tells_names_apart(rt: HostRuntime) {
+    for (field, other, want) in [
+        (b"a,b".as_slice(), b"a,b".as_slice(), true),
+        (b"a,b".as_slice(), b"a,c".as_slice(), false),
+        (KEYGEN_FIELD, KEYGEN_FIELD, true),
+        (KEYGEN_FIELD, KEYGEN_PORT_FIELD, false),
+    ] {
+        assert_eq!(rt; read_names(field) == read_names(other), want);
+    }
+}

@@ -291,3 +291,21 @@ fn long_lists(rt: HostRuntime) {
     assert_eq!(rt; from_list(&list, Some(b"AZ"), b"::1"), Some(Permit::Yes));
     assert_eq!(rt; cidr_list(&list, &Address::V4(1)), Permit::Bad);
 }
+
+/// What the example in the crate's root does.
+fn lets_in(host: &[u8], address_text: &[u8]) -> Result<bool, PatternError> {
+    let net = parse_net(b"192.0.2.0/24")?;
+    let address = parse_address(address_text)?;
+    Ok(contains(&net, &address) && host_list(b"*.example.org,!bad.example.org", host))
+}
+
+#[test]
+fn runs_the_example(rt: HostRuntime) {
+    assert_eq!(rt; lets_in(b"good.example.org", b"192.0.2.7"), Ok(true));
+    assert_eq!(rt; lets_in(b"bad.example.org", b"192.0.2.7"), Ok(false));
+    assert_eq!(rt; lets_in(b"good.example.org", b"192.0.3.7"), Ok(false));
+    assert_eq!(rt;
+        lets_in(b"good.example.org", b"x"),
+        Err(PatternError::Address)
+    );
+}

@@ -82,3 +82,19 @@ fn refuses_a_file_that_grows_past_the_limit(rt: HostRuntime) -> Result<(), Fail>
     assert!(rt; matches!(rewrite_known(alloc, &file), Err(RewriteError::TooLong)));
     Ok(())
 }
+
+/// What the example in the crate's root does.
+fn is_canonical(alloc: Global, file: &[u8]) -> Result<bool, RewriteError> {
+    let new = rewrite_known(alloc, file)?;
+    Ok(new.as_slice() == file)
+}
+
+#[test]
+fn runs_the_example(rt: HostRuntime) -> Result<(), Fail> {
+    let alloc = rt.alloc();
+    let file = with_keys(alloc, b"h ssh-ed25519 %\n# x\n")?;
+    assert!(rt; is_canonical(alloc, &file)?);
+    let file = with_keys(alloc, b"h  ssh-ed25519 %\n# x\n")?;
+    assert!(rt; !is_canonical(alloc, &file)?);
+    Ok(())
+}

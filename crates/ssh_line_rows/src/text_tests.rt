@@ -1,6 +1,6 @@
 //! What no clause says: that calls that take memory can succeed, with worked files in pieces.
 
-use ssh_text::{LINE_LIMIT, Line, Lines, Scanner};
+use ssh_text::{LINE_LIMIT, Line, Lines, Scanner, skip_blanks, split_word};
 use std::alloc::{AllocError, Global};
 use std::process::Abort;
 use std::test::Fail;
@@ -142,4 +142,22 @@ fn gives_lines_that_lie_in_the_piece(rt: HostRuntime) -> Result<(), Fail> {
     assert!(rt; third.is_some_and(|line| line.0 == 3 && line.1.is_empty()));
     assert!(rt; scanner.used() == 7 && !scanner.finish());
     Ok(())
+}
+
+/// What the example in the crate's root does.
+fn line_of_word(file: &[u8], word: &[u8]) -> Option<u64> {
+    for (number, line) in Lines::new(file) {
+        let (first, _rest) = split_word(skip_blanks(line));
+        if first == word {
+            return Some(number);
+        }
+    }
+    None
+}
+
+#[test]
+fn runs_the_example(rt: HostRuntime) {
+    let file = b"# b\n\n \tb c\nb\n";
+    assert_eq!(rt; line_of_word(file, b"b"), Some(3));
+    assert_eq!(rt; line_of_word(file, b"c"), None);
 }

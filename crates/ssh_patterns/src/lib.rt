@@ -1,4 +1,13 @@
-//! Patterns, addresses, nets and the lists that are made of them. Nothing here takes memory.
+//! Patterns, addresses, nets and the lists that are made of them (ssh_config(5), PATTERNS).
+//!
+//! Nothing here takes memory. A caller that lets hosts of a list in, from one net (a test runs these
+//! lines):
+//!
+//! ```
+//! let net = parse_net(b"192.0.2.0/24")?;
+//! let address = parse_address(address_text)?;
+//! Ok(contains(&net, &address) && host_list(b"*.example.org,!bad.example.org", host))
+//! ```
 #![tactic(auto)]
 
 mod address;

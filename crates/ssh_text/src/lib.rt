@@ -1,4 +1,19 @@
 //! The lines of files, and their words.
+//!
+//! Lines are counted from 1 and come without their LF. `Lines` cuts a whole file, whatever the
+//! length of its lines; `Scanner` takes a file in pieces, keeps at most one line, and tells of a
+//! line past the limit that it is too long. A caller that looks for the first line that begins with
+//! a word (a test runs these lines):
+//!
+//! ```
+//! for (number, line) in Lines::new(file) {
+//!     let (first, _rest) = split_word(skip_blanks(line));
+//!     if first == word {
+//!         return Some(number);
+//!     }
+//! }
+//! None
+//! ```
 #![tactic(auto)]
 
 mod bytes;

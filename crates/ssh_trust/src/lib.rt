@@ -1,5 +1,20 @@
 //! Whether an authorized_keys file admits a login, whether a known_hosts file trusts a host's key,
 //! and whether a file signature is vouched for.
+//!
+//! No signature is computed here: a decision lists what it rests on, each time the key, the signed
+//! bytes and the signature, and takes a list of those that somebody vouches for. A caller that
+//! verifies signatures itself (a test runs these lines):
+//!
+//! ```
+//! let evidence = evidence_of_login(alloc, query)?;
+//! if !verify(evidence.as_slice()) {
+//!     return Ok(None);
+//! }
+//! match login(alloc, file, query, evidence.as_slice())? {
+//!     Decision::Granted { line, .. } => Ok(Some(line)),
+//!     Decision::Denied { .. } => Ok(None),
+//! }
+//! ```
 #![tactic(auto)]
 
 mod counted;

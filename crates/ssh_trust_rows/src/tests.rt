@@ -8,6 +8,7 @@ use ssh_trust::{
     Cause, Decision, HostAudit, HostQuery, LoginAudit, LoginQuery, Signed, evidence_of_host,
     evidence_of_login, host, login,
 };
+use std::alloc::Global;
 use std::test::Fail;
 
 /// The blob of the Ed25519 key of 32 zero bytes.
@@ -161,5 +162,36 @@ fn answers_a_host_in_pieces(rt: HostRuntime) -> Result<(), Fail> {
             assert_eq!(rt; told(&decision), told(&whole));
         }
     }
+    Ok(())
+}
+
+/// What the example in the crate's root does.
+fn admits(
+    alloc: Global,
+    file: &[u8],
+    query: &LoginQuery<'_>,
+    verify: bool,
+) -> Result<Option<u64>, Fail>
+    requires session { length query.now.session.now < 2 ^ 32 }
+    requires user { length query.now.user.now < 2 ^ 32 }
+{
+    let evidence = evidence_of_login(alloc, query)?;
+    if !verify {
+        return Ok(None);
+    }
+    match login(alloc, file, query, evidence.as_slice())? {
+        Decision::Granted { line, .. } => Ok(Some(line)),
+        Decision::Denied { .. } => Ok(None),
+    }
+}
+
+#[test]
+fn runs_the_example(rt: HostRuntime) -> Result<(), Fail> {
+    let alloc = rt.alloc();
+    let zone = TimeZone::UTC;
+    let query = query(&zone);
+    assert_eq!(rt; admits(alloc, LINE, &query, true)?, Some(1));
+    assert_eq!(rt; admits(alloc, LINE, &query, false)?, None);
+    assert_eq!(rt; admits(alloc, b"# none\n", &query, true)?, None);
     Ok(())
 }
