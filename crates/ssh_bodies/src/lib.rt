@@ -1,9 +1,9 @@
 //! Bodies of private keys that are not encrypted (PROTOCOL.key) and of file signatures
 //! (PROTOCOL.sshsig).
 //!
-//! Reading borrows from the bytes and copies nothing; a refusal tells the first fault, and its place
-//! in bytes from the body's first one. A caller that asks what a file signature signs (a test runs
-//! these lines):
+//! Reading borrows from the bytes and copies nothing; a refusal is the first fault, and a place that
+//! it tells is in bytes from the body's first one. A caller that asks what a file signature signs (a
+//! test runs these lines):
 //!
 //! ```
 //! let view = read_sshsig(body)?;

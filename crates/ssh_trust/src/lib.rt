@@ -3,7 +3,8 @@
 //!
 //! No signature is computed here: a decision lists what it rests on, each time the key, the signed
 //! bytes and the signature, and takes a list of those that somebody vouches for. A caller that
-//! verifies signatures itself (a test runs these lines):
+//! verifies signatures itself, by a `verify` of its own (a test runs these lines, with either answer
+//! in its place):
 //!
 //! ```
 //! let evidence = evidence_of_login(alloc, query)?;
