@@ -118,14 +118,14 @@ pub fn program<'a>(alloc: Global) -> Result<Command<'a>, AllocError>
     ensures { IfOk result (λ c. app_of c ≡ command_line) }
 {
     let show = show_command(alloc)?;
-    let login = login_command(alloc)?;
-    let host = host_command(alloc)?;
-    let sshsig = sshsig_command(alloc)?;
-    let rewrite = rewrite_command(alloc)?;
     let showing = with_command(Command::new(alloc, "ssh_audit"), show)?;
+    let login = login_command(alloc)?;
     let logging_in = with_command(showing, login)?;
+    let host = host_command(alloc)?;
     let trusting = with_command(logging_in, host)?;
+    let sshsig = sshsig_command(alloc)?;
     let signing = with_command(trusting, sshsig)?;
+    let rewrite = rewrite_command(alloc)?;
     let program = with_command(signing, rewrite)?;
     Ok(program.no_binary_name(true).subcommand_required(true))
 }
