@@ -1,5 +1,14 @@
 //! What is offered for a login or by a host, or signed in a file signature, what is refused before
 //! any line is read, and the evidence that a decision rests on.
+//!
+//! A caller that asks what of a login nobody vouches for yet, by its number (a test runs these
+//! lines):
+//!
+//! ```
+//! let claim = LoginClaimView::read(query)?;
+//! let evidence = login_evidence(alloc, &claim)?;
+//! Ok(first_unvouched(vouched, evidence.as_slice()))
+//! ```
 #![tactic(auto)]
 
 mod algorithm;

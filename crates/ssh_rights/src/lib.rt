@@ -1,5 +1,16 @@
 //! What a login that a line admits may do, and what its security key has to show; what the options
 //! of a certificate say.
+//!
+//! A caller that asks whether a line leaves a terminal and a shell to an offer (a test runs these
+//! lines):
+//!
+//! ```
+//! let AuthLineView::Entry(entry) = read_auth_view(line, &mut buffer) else {
+//!     return Ok(false);
+//! };
+//! let rights = rights_of(alloc, &entry, offer)?;
+//! Ok(rights.pty && rights.command.is_none())
+//! ```
 #![tactic(auto)]
 
 mod certificate_option;

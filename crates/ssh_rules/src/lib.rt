@@ -1,5 +1,14 @@
 //! Whether one line of a trust file admits one offer, and the first reason why it does not; what a
 //! line revokes.
+//!
+//! A caller that asks why a line does not admit a login (a test runs these lines):
+//!
+//! ```
+//! match login_verdict(alloc, read_auth_view(line, &mut buffer), claim)? {
+//!     LineVerdict::Admits(_) => Ok(None),
+//!     LineVerdict::Passes(reason) => Ok(reason),
+//! }
+//! ```
 #![tactic(auto)]
 
 mod admission;
