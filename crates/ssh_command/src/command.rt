@@ -1,6 +1,6 @@
 //! The command line.
 
-ghost use Rattle.std.specs.Prelude.{◌≡◌, IfOk, true};
+ghost use Rattle.std.specs.Prelude.{◌≡◌, IfOk, fold, true};
 ghost use Rattle.clap.specs.Words.{app_of, with_rule, with_subcommand};
 ghost use Rattle.ssh_command.specs.CommandLine.{
   command_line,
@@ -29,24 +29,42 @@ fn with_option<'a>(
     command.arg(option)
 }
 
+/// The command with these options too, in their order, each of which takes a value.
+fn with_options<'a>(
+    alloc: Global,
+    command: Command<'a>,
+    names: &[&'a str],
+    required: bool,
+) -> Result<Command<'a>, AllocError>
+    ensures { IfOk result (λ c. app_of c ≡ fold
+        (λ a name. with_rule a (option_rule (name.now, required)))
+        (app_of command.entry) names.entry.now) }
+{
+    let mut command = command;
+    for name in names {
+        command = with_option(alloc, command, name, required)?;
+    }
+    Ok(command)
+}
+
 /// The subcommand `login`.
 #[tactic(auto, unfolding(crate::specs::CommandLine::login_app))]
 fn login_command<'a>(alloc: Global) -> Result<Command<'a>, AllocError>
     ensures { IfOk result (λ c. app_of c ≡ login_app) }
 {
     let command = Command::new(alloc, "login");
-    let command = with_option(alloc, command, "file", true)?;
-    let command = with_option(alloc, command, "offer", true)?;
-    let command = with_option(alloc, command, "signature", true)?;
-    let command = with_option(alloc, command, "algorithm", true)?;
-    let command = with_option(alloc, command, "session", true)?;
-    let command = with_option(alloc, command, "user", true)?;
-    let command = with_option(alloc, command, "address", true)?;
-    let command = with_option(alloc, command, "now", true)?;
-    let command = with_option(alloc, command, "host", false)?;
-    let command = with_option(alloc, command, "zone", false)?;
-    let command = with_option(alloc, command, "vouch", false)?;
-    Ok(command)
+    let needed = [
+        "file",
+        "offer",
+        "signature",
+        "algorithm",
+        "session",
+        "user",
+        "address",
+        "now",
+    ];
+    let command = with_options(alloc, command, &needed, true)?;
+    with_options(alloc, command, &["host", "zone", "vouch"], false)
 }
 
 /// The subcommand `host`.
@@ -55,15 +73,9 @@ fn host_command<'a>(alloc: Global) -> Result<Command<'a>, AllocError>
     ensures { IfOk result (λ c. app_of c ≡ host_app) }
 {
     let command = Command::new(alloc, "host");
-    let command = with_option(alloc, command, "file", true)?;
-    let command = with_option(alloc, command, "offer", true)?;
-    let command = with_option(alloc, command, "signature", true)?;
-    let command = with_option(alloc, command, "hash", true)?;
-    let command = with_option(alloc, command, "host", true)?;
-    let command = with_option(alloc, command, "port", true)?;
-    let command = with_option(alloc, command, "now", true)?;
-    let command = with_option(alloc, command, "vouch", false)?;
-    Ok(command)
+    let needed = ["file", "offer", "signature", "hash", "host", "port", "now"];
+    let command = with_options(alloc, command, &needed, true)?;
+    with_options(alloc, command, &["vouch"], false)
 }
 
 /// The subcommand `show`.
@@ -72,9 +84,8 @@ fn show_command<'a>(alloc: Global) -> Result<Command<'a>, AllocError>
     ensures { IfOk result (λ c. app_of c ≡ show_app) }
 {
     let command = Command::new(alloc, "show");
-    let command = with_option(alloc, command, "kind", true)?;
-    let command = with_option(alloc, command, "file", true)?;
-    Ok(command)
+    let needed = ["kind", "file"];
+    with_options(alloc, command, &needed, true)
 }
 
 /// The subcommand `sshsig`.
@@ -83,11 +94,9 @@ fn sshsig_command<'a>(alloc: Global) -> Result<Command<'a>, AllocError>
     ensures { IfOk result (λ c. app_of c ≡ sshsig_app) }
 {
     let command = Command::new(alloc, "sshsig");
-    let command = with_option(alloc, command, "body", true)?;
-    let command = with_option(alloc, command, "message", true)?;
-    let command = with_option(alloc, command, "namespace", true)?;
-    let command = with_option(alloc, command, "vouch", false)?;
-    Ok(command)
+    let needed = ["body", "message", "namespace"];
+    let command = with_options(alloc, command, &needed, true)?;
+    with_options(alloc, command, &["vouch"], false)
 }
 
 /// The subcommand `rewrite`.
@@ -96,9 +105,8 @@ fn rewrite_command<'a>(alloc: Global) -> Result<Command<'a>, AllocError>
     ensures { IfOk result (λ c. app_of c ≡ rewrite_app) }
 {
     let command = Command::new(alloc, "rewrite");
-    let command = with_option(alloc, command, "kind", true)?;
-    let command = with_option(alloc, command, "file", true)?;
-    Ok(command)
+    let needed = ["kind", "file"];
+    with_options(alloc, command, &needed, true)
 }
 
 /// The command with one more subcommand.
