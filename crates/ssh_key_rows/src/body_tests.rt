@@ -1,5 +1,6 @@
 //! What no clause says: values from outside, and that calls that take memory can succeed.
 
+use crate::compare::same;
 use ssh_bodies::{
     BodyError, HashName, PrivateFields, read_private, read_sshsig, sshsig_message, write_private,
     write_sshsig,
@@ -62,7 +63,7 @@ fn changed(rt: &HostRuntime, bytes: &[u8], place: usize, byte: u8) -> Result<Vec
 #[test]
 fn refuses_private_bodies(rt: HostRuntime) -> Result<(), Fail> {
     let good = body(&rt, SECTION, b"\x01\x02")?;
-    assert_eq!(rt; good.len(), 234);
+    same(&rt, &good.len(), &234);
     let mut longer = Vec::from_slice(rt.alloc(), &good)?;
     longer.push(0)?;
     let mut cipher = Vec::from_slice(rt.alloc(), b"openssh-key-v1\0\0\0\0\x0aaes256-ctr")?;
@@ -77,7 +78,7 @@ fn refuses_private_bodies(rt: HostRuntime) -> Result<(), Fail> {
         (cipher, BodyError::Encrypted),
     ];
     for (bytes, want) in rows {
-        assert_eq!(rt; read_private(&bytes).map(|_| ()), Err(want));
+        same(&rt, &read_private(&bytes).map(|_| ()), &Err(want));
     }
     Ok(())
 }
@@ -141,7 +142,7 @@ fn refuses_file_signatures(rt: HostRuntime) -> Result<(), Fail> {
         (inner, short(106)),
     ];
     for (bytes, want) in rows {
-        assert_eq!(rt; read_sshsig(&bytes).map(|_| ()), Err(want));
+        same(&rt, &read_sshsig(&bytes).map(|_| ()), &Err(want));
     }
     for (n, _) in SSHSIG.iter().enumerate() {
         let want = match n {
@@ -162,10 +163,26 @@ fn refuses_file_signatures(rt: HostRuntime) -> Result<(), Fail> {
 #[test]
 fn keeps_the_limit(rt: HostRuntime) -> Result<(), Fail> {
     let long = vec![in rt.alloc(); 255; 262_145]?;
-    assert_eq!(rt; read_private(&long).map(|_| ()), Err(BodyError::TooLong));
-    assert_eq!(rt; read_sshsig(&long).map(|_| ()), Err(BodyError::TooLong));
-    assert_eq!(rt; read_private(&long[1..]).map(|_| ()), Err(BodyError::Magic));
-    assert_eq!(rt; read_sshsig(&long[1..]).map(|_| ()), Err(BodyError::Magic));
+    same(
+        &rt,
+        &read_private(&long).map(|_| ()),
+        &Err(BodyError::TooLong),
+    );
+    same(
+        &rt,
+        &read_sshsig(&long).map(|_| ()),
+        &Err(BodyError::TooLong),
+    );
+    same(
+        &rt,
+        &read_private(&long[1..]).map(|_| ()),
+        &Err(BodyError::Magic),
+    );
+    same(
+        &rt,
+        &read_sshsig(&long[1..]).map(|_| ()),
+        &Err(BodyError::Magic),
+    );
     Ok(())
 }
 
@@ -176,17 +193,17 @@ fn writes_what_was_read(rt: HostRuntime) -> Result<(), Fail> {
     for bytes in [good.as_slice(), REAL_BODY] {
         let mut out = Vec::new(rt.alloc());
         write_private(&read_private(bytes)?, &mut out)?;
-        assert_eq!(rt; out.as_slice(), bytes);
+        same(&rt, &out.as_slice(), &bytes);
     }
     for bytes in [SSHSIG, REAL_SSHSIG] {
         let mut out = Vec::new(rt.alloc());
         write_sshsig(&read_sshsig(bytes)?, &mut out)?;
-        assert_eq!(rt; out.as_slice(), bytes);
+        same(&rt, &out.as_slice(), &bytes);
     }
     let padded = body(&rt, SECTION, b"\x01\x02\x03\x04\x05\x06\x07\x08\x09\x0a")?;
     let mut out = Vec::new(rt.alloc());
     write_private(&read_private(&padded)?, &mut out)?;
-    assert_eq!(rt; out.as_slice(), good.as_slice());
+    same(&rt, &out.as_slice(), &good.as_slice());
     Ok(())
 }
 
@@ -197,12 +214,12 @@ fn tells_the_signed_bytes(rt: HostRuntime) -> Result<(), Fail> {
     let signed = sshsig_message(rt.alloc(), &view, b"abc")?;
     let wanted =
         b"SSHSIG\0\0\0\x04file\0\0\0\0\0\0\0\x06sha256\0\0\0\x20\xba\x78\x16\xbf\x8f\x01\xcf\xea\x41\x41\x40\xde\x5d\xae\x22\x23\xb0\x03\x61\xa3\x96\x17\x7a\x9c\xb4\x10\xff\x61\xf2\x00\x15\xad";
-    assert_eq!(rt; signed.as_slice(), wanted.as_slice());
+    same(&rt, &signed.as_slice(), &wanted.as_slice());
     let real = read_sshsig(REAL_SSHSIG)?;
-    assert_eq!(rt; real.hash, HashName::Sha512);
-    assert_eq!(rt; real.hash.name(), b"sha512".as_slice());
+    same(&rt, &real.hash, &HashName::Sha512);
+    same(&rt, &real.hash.name(), &b"sha512".as_slice());
     let signed = sshsig_message(rt.alloc(), &real, b"abc")?;
-    assert_eq!(rt; signed.len(), 6 + 8 + 4 + 10 + 4 + 64);
+    same(&rt, &signed.len(), &(6 + 8 + 4 + 10 + 4 + 64));
     Ok(())
 }
 
@@ -210,7 +227,7 @@ fn tells_the_signed_bytes(rt: HostRuntime) -> Result<(), Fail> {
 #[test]
 fn prints_no_secret(rt: HostRuntime) -> Result<(), Fail> {
     let view = read_private(REAL_BODY)?;
-    assert_eq!(rt; view.comment, b"real key".as_slice());
+    same(&rt, &view.comment, &b"real key".as_slice());
     let PrivateFields::Ed25519 { secret, .. } = view.fields else {
         return Err(Fail::from("an Ed25519 key"));
     };

@@ -4,6 +4,7 @@
 ghost use Rattle.std.specs.Prelude.{IfOk};
 ghost use Rattle.ssh_keys.specs.Signature.{IsSignature, signature_of};
 
+use crate::compare::same;
 use ssh_certs::{
     CertError, CertParts, CertView, Time, WriteError, plain_blob, read_cert, write_cert,
 };
@@ -74,7 +75,7 @@ fn fault_of_cut(n: usize) -> CertError {
 
 #[test]
 fn cuts_a_certificate(rt: HostRuntime) {
-    assert_eq!(rt; X0.len(), 213);
+    same(&rt, &X0.len(), &213);
     for (n, _) in X0.iter().enumerate() {
         assert_eq!(rt;
             read_cert(&X0[..n]).map(|_| ()),
@@ -138,7 +139,7 @@ fn refuses_certificates(rt: HostRuntime) -> Result<(), Fail> {
         blob.extend_from_slice(part[0])?;
         blob.extend_from_slice(part[1])?;
         blob.extend_from_slice(&X0[back..])?;
-        assert_eq!(rt; read_cert(&blob).map(|_| ()), Err(want));
+        same(&rt, &read_cert(&blob).map(|_| ()), &Err(want));
     }
     Ok(())
 }
@@ -174,11 +175,11 @@ fn writes_what_it_reads(rt: HostRuntime) -> Result<(), Fail> {
     let view = read_cert(X0)?;
     let mut out = Vec::new(rt.alloc());
     write_cert(&parts_of(&view, &[b"ann"], &[], &[]), &mut out)?;
-    assert_eq!(rt; out.as_slice(), X0);
-    assert_eq!(rt; plain_blob(rt.alloc(), &view)?.as_slice(), K0);
-    assert_eq!(rt; view.signed_part(), &X0[..189]);
-    assert_eq!(rt; view.signer_blob(), K1);
-    assert_eq!(rt; view.signature_blob(), S0);
+    same(&rt, &out.as_slice(), &X0);
+    same(&rt, &plain_blob(rt.alloc(), &view)?.as_slice(), &K0);
+    same(&rt, &view.signed_part(), &&X0[..189]);
+    same(&rt, &view.signer_blob(), &K1);
+    same(&rt, &view.signature_blob(), &S0);
     Ok(())
 }
 
@@ -191,26 +192,27 @@ fn reads_what_openssh_makes(rt: HostRuntime) -> Result<(), Fail> {
         (b"source-address", b"\0\0\0\x0c192.0.2.0/24"),
     ];
     let view = read_cert(MADE)?;
-    assert_eq!(rt;
-        (
+    same(
+        &rt,
+        &(
             view.serial(),
             view.kind_number(),
             view.after(),
-            view.before()
+            view.before(),
         ),
-        (u64::MAX, 1, 100, 200)
+        &(u64::MAX, 1, 100, 200),
     );
-    assert_eq!(rt; view.key_id(), b"ann at home".as_slice());
+    same(&rt, &view.key_id(), &b"ann at home".as_slice());
     assert!(rt; view.principals().eq(principals));
     assert!(rt; view.critical().eq(critical));
     assert!(rt; view.extensions().eq(extensions));
-    assert_eq!(rt; view.signed_part(), &MADE[..477]);
+    same(&rt, &view.signed_part(), &&MADE[..477]);
     let mut out = Vec::new(rt.alloc());
     write_cert(
         &parts_of(&view, &principals, &critical, &extensions),
         &mut out,
     )?;
-    assert_eq!(rt; out.as_slice(), MADE);
+    same(&rt, &out.as_slice(), &MADE);
     Ok(())
 }
 
@@ -230,9 +232,9 @@ fn admit<'a>(blob: &'a [u8], now: u64, user: &[u8]) -> Result<Option<Admitted<'a
 fn runs_the_example(rt: HostRuntime) -> Result<(), Fail> {
     let signature = SignatureView::from_fields(b"ssh-ed25519", b"\xaa", None)?;
     let want = (read_key(K1)?, &X0[..189], signature);
-    assert_eq!(rt; admit(X0, 100, b"ann")?, Some(want));
-    assert_eq!(rt; admit(X0, 200, b"ann")?, None);
-    assert_eq!(rt; admit(X0, 100, b"bob")?, None);
+    same(&rt, &admit(X0, 100, b"ann")?, &Some(want));
+    same(&rt, &admit(X0, 200, b"ann")?, &None);
+    same(&rt, &admit(X0, 100, b"bob")?, &None);
     Ok(())
 }
 
@@ -264,7 +266,7 @@ fn finds_principals(rt: HostRuntime) -> Result<(), Fail> {
         (b"*", false),
     ];
     for (name, want) in rows {
-        assert_eq!(rt; view.has_principal(name), want);
+        same(&rt, &view.has_principal(name), &want);
     }
     Ok(())
 }
@@ -314,7 +316,7 @@ fn reads_what_was_never_read(rt: HostRuntime) -> Result<(), Fail> {
     assert!(rt; view.critical().eq(parts.critical.iter().copied()));
     assert!(rt; view.extensions().eq(parts.extensions.iter().copied()));
     let back = parts_of(&view, parts.principals, parts.critical, parts.extensions);
-    assert_eq!(rt; back, parts);
+    same(&rt, &back, &parts);
     let (same, other) = (read_cert(&out)?, read_cert(X0)?);
     assert!(rt; view == same && view != other);
     assert!(rt; view.principals() == same.principals());
@@ -328,24 +330,26 @@ fn reads_what_was_never_read(rt: HostRuntime) -> Result<(), Fail> {
 #[test]
 fn keeps_the_limit(rt: HostRuntime) -> Result<(), Fail> {
     let long = vec![in rt.alloc(); 255; 262_145]?;
-    assert_eq!(rt; read_cert(&long).map(|_| ()), Err(CertError::TooLong));
-    assert_eq!(rt;
-        read_cert(&long[1..]).map(|_| ()),
-        Err(CertError::Wire(short(0)))
+    same(&rt, &read_cert(&long).map(|_| ()), &Err(CertError::TooLong));
+    same(
+        &rt,
+        &read_cert(&long[1..]).map(|_| ()),
+        &Err(CertError::Wire(short(0))),
     );
     let signature = SignatureView::from_fields(b"ssh-ed25519", b"\xaa", None)?;
     let mut out = Vec::new(rt.alloc());
     write_cert(&unread_parts(b"", signature)?, &mut out)?;
     let room = 262_144 - out.len();
     out.clear();
-    assert_eq!(rt;
-        write_cert(&unread_parts(&long[..room + 1], signature)?, &mut out),
-        Err(WriteError::TooLong)
+    same(
+        &rt,
+        &write_cert(&unread_parts(&long[..room + 1], signature)?, &mut out),
+        &Err(WriteError::TooLong),
     );
     write_cert(&unread_parts(&long[..room], signature)?, &mut out)?;
-    assert_eq!(rt; out.len(), 262_144);
-    assert_eq!(rt; read_cert(&out)?.nonce().len(), room);
+    same(&rt, &out.len(), &262_144);
+    same(&rt, &read_cert(&out)?.nonce().len(), &room);
     out.push(0)?;
-    assert_eq!(rt; read_cert(&out).map(|_| ()), Err(CertError::TooLong));
+    same(&rt, &read_cert(&out).map(|_| ()), &Err(CertError::TooLong));
     Ok(())
 }

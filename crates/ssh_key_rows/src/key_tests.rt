@@ -1,5 +1,6 @@
 //! What no clause says: values from outside, and that calls that take memory can succeed.
 
+use crate::compare::same;
 use ssh_keys::{
     Fit, Key, KeyError, KeyFields, KeyKind, KeyView, SignatureView, digest_text, fingerprint, fits,
     read_key, read_signature, rsa_bits, same_key, write_key, write_signature,
@@ -53,7 +54,7 @@ fn refuses_keys(rt: HostRuntime) {
         (b"\0\0\0\x05ssh-x", KeyError::UnknownType),
     ];
     for (blob, want) in rows {
-        assert_eq!(rt; read_key(blob).map(|_| ()), Err(want));
+        same(&rt, &read_key(blob).map(|_| ()), &Err(want));
     }
 }
 
@@ -68,7 +69,7 @@ fn cuts_a_key(rt: HostRuntime) -> Result<(), Fail> {
     let mut longer = Vec::from_slice(rt.alloc(), K0)?;
     longer.push(0)?;
     let want = KeyError::Wire(fault(51, WireCause::Trailing));
-    assert_eq!(rt; read_key(&longer).map(|_| ()), Err(want));
+    same(&rt, &read_key(&longer).map(|_| ()), &Err(want));
     Ok(())
 }
 
@@ -84,7 +85,7 @@ fn cuts_signatures(rt: HostRuntime) -> Result<(), Fail> {
         (&SK_SIGNATURE[..39], fault(36, WireCause::Short)),
     ];
     for (blob, want) in rows {
-        assert_eq!(rt; read_signature(blob).map(|_| ()), Err(want));
+        same(&rt, &read_signature(blob).map(|_| ()), &Err(want));
     }
     Ok(())
 }
@@ -96,17 +97,17 @@ fn writes_what_was_read(rt: HostRuntime) -> Result<(), Fail> {
         let view = read_key(blob)?;
         let mut out = Vec::new(rt.alloc());
         write_key(&view, &mut out)?;
-        assert_eq!(rt; out.as_slice(), blob);
+        same(&rt, &out.as_slice(), &blob);
         assert!(rt; same_key(&view, &KeyView::from_fields(view.fields())?));
         let key = Key::read(out)?;
-        assert_eq!(rt; key.blob(), blob);
+        same(&rt, &key.blob(), &blob);
         assert!(rt; key.view() == view);
         assert!(rt; key == Key::read(Vec::from_slice(rt.alloc(), blob)?)?);
     }
     for blob in [S0, SK_SIGNATURE] {
         let mut out = Vec::new(rt.alloc());
         write_signature(&read_signature(blob)?, &mut out)?;
-        assert_eq!(rt; out.as_slice(), blob);
+        same(&rt, &out.as_slice(), &blob);
     }
     Ok(())
 }
@@ -132,13 +133,14 @@ fn look_at(
 fn runs_the_example(rt: HostRuntime) -> Result<(), Fail> {
     let mut out = Vec::new(rt.alloc());
     let print = look_at(rt.alloc(), K0, S0, &mut out)?;
-    assert_eq!(rt;
-        print,
-        Some(*b"kmYcvdi2GkPeWxB6XLjrZB8JHsy2Hm8luHMFp9GMvqk")
+    same(
+        &rt,
+        &print,
+        &Some(*b"kmYcvdi2GkPeWxB6XLjrZB8JHsy2Hm8luHMFp9GMvqk"),
     );
-    assert_eq!(rt; out.as_slice(), S0);
+    same(&rt, &out.as_slice(), &S0);
     let print = look_at(rt.alloc(), K0, SK_SIGNATURE, &mut out)?;
-    assert_eq!(rt; print, None);
+    same(&rt, &print, &None);
     Ok(())
 }
 
@@ -154,10 +156,10 @@ fn refuses_signatures(rt: HostRuntime) -> Result<(), Fail> {
     ];
     for (algorithm, bytes, flags) in rows {
         let view = SignatureView::from_fields(algorithm, bytes, flags);
-        assert_eq!(rt; view, Err(fault(0, WireCause::Value)));
+        same(&rt, &view, &Err(fault(0, WireCause::Value)));
     }
     let longest = SignatureView::from_fields(b"ssh-ed25519", &long[1..], None)?;
-    assert_eq!(rt; longest.bytes.len(), 262_125);
+    same(&rt, &longest.bytes.len(), &262_125);
     Ok(())
 }
 
@@ -170,17 +172,18 @@ fn tells_of_keys(rt: HostRuntime) -> Result<(), Fail> {
         0x15, 0xad,
     ];
     let text = digest_text(rt.alloc(), &digest)?;
-    assert_eq!(rt; &text, b"ungWv48Bz+pBQUDeXa4iI7ADYaOWF3qctBD/YfIAFa0");
+    same(&rt, &&text, &b"ungWv48Bz+pBQUDeXa4iI7ADYaOWF3qctBD/YfIAFa0");
     let text = fingerprint(rt.alloc(), &read_key(K0)?)?;
-    assert_eq!(rt; &text, b"kmYcvdi2GkPeWxB6XLjrZB8JHsy2Hm8luHMFp9GMvqk");
-    assert_eq!(rt; rsa_bits(&read_key(RSA)?), Some(8));
-    assert_eq!(rt; rsa_bits(&read_key(K0)?), None);
+    same(&rt, &&text, &b"kmYcvdi2GkPeWxB6XLjrZB8JHsy2Hm8luHMFp9GMvqk");
+    same(&rt, &rsa_bits(&read_key(RSA)?), &Some(8));
+    same(&rt, &rsa_bits(&read_key(K0)?), &None);
     let short = KeyFields::Ed25519 { public: b"abc" };
-    assert_eq!(rt;
-        KeyView::from_fields(short).map(|_| ()),
-        Err(KeyError::Length)
+    same(
+        &rt,
+        &KeyView::from_fields(short).map(|_| ()),
+        &Err(KeyError::Length),
     );
-    assert_eq!(rt; fits(KeyKind::Rsa, b"ssh-rsa"), Fit::Weak);
+    same(&rt, &fits(KeyKind::Rsa, b"ssh-rsa"), &Fit::Weak);
     Ok(())
 }
 
@@ -188,15 +191,20 @@ fn tells_of_keys(rt: HostRuntime) -> Result<(), Fail> {
 #[test]
 fn keeps_the_limit(rt: HostRuntime) -> Result<(), Fail> {
     let long = vec![in rt.alloc(); 255; 262_145]?;
-    assert_eq!(rt; read_key(&long).map(|_| ()), Err(KeyError::TooLong));
-    assert_eq!(rt;
-        read_signature(&long).map(|_| ()),
-        Err(fault(0, WireCause::Value))
+    same(&rt, &read_key(&long).map(|_| ()), &Err(KeyError::TooLong));
+    same(
+        &rt,
+        &read_signature(&long).map(|_| ()),
+        &Err(fault(0, WireCause::Value)),
     );
     let longest = &long[1..];
     let short = fault(0, WireCause::Short);
-    assert_eq!(rt; read_key(longest).map(|_| ()), Err(KeyError::Wire(short)));
-    assert_eq!(rt; read_signature(longest).map(|_| ()), Err(short));
+    same(
+        &rt,
+        &read_key(longest).map(|_| ()),
+        &Err(KeyError::Wire(short)),
+    );
+    same(&rt, &read_signature(longest).map(|_| ()), &Err(short));
     Ok(())
 }
 
@@ -213,13 +221,13 @@ fn sk_key<'a>(public: &'a [u8], application: &'a [u8]) -> Result<KeyView<'a>, Ke
 fn reads_the_longest_key(rt: HostRuntime) -> Result<(), Fail> {
     let public = b"abcdefghijklmnopqrstuvwxyz012345";
     let long = vec![in rt.alloc(); 255; 262_075]?;
-    assert_eq!(rt; sk_key(public, &long), Err(KeyError::TooLong));
+    same(&rt, &sk_key(public, &long), &Err(KeyError::TooLong));
     let longest = sk_key(public, &long[1..])?;
     let mut out = Vec::new(rt.alloc());
     write_key(&longest, &mut out)?;
-    assert_eq!(rt; out.len(), 262_144);
+    same(&rt, &out.len(), &262_144);
     assert!(rt; read_key(&out)? == longest);
     out.push(0)?;
-    assert_eq!(rt; read_key(&out), Err(KeyError::TooLong));
+    same(&rt, &read_key(&out), &Err(KeyError::TooLong));
     Ok(())
 }

@@ -9,6 +9,8 @@ mod body_tests;
 #[cfg(test)]
 mod certificate_tests;
 #[cfg(test)]
+mod compare;
+#[cfg(test)]
 mod key_tests;
 #[cfg(test)]
 mod made_certificate_tests;

@@ -2,6 +2,7 @@
 //! signed by RSA and ECDSA keys: whole, cut and with faults.
 
 use crate::certificate_tests::parts_of;
+use crate::compare::same;
 use ssh_certs::{CertError, read_cert, write_cert};
 use ssh_keys::{KeyError, KeyKind};
 use ssh_wire::{WireCause, WireError};
@@ -142,7 +143,7 @@ fn wrong_cut(made: &Made) -> Option<usize> {
 #[test]
 fn cuts_each_certificate(rt: HostRuntime) {
     for made in MADE {
-        assert_eq!(rt; wrong_cut(&made), None);
+        same(&rt, &wrong_cut(&made), &None);
     }
 }
 
@@ -174,12 +175,16 @@ fn reads_each_certificate(rt: HostRuntime) -> Result<(), Fail> {
     ];
     for (blob, kinds, key_id, principals, extensions) in rows {
         let view = read_cert(blob)?;
-        assert_eq!(rt; [view.key().kind(), view.signer().kind()], kinds);
-        assert_eq!(rt; view.key_id(), key_id);
-        assert_eq!(rt; (view.serial(), view.after(), view.before()), (7, 100, 200));
+        same(&rt, &[view.key().kind(), view.signer().kind()], &kinds);
+        same(&rt, &view.key_id(), &key_id);
+        same(
+            &rt,
+            &(view.serial(), view.after(), view.before()),
+            &(7, 100, 200),
+        );
         let mut out = Vec::new(rt.alloc());
         write_cert(&parts_of(&view, principals, &[], extensions), &mut out)?;
-        assert_eq!(rt; out.as_slice(), blob);
+        same(&rt, &out.as_slice(), &blob);
     }
     Ok(())
 }
@@ -208,7 +213,11 @@ fn refuses_public_fields(rt: HostRuntime) -> Result<(), Fail> {
         for part in parts {
             blob.extend_from_slice(part)?;
         }
-        assert_eq!(rt; read_cert(&blob).map(|_| ()), Err(CertError::Key(want)));
+        same(
+            &rt,
+            &read_cert(&blob).map(|_| ()),
+            &Err(CertError::Key(want)),
+        );
     }
     Ok(())
 }

@@ -1,5 +1,6 @@
 //! A key of each kind from outside, whole, cut and with faults.
 
+use crate::compare::same;
 use ssh_keys::{KeyError, KeyKind, KeyView, fingerprint, read_key, write_key};
 use ssh_wire::{WireCause, WireError};
 use std::test::Fail;
@@ -117,11 +118,11 @@ fn reads_each_kind(rt: HostRuntime) -> Result<(), Fail> {
     ];
     for (blob, kind, print) in rows {
         let view = read_key(blob)?;
-        assert_eq!(rt; view.kind(), kind);
+        same(&rt, &view.kind(), &kind);
         let mut out = Vec::new(rt.alloc());
         write_key(&KeyView::from_fields(view.fields())?, &mut out)?;
-        assert_eq!(rt; out.as_slice(), blob);
-        assert_eq!(rt; &fingerprint(rt.alloc(), &view)?, print);
+        same(&rt, &out.as_slice(), &blob);
+        same(&rt, &&fingerprint(rt.alloc(), &view)?, &print);
     }
     Ok(())
 }
@@ -139,7 +140,7 @@ fn cuts_each_kind(rt: HostRuntime) {
         (SK_ED25519, &[0, 30, 66]),
     ];
     for (blob, starts) in rows {
-        assert_eq!(rt; wrong_cut(blob, starts), None);
+        same(&rt, &wrong_cut(blob, starts), &None);
     }
 }
 
@@ -198,7 +199,7 @@ fn refuses_each_cause(rt: HostRuntime) -> Result<(), Fail> {
         for part in parts {
             blob.extend_from_slice(part)?;
         }
-        assert_eq!(rt; read_key(&blob).map(|_| ()), Err(want));
+        same(&rt, &read_key(&blob).map(|_| ()), &Err(want));
     }
     Ok(())
 }

@@ -3,6 +3,7 @@
 
 ghost use Rattle.std.specs.Prelude.{◌<◌, ◌^◌, length};
 
+use crate::compare::same;
 use ssh_wire::{Cursor, Mpint, Wire, WireCause, WireError};
 use std::test::Fail;
 
@@ -30,7 +31,7 @@ fn reads_mpints(rt: HostRuntime) {
     for (bytes, want) in rows {
         let read = Cursor::new(bytes).take_mpint();
         let want = want.map_err(|cause| WireError { place: 0, cause });
-        assert_eq!(rt; read.map(|number| number.bytes), want);
+        same(&rt, &read.map(|number| number.bytes), &want);
     }
 }
 
@@ -42,10 +43,14 @@ fn refuses_the_longest(rt: HostRuntime) {
         cause: WireCause::Short,
     };
     let mut cursor = Cursor::new(b"\xff\xff\xff\xff");
-    assert_eq!(rt; cursor.take_string(), Err(short));
-    assert_eq!(rt; cursor.place(), 0);
-    assert_eq!(rt; cursor.take_mpint().map(|number| number.bytes), Err(short));
-    assert_eq!(rt; cursor.place(), 0);
+    same(&rt, &cursor.take_string(), &Err(short));
+    same(&rt, &cursor.place(), &0);
+    same(
+        &rt,
+        &cursor.take_mpint().map(|number| number.bytes),
+        &Err(short),
+    );
+    same(&rt, &cursor.place(), &0);
 }
 
 /// Each kind of value, written and read back through the trait.
@@ -56,13 +61,13 @@ fn writes_each_value(rt: HostRuntime) -> Result<(), Fail> {
     let row = ((7u32, 8u64), (b"ab".as_slice(), number));
     row.encode(&mut out)?;
     let wanted = b"\0\0\0\x07\0\0\0\0\0\0\0\x08\0\0\0\x02ab\0\0\0\x02\0\x80";
-    assert_eq!(rt; out.as_slice(), wanted.as_slice());
+    same(&rt, &out.as_slice(), &wanted.as_slice());
     let ((small, large), (text, back)) = <((u32, u64), (&[u8], Mpint)) as Wire>::decode(
         &mut Cursor::new(&out),
     )?;
-    assert_eq!(rt; (small, large), (7, 8));
-    assert_eq!(rt; text, b"ab".as_slice());
-    assert_eq!(rt; back.bytes, b"\x00\x80".as_slice());
+    same(&rt, &(small, large), &(7, 8));
+    same(&rt, &text, &b"ab".as_slice());
+    same(&rt, &back.bytes, &b"\x00\x80".as_slice());
     Ok(())
 }
 
@@ -81,7 +86,7 @@ fn there_and_back<'a>(text: &[u8], out: &'a mut Vec<u8>) -> Result<(u32, &'a [u8
 fn runs_the_example(rt: HostRuntime) -> Result<(), Fail> {
     let mut out = Vec::new(rt.alloc());
     let (number, back) = there_and_back(b"ab", &mut out)?;
-    assert_eq!(rt; number, 7);
-    assert_eq!(rt; back, b"ab".as_slice());
+    same(&rt, &number, &7);
+    same(&rt, &back, &b"ab".as_slice());
     Ok(())
 }

@@ -1,5 +1,6 @@
 //! Worked lines, by both ways to write them.
 
+use crate::compare::same;
 use ssh_canonical::{canonical_auth_line, canonical_known_line, write_auth_line, write_known_line};
 use ssh_lines::{
     AuthLine, AuthLineView, KeyBuffer, KnownLine, KnownLineView, read_auth_line, read_auth_view,
@@ -52,16 +53,17 @@ fn writes_auth_lines(rt: HostRuntime) -> Result<(), Fail> {
         let AuthLine::Entry(entry) = read_auth_line(alloc, &line)? else {
             return Err(Fail::new("an entry"));
         };
-        assert_eq!(rt;
-            canonical_auth_line(alloc, &entry)?.as_slice(),
-            want.as_slice()
+        same(
+            &rt,
+            &canonical_auth_line(alloc, &entry)?.as_slice(),
+            &want.as_slice(),
         );
         let AuthLineView::Entry(entry) = read_auth_view(&line, &mut buffer) else {
             return Err(Fail::new("an entry in its line"));
         };
         let mut out = Vec::new(alloc);
         write_auth_line(&entry, &mut out)?;
-        assert_eq!(rt; out.as_slice(), want.as_slice());
+        same(&rt, &out.as_slice(), &want.as_slice());
     }
     Ok(())
 }
@@ -93,16 +95,17 @@ fn writes_known_lines(rt: HostRuntime) -> Result<(), Fail> {
         let KnownLine::Entry(entry) = read_known_line(alloc, &line)? else {
             return Err(Fail::new("an entry"));
         };
-        assert_eq!(rt;
-            canonical_known_line(alloc, &entry)?.as_slice(),
-            want.as_slice()
+        same(
+            &rt,
+            &canonical_known_line(alloc, &entry)?.as_slice(),
+            &want.as_slice(),
         );
         let KnownLineView::Entry(entry) = read_known_view(&line, &mut buffer) else {
             return Err(Fail::new("an entry in its line"));
         };
         let mut out = Vec::new(alloc);
         write_known_line(&entry, &mut out)?;
-        assert_eq!(rt; out.as_slice(), want.as_slice());
+        same(&rt, &out.as_slice(), &want.as_slice());
     }
     Ok(())
 }

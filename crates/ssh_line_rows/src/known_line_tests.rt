@@ -1,6 +1,7 @@
 //! What no clause says of known_hosts lines: worked lines, and that calls that take memory can
 //! succeed.
 
+use crate::compare::same;
 use ssh_keys::KeyError;
 use ssh_lines::{
     KeyBuffer, KnownEntry, KnownLine, KnownLineView, LINE_LIMIT, LineCause, Marker, lookup_name,
@@ -61,7 +62,7 @@ fn refuses_known_lines(rt: HostRuntime) -> Result<(), Fail> {
         let KnownLine::Unreadable(cause) = read_known_line(rt.alloc(), &line)? else {
             return Err(Fail::new("readable"));
         };
-        assert_eq!(rt; cause, want);
+        same(&rt, &cause, &want);
     }
     Ok(())
 }
@@ -84,7 +85,7 @@ fn names_hosts(rt: HostRuntime) -> Result<(), Fail> {
             return Err(Fail::new("no entry"));
         };
         let name = lookup_name(rt.alloc(), host, port)?;
-        assert_eq!(rt; names_host(&entry.names.view(), &name), want);
+        same(&rt, &names_host(&entry.names.view(), &name), &want);
     }
     Ok(())
 }
@@ -96,10 +97,10 @@ fn reads_a_known_entry(rt: HostRuntime) -> Result<(), Fail> {
     let KnownLine::Entry(entry) = read_known_line(rt.alloc(), &line)? else {
         return Err(Fail::new("no entry"));
     };
-    assert_eq!(rt; entry.marker, Marker::CertAuthority);
-    assert_eq!(rt; entry.names.view().text(), b"*.a,b".as_slice());
-    assert_eq!(rt; entry.key.blob().len(), 51);
-    assert_eq!(rt; entry.comment.as_slice(), b"x y".as_slice());
+    same(&rt, &entry.marker, &Marker::CertAuthority);
+    same(&rt, &entry.names.view().text(), &b"*.a,b".as_slice());
+    same(&rt, &entry.key.blob().len(), &51);
+    same(&rt, &entry.comment.as_slice(), &b"x y".as_slice());
     Ok(())
 }
 
@@ -112,15 +113,16 @@ fn reads_a_known_entry_in_its_line(rt: HostRuntime) -> Result<(), Fail> {
     let KnownLineView::Entry(entry) = read_known_view(&line, &mut buffer) else {
         return Err(Fail::new("no entry"));
     };
-    assert_eq!(rt; entry.marker(), Marker::Unmarked);
+    same(&rt, &entry.marker(), &Marker::Unmarked);
     assert!(rt; names_host(&entry.names(), b"example.org"));
     assert!(rt; !names_host(&entry.names(), b"example.com"));
-    assert_eq!(rt; entry.comment(), b"note".as_slice());
-    assert_eq!(rt; entry.blob().len(), 51);
+    same(&rt, &entry.comment(), &b"note".as_slice());
+    same(&rt, &entry.blob().len(), &51);
     assert!(rt; entry.has_blob(entry.blob()) && !entry.has_blob(b"x"));
-    assert_eq!(rt;
-        entry.to_entry(rt.alloc())?.comment.as_slice(),
-        b"note".as_slice()
+    same(
+        &rt,
+        &entry.to_entry(rt.alloc())?.comment.as_slice(),
+        &b"note".as_slice(),
     );
     Ok(())
 }
@@ -143,13 +145,13 @@ fn tells_revocations(rt: HostRuntime) -> Result<(), Fail> {
             KnownLineView::RevokedUnreadable => None,
             _ => return Err(Fail::new("no revocation")),
         };
-        assert_eq!(rt; len, want);
+        same(&rt, &len, &want);
         let len = match read_known_line(rt.alloc(), &line)? {
             KnownLine::Revoked(bytes) => Some(bytes.as_slice().len()),
             KnownLine::RevokedUnreadable => None,
             _ => return Err(Fail::new("no revocation")),
         };
-        assert_eq!(rt; len, want);
+        same(&rt, &len, &want);
     }
     Ok(())
 }
@@ -184,11 +186,15 @@ fn tells_entries_apart(rt: HostRuntime) -> Result<(), Fail> {
     ] {
         let other = joined(alloc, front, KEY)?;
         let kept = read_known_line(alloc, &line)?;
-        assert_eq!(rt; kept == read_known_line(alloc, &other)?, want);
+        same(&rt, &(kept == read_known_line(alloc, &other)?), &want);
         let mut buffer = KeyBuffer::new(alloc)?;
         let mut other_buffer = KeyBuffer::new(alloc)?;
         let view = read_known_view(&line, &mut buffer);
-        assert_eq!(rt; view == read_known_view(&other, &mut other_buffer), want);
+        same(
+            &rt,
+            &(view == read_known_view(&other, &mut other_buffer)),
+            &want,
+        );
     }
     Ok(())
 }

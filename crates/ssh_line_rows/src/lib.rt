@@ -7,6 +7,8 @@
 #[cfg(test)]
 mod canonical_tests;
 #[cfg(test)]
+mod compare;
+#[cfg(test)]
 mod expiry_tests;
 #[cfg(test)]
 mod known_line_tests;

@@ -1,5 +1,6 @@
 //! What no clause says: worked lines, and that calls that take memory can succeed.
 
+use crate::compare::same;
 use ssh_keys::KeyError;
 use ssh_lines::{
     AuthEntry, AuthLine, AuthLineView, AuthOption, Flag, KeyBuffer, LINE_LIMIT, LineCause, Lines,
@@ -66,7 +67,7 @@ fn refuses_lines(rt: HostRuntime) -> Result<(), Fail> {
     ];
     for (front, rest, want) in rows {
         let line = joined(rt.alloc(), front, rest)?;
-        assert_eq!(rt; cause(rt.alloc(), &line)?, Some(want));
+        same(&rt, &cause(rt.alloc(), &line)?, &Some(want));
     }
     Ok(())
 }
@@ -85,9 +86,9 @@ fn reads_an_entry(rt: HostRuntime) -> Result<(), Fail> {
     else {
         return Err(Fail::new("other options"));
     };
-    assert_eq!(rt; value.as_slice(), b"a \"b\" c".as_slice());
-    assert_eq!(rt; entry.comment.as_slice(), b"x y".as_slice());
-    assert_eq!(rt; entry.key.blob().len(), 51);
+    same(&rt, &value.as_slice(), &b"a \"b\" c".as_slice());
+    same(&rt, &entry.comment.as_slice(), &b"x y".as_slice());
+    same(&rt, &entry.key.blob().len(), &51);
     assert!(rt; entry.has_flag(Flag::Pty) && !entry.has_flag(Flag::Restrict));
     assert!(rt;
         entry.settings(ValueName::Command).count() == 1 && entry.expiry_texts().count() == 0
@@ -109,8 +110,8 @@ fn reads_an_entry_in_its_line(rt: HostRuntime) -> Result<(), Fail> {
         return Err(Fail::new("no entry"));
     };
     assert!(rt; entry.has_flag(Flag::Pty) && !entry.has_flag(Flag::Restrict));
-    assert_eq!(rt; entry.comment(), b"x y".as_slice());
-    assert_eq!(rt; entry.blob().len(), 51);
+    same(&rt, &entry.comment(), &b"x y".as_slice());
+    same(&rt, &entry.blob().len(), &51);
     assert!(rt; entry.has_blob(entry.blob()) && !entry.has_blob(b"x"));
     assert!(rt; entry.expiry_texts().next().is_none());
     assert!(rt; entry.settings(ValueName::Command).next().is_some());
@@ -120,7 +121,11 @@ fn reads_an_entry_in_its_line(rt: HostRuntime) -> Result<(), Fail> {
             Some(OptionView::Setting(ValueName::From, _))
         )
     );
-    assert_eq!(rt; entry.to_entry(rt.alloc())?.options.as_slice().len(), 3);
+    same(
+        &rt,
+        &entry.to_entry(rt.alloc())?.options.as_slice().len(),
+        &3,
+    );
     Ok(())
 }
 
@@ -128,9 +133,9 @@ fn reads_an_entry_in_its_line(rt: HostRuntime) -> Result<(), Fail> {
 fn reads_up_to_the_limit(rt: HostRuntime) -> Result<(), Fail> {
     let mut line = joined(rt.alloc(), ENTRY, b" me")?;
     line.resize(LINE_LIMIT, b'e')?;
-    assert_eq!(rt; cause(rt.alloc(), &line)?, None);
+    same(&rt, &cause(rt.alloc(), &line)?, &None);
     line.push(b'e')?;
-    assert_eq!(rt; cause(rt.alloc(), &line)?, Some(LineCause::TooLong));
+    same(&rt, &cause(rt.alloc(), &line)?, &Some(LineCause::TooLong));
     Ok(())
 }
 
@@ -192,14 +197,14 @@ fn reads_the_examples_of_sshd(rt: HostRuntime) -> Result<(), Fail> {
     ];
     let mut buffer = KeyBuffer::new(rt.alloc())?;
     for ((_number, line), want) in Lines::new(FILE).zip(rows) {
-        assert_eq!(rt; shown(rt.alloc(), line)?.as_slice(), want);
+        same(&rt, &shown(rt.alloc(), line)?.as_slice(), &want);
         if let AuthLineView::Entry(entry) = read_auth_view(line, &mut buffer) {
             let mut out = Vec::new(rt.alloc());
             shown_entry(&entry.to_entry(rt.alloc())?, &mut out)?;
-            assert_eq!(rt; out.as_slice(), want);
+            same(&rt, &out.as_slice(), &want);
         }
     }
-    assert_eq!(rt; Lines::new(FILE).count(), rows.len());
+    same(&rt, &Lines::new(FILE).count(), &rows.len());
     Ok(())
 }
 
@@ -242,11 +247,15 @@ fn tells_entries_apart(rt: HostRuntime) -> Result<(), Fail> {
         let line = joined(alloc, b"pty ", joined(alloc, ENTRY, b" me")?.as_slice())?;
         let other = joined(alloc, front, joined(alloc, ENTRY, rest)?.as_slice())?;
         let kept = read_auth_line(alloc, &line)?;
-        assert_eq!(rt; kept == read_auth_line(alloc, &other)?, want);
+        same(&rt, &(kept == read_auth_line(alloc, &other)?), &want);
         let mut buffer = KeyBuffer::new(alloc)?;
         let mut other_buffer = KeyBuffer::new(alloc)?;
         let view = read_auth_view(&line, &mut buffer);
-        assert_eq!(rt; view == read_auth_view(&other, &mut other_buffer), want);
+        same(
+            &rt,
+            &(view == read_auth_view(&other, &mut other_buffer)),
+            &want,
+        );
     }
     Ok(())
 }

@@ -1,5 +1,6 @@
 //! What no clause says: worked options, and that calls that take memory can succeed.
 
+use crate::compare::same;
 use ssh_options::{AuthOption, Flag, OptionView, OptionsView, ValueName, split_option_text};
 use ssh_text::Bytes;
 use std::alloc::Global;
@@ -8,29 +9,30 @@ use std::test::Fail;
 #[test]
 fn reads_options_in_their_line(rt: HostRuntime) -> Result<(), Fail> {
     let (text, rest) = split_option_text(b"from=\"*.a\",PTY,command=\"a \\\"b\\\"\" ssh-rsa");
-    assert_eq!(rt; rest, b" ssh-rsa".as_slice());
+    same(&rt, &rest, &b" ssh-rsa".as_slice());
     let Ok(mut options) = OptionsView::read(text) else {
         return Err(Fail::new("no options"));
     };
     assert!(rt; options.has_flag(Flag::Pty) && !options.has_flag(Flag::Restrict));
     assert!(rt; options.settings(ValueName::ExpiryTime).next().is_none());
     let kept = options.to_options(rt.alloc())?;
-    assert_eq!(rt; kept.as_slice().len(), 3);
+    same(&rt, &kept.as_slice().len(), &3);
     assert!(rt; kept.has_flag(Flag::Pty) && kept.settings(ValueName::From).next().is_some());
     let Some(command) = options.settings(ValueName::Command).next() else {
         return Err(Fail::new("no command"));
     };
     assert!(rt; command.in_place().is_none() && command.is_text(b"a \"b\""));
     assert!(rt; !command.is_text(b"a \"b\" ") && !command.is_text(b"a"));
-    assert_eq!(rt; command.bytes().next(), Some(b'a'));
-    assert_eq!(rt;
-        command.to_bytes(rt.alloc())?.as_slice(),
-        b"a \"b\"".as_slice()
+    same(&rt, &command.bytes().next(), &Some(b'a'));
+    same(
+        &rt,
+        &command.to_bytes(rt.alloc())?.as_slice(),
+        &b"a \"b\"".as_slice(),
     );
     let Some(OptionView::Setting(ValueName::From, from)) = options.next() else {
         return Err(Fail::new("no from"));
     };
-    assert_eq!(rt; from.in_place(), Some(b"*.a".as_slice()));
+    same(&rt, &from.in_place(), &Some(b"*.a".as_slice()));
     Ok(())
 }
 
@@ -60,27 +62,27 @@ fn runs_the_example(rt: HostRuntime) -> Result<(), Fail> {
 fn reads_every_option(rt: HostRuntime) -> Result<(), Fail> {
     let mut text = Vec::new(rt.alloc());
     for flag in Flag::ALL {
-        assert_eq!(rt; Flag::named(flag.name()), Some(flag));
+        same(&rt, &Flag::named(flag.name()), &Some(flag));
         text.extend_from_slice(flag.name())?;
         text.push(b',')?;
     }
     for name in ValueName::ALL {
-        assert_eq!(rt; ValueName::named(name.name()), Some(name));
+        same(&rt, &ValueName::named(name.name()), &Some(name));
         text.extend_from_slice(name.name())?;
         text.extend_from_slice(b"=\"20240229Z\",")?;
     }
     text.pop();
     let kept = OptionsView::read(&text)?.to_options(rt.alloc())?;
-    assert_eq!(rt; kept.as_slice().len(), 22);
+    same(&rt, &kept.as_slice().len(), &22);
     for (i, option) in kept.as_slice().iter().enumerate() {
         let name = if i < 14 {
             Flag::ALL[i].name()
         } else {
             ValueName::ALL[i - 14].name()
         };
-        assert_eq!(rt; option.name(), name);
+        same(&rt, &option.name(), &name);
         if let AuthOption::Setting(_, value) = option {
-            assert_eq!(rt; value.as_slice(), b"20240229Z".as_slice());
+            same(&rt, &value.as_slice(), &b"20240229Z".as_slice());
         }
     }
     Ok(())
@@ -104,10 +106,11 @@ fn tells_options_apart(rt: HostRuntime) -> Result<(), Fail> {
     ] {
         let options = OptionsView::read(text)?;
         let others = OptionsView::read(other)?;
-        assert_eq!(rt; options == others, want);
-        assert_eq!(rt;
-            options.to_options(alloc)? == others.to_options(alloc)?,
-            want
+        same(&rt, &(options == others), &want);
+        same(
+            &rt,
+            &(options.to_options(alloc)? == others.to_options(alloc)?),
+            &want,
         );
     }
     Ok(())

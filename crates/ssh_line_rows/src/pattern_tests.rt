@@ -1,3 +1,4 @@
+use crate::compare::same;
 use ssh_patterns::{
     Address, PatternError, Permit, cidr_list, contains, host_list, host_list_counted, matches,
     matches_counted, parse_address, parse_net, source_list, source_list_counted,
@@ -38,8 +39,8 @@ fn patterns(rt: HostRuntime) {
         (b"**".as_slice(), b"".as_slice(), true),
         (b"*?".as_slice(), b"".as_slice(), false),
     ] {
-        assert_eq!(rt; matches(pattern, text), want);
-        assert_eq!(rt; matches_counted(pattern, text).0, want);
+        same(&rt, &matches(pattern, text), &want);
+        same(&rt, &matches_counted(pattern, text).0, &want);
     }
 }
 
@@ -87,7 +88,11 @@ fn second_opinion(rt: HostRuntime) {
             let pattern = word_of(number, *b"a*?b");
             let text = word_of(number / 256, *b"abba");
             let (pattern, text) = (&pattern[..p], &text[..t]);
-            assert_eq!(rt; matches(pattern, text), matches_plainly(pattern, text));
+            same(
+                &rt,
+                &matches(pattern, text),
+                &matches_plainly(pattern, text),
+            );
         }
     }
 }
@@ -96,17 +101,17 @@ fn second_opinion(rt: HostRuntime) {
 fn turns(rt: HostRuntime) {
     let text = [b'a'; 1_000];
     let (matched, turns) = matches_counted(b"*a*a*a*b", &text);
-    assert_eq!(rt; matched, false);
-    assert_eq!(rt; turns <= 9_009, true);
+    same(&rt, &matched, &false);
+    same(&rt, &(turns <= 9_009), &true);
     let (permitted, turns) = host_list_counted(b"*a*a*a*b,a", &text);
-    assert_eq!(rt; permitted, false);
-    assert_eq!(rt; turns <= 11_011, true);
+    same(&rt, &permitted, &false);
+    same(&rt, &(turns <= 11_011), &true);
     let (matched, turns) = matches_counted(b"abc", b"abc");
-    assert_eq!(rt; (matched, turns >= 3), (true, true));
+    same(&rt, &(matched, turns >= 3), &(true, true));
     let (permitted, turns) = host_list_counted(b"abc", b"abc");
-    assert_eq!(rt; (permitted, turns >= 3), (true, true));
+    same(&rt, &(permitted, turns >= 3), &(true, true));
     match from_list_counted(b"abc", Some(b"abc"), b"::1") {
-        Some((permit, turns)) => assert_eq!(rt; (permit, turns >= 3), (Permit::Yes, true)),
+        Some((permit, turns)) => same(&rt, &(permit, turns >= 3), &(Permit::Yes, true)),
         None => assert!(rt; false),
     }
 }
@@ -115,19 +120,19 @@ fn turns(rt: HostRuntime) {
 fn many_stars(rt: HostRuntime) {
     let stars = [b'*'; 65_000];
     let text = [b'a'; 65_000];
-    assert_eq!(rt; matches(&stars, &text), true);
-    assert_eq!(rt; host_list(&stars, &text), true);
+    same(&rt, &matches(&stars, &text), &true);
+    same(&rt, &host_list(&stars, &text), &true);
 }
 
 #[test]
 fn long_patterns(rt: HostRuntime) {
     let mut pattern = [b'a'; 262_144];
     let text = [b'a'; 262_144];
-    assert_eq!(rt; matches(&pattern, &text), true);
+    same(&rt, &matches(&pattern, &text), &true);
     pattern[0] = b'*';
-    assert_eq!(rt; matches(&pattern, &text), true);
+    same(&rt, &matches(&pattern, &text), &true);
     pattern[262_143] = b'b';
-    assert_eq!(rt; matches(&pattern, &text), false);
+    same(&rt, &matches(&pattern, &text), &false);
 }
 
 #[test]
@@ -150,7 +155,7 @@ fn addresses(rt: HostRuntime) {
             Ok(Address::V6(0xffff_c000_0201)),
         ),
     ] {
-        assert_eq!(rt; parse_address(text), want);
+        same(&rt, &parse_address(text), &want);
     }
 }
 
@@ -163,11 +168,12 @@ fn nets(rt: HostRuntime) {
         (b"10.0.0.0/08".as_slice(), PatternError::Length),
         (b"10.0.0.1/8".as_slice(), PatternError::HostBits),
     ] {
-        assert_eq!(rt; parse_net(text).err(), Some(want));
+        same(&rt, &parse_net(text).err(), &Some(want));
     }
-    assert_eq!(rt;
-        parse_net(b"10.0.0.0/8").map(|net| (net.base(), net.prefix())),
-        Ok((Address::V4(0x0a00_0000), 8))
+    same(
+        &rt,
+        &parse_net(b"10.0.0.0/8").map(|net| (net.base(), net.prefix())),
+        &Ok((Address::V4(0x0a00_0000), 8)),
     );
     for (text, address, want) in [
         (b"10.0.0.0/8".as_slice(), Address::V4(0x0aff_ffff), true),
@@ -181,9 +187,10 @@ fn nets(rt: HostRuntime) {
         ),
         (b"::1/128".as_slice(), Address::V6(1), true),
     ] {
-        assert_eq!(rt;
-            parse_net(text).map(|net| contains(&net, &address)),
-            Ok(want)
+        same(
+            &rt,
+            &parse_net(text).map(|net| contains(&net, &address)),
+            &Ok(want),
         );
     }
 }
@@ -195,7 +202,7 @@ fn lists(rt: HostRuntime) {
         (b"*,!A".as_slice(), b"a".as_slice(), false),
         (b"*,!A".as_slice(), b"b".as_slice(), true),
     ] {
-        assert_eq!(rt; host_list(list, name), want);
+        same(&rt, &host_list(list, name), &want);
     }
     for (list, want) in [
         (b"!10.0.0.1".as_slice(), Permit::Bad),
@@ -203,7 +210,7 @@ fn lists(rt: HostRuntime) {
         (b"192.0.2.1,10.0.0.0/8".as_slice(), Permit::Yes),
         (b"192.0.2.1".as_slice(), Permit::No),
     ] {
-        assert_eq!(rt; cidr_list(list, &Address::V4(0x0a00_0001)), want);
+        same(&rt, &cidr_list(list, &Address::V4(0x0a00_0001)), &want);
     }
 }
 
@@ -273,7 +280,7 @@ fn sources(rt: HostRuntime) {
             Permit::Yes,
         ),
     ] {
-        assert_eq!(rt; from_list(list, host, address), Some(want));
+        same(&rt, &from_list(list, host, address), &Some(want));
     }
 }
 
@@ -286,10 +293,14 @@ fn long_lists(rt: HostRuntime) {
         }
     }
     list[64_999] = b'z';
-    assert_eq!(rt; host_list(&list, b"az"), true);
-    assert_eq!(rt; host_list(&list, b"b"), false);
-    assert_eq!(rt; from_list(&list, Some(b"AZ"), b"::1"), Some(Permit::Yes));
-    assert_eq!(rt; cidr_list(&list, &Address::V4(1)), Permit::Bad);
+    same(&rt, &host_list(&list, b"az"), &true);
+    same(&rt, &host_list(&list, b"b"), &false);
+    same(
+        &rt,
+        &from_list(&list, Some(b"AZ"), b"::1"),
+        &Some(Permit::Yes),
+    );
+    same(&rt, &cidr_list(&list, &Address::V4(1)), &Permit::Bad);
 }
 
 /// What the example in the crate's root does.
@@ -301,11 +312,12 @@ fn lets_in(host: &[u8], address_text: &[u8]) -> Result<bool, PatternError> {
 
 #[test]
 fn runs_the_example(rt: HostRuntime) {
-    assert_eq!(rt; lets_in(b"good.example.org", b"192.0.2.7"), Ok(true));
-    assert_eq!(rt; lets_in(b"bad.example.org", b"192.0.2.7"), Ok(false));
-    assert_eq!(rt; lets_in(b"good.example.org", b"192.0.3.7"), Ok(false));
-    assert_eq!(rt;
-        lets_in(b"good.example.org", b"x"),
-        Err(PatternError::Address)
+    same(&rt, &lets_in(b"good.example.org", b"192.0.2.7"), &Ok(true));
+    same(&rt, &lets_in(b"bad.example.org", b"192.0.2.7"), &Ok(false));
+    same(&rt, &lets_in(b"good.example.org", b"192.0.3.7"), &Ok(false));
+    same(
+        &rt,
+        &lets_in(b"good.example.org", b"x"),
+        &Err(PatternError::Address),
     );
 }

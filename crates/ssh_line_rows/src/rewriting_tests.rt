@@ -1,5 +1,6 @@
 //! Worked files.
 
+use crate::compare::same;
 use ssh_rewriting::{FILE_LIMIT, RewriteError, rewrite_auth, rewrite_known};
 use std::alloc::{AllocError, Global};
 use std::test::Fail;
@@ -45,8 +46,8 @@ fn rewrites_auth_files(rt: HostRuntime) -> Result<(), Fail> {
     ];
     for (old, want) in rows {
         let new = rewrite_auth(alloc, &with_keys(alloc, old)?)?;
-        assert_eq!(rt; new.as_slice(), with_keys(alloc, want)?.as_slice());
-        assert_eq!(rt; rewrite_auth(alloc, &new)?.as_slice(), new.as_slice());
+        same(&rt, &new.as_slice(), &with_keys(alloc, want)?.as_slice());
+        same(&rt, &rewrite_auth(alloc, &new)?.as_slice(), &new.as_slice());
     }
     Ok(())
 }
@@ -68,8 +69,12 @@ fn rewrites_known_files(rt: HostRuntime) -> Result<(), Fail> {
     ];
     for (old, want) in rows {
         let new = rewrite_known(alloc, &with_keys(alloc, old)?)?;
-        assert_eq!(rt; new.as_slice(), with_keys(alloc, want)?.as_slice());
-        assert_eq!(rt; rewrite_known(alloc, &new)?.as_slice(), new.as_slice());
+        same(&rt, &new.as_slice(), &with_keys(alloc, want)?.as_slice());
+        same(
+            &rt,
+            &rewrite_known(alloc, &new)?.as_slice(),
+            &new.as_slice(),
+        );
     }
     Ok(())
 }

@@ -1,5 +1,6 @@
 //! What no clause says: that calls that take memory can succeed, with worked files in pieces.
 
+use crate::compare::same;
 use ssh_text::{LINE_LIMIT, Line, Lines, Scanner, skip_blanks, split_word};
 use std::alloc::{AllocError, Global};
 use std::process::Abort;
@@ -85,7 +86,11 @@ fn cuts_anywhere(rt: HostRuntime) -> Result<(), Fail> {
     ];
     for (file, want) in rows {
         for size in 1..10usize {
-            assert_eq!(rt; scanned(&rt, rt.alloc(), file, size)?.as_slice(), want);
+            same(
+                &rt,
+                &scanned(&rt, rt.alloc(), file, size)?.as_slice(),
+                &want,
+            );
         }
     }
     Ok(())
@@ -110,9 +115,10 @@ fn keeps_lines_up_to_the_limit(rt: HostRuntime) -> Result<(), Fail> {
         LINE_LIMIT + 2,
         LINE_LIMIT + 3,
     ] {
-        assert_eq!(rt;
-            scanned(&rt, rt.alloc(), &longer, size)?.as_slice(),
-            b"1!/2b/.".as_slice()
+        same(
+            &rt,
+            &scanned(&rt, rt.alloc(), &longer, size)?.as_slice(),
+            &b"1!/2b/.".as_slice(),
         );
     }
     Ok(())
@@ -158,6 +164,6 @@ fn line_of_word(file: &[u8], word: &[u8]) -> Option<u64> {
 #[test]
 fn runs_the_example(rt: HostRuntime) {
     let file = b"# b\n\n \tb c\nb\n";
-    assert_eq!(rt; line_of_word(file, b"b"), Some(3));
-    assert_eq!(rt; line_of_word(file, b"c"), None);
+    same(&rt, &line_of_word(file, b"b"), &Some(3));
+    same(&rt, &line_of_word(file, b"c"), &None);
 }
