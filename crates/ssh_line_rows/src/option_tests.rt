@@ -73,7 +73,7 @@ fn reads_every_option(rt: HostRuntime) -> Result<(), Fail> {
     }
     text.pop();
     let kept = OptionsView::read(&text)?.to_options(rt.alloc())?;
-    same(&rt, &kept.as_slice().len(), &22);
+    assert_eq!(rt; kept.as_slice().len(), 22);
     for (i, option) in kept.as_slice().iter().enumerate() {
         let name = if i < 14 {
             Flag::ALL[i].name()
