@@ -3,7 +3,6 @@
 
 ghost use Rattle.std.specs.Prelude.{◌<◌, ◌^◌, length};
 
-use crate::compare::same;
 use crate::tests::query;
 use jiff::tz::TimeZone;
 use ssh_lines::{AuthLineView, KeyBuffer, LineCause, read_auth_view};
@@ -59,10 +58,10 @@ fn tells_what_is_not_vouched_for(rt: HostRuntime) -> Result<(), Fail> {
     let zone = TimeZone::UTC;
     let query = query(&zone);
     let none: [Signed; 0] = [];
-    same(&rt, &unvouched(alloc, &query, none.as_slice())?, &Some(0));
+    assert_eq!(rt; unvouched(alloc, &query, none.as_slice())?, Some(0));
     let claim = LoginClaimView::read(&query)?;
     let evidence = login_evidence(alloc, &claim)?;
-    same(&rt, &unvouched(alloc, &query, evidence.as_slice())?, &None);
+    assert_eq!(rt; unvouched(alloc, &query, evidence.as_slice())?, None);
     Ok(())
 }
 

@@ -1,6 +1,5 @@
 //! Lines at the limit and past it, in pieces of any size.
 
-use crate::compare::same;
 use crate::tests::{host_query, query};
 use jiff::tz::TimeZone;
 use ssh_options::LineCause;
@@ -54,12 +53,11 @@ fn holds_the_limit_of_a_line_in_pieces(rt: HostRuntime) -> Result<(), Fail> {
             audit.feed(piece)?;
         }
         let decision = audit.finish(evidence.as_slice())?;
-        same(
-            &rt,
-            &matches!(decision, Decision::Granted { line: 1, .. }),
-            &admits,
+        assert_eq!(rt;
+            matches!(decision, Decision::Granted { line: 1, .. }),
+            admits
         );
-        same(&rt, &is_too_long(&decision), &!admits);
+        assert_eq!(rt; is_too_long(&decision), !admits);
     }
     Ok(())
 }
@@ -75,13 +73,9 @@ fn holds_the_limit_of_a_known_line_in_pieces(rt: HostRuntime) -> Result<(), Fail
             audit.feed(piece)?;
         }
         match audit.finish(evidence.as_slice())? {
-            Decision::Granted { line, .. } => same(&rt, &(line, admits), &(1, true)),
+            Decision::Granted { line, .. } => assert_eq!(rt; (line, admits), (1, true)),
             Decision::Denied { why, .. } => {
-                same(
-                    &rt,
-                    &(why, admits),
-                    &(Cause::RevocationUnreadable(1), false),
-                );
+                assert_eq!(rt; (why, admits), (Cause::RevocationUnreadable(1), false));
             }
         }
     }
@@ -102,7 +96,7 @@ fn takes_a_long_line_byte_by_byte(rt: HostRuntime) -> Result<(), Fail> {
     }
     assert!(rt; is_too_long(&login.finish(NO_SIGNATURE.as_slice())?));
     match host.finish(NO_SIGNATURE.as_slice())? {
-        Decision::Denied { why, .. } => same(&rt, &why, &Cause::RevocationUnreadable(1)),
+        Decision::Denied { why, .. } => assert_eq!(rt; why, Cause::RevocationUnreadable(1)),
         Decision::Granted { .. } => return Err(Fail::new("denied")),
     }
     Ok(())

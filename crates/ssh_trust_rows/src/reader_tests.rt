@@ -1,6 +1,5 @@
 //! Decisions over readers that give a byte at a time, that fail, and that never end.
 
-use crate::compare::same;
 use crate::tests::{KNOWN, LINE, host_query, query};
 use jiff::tz::TimeZone;
 use ssh_trust::{
@@ -58,10 +57,10 @@ impl Read for Endless {
 fn counts_failed_reads(rt: HostRuntime) -> Result<(), Fail> {
     let mut buf = [0u8; 4];
     let mut reader = Counted::new(OneByOne::failing_at(b"ab", 2));
-    same(&rt, &reader.failures(), &0);
+    assert_eq!(rt; reader.failures(), 0);
     for (read, failures) in [(Some(1), 0), (None, 1), (Some(1), 1), (Some(0), 1)] {
-        same(&rt, &reader.read(&mut buf).ok(), &read);
-        same(&rt, &reader.failures(), &failures);
+        assert_eq!(rt; reader.read(&mut buf).ok(), read);
+        assert_eq!(rt; reader.failures(), failures);
     }
     Ok(())
 }
@@ -75,15 +74,15 @@ fn answers_a_login_over_a_reader(rt: HostRuntime) -> Result<(), Fail> {
     let vouched = evidence.as_slice();
     let mut reader = Counted::new(OneByOne::failing_at(LINE, 0));
     match login_from(alloc, &mut reader, &query, vouched)? {
-        Decision::Granted { line, .. } => same(&rt, &line, &1),
+        Decision::Granted { line, .. } => assert_eq!(rt; line, 1),
         Decision::Denied { .. } => return Err(Fail::new("granted")),
     }
     // The last read is the one that finds the end, after the line that admits.
     for failing in 1..LINE.len().saturating_add(2) {
         let mut reader = Counted::new(OneByOne::failing_at(LINE, failing));
         let answer = login_from(alloc, &mut reader, &query, vouched);
-        same(&rt, &answer.err(), &Some(AuditError::Read));
-        same(&rt, &reader.failures(), &1);
+        assert_eq!(rt; answer.err(), Some(AuditError::Read));
+        assert_eq!(rt; reader.failures(), 1);
     }
     Ok(())
 }
@@ -96,14 +95,14 @@ fn answers_a_host_over_a_reader(rt: HostRuntime) -> Result<(), Fail> {
     let vouched = evidence.as_slice();
     let mut reader = Counted::new(OneByOne::failing_at(KNOWN, 0));
     match host_from(alloc, &mut reader, &query, vouched)? {
-        Decision::Granted { line, .. } => same(&rt, &line, &1),
+        Decision::Granted { line, .. } => assert_eq!(rt; line, 1),
         Decision::Denied { .. } => return Err(Fail::new("granted")),
     }
     for failing in 1..KNOWN.len().saturating_add(2) {
         let mut reader = Counted::new(OneByOne::failing_at(KNOWN, failing));
         let answer = host_from(alloc, &mut reader, &query, vouched);
-        same(&rt, &answer.err(), &Some(AuditError::Read));
-        same(&rt, &reader.failures(), &1);
+        assert_eq!(rt; answer.err(), Some(AuditError::Read));
+        assert_eq!(rt; reader.failures(), 1);
     }
     Ok(())
 }
@@ -115,7 +114,7 @@ fn leaves_a_reader_that_never_ends(rt: HostRuntime) -> Result<(), Fail> {
     let none: [Signed; 0] = [];
     let mut reader = Counted::new(Endless);
     let answer = login_from(rt.alloc(), &mut reader, &query, none.as_slice());
-    same(&rt, &answer.err(), &Some(AuditError::FileTooLong));
-    same(&rt, &reader.failures(), &0);
+    assert_eq!(rt; answer.err(), Some(AuditError::FileTooLong));
+    assert_eq!(rt; reader.failures(), 0);
     Ok(())
 }

@@ -1,6 +1,5 @@
 //! What is answered to a file signature: the call where memory is there, and its three answers.
 
-use crate::compare::same;
 use ssh_bodies::BodyError;
 use ssh_trust::{AuditError, SigAnswer, Signed, sshsig};
 use std::test::Fail;
@@ -22,7 +21,7 @@ fn vouches_for_a_file_signature(rt: HostRuntime) -> Result<(), Fail> {
         _ => return Err(Fail::new("not vouched for")),
     };
     match evidence.as_slice() {
-        [signed] => same(&rt, &signed.message.as_slice(), &SIGNED),
+        [signed] => assert_eq!(rt; signed.message.as_slice(), SIGNED),
         _ => return Err(Fail::new("one piece of evidence")),
     }
     match sshsig(alloc, SSHSIG, b"abc", b"file", evidence.as_slice())? {
@@ -40,7 +39,7 @@ fn refuses_a_file_signature(rt: HostRuntime) -> Result<(), Fail> {
         _ => return Err(Fail::new("another namespace")),
     }
     match sshsig(alloc, b"SSH", b"abc", b"file", none.as_slice()) {
-        Err(error) => same(&rt, &error, &AuditError::Body(BodyError::Magic)),
+        Err(error) => assert_eq!(rt; error, AuditError::Body(BodyError::Magic)),
         Ok(_) => return Err(Fail::new("no body")),
     }
     Ok(())

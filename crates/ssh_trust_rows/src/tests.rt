@@ -3,7 +3,6 @@
 
 ghost use Rattle.std.specs.Prelude.{◌<◌, ◌^◌, length};
 
-use crate::compare::same;
 use jiff::tz::TimeZone;
 use ssh_trust::{
     Cause, Decision, HostAudit, HostQuery, LoginAudit, LoginQuery, Signed, evidence_of_host,
@@ -52,16 +51,16 @@ fn grants_what_is_vouched_for(rt: HostRuntime) -> Result<(), Fail> {
     let [signed] = evidence.as_slice() else {
         return Err(Fail::new("one piece of evidence"));
     };
-    same(&rt, &signed.key.as_slice(), &K0.as_slice());
-    same(&rt, &signed.message.as_slice(), &M0.as_slice());
-    same(&rt, &signed.signature.as_slice(), &S0.as_slice());
+    assert_eq!(rt; signed.key.as_slice(), K0.as_slice());
+    assert_eq!(rt; signed.message.as_slice(), M0.as_slice());
+    assert_eq!(rt; signed.signature.as_slice(), S0.as_slice());
     match login(alloc, LINE, &query, evidence.as_slice())? {
-        Decision::Granted { line, .. } => same(&rt, &line, &1),
+        Decision::Granted { line, .. } => assert_eq!(rt; line, 1),
         Decision::Denied { .. } => return Err(Fail::new("granted")),
     }
     let none: [Signed; 0] = [];
     match login(alloc, LINE, &query, none.as_slice())? {
-        Decision::Denied { why, .. } => same(&rt, &why, &Cause::NotVouched(0)),
+        Decision::Denied { why, .. } => assert_eq!(rt; why, Cause::NotVouched(0)),
         Decision::Granted { .. } => return Err(Fail::new("denied")),
     }
     Ok(())
@@ -83,7 +82,7 @@ fn answers_a_login_in_pieces(rt: HostRuntime) -> Result<(), Fail> {
             audit.feed(b"")?;
         }
         match audit.finish(evidence.as_slice())? {
-            Decision::Granted { line, .. } => same(&rt, &line, &3),
+            Decision::Granted { line, .. } => assert_eq!(rt; line, 3),
             Decision::Denied { .. } => return Err(Fail::new("granted")),
         }
     }
@@ -119,15 +118,11 @@ fn trusts_a_host_that_is_not_revoked(rt: HostRuntime) -> Result<(), Fail> {
     let [signed] = evidence.as_slice() else {
         return Err(Fail::new("one piece of evidence"));
     };
-    same(&rt, &signed.key.as_slice(), &K0.as_slice());
-    same(
-        &rt,
-        &signed.message.as_slice(),
-        &b"\x01\x02\x03\x04".as_slice(),
-    );
-    same(&rt, &signed.signature.as_slice(), &S0.as_slice());
+    assert_eq!(rt; signed.key.as_slice(), K0.as_slice());
+    assert_eq!(rt; signed.message.as_slice(), b"\x01\x02\x03\x04".as_slice());
+    assert_eq!(rt; signed.signature.as_slice(), S0.as_slice());
     match host(alloc, KNOWN, &query, evidence.as_slice())? {
-        Decision::Granted { line, .. } => same(&rt, &line, &1),
+        Decision::Granted { line, .. } => assert_eq!(rt; line, 1),
         Decision::Denied { .. } => return Err(Fail::new("granted")),
     }
     for (file, cause) in [
@@ -135,7 +130,7 @@ fn trusts_a_host_that_is_not_revoked(rt: HostRuntime) -> Result<(), Fail> {
         (BLIND, Cause::RevocationUnreadable(2)),
     ] {
         match host(alloc, file, &query, evidence.as_slice())? {
-            Decision::Denied { why, .. } => same(&rt, &why, &cause),
+            Decision::Denied { why, .. } => assert_eq!(rt; why, cause),
             Decision::Granted { .. } => return Err(Fail::new("denied")),
         }
     }
@@ -164,7 +159,7 @@ fn answers_a_host_in_pieces(rt: HostRuntime) -> Result<(), Fail> {
                 audit.feed(b"")?;
             }
             let decision = audit.finish(evidence.as_slice())?;
-            same(&rt, &told(&decision), &told(&whole));
+            assert_eq!(rt; told(&decision), told(&whole));
         }
     }
     Ok(())
@@ -195,8 +190,8 @@ fn runs_the_example(rt: HostRuntime) -> Result<(), Fail> {
     let alloc = rt.alloc();
     let zone = TimeZone::UTC;
     let query = query(&zone);
-    same(&rt, &admits(alloc, LINE, &query, true)?, &Some(1));
-    same(&rt, &admits(alloc, LINE, &query, false)?, &None);
-    same(&rt, &admits(alloc, b"# none\n", &query, true)?, &None);
+    assert_eq!(rt; admits(alloc, LINE, &query, true)?, Some(1));
+    assert_eq!(rt; admits(alloc, LINE, &query, false)?, None);
+    assert_eq!(rt; admits(alloc, b"# none\n", &query, true)?, None);
     Ok(())
 }
