@@ -1,16 +1,15 @@
 -- Fields that both bodies have: what is read is spelled so, what is spelled is read, and the faults.
-use Rattle.std.proofs.Common.{◌≡◌, ◌≢◌, ℕ, zero, suc, ◌+◌, ◌^◌, ◌<◌, ◌≤◌, Bool, true, false, cond, ltb, eqb, List, [], ◌∷◌, ◌++◌, length, take, drop, Result, Ok, Err, refl, sym, ap, subst, ◌∙◌, zero-add, arith}
+use Rattle.std.proofs.Common.{◌≡◌, ◌≢◌, ℕ, ◌+◌, ◌^◌, ◌<◌, ◌≤◌, Bool, true, false, cond, ltb, List, [], ◌∷◌, ◌++◌, length, take, drop, Ok, Err, refl, sym, ap, subst, ◌∙◌, zero-add, arith}
 use Rattle.std.specs.Int.{w32, byte_len, from_be_bytes}
 use Rattle.std.specs.List.{concat}
 use Rattle.std.specs.Str.{bytes_eq}
-use Rattle.std.proofs.lemmas.Bool.{ltb-true, ltb-false, lt-ltb, eqb-true, eqb-false, ne_eqb}
-use Rattle.std.proofs.lemmas.List.{append-nil, length-append, length-drop, drop-drop, take-append-drop, take_at, drop_at}
+use Rattle.std.proofs.lemmas.List.{length-drop, drop-drop, take-append-drop, take_at, drop_at}
 use Rattle.std.proofs.lemmas.Slice.Eq.{bytes_eq-Decides}
-use Rattle.ssh_wire.specs.declared.error.WireCause.TheVariants.{Short, Value}
+use Rattle.ssh_wire.specs.declared.error.WireCause.TheVariants.{Short}
 use Rattle.ssh_wire.specs.declared.error.WireError.{WireError}
 use Rattle.ssh_wire.specs.Spelling.{string, uint32}
 use Rattle.ssh_wire.specs.Position.{Position, start, advance}
-use Rattle.ssh_wire.specs.Reading.{◌>>=◌, Read, byte_at, number_at, string_at}
+use Rattle.ssh_wire.specs.Reading.{Read, byte_at, number_at, string_at}
 use Rattle.ssh_wire.specs.Laws.{IsBytes, IsBytes-drop, Took, Took-then, wide32, number_takes, number_again, string_takes, string_again, string_fits, refused_none, ok_is, fine}
 use Rattle.ssh_wire.proofs.RowLemmas.{test_err, string_is_short}
 use Rattle.ssh_keys.specs.FirstFault.{IsFirstFault}
@@ -20,9 +19,9 @@ use Rattle.ssh_keys.specs.PublicKey.{PublicKey, key_blob, IsKey}
 use Rattle.ssh_keys.proofs.KeyFaults.{key_fault}
 use Rattle.ssh_bodies.specs.declared.error.BodyError.{BodyError}
 use Rattle.ssh_bodies.specs.declared.error.BodyError.TheVariants as errors
-use Rattle.ssh_bodies.specs.BodyReading.{ReadBody, of_wire, of_key, wants, magic_at, key_at, last_at}
-use Rattle.ssh_bodies.specs.Stands.{Stands, NoNumber, NoString}
-use Rattle.ssh_bodies.proofs.Steps.{after_step, step_err, then_step, err_is, of_wire_ok, of_key_ok, of_wire_err, of_key_err, wants_ok, wants_err}
+use Rattle.ssh_bodies.specs.BodyReading.{of_wire, of_key, magic_at, key_at}
+use Rattle.ssh_wire.specs.Stands.{Stands, NoNumber, NoString}
+use Rattle.ssh_bodies.proofs.Steps.{after_step, step_err, err_is, of_wire_ok, of_key_ok, of_wire_err, of_key_err}
 
 -- ---- fields one after the other
 

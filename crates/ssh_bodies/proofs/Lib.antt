@@ -3,8 +3,10 @@ pub mod Fields
 pub mod SshsigLaws
 pub mod SshsigFaults
 pub mod Written
+pub mod Making
 pub mod Rows
 pub mod Paddings
 pub mod PrivateKeyLaws
 pub mod PrivateLaws
+pub mod SectionFaults
 pub mod PrivateFaults

@@ -1,16 +1,15 @@
 -- The fields of a private key: what is read is spelled so, and what is spelled so is read.
-use Rattle.std.proofs.Common.{◌≡◌, ℕ, ◌+◌, ◌^◌, ◌<◌, ◌≤◌, Bool, true, false, cond, ltb, eqb, List, [], ◌∷◌, ◌++◌, length, drop, Result, Ok, Err, refl, sym, ap, subst, ◌∙◌, arith}
+use Rattle.std.proofs.Common.{◌≡◌, ℕ, ◌+◌, ◌^◌, ◌<◌, Bool, true, false, ltb, eqb, List, [], ◌∷◌, ◌++◌, length, drop, Ok, refl, sym, ap, subst, ◌∙◌, arith}
 use Rattle.std.specs.Prelude.{codes, ◌&&◌}
 use Rattle.std.specs.List.{concat}
 use Rattle.std.specs.Str.{bytes_eq}
 use Rattle.std.proofs.lemmas.Bool.{ltb-true, lt-ltb, eqb-true, eqb-false, ne_eqb}
 use Rattle.std.proofs.lemmas.Slice.Eq.{bytes_eq-Decides}
 use Rattle.ssh_wire.specs.declared.error.WireCause.TheVariants.{Value}
-use Rattle.ssh_wire.specs.declared.error.WireError.{WireError}
 use Rattle.ssh_wire.specs.Spelling.{string, mpint, mpint_bytes}
 use Rattle.ssh_wire.specs.Position.{Position}
-use Rattle.ssh_wire.specs.Reading.{◌>>=◌, Read, byte_at, string_at, mpint_at}
-use Rattle.ssh_wire.specs.Laws.{IsBytes, Took, guard_ok, ok_is, fine}
+use Rattle.ssh_wire.specs.Reading.{byte_at, string_at, mpint_at}
+use Rattle.ssh_wire.specs.Laws.{IsBytes, Took, guard_ok, ok_is}
 use Rattle.ssh_wire.specs.MpintLaws.{mpint_takes, mpint_again}
 use Rattle.ssh_keys.proofs.KeyLaws.{and_ok}
 use Rattle.ssh_keys.specs.PublicKey.{PublicKey, rsa, p256, p384, p521, ed25519, sk_p256, sk_ed25519, is_in_range}

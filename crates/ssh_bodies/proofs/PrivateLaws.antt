@@ -1,29 +1,29 @@
 -- What is read as a private body is spelled so, and what is spelled so is read.
-use Rattle.std.proofs.Common.{◌≡◌, ◌≢◌, ℕ, ◌+◌, ◌-◌, ◌%◌, ◌^◌, ◌<◌, ◌≤◌, Bool, true, false, cond, ltb, eqb, List, [], ◌∷◌, ◌++◌, length, take, Result, Ok, Err, refl, sym, ap, subst, ◌∙◌, append_assoc, arith}
-use Rattle.std.specs.Prelude.{codes, not, ◌&&◌, nat_le}
+use Rattle.std.proofs.Common.{◌≡◌, ℕ, ◌+◌, ◌%◌, ◌^◌, ◌<◌, ◌≤◌, Bool, true, false, cond, ltb, eqb, List, [], ◌∷◌, ◌++◌, length, take, Result, Ok, Err, refl, sym, ap, subst, ◌∙◌, append_assoc, arith}
+use Rattle.std.specs.Prelude.{codes, ◌&&◌, nat_le, OnOk}
 use Rattle.std.specs.Int.{w32}
 use Rattle.std.specs.List.{concat}
 use Rattle.std.specs.Str.{bytes_eq}
-use Rattle.std.proofs.lemmas.Bool.{ltb-true, ltb-false, lt-ltb, le-ltb, eqb-true, eqb-false, leb-true, le-leb}
-use Rattle.std.proofs.lemmas.List.{append-nil, length-append, take_at}
+use Rattle.std.proofs.lemmas.Bool.{ltb-false, le-ltb, eqb-true, eqb-false, leb-true, le-leb}
+use Rattle.std.proofs.lemmas.List.{append-nil, length-append}
 use Rattle.std.proofs.lemmas.Slice.Eq.{bytes_eq-Decides}
 use Rattle.ssh_wire.specs.Spelling.{string, uint32}
 use Rattle.ssh_wire.specs.Position.{Position, start}
 use Rattle.ssh_wire.specs.Reading.{◌>>=◌, Read, number_at, string_at}
-use Rattle.ssh_wire.specs.Laws.{IsBytes, Took, Took-then, ok_is, fine, string_fits}
+use Rattle.ssh_wire.specs.Laws.{IsBytes, Took, ok_is, fine, string_fits}
 use Rattle.ssh_keys.proofs.KeyLaws.{and_ok, name_short}
 use Rattle.ssh_keys.specs.Names.{name_of}
 use Rattle.ssh_keys.specs.PublicKey.{PublicKey, kind_of, key_blob, longest, IsKey}
 use Rattle.ssh_bodies.specs.declared.error.BodyError.{BodyError}
 use Rattle.ssh_bodies.specs.declared.error.BodyError.TheVariants as errors
 use Rattle.ssh_bodies.specs.BodyReading.{of_wire, wants, magic_at, key_at, last_at}
-use Rattle.ssh_bodies.specs.PrivateKey.{PrivateKey, PrivateBody, public_of, private_fields, is_private_in_range, padding, section_front, section, private_magic, private_row, body_padded, least_padding, private_blob, IsPrivateBody, IsPadded, IsPrivateBlob}
+use Rattle.ssh_bodies.specs.PrivateKey.{PrivateBody, public_of, private_fields, is_private_in_range, padding, section_front, section, private_magic, private_row, body_padded, least_padding, private_blob, IsPrivateBody, IsPadded, IsPrivateBlob}
 use Rattle.ssh_bodies.specs.PrivateReading.{private_at, is_padding, section_at, not_encrypted_at, section_start, body_at, private_in}
 use Rattle.ssh_bodies.proofs.Steps.{after_step, then_step, stop_step, wants_ok, joins}
-use Rattle.ssh_bodies.proofs.Fields.{Run, run_took, number_took, text_took, number_back, text_back, magic_took, magic_back, key_took, key_back}
+use Rattle.ssh_bodies.proofs.Fields.{Run, run_took, number_took, text_took, number_back, text_back, magic_took, key_took, key_back}
 use Rattle.ssh_bodies.proofs.Paddings.{padding-length, padding-seven, least, least_whole, least_few, least_least}
 use Rattle.ssh_bodies.proofs.PrivateKeyLaws.{private_took, private_back}
-use Rattle.ssh_bodies.proofs.Rows.{onto, onto-is, place_after, at_row, are_short}
+use Rattle.ssh_bodies.proofs.Rows.{onto, onto-is, place_after, are_short}
 use Rattle.ssh_bodies.proofs.SshsigLaws.{no_rest}
 
 -- ---- the private section
@@ -79,43 +79,14 @@ section_took public at v fits h =
       in_range = t_key.in_range;
     }))))))))))
 
--- the section of what was read, in the bytes before the padding
-pub record TookFront (whole rest : List ℕ) (v : PrivateBody) : Type 0 where
-  pub fewer : length rest ≤ length whole
-  pub front : take (length whole - length rest) whole ≡ section_front v
-
-pub named_by : (b : Bool) → false ≡ not b → b ≡ true
-named_by true e = refl
-named_by false e = absurd cc
-
-pub front_took : (public : PublicKey) (c0 c1 c2 c3 : Position) (check again : ℕ) (name : List ℕ) (key : (PrivateKey × Bool) × Position) (comment : List ℕ) (c5 : Position)
-    → Took c0 (uint32 check) c1 → Took c1 (uint32 again) c2 → again ≡ check → Took c2 (string name) c3 → bytes_eq name (name_of (kind_of public)) ≡ true
-    → private_at public c3 ≡ Ok key → key.0.1 ≡ true → Took key.1 (string comment) c5 → TookFront c0.rest c5.rest (record { check = check; key = key.0.0; comment = comment })
-unfolding section_front
-front_took public c0 c1 c2 c3 check again name key comment c5 t1 t2 same t3 named read_key half t5 =
-    let t4 = private_took public c3 key t3.rest_fits read_key half in
-    let is_name : name ≡ name_of (kind_of (public_of key.0.0)) = (bytes_eq-Decides name (name_of (kind_of public))).0 named ∙ ap (λ (k : PublicKey). name_of (kind_of k)) (sym t4.half) in
-    let type_name = string (name_of (kind_of (public_of key.0.0))) in
-    let fields = concat (private_fields key.0.0) in
-    let parts : c0.rest ≡ uint32 check ++ (uint32 check ++ (type_name ++ (fields ++ (string comment ++ c5.rest)))) =
-    joins (uint32 check) t1.parts (subst (λ (n : ℕ). c1.rest ≡ uint32 n ++ c2.rest) same t2.parts ∙ ap (λ (t : List ℕ). uint32 check ++ t)
-    (subst (λ (n : List ℕ). c2.rest ≡ string n ++ c3.rest) is_name t3.parts ∙ ap (λ (t : List ℕ). type_name ++ t) (joins fields t4.took.parts t5.parts))) in
-    let front = uint32 check ++ (uint32 check ++ (type_name ++ (fields ++ string comment))) in
-    let whole : c0.rest ≡ front ++ c5.rest = parts ∙ reassociate (uint32 check) (uint32 check) type_name fields (string comment) c5.rest in
-    let long : length c0.rest ≡ length front + length c5.rest = ap length whole ∙ length-append front c5.rest in
-    record {
-      fewer = omega (arith, long);
-      front = ap (λ (t : List ℕ). take (length c0.rest - length c5.rest) t) whole ∙ take_at front c5.rest (length c0.rest - length c5.rest) (omega (arith, long));
-    }
-
-front_length : (v : PrivateBody) → length (section_front v) ≡ 8 + (length (string (name_of (kind_of (public_of v.key)))) + (length (concat (private_fields v.key)) + length (string v.comment)))
+pub front_length : (v : PrivateBody) → length (section_front v) ≡ 8 + (length (string (name_of (kind_of (public_of v.key)))) + (length (concat (private_fields v.key)) + length (string v.comment)))
 unfolding section_front
 front_length v =
     let name = string (name_of (kind_of (public_of v.key))) in
     let fields = concat (private_fields v.key) in
     omega (arith, length-append (uint32 v.check) (uint32 v.check ++ (name ++ (fields ++ string v.comment))), length-append (uint32 v.check) (name ++ (fields ++ string v.comment)), length-append name (fields ++ string v.comment), length-append fields (string v.comment))
 
-is_padding-padding : (count : ℕ) → count ≤ 254 → is_padding (padding count) ≡ true
+pub is_padding-padding : (count : ℕ) → count ≤ 254 → is_padding (padding count) ≡ true
 is_padding-padding count few =
     let len = padding-length 0 count in
     let is_few : nat_le (length (padding count)) 254 ≡ true = le-leb (length (padding count)) 254 (omega (arith, len, few)) in
@@ -196,6 +167,7 @@ pub record TookSection (at : Position) (inside : Position) : Type 0 where
   pub nothing : after.rest ≡ []
   pub whole : length inside.rest % 8 ≡ 0
   pub fits : IsBytes inside.rest
+  pub at_text : inside.place ≡ at.place + 4
 
 pub section_start_took : (at : Position) (k : Unit {0} × Position) → IsBytes at.rest → section_start at ≡ Ok k → TookSection at k.1
 unfolding section_start
@@ -210,6 +182,7 @@ section_start_took at k fits h =
       nothing = no_rest (text.1).rest (wants_ok (eqb (length (text.1).rest) 0) errors.Trailing u1 is_last);
       whole = eqb-true (length text.0 % 8) 0 (wants_ok (eqb (length text.0 % 8) 0) errors.NotMultipleOfEight u2 is_whole);
       fits = string_fits at text.0 text.1 fits t.0;
+      at_text = refl;
     }))))
 
 section_start_back : (text : List ℕ) (place : ℕ) → length text < 2 ^ 32 → length text % 8 ≡ 0 → section_start (record { place = place; rest = string text ++ [] }) ≡ Ok (tt, record { place = place + 4; rest = text })
@@ -267,7 +240,7 @@ row_length key text = omega (arith, length-append (string (key_blob key)) (strin
 section_length : (v : PrivateBody) (count : ℕ) → length (section v count) ≡ length (section_front v) + count
 section_length v count = omega (arith, length-append (section_front v) (padding count), padding-length 0 count)
 
-body_length : (v : PrivateBody) (count : ℕ) → length (body_padded v count) ≡ 39 + (length (string (key_blob (public_of v.key))) + (4 + (length (section_front v) + count)))
+pub body_length : (v : PrivateBody) (count : ℕ) → length (body_padded v count) ≡ 39 + (length (string (key_blob (public_of v.key))) + (4 + (length (section_front v) + count)))
 unfolding body_padded
 body_length v count = omega (arith, row_length (public_of v.key) (section v count), section_length v count)
 
@@ -400,3 +373,37 @@ wrote_private v old o1 o2 o3 new blob text e1 e2 is_key is_front e3 e4 =
     let len : n ≡ length (section v (least_padding v)) = ap (λ (t : List ℕ). length t + least (length t)) is_front ∙ sym (section_length v (least_padding v)) in
     parts ∙ ap (λ (b : List ℕ). tail b n (text ++ pad)) is_key ∙ ap (λ (k : ℕ). tail (key_blob (public_of v.key)) k (text ++ pad)) len
     ∙ ap (λ (s : List ℕ). tail (key_blob (public_of v.key)) (length (section v (least_padding v))) s) whole
+
+-- the same, where the blob of the key is written after its length
+pub wrote_in_turn : (v : PrivateBody) (old o1 o2 o3 o4 o5 new blob : List ℕ) (k n : ℕ) → o1 ≡ old ++ private_magic
+    → o2 ≡ o1 ++ ((string (codes "none") ++ (string (codes "none") ++ (string [] ++ uint32 1))) ++ uint32 k) → k ≡ length blob → o3 ≡ o2 ++ blob
+    → o4 ≡ o3 ++ uint32 n → n ≡ length (section_front v) + least_padding v → blob ≡ key_blob (public_of v.key)
+    → o5 ≡ o4 ++ section_front v → new ≡ o5 ++ take (least_padding v) (1 ∷ 2 ∷ 3 ∷ 4 ∷ 5 ∷ 6 ∷ 7 ∷ []) → new ≡ old ++ private_blob v
+wrote_in_turn v old o1 o2 o3 o4 o5 new blob k n e1 e2 is_k e3 e4 is_n is_key e5 e6 =
+    let q = string (codes "none") ++ (string (codes "none") ++ (string [] ++ uint32 1)) in
+    let parts : o4 ≡ o1 ++ (q ++ ((uint32 k ++ blob) ++ uint32 n)) =
+    e4 ∙ ap (λ (t : List ℕ). t ++ uint32 n) (e3 ∙ ap (λ (t : List ℕ). t ++ blob) e2) ∙ regroup o1 q (uint32 k) blob (uint32 n) in
+    let whole : o4 ≡ o1 ++ (q ++ (string blob ++ uint32 (length (section_front v) + least (length (section_front v))))) =
+    parts ∙ ap (λ (i : ℕ). o1 ++ (q ++ ((uint32 i ++ blob) ++ uint32 n))) is_k ∙ ap (λ (i : ℕ). o1 ++ (q ++ (string blob ++ uint32 i))) is_n in
+    wrote_private v old o1 o4 o5 new blob (section_front v) e1 whole is_key refl e5 e6
+  where
+    regroup : (a q x b n : List ℕ) → ((a ++ (q ++ x)) ++ b) ++ n ≡ a ++ (q ++ ((x ++ b) ++ n))
+    regroup a q x b n =
+        append_assoc (a ++ (q ++ x)) b n ∙ append_assoc a (q ++ x) (b ++ n) ∙ ap (λ (t : List ℕ). a ++ t) (append_assoc q x (b ++ n) ∙ ap (λ (t : List ℕ). q ++ t) (sym (append_assoc x b n)))
+
+-- the front of the section, as it is written
+pub wrote_front : {E : Type 0} (r : Result (Unit {0}) E) (v : PrivateBody) (old o1 o2 new name : List ℕ) → o1 ≡ old ++ (uint32 v.check ++ (uint32 v.check ++ string name)) → name ≡ name_of (kind_of (public_of v.key))
+    → o2 ≡ o1 ++ concat (private_fields v.key) → OnOk r (new ≡ o2 ++ string v.comment) → OnOk r (new ≡ old ++ section_front v)
+unfolding section_front
+wrote_front r v old o1 o2 new name e1 named e2 h =
+    let number = uint32 v.check in
+    let fields = concat (private_fields v.key) in
+    let comment = string v.comment in
+    let whole : o2 ++ comment ≡ old ++ (number ++ (number ++ (string (name_of (kind_of (public_of v.key))) ++ (fields ++ comment)))) =
+    ap (λ (t : List ℕ). t ++ comment) (e2 ∙ ap (λ (t : List ℕ). t ++ fields) (e1 ∙ ap (λ (n : List ℕ). old ++ (number ++ (number ++ string n))) named))
+    ∙ regroup old number (string (name_of (kind_of (public_of v.key)))) fields comment in
+    subst (λ (t : List ℕ). OnOk r (new ≡ t)) whole h
+  where
+    regroup : (o a n f c : List ℕ) → ((o ++ (a ++ (a ++ n))) ++ f) ++ c ≡ o ++ (a ++ (a ++ (n ++ (f ++ c))))
+    regroup o a n f c =
+        append_assoc (o ++ (a ++ (a ++ n))) f c ∙ append_assoc o (a ++ (a ++ n)) (f ++ c) ∙ ap (λ (t : List ℕ). o ++ t) (append_assoc a (a ++ n) (f ++ c) ∙ ap (λ (t : List ℕ). a ++ t) (append_assoc a n (f ++ c)))

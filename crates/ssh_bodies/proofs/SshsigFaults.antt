@@ -1,20 +1,17 @@
 -- What is refused as a file signature has its first fault where it is told.
-use Rattle.std.proofs.Common.{◌≡◌, ◌≢◌, ℕ, ◌+◌, ◌^◌, ◌<◌, ◌≤◌, Bool, true, false, cond, ltb, eqb, List, [], ◌∷◌, ◌++◌, length, replicate, None, Result, Ok, Err, refl, sym, ap, subst, ◌∙◌, arith, inl, inr, ◌⊎◌}
+use Rattle.std.proofs.Common.{◌≡◌, ◌≢◌, ℕ, ◌+◌, ◌≤◌, Bool, true, false, cond, ltb, eqb, List, [], ◌∷◌, ◌++◌, length, replicate, None, Result, Ok, Err, refl, sym, ap, subst, ◌∙◌, arith, inl, inr}
 use Rattle.std.specs.Prelude.{codes}
 use Rattle.std.specs.Int.{w32}
-use Rattle.std.specs.List.{concat}
 use Rattle.std.specs.Str.{bytes_eq}
 use Rattle.std.proofs.lemmas.Bool.{ltb-true, ltb-false, eqb-true, eqb-false}
 use Rattle.std.proofs.lemmas.Slice.Eq.{bytes_eq-Decides}
-use Rattle.ssh_wire.specs.declared.error.WireCause.TheVariants.{Short}
 use Rattle.ssh_wire.specs.declared.error.WireError.{WireError}
 use Rattle.ssh_wire.specs.Spelling.{string, uint32}
 use Rattle.ssh_wire.specs.Position.{Position, start}
-use Rattle.ssh_wire.specs.Reading.{◌>>=◌, number_at, string_at}
+use Rattle.ssh_wire.specs.Reading.{number_at, string_at}
 use Rattle.ssh_wire.specs.Laws.{IsBytes, Took, fine, string_fits}
 use Rattle.ssh_keys.specs.PublicKey.{PublicKey, ed25519, key_blob, longest, IsKey}
-use Rattle.ssh_keys.specs.Signature.{Signature, signature_blob, IsSignature, signature_in}
-use Rattle.ssh_keys.specs.SignatureFault.{IsSignatureFault}
+use Rattle.ssh_keys.specs.Signature.{signature_blob, IsSignature, signature_in}
 use Rattle.ssh_keys.proofs.SignatureFaults.{signature_fault}
 use Rattle.ssh_bodies.specs.declared.error.BodyError.{BodyError}
 use Rattle.ssh_bodies.specs.declared.error.BodyError.TheVariants as errors
@@ -22,11 +19,10 @@ use Rattle.ssh_bodies.specs.declared.hash.HashName.{HashName}
 use Rattle.ssh_bodies.specs.declared.hash.HashName.TheVariants.{Sha256, Sha512}
 use Rattle.ssh_bodies.specs.BodyReading.{of_wire, of_inner, wants, magic_at, key_at, last_at}
 use Rattle.ssh_bodies.specs.Sshsig.{Sshsig, sshsig_magic, hash_name, sshsig_row, sshsig_blob}
-use Rattle.ssh_bodies.specs.SshsigFault.{IsSpelledSshsig, SshsigStands, NoVersion, NoText, InSignature, IsSshsigFault}
+use Rattle.ssh_bodies.specs.SshsigFault.{IsSpelledSshsig, SshsigStands, IsSshsigFault}
 use Rattle.ssh_bodies.specs.SshsigReading.{hash_from, signature_at, sshsig_at, sshsig_in}
-use Rattle.ssh_bodies.specs.Stands.{Stands, NoNumber, NoString}
-use Rattle.ssh_bodies.proofs.Steps.{step_err, err_is, of_wire_err, wants_ok, wants_err}
-use Rattle.ssh_bodies.proofs.Fields.{Run, run_took, stands, number_fault, text_fault, number_took, text_took, magic_took, magic_fault, key_took, BadKey, key_fails}
+use Rattle.ssh_bodies.proofs.Steps.{step_err, err_is, wants_ok, wants_err}
+use Rattle.ssh_bodies.proofs.Fields.{run_took, stands, number_fault, text_fault, number_took, text_took, magic_took, magic_fault, key_took, key_fails}
 use Rattle.ssh_bodies.proofs.SshsigLaws.{signature_took, hash_named, some_text}
 
 -- ---- a file signature in its ranges, for the fields that do not stand yet

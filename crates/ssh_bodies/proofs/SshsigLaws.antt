@@ -4,14 +4,14 @@ use Rattle.std.specs.Prelude.{codes}
 use Rattle.std.specs.Int.{w32}
 use Rattle.std.specs.List.{concat}
 use Rattle.std.specs.Str.{bytes_eq}
-use Rattle.std.proofs.lemmas.Bool.{ltb-true, ltb-false, lt-ltb, le-ltb, eqb-true, eqb-false}
+use Rattle.std.proofs.lemmas.Bool.{ltb-false, lt-ltb, le-ltb, eqb-true}
 use Rattle.std.proofs.lemmas.List.{append-nil, length-append}
 use Rattle.std.proofs.lemmas.Slice.Eq.{bytes_eq-Decides}
 use Rattle.ssh_wire.specs.declared.error.WireError.{WireError}
 use Rattle.ssh_wire.specs.Spelling.{string, uint32}
 use Rattle.ssh_wire.specs.Position.{Position, start}
 use Rattle.ssh_wire.specs.Reading.{◌>>=◌, Read, number_at, string_at}
-use Rattle.ssh_wire.specs.Laws.{IsBytes, Took, ok_is, fine, string_fits}
+use Rattle.ssh_wire.specs.Laws.{IsBytes, Took, ok_is, string_fits}
 use Rattle.ssh_keys.specs.PublicKey.{PublicKey, key_blob, longest, IsKey}
 use Rattle.ssh_keys.specs.Signature.{Signature, signature_blob, IsSignature, signature_in}
 use Rattle.ssh_keys.proofs.SignatureLaws.{signature_takes, signature_again}
@@ -23,7 +23,7 @@ use Rattle.ssh_bodies.specs.BodyReading.{of_wire, of_inner, wants, magic_at, key
 use Rattle.ssh_bodies.specs.Sshsig.{Sshsig, sshsig_magic, hash_name, sshsig_row, sshsig_blob, IsSshsig, IsSshsigBlob}
 use Rattle.ssh_bodies.specs.SshsigReading.{hash_from, signature_at, sshsig_at, sshsig_in}
 use Rattle.ssh_bodies.proofs.Steps.{after_step, then_step, stop_step, wants_ok}
-use Rattle.ssh_bodies.proofs.Fields.{Run, run_took, number_took, text_took, number_back, text_back, magic_took, magic_back, key_took, key_back}
+use Rattle.ssh_bodies.proofs.Fields.{run_took, number_took, text_took, number_back, text_back, magic_took, magic_back, key_took, key_back}
 
 -- ---- fields of a file signature
 
@@ -185,6 +185,11 @@ row_length v =
       length-append (string (hash_name v.hash)) r6,
       length-append (string (signature_blob v.signature)) [],
     )
+
+pub sshsig_length : (v : Sshsig) (key signature : List ℕ) → key ≡ key_blob v.key → signature ≡ signature_blob v.signature
+    → length (sshsig_blob v) ≡ 10 + (length (string key) + (length (string v.namespace) + (length (string v.reserved) + (length (string (hash_name v.hash)) + length (string signature)))))
+unfolding sshsig_blob
+sshsig_length v key signature is_key is_signature = omega (arith, row_length v, ap (λ (t : List ℕ). length t) is_key, ap (λ (t : List ℕ). length t) is_signature)
 
 pub are_short : (v : Sshsig) → length (concat (sshsig_row v)) ≤ longest → (length v.namespace < 2 ^ 32) × (length v.reserved < 2 ^ 32)
 are_short v short = (omega (arith, row_length v, short), omega (arith, row_length v, short))

@@ -1,10 +1,11 @@
 -- Texts that are written one after the other.
-use Rattle.std.proofs.Common.{◌≡◌, ℕ, List, [], ◌++◌, Result, sym, ap, subst, ◌∙◌, append_assoc}
-use Rattle.std.specs.Prelude.{OnOk}
-use Rattle.std.proofs.lemmas.List.{append-nil}
+use Rattle.std.proofs.Common.{◌≡◌, ℕ, List, [], ◌++◌, length, take, Result, Ok, Err, refl, sym, ap, subst, ◌∙◌, append_assoc, arith}
+use Rattle.std.specs.Prelude.{OnOk, OnErr}
+use Rattle.std.proofs.lemmas.List.{append-nil, length-append, take-take, take_at}
 use Rattle.ssh_wire.specs.Spelling.{string, uint32}
 use Rattle.ssh_keys.specs.PublicKey.{key_blob}
 use Rattle.ssh_keys.specs.Signature.{signature_blob}
+use Rattle.ssh_bodies.specs.Writing.{Keeps}
 use Rattle.ssh_bodies.specs.Sshsig.{Sshsig, sshsig_magic, hash_name, digest_of, sshsig_blob, signed_bytes}
 
 -- four texts after a first one
@@ -33,3 +34,14 @@ wrote_sshsig r new old middle v key name signature begun is_key named is_signatu
     ∙ ap (λ (s : List ℕ). row (key_blob v.key) (hash_name v.hash) (string s)) is_signature ∙ ap (λ (s : List ℕ). row (key_blob v.key) (hash_name v.hash) s) (sym (append-nil (string (signature_blob v.signature)))) in
     let whole = ap (λ (m : List ℕ). m ++ row key name (string signature)) begun ∙ append_assoc old sshsig_magic (row key name (string signature)) ∙ ap (λ (t : List ℕ). old ++ (sshsig_magic ++ t)) inner in
     subst (λ (t : List ℕ). OnOk r (new ≡ t)) whole h
+
+-- what a longer front keeps is kept of a shorter one
+pub kept_after : (old longer more new : List ℕ) → longer ≡ old ++ more → Keeps longer new → Keeps old new
+kept_after old longer more new e keeps =
+    let shorter : take (length old) (take (length longer) new) ≡ take (length old) new = take-take (length old) (length longer) new (omega (arith, ap length e, length-append old more)) in
+    sym shorter ∙ ap (λ (t : List ℕ). take (length old) t) (keeps ∙ e) ∙ take_at old more (length old) refl
+
+-- a fact beside a failure
+pub on_failure : {T E : Type 0} (r : Result T E) (P : Type 0) → P → OnErr r P
+on_failure (Ok x) P p = tt
+on_failure (Err e) P p = p

@@ -54,6 +54,10 @@ pub record PrivateBody : Type 0 where
   pub key : PrivateKey
   pub comment : List ℕ
 
+-- the body with these fields
+abbrev pub private_with : ℕ → PrivateKey → List ℕ → PrivateBody
+private_with check key comment = record { check = check; key = key; comment = comment }
+
 -- so many bytes 1, 2, 3 and so on, after the number
 abbrev pub padding_after : ℕ → ℕ → List ℕ
 padding_after n zero = []

@@ -10,7 +10,7 @@ use Rattle.ssh_keys.specs.SignatureFault.{IsSignatureFault}
 use Rattle.ssh_bodies.specs.declared.error.BodyError.{BodyError}
 use Rattle.ssh_bodies.specs.declared.error.BodyError.TheVariants.{Magic, Encrypted, KeyCount, CheckMismatch, Padding, NotMultipleOfEight, PublicMismatch, Version, EmptyNamespace, Hash, Key, Wire, Trailing, TooLong}
 use Rattle.ssh_bodies.specs.Sshsig.{Sshsig, sshsig_magic, sshsig_row, sshsig_blob}
-use Rattle.ssh_bodies.specs.Stands.{Stands, NoNumber, NoString}
+use Rattle.ssh_wire.specs.Stands.{Stands, NoNumber, NoString}
 
 -- a file signature whose fields are in their ranges, in a body of any length
 pub record IsSpelledSshsig (v : Sshsig) : Type 0 where

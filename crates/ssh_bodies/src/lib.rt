@@ -19,11 +19,16 @@ mod hash;
 mod message;
 mod private;
 mod private_fields;
+mod private_len;
+mod private_making;
 mod private_section;
 mod private_view;
 mod private_writing;
 mod reading;
+mod samples;
+mod spelled;
 mod sshsig;
+mod sshsig_making;
 mod sshsig_view;
 mod sshsig_writing;
 

@@ -4,7 +4,6 @@ ghost use Rattle.std.specs.Prelude.{◌≡◌, IfOk, IfErr, IsOkAnd};
 ghost use Rattle.ssh_wire.specs.Position.{Position, start};
 ghost use Rattle.ssh_wire.specs.Reading.{Gives, Reads};
 ghost use Rattle.ssh_keys.specs.KeyOf.{key_of};
-ghost use Rattle.ssh_keys.specs.PublicKey.{key_blob};
 ghost use Rattle.ssh_bodies.specs.PrivateKey.{PrivateBody, IsPrivateBlob, private_magic};
 ghost use Rattle.ssh_bodies.specs.PrivateFault.{IsPrivateFault};
 ghost use Rattle.ssh_bodies.specs.PrivateOf.{private_body};
@@ -67,13 +66,10 @@ fn enter_section(cursor: &mut Cursor<'_>) -> Result<(), BodyError>
 #[tactic(auto, unfolding(crate::specs::PrivateReading::section_at))]
 fn section_fields<'a>(
     public: KeyView<'a>,
-    public_blob: &'a [u8],
     cursor: &mut Cursor<'a>,
 ) -> Result<PrivateView<'a>, BodyError>
-    requires { public_blob.now ≡ key_blob (key_of public) }
     ensures { Gives private_body result (section_at (key_of public.entry) cursor.old) }
 {
-    let whole = cursor.rest();
     let check = cursor.take_u32()?;
     if cursor.take_u32()? != check {
         return Err(BodyError::CheckMismatch);
@@ -86,18 +82,14 @@ fn section_fields<'a>(
         return Err(BodyError::PublicMismatch);
     }
     let comment = cursor.take_string()?;
-    let padding = cursor.rest();
-    if !is_padding(padding) {
+    if !is_padding(cursor.rest()) {
         return Err(BodyError::Padding);
     }
-    let section = &whole[..whole.len() - padding.len()];
     Ok(PrivateView {
         check,
         public,
-        public_blob,
         fields,
         comment,
-        section,
     })
 }
 
@@ -112,9 +104,9 @@ fn body_fields(body: &[u8]) -> Result<PrivateView<'_>, BodyError>
     if cursor.take_u32()? != 1 {
         return Err(BodyError::KeyCount);
     }
-    let (public, public_blob) = take_key(&mut cursor)?;
+    let (public, _) = take_key(&mut cursor)?;
     enter_section(&mut cursor)?;
-    let view = section_fields(public, public_blob, &mut cursor)?;
+    let view = section_fields(public, &mut cursor)?;
     Ok(view)
 }
 

@@ -1,5 +1,6 @@
 //! The fields of private keys.
 
+use ssh_keys::KeyFields;
 use ssh_wire::Mpint;
 use std::fmt;
 
@@ -76,6 +77,43 @@ pub enum PrivateFields<'a> {
         /// Reserved bytes, which mean nothing.
         reserved: &'a [u8],
     },
+}
+
+impl<'a> PrivateFields<'a> {
+    ghost use Rattle.std.specs.Prelude.{◌≡◌};
+    ghost use Rattle.ssh_keys.specs.View.{public_key};
+    ghost use Rattle.ssh_bodies.specs.PrivateFrom.{private_key};
+    ghost use Rattle.ssh_bodies.specs.PrivateKey.{public_of};
+
+    /// The fields of the public half.
+    pub fn public_half(&self) -> KeyFields<'a>
+        ensures { public_key result ≡ public_of (private_key self.now) }
+    {
+        match *self {
+            PrivateFields::Rsa {
+                modulus,
+                exponent,
+                ..
+            } => KeyFields::Rsa { exponent, modulus },
+            PrivateFields::P256 { point, .. } => KeyFields::P256 { point },
+            PrivateFields::P384 { point, .. } => KeyFields::P384 { point },
+            PrivateFields::P521 { point, .. } => KeyFields::P521 { point },
+            PrivateFields::Ed25519 { public, .. } => KeyFields::Ed25519 { public },
+            PrivateFields::SkP256 {
+                point,
+                application,
+                ..
+            } => KeyFields::SkP256 { point, application },
+            PrivateFields::SkEd25519 {
+                public,
+                application,
+                ..
+            } => KeyFields::SkEd25519 {
+                public,
+                application,
+            },
+        }
+    }
 }
 
 impl fmt::Debug for PrivateFields<'_> {

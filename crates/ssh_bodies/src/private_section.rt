@@ -137,7 +137,7 @@ fn is_on_curve(part: &CurvePart<'_>, curve: Curve, point: &[u8]) -> bool
 }
 
 /// Whether a secret of an Ed25519 key ends with this public key.
-fn is_secret_of(public: &[u8], secret: &[u8]) -> bool
+pub(crate) fn is_secret_of(public: &[u8], secret: &[u8]) -> bool
     ensures { result ≡ ((length secret.now == 64) && bytes_eq (drop 32 secret.now) public.now) }
 {
     secret.len() == 64 && &secret[32..] == public

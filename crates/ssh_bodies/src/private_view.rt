@@ -2,9 +2,8 @@
 
 ghost use Rattle.std.specs.Prelude.{◌≡◌};
 ghost use Rattle.ssh_keys.specs.KeyOf.{key_of};
-ghost use Rattle.ssh_keys.specs.PublicKey.{key_blob};
 ghost use Rattle.ssh_bodies.specs.PrivateFrom.{private_key};
-ghost use Rattle.ssh_bodies.specs.PrivateKey.{public_of, section_front};
+ghost use Rattle.ssh_bodies.specs.PrivateKey.{public_of};
 
 use crate::private_fields::PrivateFields;
 use ssh_keys::KeyView;
@@ -18,17 +17,11 @@ pub struct PrivateView<'a> {
     pub check: u32,
     /// The public half of the key.
     pub public: KeyView<'a>,
-    /// The blob of the public half.
-    pub public_blob: &'a [u8],
     /// The fields of the private key, its public ones among them.
     pub fields: PrivateFields<'a>,
     /// The comment.
     pub comment: &'a [u8],
-    /// The private section without its padding: the same fields as bytes.
-    pub section: &'a [u8],
     ghost public_half: { key_of public ≡ public_of (private_key fields) },
-    ghost public_spelled: { public_blob.now ≡ key_blob (key_of public) },
-    ghost section_spelled: { section.now ≡ section_front (record { check = check; key = private_key fields; comment = comment.now }) },
 }
 
 impl fmt::Debug for PrivateView<'_> {

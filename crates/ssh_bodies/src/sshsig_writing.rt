@@ -10,7 +10,7 @@ use ssh_wire::Wire;
 use std::alloc::AllocError;
 
 /// Writes the body of a file signature at the end. It asks for a value that a body can hold, as
-/// `read_sshsig` gives. An `Err` changes nothing.
+/// `read_sshsig` and `SshsigView::from_fields` give. An `Err` changes nothing.
 pub fn write_sshsig(view: &SshsigView<'_>, out: &mut Vec<u8>) -> Result<(), AllocError>
     requires { IsSshsig (sshsig_of view.now) }
     ensures ok { OnOk result (out.new.items ≡ out.old.items ++ sshsig_blob (sshsig_of view.now)) }

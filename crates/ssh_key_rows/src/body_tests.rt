@@ -2,10 +2,11 @@
 
 use crate::compare::same;
 use ssh_bodies::{
-    BodyError, HashName, PrivateFields, read_private, read_sshsig, sshsig_message, write_private,
-    write_sshsig,
+    BodyError, HashName, PrivateFields, PrivateView, SshsigView, read_private, read_sshsig,
+    sshsig_message, write_private, write_sshsig,
 };
-use ssh_wire::{WireCause, WireError};
+use ssh_keys::KeyError;
+use ssh_wire::{Mpint, WireCause, WireError};
 use std::alloc::Global;
 use std::test::Fail;
 
@@ -204,6 +205,78 @@ fn writes_what_was_read(rt: HostRuntime) -> Result<(), Fail> {
     let mut out = Vec::new(rt.alloc());
     write_private(&read_private(&padded)?, &mut out)?;
     same(&rt, &out.as_slice(), &good.as_slice());
+    Ok(())
+}
+
+/// A body of plain fields, and fields that have none.
+#[test]
+fn makes_a_body_of_fields(rt: HostRuntime) -> Result<(), Fail> {
+    let (public, secret, other) = ([0; 32], [0; 64], [1; 64]);
+    let (public, secret) = (public.as_slice(), secret.as_slice());
+    let key = PrivateFields::Ed25519 { public, secret };
+    let mut out = Vec::new(rt.alloc());
+    write_private(&PrivateView::from_fields(1, key, b"abc")?, &mut out)?;
+    same(&rt, &out, &body(&rt, SECTION, b"\x01\x02")?);
+    let Some(zero) = Mpint::new(b"") else {
+        return Err(Fail::from("the number 0"));
+    };
+    let no_scalar = PrivateFields::P256 {
+        point: b"\x04abcdefghijklmnopqrstuvwxyzabcdefabcdefghijklmnopqrstuvwxyzabcdef",
+        scalar: zero,
+    };
+    let short = PrivateFields::Ed25519 {
+        public: &public[1..],
+        secret,
+    };
+    let secret = other.as_slice();
+    let unlike = PrivateFields::Ed25519 { public, secret };
+    let value = BodyError::Wire(WireError {
+        place: 0,
+        cause: WireCause::Value,
+    });
+    let rows = [
+        (short, BodyError::Key(KeyError::Length)),
+        (no_scalar, value),
+        (unlike, BodyError::PublicMismatch),
+    ];
+    for (fields, want) in rows {
+        let made = PrivateView::from_fields(1, fields, b"abc").map(|_| ());
+        same(&rt, &made, &Err(want));
+    }
+    let long = vec![in rt.alloc(); 0; 262_144]?;
+    let made = PrivateView::from_fields(1, key, &long).map(|_| ());
+    same(&rt, &made, &Err(BodyError::TooLong));
+    Ok(())
+}
+
+/// A file signature of plain fields, and fields that have none.
+#[test]
+fn makes_a_file_signature_of_fields(rt: HostRuntime) -> Result<(), Fail> {
+    let (key, signature) = (&SSHSIG[14..65], &SSHSIG[91..]);
+    let view = SshsigView::from_fields(key, b"file", b"", HashName::Sha256, signature)?;
+    let mut out = Vec::new(rt.alloc());
+    write_sshsig(&view, &mut out)?;
+    same(&rt, &out.as_slice(), &SSHSIG);
+    let long = vec![in rt.alloc(); 0; 262_144]?;
+    let cut = KeyError::Wire(WireError {
+        place: 15,
+        cause: WireCause::Short,
+    });
+    let rows = [
+        (
+            &key[..50],
+            b"file".as_slice(),
+            signature,
+            BodyError::Key(cut),
+        ),
+        (key, b"", signature, BodyError::EmptyNamespace),
+        (key, b"file", &signature[..19], short(15)),
+        (key, &long, signature, BodyError::TooLong),
+    ];
+    for (key, namespace, signature, want) in rows {
+        let made = SshsigView::from_fields(key, namespace, b"", HashName::Sha512, signature);
+        same(&rt, &made.map(|_| ()), &Err(want));
+    }
     Ok(())
 }
 

@@ -13,6 +13,8 @@ mod compare;
 #[cfg(test)]
 mod key_tests;
 #[cfg(test)]
+mod made_body_tests;
+#[cfg(test)]
 mod made_certificate_tests;
 #[cfg(test)]
 mod made_key_tests;

@@ -1,5 +1,5 @@
 use Rattle.std.proofs.lemmas.List.{take_all, length-drop}
-use Rattle.std.proofs.Common.{arith, ℕ, ◌-◌, List, rules, ◌≡◌, ◌==◌, ◌&&◌, length, drop, true, ap, sym, ◌∙◌, Bool, eqb}
+use Rattle.std.proofs.Common.{arith, ℕ, ◌-◌, List, rules, ◌≡◌, ◌&&◌, length, drop, true, ap, sym, ◌∙◌, Bool, eqb}
 use Rattle.std.specs.Str.{bytes_eq}
 use Rattle.ssh_bodies.proofs.private_section.is_secret_of.Goals as goal
 

@@ -1,22 +1,45 @@
-use Rattle.std.proofs.Common.{◌<◌, ◌^◌, length, refl, ap, ◌∙◌, arith}
+use Rattle.std.proofs.Common.{◌≡◌, ℕ, ◌-◌, ◌%◌, ◌+◌, [], ◌∷◌, ◌++◌, take, length, ap, ◌∙◌, arith}
+use Rattle.ssh_keys.specs.KeyOf.{key_of}
 use Rattle.ssh_keys.specs.PublicKey.{key_blob}
+use Rattle.ssh_bodies.specs.PrivateKey.{least_padding, section_front}
 use Rattle.ssh_bodies.specs.PrivateOf.{private_body}
-use Rattle.ssh_bodies.proofs.PrivateLaws.{section_short, wrote_private}
+use Rattle.ssh_bodies.proofs.PrivateLaws.{body_length, wrote_in_turn}
+use Rattle.ssh_bodies.proofs.Written.{kept_after, on_failure}
 use Rattle.ssh_bodies.proofs.private_writing.put_body.Goals as goal
 
-pub overflow_cast-section_len : goal.overflow_cast-section_len
-overflow_cast-section_len c =
-    let view = c.args.view.now in
-    omega (arith, section_short (private_body view) view.section.now c.requires view.section_spelled)
+pub overflow_cast-front : goal.overflow_cast-front
+overflow_cast-front c = omega (arith, c.requires.length, body_length (private_body c.args.view.now) (least_padding (private_body c.args.view.now)), c.front_len-front.ensures.value)
 
-pub encode-requires : goal.encode-requires
-encode-requires c κs =
-    let view = c.args.view.now in
-    let public : length view.public_blob.now < 2 ^ 32 = omega (arith, ap length view.public_spelled, view.public.is_key.length) in
-    ((refl, tt), ((omega arith, (omega arith, (omega arith, omega arith))), (public, omega (arith, section_short (private_body view) view.section.now c.requires view.section_spelled))))
+pub overflow_add-front : goal.overflow_add-front
+overflow_add-front c = omega (arith, c.requires.length, body_length (private_body c.args.view.now) (least_padding (private_body c.args.view.now)), c.front_len-front.ensures.value)
+
+pub overflow_cast-front-2 : goal.overflow_cast-front-2
+overflow_cast-front-2 c = omega (arith, c.requires.length, body_length (private_body c.args.view.now) (least_padding (private_body c.args.view.now)), c.front_len-front.ensures.value)
+
+pub returns-in_err-put-2-clause-err : goal.returns-in_err-put-2-clause-err
+returns-in_err-put-2-clause-err c =
+    on_failure c.from_residual-in_err-put-2.result _
+    (kept_after c.args.out.now.items c.extend_from_slice.new.self.items _ c.put-2.new.out.items c.in_ok-extend_from_slice.ensures.items
+    (kept_after c.extend_from_slice.new.self.items c.put.new.out.items _ c.put-2.new.out.items c.in_ok-put.ensures.ok
+    (kept_after c.put.new.out.items c.write_key.new.out.items _ c.put-2.new.out.items c.in_ok-write_key.ensures.ok c.in_err-put-2.ensures.err)))
+
+pub put_front-requires : goal.put_front-requires
+put_front-requires c = omega (arith, c.requires.length, body_length (private_body c.args.view.now) (least_padding (private_body c.args.view.now)))
+
+pub returns-in_err-put_front-clause-err : goal.returns-in_err-put_front-clause-err
+returns-in_err-put_front-clause-err c =
+    on_failure c.from_residual-in_err-put_front.result _
+    (kept_after c.args.out.now.items c.extend_from_slice.new.self.items _ c.put_front.new.out.items c.in_ok-extend_from_slice.ensures.items
+    (kept_after c.extend_from_slice.new.self.items c.put.new.out.items _ c.put_front.new.out.items c.in_ok-put.ensures.ok
+    (kept_after c.put.new.out.items c.write_key.new.out.items _ c.put_front.new.out.items c.in_ok-write_key.ensures.ok
+    (kept_after c.write_key.new.out.items c.put-2.new.out.items _ c.put_front.new.out.items c.in_ok-put-2.ensures.ok c.in_err-put_front.ensures.err))))
 
 pub returns-clause-ok : goal.returns-clause-ok
 returns-clause-ok c =
     let view = c.args.view.now in
-    wrote_private (private_body view) c.args.out.now.items c.extend_from_slice.new.self.items c.encode.new.out.items c.extend_from_slice-2.new.self.items c.extend_from_slice-3.new.self.items view.public_blob.now view.section.now
-    c.in_ok-extend_from_slice.ensures.items c.in_ok-encode.ensures.ok (view.public_spelled ∙ ap key_blob view.public_half) view.section_spelled c.in_ok-extend_from_slice-2.ensures.items c.in_ok-extend_from_slice-3.ensures.items
+    let v = private_body view in
+    let padding : (8 - c.front_len-front.result % 8) % 8 ≡ least_padding v = ap (λ (n : ℕ). (8 - n % 8) % 8) c.front_len-front.ensures.value in
+    let n : c.front_len-front.result + (8 - c.front_len-front.result % 8) % 8 ≡ length (section_front v) + least_padding v = ap (λ (n : ℕ). n + (8 - n % 8) % 8) c.front_len-front.ensures.value in
+    wrote_in_turn v c.args.out.now.items c.extend_from_slice.new.self.items c.put.new.out.items c.write_key.new.out.items c.put-2.new.out.items c.put_front.new.out.items c.extend_from_slice-2.new.self.items (key_blob (key_of view.public)) c.key_len.result (c.front_len-front.result + (8 - c.front_len-front.result % 8) % 8)
+    c.in_ok-extend_from_slice.ensures.items c.in_ok-put.ensures.ok c.key_len.ensures.value c.in_ok-write_key.ensures.ok c.in_ok-put-2.ensures.ok n (ap key_blob view.public_half) c.in_ok-put_front.ensures.ok
+    (c.in_ok-extend_from_slice-2.ensures.items ∙ ap (λ (k : ℕ). c.put_front.new.out.items ++ take k (1 ∷ 2 ∷ 3 ∷ 4 ∷ 5 ∷ 6 ∷ 7 ∷ [])) padding)

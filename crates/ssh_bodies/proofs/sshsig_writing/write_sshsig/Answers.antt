@@ -1,6 +1,4 @@
 use Rattle.std.proofs.Common.{◌<◌, ◌^◌, ℕ, List, length, refl, sym, subst, ap, arith}
-use Rattle.ssh_keys.specs.PublicKey.{key_blob}
-use Rattle.ssh_keys.specs.Signature.{signature_blob}
 use Rattle.ssh_bodies.specs.SshsigOf.{sshsig_of}
 use Rattle.ssh_bodies.proofs.SshsigLaws.{strings_short, name_short}
 use Rattle.ssh_bodies.proofs.Written.{wrote_sshsig}
