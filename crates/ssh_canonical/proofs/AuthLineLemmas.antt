@@ -6,13 +6,13 @@ use Rattle.std.specs.Str.{str_to_ascii_lowercase}
 use Rattle.std.proofs.lemmas.Bool.{eqb-false}
 use Rattle.std.proofs.lemmas.List.{length-map}
 use Rattle.std.proofs.lemmas.Slice.Eq.{bytes_eq-Decides}
-use Rattle.ssh_options.specs.declared.option.AuthOption.{AuthOption}
+use Rattle.ssh_options.specs.AuthOption.{AuthOption}
 use Rattle.ssh_options.specs.OptionNames.{same_name}
 use Rattle.ssh_options.specs.OptionText.{option_name, value_part, SpellsOption, SpellsItems}
 use Rattle.ssh_options.proofs.OptionLemmas.{AreNameBytes, other_byte, spelled-bytes}
 use Rattle.ssh_text.specs.Text.{line_limit}
 use Rattle.ssh_text.specs.Scan.{HasNoNewline}
-use Rattle.ssh_lines.specs.declared.entry.AuthEntry.{AuthEntry}
+use Rattle.ssh_lines.specs.AuthEntry.{AuthEntry}
 use Rattle.ssh_lines.specs.declared.entry.AuthLine.TheVariants.{Entry}
 use Rattle.ssh_lines.specs.AuthGrammar.{SpellsEntry, SpellsOptions, auth_line}
 use Rattle.ssh_lines.proofs.AuthLemmas.{auth_line-spelled}

@@ -5,7 +5,7 @@ use Rattle.ssh_text.specs.Scan.{HasNoNewline}
 use Rattle.ssh_names.specs.Names.{names_text}
 use Rattle.ssh_lines.specs.declared.marker.Marker.{Marker}
 use Rattle.ssh_lines.specs.declared.marker.Marker.TheVariants as markers
-use Rattle.ssh_lines.specs.declared.known.KnownEntry.{KnownEntry}
+use Rattle.ssh_lines.specs.KnownEntry.{KnownEntry}
 use Rattle.ssh_lines.specs.declared.known.KnownLine.TheVariants.{Entry}
 use Rattle.ssh_lines.specs.Markers.{SpellsMarker, authority_marker}
 use Rattle.ssh_lines.specs.KnownGrammar.{SpellsKnown, known_line}

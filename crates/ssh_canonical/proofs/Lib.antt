@@ -1,3 +1,4 @@
+pub mod Kept
 pub mod Written
 pub mod KeyTextLemmas
 pub mod AuthLineLemmas

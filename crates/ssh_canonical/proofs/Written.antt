@@ -1,7 +1,7 @@
 -- Options with commas between them, from the first one on.
 use Rattle.std.proofs.Common.{◌≡◌, ℕ, List, [], ◌∷◌, ◌++◌, map, refl, sym, ap, ◌∙◌, append_assoc, append-nil}
 use Rattle.std.specs.List.{join_with_byte, flat_map}
-use Rattle.ssh_options.specs.declared.option.AuthOption.{AuthOption}
+use Rattle.ssh_options.specs.AuthOption.{AuthOption}
 use Rattle.ssh_canonical.specs.Canonical.{after_comma, option_text, options_part}
 
 joined_from : (first : AuthOption) (others : List AuthOption)

@@ -3,11 +3,11 @@ use Rattle.std.specs.Prelude.{ℕ, List, [], ◌∷◌, ◌++◌, map}
 use Rattle.std.specs.List.{join_with_byte}
 use Rattle.ssh_keys.specs.Names.{name_of}
 use Rattle.ssh_keys.specs.PublicKey.{PublicKey, kind_of, key_blob}
-use Rattle.ssh_options.specs.declared.option.AuthOption.{AuthOption}
+use Rattle.ssh_options.specs.AuthOption.{AuthOption}
 use Rattle.ssh_options.specs.OptionText.{option_name, value_part}
 use Rattle.ssh_names.specs.Names.{names_text}
-use Rattle.ssh_lines.specs.declared.entry.AuthEntry.{AuthEntry}
-use Rattle.ssh_lines.specs.declared.known.KnownEntry.{KnownEntry}
+use Rattle.ssh_lines.specs.AuthEntry.{AuthEntry}
+use Rattle.ssh_lines.specs.KnownEntry.{KnownEntry}
 use Rattle.ssh_lines.specs.declared.marker.Marker.{Marker}
 use Rattle.ssh_lines.specs.declared.marker.Marker.TheVariants as markers
 use Rattle.ssh_lines.specs.KeyPart.{base64}

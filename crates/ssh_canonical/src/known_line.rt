@@ -1,15 +1,17 @@
 //! The canonical line of an entry of a known_hosts file.
 
-ghost use Rattle.std.specs.Prelude.{◌≡◌, ◌++◌, IfOk, OnOk};
+ghost use Rattle.std.specs.Prelude.{◌≡◌, ◌++◌, IfOk, OnOk, OnErr};
 ghost use Rattle.ssh_canonical.specs.Canonical.{canonical_known, marker_part};
+ghost use Rattle.ssh_canonical.specs.Kept.{Keeps};
 
 use crate::key_text::put_key;
-use ssh_lines::{KnownEntry, KnownEntryView, Marker};
+use ssh_lines::{KeyBuffer, KnownEntry, KnownEntryView, Marker};
 use std::alloc::{AllocError, Global};
 
 /// Writes a marker and a space at the end, if one stands there.
 fn put_marker(marker: Marker, out: &mut Vec<u8>) -> Result<(), AllocError>
-    ensures { OnOk result (out.new.items ≡ out.old.items ++ marker_part marker) }
+    ensures ok { OnOk result (out.new.items ≡ out.old.items ++ marker_part marker) }
+    ensures err { OnErr result (out.new.items ≡ out.old.items) }
 {
     match marker {
         Marker::Unmarked => Ok(()),
@@ -23,22 +25,34 @@ fn put_marker(marker: Marker, out: &mut Vec<u8>) -> Result<(), AllocError>
 pub fn canonical_known_line(alloc: Global, entry: &KnownEntry) -> Result<Vec<u8>, AllocError>
     ensures { IfOk result (λ line. line.items ≡ canonical_known entry.now) }
 {
+    let mut buffer = KeyBuffer::new(alloc)?;
     let mut line = Vec::new(alloc);
-    put_marker(entry.marker, &mut line)?;
-    line.extend_from_slice(entry.names.view().text())?;
-    line.push(b' ')?;
-    let kind = entry.key.view().kind();
-    put_key(kind, entry.key.blob(), entry.comment.as_slice(), &mut line)?;
+    write_known_line(&entry.view(&mut buffer), &mut line)?;
     Ok(line)
 }
 
-/// Writes the canonical line of an entry at the end, from the line that it stands on. `Err` means
-/// out of memory; a part of the line may then stand at the end.
-pub fn write_known_line(entry: &KnownEntryView<'_>, out: &mut Vec<u8>) -> Result<(), AllocError>
-    ensures { OnOk result (out.new.items ≡ out.old.items ++ canonical_known entry.now) }
+/// After an `Err` a part of the line may stand at the end.
+fn put_known_line(entry: &KnownEntryView<'_>, out: &mut Vec<u8>) -> Result<(), AllocError>
+    ensures ok { OnOk result (out.new.items ≡ out.old.items ++ canonical_known entry.now) }
+    ensures err { OnErr result (Keeps out.old.items out.new.items) }
 {
     put_marker(entry.marker(), out)?;
     out.extend_from_slice(entry.names().text())?;
     out.push(b' ')?;
-    put_key(entry.key().kind(), entry.blob(), entry.comment(), out)
+    put_key(entry.key().kind(), entry.blob(), entry.comment(), out)?;
+    Ok(())
+}
+
+/// Writes the canonical line of an entry at the end, from the line that it stands on. An `Err` is
+/// want of memory, and changes nothing.
+pub fn write_known_line(entry: &KnownEntryView<'_>, out: &mut Vec<u8>) -> Result<(), AllocError>
+    ensures ok { OnOk result (out.new.items ≡ out.old.items ++ canonical_known entry.now) }
+    ensures err { OnErr result (out.new.items ≡ out.old.items) }
+{
+    let len = out.len();
+    let outcome = put_known_line(entry, out);
+    if outcome.is_err() {
+        out.truncate(len);
+    }
+    outcome
 }

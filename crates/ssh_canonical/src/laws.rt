@@ -2,10 +2,10 @@
 
 ghost use Rattle.std.specs.Prelude.{◌≡◌, ◌≤◌, ℕ, List, length};
 ghost use Rattle.ssh_text.specs.Scan.{HasNoNewline};
-ghost use Rattle.ssh_lines.specs.declared.entry.AuthEntry.{AuthEntry};
+ghost use Rattle.ssh_lines.specs.AuthEntry.{AuthEntry};
 ghost use Rattle.ssh_lines.specs.declared.entry.AuthLine.TheVariants as auth;
 ghost use Rattle.ssh_lines.specs.AuthGrammar.{SpellsEntry, auth_line};
-ghost use Rattle.ssh_lines.specs.declared.known.KnownEntry.{KnownEntry};
+ghost use Rattle.ssh_lines.specs.KnownEntry.{KnownEntry};
 ghost use Rattle.ssh_lines.specs.declared.known.KnownLine.TheVariants as known;
 ghost use Rattle.ssh_lines.specs.KnownGrammar.{SpellsKnown, known_line};
 ghost use Rattle.ssh_canonical.specs.Canonical.{canonical_auth, canonical_known};

@@ -16,6 +16,7 @@ mod key_text;
 mod known_line;
 mod laws;
 mod options;
+mod samples;
 
 pub use auth_line::{canonical_auth_line, write_auth_line};
 pub use known_line::{canonical_known_line, write_known_line};

@@ -1,12 +1,3 @@
-pub use Rattle.ssh_wire.specs.Spelling
-pub use Rattle.ssh_wire.specs.Position
-pub use Rattle.ssh_wire.specs.Reading
-pub use Rattle.ssh_wire.specs.Laws
-pub use Rattle.ssh_keys.specs.Names
-pub use Rattle.ssh_keys.specs.PublicKey
-pub use Rattle.ssh_keys.specs.KeyReading
-pub use Rattle.ssh_keys.specs.Signature
-pub use Rattle.ssh_keys.specs.KeyOf
 pub mod Certificate
 pub mod CertificateReading
 pub mod CertificateFault

@@ -15,5 +15,4 @@ mod moment;
 mod samples;
 
 pub use expiry_text::is_expiry_text;
-pub use jiff::tz::TimeZone;
 pub use moment::{epoch, expiry};

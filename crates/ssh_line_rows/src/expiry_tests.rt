@@ -1,7 +1,8 @@
 //! What no clause says: worked moments, and that a call that may take memory succeeds.
 
 use crate::compare::same;
-use ssh_expiry::{TimeZone, expiry};
+use jiff::tz::TimeZone;
+use ssh_expiry::expiry;
 use std::alloc::Global;
 use std::test::Fail;
 

@@ -4,9 +4,11 @@
 use crate::compare::same;
 use ssh_keys::KeyError;
 use ssh_lines::{
-    KeyBuffer, KnownEntry, KnownLine, KnownLineView, LINE_LIMIT, LineCause, Marker, lookup_name,
-    names_host, read_known_line, read_known_view,
+    KeyBuffer, KnownEntry, KnownLine, KnownLineView, Marker, read_known_line, read_known_view,
 };
+use ssh_names::{lookup_name, names_host};
+use ssh_options::LineCause;
+use ssh_text::LINE_LIMIT;
 use ssh_wire::{WireCause, WireError};
 use std::alloc::{AllocError, Global};
 use std::test::Fail;
@@ -85,7 +87,12 @@ fn names_hosts(rt: HostRuntime) -> Result<(), Fail> {
             return Err(Fail::new("no entry"));
         };
         let name = lookup_name(rt.alloc(), host, port)?;
-        same(&rt, &names_host(&entry.names.view(), &name), &want);
+        let mut buffer = KeyBuffer::new(rt.alloc())?;
+        same(
+            &rt,
+            &names_host(&entry.view(&mut buffer).names(), &name),
+            &want,
+        );
     }
     Ok(())
 }
@@ -97,10 +104,12 @@ fn reads_a_known_entry(rt: HostRuntime) -> Result<(), Fail> {
     let KnownLine::Entry(entry) = read_known_line(rt.alloc(), &line)? else {
         return Err(Fail::new("no entry"));
     };
-    same(&rt, &entry.marker, &Marker::CertAuthority);
-    same(&rt, &entry.names.view().text(), &b"*.a,b".as_slice());
-    same(&rt, &entry.key.blob().len(), &51);
-    same(&rt, &entry.comment.as_slice(), &b"x y".as_slice());
+    let mut buffer = KeyBuffer::new(rt.alloc())?;
+    let entry = entry.view(&mut buffer);
+    same(&rt, &entry.marker(), &Marker::CertAuthority);
+    same(&rt, &entry.names().text(), &b"*.a,b".as_slice());
+    same(&rt, &entry.blob().len(), &51);
+    same(&rt, &entry.comment(), &b"x y".as_slice());
     Ok(())
 }
 
@@ -119,11 +128,6 @@ fn reads_a_known_entry_in_its_line(rt: HostRuntime) -> Result<(), Fail> {
     same(&rt, &entry.comment(), &b"note".as_slice());
     same(&rt, &entry.blob().len(), &51);
     assert!(rt; entry.has_blob(entry.blob()) && !entry.has_blob(b"x"));
-    same(
-        &rt,
-        &entry.to_entry(rt.alloc())?.comment.as_slice(),
-        &b"note".as_slice(),
-    );
     Ok(())
 }
 
@@ -172,7 +176,20 @@ fn reads_known_lines_up_to_the_limit(rt: HostRuntime) -> Result<(), Fail> {
     Ok(())
 }
 
-/// Entries are equal where marker, names, key and comment are; so are they in their lines.
+/// Both lines are kept as entries, and the entries are equal.
+fn are_kept_alike(alloc: Global, line: &[u8], other: &[u8]) -> Result<bool, AllocError> {
+    let (KnownLine::Entry(entry), KnownLine::Entry(other)) = (
+        read_known_line(alloc, line)?,
+        read_known_line(alloc, other)?,
+    ) else {
+        return Ok(false);
+    };
+    let mut buffer = KeyBuffer::new(alloc)?;
+    let mut other_buffer = KeyBuffer::new(alloc)?;
+    Ok(entry.view(&mut buffer) == other.view(&mut other_buffer))
+}
+
+/// Entries are equal where marker, names, key and comment are; so are they kept.
 #[test]
 fn tells_entries_apart(rt: HostRuntime) -> Result<(), Fail> {
     let alloc = rt.alloc();
@@ -185,8 +202,7 @@ fn tells_entries_apart(rt: HostRuntime) -> Result<(), Fail> {
         (b"@revoked h,g ".as_slice(), false),
     ] {
         let other = joined(alloc, front, KEY)?;
-        let kept = read_known_line(alloc, &line)?;
-        same(&rt, &(kept == read_known_line(alloc, &other)?), &want);
+        same(&rt, &are_kept_alike(alloc, &line, &other)?, &want);
         let mut buffer = KeyBuffer::new(alloc)?;
         let mut other_buffer = KeyBuffer::new(alloc)?;
         let view = read_known_view(&line, &mut buffer);

@@ -2,10 +2,9 @@
 
 use crate::compare::same;
 use ssh_keys::KeyError;
-use ssh_lines::{
-    AuthEntry, AuthLine, AuthLineView, AuthOption, Flag, KeyBuffer, LINE_LIMIT, LineCause, Lines,
-    OptionView, ValueName, read_auth_line, read_auth_view,
-};
+use ssh_lines::{AuthEntryView, AuthLine, AuthLineView, KeyBuffer, read_auth_line, read_auth_view};
+use ssh_options::{Flag, LineCause, OptionView, ValueName};
+use ssh_text::{LINE_LIMIT, Lines};
 use ssh_wire::{WireCause, WireError};
 use std::alloc::{AllocError, Global};
 use std::test::Fail;
@@ -79,16 +78,18 @@ fn reads_an_entry(rt: HostRuntime) -> Result<(), Fail> {
     let AuthLine::Entry(entry) = read_auth_line(rt.alloc(), &line)? else {
         return Err(Fail::new("no entry"));
     };
-    let [
-        AuthOption::Switch(Flag::Pty),
-        AuthOption::Setting(ValueName::Command, value),
-    ] = entry.options.as_slice()
-    else {
+    let mut buffer = KeyBuffer::new(rt.alloc())?;
+    let entry = entry.view(&mut buffer);
+    let mut options = entry.options();
+    let (
+        Some(OptionView::Switch(Flag::Pty)),
+        Some(OptionView::Setting(ValueName::Command, value)),
+    ) = (options.next(), options.next()) else {
         return Err(Fail::new("other options"));
     };
-    same(&rt, &value.as_slice(), &b"a \"b\" c".as_slice());
-    same(&rt, &entry.comment.as_slice(), &b"x y".as_slice());
-    same(&rt, &entry.key.blob().len(), &51);
+    assert!(rt; value.is_text(b"a \"b\" c") && options.next().is_none());
+    same(&rt, &entry.comment(), &b"x y".as_slice());
+    same(&rt, &entry.blob().len(), &51);
     assert!(rt; entry.has_flag(Flag::Pty) && !entry.has_flag(Flag::Restrict));
     assert!(rt;
         entry.settings(ValueName::Command).count() == 1 && entry.expiry_texts().count() == 0
@@ -121,11 +122,7 @@ fn reads_an_entry_in_its_line(rt: HostRuntime) -> Result<(), Fail> {
             Some(OptionView::Setting(ValueName::From, _))
         )
     );
-    same(
-        &rt,
-        &entry.to_entry(rt.alloc())?.options.as_slice().len(),
-        &3,
-    );
+    same(&rt, &entry.options().count(), &3);
     Ok(())
 }
 
@@ -156,25 +153,28 @@ agent-forwarding,cert-authority,no-agent-forwarding,no-port-forwarding,no-pty,no
 ";
 
 /// An entry by its options and its comment.
-fn shown_entry(entry: &AuthEntry, out: &mut Vec<u8>) -> Result<(), AllocError> {
-    for option in entry.options.as_slice() {
+fn shown_entry(entry: &AuthEntryView<'_>, out: &mut Vec<u8>) -> Result<(), AllocError> {
+    for option in entry.options() {
         out.extend_from_slice(option.name())?;
-        if let AuthOption::Setting(_, value) = option {
+        if let OptionView::Setting(_, value) = option {
             out.push(b'=')?;
-            out.extend_from_slice(value.as_slice())?;
+            for byte in value.bytes() {
+                out.push(byte)?;
+            }
         }
         out.push(b';')?;
     }
-    out.extend_from_slice(entry.comment.as_slice())
+    out.extend_from_slice(entry.comment())
 }
 
 fn shown(alloc: Global, line: &[u8]) -> Result<Vec<u8>, AllocError> {
+    let mut buffer = KeyBuffer::new(alloc)?;
     let mut out = Vec::new(alloc);
     match read_auth_line(alloc, line)? {
         AuthLine::Blank => out.extend_from_slice(b"blank")?,
         AuthLine::Comment => out.extend_from_slice(b"comment")?,
         AuthLine::Unreadable(_) => out.extend_from_slice(b"unreadable")?,
-        AuthLine::Entry(entry) => shown_entry(&entry, &mut out)?,
+        AuthLine::Entry(entry) => shown_entry(&entry.view(&mut buffer), &mut out)?,
     }
     Ok(out)
 }
@@ -200,7 +200,7 @@ fn reads_the_examples_of_sshd(rt: HostRuntime) -> Result<(), Fail> {
         same(&rt, &shown(rt.alloc(), line)?.as_slice(), &want);
         if let AuthLineView::Entry(entry) = read_auth_view(line, &mut buffer) {
             let mut out = Vec::new(rt.alloc());
-            shown_entry(&entry.to_entry(rt.alloc())?, &mut out)?;
+            shown_entry(&entry, &mut out)?;
             same(&rt, &out.as_slice(), &want);
         }
     }
@@ -209,13 +209,13 @@ fn reads_the_examples_of_sshd(rt: HostRuntime) -> Result<(), Fail> {
 }
 
 /// What the example in the crate's root does.
-fn entry_of_blob(alloc: Global, file: &[u8], blob: &[u8]) -> Result<Option<AuthEntry>, AllocError> {
+fn line_of_blob(alloc: Global, file: &[u8], blob: &[u8]) -> Result<Option<AuthLine>, AllocError> {
     let mut buffer = KeyBuffer::new(alloc)?;
     for (_number, line) in Lines::new(file) {
         if let AuthLineView::Entry(entry) = read_auth_view(line, &mut buffer)
             && entry.has_blob(blob)
         {
-            return Ok(Some(entry.to_entry(alloc)?));
+            return Ok(Some(read_auth_line(alloc, line)?));
         }
     }
     Ok(None)
@@ -224,16 +224,30 @@ fn entry_of_blob(alloc: Global, file: &[u8], blob: &[u8]) -> Result<Option<AuthE
 #[test]
 fn runs_the_example(rt: HostRuntime) -> Result<(), Fail> {
     let blob = b"\0\0\0\x07ssh-rsa\0\0\0\x03\x01\0\x01\0\0\0\x02\0\x80";
-    let found = entry_of_blob(rt.alloc(), FILE, blob)?;
-    let Some(entry) = found else {
+    let found = line_of_blob(rt.alloc(), FILE, blob)?;
+    let Some(AuthLine::Entry(entry)) = found else {
         return Err(Fail::new("no entry"));
     };
-    assert!(rt; entry.options.as_slice().is_empty());
-    assert!(rt; entry_of_blob(rt.alloc(), FILE, b"x")?.is_none());
+    let mut buffer = KeyBuffer::new(rt.alloc())?;
+    assert!(rt; entry.view(&mut buffer).options().next().is_none());
+    assert!(rt; line_of_blob(rt.alloc(), FILE, b"x")?.is_none());
     Ok(())
 }
 
-/// Entries are equal where options, key and comment are, and so are lines; so are they copied.
+/// Both lines are kept as entries, and the entries are equal.
+fn are_kept_alike(alloc: Global, line: &[u8], other: &[u8]) -> Result<bool, AllocError> {
+    let (AuthLine::Entry(entry), AuthLine::Entry(other)) = (
+        read_auth_line(alloc, line)?,
+        read_auth_line(alloc, other)?,
+    ) else {
+        return Ok(false);
+    };
+    let mut buffer = KeyBuffer::new(alloc)?;
+    let mut other_buffer = KeyBuffer::new(alloc)?;
+    Ok(entry.view(&mut buffer) == other.view(&mut other_buffer))
+}
+
+/// Entries are equal where options, key and comment are, and so are lines; so are they kept.
 #[test]
 fn tells_entries_apart(rt: HostRuntime) -> Result<(), Fail> {
     let alloc = rt.alloc();
@@ -246,8 +260,7 @@ fn tells_entries_apart(rt: HostRuntime) -> Result<(), Fail> {
     ] {
         let line = joined(alloc, b"pty ", joined(alloc, ENTRY, b" me")?.as_slice())?;
         let other = joined(alloc, front, joined(alloc, ENTRY, rest)?.as_slice())?;
-        let kept = read_auth_line(alloc, &line)?;
-        same(&rt, &(kept == read_auth_line(alloc, &other)?), &want);
+        same(&rt, &are_kept_alike(alloc, &line, &other)?, &want);
         let mut buffer = KeyBuffer::new(alloc)?;
         let mut other_buffer = KeyBuffer::new(alloc)?;
         let view = read_auth_view(&line, &mut buffer);

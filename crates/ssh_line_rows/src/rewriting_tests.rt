@@ -1,7 +1,8 @@
 //! Worked files.
 
 use crate::compare::same;
-use ssh_rewriting::{FILE_LIMIT, RewriteError, rewrite_auth, rewrite_known};
+use ssh_rewriting::{RewriteError, rewrite_auth, rewrite_known};
+use ssh_text::FILE_LIMIT;
 use std::alloc::{AllocError, Global};
 use std::test::Fail;
 

@@ -6,7 +6,7 @@ use Rattle.ssh_keys.specs.Names.{class_of}
 use Rattle.ssh_names.proofs.ByteLemmas.{AreBytes, AreBytes-back, IsBytes-from_all}
 use Rattle.ssh_options.specs.declared.cause.LineCause.{LineCause}
 use Rattle.ssh_options.specs.declared.cause.LineCause.TheVariants as causes
-use Rattle.ssh_options.specs.declared.option.AuthOption.{AuthOption}
+use Rattle.ssh_options.specs.AuthOption.{AuthOption}
 use Rattle.ssh_options.specs.OptionFaults.{IsOptionsFault}
 use Rattle.ssh_options.specs.OptionText.{options_of}
 use Rattle.ssh_options.proofs.OptionFaultLemmas.{options_of-fault}
@@ -14,11 +14,10 @@ use Rattle.ssh_options.proofs.ReadOptions.{read_options, text_cut}
 use Rattle.ssh_text.proofs.ReadText.{skipped}
 use Rattle.ssh_text.specs.Text.{body_of, first_word, line_limit, next_field, skip_blanks}
 use Rattle.ssh_lines.specs.declared.entry.AuthLine.TheVariants.{Unreadable}
-use Rattle.ssh_lines.specs.declared.key_part.KeyPart.{KeyPart}
+use Rattle.ssh_lines.specs.KeyPart.{KeyPart, begins_with_type, is_empty, is_type, key_after_fields, key_part_of, lacks_key}
 use Rattle.ssh_lines.specs.AuthFaults.{HasOptions, IsAuthFault, IsKeyText, after_options, option_field}
 use Rattle.ssh_lines.specs.AuthGrammar.{auth_line, entry_after_options, entry_of, entry_of_key, line_of_front}
 use Rattle.ssh_lines.specs.Front.{LineFront, past_limit, empty, remark, fields, front_of, begins_with}
-use Rattle.ssh_lines.specs.KeyPart.{begins_with_type, is_empty, is_type, key_after_fields, key_part_of, lacks_key}
 use Rattle.ssh_lines.specs.KnownFaults.{HasFields, HasKey, IsKeyFault, field_of}
 use Rattle.ssh_lines.proofs.FieldLemmas.{body-bytes, next-bytes, word-bytes}
 use Rattle.ssh_lines.proofs.FrontLemmas.{front-fields}

@@ -3,7 +3,7 @@ use Rattle.std.proofs.Common.{◌≡◌, ℕ, true, List, [], refl, ap, ◌∙�
 use Rattle.ssh_keys.specs.declared.kind.NameClass.{NameClass}
 use Rattle.ssh_keys.specs.declared.kind.NameClass.TheVariants.{Plain, Certificate, Retired, Other}
 use Rattle.ssh_keys.specs.Names.{class_of}
-use Rattle.ssh_options.specs.declared.option.AuthOption.{AuthOption}
+use Rattle.ssh_options.specs.AuthOption.{AuthOption}
 use Rattle.ssh_text.specs.Text.{first_word, after_word}
 use Rattle.ssh_lines.specs.KeyPart.{is_type, key_of_class, key_part_of}
 use Rattle.ssh_lines.specs.AuthGrammar.{entry_of, entry_of_key}

@@ -22,8 +22,8 @@ use Rattle.ssh_names.specs.declared.fault.NamesFault.TheVariants as faults
 use Rattle.ssh_options.specs.declared.cause.LineCause.{LineCause}
 use Rattle.ssh_options.specs.declared.cause.LineCause.TheVariants as causes
 use Rattle.ssh_text.specs.Text.{body_of, first_word, after_word, next_field, comment_of}
-use Rattle.ssh_lines.specs.declared.key_part.KeyPart.{KeyPart}
-use Rattle.ssh_lines.specs.declared.known.KnownEntry.{KnownEntry}
+use Rattle.ssh_lines.specs.KeyPart.{KeyPart}
+use Rattle.ssh_lines.specs.KnownEntry.{KnownEntry}
 use Rattle.ssh_lines.specs.declared.known.KnownLine.TheVariants.{Unreadable}
 use Rattle.ssh_lines.specs.declared.marker.FirstField.{FirstField}
 use Rattle.ssh_lines.specs.declared.marker.FirstField.TheVariants as first

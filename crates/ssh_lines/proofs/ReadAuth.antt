@@ -1,13 +1,12 @@
 -- A line that is read as an entry spells it.
 use Rattle.std.proofs.Common.{◌≡◌, ℕ, ◌≤◌, Bool, true, false, if◌then◌else◌, List, [], ◌∷◌, ◌++◌, length, drop, bytes_eq, Result, Ok, Err, refl, sym, ap, subst, ◌∙◌, append_assoc}
 use Rattle.ssh_options.specs.declared.cause.LineCause.{LineCause}
-use Rattle.ssh_options.specs.declared.option.AuthOption.{AuthOption}
-use Rattle.ssh_lines.specs.declared.entry.AuthEntry.{AuthEntry}
+use Rattle.ssh_options.specs.AuthOption.{AuthOption}
+use Rattle.ssh_lines.specs.AuthEntry.{AuthEntry}
 use Rattle.ssh_lines.specs.declared.entry.AuthLine.TheVariants.{Entry}
 use Rattle.ssh_text.specs.Text.{line_limit, body_of, skip_blanks, without_cr, AreBlanks}
 use Rattle.ssh_options.specs.OptionText.{SpellsItems, AreAllowed, option_text_of, options_of}
-use Rattle.ssh_lines.specs.declared.key_part.KeyPart.{KeyPart}
-use Rattle.ssh_lines.specs.KeyPart.{SpellsKey, begins_with_type, key_part_of}
+use Rattle.ssh_lines.specs.KeyPart.{KeyPart, SpellsKey, begins_with_type, key_part_of}
 use Rattle.ssh_lines.specs.Front.{LineFront, past_limit, empty, remark, fields, front_of}
 use Rattle.ssh_lines.specs.AuthGrammar.{SpellsEntry, SpellsOptions, auth_line, line_of_front, entry_of, entry_of_key, entry_after_options}
 use Rattle.ssh_text.proofs.TextLemmas.{ends_word, gap-differs}

@@ -14,8 +14,7 @@ use Rattle.ssh_keys.specs.PublicKey.{PublicKey, kind_of, key_blob, IsKeyBlob}
 use Rattle.ssh_keys.specs.KeyReading.{key_in}
 use Rattle.ssh_options.specs.declared.cause.LineCause.TheVariants as causes
 use Rattle.ssh_text.specs.Text.{first_word, after_word, next_field, comment_of, begins_with_blank}
-use Rattle.ssh_lines.specs.declared.key_part.KeyPart.{KeyPart}
-use Rattle.ssh_lines.specs.KeyPart.{base64, is_empty, lacks_key, SpellsKey, key_by_class, key_of_blob, key_of_kind, key_after_fields, key_part_of}
+use Rattle.ssh_lines.specs.KeyPart.{KeyPart, base64, is_empty, lacks_key, SpellsKey, key_by_class, key_of_blob, key_of_kind, key_after_fields, key_part_of}
 use Rattle.ssh_keys.proofs.KeyLaws.{key_takes}
 use Rattle.ssh_names.proofs.DecodedBytes.{decoded-bytes}
 use Rattle.ssh_lines.proofs.KeyNames.{plain-name}

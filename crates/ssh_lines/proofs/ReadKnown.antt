@@ -15,9 +15,9 @@ use Rattle.ssh_options.specs.declared.cause.LineCause.TheVariants as causes
 use Rattle.ssh_text.specs.Text.{line_limit, body_of, skip_blanks, first_word, after_word, next_field, without_cr, AreBlanks, HasNoBlank, IsGap, begins_with_blank}
 use Rattle.ssh_text.proofs.TextLemmas.{ends_word, gap-test, gap-differs, skip_blanks-after, skip_blanks-at_word}
 use Rattle.ssh_text.proofs.ReadText.{skipped, skip_blanks-begins, cr_cut, word-cut, after_word-ends, IsCr}
-use Rattle.ssh_lines.specs.declared.entry.AuthEntry.{AuthEntry}
-use Rattle.ssh_lines.specs.declared.key_part.KeyPart.{KeyPart}
-use Rattle.ssh_lines.specs.declared.known.KnownEntry.{KnownEntry}
+use Rattle.ssh_lines.specs.AuthEntry.{AuthEntry}
+use Rattle.ssh_lines.specs.KeyPart.{KeyPart}
+use Rattle.ssh_lines.specs.KnownEntry.{KnownEntry}
 use Rattle.ssh_lines.specs.declared.known.KnownLine.TheVariants.{Entry}
 use Rattle.ssh_lines.specs.declared.marker.FirstField.{FirstField}
 use Rattle.ssh_lines.specs.declared.marker.FirstField.TheVariants as first

@@ -5,7 +5,7 @@ use Rattle.ssh_keys.specs.declared.kind.NameClass.TheVariants.{Other}
 use Rattle.ssh_keys.specs.Names.{class_of}
 use Rattle.ssh_options.specs.declared.cause.LineCause.{LineCause}
 use Rattle.ssh_options.specs.declared.cause.LineCause.TheVariants as causes
-use Rattle.ssh_options.specs.declared.option.AuthOption.{AuthOption}
+use Rattle.ssh_options.specs.AuthOption.{AuthOption}
 use Rattle.ssh_options.specs.OptionFaults.{IsOptionsFault}
 use Rattle.ssh_options.specs.OptionText.{AreAllowed, SpellsItems, option_text_of}
 use Rattle.ssh_text.specs.Text.{body_of, first_word, line_limit, skip_blanks}

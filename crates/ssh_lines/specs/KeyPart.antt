@@ -10,10 +10,14 @@ use Rattle.ssh_keys.specs.declared.error.KeyError.{KeyError}
 use Rattle.ssh_keys.specs.Names.{name_of, class_of}
 use Rattle.ssh_keys.specs.PublicKey.{PublicKey, kind_of, key_blob, IsKey}
 use Rattle.ssh_keys.specs.KeyReading.{key_in}
-use Rattle.ssh_lines.specs.declared.key_part.KeyPart.{KeyPart}
 use Rattle.ssh_options.specs.declared.cause.LineCause.{LineCause}
 use Rattle.ssh_options.specs.declared.cause.LineCause.TheVariants as causes
 use Rattle.ssh_text.specs.Text.{skip_blanks, first_word, next_field, after_word, comment_of, IsGap, SpellsTail, IsComment}
+
+-- a key, and the comment after it
+pub record KeyPart : Type 0 where
+  pub key : PublicKey
+  pub comment : List ℕ
 
 -- the base64 of bytes, in the standard alphabet with padding (RFC 4648, section 4)
 abbrev pub base64 : List ℕ → List ℕ

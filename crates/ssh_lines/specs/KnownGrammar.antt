@@ -9,12 +9,12 @@ use Rattle.ssh_names.specs.declared.fault.NamesFault.TheVariants as faults
 use Rattle.ssh_options.specs.declared.cause.LineCause.{LineCause}
 use Rattle.ssh_options.specs.declared.cause.LineCause.TheVariants as causes
 use Rattle.ssh_text.specs.Text.{line_limit, body_of, first_word, next_field, AreBlanks, HasNoBlank, IsGap}
-use Rattle.ssh_lines.specs.declared.key_part.KeyPart.{KeyPart}
+use Rattle.ssh_lines.specs.KeyPart.{KeyPart}
 use Rattle.ssh_lines.specs.declared.marker.FirstField.{FirstField}
 use Rattle.ssh_lines.specs.declared.marker.FirstField.TheVariants as first
 use Rattle.ssh_lines.specs.declared.marker.Marker.{Marker}
 use Rattle.ssh_lines.specs.declared.marker.Marker.TheVariants as markers
-use Rattle.ssh_lines.specs.declared.known.KnownEntry.{KnownEntry}
+use Rattle.ssh_lines.specs.KnownEntry.{KnownEntry}
 use Rattle.ssh_lines.specs.declared.known.KnownLine.{KnownLine}
 use Rattle.ssh_lines.specs.declared.known.KnownLine.TheVariants.{Blank, Comment, Entry, Revoked, RevokedUnreadable, Unreadable}
 use Rattle.ssh_lines.specs.Front.{LineFront, past_limit, empty, remark, fields, front_of}

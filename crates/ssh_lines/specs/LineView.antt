@@ -1,7 +1,7 @@
 -- What is seen of a line that is read in place.
 use Rattle.std.specs.Prelude.{◌≡◌, Result, Ok, Err}
 use Rattle.ssh_options.specs.declared.cause.LineCause.{LineCause}
-use Rattle.ssh_lines.specs.declared.entry.AuthEntry.{AuthEntry}
+use Rattle.ssh_lines.specs.AuthEntry.{AuthEntry}
 use Rattle.ssh_lines.specs.declared.entry.AuthLine.{AuthLine}
 use Rattle.ssh_lines.specs.declared.entry.AuthLine.TheVariants.{Blank, Comment, Entry, Unreadable}
 use Rattle.ssh_lines.specs.declared.line_view.AuthLineView.{AuthLineView}

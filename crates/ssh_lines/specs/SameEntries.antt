@@ -6,8 +6,8 @@ use Rattle.ssh_names.specs.Names.{are_same_names}
 use Rattle.ssh_options.specs.SameOptions.{are_same_options}
 use Rattle.ssh_lines.specs.contracts.marker.Marker as marker_type
 use Rattle.ssh_lines.specs.declared.marker.Marker.{Marker}
-use Rattle.ssh_lines.specs.declared.entry.AuthEntry.{AuthEntry}
-use Rattle.ssh_lines.specs.declared.known.KnownEntry.{KnownEntry}
+use Rattle.ssh_lines.specs.AuthEntry.{AuthEntry}
+use Rattle.ssh_lines.specs.KnownEntry.{KnownEntry}
 
 -- whether entries have the same options, keys with the same blob, and the same comment
 abbrev pub are_same_entries : AuthEntry → AuthEntry → Bool

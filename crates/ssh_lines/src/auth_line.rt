@@ -1,7 +1,7 @@
 //! Reading a line of an authorized_keys file.
 
 ghost use Rattle.std.specs.Prelude.{◌≡◌, List, false, IfOk, IsOk};
-ghost use Rattle.ssh_lines.specs.declared.entry.AuthEntry.{AuthEntry};
+ghost use Rattle.ssh_lines.specs.AuthEntry.{AuthEntry};
 ghost use Rattle.ssh_options.specs.declared.cause.LineCause.{LineCause};
 ghost use Rattle.ssh_lines.specs.AuthFaults.{IsAuthFault};
 ghost use Rattle.ssh_lines.specs.AuthGrammar.{SpellsEntry, auth_line, entry_of};
@@ -16,15 +16,16 @@ use base64::decoded_len_estimate;
 use ssh_options::LineCause;
 use std::alloc::{AllocError, Global};
 
-/// The entry of a line that is neither blank nor a comment, without the blanks at its front.
+/// The entry of a line with this body, which is neither blank nor a comment.
 #[tactic(auto, using(crate::proofs::BytesLemmas::fields_need_bytes))]
-fn entry_in(alloc: Global, body: &[u8]) -> Result<AuthEntry, Fault>
+fn entry_in(alloc: Global, line: &[u8], body: &[u8]) -> Result<AuthEntry, Fault>
+    requires { auth_line line.now ≡ entry_of body.now }
     ensures { SaysEntry result (entry_of body.now) }
 {
     let fields = EntryFields::read(body)?;
     let mut buffer = vec![in alloc; 0u8; decoded_len_estimate(fields.base64.len())]?;
-    let view = fields.view(buffer.as_mut_slice())?;
-    let entry = view.to_entry(alloc)?;
+    let _said = fields.view(buffer.as_mut_slice())?;
+    let entry = AuthEntry::keep(alloc, line)?;
     Ok(entry)
 }
 
@@ -37,7 +38,7 @@ fn read_line(alloc: Global, line: &[u8]) -> Result<AuthLine, AllocError>
         Front::TooLong => Ok(AuthLine::Unreadable(LineCause::TooLong)),
         Front::Blank => Ok(AuthLine::Blank),
         Front::Comment => Ok(AuthLine::Comment),
-        Front::Fields(body) => match entry_in(alloc, body) {
+        Front::Fields(body) => match entry_in(alloc, line, body) {
             Ok(entry) => Ok(AuthLine::Entry(entry)),
             Err(Fault::Cause(cause)) => Ok(AuthLine::Unreadable(cause)),
             Err(Fault::Memory) => Err(AllocError),

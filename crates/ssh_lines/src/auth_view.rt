@@ -1,17 +1,15 @@
 //! Reading a line of an authorized_keys file in place.
 
-ghost use Rattle.std.specs.Prelude.{◌≡◌, ◌↔◌, IsTrue, IfOk};
+ghost use Rattle.std.specs.Prelude.{◌≡◌, ◌↔◌, IsTrue};
 ghost use Rattle.ssh_keys.specs.KeyOf.{key_of};
 ghost use Rattle.ssh_keys.specs.PublicKey.{key_blob};
 ghost use Rattle.ssh_options.specs.declared.option.ValueName.TheVariants.{ExpiryTime};
 ghost use Rattle.ssh_options.specs.Settings.{has_flag, settings};
 ghost use Rattle.ssh_lines.specs.SameEntries.{are_same_entries};
 
-use crate::entry::AuthEntry;
 use crate::key_view::KeyPartView;
 use ssh_keys::KeyView;
 use ssh_options::{Flag, OptionsView, SettingViews, ValueName};
-use std::alloc::{AllocError, Global};
 use std::marker::Model;
 
 /// A key that may log in, with what its line says of it, in the line. Contracts see the entry.
@@ -22,7 +20,7 @@ pub struct AuthEntryView<'a> {
 }
 
 impl<'a> Model for AuthEntryView<'a> {
-    ghost use Rattle.ssh_lines.specs.declared.entry.AuthEntry.{AuthEntry};
+    ghost use Rattle.ssh_lines.specs.AuthEntry.{AuthEntry};
 
     ghost Value = { AuthEntry };
 
@@ -94,19 +92,6 @@ impl<'a> AuthEntryView<'a> {
         ensures { result ≡ settings ExpiryTime self.now.options }
     {
         self.settings(ValueName::ExpiryTime)
-    }
-
-    /// The entry, copied. `Err` means out of memory, and nothing else.
-    pub fn to_entry(&self, alloc: Global) -> Result<AuthEntry, AllocError>
-        ensures { IfOk result (λ entry. entry ≡ self.now) }
-    {
-        let options = self.options.to_options(alloc)?;
-        let part = self.part.to_part(alloc)?;
-        Ok(AuthEntry {
-            options,
-            key: part.key,
-            comment: part.comment,
-        })
     }
 }
 

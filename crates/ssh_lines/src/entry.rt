@@ -1,45 +1,63 @@
-//! What a line of an authorized_keys file says.
+//! What a line of an authorized_keys file says, kept.
 
-ghost use Rattle.std.specs.Prelude.{◌≡◌};
-ghost use Rattle.ssh_options.specs.Settings.{has_flag, settings};
+ghost use Rattle.std.specs.Prelude.{◌≡◌, IfOk};
+ghost use Rattle.ssh_lines.specs.declared.entry.AuthLine.TheVariants.{Entry};
+ghost use Rattle.ssh_lines.specs.AuthGrammar.{auth_line};
+ghost use Rattle.ssh_lines.specs.Kept.{auth_entry};
 
-use ssh_keys::Key;
-use ssh_options::{Flag, LineCause, Options, Settings, ValueName};
-use ssh_text::Bytes;
+use crate::auth_view::AuthEntryView;
+use crate::key_buffer::KeyBuffer;
+use crate::line_view::{AuthLineView, read_auth_view};
+use ssh_options::LineCause;
+use std::alloc::{AllocError, Global};
+use std::marker::Model;
 
-/// A key that may log in, with what its line says of it.
-#[derive(Debug, Drop, PartialEq, Eq)]
+/// A key that may log in, with what its line says of it. It keeps the line. Contracts see the
+/// entry.
+#[derive(Debug, Drop)]
 pub struct AuthEntry {
-    pub options: Options,
-    pub key: Key,
-    pub comment: Bytes,
+    line: Vec<u8>,
+}
+
+impl Model for AuthEntry {
+    ghost use Rattle.std.specs.Prelude.{◌≡◌};
+    ghost use Rattle.ssh_lines.specs.AuthEntry.{AuthEntry};
+
+    ghost Value = { AuthEntry };
+
+    ghost use Rattle.ssh_lines.specs.declared.entry.AuthLine.TheVariants.{Entry};
+    ghost use Rattle.ssh_lines.specs.AuthGrammar.{auth_line};
+    ghost use Rattle.ssh_lines.specs.Kept.{auth_entry};
+
+    ghost view = { λ e. auth_entry (auth_line e.line.items) };
+
+    ghost invariant = { λ e. auth_line e.line.items ≡ Entry (auth_entry (auth_line e.line.items)) };
 }
 
 impl AuthEntry {
-    /// Whether the flag is among the options.
-    pub fn has_flag(&self, flag: Flag) -> bool
-        ensures { result ≡ has_flag flag self.now.options }
+    /// The entry of a line that says one, kept.
+    pub(crate) fn keep(alloc: Global, line: &[u8]) -> Result<AuthEntry, AllocError>
+        requires { auth_line line.now ≡ Entry (auth_entry (auth_line line.now)) }
+        ensures { IfOk result (λ entry. auth_line line.now ≡ Entry entry) }
     {
-        self.options.has_flag(flag)
+        let line = line.to_vec(alloc)?;
+        Ok(AuthEntry { line })
     }
 
-    /// The values of the option with this name, in their order.
-    pub fn settings(&self, name: ValueName) -> Settings<'_>
-        ensures { result ≡ settings name self.now.options }
+    /// The entry in its line, which is read again: the key is decoded into the buffer. No memory is
+    /// taken.
+    pub fn view<'a>(&'a self, buffer: &'a mut KeyBuffer) -> AuthEntryView<'a>
+        ensures { result ≡ self.entry.now }
     {
-        self.options.settings(name)
-    }
-
-    /// The texts of the expiry times, in their order.
-    pub fn expiry_texts(&self) -> Settings<'_>
-        ensures { result ≡ settings ValueName.ExpiryTime self.now.options }
-    {
-        self.settings(ValueName::ExpiryTime)
+        match read_auth_view(&self.line, buffer) {
+            AuthLineView::Entry(entry) => entry,
+            _ => unreachable!(),
+        }
     }
 }
 
 /// What a line of an authorized_keys file says.
-#[derive(Debug, Drop, PartialEq, Eq)]
+#[derive(Debug, Drop)]
 pub enum AuthLine {
     Blank,
     Comment,

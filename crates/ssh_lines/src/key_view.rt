@@ -15,11 +15,9 @@ ghost use Rattle.ssh_lines.specs.KeyPart.{key_of_blob, key_of_kind, key_by_class
 
 use crate::blob::decode_into;
 use crate::key_line::split_fields;
-use crate::key_part::KeyPart;
-use ssh_keys::{Key, KeyKind, KeyView, NameClass, name_class, read_key};
+use ssh_keys::{KeyKind, KeyView, NameClass, name_class, read_key};
 use ssh_options::LineCause;
-use ssh_text::{Bytes, comment_in};
-use std::alloc::{AllocError, Global};
+use ssh_text::comment_in;
 use std::marker::Model;
 
 /// A key in its blob, and the comment after it. Contracts see the key and the comment.
@@ -33,7 +31,7 @@ pub(crate) struct KeyPartView<'a> {
 impl<'a> Model for KeyPartView<'a> {
     ghost use Rattle.ssh_keys.specs.KeyOf.{key_of};
     ghost use Rattle.ssh_keys.specs.PublicKey.{IsKeyBlob};
-    ghost use Rattle.ssh_lines.specs.declared.key_part.KeyPart.{KeyPart};
+    ghost use Rattle.ssh_lines.specs.KeyPart.{KeyPart};
 
     ghost Value = { KeyPart };
 
@@ -55,17 +53,6 @@ impl<'a> KeyPartView<'a> {
         ensures { result.now ≡ key_blob self.now.key }
     {
         self.blob
-    }
-
-    /// The key with its blob and the comment, copied.
-    pub(crate) fn to_part(&self, alloc: Global) -> Result<KeyPart, AllocError>
-        ensures { IfOk result (λ part. part ≡ self.now) }
-    {
-        let comment = Bytes::new(self.comment.to_vec(alloc)?);
-        match Key::read(self.blob.to_vec(alloc)?) {
-            Ok(key) => Ok(KeyPart { key, comment }),
-            Err(_) => unreachable!(),
-        }
     }
 
     /// The comment.

@@ -1,28 +1,46 @@
 //! Reading a line of a known_hosts file.
 
 ghost use Rattle.std.specs.Prelude.{◌≡◌, ◌≤◌, ◌↔◌, ℕ, List, false, IfOk, IsOk, length};
-ghost use Rattle.ssh_lines.specs.declared.known.KnownEntry.{KnownEntry};
+ghost use Rattle.ssh_lines.specs.KnownEntry.{KnownEntry};
 ghost use Rattle.ssh_lines.specs.declared.known.KnownLine.{KnownLine};
 ghost use Rattle.ssh_lines.specs.Front.{front_of, has_fields};
 ghost use Rattle.ssh_options.specs.declared.cause.LineCause.{LineCause};
 ghost use Rattle.ssh_lines.specs.KnownFaults.{IsKnownFault};
 ghost use Rattle.ssh_lines.specs.KnownGrammar.{Blind, RevokesBytes, SpellsKnown, known_line};
 ghost use Rattle.ssh_lines.specs.KnownGrammar.{line_of_fields};
+ghost use Rattle.ssh_lines.specs.KnownSeen.{known_seen};
 
 use crate::front::{Front, front_of};
-use crate::known::KnownLine;
-use crate::known_line_view::view_known_fields;
+use crate::known::{KnownEntry, KnownLine};
+use crate::known_line_view::{KnownLineView, view_known_fields};
 use base64::decoded_len_estimate;
+use ssh_text::Bytes;
 use std::alloc::{AllocError, Global};
 
+/// What is said in the line, kept.
+fn keep(alloc: Global, line: &[u8], said: &KnownLineView<'_>) -> Result<KnownLine, AllocError>
+    requires { known_line line.now ≡ known_seen said.now }
+    ensures { IfOk result (λ kept. kept ≡ known_seen said.entry.now) }
+{
+    match said {
+        KnownLineView::Blank => Ok(KnownLine::Blank),
+        KnownLineView::Comment => Ok(KnownLine::Comment),
+        KnownLineView::Entry(_) => Ok(KnownLine::Entry(KnownEntry::keep(alloc, line)?)),
+        KnownLineView::Unreadable(cause) => Ok(KnownLine::Unreadable(*cause)),
+        KnownLineView::Revoked(bytes) => Ok(KnownLine::Revoked(Bytes::new(bytes.to_vec(alloc)?))),
+        KnownLineView::RevokedUnreadable => Ok(KnownLine::RevokedUnreadable),
+    }
+}
+
 /// What the fields of a line say.
-fn read_fields(alloc: Global, body: &[u8]) -> Result<KnownLine, AllocError>
+fn read_fields(alloc: Global, line: &[u8], body: &[u8]) -> Result<KnownLine, AllocError>
+    requires { known_line line.now ≡ line_of_fields body.now }
     ensures { IfOk result (λ read. read ≡ line_of_fields body.now) }
 {
     let mut buffer = vec![in alloc; 0u8; decoded_len_estimate(body.len())]?;
-    let view = view_known_fields(body, buffer.as_mut_slice());
-    let line = view.to_line(alloc)?;
-    Ok(line)
+    let said = view_known_fields(body, buffer.as_mut_slice());
+    let read = keep(alloc, line, &said)?;
+    Ok(read)
 }
 
 #[tactic(auto, unfolding(crate::specs::KnownGrammar::known_line))]
@@ -34,7 +52,7 @@ fn read_line(alloc: Global, line: &[u8]) -> Result<KnownLine, AllocError>
         Front::TooLong => Ok(KnownLine::RevokedUnreadable),
         Front::Blank => Ok(KnownLine::Blank),
         Front::Comment => Ok(KnownLine::Comment),
-        Front::Fields(body) => read_fields(alloc, body),
+        Front::Fields(body) => read_fields(alloc, line, body),
     }
 }
 

@@ -1,11 +1,12 @@
 //! Reading a line of a known_hosts file in place.
 
-ghost use Rattle.std.specs.Prelude.{◌≡◌, ◌≤◌, ◌↔◌, ℕ, List, IfOk, length};
+ghost use Rattle.std.specs.Prelude.{◌≡◌, ◌≤◌, ◌↔◌, ℕ, List, length};
 ghost use Rattle.base64.specs.Decode.{decoded_estimate};
 ghost use Rattle.ssh_wire.specs.Reading.{Gives};
-ghost use Rattle.ssh_lines.specs.declared.known.KnownEntry.{KnownEntry};
+ghost use Rattle.ssh_lines.specs.KnownEntry.{KnownEntry};
 ghost use Rattle.ssh_lines.specs.declared.known.KnownLine.{KnownLine};
 ghost use Rattle.ssh_options.specs.declared.cause.LineCause.{LineCause};
+ghost use Rattle.ssh_lines.specs.KeyLimit.{key_limit};
 ghost use Rattle.ssh_lines.specs.KnownFaults.{IsKnownFault};
 ghost use Rattle.ssh_lines.specs.KnownGrammar.{Blind, RevokesBytes, SpellsKnown, known_line};
 ghost use Rattle.ssh_lines.specs.KnownGrammar.{entry_of_fields, line_of_entry, line_of_fields};
@@ -17,14 +18,12 @@ use crate::front::{Front, front_of};
 use crate::key_buffer::KeyBuffer;
 use crate::key_line::split_fields;
 use crate::key_view::{key_fields, key_in_field};
-use crate::known::KnownLine;
 use crate::known_view::KnownEntryView;
 use crate::marker::{FirstField, Marker, first_field_of};
 use ssh_keys::name_class;
 use ssh_names::{NamesFault, read_names};
 use ssh_options::LineCause;
-use ssh_text::{Bytes, skip_blanks, split_word};
-use std::alloc::{AllocError, Global};
+use ssh_text::{skip_blanks, split_word};
 
 /// What a line of a known_hosts file says, in the line.
 #[derive(Debug, Drop, PartialEq, Eq)]
@@ -37,24 +36,6 @@ pub enum KnownLineView<'a> {
     Revoked(&'a [u8]),
     /// The line may revoke any key: it is longer than a line may be, or a revocation without bytes.
     RevokedUnreadable,
-}
-
-impl KnownLineView<'_> {
-    /// The line, copied. `Err` means out of memory, and nothing else.
-    pub fn to_line(&self, alloc: Global) -> Result<KnownLine, AllocError>
-        ensures { IfOk result (λ line. line ≡ known_seen self.entry.now) }
-    {
-        match self {
-            KnownLineView::Blank => Ok(KnownLine::Blank),
-            KnownLineView::Comment => Ok(KnownLine::Comment),
-            KnownLineView::Entry(entry) => Ok(KnownLine::Entry(entry.to_entry(alloc)?)),
-            KnownLineView::Unreadable(cause) => Ok(KnownLine::Unreadable(*cause)),
-            KnownLineView::Revoked(bytes) => {
-                Ok(KnownLine::Revoked(Bytes::new(bytes.to_vec(alloc)?)))
-            }
-            KnownLineView::RevokedUnreadable => Ok(KnownLine::RevokedUnreadable),
-        }
-    }
 }
 
 /// The entry of a field of names and a text of type, base64 and comment.
@@ -123,7 +104,7 @@ pub(crate) fn view_known_fields<'a>(body: &'a [u8], buffer: &'a mut [u8]) -> Kno
 
 #[tactic(auto, unfolding(crate::specs::KnownGrammar::known_line))]
 fn view_line<'a>(line: &'a [u8], buffer: &'a mut [u8]) -> KnownLineView<'a>
-    requires { 49152 ≤ length buffer.old }
+    requires { length buffer.old ≡ key_limit }
     ensures { known_seen result ≡ known_line line.entry.now }
 {
     match front_of(line) {

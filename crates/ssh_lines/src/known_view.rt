@@ -1,18 +1,15 @@
 //! An entry of a known_hosts file, in its line.
 
-ghost use Rattle.std.specs.Prelude.{◌≡◌, ◌↔◌, IsTrue, IfOk};
+ghost use Rattle.std.specs.Prelude.{◌≡◌, ◌↔◌, IsTrue};
 ghost use Rattle.ssh_keys.specs.KeyOf.{key_of};
 ghost use Rattle.ssh_keys.specs.PublicKey.{key_blob};
 ghost use Rattle.ssh_names.specs.Names.{names_host};
 ghost use Rattle.ssh_lines.specs.SameEntries.{are_same_known};
 
 use crate::key_view::KeyPartView;
-use crate::known::KnownEntry;
-use crate::known_names::KnownNames;
 use crate::marker::Marker;
 use ssh_keys::KeyView;
 use ssh_names::{HostNames, names_host};
-use std::alloc::{AllocError, Global};
 use std::marker::Model;
 
 /// A key that hosts may have, with what its line says of it, in the line. Contracts see the entry.
@@ -24,7 +21,7 @@ pub struct KnownEntryView<'a> {
 }
 
 impl<'a> Model for KnownEntryView<'a> {
-    ghost use Rattle.ssh_lines.specs.declared.known.KnownEntry.{KnownEntry};
+    ghost use Rattle.ssh_lines.specs.KnownEntry.{KnownEntry};
 
     ghost Value = { KnownEntry };
 
@@ -95,20 +92,6 @@ impl<'a> KnownEntryView<'a> {
         ensures { IsTrue result ↔ (blob.now ≡ key_blob self.now.key) }
     {
         blob == self.blob()
-    }
-
-    /// The entry, copied. `Err` means out of memory, and nothing else.
-    pub fn to_entry(&self, alloc: Global) -> Result<KnownEntry, AllocError>
-        ensures { IfOk result (λ entry. entry ≡ self.now) }
-    {
-        let names = KnownNames::keep(alloc, &self.names)?;
-        let part = self.part.to_part(alloc)?;
-        Ok(KnownEntry {
-            marker: self.marker,
-            names,
-            key: part.key,
-            comment: part.comment,
-        })
     }
 }
 

@@ -2,8 +2,8 @@
 //!
 //! A line is given without its LF and has at most 65,536 bytes; what is told of one that has no
 //! reading is its first fault, as `LineCause`. Reading in place takes no memory but the buffer for
-//! keys, and copies nothing. A caller that looks for the options of a key among the lines of a file
-//! (a test runs these lines):
+//! keys, and copies nothing; an entry that is kept is its line, which is read again for a view of
+//! it. A caller that looks for the line of a key in a file, and keeps it (a test runs these lines):
 //!
 //! ```
 //! let mut buffer = KeyBuffer::new(alloc)?;
@@ -11,7 +11,7 @@
 //!     if let AuthLineView::Entry(entry) = read_auth_view(line, &mut buffer)
 //!         && entry.has_blob(blob)
 //!     {
-//!         return Ok(Some(entry.to_entry(alloc)?));
+//!         return Ok(Some(read_auth_line(alloc, line)?));
 //!     }
 //! }
 //! Ok(None)
@@ -27,12 +27,10 @@ mod fault;
 mod front;
 mod key_buffer;
 mod key_line;
-mod key_part;
 mod key_view;
 mod known;
 mod known_line;
 mod known_line_view;
-mod known_names;
 mod known_view;
 mod laws;
 mod line_view;
@@ -47,16 +45,6 @@ pub use key_line::{KeyText, key_text};
 pub use known::{KnownEntry, KnownLine};
 pub use known_line::read_known_line;
 pub use known_line_view::{KnownLineView, read_known_view};
-pub use known_names::KnownNames;
 pub use known_view::KnownEntryView;
 pub use line_view::{AuthLineView, read_auth_view};
 pub use marker::Marker;
-pub use ssh_expiry::{TimeZone, epoch, expiry};
-pub use ssh_names::{
-    HostNames, NamesFault, hash_name, hmac_sha1, lookup_name, names_host, read_names,
-};
-pub use ssh_options::{
-    AuthOption, Flag, LineCause, OptionView, Options, OptionsView, SettingViews, Settings,
-    ValueBytes, ValueName, ValueView,
-};
-pub use ssh_text::{Bytes, LINE_LIMIT, Line, Lines, Scanner};

@@ -2,11 +2,12 @@
 
 ghost use Rattle.std.specs.Prelude.{◌≡◌, ◌≤◌, List, length};
 ghost use Rattle.base64.specs.Decode.{decoded_estimate};
-ghost use Rattle.ssh_lines.specs.declared.entry.AuthEntry.{AuthEntry};
+ghost use Rattle.ssh_lines.specs.AuthEntry.{AuthEntry};
 ghost use Rattle.ssh_lines.specs.declared.entry.AuthLine.{AuthLine};
 ghost use Rattle.ssh_options.specs.declared.cause.LineCause.{LineCause};
 ghost use Rattle.ssh_lines.specs.AuthFaults.{IsAuthFault};
 ghost use Rattle.ssh_lines.specs.AuthGrammar.{SpellsEntry, auth_line, entry_of};
+ghost use Rattle.ssh_lines.specs.KeyLimit.{key_limit};
 ghost use Rattle.ssh_lines.specs.LineView.{SaysView, line_seen};
 
 use crate::auth_view::AuthEntryView;
@@ -34,7 +35,7 @@ fn view_entry<'a>(body: &'a [u8], buffer: &'a mut [u8]) -> Result<AuthEntryView<
 
 #[tactic(auto, unfolding(crate::specs::AuthGrammar::auth_line))]
 fn view_line<'a>(line: &'a [u8], buffer: &'a mut [u8]) -> AuthLineView<'a>
-    requires { 49152 ≤ length buffer.old }
+    requires { length buffer.old ≡ key_limit }
     ensures { line_seen result ≡ auth_line line.entry.now }
 {
     match front_of(line) {

@@ -1,6 +1,6 @@
 -- Options that are read where they stand are those that their text says.
 use Rattle.std.proofs.Common.{◌≡◌, ℕ, Bool, true, false, cond, List, [], ◌∷◌, ◌++◌, Option, Some, None, Result, Ok, Err, refl, sym, ap, ◌∙◌, append_assoc, append-nil}
-use Rattle.ssh_options.specs.declared.option.AuthOption.{AuthOption}
+use Rattle.ssh_options.specs.AuthOption.{AuthOption}
 use Rattle.ssh_options.specs.declared.cause.LineCause.{LineCause}
 use Rattle.ssh_options.specs.declared.cause.LineCause.TheVariants as causes
 use Rattle.ssh_options.specs.OptionText.{Item, items_of, item_of, each_item, option_of, repeats, has_bad_expiry, and_option, and_item, options_from, options_of}

@@ -8,8 +8,7 @@ use Rattle.ssh_options.specs.declared.option.Flag.{Flag}
 use Rattle.ssh_options.specs.declared.option.Flag.TheVariants.{AgentForwarding, CertAuthority, NoAgentForwarding, NoPortForwarding, NoPty, NoUserRc, NoX11Forwarding, PortForwarding, Pty, NoTouchRequired, VerifyRequired, Restrict, UserRc, X11Forwarding}
 use Rattle.ssh_options.specs.declared.option.ValueName.{ValueName}
 use Rattle.ssh_options.specs.declared.option.ValueName.TheVariants.{Command, Environment, ExpiryTime, From, PermitListen, PermitOpen, Principals, Tunnel}
-use Rattle.ssh_options.specs.declared.option.AuthOption.{AuthOption}
-use Rattle.ssh_options.specs.declared.option.AuthOption.TheVariants.{Switch, Setting}
+use Rattle.ssh_options.specs.AuthOption.{AuthOption, Switch, Setting}
 use Rattle.ssh_options.specs.declared.option.OptionName.TheVariants as names
 use Rattle.ssh_text.specs.Text.{is_blank}
 use Rattle.ssh_options.specs.OptionNames.{row_of, row_named, flag_name, value_name, option_named, same_name}

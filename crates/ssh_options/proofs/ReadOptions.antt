@@ -3,8 +3,7 @@ use Rattle.std.proofs.Common.{◌≡◌, ◌≢◌, ℕ, Bool, true, false, not,
 use Rattle.std.specs.List.{AllByRecursion, AllZip, list_all, onto_first, join_with_byte}
 use Rattle.std.proofs.lemmas.Bool.{cases_Bool, and_parts, eqb-true, ne_eqb}
 use Rattle.std.proofs.lemmas.Slice.Eq.{bytes_eq-Decides}
-use Rattle.ssh_options.specs.declared.option.AuthOption.{AuthOption}
-use Rattle.ssh_options.specs.declared.option.AuthOption.TheVariants.{Switch, Setting}
+use Rattle.ssh_options.specs.AuthOption.{AuthOption, Switch, Setting}
 use Rattle.ssh_options.specs.declared.cause.LineCause.{LineCause}
 use Rattle.ssh_options.specs.declared.cause.LineCause.TheVariants as causes
 use Rattle.ssh_text.specs.Text.{is_blank}
@@ -12,7 +11,7 @@ use Rattle.ssh_options.specs.declared.option.OptionName.{OptionName}
 use Rattle.ssh_options.specs.declared.option.OptionName.TheVariants as names
 use Rattle.ssh_options.specs.OptionNames.{OptionRow, options, row_of, row_named, name_in, option_named, same_name}
 use Rattle.ssh_options.specs.OptionFaults.{SpellsValue, SpellsItem}
-use Rattle.ssh_options.specs.OptionText.{Item, escaped, unescaped, quoted, ends_with_backslash, SpellsOption, SpellsItems, AreAllowed, can_be_quoted, repeats, has_bad_expiry, option_text_of, items_of, is_open_quote, turned, is_name_byte, name_part, after_name, value_of, named_item, item_of, each_item, option_by_name, option_of, and_option, options_from, options_of_items, options_of, closed_by_quote}
+use Rattle.ssh_options.specs.OptionText.{Item, escaped, unescaped, ends_with_backslash, SpellsOption, SpellsItems, AreAllowed, can_be_quoted, repeats, has_bad_expiry, option_text_of, items_of, is_open_quote, turned, is_name_byte, name_part, after_name, value_of, named_item, item_of, each_item, option_by_name, option_of, and_option, options_from, options_of_items, options_of, closed_by_quote}
 use Rattle.ssh_text.proofs.TextLemmas.{ends_word}
 use Rattle.ssh_options.proofs.OptionLemmas.{AreNameBytes}
 

@@ -3,14 +3,13 @@ use Rattle.std.proofs.Common.{◌≡◌, ℕ, Bool, true, false, ◌||◌, cond,
 use Rattle.std.specs.Prelude.{option_map, option_and_then}
 use Rattle.ssh_options.specs.declared.option.ValueName.{ValueName}
 use Rattle.ssh_options.specs.declared.option.ValueName.TheVariants.{Command, Environment, ExpiryTime, From, PermitListen, PermitOpen, Principals, Tunnel}
-use Rattle.ssh_options.specs.declared.option.AuthOption.{AuthOption}
-use Rattle.ssh_options.specs.declared.option.AuthOption.TheVariants.{Switch, Setting}
+use Rattle.ssh_options.specs.AuthOption.{AuthOption, Switch, Setting}
 use Rattle.ssh_options.specs.declared.option_check.Seen.{Seen}
 use Rattle.ssh_options.specs.declared.cause.LineCause.{LineCause}
 use Rattle.ssh_options.specs.declared.cause.LineCause.TheVariants as causes
 use Rattle.ssh_options.specs.OptionNames.{same_value_name, row_of}
 use Rattle.ssh_options.specs.OptionText.{Item, items_of, item_of, each_item, has_setting, repeats, has_bad_expiry, option_of, and_option, and_item, options_from, options_of_items, options_of}
-use Rattle.ssh_options.specs.OptionsInPlace.{seen_of, none_seen, stood, with_name, and_seen, and_read_seen, and_item_seen, fault_in}
+use Rattle.ssh_options.specs.OptionsInPlace.{seen_of, none_seen, stood, with_name, and_read_seen, and_item_seen, fault_in}
 
 -- ---- what has stood
 

@@ -1,3 +1,4 @@
+pub mod AuthOption
 pub mod OptionNames
 pub mod OptionText
 pub mod OptionTexts

@@ -6,8 +6,7 @@ use Rattle.ssh_options.specs.declared.cause.LineCause.{LineCause}
 use Rattle.ssh_options.specs.declared.cause.LineCause.TheVariants as causes
 use Rattle.ssh_options.specs.declared.option.Flag.{Flag}
 use Rattle.ssh_options.specs.declared.option.ValueName.{ValueName}
-use Rattle.ssh_options.specs.declared.option.AuthOption.{AuthOption}
-use Rattle.ssh_options.specs.declared.option.AuthOption.TheVariants.{Switch, Setting}
+use Rattle.ssh_options.specs.AuthOption.{AuthOption, Switch, Setting}
 use Rattle.ssh_options.specs.declared.option.OptionName.{OptionName}
 use Rattle.ssh_options.specs.OptionNames.{row_of, name_in, flag_name, value_name, same_name}
 use Rattle.ssh_options.specs.OptionText.{Item, AreAllowed, ends_with_backslash, has_bad_expiry, is_name_byte, quoted, repeats}

@@ -4,8 +4,7 @@ use Rattle.std.specs.List.{onto_first}
 use Rattle.std.specs.Char.{is_ascii_digit, is_ascii_lowercase, is_ascii_uppercase}
 use Rattle.ssh_options.specs.declared.option.ValueName.{ValueName}
 use Rattle.ssh_options.specs.declared.option.ValueName.TheVariants.{ExpiryTime}
-use Rattle.ssh_options.specs.declared.option.AuthOption.{AuthOption}
-use Rattle.ssh_options.specs.declared.option.AuthOption.TheVariants.{Switch, Setting}
+use Rattle.ssh_options.specs.AuthOption.{AuthOption, Switch, Setting}
 use Rattle.ssh_options.specs.declared.cause.LineCause.{LineCause}
 use Rattle.ssh_options.specs.declared.cause.LineCause.TheVariants as causes
 use Rattle.ssh_text.specs.Text.{is_blank}

@@ -1,8 +1,7 @@
 -- What is seen of options that are read where they stand in a line.
 use Rattle.std.specs.Prelude.{ℕ, List, [], ◌∷◌, Option, Some, None, option_map, option_and_then}
 use Rattle.std.specs.Result.{result_ok}
-use Rattle.ssh_options.specs.declared.option.AuthOption.{AuthOption}
-use Rattle.ssh_options.specs.declared.option.AuthOption.TheVariants.{Switch, Setting}
+use Rattle.ssh_options.specs.AuthOption.{AuthOption, Switch, Setting}
 use Rattle.ssh_options.specs.declared.option_view.OptionView.{OptionView}
 use Rattle.ssh_options.specs.declared.option_view.OptionView.TheVariants as views
 use Rattle.ssh_options.specs.OptionText.{item_of, option_of}

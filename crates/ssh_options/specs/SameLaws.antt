@@ -5,13 +5,12 @@ use Rattle.std.specs.Cmp.{first_so, second_so}
 use Rattle.std.specs.Cmp.Lexicographic.{bytes_decides, pointwise_decides}
 use denote.Enum.Bare.{same_true, true_same}
 use mathlib.Core.Bool.{true≢false}
-use mathlib.Core.Path.{refl, sym, ap, ◌∙◌}
+use mathlib.Core.Path.{sym, ap, ◌∙◌}
 use Rattle.ssh_options.specs.contracts.option.Flag as flag_type
 use Rattle.ssh_options.specs.contracts.option.ValueName as value_type
 use Rattle.ssh_options.specs.declared.option.Flag.{Flag}
 use Rattle.ssh_options.specs.declared.option.ValueName.{ValueName}
-use Rattle.ssh_options.specs.declared.option.AuthOption.{AuthOption}
-use Rattle.ssh_options.specs.declared.option.AuthOption.TheVariants.{Switch, Setting}
+use Rattle.ssh_options.specs.AuthOption.{AuthOption, Switch, Setting}
 use Rattle.ssh_options.specs.OptionNames.{same_value_name}
 use Rattle.ssh_options.specs.SameOptions.{is_same_option, are_same_options}
 

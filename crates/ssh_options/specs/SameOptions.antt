@@ -1,8 +1,7 @@
 -- When options are the same (this project's rule).
 use Rattle.std.specs.Prelude.{Bool, false, ◌&&◌, List, bytes_eq}
 use Rattle.std.specs.Cmp.Lexicographic.{pointwise}
-use Rattle.ssh_options.specs.declared.option.AuthOption.{AuthOption}
-use Rattle.ssh_options.specs.declared.option.AuthOption.TheVariants.{Switch, Setting}
+use Rattle.ssh_options.specs.AuthOption.{AuthOption, Switch, Setting}
 use Rattle.ssh_options.specs.OptionNames.{same_flag, same_value_name}
 
 -- whether two options are the same: one flag, or one name with the same value

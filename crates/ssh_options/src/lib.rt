@@ -21,17 +21,13 @@ mod option;
 mod option_check;
 mod option_text;
 mod option_view;
-mod options;
 mod options_view;
 mod samples;
-mod settings;
 mod value_view;
 
 pub use cause::LineCause;
-pub use option::{AuthOption, Flag, ValueName};
+pub use option::{Flag, ValueName};
 pub use option_text::split_option_text;
 pub use option_view::OptionView;
-pub use options::Options;
 pub use options_view::{OptionsView, SettingViews};
-pub use settings::Settings;
 pub use value_view::{ValueBytes, ValueView};

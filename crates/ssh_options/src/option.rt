@@ -1,6 +1,6 @@
 //! The options of an authorized_keys line.
 
-ghost use Rattle.std.specs.Prelude.{◌≡◌, ◌↔◌, IsTrue, Some, option_map, map};
+ghost use Rattle.std.specs.Prelude.{◌≡◌, Some, option_map, map};
 ghost use Rattle.ssh_options.specs.OptionNames.{
   options,
   row_of,
@@ -13,13 +13,10 @@ ghost use Rattle.ssh_options.specs.OptionNames.{
   is_single,
   same_name,
 };
-ghost use Rattle.ssh_options.specs.OptionText.{option_name};
 ghost use Rattle.ssh_options.specs.OptionTexts.{table_row};
-ghost use Rattle.ssh_options.specs.SameOptions.{is_same_option};
 
 use OptionName::{Setting, Switch};
 use Times::{Any, Once};
-use ssh_text::Bytes;
 
 /// An option without a value (sshd(8), AUTHORIZED_KEYS FILE FORMAT).
 #[derive(Debug, Clone, Copy, PartialEq, Eq)]
@@ -51,14 +48,6 @@ pub enum ValueName {
     PermitOpen,
     Principals,
     Tunnel,
-}
-
-/// An option of an authorized_keys line.
-#[derive(Debug, Drop)]
-pub enum AuthOption {
-    Switch(Flag),
-    /// The value as it is meant: `\"` of the line is a quote.
-    Setting(ValueName, Bytes),
 }
 
 /// What a name stands for.
@@ -211,51 +200,6 @@ impl ValueName {
     {
         row_of(OptionName::Setting(self)).2 == Times::Once
     }
-}
-
-impl AuthOption {
-    /// The name, as sshd(8) spells it.
-    pub fn name(&self) -> &'static [u8]
-        ensures { result.now ≡ option_name self.now }
-    {
-        match self {
-            AuthOption::Switch(flag) => flag.name(),
-            AuthOption::Setting(name, _) => name.name(),
-        }
-    }
-}
-
-/// Options are equal exactly where they are one flag, or one name with the same value.
-impl PartialEq for AuthOption {
-    ghost use Rattle.std.specs.Cmp.{decided, partial_equiv_from_equiv};
-    ghost use Rattle.ssh_options.specs.SameLaws.{option_decides};
-    ghost use Rattle.ssh_options.specs.SameOptions.{is_same_option};
-
-    ghost eq = { is_same_option };
-
-    ghost laws = { partial_equiv_from_equiv (decided is_same_option option_decides) };
-
-    #[tactic(auto, using(crate::specs::SameLaws::option_decides))]
-    fn eq(&self, other: &Self) -> bool
-        ensures value { result ≡ is_same_option self.now other.now }
-        ensures same { IsTrue result ↔ (self.now ≡ other.now) }
-    {
-        match (self, other) {
-            (AuthOption::Switch(flag), AuthOption::Switch(other)) => *flag == *other,
-            (AuthOption::Setting(name, value), AuthOption::Setting(other, other_value)) => {
-                *name == *other && *value == *other_value
-            }
-            _ => false,
-        }
-    }
-}
-
-impl Eq for AuthOption {
-    ghost use Rattle.std.specs.Cmp.{decided};
-    ghost use Rattle.ssh_options.specs.SameLaws.{option_decides};
-    ghost use Rattle.ssh_options.specs.SameOptions.{is_same_option};
-
-    ghost laws = { decided is_same_option option_decides };
 }
 
 /// The names are the same without regard to ASCII case.

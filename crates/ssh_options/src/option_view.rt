@@ -1,16 +1,15 @@
 //! An option, in its line.
 
-ghost use Rattle.std.specs.Prelude.{◌≡◌, IfOk};
+ghost use Rattle.std.specs.Prelude.{◌≡◌};
 ghost use Rattle.ssh_wire.specs.Reading.{Gives};
-ghost use Rattle.ssh_options.specs.OptionText.{option_of};
+ghost use Rattle.ssh_options.specs.OptionText.{option_name, option_of};
 ghost use Rattle.ssh_options.specs.OptionTexts.{plain_item};
 ghost use Rattle.ssh_options.specs.OptionsInLine.{option_in_line};
 
 use crate::cause::LineCause;
-use crate::option::{AuthOption, Flag, OptionName, ValueName, option_named};
+use crate::option::{Flag, OptionName, ValueName, option_named};
 use crate::option_text::ItemText;
 use crate::value_view::ValueView;
-use std::alloc::{AllocError, Global};
 
 /// An option of an authorized_keys line, in the line.
 #[derive(Debug, Drop, PartialEq, Eq)]
@@ -34,17 +33,13 @@ pub(crate) fn view_option(item: ItemText<'_>) -> Result<OptionView<'_>, LineCaus
 }
 
 impl OptionView<'_> {
-    ghost use Rattle.ssh_options.specs.OptionsInLine.{option_in_line};
-
-    /// The option, copied. `Err` means out of memory, and nothing else.
-    pub fn to_option(&self, alloc: Global) -> Result<AuthOption, AllocError>
-        ensures { IfOk result (λ option. option ≡ option_in_line self.now) }
+    /// The name, as sshd(8) spells it.
+    pub fn name(&self) -> &'static [u8]
+        ensures { result.now ≡ option_name (option_in_line self.now) }
     {
         match self {
-            OptionView::Switch(flag) => Ok(AuthOption::Switch(*flag)),
-            OptionView::Setting(name, value) => {
-                Ok(AuthOption::Setting(*name, value.to_bytes(alloc)?))
-            }
+            OptionView::Switch(flag) => flag.name(),
+            OptionView::Setting(name, _) => name.name(),
         }
     }
 }

@@ -1,6 +1,6 @@
 //! The options of a line, in its text.
 
-ghost use Rattle.std.specs.Prelude.{◌≡◌, ◌↔◌, [], ◌++◌, List, IfOk, IsTrue, option_map, option_copied};
+ghost use Rattle.std.specs.Prelude.{◌≡◌, ◌↔◌, [], List, IsTrue, option_map, option_copied};
 ghost use Rattle.std.specs.Iterator.{YieldsFirst, YieldsFirstBy, item_count};
 ghost use Rattle.ssh_wire.specs.Reading.{Gives};
 ghost use Rattle.ssh_options.specs.OptionText.{option_of, options_of};
@@ -9,13 +9,11 @@ ghost use Rattle.ssh_options.specs.Settings.{has_flag, settings};
 ghost use Rattle.ssh_options.specs.OptionsInLine.{option_in_line, option_at};
 
 use crate::cause::LineCause;
-use crate::option::{AuthOption, Flag, ValueName};
+use crate::option::{Flag, ValueName};
 use crate::option_check::options_fault;
 use crate::option_text::{read_item, split_item};
 use crate::option_view::{OptionView, view_option};
-use crate::options::Options;
 use crate::value_view::ValueView;
-use std::alloc::{AllocError, Global};
 use std::marker::Model;
 
 /// The options of a line that are left, in its text. Contracts see them as the list.
@@ -26,7 +24,7 @@ pub struct OptionsView<'a> {
 
 impl<'a> Model for OptionsView<'a> {
     ghost use Rattle.std.specs.Prelude.{List, Some, option_copied, ◌≡◌};
-    ghost use Rattle.ssh_options.specs.declared.option.AuthOption.{AuthOption};
+    ghost use Rattle.ssh_options.specs.AuthOption.{AuthOption};
     ghost use Rattle.ssh_options.specs.OptionTexts.{texts_left};
     ghost use Rattle.ssh_options.specs.OptionsInLine.{each_option, options_in};
 
@@ -88,17 +86,6 @@ impl<'a> OptionsView<'a> {
             name,
             rest: self.again(),
         }
-    }
-
-    /// The options, copied, in their order. `Err` means out of memory, and nothing else.
-    pub fn to_options(&self, alloc: Global) -> Result<Options, AllocError>
-        ensures { IfOk result (λ options. options ≡ self.now) }
-    {
-        let mut options = Options::new(alloc);
-        for option in self.again() {
-            options.push(option.to_option(alloc)?)?;
-        }
-        Ok(options)
     }
 }
 

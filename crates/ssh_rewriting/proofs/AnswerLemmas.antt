@@ -2,7 +2,8 @@
 use Rattle.std.proofs.Common.{◌≡◌, ℕ, ◌<◌, ◌≤◌, List, length, Result, Ok, Err, refl, sym, ap, ◌∙◌}
 use Rattle.std.proofs.lemmas.Bool.{le-ltb, lt-ltb}
 use Rattle.ssh_rewriting.specs.declared.error.RewriteError.TheVariants.{TooLong}
-use Rattle.ssh_rewriting.specs.Answer.{file_limit, rewritten}
+use Rattle.ssh_rewriting.specs.Answer.{rewritten}
+use Rattle.ssh_text.specs.Text.{file_limit}
 
 short-both : (old new : List ℕ) → length old ≤ file_limit → length new ≤ file_limit → rewritten old new ≡ Ok new
 short-both old new a b = rw (le-ltb file_limit (length old) a, le-ltb file_limit (length new) b) refl

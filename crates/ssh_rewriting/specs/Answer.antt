@@ -1,11 +1,8 @@
 -- What a rewriting answers.
-use Rattle.std.specs.Prelude.{◌≡◌, ℕ, nat_lt, List, length, Result, Ok, Err, if◌then◌else◌}
+use Rattle.std.specs.Prelude.{ℕ, nat_lt, List, length, Result, Ok, Err, if◌then◌else◌}
+use Rattle.ssh_text.specs.Text.{file_limit}
 use Rattle.ssh_rewriting.specs.declared.error.RewriteError.{RewriteError}
 use Rattle.ssh_rewriting.specs.declared.error.RewriteError.TheVariants.{TooLong, Memory}
-
--- the most bytes of a trust file (this project's rule)
-abbrev pub file_limit : ℕ
-file_limit = 67108864
 
 abbrev pub if_short : List ℕ → Result (List ℕ) RewriteError → Result (List ℕ) RewriteError
 if_short file answer = if nat_lt file_limit (length file) then Err TooLong else answer

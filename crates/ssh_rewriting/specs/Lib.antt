@@ -1,3 +1,4 @@
 pub mod Facts
 pub mod CanonicalFile
 pub mod Answer
+pub mod Samples

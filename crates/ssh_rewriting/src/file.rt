@@ -2,16 +2,15 @@
 
 ghost use Rattle.std.specs.Prelude.{◌≡◌, ◌<◌, ◌≤◌, length, Ok, Err, IfOk, IfErr};
 ghost use Rattle.ssh_rewriting.specs.declared.error.RewriteError.TheVariants.{TooLong};
-ghost use Rattle.ssh_rewriting.specs.Answer.{file_limit, rewritten};
+ghost use Rattle.ssh_rewriting.specs.Answer.{rewritten};
+ghost use Rattle.ssh_text.specs.Text.{file_limit};
 ghost use Rattle.ssh_rewriting.specs.CanonicalFile.{file_with};
 
 use crate::error::RewriteError;
 use crate::kind::Kind;
-use ssh_lines::{KeyBuffer, Lines};
+use ssh_lines::KeyBuffer;
+use ssh_text::{FILE_LIMIT, Lines};
 use std::alloc::{AllocError, Global};
-
-/// The most bytes that a trust file may have (this project's rule).
-pub const FILE_LIMIT: usize = 67_108_864;
 
 /// The file is within the limit.
 fn check_len(file: &[u8]) -> Result<(), RewriteError>

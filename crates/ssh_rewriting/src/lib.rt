@@ -15,7 +15,7 @@ mod file;
 mod kind;
 mod known_file;
 mod rewrite;
+mod samples;
 
 pub use error::RewriteError;
-pub use file::FILE_LIMIT;
 pub use rewrite::{rewrite_auth, rewrite_known};

@@ -2,7 +2,8 @@
 
 ghost use Rattle.std.specs.Prelude.{◌≡◌, ◌<◌, ◌≤◌, ◌+◌, length, Ok, Err, IfOk};
 ghost use Rattle.ssh_rewriting.specs.declared.error.RewriteError.TheVariants.{TooLong};
-ghost use Rattle.ssh_rewriting.specs.Answer.{file_limit, rewritten};
+ghost use Rattle.ssh_rewriting.specs.Answer.{rewritten};
+ghost use Rattle.ssh_text.specs.Text.{file_limit};
 ghost use Rattle.ssh_rewriting.specs.CanonicalFile.{canonical_auth_file, canonical_known_file};
 ghost use Rattle.ssh_rewriting.specs.Facts.{auth_facts, known_facts};
 

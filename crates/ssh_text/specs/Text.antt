@@ -6,6 +6,10 @@ use Rattle.std.specs.List.{onto_first, AllByRecursion}
 abbrev pub line_limit : ℕ
 line_limit = 65536
 
+-- the most bytes of a trust file (this project's rule)
+abbrev pub file_limit : ℕ
+file_limit = 67108864
+
 -- ---- lines
 
 -- how many bytes stand before the first LF

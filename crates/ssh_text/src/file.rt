@@ -10,6 +10,9 @@ use std::marker::Model;
 /// The most bytes that a line may have, without its LF and with its CR.
 pub const LINE_LIMIT: usize = 65_536;
 
+/// The most bytes that a trust file may have (this project's rule).
+pub const FILE_LIMIT: usize = 67_108_864;
+
 /// The lines of a file, each with its number, from 1, and without its LF. The file is cut at every
 /// LF; a last piece without one counts if it is not empty. Contracts see the next line's number and
 /// the bytes that are left.

@@ -25,6 +25,6 @@ mod scanner;
 mod text;
 
 pub use bytes::Bytes;
-pub use file::{LINE_LIMIT, Lines};
+pub use file::{FILE_LIMIT, LINE_LIMIT, Lines};
 pub use scanner::{Line, Scanner};
 pub use text::{comment_in, ends_with, is_blank, skip_blanks, split_word, without_last};

@@ -1,4 +1,4 @@
-use Rattle.ssh_lines.specs.Text.{lines_of, numbered}
+use Rattle.ssh_text.specs.Text.{lines_of, numbered}
 use Rattle.ssh_rewriting.specs.CanonicalFile.{file_with}
 use Rattle.ssh_rewriting.proofs.LoopLemmas.{left_next, left_none}
 use Rattle.ssh_rewriting.proofs.file.written_file.Goals as goal

@@ -1,5 +1,5 @@
 use Rattle.std.proofs.Common.{◌≡◌, ◌++◌}
-use Rattle.ssh_lines.specs.Text.{lines_of, numbered}
+use Rattle.ssh_text.specs.Text.{lines_of, numbered}
 use Rattle.ssh_rewriting.specs.CanonicalFile.{file_with}
 use Rattle.ssh_rewriting.proofs.LoopLemmas.{left_written}
 use Rattle.ssh_rewriting.proofs.file.written_file.Given as goal

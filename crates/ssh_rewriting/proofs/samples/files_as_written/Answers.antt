@@ -1,0 +1,8 @@
+use Rattle.ssh_rewriting.specs.Samples.{auth_files_written, known_files_written}
+use Rattle.ssh_rewriting.proofs.samples.files_as_written.Goals as goal
+
+pub returns : goal.returns
+returns c = record {
+  auth = auth_files_written;
+  known = known_files_written;
+}
