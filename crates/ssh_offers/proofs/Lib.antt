@@ -1,1 +1,3 @@
+pub mod NamedLemmas
 pub mod VouchingLemmas
+pub mod ClaimLemmas

@@ -10,3 +10,5 @@ pub mod FileSignatureView
 pub mod ClaimViews
 pub mod Evidence
 pub mod Vouching
+pub mod FirstRefusal
+pub mod Samples

@@ -1,6 +1,6 @@
 //! The algorithm names of a login, and the algorithm that its signature must have.
 
-ghost use Rattle.std.specs.Prelude.{◌≡◌, ◌<◌, ◌^◌, length, OnOk};
+ghost use Rattle.std.specs.Prelude.{◌≡◌, ◌≢◌, ◌<◌, ◌^◌, length, IfErr, OnOk};
 ghost use Rattle.ssh_wire.specs.Reading.{Gives};
 ghost use Rattle.ssh_offers.specs.Algorithms.{
   is_weak_name,
@@ -12,6 +12,7 @@ ghost use Rattle.ssh_offers.specs.Algorithms.{
   type_name,
   wanted_algorithm,
 };
+ghost use Rattle.ssh_offers.specs.FirstRefusal.{SignerServes};
 ghost use Rattle.ssh_offers.specs.OfferView.{offer_of};
 
 use crate::error::AuditError;
@@ -113,7 +114,10 @@ fn other_algorithm(kind: KeyKind, algorithm: &[u8]) -> AuditError
 
 /// Whether the signature has the algorithm that was asked for.
 pub(crate) fn test_pairing(kind: KeyKind, wanted: &[u8], algorithm: &[u8]) -> Result<(), AuditError>
-    ensures { result ≡ pairing_test kind wanted.now algorithm.now }
+    ensures exact { result ≡ pairing_test kind wanted.now algorithm.now }
+    ensures paired { OnOk result (algorithm.now ≡ wanted.now) }
+    ensures other { IfErr result (λ e. (algorithm.now ≢ wanted.now)
+        × (e ≡ other_algorithm kind algorithm.now)) }
 {
     if algorithm == wanted {
         Ok(())
@@ -124,7 +128,10 @@ pub(crate) fn test_pairing(kind: KeyKind, wanted: &[u8], algorithm: &[u8]) -> Re
 
 /// Whether a certificate's own signature fits the key that signed it.
 pub(crate) fn test_signer(offer: &Offer<'_>) -> Result<(), AuditError>
-    ensures { result ≡ signer_test (offer_of offer.now) }
+    ensures exact { result ≡ signer_test (offer_of offer.now) }
+    ensures serves { OnOk result (SignerServes (offer_of offer.now)) }
+    ensures other { IfErr result (λ e. ¬ SignerServes (offer_of offer.now)
+        × (e ≡ AuditError.CertSignature)) }
 {
     match offer {
         Offer::Plain(_) => Ok(()),

@@ -1,6 +1,6 @@
 //! A host's key whose offer and signature were read.
 
-ghost use Rattle.std.specs.Prelude.{◌≡◌};
+ghost use Rattle.std.specs.Prelude.{◌≡◌, ◌⊎◌, IfErr, OnOk};
 ghost use Rattle.ssh_offers.specs.Offer.{offer_blob};
 ghost use Rattle.ssh_offers.specs.OfferView.{offer_of};
 ghost use Rattle.ssh_offers.specs.HostClaim.{fitting_test};
@@ -22,7 +22,10 @@ pub struct HostClaimView<'a> {
 /// Whether a signature's algorithm serves the key that made it: else `A4` where it is weak, or
 /// `A3`.
 pub(crate) fn test_fitting(fit: Fit) -> Result<(), AuditError>
-    ensures { result ≡ fitting_test fit }
+    ensures exact { result ≡ fitting_test fit }
+    ensures serves { OnOk result (fit ≡ Fit.Yes) }
+    ensures other { IfErr result (λ e. ((fit ≡ Fit.Weak) × (e ≡ AuditError.WeakSignature))
+        ⊎ ((fit ≡ Fit.No) × (e ≡ AuditError.WrongAlgorithm))) }
 {
     match fit {
         Fit::Yes => Ok(()),
@@ -32,17 +35,24 @@ pub(crate) fn test_fitting(fit: Fit) -> Result<(), AuditError>
 }
 
 impl<'a> HostClaimView<'a> {
+    ghost use Rattle.std.specs.Prelude.{IfErr, IfOk};
     ghost use Rattle.ssh_wire.specs.Reading.{Gives};
     ghost use Rattle.ssh_keys.specs.PublicKey.{key_blob};
     ghost use Rattle.ssh_offers.specs.Query.{host_check_of};
     ghost use Rattle.ssh_offers.specs.Offer.{subject};
     ghost use Rattle.ssh_offers.specs.HostClaim.{host_claim};
+    ghost use Rattle.ssh_offers.specs.FirstRefusal.{IsHostClaim, IsHostRefusal};
     ghost use Rattle.ssh_offers.specs.ClaimViews.{host_claim_of};
 
     /// The claim of a host's key, or the first refusal of its offer, `A1` to `A5`.
     #[tactic(auto, unfolding(crate::specs::HostClaim::host_claim))]
     pub fn read(query: &HostQuery<'a>) -> Result<HostClaimView<'a>, AuditError>
-        ensures { Gives host_claim_of result (host_claim (host_check_of query.entry.now)) }
+        ensures exact { Gives host_claim_of result (host_claim (host_check_of query.entry.now)) }
+        // What is read is the claim of this query.
+        ensures found { IfOk result
+            (λ claim. IsHostClaim (host_check_of query.entry.now) (host_claim_of claim)) }
+        // It is refused for the first that stands against it.
+        ensures first { IfErr result (IsHostRefusal (host_check_of query.entry.now)) }
     {
         let offer = read_offer(query.offered).map_err(AuditError::Offer)?;
         let signature = read_signature(query.signature).map_err(AuditError::Signature)?;

@@ -20,6 +20,7 @@ mod items;
 mod login_claim;
 mod offer;
 mod query;
+mod samples;
 mod sshsig_claim;
 
 pub use error::{AuditError, OfferError};

@@ -1,7 +1,9 @@
 //! A login whose offer, signature and address were read.
 
-ghost use Rattle.std.specs.Prelude.{◌≡◌, ◌<◌, ◌^◌, length, Some};
+ghost use Rattle.std.specs.Prelude.{◌≡◌, ◌<◌, ◌^◌, length, IfErr, IfOk, Some};
 ghost use Rattle.ssh_patterns.specs.AddressReading.{address_of};
+ghost use Rattle.ssh_patterns.specs.AddressText.{IsAddressText};
+ghost use Rattle.ssh_patterns.specs.declared.address.Address.{Address};
 ghost use Rattle.ssh_offers.specs.Offer.{offer_blob};
 ghost use Rattle.ssh_offers.specs.OfferView.{offer_of};
 ghost use Rattle.ssh_offers.specs.LoginClaim.{address_test};
@@ -29,7 +31,10 @@ pub struct LoginClaimView<'a> {
 }
 
 fn read_address(text: &[u8]) -> Result<Address, AuditError>
-    ensures { result ≡ address_test (address_of text.now) }
+    ensures exact { result ≡ address_test (address_of text.now) }
+    ensures spelled { IfOk result (λ address. IsAddressText address text.now) }
+    ensures none { IfErr result (λ e.
+        ((address : Address) → ¬ IsAddressText address text.now) × (e ≡ AuditError.Address)) }
 {
     match parse_address(text) {
         Ok(address) => Ok(address),
@@ -38,11 +43,13 @@ fn read_address(text: &[u8]) -> Result<Address, AuditError>
 }
 
 impl<'a> LoginClaimView<'a> {
+    ghost use Rattle.std.specs.Prelude.{IfErr, IfOk};
     ghost use Rattle.ssh_wire.specs.Reading.{Gives};
     ghost use Rattle.ssh_keys.specs.PublicKey.{key_blob};
     ghost use Rattle.ssh_offers.specs.Query.{login_of};
     ghost use Rattle.ssh_offers.specs.Offer.{subject};
     ghost use Rattle.ssh_offers.specs.LoginClaim.{login_claim};
+    ghost use Rattle.ssh_offers.specs.FirstRefusal.{IsLoginClaim, IsLoginRefusal};
     ghost use Rattle.ssh_offers.specs.ClaimViews.{claim_of};
 
     /// The claim of a login, or the first refusal of its offer, `A1` to `A6`.
@@ -50,7 +57,12 @@ impl<'a> LoginClaimView<'a> {
     pub fn read(query: &LoginQuery<'a>) -> Result<LoginClaimView<'a>, AuditError>
         requires session { length query.now.session.now < 2 ^ 32 }
         requires user { length query.now.user.now < 2 ^ 32 }
-        ensures { Gives claim_of result (login_claim (login_of query.entry.now)) }
+        ensures exact { Gives claim_of result (login_claim (login_of query.entry.now)) }
+        // What is read is the claim of this query.
+        ensures found { IfOk result
+            (λ claim. IsLoginClaim (login_of query.entry.now) (claim_of claim)) }
+        // It is refused for the first that stands against it.
+        ensures first { IfErr result (IsLoginRefusal (login_of query.entry.now)) }
     {
         let offer = read_offer(query.offered).map_err(AuditError::Offer)?;
         let signature = read_signature(query.signature).map_err(AuditError::Signature)?;

@@ -1,6 +1,6 @@
 //! What is offered: a key, or a certificate for one.
 
-ghost use Rattle.std.specs.Prelude.{◌≡◌, ◌<◌, ◌^◌, length, IfOk};
+ghost use Rattle.std.specs.Prelude.{◌≡◌, ◌<◌, ◌^◌, true, false, length, IfErr, IfOk};
 ghost use Rattle.ssh_wire.specs.Reading.{Gives};
 ghost use Rattle.ssh_keys.specs.KeyOf.{key_of};
 ghost use Rattle.ssh_keys.specs.PublicKey.{key_blob};
@@ -12,6 +12,7 @@ ghost use Rattle.ssh_offers.specs.Offer.{
   plain_key,
   subject,
 };
+ghost use Rattle.ssh_offers.specs.FirstRefusal.{IsNamedCertificate, IsOfferBlob, IsOfferFault};
 ghost use Rattle.ssh_offers.specs.OfferView.{offer_of};
 
 use crate::error::OfferError;
@@ -63,7 +64,9 @@ impl<'a> Offer<'a> {
 /// The blob's type string is one of the certificates' (PROTOCOL.certkeys).
 #[tactic(auto, unfolding(crate::specs::Offer::is_certificate_blob))]
 fn is_certificate(blob: &[u8]) -> bool
-    ensures { result ≡ is_certificate_blob blob.now }
+    ensures exact { result ≡ is_certificate_blob blob.now }
+    ensures named { result ≡ true → IsNamedCertificate blob.now }
+    ensures other { result ≡ false → ¬ IsNamedCertificate blob.now }
 {
     match Cursor::new(blob).take_string() {
         Ok(name) => matches!(name_class(name), NameClass::Certificate(_)),
@@ -75,6 +78,10 @@ fn is_certificate(blob: &[u8]) -> bool
 #[tactic(auto, unfolding(crate::specs::Offer::offer_in))]
 pub fn read_offer(blob: &[u8]) -> Result<Offer<'_>, OfferError>
     ensures exact { Gives offer_of result (offer_in blob.now) }
+    // What is read is what the blob spells.
+    ensures found { IfOk result (λ offer. IsOfferBlob (offer_of offer) blob.now) }
+    // The first fault, by the fields alone.
+    ensures first { IfErr result (IsOfferFault blob.now) }
     // The blob is the offer's own.
     ensures own { IfOk result (λ offer. blob.now ≡ offer_blob (offer_of offer)) }
     // It is short.

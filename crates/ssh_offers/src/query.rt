@@ -4,7 +4,7 @@ use jiff::tz::TimeZone;
 use ssh_text::Bytes;
 
 /// A signature, what it is over, and the key that is said to have made it.
-#[derive(Drop)]
+#[derive(Debug, Drop, PartialEq, Eq)]
 pub struct Signed {
     /// The key's blob.
     pub key: Bytes,
@@ -15,7 +15,7 @@ pub struct Signed {
 }
 
 /// A login that is asked for by public key (RFC 4252 section 7).
-#[derive(Clone, Copy)]
+#[derive(Clone, Copy, Debug)]
 pub struct LoginQuery<'a> {
     /// The blob of the key or the certificate that is offered.
     pub offered: &'a [u8],
@@ -39,7 +39,7 @@ pub struct LoginQuery<'a> {
 
 /// A host's key that is to be trusted: a client asks it of the exchange hash that the host signed
 /// (RFC 4253 section 8).
-#[derive(Clone, Copy)]
+#[derive(Clone, Copy, Debug, PartialEq, Eq)]
 pub struct HostQuery<'a> {
     /// The blob of the key or the certificate that the host offers.
     pub offered: &'a [u8],

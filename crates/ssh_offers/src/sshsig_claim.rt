@@ -16,10 +16,11 @@ pub struct SshsigClaimView<'a> {
 }
 
 impl<'a> SshsigClaimView<'a> {
-    ghost use Rattle.std.specs.Prelude.{IfOk};
+    ghost use Rattle.std.specs.Prelude.{IfErr, IfOk};
     ghost use Rattle.ssh_wire.specs.Reading.{Gives};
     ghost use Rattle.ssh_bodies.specs.Sshsig.{IsSshsigBlob};
     ghost use Rattle.ssh_offers.specs.FileSignature.{Serves, sshsig_claim};
+    ghost use Rattle.ssh_offers.specs.FirstRefusal.{IsSshsigRefusal};
     ghost use Rattle.ssh_offers.specs.FileSignatureView.{sshsig_claim_of};
 
     /// The claim of a body, or its first refusal: `A11`, then `A4` for RSA with SHA-1, or `A3` for
@@ -31,6 +32,8 @@ impl<'a> SshsigClaimView<'a> {
         ensures own { IfOk result (λ claim. IsSshsigBlob (sshsig_claim_of claim) body.now) }
         // Its algorithm serves its key.
         ensures serves { IfOk result (λ claim. Serves (sshsig_claim_of claim)) }
+        // It is refused for the first that stands against it.
+        ensures first { IfErr result (IsSshsigRefusal body.now) }
     {
         let file_signature = read_sshsig(body).map_err(AuditError::Body)?;
         let kind = file_signature.key.kind();
