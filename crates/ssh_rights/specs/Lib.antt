@@ -1,3 +1,5 @@
 pub mod CertificateOptions
 pub mod Rights
 pub mod SecurityKeys
+pub mod Samples
+pub mod OptionSamples

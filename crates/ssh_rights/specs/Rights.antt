@@ -1,15 +1,14 @@
 -- What a login may do (sshd(8), AUTHORIZED_KEYS FILE FORMAT; PROTOCOL.certkeys).
 use Rattle.std.specs.Prelude.{◌≡◌, ◌⊎◌, ℕ, Bool, true, false, ◌&&◌, ◌||◌, if◌then◌else◌, List, [], ◌∷◌, ◌++◌, codes, Option, Some, None, unwrap_or}
 use Rattle.std.specs.List.{AllByRecursion}
-use Rattle.ssh_lines.specs.declared.entry.AuthEntry.{AuthEntry}
-use Rattle.ssh_options.specs.declared.option.AuthOption.{AuthOption}
-use Rattle.ssh_options.specs.declared.option.AuthOption.TheVariants.{Switch, Setting}
+use Rattle.ssh_lines.specs.AuthEntry.{AuthEntry}
+use Rattle.ssh_options.specs.AuthOption.{AuthOption, Switch, Setting}
 use Rattle.ssh_options.specs.declared.option.Flag.{Flag}
 use Rattle.ssh_options.specs.declared.option.Flag.TheVariants as flag
 use Rattle.ssh_options.specs.declared.option.ValueName.{ValueName}
 use Rattle.ssh_options.specs.declared.option.ValueName.TheVariants as value
-use Rattle.ssh_lines.specs.OptionNames.{same_flag}
-use Rattle.ssh_lines.specs.Settings.{setting}
+use Rattle.ssh_options.specs.OptionNames.{same_flag}
+use Rattle.ssh_options.specs.Settings.{setting}
 use Rattle.ssh_rights.specs.declared.rights.Carried.{Carried}
 use Rattle.ssh_rights.specs.declared.rights.CarriedName.{CarriedName}
 use Rattle.ssh_rights.specs.declared.rights.CarriedName.TheVariants.{Environment, PermitListen, PermitOpen, Tunnel}

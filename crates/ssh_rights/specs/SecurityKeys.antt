@@ -1,9 +1,9 @@
 -- Logins by security keys: touched, and verified (PROTOCOL.u2f; sshd(8), no-touch-required and verify-required).
 use Rattle.std.specs.Prelude.{ℕ, ◌==◌, bit_and, Bool, true, false, not, ◌&&◌, ◌||◌, List, codes, Option, Some, None}
 use Rattle.ssh_keys.specs.Signature.{Signature}
-use Rattle.ssh_options.specs.declared.option.AuthOption.{AuthOption}
+use Rattle.ssh_options.specs.AuthOption.{AuthOption}
 use Rattle.ssh_options.specs.declared.option.Flag.TheVariants.{NoTouchRequired, VerifyRequired}
-use Rattle.ssh_lines.specs.Settings.{has_flag}
+use Rattle.ssh_options.specs.Settings.{has_flag}
 use Rattle.ssh_offers.specs.Offer.{Offer, plain, certified}
 use Rattle.ssh_rights.specs.CertificateOptions.{has_empty_option, has_option}
 
@@ -33,8 +33,8 @@ abbrev pub waives_touch : List AuthOption → Offer → Bool
 waives_touch options offer = has_flag NoTouchRequired options && is_touch_waived offer
 
 -- a security key was touched, where it has to be
-abbrev pub is_touched : List AuthOption → Offer → Signature → Bool
-is_touched options offer s = is_present s.sk || waives_touch options offer
+abbrev pub touch_suffices : List AuthOption → Offer → Signature → Bool
+touch_suffices options offer s = is_present s.sk || waives_touch options offer
 
 abbrev pub is_verification_asked : Offer → Bool
 is_verification_asked (plain key) = false
@@ -45,5 +45,5 @@ abbrev pub wants_verification : List AuthOption → Offer → Bool
 wants_verification options offer = has_flag VerifyRequired options || is_verification_asked offer
 
 -- A signature that is not a security key's verifies nobody (this project's rule).
-abbrev pub is_verified : List AuthOption → Offer → Signature → Bool
-is_verified options offer s = not (wants_verification options offer) || has_sk_flag user_verified s.sk
+abbrev pub verification_suffices : List AuthOption → Offer → Signature → Bool
+verification_suffices options offer s = not (wants_verification options offer) || has_sk_flag user_verified s.sk

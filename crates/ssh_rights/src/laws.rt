@@ -1,7 +1,7 @@
 //! Laws of the definitions, each proved on a function without a body.
 
 ghost use Rattle.std.specs.Prelude.{◌≡◌, ◌↔◌, List, true};
-ghost use Rattle.ssh_options.specs.declared.option.AuthOption.{AuthOption};
+ghost use Rattle.ssh_options.specs.AuthOption.{AuthOption};
 ghost use Rattle.ssh_rights.specs.declared.right.Right.{Right};
 ghost use Rattle.ssh_rights.specs.Rights.{IsOn, is_on};
 

@@ -17,10 +17,11 @@ mod certificate_option;
 mod laws;
 mod right;
 mod rights;
+mod samples;
 mod security_key;
 
 pub use certificate_option::{
     FORCE_COMMAND, VERIFY_REQUIRED, forced_command, has_option, one_string, text_in,
 };
 pub use rights::{Carried, CarriedName, Rights, line_command, rights_of};
-pub use security_key::{is_touched, is_verified};
+pub use security_key::{touch_suffices, verification_suffices};

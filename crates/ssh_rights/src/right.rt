@@ -1,7 +1,7 @@
 //! A right of a login: what a line can take away, and a certificate has to give.
 
 ghost use Rattle.std.specs.Prelude.{◌≡◌};
-ghost use Rattle.ssh_lines.specs.OptionsInLine.{option_in_line};
+ghost use Rattle.ssh_options.specs.OptionsInLine.{option_in_line};
 ghost use Rattle.ssh_offers.specs.OfferView.{offer_of};
 ghost use Rattle.ssh_rights.specs.Rights.{
   effect_on,
@@ -14,8 +14,8 @@ ghost use Rattle.ssh_rights.specs.Rights.{
 };
 
 use crate::certificate_option::has_empty_option;
-use ssh_lines::{Flag, OptionView, OptionsView};
 use ssh_offers::Offer;
+use ssh_options::{Flag, OptionView, OptionsView};
 
 /// What a line can take away, and a certificate has to give.
 #[derive(Clone, Copy, Debug, PartialEq, Eq)]

@@ -1,8 +1,8 @@
 //! What a login may do.
 
 ghost use Rattle.std.specs.Prelude.{◌≡◌, ◌++◌, IfOk, OnOk, option_copied};
-ghost use Rattle.ssh_lines.specs.OptionsInLine.{option_in_line};
-ghost use Rattle.ssh_lines.specs.Settings.{setting};
+ghost use Rattle.ssh_options.specs.OptionsInLine.{option_in_line};
+ghost use Rattle.ssh_options.specs.Settings.{setting};
 ghost use Rattle.ssh_options.specs.declared.option.ValueName.TheVariants.{Command};
 ghost use Rattle.ssh_offers.specs.OfferView.{offer_of};
 ghost use Rattle.ssh_rights.specs.Rights.{
@@ -16,8 +16,10 @@ ghost use Rattle.ssh_rights.specs.Rights.{
 
 use crate::certificate_option::forced_command;
 use crate::right::Right;
-use ssh_lines::{AuthEntryView, Bytes, OptionView, OptionsView, ValueName, ValueView};
+use ssh_lines::AuthEntryView;
 use ssh_offers::{Items, Offer};
+use ssh_options::{OptionView, OptionsView, ValueName, ValueView};
+use ssh_text::Bytes;
 use std::alloc::{AllocError, Global};
 
 /// The options whose texts are carried on to whoever starts the session (sshd(8)).
@@ -30,14 +32,14 @@ pub enum CarriedName {
 }
 
 /// The text of an option that is carried on.
-#[derive(Drop)]
+#[derive(Debug, Drop, PartialEq)]
 pub struct Carried {
     pub name: CarriedName,
     pub text: Bytes,
 }
 
 /// What an admitted login may do (sshd(8)).
-#[derive(Drop)]
+#[derive(Debug, Drop, PartialEq)]
 pub struct Rights {
     /// TCP forwarding.
     pub port: bool,

@@ -7,14 +7,15 @@ ghost use Rattle.ssh_rights.specs.SecurityKeys.{
   has_sk_flag,
   is_present,
   is_touch_waived,
-  is_touched,
+  touch_suffices,
   is_verification_asked,
-  is_verified,
+  verification_suffices,
 };
 
 use crate::certificate_option::{VERIFY_REQUIRED, has_empty_option, has_option};
-use ssh_lines::{AuthEntryView, Flag};
+use ssh_lines::AuthEntryView;
 use ssh_offers::{LoginClaimView, Offer};
+use ssh_options::Flag;
 
 /// The flag of a security key's signature for user presence (PROTOCOL.u2f).
 const USER_PRESENT: u8 = 1;
@@ -60,8 +61,8 @@ fn is_verification_asked(offer: &Offer<'_>) -> bool
 
 /// Whether a security key was touched, where it has to be: not where the line says that it need
 /// not, and the certificate, if one is offered, says so too.
-pub fn is_touched(entry: &AuthEntryView<'_>, claim: &LoginClaimView<'_>) -> bool
-    ensures { result ≡ is_touched entry.now.options (claim_of claim.now).offer
+pub fn touch_suffices(entry: &AuthEntryView<'_>, claim: &LoginClaimView<'_>) -> bool
+    ensures { result ≡ touch_suffices entry.now.options (claim_of claim.now).offer
         (claim_of claim.now).signature }
 {
     is_present(claim.signature.sk)
@@ -69,8 +70,8 @@ pub fn is_touched(entry: &AuthEntryView<'_>, claim: &LoginClaimView<'_>) -> bool
 }
 
 /// Whether a security key verified the user, where the line or the certificate asks for it.
-pub fn is_verified(entry: &AuthEntryView<'_>, claim: &LoginClaimView<'_>) -> bool
-    ensures { result ≡ is_verified entry.now.options (claim_of claim.now).offer
+pub fn verification_suffices(entry: &AuthEntryView<'_>, claim: &LoginClaimView<'_>) -> bool
+    ensures { result ≡ verification_suffices entry.now.options (claim_of claim.now).offer
         (claim_of claim.now).signature }
 {
     let wanted = entry.has_flag(Flag::VerifyRequired) || is_verification_asked(&claim.offer);

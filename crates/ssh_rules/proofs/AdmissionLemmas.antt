@@ -5,10 +5,10 @@ use Rattle.std.specs.List.{AllByRecursion}
 use Rattle.std.proofs.lemmas.Slice.Eq.{bytes_eq-Decides}
 use Rattle.ssh_keys.specs.PublicKey.{key_blob}
 use Rattle.ssh_certs.specs.Certificate.{Certificate, CertOption}
-use Rattle.ssh_lines.specs.declared.entry.AuthEntry.{AuthEntry}
+use Rattle.ssh_lines.specs.AuthEntry.{AuthEntry}
 use Rattle.ssh_options.specs.declared.option.ValueName.TheVariants.{Command, ExpiryTime, Principals}
-use Rattle.ssh_lines.specs.Moment.{moment_of}
-use Rattle.ssh_lines.specs.Settings.{setting, settings}
+use Rattle.ssh_expiry.specs.Moment.{moment_of}
+use Rattle.ssh_options.specs.Settings.{setting, settings}
 use Rattle.ssh_patterns.specs.declared.address.Address.{Address}
 use Rattle.ssh_rules.specs.declared.reason.Reason.TheVariants as reason
 use Rattle.ssh_offers.specs.Query.{Login}

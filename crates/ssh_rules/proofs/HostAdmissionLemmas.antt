@@ -7,7 +7,7 @@ use Rattle.ssh_certs.specs.Certificate.{Certificate, CertOption}
 use Rattle.ssh_patterns.specs.Lists.{MatchesInLowerCase, is_match_in_lower_case}
 use Rattle.ssh_patterns.proofs.PermitLaw.{lower-tells, permits-tells}
 use Rattle.ssh_names.specs.Names.{Names, NamesHost, Patterns, Hashed, name_hash, names_host}
-use Rattle.ssh_lines.specs.declared.known.KnownEntry.{KnownEntry}
+use Rattle.ssh_lines.specs.KnownEntry.{KnownEntry}
 use Rattle.ssh_offers.specs.Query.{HostCheck}
 use Rattle.ssh_offers.specs.Offer.{Offer, OfCertificate, certified, is_certified, plain, subject}
 use Rattle.ssh_offers.specs.HostClaim.{HostClaim}

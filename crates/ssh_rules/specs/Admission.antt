@@ -5,11 +5,11 @@ use Rattle.std.specs.List.{AllByRecursion, list_all, list_any}
 use Rattle.std.specs.Str.{bytes_eq}
 use Rattle.ssh_keys.specs.PublicKey.{PublicKey, key_blob}
 use Rattle.ssh_certs.specs.Certificate.{Certificate, CertOption}
-use Rattle.ssh_lines.specs.declared.entry.AuthEntry.{AuthEntry}
+use Rattle.ssh_lines.specs.AuthEntry.{AuthEntry}
 use Rattle.ssh_options.specs.declared.option.Flag.TheVariants.{CertAuthority}
 use Rattle.ssh_options.specs.declared.option.ValueName.TheVariants.{Command, ExpiryTime, From, Principals}
-use Rattle.ssh_lines.specs.Moment.{moment_of}
-use Rattle.ssh_lines.specs.Settings.{has_flag, setting, settings}
+use Rattle.ssh_expiry.specs.Moment.{moment_of}
+use Rattle.ssh_options.specs.Settings.{has_flag, setting, settings}
 use Rattle.ssh_patterns.specs.declared.address.Address.{Address}
 use Rattle.ssh_patterns.specs.declared.permit.Permit.{Permit}
 use Rattle.ssh_patterns.specs.declared.permit.Permit.TheVariants.{Yes}

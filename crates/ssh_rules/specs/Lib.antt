@@ -6,3 +6,4 @@ pub mod HostAdmission
 pub mod Revocation
 pub mod ValueText
 pub mod Verdict
+pub mod Samples

@@ -3,7 +3,7 @@
 ghost use Rattle.std.specs.Prelude.{◌≡◌, IfOk, option_copied};
 ghost use Rattle.ssh_certs.specs.CertificateOf.{certificate_of};
 ghost use Rattle.ssh_options.specs.declared.option.ValueName.TheVariants.{ExpiryTime, Principals};
-ghost use Rattle.ssh_lines.specs.Settings.{setting, settings};
+ghost use Rattle.ssh_options.specs.Settings.{setting, settings};
 ghost use Rattle.ssh_rules.specs.CertificateRules.{serves};
 ghost use Rattle.ssh_rules.specs.Obstacles.{first_obstacle};
 ghost use Rattle.ssh_rules.specs.Admission.{
@@ -32,8 +32,10 @@ use crate::obstacle::{
 use crate::reason::{Obstacle, Reason};
 use crate::value_text::ValueText;
 use ssh_certs::CertView;
-use ssh_lines::{AuthEntryView, Flag, ValueName, ValueView, expiry};
+use ssh_expiry::expiry;
+use ssh_lines::AuthEntryView;
 use ssh_offers::{LoginClaimView, Offer};
+use ssh_options::{Flag, ValueName, ValueView};
 use ssh_patterns::{Permit, source_list};
 use ssh_rights::{forced_command, line_command};
 use std::alloc::{AllocError, Global};

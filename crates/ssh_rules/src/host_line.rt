@@ -22,7 +22,7 @@ fn entry_verdict<'a>(
 {
     match host_obstacle(alloc, &entry, sought)? {
         None => Ok(LineVerdict::Admits(entry)),
-        Some(obstacle) => Ok(LineVerdict::Passes(listed_reason(obstacle))),
+        Some(obstacle) => Ok(LineVerdict::Skips(listed_reason(obstacle))),
     }
 }
 
@@ -37,7 +37,7 @@ pub fn host_verdict<'a>(
     ensures { IfOk result (λ verdict. verdict ≡ host_verdict sought.now (known_seen line.entry)) }
 {
     match line {
-        KnownLineView::Unreadable(why) => Ok(LineVerdict::Passes(Some(Reason::Unreadable(why)))),
+        KnownLineView::Unreadable(why) => Ok(LineVerdict::Skips(Some(Reason::Unreadable(why)))),
         KnownLineView::Entry(entry) => {
             let verdict = entry_verdict(alloc, entry, sought)?;
             Ok(verdict)
@@ -45,6 +45,6 @@ pub fn host_verdict<'a>(
         KnownLineView::Blank
         | KnownLineView::Comment
         | KnownLineView::Revoked(_)
-        | KnownLineView::RevokedUnreadable => Ok(LineVerdict::Passes(None)),
+        | KnownLineView::RevokedUnreadable => Ok(LineVerdict::Skips(None)),
     }
 }

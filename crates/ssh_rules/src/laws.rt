@@ -1,8 +1,8 @@
 //! Laws of the definitions, each proved on a function without a body.
 
 ghost use Rattle.std.specs.Prelude.{◌≡◌, ◌↔◌, None};
-ghost use Rattle.ssh_lines.specs.declared.entry.AuthEntry.{AuthEntry};
-ghost use Rattle.ssh_lines.specs.declared.known.KnownEntry.{KnownEntry};
+ghost use Rattle.ssh_lines.specs.AuthEntry.{AuthEntry};
+ghost use Rattle.ssh_lines.specs.KnownEntry.{KnownEntry};
 ghost use Rattle.ssh_offers.specs.HostClaim.{HostClaim};
 ghost use Rattle.ssh_offers.specs.LoginClaim.{LoginClaim};
 ghost use Rattle.ssh_rules.specs.Admission.{AdmitsLogin, login_obstacle};

@@ -6,7 +6,7 @@
 //! ```
 //! match login_verdict(alloc, read_auth_view(line, &mut buffer), claim)? {
 //!     LineVerdict::Admits(_) => Ok(None),
-//!     LineVerdict::Passes(reason) => Ok(reason),
+//!     LineVerdict::Skips(reason) => Ok(reason),
 //! }
 //! ```
 #![tactic(auto)]
@@ -18,6 +18,7 @@ mod host_line;
 mod laws;
 mod obstacle;
 mod reason;
+mod samples;
 mod sought;
 mod value_text;
 mod verdict;

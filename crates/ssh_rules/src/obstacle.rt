@@ -18,8 +18,8 @@ ghost use Rattle.ssh_rules.specs.Obstacles.{
 
 use crate::reason::{Obstacle, Reason};
 use ssh_certs::{CertView, Time};
-use ssh_lines::Bytes;
 use ssh_patterns::Permit;
+use ssh_text::Bytes;
 use std::alloc::{AllocError, Global};
 
 /// By whether the line is an authority, and whether a certificate is offered.

@@ -1,9 +1,12 @@
 //! Why a line does not admit an offer.
 
-use ssh_lines::{Bytes, LineCause};
+use ssh_options::LineCause;
+use ssh_text::Bytes;
+use std::fmt;
+use std::fmt::{Display, Formatter, Write};
 
 /// Why a line does not admit an offer. The first that holds, in this order, is told.
-#[derive(Debug, Drop)]
+#[derive(Debug, Drop, PartialEq)]
 pub enum Reason {
     /// `G1`: the line cannot be read.
     Unreadable(LineCause),
@@ -39,6 +42,44 @@ pub enum Reason {
     CertSourceRefused,
     /// `G18`: the line and the certificate force commands, and these differ.
     CommandConflict,
+}
+
+impl Reason {
+    /// The reason in words, but for the value that it has.
+    fn words(&self) -> &'static str {
+        match self {
+            Reason::Unreadable(_) => "the line cannot be read: ",
+            Reason::AuthorityOnly => "the line is an authority for certificates",
+            Reason::NotAuthority => "the line is not an authority for certificates",
+            Reason::Expired => "the line's expiry time is past",
+            Reason::SourceBad => "the line's list of sources cannot be read",
+            Reason::SourceRefused => "the line's list of sources does not permit the client",
+            Reason::WrongCertKind => "the certificate is of the other kind",
+            Reason::NotYetValid => "the certificate is not yet valid",
+            Reason::NoLongerValid => "the certificate is no longer valid",
+            Reason::PrincipalRefused => "the certificate is for no principal that is asked for",
+            Reason::CriticalUnknown(_) => "the certificate has an unknown critical option: ",
+            Reason::CriticalRepeated => "a critical option stands twice in the certificate",
+            Reason::CriticalData => "the data of a critical option has another form",
+            Reason::CertSourceBad => "the certificate's list of sources cannot be read",
+            Reason::CertSourceRefused =>
+                "the certificate's list of sources does not permit the address",
+            Reason::CommandConflict => "the line and the certificate force different commands",
+        }
+    }
+}
+
+/// The reason as a sentence, with its value: why the line cannot be read, or the option's name with
+/// every byte outside printable ASCII escaped.
+impl Display for Reason {
+    fn fmt<W: Write>(&self, f: &mut Formatter<W>) -> fmt::Result {
+        f.write_str(self.words())?;
+        match self {
+            Reason::Unreadable(cause) => write!(f, "{cause}"),
+            Reason::CriticalUnknown(name) => write!(f, "{}", name.as_slice().escape_ascii()),
+            _ => Ok(()),
+        }
+    }
 }
 
 /// Why an entry does not admit an offer: it is about another key or another host, which is not

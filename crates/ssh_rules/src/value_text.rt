@@ -3,7 +3,8 @@
 ghost use Rattle.std.specs.Prelude.{◌≡◌, IfOk};
 ghost use Rattle.ssh_rules.specs.ValueText.{text_of};
 
-use ssh_lines::{Bytes, ValueView};
+use ssh_options::ValueView;
+use ssh_text::Bytes;
 use std::alloc::{AllocError, Global};
 
 /// The text of a value: in its line, or copied where the line escapes a quote in it.

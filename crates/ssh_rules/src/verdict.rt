@@ -18,7 +18,7 @@ pub enum LineVerdict<E> {
     /// Its entry admits the offer.
     Admits(E),
     /// It does not, for a reason that is listed or for none.
-    Passes(Option<Reason>),
+    Skips(Option<Reason>),
 }
 
 pub(crate) fn listed_reason(obstacle: Obstacle) -> Option<Reason>
@@ -40,7 +40,7 @@ fn entry_verdict<'a>(
 {
     match login_obstacle(alloc, &entry, claim)? {
         None => Ok(LineVerdict::Admits(entry)),
-        Some(obstacle) => Ok(LineVerdict::Passes(listed_reason(obstacle))),
+        Some(obstacle) => Ok(LineVerdict::Skips(listed_reason(obstacle))),
     }
 }
 
@@ -55,8 +55,8 @@ pub fn login_verdict<'a>(
         (λ verdict. verdict ≡ login_verdict (claim_of claim.now) (line_seen line.entry)) }
 {
     match line {
-        AuthLineView::Blank | AuthLineView::Comment => Ok(LineVerdict::Passes(None)),
-        AuthLineView::Unreadable(why) => Ok(LineVerdict::Passes(Some(Reason::Unreadable(why)))),
+        AuthLineView::Blank | AuthLineView::Comment => Ok(LineVerdict::Skips(None)),
+        AuthLineView::Unreadable(why) => Ok(LineVerdict::Skips(Some(Reason::Unreadable(why)))),
         AuthLineView::Entry(entry) => {
             let verdict = entry_verdict(alloc, entry, claim)?;
             Ok(verdict)

@@ -1,6 +1,6 @@
 use Rattle.std.proofs.Common.{◌≡◌}
 use Rattle.ssh_options.specs.declared.option.ValueName.TheVariants.{ExpiryTime}
-use Rattle.ssh_lines.specs.Settings.{settings}
+use Rattle.ssh_options.specs.Settings.{settings}
 use Rattle.ssh_rules.specs.Admission.{is_expired}
 use Rattle.ssh_offers.specs.ClaimViews.{claim_of}
 use Rattle.ssh_rules.proofs.admission.is_expired.Given as goal

@@ -1,0 +1,15 @@
+use Rattle.std.proofs.Common.{refl}
+use Rattle.ssh_wire.specs.Reading.{string_at}
+use Rattle.ssh_patterns.specs.AddressReading.{octets_of, group_of, last_groups_of, groups_of, filled, eight_groups_of, address_of}
+use Rattle.ssh_patterns.specs.Lists.{permit_of}
+use Rattle.ssh_patterns.specs.Nets.{net_of}
+use Rattle.ssh_rights.specs.CertificateOptions.{whole_string_at}
+use Rattle.ssh_rules.proofs.samples.certificates_as_judged.Goals as goal
+
+pub returns : goal.returns
+unfolding string_at whole_string_at octets_of group_of last_groups_of groups_of filled eight_groups_of address_of net_of permit_of
+returns c = record {
+  users = (refl, refl, refl, refl, refl, refl, refl, refl, refl, refl, refl, refl, refl, refl, refl, refl, refl);
+  critical = (refl, refl, refl, refl, refl, refl, refl, refl, refl, refl, refl, refl, refl, refl);
+  hosts = (refl, refl, refl, refl, refl, refl, refl, refl, refl, refl, refl);
+}

@@ -1,0 +1,12 @@
+use Rattle.std.proofs.Common.{refl}
+use Rattle.ssh_wire.specs.Reading.{string_at}
+use Rattle.ssh_rights.specs.CertificateOptions.{whole_string_at}
+use Rattle.ssh_rules.proofs.samples.critical_options_as_read.Goals as goal
+
+pub returns : goal.returns
+unfolding string_at whole_string_at
+returns c = record {
+  names = (refl, refl, refl, refl, refl, refl, refl, refl, refl, refl);
+  forms = (refl, refl, refl, refl, refl, refl, refl, refl, refl, refl, refl, refl, refl);
+  repeated = (refl, refl, refl, refl, refl);
+}

@@ -1,0 +1,185 @@
+-- Worked certificates: their critical options, their time and their kind. The names and the numbers are those of
+-- PROTOCOL.certkeys.
+use Rattle.std.specs.Prelude.{◌≡◌, ℕ, Bool, true, false, List, [], ◌∷◌, ◌++◌, codes, replicate, Option, Some, None}
+use Rattle.jiff.specs.Types.{UTC}
+use Rattle.ssh_keys.specs.PublicKey.{ed25519}
+use Rattle.ssh_certs.specs.Certificate.{Certificate, CertOption}
+use Rattle.ssh_lines.specs.AuthEntry.{AuthEntry}
+use Rattle.ssh_options.specs.AuthOption.{AuthOption, Setting}
+use Rattle.ssh_options.specs.declared.option.ValueName.TheVariants.{Command, Principals}
+use Rattle.ssh_patterns.specs.declared.address.Address.TheVariants.{V4}
+use Rattle.ssh_offers.specs.Offer.{certified}
+use Rattle.ssh_offers.specs.LoginClaim.{LoginClaim}
+use Rattle.ssh_rules.specs.declared.reason.Obstacle.{Obstacle}
+use Rattle.ssh_rules.specs.declared.reason.Obstacle.TheVariants.{Listed}
+use Rattle.ssh_rules.specs.declared.reason.Reason.{Reason}
+use Rattle.ssh_rules.specs.declared.reason.Reason.TheVariants.{WrongCertKind, NotYetValid, NoLongerValid, PrincipalRefused, CriticalUnknown, CriticalRepeated, CriticalData, CertSourceBad, CertSourceRefused, CommandConflict}
+use Rattle.ssh_rules.specs.Admission.{certificate_obstacle}
+use Rattle.ssh_rules.specs.CertificateRules.{first_unknown, has_its_form, is_known, repeats}
+use Rattle.ssh_rules.specs.HostAdmission.{host_certificate_obstacle}
+
+-- an option of a certificate with this name and data
+abbrev option : List ℕ → List ℕ → CertOption
+option name value = record { name = name; value = value }
+
+-- a string of up to 255 bytes
+abbrev short : ℕ → List ℕ → List ℕ
+short len text = 0 ∷ 0 ∷ 0 ∷ len ∷ text
+
+-- ---- names and data of critical options
+
+-- the three names that a login knows, and others
+abbrev pub NamesKnown : Type 0
+NamesKnown =
+    (is_known (codes "force-command") ≡ true)
+    × (is_known (codes "source-address") ≡ true)
+    × (is_known (codes "verify-required") ≡ true)
+    × (is_known (codes "no-touch-required") ≡ false)
+    × (is_known (codes "permit-pty") ≡ false)
+    × (is_known (codes "Force-Command") ≡ false)
+    × (is_known (codes "force-command" ++ 0 ∷ []) ≡ false)
+    × (is_known [] ≡ false)
+    × (first_unknown (option (codes "force-command") [] ∷ option (codes "verify-required") [] ∷ []) ≡ None)
+    × (first_unknown (option (codes "verify-required") [] ∷ option (codes "b") [] ∷ option (codes "a") [] ∷ []) ≡ Some (codes "b"))
+
+-- whether this data has the form of the option with this name
+abbrev Formed : List ℕ → List ℕ → Bool → Type 0
+Formed name value b = has_its_form (option name value) ≡ b
+
+-- `verify-required` has no data at all; the others have one string and nothing after it
+abbrev pub FormsJudged : Type 0
+FormsJudged =
+    Formed (codes "verify-required") [] true
+    × Formed (codes "verify-required") (0 ∷ []) false
+    × Formed (codes "verify-required") (short 0 []) false
+    × Formed (codes "verify-required") (short 2 (codes "ls")) false
+    × Formed (codes "force-command") (short 2 (codes "ls")) true
+    × Formed (codes "force-command") (short 0 []) true
+    × Formed (codes "force-command") [] false
+    × Formed (codes "force-command") (codes "ls") false
+    × Formed (codes "force-command") (short 2 (codes "ls" ++ 0 ∷ [])) false
+    × Formed (codes "force-command") (short 3 (codes "ls")) false
+    × Formed (codes "source-address") (short 8 (codes "10.0.0.1")) true
+    × Formed (codes "source-address") [] false
+    × Formed (codes "source-address") (short 8 (codes "10.0.0.1,")) false
+
+-- names that stand twice, one after the other or not
+abbrev pub RepetitionsFound : Type 0
+RepetitionsFound =
+    (repeats [] ≡ false)
+    × (repeats (option (codes "a") [] ∷ option (codes "b") [] ∷ option (codes "A") [] ∷ []) ≡ false)
+    × (repeats (option (codes "a") [] ∷ option (codes "a") (0 ∷ []) ∷ []) ≡ true)
+    × (repeats (option (codes "a") [] ∷ option (codes "b") [] ∷ option (codes "a") [] ∷ []) ≡ true)
+    × (repeats (option (codes "b") [] ∷ option (codes "a") [] ∷ option (codes "a") [] ∷ []) ≡ true)
+
+-- ---- certificates
+
+-- a certificate of this kind, in force from 100 and before 200, for these principals and with these critical options
+abbrev certificate : ℕ → List (List ℕ) → List CertOption → Certificate
+certificate kind principals critical = record {
+  nonce = 7 ∷ [];
+  key = ed25519 (replicate 32 0);
+  serial = 5;
+  kind_number = kind;
+  key_id = codes "id";
+  principals = principals;
+  after = 100;
+  before = 200;
+  critical = critical;
+  extensions = [];
+  reserved = [];
+  signer = ed25519 (replicate 32 1);
+  signature = record { algorithm = codes "ssh-ed25519"; bytes = 0xaa ∷ []; sk = None };
+}
+
+-- a line of the signer's key with these options, and a login by the certificate, of ann from 10.0.0.1 at this moment
+abbrev line : List AuthOption → AuthEntry
+line options = record { options = options; key = ed25519 (replicate 32 1); comment = [] }
+
+abbrev login : ℕ → Certificate → LoginClaim
+login now c = record {
+  query = record {
+    offered = [];
+    signature = [];
+    algorithm = codes "ssh-ed25519-cert-v01@openssh.com";
+    session = [];
+    user = codes "ann";
+    host = None;
+    address = codes "10.0.0.1";
+    now = now;
+    zone = UTC;
+  };
+  offer = certified c;
+  signature = c.signature;
+  address = V4 0x0a000001;
+}
+
+-- why the line does not admit the certificate; nothing where it does
+abbrev Obstructs : List AuthOption → ℕ → Certificate → Option Obstacle → Type 0
+Obstructs options now c obstacle = certificate_obstacle (line options) (login now c) c ≡ obstacle
+
+-- a certificate of ann's, with these critical options, in its time
+abbrev Insists : List AuthOption → List CertOption → Option Obstacle → Type 0
+Insists options critical obstacle = Obstructs options 150 (certificate 1 (codes "ann" ∷ []) critical) obstacle
+
+abbrev because : Reason → Option Obstacle
+because why = Some (Listed why)
+
+-- 1 is a user's certificate; it is in force from its first moment on, and no longer at its last
+abbrev pub UsersCertificates : Type 0
+UsersCertificates =
+    Obstructs [] 150 (certificate 1 (codes "ann" ∷ []) []) None
+    × Obstructs [] 150 (certificate 2 (codes "ann" ∷ []) []) (because WrongCertKind)
+    × Obstructs [] 150 (certificate 0 (codes "ann" ∷ []) []) (because WrongCertKind)
+    × Obstructs [] 150 (certificate 3 (codes "ann" ∷ []) []) (because WrongCertKind)
+    × Obstructs [] 99 (certificate 1 (codes "ann" ∷ []) []) (because NotYetValid)
+    × Obstructs [] 100 (certificate 1 (codes "ann" ∷ []) []) None
+    × Obstructs [] 199 (certificate 1 (codes "ann" ∷ []) []) None
+    × Obstructs [] 200 (certificate 1 (codes "ann" ∷ []) []) (because NoLongerValid)
+    × Obstructs [] 150 (certificate 1 [] []) None
+    × Obstructs [] 150 (certificate 1 (codes "bob" ∷ codes "ann" ∷ []) []) None
+    × Obstructs [] 150 (certificate 1 (codes "bob" ∷ []) []) (because PrincipalRefused)
+    × Obstructs [] 150 (certificate 1 (codes "a*" ∷ []) []) (because PrincipalRefused)
+    × Obstructs (Setting Principals (codes "x,bob") ∷ []) 150 (certificate 1 (codes "bob" ∷ []) []) None
+    × Obstructs (Setting Principals (codes "x,bob") ∷ []) 150 (certificate 1 (codes "ann" ∷ []) []) (because PrincipalRefused)
+    × Obstructs (Setting Principals (codes "ann") ∷ []) 150 (certificate 1 [] []) (because PrincipalRefused)
+    × Obstructs [] 99 (certificate 2 (codes "bob" ∷ []) []) (because WrongCertKind)
+    × Obstructs [] 99 (certificate 1 (codes "bob" ∷ []) []) (because NotYetValid)
+
+-- what a user's certificate insists on
+abbrev pub CriticalOptionsJudged : Type 0
+CriticalOptionsJudged =
+    Insists [] (option (codes "verify-required") [] ∷ []) None
+    × Insists [] (option (codes "verify-required") (0 ∷ []) ∷ []) (because CriticalData)
+    × Insists [] (option (codes "force-command") (short 2 (codes "ls")) ∷ []) None
+    × Insists [] (option (codes "force-command") (short 2 (codes "ls" ++ 0 ∷ [])) ∷ []) (because CriticalData)
+    × Insists [] (option (codes "no-touch-required") [] ∷ []) (because (CriticalUnknown (codes "no-touch-required")))
+    × Insists [] (option (codes "verify-required") [] ∷ option (codes "verify-required") [] ∷ []) (because CriticalRepeated)
+    × Insists [] (option (codes "source-address") (short 8 (codes "10.0.0.1")) ∷ []) None
+    × Insists [] (option (codes "source-address") (short 10 (codes "10.0.0.0/8")) ∷ []) None
+    × Insists [] (option (codes "source-address") (short 8 (codes "10.0.0.2")) ∷ []) (because CertSourceRefused)
+    × Insists [] (option (codes "source-address") (short 1 (codes "*")) ∷ []) (because CertSourceBad)
+    × Insists [] (option (codes "source-address") (short 8 (codes "10.0.0.1" ++ 0 ∷ [])) ∷ []) (because CriticalData)
+    × Insists (Setting Command (codes "ls") ∷ []) (option (codes "force-command") (short 2 (codes "ls")) ∷ []) None
+    × Insists (Setting Command (codes "id") ∷ []) (option (codes "force-command") (short 2 (codes "ls")) ∷ []) (because CommandConflict)
+    × Insists (Setting Command (codes "id") ∷ []) [] None
+
+-- a certificate of a host, to h.example at this moment
+abbrev ObstructsHost : ℕ → Certificate → Option Obstacle → Type 0
+ObstructsHost now c obstacle =
+    host_certificate_obstacle (record { offered = []; signature = []; exchange_hash = []; host = codes "H.example"; port = 22; now = now }) c ≡ obstacle
+
+-- 2 is a host's certificate, and no critical option is known of one
+abbrev pub HostsCertificates : Type 0
+HostsCertificates =
+    ObstructsHost 150 (certificate 2 (codes "h.example" ∷ []) []) None
+    × ObstructsHost 150 (certificate 1 (codes "h.example" ∷ []) []) (because WrongCertKind)
+    × ObstructsHost 150 (certificate 0 (codes "h.example" ∷ []) []) (because WrongCertKind)
+    × ObstructsHost 99 (certificate 2 (codes "h.example" ∷ []) []) (because NotYetValid)
+    × ObstructsHost 100 (certificate 2 (codes "h.example" ∷ []) []) None
+    × ObstructsHost 199 (certificate 2 (codes "h.example" ∷ []) []) None
+    × ObstructsHost 200 (certificate 2 (codes "h.example" ∷ []) []) (because NoLongerValid)
+    × ObstructsHost 150 (certificate 2 [] []) None
+    × ObstructsHost 150 (certificate 2 (codes "*.example" ∷ []) []) (because PrincipalRefused)
+    × ObstructsHost 150 (certificate 2 (codes "h.example" ∷ []) (option (codes "verify-required") [] ∷ [])) (because (CriticalUnknown (codes "verify-required")))
+    × ObstructsHost 150 (certificate 2 (codes "h.example" ∷ []) (option (codes "force-command") (short 2 (codes "ls")) ∷ [])) (because (CriticalUnknown (codes "force-command")))

@@ -1,0 +1,25 @@
+//! Worked examples of the definitions. No call needs these functions: the check proves what they
+//! ensure.
+
+ghost use Rattle.ssh_rules.specs.Samples.{
+  CriticalOptionsJudged,
+  FormsJudged,
+  HostsCertificates,
+  NamesKnown,
+  RepetitionsFound,
+  UsersCertificates,
+};
+
+/// The names and the data of critical options.
+fn critical_options_as_read()
+    ensures names { NamesKnown }
+    ensures forms { FormsJudged }
+    ensures repeated { RepetitionsFound }
+{}
+
+/// Certificates of users and of hosts, and why one is not admitted.
+fn certificates_as_judged()
+    ensures users { UsersCertificates }
+    ensures critical { CriticalOptionsJudged }
+    ensures hosts { HostsCertificates }
+{}
