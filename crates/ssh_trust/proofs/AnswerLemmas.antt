@@ -2,11 +2,11 @@
 use Rattle.std.proofs.Common.{◌≡◌, ◌∙◌, ◌+◌, ◌<◌, ◌≤◌, ◌↔◌, ℕ, List, length, nat_lt, Result, Ok, Err, ap, sym, subst, refl, inl, inr, arith}
 use Rattle.std.specs.Prelude.{IfOk}
 use Rattle.std.proofs.lemmas.Bool.{cases_Bool, le-ltb, lt-ltb, ltb-false, ltb-true}
-use Rattle.ssh_text.specs.Text.{lines_of, numbered}
+use Rattle.ssh_text.specs.Text.{file_limit, lines_of, numbered}
 use Rattle.ssh_offers.specs.declared.error.AuditError.{AuditError}
 use Rattle.ssh_offers.specs.declared.error.AuditError.TheVariants.{FileTooLong, Memory}
 use Rattle.ssh_trust.specs.declared.decision.Decision.{Decision}
-use Rattle.ssh_trust.specs.Answer.{Gives, OfClaim, RefusesAs, file_limit, if_short}
+use Rattle.ssh_trust.specs.Answer.{Gives, OfClaim, RefusesAs, if_short}
 use Rattle.ssh_trust.specs.Findings.{Findings, FoundBy, no_findings}
 use Rattle.ssh_trust.specs.Scan.{after_lines}
 use Rattle.ssh_trust.proofs.CandidateLemmas.{answer-by}

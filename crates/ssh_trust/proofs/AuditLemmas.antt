@@ -4,11 +4,10 @@ use Rattle.std.proofs.lemmas.List.{length-append, take_all, take-append-drop}
 use Rattle.std.proofs.Math.Seq.{take-add}
 use Rattle.ssh_text.specs.declared.scanner.Line.{Line}
 use Rattle.ssh_text.specs.declared.scanner.Line.TheVariants.{Whole, TooLong}
-use Rattle.ssh_text.specs.Text.{line_len, lines_of, numbered}
+use Rattle.ssh_text.specs.Text.{file_limit, line_len, lines_of, numbered}
 use Rattle.ssh_text.specs.Scan.{IsLastLine, IsReadyLine, has_newline, up_to_newline, unfinished, whole_lines}
 use Rattle.ssh_text.proofs.PieceLemmas.{adds-none, adds-one, ends-none, ends-one}
 use Rattle.ssh_trust.specs.declared.pieces.Pieces.{Pieces}
-use Rattle.ssh_trust.specs.Answer.{file_limit}
 use Rattle.ssh_trust.specs.Audit.{HasRead, HasTaken}
 use Rattle.ssh_trust.specs.Findings.{Findings, FoundBy, IsText, no_findings}
 use Rattle.ssh_trust.specs.Scan.{after_lines}
@@ -16,20 +15,22 @@ use Rattle.ssh_trust.proofs.ScanLemmas.{after_lines-push}
 
 -- ---- what was found
 
-abbrev findings : {Q S : Type 0} → Q → S → Findings Q S
-findings claim said = record { claim = claim; said = said }
+abbrev findings : {Q S : Type 0} → Q → S → ℕ → Findings Q S
+findings claim said room = record { claim = claim; said = said; room = room }
 
 none-found : {Q S : Type 0} (add : Q → S → ℕ × List ℕ → S) (first : Findings Q S) → FoundBy add first [] first
 unfolding after_lines
 none-found add first = refl
 
--- one more line
-pub found-push : {Q S : Type 0} (add : Q → S → ℕ × List ℕ → S) (first : Findings Q S) (lines : List (ℕ × List ℕ)) (claim : Q) (old new : S) (x : ℕ × List ℕ)
-    → FoundBy add first lines (findings claim old) → new ≡ add claim old x → FoundBy add first (lines ++ x ∷ []) (findings claim new)
-found-push {Q = Q} {S = S} add first lines claim old new x h e =
-    ap (λ (n : S). findings claim n) e
-    ∙ ap (λ (f : Findings Q S). findings f.claim (add f.claim f.said x)) h
-    ∙ ap (λ (n : S). findings first.claim n) (sym (after_lines-push (add first.claim) first.said lines x))
+-- one more line, and a buffer of the same size
+pub found-push : {Q S : Type 0} (add : Q → S → ℕ × List ℕ → S) (first : Findings Q S) (lines : List (ℕ × List ℕ)) (claim : Q) (old new : S) (was room : ℕ)
+    (x : ℕ × List ℕ) → FoundBy add first lines (findings claim old was) → new ≡ add claim old x → room ≡ was
+    → FoundBy add first (lines ++ x ∷ []) (findings claim new room)
+found-push {Q = Q} {S = S} add first lines claim old new was room x h e same =
+    ap (λ (n : S). findings claim n room) e
+    ∙ ap (λ (r : ℕ). findings claim (add claim old x) r) same
+    ∙ ap (λ (f : Findings Q S). findings f.claim (add f.claim f.said x) f.room) h
+    ∙ ap (λ (n : S). findings first.claim n first.room) (sym (after_lines-push (add first.claim) first.said lines x))
 
 -- no piece yet
 pub stands-new : {Q S : Type 0} (add : Q → S → ℕ × List ℕ → S) (nothing : S) (claim : Q) (first : Findings Q S) (audit : Pieces (Findings Q S))

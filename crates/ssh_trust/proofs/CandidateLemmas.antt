@@ -2,12 +2,12 @@
 use Rattle.std.proofs.Common.{◌≡◌, ◌∙◌, ◌+◌, ◌-◌, ◌<◌, cond, get_or, ℕ, zero, suc, Bool, true, false, List, [], ◌∷◌, ◌++◌, map, Option, Some, None, Ok, Err, ap, subst, sym, refl, inl, inr, arith}
 use Rattle.std.specs.Prelude.{slice_get}
 use Rattle.std.specs.List.{AllByRecursion}
-use Rattle.ssh_lines.specs.Text.{AreLines, lines_of}
+use Rattle.ssh_text.specs.Text.{AreLines, lines_of}
 use Rattle.ssh_text.proofs.LineLemmas.{lines_of-are, lines_of-only}
 use Rattle.ssh_offers.specs.declared.error.AuditError.TheVariants.{FileTooLong}
 use Rattle.ssh_rules.specs.declared.reason.Obstacle.{Obstacle}
 use Rattle.ssh_rules.specs.declared.verdict.LineVerdict.{LineVerdict}
-use Rattle.ssh_rules.specs.declared.verdict.LineVerdict.TheVariants.{Admits, Passes}
+use Rattle.ssh_rules.specs.declared.verdict.LineVerdict.TheVariants.{Admits, Skips}
 use Rattle.ssh_rules.specs.Verdict.{verdict_by}
 use Rattle.ssh_trust.specs.declared.decision.Decision.{Decision}
 use Rattle.ssh_trust.specs.FileLines.{IsLineAt}
@@ -39,7 +39,7 @@ first-is {E = E} n (Admits f ∷ js) i e h =
       stands = ap (λ x. Some (Admits x)) entry;
       earlier = λ j g below at. absurd (omega arith);
     }
-first-is {E = E} n (Passes why ∷ js) i e h =
+first-is {E = E} n (Skips why ∷ js) i e h =
     let r = first-is (n + 1) js i e h in
     record {
       place = suc r.place;
@@ -48,15 +48,15 @@ first-is {E = E} n (Passes why ∷ js) i e h =
       earlier = λ j f below at. before r j f below at;
     }
   where
-    before : (r : IsFirst E (n + 1) js i e) (j : ℕ) (f : E) → j < suc r.place → slice_get (Passes why ∷ js) j ≡ Some (Admits f) → ⊥
-    before r zero f below at = let bad : Passes why ≡ Admits f = some-same _ _ at in cc
+    before : (r : IsFirst E (n + 1) js i e) (j : ℕ) (f : E) → j < suc r.place → slice_get (Skips why ∷ js) j ≡ Some (Admits f) → ⊥
+    before r zero f below at = let bad : Skips why ≡ Admits f = some-same _ _ at in cc
     before r (suc j) f below at = r.earlier j f (omega arith) at
 
 first-none : {E : Type 0} (n : ℕ) (js : List (LineVerdict E)) → first_admitted n js ≡ None → (j : ℕ) (f : E) → slice_get js j ≡ Some (Admits f) → ⊥
 first-none n [] h j f at = cc
 first-none n (Admits e ∷ js) h j f at = cc
-first-none n (Passes why ∷ js) h zero f at = let bad : Passes why ≡ Admits f = some-same _ _ at in cc
-first-none n (Passes why ∷ js) h (suc j) f at = first-none (n + 1) js h j f at
+first-none n (Skips why ∷ js) h zero f at = let bad : Skips why ≡ Admits f = some-same _ _ at in cc
+first-none n (Skips why ∷ js) h (suc j) f at = first-none (n + 1) js h j f at
 
 -- ---- the lines of a file, and what is made of each
 

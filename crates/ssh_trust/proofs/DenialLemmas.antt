@@ -3,15 +3,15 @@ use Rattle.std.proofs.Common.{◌≡◌, ◌∙◌, ◌↔◌, ◌⊎◌, ◌+�
 use Rattle.std.specs.Prelude.{Contains, option_map, slice_get}
 use Rattle.std.specs.List.{position_or_len}
 use Rattle.std.proofs.lemmas.Bool.{cases_Bool, ltb-true}
-use Rattle.ssh_lines.specs.declared.entry.AuthEntry.{AuthEntry}
+use Rattle.ssh_lines.specs.AuthEntry.{AuthEntry}
 use Rattle.ssh_lines.specs.declared.entry.AuthLine.{AuthLine}
 use Rattle.ssh_lines.specs.declared.entry.AuthLine.TheVariants as auth
-use Rattle.ssh_lines.specs.declared.known.KnownEntry.{KnownEntry}
+use Rattle.ssh_lines.specs.KnownEntry.{KnownEntry}
 use Rattle.ssh_lines.specs.declared.known.KnownLine.{KnownLine}
 use Rattle.ssh_lines.specs.declared.known.KnownLine.TheVariants as known
 use Rattle.ssh_lines.specs.AuthGrammar.{auth_line}
 use Rattle.ssh_lines.specs.KnownGrammar.{Blind, known_line}
-use Rattle.ssh_lines.specs.Text.{lines_of}
+use Rattle.ssh_text.specs.Text.{lines_of}
 use Rattle.ssh_lines.proofs.AuthLemmas.{auth_line-spelled}
 use Rattle.ssh_lines.proofs.ReadAuth.{auth_line-spells}
 use Rattle.ssh_lines.proofs.ReadKnown.{known_line-spelled, known_line-spells}
@@ -27,7 +27,7 @@ use Rattle.ssh_rules.specs.declared.reason.Obstacle.TheVariants.{Listed, OtherHo
 use Rattle.ssh_rules.specs.declared.reason.Reason.{Reason}
 use Rattle.ssh_rules.specs.declared.reason.Reason.TheVariants.{Unreadable}
 use Rattle.ssh_rules.specs.declared.verdict.LineVerdict.{LineVerdict}
-use Rattle.ssh_rules.specs.declared.verdict.LineVerdict.TheVariants.{Admits, Passes}
+use Rattle.ssh_rules.specs.declared.verdict.LineVerdict.TheVariants.{Admits, Skips}
 use Rattle.ssh_rules.specs.Admission.{login_obstacle}
 use Rattle.ssh_rules.specs.HostAdmission.{host_obstacle}
 use Rattle.ssh_rules.specs.Verdict.{host_verdict, login_verdict, verdict_by}
@@ -110,11 +110,11 @@ passed_reasons n js = reasons_from n (before_candidate js)
 
 -- one more line that does not admit
 passed-next : {E : Type 0} (n : ℕ) (why : Option Reason) (js : List (LineVerdict E))
-    → passed_reasons n (Passes why ∷ js) ≡ with_reason n why (passed_reasons (n + 1) js)
+    → passed_reasons n (Skips why ∷ js) ≡ with_reason n why (passed_reasons (n + 1) js)
 passed-next n why js =
     let k = position_or_len admits js in
     let next : 1 + k ≡ suc k = omega arith in
-    ap (λ (j : ℕ). reasons_from n (take j (Passes why ∷ js))) next
+    ap (λ (j : ℕ). reasons_from n (take j (Skips why ∷ js))) next
 
 rises-lower : (n m : ℕ) (rs : List (ℕ × Reason)) → m ≤ n → RisesFrom n rs → RisesFrom m rs
 rises-lower n m [] le h = tt
@@ -127,16 +127,16 @@ rises-with n (Some why) rs h = (omega arith, h)
 rises : {E : Type 0} (n : ℕ) (js : List (LineVerdict E)) → RisesFrom n (passed_reasons n js)
 rises n [] = tt
 rises n (Admits e ∷ js) = tt
-rises n (Passes why ∷ js) = rw (passed-next n why js) (rises-with n why (passed_reasons (n + 1) js) (rises (n + 1) js))
+rises n (Skips why ∷ js) = rw (passed-next n why js) (rises-with n why (passed_reasons (n + 1) js) (rises (n + 1) js))
 
 -- the line of number m passes for this reason, and none up to it admits, where the first line has number n
 record IsListed (E : Type 0) (n : ℕ) (js : List (LineVerdict E)) (m : ℕ) (why : Reason) : Type 0 where
   place : ℕ
   number : m ≡ n + place
-  stands : slice_get js place ≡ Some (Passes (Some why))
+  stands : slice_get js place ≡ Some (Skips (Some why))
   before : (j : ℕ) (e : E) → j ≤ place → slice_get js j ≡ Some (Admits e) → ⊥
 
-listed-later : {E : Type 0} (n : ℕ) (w : Option Reason) (js : List (LineVerdict E)) (m : ℕ) (why : Reason) → IsListed E (n + 1) js m why → IsListed E n (Passes w ∷ js) m why
+listed-later : {E : Type 0} (n : ℕ) (w : Option Reason) (js : List (LineVerdict E)) (m : ℕ) (why : Reason) → IsListed E (n + 1) js m why → IsListed E n (Skips w ∷ js) m why
 listed-later {E = E} n w js m why r = record {
   place = suc r.place;
   number = (let number = r.number in omega arith);
@@ -144,30 +144,30 @@ listed-later {E = E} n w js m why r = record {
   before = λ j e le at. before j e le at;
 }
   where
-    before : (j : ℕ) (e : E) → j ≤ suc r.place → slice_get (Passes w ∷ js) j ≡ Some (Admits e) → ⊥
-    before zero e le at = let bad : Passes w ≡ Admits e = some-same _ _ at in cc
+    before : (j : ℕ) (e : E) → j ≤ suc r.place → slice_get (Skips w ∷ js) j ≡ Some (Admits e) → ⊥
+    before zero e le at = let bad : Skips w ≡ Admits e = some-same _ _ at in cc
     before (suc j) e le at = r.before j e (omega arith) at
 
-listed-here : {E : Type 0} (n : ℕ) (js : List (LineVerdict E)) (m : ℕ) (w why : Reason) → ◌≡◌ {A = ℕ × Reason} (n, w) (m, why) → IsListed E n (Passes (Some w) ∷ js) m why
+listed-here : {E : Type 0} (n : ℕ) (js : List (LineVerdict E)) (m : ℕ) (w why : Reason) → ◌≡◌ {A = ℕ × Reason} (n, w) (m, why) → IsListed E n (Skips (Some w) ∷ js) m why
 listed-here {E = E} n js m w why same =
     let number : n ≡ m = ap (λ (x : ℕ × Reason). x.0) same in
     record {
       place = zero;
       number = omega arith;
-      stands = ap (λ (r : Reason). Some (Passes (Some r))) (ap (λ (x : ℕ × Reason). x.1) same);
+      stands = ap (λ (r : Reason). Some (Skips (Some r))) (ap (λ (x : ℕ × Reason). x.1) same);
       before = λ j e le at. before j e le at;
     }
   where
-    before : (j : ℕ) (e : E) → j ≤ zero → slice_get (Passes (Some w) ∷ js) j ≡ Some (Admits e) → ⊥
-    before zero e le at = let bad : Passes (Some w) ≡ Admits e = some-same _ _ at in cc
+    before : (j : ℕ) (e : E) → j ≤ zero → slice_get (Skips (Some w) ∷ js) j ≡ Some (Admits e) → ⊥
+    before zero e le at = let bad : Skips (Some w) ≡ Admits e = some-same _ _ at in cc
     before (suc j) e le at = absurd (omega arith)
 
 listed-is : {E : Type 0} (n : ℕ) (js : List (LineVerdict E)) (m : ℕ) (why : Reason) → Contains (passed_reasons n js) (m, why) → IsListed E n js m why
 listed-is n [] m why h = absurd (contains-none (m, why) h)
 listed-is n (Admits e ∷ js) m why h = absurd (contains-none (m, why) h)
-listed-is n (Passes None ∷ js) m why h =
+listed-is n (Skips None ∷ js) m why h =
     listed-later n None js m why (listed-is (n + 1) js m why (subst (λ (rs : List (ℕ × Reason)). Contains rs (m, why)) (passed-next n None js) h))
-listed-is n (Passes (Some w) ∷ js) m why h =
+listed-is n (Skips (Some w) ∷ js) m why h =
     let there = subst (λ (rs : List (ℕ × Reason)). Contains rs (m, why)) (passed-next n (Some w) js) h in
     elim (contains-cases (n, w) (m, why) (passed_reasons (n + 1) js) there) [
       | inl same ↦ listed-here n js m w why same
@@ -184,17 +184,17 @@ with-first n (Some w) rs m why h e =
     let same : w ≡ why = some-same w why h in
     (zero, omega arith, ap (λ (r : Reason). (n, r)) same ∙ ap (λ (k : ℕ). (k, why)) e)
 
-passes-same : {E : Type 0} (w v : Option Reason) → ◌≡◌ {A = LineVerdict E} (Passes w) (Passes v) → w ≡ v
+passes-same : {E : Type 0} (w v : Option Reason) → ◌≡◌ {A = LineVerdict E} (Skips w) (Skips v) → w ≡ v
 passes-same w v h = cc
 
 listed-in : {E : Type 0} (n : ℕ) (js : List (LineVerdict E)) (m : ℕ) (why : Reason) (place : ℕ) → m ≡ n + place
-    → slice_get js place ≡ Some (Passes (Some why)) → ((j : ℕ) (e : E) → j ≤ place → slice_get js j ≡ Some (Admits e) → ⊥)
+    → slice_get js place ≡ Some (Skips (Some why)) → ((j : ℕ) (e : E) → j ≤ place → slice_get js j ≡ Some (Admits e) → ⊥)
     → Contains (passed_reasons n js) (m, why)
 listed-in n [] m why place number at before = cc
 listed-in n (Admits e ∷ js) m why place number at before = absurd (before zero e (omega arith) refl)
-listed-in n (Passes w ∷ js) m why zero number at before =
+listed-in n (Skips w ∷ js) m why zero number at before =
     rw (passed-next n w js) (with-first n w (passed_reasons (n + 1) js) m why (passes-same w (Some why) (some-same _ _ at)) (omega arith))
-listed-in n (Passes w ∷ js) m why (suc place) number at before =
+listed-in n (Skips w ∷ js) m why (suc place) number at before =
     rw (passed-next n w js)
     (with-rest n w (passed_reasons (n + 1) js) (m, why)
     (listed-in (n + 1) js m why place (omega arith) at (λ j e le is. before (suc j) e (omega arith) is)))
@@ -204,8 +204,8 @@ first-below : {E : Type 0} (n : ℕ) (js : List (LineVerdict E)) (j : ℕ) (e : 
     → (c : ℕ × E) × (first_admitted n js ≡ Some c) × (c.0 ≤ n + j)
 first-below n [] j e at = cc
 first-below n (Admits f ∷ js) j e at = ((n, f), refl, omega arith)
-first-below n (Passes w ∷ js) zero e at = let bad : Passes w ≡ Admits e = some-same _ _ at in cc
-first-below n (Passes w ∷ js) (suc j) e at =
+first-below n (Skips w ∷ js) zero e at = let bad : Skips w ≡ Admits e = some-same _ _ at in cc
+first-below n (Skips w ∷ js) (suc j) e at =
     let r = first-below (n + 1) js j e at in
     let le = r.2 in
     (r.0, r.1, omega (arith, le))
@@ -214,7 +214,7 @@ first-below n (Passes w ∷ js) (suc j) e at =
 
 -- a line passes for a reason exactly where it has that reason
 abbrev TellsReasons : {E : Type 0} → (List ℕ → LineVerdict E) → (List ℕ → Reason → Type 0) → Type 0
-TellsReasons verdict Reasoned = (line : List ℕ) → AreBytes line → (why : Reason) → (verdict line ≡ Passes (Some why)) ↔ Reasoned line why
+TellsReasons verdict Reasoned = (line : List ℕ) → AreBytes line → (why : Reason) → (verdict line ≡ Skips (Some why)) ↔ Reasoned line why
 
 are-reasons : {E : Type 0} {Spells : E → List ℕ → Type 0} {IsAdmitting : E → Type 0} {Reasoned : List ℕ → Reason → Type 0} (verdict : List ℕ → LineVerdict E)
     → Judges E Spells IsAdmitting verdict → TellsReasons verdict Reasoned → (file : List ℕ) → AreBytes file
@@ -232,7 +232,7 @@ are-reasons {E = E} {Spells = Spells} {IsAdmitting = IsAdmitting} {Reasoned = Re
     passed : (n : ℕ) (why : Reason) → Contains (passed_reasons 1 (map verdict (lines_of file))) (n, why) → IsPassedOver E (IsFirstAdmitted E Spells IsAdmitting file) Reasoned file n why
     passed n why h =
         let r = listed-is 1 (map verdict (lines_of file)) n why h in
-        let from = map-from verdict (lines_of file) r.place (Passes (Some why)) r.stands in
+        let from = map-from verdict (lines_of file) r.place (Skips (Some why)) r.stands in
         let number = r.number in
         record {
           line = from.0;
@@ -257,22 +257,22 @@ are-reasons {E = E} {Spells = Spells} {IsAdmitting = IsAdmitting} {Reasoned = Re
         absurd (omega (arith, low, after, le, one)))
 
 -- an entry with an obstacle
-obstacle-is : {E : Type 0} (o : Option Obstacle) (e : E) (why : Reason) → verdict_by o e ≡ Passes (Some why) → o ≡ Some (Listed why)
+obstacle-is : {E : Type 0} (o : Option Obstacle) (e : E) (why : Reason) → verdict_by o e ≡ Skips (Some why) → o ≡ Some (Listed why)
 obstacle-is None e why h = cc
 obstacle-is (Some OtherKey) e why h = let bad : None ≡ Some why = passes-same None (Some why) h in cc
 obstacle-is (Some OtherHost) e why h = let bad : None ≡ Some why = passes-same None (Some why) h in cc
 obstacle-is (Some (Listed w)) e why h = ap (λ (r : Reason). Some (Listed r)) (some-same w why (passes-same (Some w) (Some why) h))
 
-unread-is : {E : Type 0} (w why : Reason) → ◌≡◌ {A = LineVerdict E} (Passes (Some w)) (Passes (Some why)) → why ≡ w
+unread-is : {E : Type 0} (w why : Reason) → ◌≡◌ {A = LineVerdict E} (Skips (Some w)) (Skips (Some why)) → why ≡ w
 unread-is w why h = sym (some-same w why (passes-same (Some w) (Some why) h))
 
-nothing-listed : {E : Type 0} (why : Reason) → ◌≡◌ {A = LineVerdict E} (Passes None) (Passes (Some why)) → ⊥
+nothing-listed : {E : Type 0} (why : Reason) → ◌≡◌ {A = LineVerdict E} (Skips None) (Skips (Some why)) → ⊥
 nothing-listed why h = let bad : None ≡ Some why = passes-same None (Some why) h in cc
 
 -- ---- logins
 
 login-reason : (claim : LoginClaim) (line : List ℕ) → AreBytes line → (why : Reason) (l : AuthLine) → auth_line line ≡ l
-    → login_verdict claim l ≡ Passes (Some why) → LoginReason claim line why
+    → login_verdict claim l ≡ Skips (Some why) → LoginReason claim line why
 login-reason claim line bytes why auth.Blank e h = absurd (nothing-listed {E = AuthEntry} why h)
 login-reason claim line bytes why auth.Comment e h = absurd (nothing-listed {E = AuthEntry} why h)
 login-reason claim line bytes why (auth.Unreadable cause) e h = inl (cause, e, unread-is {E = AuthEntry} (Unreadable cause) why h)
@@ -281,8 +281,8 @@ login-reason claim line bytes why (auth.Entry f) e h = inr (f, auth_line-spells 
 login-tells : (claim : LoginClaim) → TellsReasons (line_verdict claim) (LoginReason claim)
 login-tells claim line bytes why = (login-reason claim line bytes why (auth_line line) refl, back)
   where
-    back : LoginReason claim line why → line_verdict claim line ≡ Passes (Some why)
-    back (inl (cause, e, w)) = ap (login_verdict claim) e ∙ ap (λ (r : Reason). Passes (Some r)) (sym w)
+    back : LoginReason claim line why → line_verdict claim line ≡ Skips (Some why)
+    back (inl (cause, e, w)) = ap (login_verdict claim) e ∙ ap (λ (r : Reason). Skips (Some r)) (sym w)
     back (inr (f, spelled, o)) = ap (login_verdict claim) (auth_line-spelled f line spelled) ∙ ap (λ (x : Option Obstacle). verdict_by x f) o
 
 login-reasons : (file : List ℕ) (claim : LoginClaim) → AreBytes file
@@ -314,7 +314,7 @@ login_denial file claim vouched bytes = login-denial-by file claim vouched bytes
 -- ---- hosts
 
 host-reason : (claim : HostClaim) (line : List ℕ) → AreBytes line → (why : Reason) (l : KnownLine) → known_line line ≡ l
-    → host_verdict claim l ≡ Passes (Some why) → HostReason claim line why
+    → host_verdict claim l ≡ Skips (Some why) → HostReason claim line why
 host-reason claim line bytes why known.Blank e h = absurd (nothing-listed {E = KnownEntry} why h)
 host-reason claim line bytes why known.Comment e h = absurd (nothing-listed {E = KnownEntry} why h)
 host-reason claim line bytes why (known.Revoked blob) e h = absurd (nothing-listed {E = KnownEntry} why h)
@@ -325,8 +325,8 @@ host-reason claim line bytes why (known.Entry f) e h = inr (f, known_line-spells
 host-tells : (claim : HostClaim) → TellsReasons (host_line_verdict claim) (HostReason claim)
 host-tells claim line bytes why = (host-reason claim line bytes why (known_line line) refl, back)
   where
-    back : HostReason claim line why → host_line_verdict claim line ≡ Passes (Some why)
-    back (inl (cause, e, w)) = ap (host_verdict claim) e ∙ ap (λ (r : Reason). Passes (Some r)) (sym w)
+    back : HostReason claim line why → host_line_verdict claim line ≡ Skips (Some why)
+    back (inl (cause, e, w)) = ap (host_verdict claim) e ∙ ap (λ (r : Reason). Skips (Some r)) (sym w)
     back (inr (f, spelled, o)) = ap (host_verdict claim) (known_line-spelled f line spelled) ∙ ap (λ (x : Option Obstacle). verdict_by x f) o
 
 abbrev host_verdicts : HostClaim → List ℕ → List (LineVerdict KnownEntry)

@@ -1,12 +1,12 @@
 -- What a host's key is answered by all lines.
 use Rattle.std.proofs.Common.{◌≡◌, ◌≤◌, ℕ, List, length, Ok, subst}
-use Rattle.ssh_text.specs.Text.{lines_of, numbered}
+use Rattle.ssh_text.specs.Text.{file_limit, lines_of, numbered}
 use Rattle.ssh_offers.specs.declared.query.Signed.{Signed}
 use Rattle.ssh_offers.specs.Evidence.{host_evidence}
 use Rattle.ssh_offers.specs.HostClaim.{HostClaim}
 use Rattle.ssh_trust.specs.declared.decision.Decision.{Decision}
 use Rattle.ssh_trust.specs.declared.host_scan.HostScan.{HostScan}
-use Rattle.ssh_trust.specs.Answer.{file_limit, host_answer, if_short}
+use Rattle.ssh_trust.specs.Answer.{host_answer, if_short}
 use Rattle.ssh_trust.specs.Findings.{HostFindings, HostFound, no_host_findings}
 use Rattle.ssh_trust.specs.HostDecision.{host_decision, host_decision_of}
 use Rattle.ssh_trust.specs.HostScan.{empty_host_scan, host_scan_line}

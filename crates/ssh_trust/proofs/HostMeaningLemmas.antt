@@ -5,10 +5,10 @@ use Rattle.std.specs.Bool.{Decides}
 use Rattle.std.specs.Str.{bytes_eq}
 use Rattle.std.proofs.lemmas.Slice.Eq.{bytes_eq-Decides}
 use Rattle.ssh_keys.specs.PublicKey.{key_blob}
-use Rattle.ssh_lines.specs.declared.known.KnownEntry.{KnownEntry}
+use Rattle.ssh_lines.specs.KnownEntry.{KnownEntry}
 use Rattle.ssh_lines.specs.declared.known.KnownLine.{KnownLine}
 use Rattle.ssh_lines.specs.declared.known.KnownLine.TheVariants.{Blank, Comment, Entry, Revoked, RevokedUnreadable, Unreadable}
-use Rattle.ssh_lines.specs.Text.{lines_of}
+use Rattle.ssh_text.specs.Text.{lines_of}
 use Rattle.ssh_lines.specs.KnownGrammar.{Blind, SpellsKnown, known_line}
 use Rattle.ssh_lines.proofs.ReadKnown.{known_line-spelled, known_line-spells}
 use Rattle.ssh_lines.proofs.RevokedLemmas.{blind-read, read-blind, read-revokes, revokes-read}

@@ -1,6 +1,6 @@
 -- The scan of a known_hosts file, line by line.
 use Rattle.std.proofs.Common.{◌≡◌, ◌∙◌, ◌+◌, ℕ, Bool, true, false, cond, List, [], ◌∷◌, map, Option, Some, None, ap, refl}
-use Rattle.ssh_lines.specs.Text.{lines_of, numbered}
+use Rattle.ssh_text.specs.Text.{lines_of, numbered}
 use Rattle.ssh_offers.specs.HostClaim.{HostClaim}
 use Rattle.ssh_trust.specs.declared.host_scan.HostScan.{HostScan}
 use Rattle.ssh_trust.specs.declared.scan.Scan.{Scan}
@@ -11,24 +11,24 @@ use Rattle.ssh_trust.proofs.ScanLemmas.{scanned, scanned-scan_of}
 -- ---- its three parts
 
 first_after : Option ℕ → (List ℕ → Bool) → List (ℕ × List ℕ) → Option ℕ
-first_after first passes [] = first
-first_after first passes (x ∷ xs) = first_after (first_so_far first x.0 (passes x.1)) passes xs
+first_after first holds [] = first
+first_after first holds (x ∷ xs) = first_after (first_so_far first x.0 (holds x.1)) holds xs
 
-first-stays : (n : ℕ) (passes : List ℕ → Bool) (xs : List (ℕ × List ℕ)) → first_after (Some n) passes xs ≡ Some n
+first-stays : (n : ℕ) (holds : List ℕ → Bool) (xs : List (ℕ × List ℕ)) → first_after (Some n) holds xs ≡ Some n
 unfolding first_after
-first-stays n passes [] = refl
-first-stays n passes (x ∷ xs) = first-stays n passes xs
+first-stays n holds [] = refl
+first-stays n holds (x ∷ xs) = first-stays n holds xs
 
-first-by : (passes : List ℕ → Bool) (n : ℕ) (lines : List (List ℕ)) (rest : List (ℕ × List ℕ)) (b : Bool)
-    → first_after None passes rest ≡ first_number passes (n + 1) lines
-    → first_after (first_so_far None n b) passes rest ≡ cond b (Some n) (first_number passes (n + 1) lines)
-first-by passes n lines rest true h = first-stays n passes rest
-first-by passes n lines rest false h = h
+first-by : (holds : List ℕ → Bool) (n : ℕ) (lines : List (List ℕ)) (rest : List (ℕ × List ℕ)) (b : Bool)
+    → first_after None holds rest ≡ first_number holds (n + 1) lines
+    → first_after (first_so_far None n b) holds rest ≡ cond b (Some n) (first_number holds (n + 1) lines)
+first-by holds n lines rest true h = first-stays n holds rest
+first-by holds n lines rest false h = h
 
-first-numbered : (passes : List ℕ → Bool) (n : ℕ) (lines : List (List ℕ)) → first_after None passes (numbered n lines) ≡ first_number passes n lines
+first-numbered : (holds : List ℕ → Bool) (n : ℕ) (lines : List (List ℕ)) → first_after None holds (numbered n lines) ≡ first_number holds n lines
 unfolding first_after
-first-numbered passes n [] = refl
-first-numbered passes n (line ∷ lines) = first-by passes n lines (numbered (n + 1) lines) (passes line) (first-numbered passes (n + 1) lines)
+first-numbered holds n [] = refl
+first-numbered holds n (line ∷ lines) = first-by holds n lines (numbered (n + 1) lines) (holds line) (first-numbered holds (n + 1) lines)
 
 parts : (claim : HostClaim) (s : HostScan) (xs : List (ℕ × List ℕ)) → after_lines (host_scan_line claim) s xs ≡ record {
   admission = scanned number_at (host_line_verdict claim) s.admission xs;

@@ -1,13 +1,13 @@
 -- What a login is answered by all lines.
 use Rattle.std.proofs.Common.{◌≡◌, ◌≤◌, ℕ, List, length, Ok, subst}
-use Rattle.ssh_text.specs.Text.{lines_of, numbered}
+use Rattle.ssh_text.specs.Text.{file_limit, lines_of, numbered}
 use Rattle.ssh_offers.specs.declared.query.Signed.{Signed}
 use Rattle.ssh_offers.specs.Evidence.{login_evidence}
 use Rattle.ssh_offers.specs.LoginClaim.{LoginClaim}
 use Rattle.ssh_trust.specs.declared.decision.Decision.{Decision}
 use Rattle.ssh_trust.specs.declared.login_scan.Candidate.{Candidate}
 use Rattle.ssh_trust.specs.declared.scan.Scan.{Scan}
-use Rattle.ssh_trust.specs.Answer.{file_limit, if_short, login_answer}
+use Rattle.ssh_trust.specs.Answer.{if_short, login_answer}
 use Rattle.ssh_trust.specs.Decision.{candidate_at, decision_of, line_verdict, login_decision}
 use Rattle.ssh_trust.specs.Findings.{LoginFindings, LoginFound, login_scan_line, no_login_findings}
 use Rattle.ssh_trust.specs.Scan.{empty_scan}

@@ -1,7 +1,7 @@
 -- A decision means what is said of granted and denied logins.
 use Rattle.std.proofs.Common.{◌≡◌, ◌∙◌, ℕ, Bool, true, false, List, Option, Some, None, ap, subst, sym, refl}
 use Rattle.std.specs.Prelude.{option_map}
-use Rattle.ssh_lines.specs.declared.entry.AuthEntry.{AuthEntry}
+use Rattle.ssh_lines.specs.AuthEntry.{AuthEntry}
 use Rattle.ssh_lines.specs.declared.entry.AuthLine.{AuthLine}
 use Rattle.ssh_lines.specs.declared.entry.AuthLine.TheVariants.{Blank, Comment, Entry, Unreadable}
 use Rattle.ssh_lines.specs.AuthGrammar.{SpellsEntry, auth_line}
@@ -14,7 +14,7 @@ use Rattle.ssh_offers.specs.declared.query.Signed.{Signed}
 use Rattle.ssh_offers.specs.LoginClaim.{LoginClaim}
 use Rattle.ssh_offers.specs.Evidence.{login_evidence}
 use Rattle.ssh_offers.specs.Vouching.{first_unvouched}
-use Rattle.ssh_rights.specs.SecurityKeys.{is_touched, is_verified}
+use Rattle.ssh_rights.specs.SecurityKeys.{touch_suffices, verification_suffices}
 use Rattle.ssh_rules.specs.Admission.{AdmitsLogin, login_obstacle}
 use Rattle.ssh_rules.specs.Verdict.{login_verdict, verdict_by}
 use Rattle.ssh_trust.specs.Candidate.{candidate_of, reasons_of}
@@ -45,10 +45,10 @@ not-both : (b : Bool) → b ≡ true → b ≡ false → ⊥
 not-both b t f = let bad : true ≡ false = sym t ∙ f in cc
 
 abbrev pub touched_by : LoginClaim → AuthEntry → Bool
-touched_by claim e = is_touched e.options claim.offer claim.signature
+touched_by claim e = touch_suffices e.options claim.offer claim.signature
 
 abbrev pub verified_by : LoginClaim → AuthEntry → Bool
-verified_by claim e = is_verified e.options claim.offer claim.signature
+verified_by claim e = verification_suffices e.options claim.offer claim.signature
 
 means-at : (file : List ℕ) (claim : LoginClaim) (vouched : List Signed) (i : ℕ) (e : AuthEntry) (reasons : List (ℕ × Reason)) → IsCandidate file claim i e
     → (touched : Bool) → touched_by claim e ≡ touched → (verified : Bool) → verified_by claim e ≡ verified

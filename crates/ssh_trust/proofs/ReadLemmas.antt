@@ -8,7 +8,8 @@ use Rattle.ssh_offers.specs.declared.error.AuditError.{AuditError}
 use Rattle.ssh_offers.specs.declared.error.AuditError.TheVariants.{Offer, Signature, WrongAlgorithm, WeakSignature, CertSignature, Address, FileTooLong, Memory, Read, Failed, Body}
 use Rattle.ssh_trust.specs.declared.decision.Decision.{Decision}
 use Rattle.ssh_trust.specs.declared.pieces.Pieces.{Pieces}
-use Rattle.ssh_trust.specs.Answer.{Gives, OfClaim, RefusesAs, file_limit, if_short}
+use Rattle.ssh_trust.specs.Answer.{Gives, OfClaim, RefusesAs, if_short}
+use Rattle.ssh_text.specs.Text.{file_limit}
 use Rattle.ssh_trust.specs.Audit.{HasRead, HasTaken}
 use Rattle.ssh_trust.specs.Reads.{AnswersReader, IsFedBy, StopsBy, piece_size}
 use Rattle.ssh_trust.proofs.AuditLemmas.{taken-more}

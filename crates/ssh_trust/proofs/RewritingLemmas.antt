@@ -1,12 +1,12 @@
 -- A file is decided by what its lines say, and so is the file of canonical lines.
 use Rattle.std.proofs.Common.{◌≡◌, ◌∙◌, ℕ, ◌+◌, Bool, true, false, cond, ltb, List, [], ◌∷◌, length, map, Option, Some, None, Result, Ok, Err, refl, sym, ap}
-use Rattle.ssh_text.specs.Text.{lines_of}
+use Rattle.ssh_text.specs.Text.{file_limit, lines_of}
 use Rattle.ssh_lines.specs.declared.known.KnownLine.{KnownLine}
 use Rattle.ssh_lines.specs.AuthGrammar.{auth_line}
 use Rattle.ssh_lines.specs.KnownGrammar.{known_line}
 use Rattle.ssh_rewriting.specs.declared.error.RewriteError.{RewriteError}
 use Rattle.ssh_rewriting.specs.declared.error.RewriteError.TheVariants.{TooLong}
-use Rattle.ssh_rewriting.specs.Answer.{file_limit, rewritten}
+use Rattle.ssh_rewriting.specs.Answer.{rewritten}
 use Rattle.ssh_rewriting.specs.CanonicalFile.{auth_written, canonical_auth_file, canonical_known_file, known_written}
 use Rattle.ssh_rewriting.specs.Facts.{auth_facts, known_facts}
 use Rattle.ssh_rewriting.proofs.FileLemmas.{file-says}

@@ -4,10 +4,10 @@ use Rattle.std.specs.Prelude.{is_some, option_map}
 use Rattle.std.specs.List.{position_or_len}
 use Rattle.std.proofs.lemmas.Bool.{ltb-true, ltb-false}
 use Rattle.std.proofs.lemmas.List.{append-nil, append_assoc, take_all, take_at, length_push}
-use Rattle.ssh_lines.specs.Text.{lines_of, numbered}
+use Rattle.ssh_text.specs.Text.{lines_of, numbered}
 use Rattle.ssh_rules.specs.declared.reason.Reason.{Reason}
 use Rattle.ssh_rules.specs.declared.verdict.LineVerdict.{LineVerdict}
-use Rattle.ssh_rules.specs.declared.verdict.LineVerdict.TheVariants.{Admits, Passes}
+use Rattle.ssh_rules.specs.declared.verdict.LineVerdict.TheVariants.{Admits, Skips}
 use Rattle.ssh_trust.specs.declared.scan.Scan.{Scan}
 use Rattle.ssh_trust.specs.Candidate.{admits, before_candidate, first_admitted, reasons_from, with_reason}
 use Rattle.ssh_trust.specs.Scan.{after_lines, empty_scan, listed_with, scan_line, scan_of, scan_verdict}
@@ -68,10 +68,10 @@ verdict-by : {E C : Type 0} (give : ℕ × E → C) (verdict : List ℕ → Line
     → scanned give verdict (scan_verdict give (scan_with None rs) n v) rest ≡ scan_by give rs n (v ∷ lines)
 verdict-by give verdict (Admits e) rs n lines rest le h =
     scanned-kept give verdict (scan_with (Some (give (n, e))) rs) rest refl ∙ sym (rw (append-nil, take_all 100 rs le) refl)
-verdict-by {E = E} give verdict (Passes why) rs n lines rest le h =
+verdict-by {E = E} give verdict (Skips why) rs n lines rest le h =
     let k = position_or_len admits lines in
-    let one : take (1 + k) (Passes why ∷ lines) ≡ Passes why ∷ take k lines =
-    (let next : 1 + k ≡ suc k = omega arith in ap (λ (j : ℕ). take j (Passes why ∷ lines)) next) in
+    let one : take (1 + k) (Skips why ∷ lines) ≡ Skips why ∷ take k lines =
+    (let next : 1 + k ≡ suc k = omega arith in ap (λ (j : ℕ). take j (Skips why ∷ lines)) next) in
     rw one
     (h (listed_with rs n why) (listed-limit rs n why le)
     ∙ ap (λ (r : List (ℕ × Reason)). scan_with (option_map give (first_admitted (n + 1) lines)) r) (listed-take rs n why (reasons_from (n + 1) (take k lines)) le))

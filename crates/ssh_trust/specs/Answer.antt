@@ -8,7 +8,7 @@ use Rattle.ssh_offers.specs.LoginClaim.{LoginClaim}
 use Rattle.ssh_offers.specs.HostClaim.{HostClaim}
 use Rattle.ssh_trust.specs.Decision.{login_decision}
 use Rattle.ssh_trust.specs.HostDecision.{host_decision}
-pub use Rattle.ssh_rewriting.specs.Answer.{file_limit}
+use Rattle.ssh_text.specs.Text.{file_limit}
 
 -- what a call returned is the answer, unless memory ran out
 abbrev pub Gives : {A : Type 0} → Result A AuditError → Result A AuditError → Type 0

@@ -5,11 +5,9 @@ use Rattle.ssh_offers.specs.LoginClaim.{LoginClaim}
 use Rattle.ssh_rules.specs.declared.reason.Reason.{Reason}
 use Rattle.ssh_text.specs.Scan as text
 use Rattle.ssh_text.specs.Scan.{whole_lines}
-use Rattle.ssh_text.specs.Text.{line_limit, numbered}
+use Rattle.ssh_text.specs.Text.{file_limit, line_limit, numbered}
 use Rattle.ssh_trust.specs.declared.pieces.Pieces.{Pieces}
-use Rattle.ssh_trust.specs.Answer.{file_limit}
-use Rattle.ssh_trust.specs.Candidate.{reason_limit}
-use Rattle.ssh_trust.specs.Findings.{HostFindings, HostFound, LoginFindings, LoginFound, host_reasons, login_reasons, no_host_findings, no_login_findings}
+use Rattle.ssh_trust.specs.Findings.{Findings, HostFindings, HostFound, IsKept, LoginFindings, LoginFound, host_reasons, login_reasons, no_host_findings, no_login_findings}
 
 -- the scanner used these bytes, and their whole lines led from the first findings to those of now
 pub record HasRead {T : Type 0} (Found : T → List (ℕ × List ℕ) → T → Type 0) (first : T) (audit : Pieces T) (bytes : List ℕ) : Type 0 where
@@ -22,10 +20,10 @@ pub record HasTaken {T : Type 0} (Found : T → List (ℕ × List ℕ) → T →
   pub short : length bytes ≤ file_limit
   pub sound : audit.failed ≡ false
 
--- one unfinished line at most is kept, and no more reasons than are listed
-pub record IsBounded {T : Type 0} (reasons_of : T → List (ℕ × Reason)) (audit : Pieces T) : Type 0 where
+-- Besides the claim an audit holds at most one unfinished line, one buffer for keys and 100 reasons, whatever the file. A candidate is one by its type.
+pub record IsBounded {Q S : Type 0} (reasons_of : Findings Q S → List (ℕ × Reason)) (audit : Pieces (Findings Q S)) : Type 0 where
   pub line : length audit.scanner.kept.bytes ≤ line_limit
-  pub reasons : length (reasons_of audit.search) ≤ reason_limit
+  pub search : IsKept reasons_of audit.search
 
 -- ---- logins
 
@@ -48,6 +46,6 @@ HostState = Pieces HostFindings
 abbrev pub HostStandsFor : HostState → HostClaim → List ℕ → Type 0
 HostStandsFor audit claim bytes = HasTaken HostFound (no_host_findings claim) audit bytes
 
--- besides, a candidate's number and those of two lines are kept
+-- the numbers of the candidate and of two lines are one each by their types
 abbrev pub IsHostBounded : HostState → Type 0
 IsHostBounded audit = IsBounded host_reasons audit

@@ -3,7 +3,7 @@ use Rattle.std.specs.Prelude.{ℕ, ◌+◌, ◌<◌, Bool, true, false, List, []
 use Rattle.std.specs.List.{position_or_len}
 use Rattle.ssh_rules.specs.declared.reason.Reason.{Reason}
 use Rattle.ssh_rules.specs.declared.verdict.LineVerdict.{LineVerdict}
-use Rattle.ssh_rules.specs.declared.verdict.LineVerdict.TheVariants.{Admits, Passes}
+use Rattle.ssh_rules.specs.declared.verdict.LineVerdict.TheVariants.{Admits, Skips}
 use Rattle.ssh_trust.specs.FileLines.{IsLineAt}
 
 -- ======== in the subject's words
@@ -20,13 +20,13 @@ pub record IsFirstAdmitted (E : Type 0) (Spells : E → List ℕ → Type 0) (Is
 
 abbrev pub admits : {E : Type 0} → LineVerdict E → Bool
 admits (Admits e) = true
-admits (Passes why) = false
+admits (Skips why) = false
 
 -- the first line that admits, with its number, where the first line has this one
 abbrev pub first_admitted : {E : Type 0} → ℕ → List (LineVerdict E) → Option (ℕ × E)
 first_admitted n [] = None
 first_admitted n (Admits e ∷ more) = Some (n, e)
-first_admitted n (Passes why ∷ more) = first_admitted (n + 1) more
+first_admitted n (Skips why ∷ more) = first_admitted (n + 1) more
 
 abbrev pub candidate_of : {E : Type 0} → List (LineVerdict E) → Option (ℕ × E)
 candidate_of lines = first_admitted 1 lines
@@ -41,7 +41,7 @@ with_reason n (Some why) rest = (n, why) ∷ rest
 abbrev pub reasons_from : {E : Type 0} → ℕ → List (LineVerdict E) → List (ℕ × Reason)
 reasons_from n [] = []
 reasons_from n (Admits e ∷ more) = reasons_from (n + 1) more
-reasons_from n (Passes why ∷ more) = with_reason n why (reasons_from (n + 1) more)
+reasons_from n (Skips why ∷ more) = with_reason n why (reasons_from (n + 1) more)
 
 -- the lines before the candidate, or all where there is none
 abbrev pub before_candidate : {E : Type 0} → List (LineVerdict E) → List (LineVerdict E)

@@ -1,7 +1,7 @@
 -- The decision on a login.
 use Rattle.std.specs.Prelude.{◌≡◌, ℕ, Bool, true, false, List, map, Option, Some, None}
-use Rattle.ssh_lines.specs.declared.entry.AuthEntry.{AuthEntry}
-use Rattle.ssh_lines.specs.Text.{lines_of}
+use Rattle.ssh_lines.specs.AuthEntry.{AuthEntry}
+use Rattle.ssh_text.specs.Text.{lines_of}
 use Rattle.ssh_lines.specs.AuthGrammar.{SpellsEntry, auth_line}
 use Rattle.ssh_rules.specs.declared.verdict.LineVerdict.{LineVerdict}
 use Rattle.ssh_rules.specs.Verdict.{login_verdict}
@@ -18,7 +18,7 @@ use Rattle.ssh_offers.specs.LoginClaim.{LoginClaim}
 use Rattle.ssh_rules.specs.Admission.{AdmitsLogin}
 use Rattle.ssh_offers.specs.Evidence.{login_evidence}
 use Rattle.ssh_rights.specs.Rights.{rights_of}
-use Rattle.ssh_rights.specs.SecurityKeys.{is_touched, is_verified}
+use Rattle.ssh_rights.specs.SecurityKeys.{touch_suffices, verification_suffices}
 use Rattle.ssh_offers.specs.Vouching.{AllVouched, first_unvouched}
 
 -- ======== in the subject's words
@@ -30,8 +30,8 @@ IsCandidate file claim i e = IsFirstAdmitted AuthEntry SpellsEntry (λ f. Admits
 -- what a granted login stands on
 pub record IsGrant (file : List ℕ) (claim : LoginClaim) (vouched : List Signed) (i : ℕ) (e : AuthEntry) : Type 0 where
   pub candidate : IsCandidate file claim i e
-  pub touched : is_touched e.options claim.offer claim.signature ≡ true
-  pub verified : is_verified e.options claim.offer claim.signature ≡ true
+  pub touched : touch_suffices e.options claim.offer claim.signature ≡ true
+  pub verified : verification_suffices e.options claim.offer claim.signature ≡ true
   pub all_vouched : AllVouched vouched (login_evidence claim)
 
 -- Granted names the candidate, with its rights and the evidence. Denied means that no line is one to grant at.
@@ -57,8 +57,8 @@ verdicts claim file = map (line_verdict claim) (lines_of file)
 abbrev pub candidate_at : LoginClaim → ℕ × AuthEntry → Candidate
 candidate_at claim c = record {
   line = c.0;
-  touched = is_touched (c.1).options claim.offer claim.signature;
-  verified = is_verified (c.1).options claim.offer claim.signature;
+  touched = touch_suffices (c.1).options claim.offer claim.signature;
+  verified = verification_suffices (c.1).options claim.offer claim.signature;
   rights = rights_of c.1 claim.offer;
 }
 

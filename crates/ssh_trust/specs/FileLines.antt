@@ -1,6 +1,6 @@
 -- A line of a file by its number.
 use Rattle.std.specs.Prelude.{◌≡◌, ℕ, ◌-◌, ◌<◌, List, Some, slice_get}
-use Rattle.ssh_lines.specs.Text.{AreLines}
+use Rattle.ssh_text.specs.Text.{AreLines}
 
 -- this is line i of the file, counted from 1
 pub record IsLineAt (file : List ℕ) (i : ℕ) (line : List ℕ) : Type 0 where

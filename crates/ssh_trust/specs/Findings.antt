@@ -1,5 +1,6 @@
 -- What is found while the lines of a file are searched.
-use Rattle.std.specs.Prelude.{◌≡◌, ℕ, ◌<◌, List, length}
+use Rattle.std.specs.Prelude.{◌≡◌, ℕ, ◌<◌, ◌≤◌, List, length}
+use Rattle.ssh_lines.specs.KeyLimit.{key_limit}
 use Rattle.ssh_offers.specs.HostClaim.{HostClaim}
 use Rattle.ssh_offers.specs.LoginClaim.{LoginClaim}
 use Rattle.ssh_rules.specs.declared.reason.Reason.{Reason}
@@ -9,6 +10,7 @@ use Rattle.ssh_text.specs.Text.{line_limit}
 use Rattle.ssh_trust.specs.declared.host_scan.HostScan.{HostScan}
 use Rattle.ssh_trust.specs.declared.login_scan.Candidate.{Candidate}
 use Rattle.ssh_trust.specs.declared.scan.Scan.{Scan}
+use Rattle.ssh_trust.specs.Candidate.{reason_limit}
 use Rattle.ssh_trust.specs.Decision.{candidate_at, line_verdict}
 use Rattle.ssh_trust.specs.HostScan.{empty_host_scan, host_scan_line}
 use Rattle.ssh_trust.specs.Scan.{after_lines, empty_scan, scan_line}
@@ -18,18 +20,24 @@ abbrev pub IsText : Line → List ℕ → Type 0
 IsText (Whole text) line = text.now ≡ line
 IsText TooLong line = line_limit < length line
 
--- the claim that a file is searched for, and what the lines so far say to it
+-- the claim that a file is searched for, what the lines so far say to it, and how many bytes the buffer for their keys has
 pub record Findings (Q S : Type 0) : Type 0 where
   pub claim : Q
   pub said : S
+  pub room : ℕ
 
 -- before any line
 abbrev pub no_findings : {Q S : Type 0} → S → Q → Findings Q S
-no_findings nothing claim = record { claim = claim; said = nothing }
+no_findings nothing claim = record { claim = claim; said = nothing; room = key_limit }
 
 -- from the first findings, these numbered lines lead to the second, by what one line adds
 abbrev pub FoundBy : {Q S : Type 0} → (Q → S → ℕ × List ℕ → S) → Findings Q S → List (ℕ × List ℕ) → Findings Q S → Type 0
 FoundBy add first lines now = now ≡ record first { said = after_lines (add first.claim) first.said lines }
+
+-- what a search keeps, whatever the lines: as many reasons as are listed at most, and a buffer for the longest key at most
+pub record IsKept {Q S : Type 0} (reasons_of : Findings Q S → List (ℕ × Reason)) (found : Findings Q S) : Type 0 where
+  pub reasons : length (reasons_of found) ≤ reason_limit
+  pub buffer : found.room ≤ key_limit
 
 -- ---- logins
 

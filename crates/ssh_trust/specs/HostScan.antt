@@ -1,8 +1,8 @@
 -- What the lines of a known_hosts file say to a host's key. The whole file counts, for a later line may revoke.
 use Rattle.std.specs.Prelude.{ℕ, ◌+◌, Bool, true, false, if◌then◌else◌, List, [], ◌∷◌, map, Option, Some, None}
-use Rattle.ssh_lines.specs.declared.known.KnownEntry.{KnownEntry}
+use Rattle.ssh_lines.specs.KnownEntry.{KnownEntry}
 use Rattle.ssh_lines.specs.KnownGrammar.{known_line}
-use Rattle.ssh_lines.specs.Text.{lines_of}
+use Rattle.ssh_text.specs.Text.{lines_of}
 use Rattle.ssh_offers.specs.HostClaim.{HostClaim}
 use Rattle.ssh_rules.specs.declared.verdict.LineVerdict.{LineVerdict}
 use Rattle.ssh_rules.specs.Revocation.{may_revoke, revokes_offer}
@@ -22,10 +22,10 @@ revokes_by claim line = revokes_offer claim.offer (known_line line)
 abbrev pub is_blind : List ℕ → Bool
 is_blind line = may_revoke (known_line line)
 
--- the number of the first line that passes, where the first line has this one
+-- the number of the first line of which this holds, where the first line has this one
 abbrev pub first_number : (List ℕ → Bool) → ℕ → List (List ℕ) → Option ℕ
-first_number passes n [] = None
-first_number passes n (line ∷ lines) = if passes line then Some n else first_number passes (n + 1) lines
+first_number holds n [] = None
+first_number holds n (line ∷ lines) = if holds line then Some n else first_number holds (n + 1) lines
 
 -- what a line that admits gives: its number
 abbrev pub number_at : ℕ × KnownEntry → ℕ
@@ -46,7 +46,7 @@ empty_host_scan = record { admission = empty_scan; revoked = None; blind = None 
 
 -- the first number so far, after one more line
 abbrev pub first_so_far : Option ℕ → ℕ → Bool → Option ℕ
-first_so_far (Some first) n passes = Some first
+first_so_far (Some first) n holds = Some first
 first_so_far None n true = Some n
 first_so_far None n false = None
 

@@ -4,7 +4,8 @@ use Rattle.std.specs.Io.KnownBytes.{Consumes, IsAtEnd}
 use Rattle.ssh_offers.specs.declared.error.AuditError.{AuditError}
 use Rattle.ssh_offers.specs.declared.error.AuditError.TheVariants.{FileTooLong, Memory, Read}
 use Rattle.ssh_trust.specs.declared.decision.Decision.{Decision}
-use Rattle.ssh_trust.specs.Answer.{Gives, file_limit}
+use Rattle.ssh_trust.specs.Answer.{Gives}
+use Rattle.ssh_text.specs.Text.{file_limit}
 
 -- the most bytes of one read (this project's rule)
 abbrev pub piece_size : ℕ

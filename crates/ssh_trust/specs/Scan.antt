@@ -2,7 +2,7 @@
 use Rattle.std.specs.Prelude.{ℕ, nat_lt, is_some, if◌then◌else◌, List, [], ◌∷◌, ◌++◌, length, Option, Some, None, option_map}
 use Rattle.ssh_rules.specs.declared.reason.Reason.{Reason}
 use Rattle.ssh_rules.specs.declared.verdict.LineVerdict.{LineVerdict}
-use Rattle.ssh_rules.specs.declared.verdict.LineVerdict.TheVariants.{Admits, Passes}
+use Rattle.ssh_rules.specs.declared.verdict.LineVerdict.TheVariants.{Admits, Skips}
 use Rattle.ssh_trust.specs.declared.scan.Scan.{Scan}
 use Rattle.ssh_trust.specs.Candidate.{candidate_of, reason_limit, reasons_of}
 
@@ -22,7 +22,7 @@ listed_with reasons n (Some why) = if nat_lt (length reasons) reason_limit then 
 
 abbrev pub scan_verdict : {E C : Type 0} → (ℕ × E → C) → Scan C → ℕ → LineVerdict E → Scan C
 scan_verdict give s n (Admits e) = record s { candidate = Some (give (n, e)) }
-scan_verdict give s n (Passes why) = record s { reasons = listed_with s.reasons n why }
+scan_verdict give s n (Skips why) = record s { reasons = listed_with s.reasons n why }
 
 -- A line after the candidate changes nothing.
 abbrev pub scan_line : {E C : Type 0} → (ℕ × E → C) → (List ℕ → LineVerdict E) → Scan C → ℕ × List ℕ → Scan C

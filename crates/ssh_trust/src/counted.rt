@@ -4,7 +4,7 @@ ghost use Rattle.std.specs.Prelude.{◌≡◌, ◌+◌, ◌-◌, ◌^◌, min, i
 ghost use Rattle.std.specs.Io.{ReadsAtMost};
 ghost use Rattle.std.specs.Io.KnownBytes.{ReadConsumes};
 
-use crate::source::Source;
+use crate::source::{PIECE_SIZE, Source};
 use std::io::{Read, Result};
 
 /// A reader, and how many of its reads have failed, up to `u64::MAX`. It gives the bytes of the
@@ -63,7 +63,7 @@ impl<R: Read> Source for Counted<R> {
 
     ghost begins = { λ x. refl };
 
-    fn read_piece(&mut self, buf: &mut [u8]) -> Result<usize> {
+    fn read_piece(&mut self, buf: &mut [u8; PIECE_SIZE]) -> Result<usize> {
         self.read(buf)
     }
 }

@@ -25,7 +25,8 @@ ghost use Rattle.ssh_offers.specs.declared.error.AuditError.TheVariants.{
 };
 ghost use Rattle.ssh_offers.specs.HostClaim.{HostClaim, host_claim};
 ghost use Rattle.ssh_offers.specs.Query.{host_check_of};
-ghost use Rattle.ssh_trust.specs.Answer.{Gives, OfClaim, RefusesAs, file_limit, host_answer};
+ghost use Rattle.ssh_trust.specs.Answer.{Gives, OfClaim, RefusesAs, host_answer};
+ghost use Rattle.ssh_text.specs.Text.{file_limit};
 ghost use Rattle.ssh_trust.specs.Audit.{HostStandsFor, IsHostBounded};
 ghost use Rattle.ssh_trust.specs.Reads.{IsFedBy};
 
@@ -38,7 +39,8 @@ use std::alloc::Global;
 use std::marker::Model;
 
 /// Answers a host's key by a known_hosts file that comes in pieces, cut anywhere. The whole file
-/// counts, for a later line may revoke. Whatever it holds, an audit keeps one unfinished line, the
+/// counts, for a later line may revoke. Whatever it holds, besides the query and what is made of it
+/// once an audit keeps one unfinished line of 65,536 bytes, one buffer for keys of 49,152 bytes, the
 /// number of one candidate, those of two lines that revoke or may, and 100 reasons at most.
 #[derive(Drop)]
 pub struct HostAudit<'a> {
@@ -104,8 +106,8 @@ impl<'a> HostAudit<'a> {
         Ok(())
     }
 
-    /// Takes what a reader has left, up to its end. A failed read is `A9`, and after it the audit
-    /// answers `A10`.
+    /// Takes what a reader has left, up to its end, in reads of at most 4,096 bytes. A failed read is
+    /// `A9`, and after it the audit answers `A10`.
     pub(crate) fn feed_from<S: Source>(&mut self, reader: &mut S) -> Result<(), AuditError>
         // A9 is answered exactly where the last read failed.
         ensures read { result ≡ Err Read → S.failed reader.old reader.new }

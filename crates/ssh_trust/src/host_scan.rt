@@ -7,7 +7,7 @@ ghost use Rattle.ssh_lines.specs.KnownSeen.{known_seen};
 ghost use Rattle.ssh_offers.specs.ClaimViews.{host_claim_of};
 ghost use Rattle.ssh_offers.specs.Evidence.{host_evidence};
 ghost use Rattle.ssh_trust.specs.Candidate.{reason_limit};
-ghost use Rattle.ssh_trust.specs.Findings.{HostFound, IsText, host_reasons, no_host_findings};
+ghost use Rattle.ssh_trust.specs.Findings.{HostFound, IsKept, IsText, host_reasons, no_host_findings};
 ghost use Rattle.ssh_trust.specs.HostDecision.{host_decision_of};
 ghost use Rattle.ssh_trust.specs.HostScan.{
   empty_host_scan,
@@ -41,12 +41,12 @@ pub(crate) struct HostScan {
 }
 
 /// The first number so far, after one more line.
-fn first_so_far(first: Option<u64>, number: u64, passes: bool) -> Option<u64>
-    ensures { result ≡ first_so_far first number passes }
+fn first_so_far(first: Option<u64>, number: u64, holds: bool) -> Option<u64>
+    ensures { result ≡ first_so_far first number holds }
 {
     match first {
         Some(first) => Some(first),
-        None if passes => Some(number),
+        None if holds => Some(number),
         None => None,
     }
 }
@@ -67,7 +67,7 @@ fn take_verdict(
             scan.candidate = Some(number);
             Ok(())
         }
-        LineVerdict::Passes(reason) => {
+        LineVerdict::Skips(reason) => {
             scan.list(number, reason)?;
             Ok(())
         }
@@ -126,7 +126,7 @@ impl HostScan {
 }
 
 /// The search for the line that trusts a host's key, and for those that revoke it. Contracts see
-/// its claim, and what the lines say.
+/// its claim, what the lines say, and the length of its buffer.
 #[derive(Drop)]
 pub(crate) struct HostSearch<'a> {
     alloc: Global,
@@ -138,12 +138,13 @@ pub(crate) struct HostSearch<'a> {
 
 impl<'a> Model for HostSearch<'a> {
     ghost use Rattle.std.specs.Prelude.{◌≡◌};
+    ghost use Rattle.ssh_lines.specs.KeyBuffers.{buffer_size};
     ghost use Rattle.ssh_offers.specs.ClaimViews.{host_claim_of};
     ghost use Rattle.ssh_trust.specs.Findings.{HostFindings};
 
     ghost Value = { HostFindings };
 
-    ghost view = { λ s. record { claim = host_claim_of s.claim; said = s.scan } };
+    ghost view = { λ s. record { claim = host_claim_of s.claim; said = s.scan; room = buffer_size s.buffer } };
 
     ghost invariant = { λ s. s.sought ≡ host_claim_of s.claim };
 }
@@ -181,7 +182,7 @@ impl<'a> HostSearch<'a> {
 impl<'a> Search for HostSearch<'a> {
     ghost found = { HostFound };
 
-    ghost is_bounded = { λ s. length (host_reasons s) ≤ reason_limit };
+    ghost is_bounded = { λ s. IsKept host_reasons s };
 
     fn take_line(&mut self, number: u64, line: Line<'_>) -> Result<(), AllocError> {
         self.scan

@@ -26,7 +26,8 @@ ghost use Rattle.ssh_offers.specs.declared.error.AuditError.TheVariants.{
 };
 ghost use Rattle.ssh_offers.specs.LoginClaim.{LoginClaim, login_claim};
 ghost use Rattle.ssh_offers.specs.Query.{login_of};
-ghost use Rattle.ssh_trust.specs.Answer.{Gives, OfClaim, RefusesAs, file_limit, login_answer};
+ghost use Rattle.ssh_trust.specs.Answer.{Gives, OfClaim, RefusesAs, login_answer};
+ghost use Rattle.ssh_text.specs.Text.{file_limit};
 ghost use Rattle.ssh_trust.specs.Audit.{IsLoginBounded, LoginStandsFor};
 ghost use Rattle.ssh_trust.specs.Reads.{IsFedBy};
 
@@ -39,7 +40,8 @@ use std::alloc::Global;
 use std::marker::Model;
 
 /// Answers a login by an authorized_keys file that comes in pieces, cut anywhere. Whatever the file
-/// holds, an audit keeps one unfinished line, one candidate and 100 reasons at most.
+/// holds, besides the query and what is made of it once an audit keeps one unfinished line of
+/// 65,536 bytes, one buffer for keys of 49,152 bytes, one candidate and 100 reasons at most.
 #[derive(Drop)]
 pub struct LoginAudit<'a> {
     pieces: Pieces<LoginSearch<'a>>,
@@ -106,8 +108,8 @@ impl<'a> LoginAudit<'a> {
         Ok(())
     }
 
-    /// Takes what a reader has left, up to its end. A failed read is `A9`, and after it the audit
-    /// answers `A10`.
+    /// Takes what a reader has left, up to its end, in reads of at most 4,096 bytes. A failed read is
+    /// `A9`, and after it the audit answers `A10`.
     pub(crate) fn feed_from<S: Source>(&mut self, reader: &mut S) -> Result<(), AuditError>
         // A9 is answered exactly where the last read failed.
         ensures read { result ≡ Err Read → S.failed reader.old reader.new }

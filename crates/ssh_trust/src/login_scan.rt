@@ -8,7 +8,7 @@ ghost use Rattle.ssh_offers.specs.ClaimViews.{claim_of};
 ghost use Rattle.ssh_offers.specs.Evidence.{login_evidence};
 ghost use Rattle.ssh_trust.specs.Candidate.{reason_limit};
 ghost use Rattle.ssh_trust.specs.Decision.{candidate_at, decision_of, line_verdict};
-ghost use Rattle.ssh_trust.specs.Findings.{IsText, LoginFound, login_reasons, no_login_findings};
+ghost use Rattle.ssh_trust.specs.Findings.{IsKept, IsText, LoginFound, login_reasons, no_login_findings};
 ghost use Rattle.ssh_trust.specs.Scan.{scan_line, scan_verdict};
 
 use crate::decide::decide;
@@ -18,7 +18,7 @@ use crate::scan::Scan;
 use ssh_lines::{AuthEntryView, AuthLineView, KeyBuffer, read_auth_view};
 use ssh_offers::{LoginClaimView, Signed, login_evidence};
 use ssh_options::LineCause;
-use ssh_rights::{Rights, is_touched, is_verified, rights_of};
+use ssh_rights::{Rights, rights_of, touch_suffices, verification_suffices};
 use ssh_rules::{LineVerdict, login_verdict};
 use ssh_text::Line;
 use std::alloc::{AllocError, Global};
@@ -49,8 +49,8 @@ fn candidate_at(
     let rights = rights_of(alloc, entry, &claim.offer)?;
     Ok(Candidate {
         line,
-        touched: is_touched(entry, claim),
-        verified: is_verified(entry, claim),
+        touched: touch_suffices(entry, claim),
+        verified: verification_suffices(entry, claim),
         rights,
     })
 }
@@ -74,7 +74,7 @@ fn take_verdict(
             scan.candidate = Some(candidate);
             Ok(())
         }
-        LineVerdict::Passes(reason) => {
+        LineVerdict::Skips(reason) => {
             scan.list(number, reason)?;
             Ok(())
         }
@@ -117,7 +117,8 @@ fn take_line(
     Ok(())
 }
 
-/// The search for the line that admits a login. Contracts see its claim, and what the lines say.
+/// The search for the line that admits a login. Contracts see its claim, what the lines say, and the
+/// length of its buffer.
 #[derive(Drop)]
 pub(crate) struct LoginSearch<'a> {
     alloc: Global,
@@ -127,12 +128,13 @@ pub(crate) struct LoginSearch<'a> {
 }
 
 impl<'a> Model for LoginSearch<'a> {
+    ghost use Rattle.ssh_lines.specs.KeyBuffers.{buffer_size};
     ghost use Rattle.ssh_offers.specs.ClaimViews.{claim_of};
     ghost use Rattle.ssh_trust.specs.Findings.{LoginFindings};
 
     ghost Value = { LoginFindings };
 
-    ghost view = { λ s. record { claim = claim_of s.claim; said = s.scan } };
+    ghost view = { λ s. record { claim = claim_of s.claim; said = s.scan; room = buffer_size s.buffer } };
 }
 
 impl<'a> LoginSearch<'a> {
@@ -166,7 +168,7 @@ impl<'a> LoginSearch<'a> {
 impl<'a> Search for LoginSearch<'a> {
     ghost found = { LoginFound };
 
-    ghost is_bounded = { λ s. length (login_reasons s) ≤ reason_limit };
+    ghost is_bounded = { λ s. IsKept login_reasons s };
 
     fn take_line(&mut self, number: u64, line: Line<'_>) -> Result<(), AllocError> {
         take_line(

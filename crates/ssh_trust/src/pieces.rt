@@ -27,20 +27,15 @@ ghost use Rattle.ssh_offers.specs.declared.error.AuditError.TheVariants.{
   Memory,
   Read,
 };
-ghost use Rattle.ssh_text.specs.Text.{line_limit, lines_of, numbered};
-ghost use Rattle.ssh_trust.specs.Answer.{file_limit};
+ghost use Rattle.ssh_text.specs.Text.{file_limit, line_limit, lines_of, numbered};
 ghost use Rattle.ssh_trust.specs.Audit.{HasRead, HasTaken};
 ghost use Rattle.ssh_trust.specs.Findings.{IsText};
 ghost use Rattle.ssh_trust.specs.Reads.{IsFedBy};
 
-use crate::source::Source;
+use crate::source::{PIECE_SIZE, Source};
 use ssh_offers::AuditError;
-use ssh_rewriting::FILE_LIMIT;
-use ssh_text::{Line, Scanner};
+use ssh_text::{FILE_LIMIT, Line, Scanner};
 use std::alloc::{AllocError, Global};
-
-/// The most bytes of one read (this project's rule).
-const PIECE: usize = 4096;
 
 /// A search of lines, which keeps what those so far say.
 pub(crate) trait Search {
@@ -174,7 +169,8 @@ impl<T: Search + Drop> Pieces<T> {
         }
     }
 
-    /// Takes what a reader has left, up to its end. A failed read is `A9`.
+    /// Takes what a reader has left, up to its end. A failed read is `A9`. No read asks for more than
+    /// 4,096 bytes, by the type of what it is given.
     pub(crate) fn feed_from<S: Source>(&mut self, reader: &mut S) -> Result<(), AuditError>
         ensures read { result ≡ Err Read → S.failed reader.old reader.new }
         ensures unfailed { (result ≡ Err Read → ⊥) → S.unfailed reader.old reader.new }
@@ -187,7 +183,7 @@ impl<T: Search + Drop> Pieces<T> {
         ensures line { length self.old.scanner.kept.bytes ≤ line_limit
             → length self.new.scanner.kept.bytes ≤ line_limit }
     {
-        let mut buffer = [0u8; PIECE];
+        let mut buffer = [0u8; PIECE_SIZE];
         loop {
             match reader.read_piece(&mut buffer) {
                 Ok(0) => return Ok(()),

@@ -11,7 +11,7 @@ use ssh_offers::{AuditError, Items, Signed, SshsigClaimView, first_unvouched, ss
 use std::alloc::{AllocError, Global};
 
 /// What is answered to a file signature.
-#[derive(Drop)]
+#[derive(Debug, Drop, PartialEq)]
 pub enum SigAnswer {
     /// It is for the namespace that was asked for, and vouched for.
     Vouched { evidence: Items<Signed> },

@@ -6,6 +6,9 @@ ghost use Rattle.std.specs.Io.KnownBytes.{ReadConsumes};
 
 use std::io::Result;
 
+/// The most bytes of one read (this project's rule).
+pub const PIECE_SIZE: usize = 4096;
+
 /// A reader whose failed reads are told. `Counted` makes one of any reader.
 pub trait Source {
     /// What its reads have yet to give, where it tells.
@@ -17,8 +20,9 @@ pub trait Source {
     /// Between a reader and the same after reads of which the last failed, and no other.
     ghost failed: { Self → Self → Type 0 };
 
-    /// Reads on, into a buffer that is not empty: how many bytes it gave, none only at its end.
-    fn read_piece(&mut self, buf: &mut [u8]) -> Result<usize>
+    /// Reads on, into a buffer that by its type has 4,096 bytes: how many of them it gave, none only
+    /// at its end.
+    fn read_piece(&mut self, buf: &mut [u8; PIECE_SIZE]) -> Result<usize>
         ensures bound { ReadsAtMost result buf.new }
         ensures bytes { ReadConsumes (left self.old) (left self.new) result buf.new }
         ensures unfailed { OnOk result ((first : Self)

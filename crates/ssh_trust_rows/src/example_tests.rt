@@ -5,11 +5,11 @@ ghost use Rattle.std.specs.Prelude.{◌<◌, ◌^◌, length};
 
 use crate::tests::query;
 use jiff::tz::TimeZone;
-use ssh_lines::{AuthLineView, KeyBuffer, LineCause, read_auth_view};
-use ssh_offers::{LoginClaimView, Offer, first_unvouched, login_evidence};
+use ssh_lines::{AuthLineView, KeyBuffer, read_auth_view};
+use ssh_offers::{LoginClaimView, LoginQuery, Offer, Signed, first_unvouched, login_evidence};
+use ssh_options::LineCause;
 use ssh_rights::rights_of;
 use ssh_rules::{LineVerdict, Reason, login_verdict};
-use ssh_trust::{LoginQuery, Signed};
 use std::alloc::Global;
 use std::test::Fail;
 
@@ -48,7 +48,7 @@ fn reason(alloc: Global, line: &[u8], claim: &LoginClaimView<'_>) -> Result<Opti
     let mut buffer = KeyBuffer::new(alloc)?;
     match login_verdict(alloc, read_auth_view(line, &mut buffer), claim)? {
         LineVerdict::Admits(_) => Ok(None),
-        LineVerdict::Passes(reason) => Ok(reason),
+        LineVerdict::Skips(reason) => Ok(reason),
     }
 }
 

@@ -2,10 +2,10 @@
 
 use crate::tests::{host_query, query};
 use jiff::tz::TimeZone;
+use ssh_offers::Signed;
 use ssh_options::LineCause;
-use ssh_trust::{
-    Cause, Decision, HostAudit, LoginAudit, Reason, Signed, evidence_of_host, evidence_of_login,
-};
+use ssh_rules::Reason;
+use ssh_trust::{Cause, Decision, HostAudit, LoginAudit, evidence_of_host, evidence_of_login};
 use std::alloc::Global;
 use std::test::Fail;
 

@@ -2,10 +2,8 @@
 
 use crate::tests::{KNOWN, LINE, host_query, query};
 use jiff::tz::TimeZone;
-use ssh_trust::{
-    AuditError, Counted, Decision, Signed, evidence_of_host, evidence_of_login, host_from,
-    login_from,
-};
+use ssh_offers::{AuditError, Signed};
+use ssh_trust::{Counted, Decision, evidence_of_host, evidence_of_login, host_from, login_from};
 use std::io;
 use std::io::{Error, ErrorKind, Read};
 use std::test::Fail;

@@ -1,7 +1,8 @@
 //! What is answered to a file signature: the call where memory is there, and its three answers.
 
 use ssh_bodies::BodyError;
-use ssh_trust::{AuditError, SigAnswer, Signed, sshsig};
+use ssh_offers::{AuditError, Signed};
+use ssh_trust::{SigAnswer, sshsig};
 use std::test::Fail;
 
 /// A file signature of 111 bytes for the namespace `file`, by the Ed25519 key of 32 zero bytes.

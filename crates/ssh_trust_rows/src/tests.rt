@@ -4,9 +4,9 @@
 ghost use Rattle.std.specs.Prelude.{◌<◌, ◌^◌, length};
 
 use jiff::tz::TimeZone;
+use ssh_offers::{HostQuery, LoginQuery, Signed};
 use ssh_trust::{
-    Cause, Decision, HostAudit, HostQuery, LoginAudit, LoginQuery, Signed, evidence_of_host,
-    evidence_of_login, host, login,
+    Cause, Decision, HostAudit, LoginAudit, evidence_of_host, evidence_of_login, host, login,
 };
 use std::alloc::Global;
 use std::test::Fail;
@@ -143,6 +143,37 @@ fn told(decision: &Decision) -> (u64, Option<Cause>) {
         Decision::Granted { line, .. } => (*line, None),
         Decision::Denied { why, .. } => (0, Some(*why)),
     }
+}
+
+/// The lines, after 100,000 empty ones.
+fn far_down(alloc: Global, lines: &[u8]) -> Result<Vec<u8>, Fail> {
+    let mut file = Vec::new(alloc);
+    file.resize(100_000, b'\n')?;
+    file.extend_from_slice(lines)?;
+    Ok(file)
+}
+
+#[test]
+fn counts_lines_past_a_hundred_thousand(rt: HostRuntime) -> Result<(), Fail> {
+    let alloc = rt.alloc();
+    let zone = TimeZone::UTC;
+    let login_query = query(&zone);
+    let evidence = evidence_of_login(alloc, &login_query)?;
+    let file = far_down(alloc, LINE)?;
+    let decision = login(alloc, &file, &login_query, evidence.as_slice())?;
+    assert_eq!(rt; told(&decision), (100_001, None));
+    let host_query = host_query();
+    let evidence = evidence_of_host(alloc, &host_query)?;
+    for (lines, answer) in [
+        (KNOWN, (100_001, None)),
+        (REVOKED, (0, Some(Cause::Revoked(100_002)))),
+        (BLIND, (0, Some(Cause::RevocationUnreadable(100_002)))),
+    ] {
+        let file = far_down(alloc, lines)?;
+        let decision = host(alloc, &file, &host_query, evidence.as_slice())?;
+        assert_eq!(rt; told(&decision), answer);
+    }
+    Ok(())
 }
 
 #[test]

@@ -1,6 +1,5 @@
 use Rattle.std.proofs.Common.{◌-◌, ◌≤◌, length, List, ℕ}
-use Rattle.ssh_text.specs.Text.{line_limit}
-use Rattle.ssh_trust.specs.Answer.{file_limit}
+use Rattle.ssh_text.specs.Text.{file_limit, line_limit}
 use Rattle.ssh_trust.specs.Audit.{HasTaken}
 use Rattle.ssh_trust.proofs.ReadLemmas.{IsFeeding}
 use Rattle.ssh_trust.proofs.pieces.Pieces.feed_from.Given as goal
