@@ -1,10 +1,10 @@
 -- The first line of standard input, as it is being read.
 use Rattle.std.proofs.Common.{◌≡◌, ◌++◌, ℕ, List, Option, Some, None}
-use Rattle.ssh_inputs.specs.SourceState.{SourceState, standard_input}
+use Rattle.ssh_inputs.specs.SourceState.{SourceState, next_choice, standard_input}
 use Rattle.ssh_inputs.specs.Parts.{cut_at_line}
 
 -- standard input is read as far as `got`, which has no LF
 abbrev pub IsReadingLine : SourceState → List ℕ → Option SourceState → Type 0
 IsReadingLine s got None = ⊥
 IsReadingLine s got (Some t) = ((cut_at_line s.input).0 ≡ got ++ (cut_at_line t.input).0)
-    × ((cut_at_line s.input).1 ≡ (cut_at_line t.input).1) × (t ≡ record s { input = t.input; chosen = standard_input }) × (s.input ≡ got ++ t.input)
+    × ((cut_at_line s.input).1 ≡ (cut_at_line t.input).1) × (t ≡ record s { input = t.input; chosen = standard_input; choices = next_choice s.choices }) × (s.input ≡ got ++ t.input)

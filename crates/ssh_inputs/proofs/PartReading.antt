@@ -1,10 +1,10 @@
 -- The first part of standard input, as it is being read.
 use Rattle.std.proofs.Common.{◌≡◌, ◌++◌, ℕ, Bool, true, List, Option, Some, None}
-use Rattle.ssh_inputs.specs.SourceState.{SourceState, standard_input}
+use Rattle.ssh_inputs.specs.SourceState.{SourceState, next_choice, standard_input}
 use Rattle.ssh_inputs.specs.Parts.{cut_at_empty}
 
 -- standard input is read as far as `got`, which no empty line ends; `fresh` says that a line begins there
 abbrev pub IsReadingPart : SourceState → Bool → List ℕ → Option SourceState → Type 0
 IsReadingPart s fresh got None = ⊥
 IsReadingPart s fresh got (Some t) = ((cut_at_empty true s.input).0 ≡ got ++ (cut_at_empty fresh t.input).0)
-    × ((cut_at_empty true s.input).1 ≡ (cut_at_empty fresh t.input).1) × (t ≡ record s { input = t.input; chosen = standard_input })
+    × ((cut_at_empty true s.input).1 ≡ (cut_at_empty fresh t.input).1) × (t ≡ record s { input = t.input; chosen = standard_input; choices = next_choice s.choices })

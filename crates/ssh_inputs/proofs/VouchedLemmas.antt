@@ -1,7 +1,7 @@
 -- The signatures of a vouch file, line by line.
 use Rattle.std.proofs.Common.{◌≡◌, ◌∙◌, ◌+◌, ℕ, Bool, true, false, cond, List, [], ◌∷◌, ◌++◌, Option, Some, None, Result, Ok, Err, refl, sym, ap}
 use Rattle.std.proofs.lemmas.List.{append_assoc, append-nil}
-use Rattle.ssh_lines.specs.Text.{lines_of, numbered}
+use Rattle.ssh_text.specs.Text.{lines_of, numbered}
 use Rattle.ssh_offers.specs.declared.query.Signed.{Signed}
 use Rattle.ssh_inputs.specs.VouchFile.{is_skipped, triple_of, with_signed, vouched_from, vouched_of}
 

@@ -5,3 +5,4 @@ pub mod Values
 pub mod Words
 pub mod VouchFile
 pub mod Loading
+pub mod Samples

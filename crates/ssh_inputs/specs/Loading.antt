@@ -1,18 +1,17 @@
 -- What reading a file answers.
 use Rattle.std.specs.Prelude.{◌≡◌, ◌⊎◌, ◌++◌, ◌+◌, ℕ, List, Option, Some, None, Result, Ok, Err, length, nat_lt, if◌then◌else◌, ◌<◌, ⊤}
-use Rattle.ssh_trust.specs.Answer.{file_limit}
-use Rattle.ssh_inputs.specs.SourceState.{SourceState, dash}
+use Rattle.ssh_text.specs.Text.{file_limit, line_limit}
+use Rattle.ssh_inputs.specs.SourceState.{SourceState, dash, next_choice}
 use Rattle.ssh_inputs.specs.Parts.{first_line, after_line}
-use Rattle.ssh_lines.specs.Text.{line_limit}
 use Rattle.ssh_inputs.specs.declared.read.ReadFault.{ReadFault}
 use Rattle.ssh_inputs.specs.declared.read.ReadFault.TheVariants as fault
 
 -- ---- failed reads
 
--- one read failed between the two, of the file of this name
+-- one read failed between the two, of the file of this name, and no other file was chosen
 abbrev pub OneReadFailed : SourceState → Option SourceState → List ℕ → Type 0
 OneReadFailed s None name = ⊥
-OneReadFailed s (Some t) name = (t.failures ≡ s.failures + 1) × (t.failed ≡ Some name)
+OneReadFailed s (Some t) name = (t.failures ≡ s.failures + 1) × (t.failed ≡ Some name) × (t.choices ≡ next_choice s.choices)
 
 -- no read failed between the two
 abbrev pub NoReadFailed : SourceState → Option SourceState → Type 0
@@ -31,10 +30,10 @@ abbrev pub within_limit : Option (List ℕ) → Option (List ℕ)
 within_limit None = None
 within_limit (Some bytes) = if nat_lt file_limit (length bytes) then None else Some bytes
 
--- the source has the files and the input of `rest`, and no read has failed since s
+-- the source has the files and the input of `rest`, as many were chosen, and no read has failed since s
 abbrev pub IsLeft : SourceState → SourceState → Option SourceState → Type 0
 IsLeft s rest None = ⊥
-IsLeft s rest (Some t) = (t.named ≡ rest.named) × (t.input ≡ rest.input) × (t.failures ≡ s.failures)
+IsLeft s rest (Some t) = (t.named ≡ rest.named) × (t.input ≡ rest.input) × (t.failures ≡ s.failures) × (t.choices ≡ rest.choices)
 
 abbrev pub IsTooLong : Option (List ℕ) → Type 0
 IsTooLong None = ⊥

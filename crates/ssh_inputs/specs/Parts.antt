@@ -1,7 +1,7 @@
 -- The parts of standard input, where words, a vouch file and a trust file are read from it.
 use Rattle.std.specs.Prelude.{◌==◌, ◌&&◌, ℕ, Bool, true, List, [], ◌∷◌, Option, Some, if◌then◌else◌}
 use Rattle.std.specs.Str.{bytes_eq}
-use Rattle.ssh_inputs.specs.SourceState.{SourceState, dash}
+use Rattle.ssh_inputs.specs.SourceState.{SourceState, dash, next_choice}
 
 -- the bytes up to the end of the first empty line, and those after it; `fresh` says that a line begins here
 abbrev pub cut_at_empty : Bool → List ℕ → List ℕ × List ℕ
@@ -13,13 +13,17 @@ cut_at_empty fresh (b ∷ input) = if fresh && b == 10 then (10 ∷ [], input)
 abbrev pub part_at : SourceState → List ℕ → Option (List ℕ)
 part_at s name = if bytes_eq name dash then Some (cut_at_empty true s.input).0 else s.named name
 
+-- the source after a file was read: one more was chosen, and of standard input this is left
+abbrev pub after_reading : SourceState → List ℕ → SourceState
+after_reading s input = record s { input = input; choices = next_choice s.choices }
+
 -- the source after the vouch file was read
 abbrev pub after_part : SourceState → List ℕ → SourceState
-after_part s name = if bytes_eq name dash then record s { input = (cut_at_empty true s.input).1 } else s
+after_part s name = after_reading s (if bytes_eq name dash then (cut_at_empty true s.input).1 else s.input)
 
 -- the source after a file was read whole
 abbrev pub after_whole : SourceState → List ℕ → SourceState
-after_whole s name = if bytes_eq name dash then record s { input = [] } else s
+after_whole s name = after_reading s (if bytes_eq name dash then [] else s.input)
 
 -- the first line without its LF, and what stands after it
 abbrev pub cut_at_line : List ℕ → List ℕ × List ℕ
@@ -32,4 +36,4 @@ first_line s = (cut_at_line s.input).0
 
 -- the source after the first line of standard input was read
 abbrev pub after_line : SourceState → SourceState
-after_line s = record s { input = (cut_at_line s.input).1 }
+after_line s = after_reading s (cut_at_line s.input).1

@@ -1,5 +1,5 @@
 -- What a source of files holds, as `choose` and `read_chosen` change it.
-use Rattle.std.specs.Prelude.{◌≡◌, ◌++◌, ◌+◌, ◌<◌, ℕ, List, [], ◌∷◌, Option, Some, None, Result, length, min, take, if◌then◌else◌, MatchResult, ⊤}
+use Rattle.std.specs.Prelude.{◌≡◌, ◌++◌, ◌+◌, ◌%◌, ◌^◌, ◌<◌, ℕ, List, [], ◌∷◌, Option, Some, None, Result, length, min, take, if◌then◌else◌, MatchResult, ⊤}
 use Rattle.std.specs.Str.{bytes_eq}
 
 -- the file that the next reads are of
@@ -15,6 +15,8 @@ pub record SourceState : Type 0 where
   -- what is left of standard input
   pub input : List ℕ
   pub chosen : Chosen
+  -- how many times a file was chosen, which begins again after 2 ^ 64 times
+  pub choices : ℕ
   -- how many reads have failed, up to `most_failures`
   pub failures : ℕ
   -- the name of the file whose read failed last
@@ -36,9 +38,16 @@ open_file name (Some bytes) = named_file name bytes
 abbrev pub bytes_at : SourceState → List ℕ → Option (List ℕ)
 bytes_at s name = if bytes_eq name dash then Some s.input else s.named name
 
+-- the count of choices after one more
+abbrev pub next_choice : ℕ → ℕ
+next_choice n = (n + 1) % 2 ^ 64
+
 -- the file of this name, from its start, or standard input from where it stood
 abbrev pub choosing : SourceState → List ℕ → SourceState
-choosing s name = record s { chosen = if bytes_eq name dash then standard_input else open_file name (s.named name) }
+choosing s name = record s {
+  chosen = if bytes_eq name dash then standard_input else open_file name (s.named name);
+  choices = next_choice s.choices;
+}
 
 abbrev pub left_in : Chosen → List ℕ → List ℕ
 left_in nothing input = []

@@ -2,7 +2,7 @@
 use Rattle.std.specs.Prelude.{◌∷◌, [], ◌==◌, ◌+◌, ℕ, Bool, true, List, Option, Some, None, Result, Ok, Err, take, drop, option_map, option_and_then, if◌then◌else◌, ◌≡◌, ⊤}
 use Rattle.std.specs.List.{list_any, position}
 use Rattle.ssh_offers.specs.declared.query.Signed.{Signed}
-use Rattle.ssh_lines.specs.Text.{lines_of}
+use Rattle.ssh_text.specs.Text.{lines_of}
 use Rattle.ssh_inputs.specs.declared.vouch.VouchFault.{VouchFault}
 use Rattle.ssh_inputs.specs.declared.vouch.VouchFault.TheVariants.{Line, Memory}
 use Rattle.ssh_inputs.specs.Values.{hex_bytes}

@@ -2,7 +2,7 @@
 use Rattle.std.specs.Prelude.{[], ◌==◌, ◌&&◌, ℕ, Bool, List, length, nat_lt, nat_le, filter, if◌then◌else◌}
 use Rattle.std.specs.List.{list_all, slice_split}
 use Rattle.std.specs.Str.Lossy.{utf8_valid_len}
-use Rattle.ssh_lines.specs.Text.{line_limit}
+use Rattle.ssh_text.specs.Text.{line_limit}
 
 abbrev pub is_space : ℕ → Bool
 is_space b = b == 32

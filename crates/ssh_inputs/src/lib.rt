@@ -5,6 +5,7 @@
 mod base64_text;
 mod files;
 mod read;
+mod samples;
 mod sink;
 mod values;
 mod vouch;

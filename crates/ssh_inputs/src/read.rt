@@ -1,14 +1,13 @@
 //! Reading files whole, and the parts of standard input.
 
 ghost use Rattle.std.specs.Prelude.{◌≡◌, ◌==◌, ◌&&◌, ◌≤◌, length, IfOk, Some, true};
-ghost use Rattle.ssh_trust.specs.Answer.{file_limit};
+ghost use Rattle.ssh_text.specs.Text.{file_limit};
 ghost use Rattle.ssh_inputs.specs.SourceState.{bytes_at, dash, IfTells};
-ghost use Rattle.ssh_inputs.specs.Parts.{after_part, after_whole, cut_at_empty, part_at};
+ghost use Rattle.ssh_inputs.specs.Parts.{after_part, after_reading, after_whole, cut_at_empty, part_at};
 ghost use Rattle.ssh_inputs.specs.Loading.{Gathers, Loads, LoadsLine};
 
 use crate::files::Files;
-use ssh_lines::LINE_LIMIT;
-use ssh_trust::FILE_LIMIT;
+use ssh_text::{FILE_LIMIT, LINE_LIMIT};
 use std::alloc::Global;
 
 /// Why a file gives no bytes.
@@ -78,8 +77,7 @@ fn read_part<F: Files>(alloc: Global, files: &mut F) -> Result<Vec<u8>, ReadFaul
     ensures short { IfOk result (λ v. length v.items ≤ file_limit) }
     ensures bytes { IfTells (F.source_state files.old) (λ s.
         Loads (λ v. v.items) dash (Some (cut_at_empty true s.input).0)
-        (record s { input = (cut_at_empty true s.input).1 }) s (F.source_state files.new)
-        result) }
+        (after_reading s (cut_at_empty true s.input).1) s (F.source_state files.new) result) }
 {
     if !files.choose("-") {
         return Err(ReadFault::Missing);

@@ -17,8 +17,8 @@ ghost use Rattle.ssh_inputs.specs.Words.{is_space};
 ghost use Rattle.ssh_inputs.specs.declared.vouch.VouchFault.TheVariants.{Memory};
 
 use crate::values::read_hex;
-use ssh_lines::{Bytes, Lines};
-use ssh_trust::Signed;
+use ssh_offers::Signed;
+use ssh_text::{Bytes, Lines};
 use std::alloc::{AllocError, Global};
 
 /// Why a vouch file tells no signatures.

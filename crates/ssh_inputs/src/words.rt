@@ -14,7 +14,7 @@ ghost use Rattle.std.specs.Prelude.{
 ghost use Rattle.std.specs.List.{position, position_or_len};
 ghost use Rattle.ssh_inputs.specs.Words.{is_space, is_text, words_in};
 
-use ssh_lines::LINE_LIMIT;
+use ssh_text::LINE_LIMIT;
 use std::alloc::{AllocError, Global};
 
 fn find_space(text: &[u8]) -> Option<usize>

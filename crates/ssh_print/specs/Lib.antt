@@ -4,3 +4,4 @@ pub mod DecisionText
 pub mod Responses
 pub mod SignatureText
 pub mod ResponseView
+pub mod Samples

@@ -20,8 +20,9 @@ use crate::response::{FAULT, Response};
 use crate::text::{push_escaped, push_number};
 use ssh_bodies::BodyError;
 use ssh_certs::CertError;
-use ssh_lines::LineCause;
-use ssh_trust::{AuditError, Decision};
+use ssh_offers::AuditError;
+use ssh_options::LineCause;
+use ssh_trust::Decision;
 use std::alloc::{AllocError, Global};
 
 /// The response to words that ask for nothing.

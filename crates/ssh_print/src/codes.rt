@@ -20,8 +20,10 @@ use crate::text::{push_escaped, push_number};
 use ssh_bodies::BodyError;
 use ssh_certs::CertError;
 use ssh_keys::KeyError;
-use ssh_lines::LineCause;
-use ssh_trust::{AuditError, Cause, OfferError, Reason};
+use ssh_offers::{AuditError, OfferError};
+use ssh_options::LineCause;
+use ssh_rules::Reason;
+use ssh_trust::Cause;
 use ssh_wire::{WireCause, WireError};
 use std::alloc::{AllocError, Global};
 

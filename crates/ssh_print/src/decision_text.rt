@@ -22,8 +22,11 @@ ghost use Rattle.ssh_print.specs.DecisionText.{
 use crate::codes::{push_cause_codes, push_reason_codes};
 use crate::line::push_text_line;
 use crate::text::{push_escaped, push_hex, push_number};
-use ssh_lines::Bytes;
-use ssh_trust::{Carried, CarriedName, Cause, Decision, Reason, Rights, Signed};
+use ssh_offers::Signed;
+use ssh_rights::{Carried, CarriedName, Rights};
+use ssh_rules::Reason;
+use ssh_text::Bytes;
+use ssh_trust::{Cause, Decision};
 use std::alloc::{AllocError, Global};
 
 fn push_evidence_line(

@@ -7,6 +7,7 @@ mod codes;
 mod decision_text;
 mod line;
 mod response;
+mod samples;
 mod signature_text;
 mod text;
 

@@ -11,7 +11,8 @@ ghost use Rattle.ssh_print.specs.SignatureText.{
 use crate::answer::audit_fault;
 use crate::decision_text::{push_cause_line, push_evidence};
 use crate::response::Response;
-use ssh_trust::{AuditError, Cause, SigAnswer};
+use ssh_offers::AuditError;
+use ssh_trust::{Cause, SigAnswer};
 use std::alloc::{AllocError, Global};
 
 /// The lines of the answer to a file signature.

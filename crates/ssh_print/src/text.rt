@@ -1,8 +1,9 @@
 //! Small texts that are printed.
 
-ghost use Rattle.std.specs.Prelude.{◌≡◌, ◌<◌, ◌++◌, OnOk};
+ghost use Rattle.std.specs.Prelude.{◌≡◌, ◌<◌, ◌++◌, take, OnOk, OnErr};
 ghost use Rattle.std.specs.List.{flat_map};
 ghost use Rattle.std.specs.Fmt.{decimal};
+ghost use Rattle.ssh_certs.specs.Writing.{Keeps};
 ghost use Rattle.ssh_print.specs.Texts.{
   hex_digit,
   hex_pair,
@@ -13,6 +14,23 @@ ghost use Rattle.ssh_print.specs.Texts.{
 };
 
 use std::alloc::{AllocError, Global};
+
+/// What an append to the first `len` bytes came to: where it failed, the bytes past them are taken
+/// back.
+pub(crate) fn all_or_nothing(
+    out: &mut Vec<u8>,
+    len: usize,
+    outcome: Result<(), AllocError>,
+) -> Result<(), AllocError>
+    ensures same { result ≡ outcome }
+    ensures ok { OnOk result (out.new.items ≡ out.old.items) }
+    ensures err { OnErr result (out.new.items ≡ take len out.old.items) }
+{
+    if outcome.is_err() {
+        out.truncate(len);
+    }
+    outcome
+}
 
 fn hex_digit(digit: u8) -> u8
     requires { digit < 16 }
@@ -26,14 +44,17 @@ fn hex_digit(digit: u8) -> u8
 }
 
 fn push_pair(out: &mut Vec<u8>, byte: u8) -> Result<(), AllocError>
-    ensures { OnOk result (out.new.items ≡ out.old.items ++ hex_pair byte) }
+    ensures ok { OnOk result (out.new.items ≡ out.old.items ++ hex_pair byte) }
+    ensures err { OnErr result (out.new.items ≡ out.old.items) }
 {
     out.extend_from_slice(&[hex_digit(byte / 16), hex_digit(byte % 16)])?;
     Ok(())
 }
 
+/// After an `Err` a part of it may stand there.
 fn push_pairs(out: &mut Vec<u8>, bytes: &[u8]) -> Result<(), AllocError>
-    ensures { OnOk result (out.new.items ≡ out.old.items ++ flat_map hex_pair bytes.now) }
+    ensures ok { OnOk result (out.new.items ≡ out.old.items ++ flat_map hex_pair bytes.now) }
+    ensures err { OnErr result (Keeps out.old.items out.new.items) }
 {
     for byte in bytes {
         push_pair(out, *byte)?;
@@ -41,16 +62,18 @@ fn push_pairs(out: &mut Vec<u8>, bytes: &[u8]) -> Result<(), AllocError>
     Ok(())
 }
 
-/// Lower case hexadecimal, `-` for no bytes.
+/// Lower case hexadecimal, `-` for no bytes, at the end. An `Err` is want of memory, and changes
+/// nothing.
 pub fn push_hex(out: &mut Vec<u8>, bytes: &[u8]) -> Result<(), AllocError>
-    ensures { OnOk result (out.new.items ≡ out.old.items ++ hex_text bytes.now) }
+    ensures ok { OnOk result (out.new.items ≡ out.old.items ++ hex_text bytes.now) }
+    ensures err { OnErr result (out.new.items ≡ out.old.items) }
 {
     if bytes.is_empty() {
-        out.push(b'-')?;
-    } else {
-        push_pairs(out, bytes)?;
+        return out.extend_from_slice(b"-");
     }
-    Ok(())
+    let len = out.len();
+    let outcome = push_pairs(out, bytes);
+    all_or_nothing(out, len, outcome)
 }
 
 fn is_plain(byte: u8) -> bool
@@ -60,20 +83,21 @@ fn is_plain(byte: u8) -> bool
 }
 
 fn push_escaped_byte(out: &mut Vec<u8>, byte: u8) -> Result<(), AllocError>
-    ensures { OnOk result (out.new.items ≡ out.old.items ++ escaped_byte byte) }
+    ensures ok { OnOk result (out.new.items ≡ out.old.items ++ escaped_byte byte) }
+    ensures err { OnErr result (out.new.items ≡ out.old.items) }
 {
     if is_plain(byte) {
         out.push(byte)?;
     } else {
-        out.extend_from_slice(b"\\x")?;
-        push_pair(out, byte)?;
+        out.extend_from_slice(&[b'\\', b'x', hex_digit(byte / 16), hex_digit(byte % 16)])?;
     }
     Ok(())
 }
 
-/// Printable ASCII as it is, but for the backslash; every other byte as `\x` and two digits.
-pub fn push_escaped(out: &mut Vec<u8>, text: &[u8]) -> Result<(), AllocError>
-    ensures { OnOk result (out.new.items ≡ out.old.items ++ escaped text.now) }
+/// After an `Err` a part of it may stand there.
+fn push_escaped_bytes(out: &mut Vec<u8>, text: &[u8]) -> Result<(), AllocError>
+    ensures ok { OnOk result (out.new.items ≡ out.old.items ++ escaped text.now) }
+    ensures err { OnErr result (Keeps out.old.items out.new.items) }
 {
     for byte in text {
         push_escaped_byte(out, *byte)?;
@@ -81,9 +105,22 @@ pub fn push_escaped(out: &mut Vec<u8>, text: &[u8]) -> Result<(), AllocError>
     Ok(())
 }
 
-/// A number in decimal digits, without leading zeros.
+/// Printable ASCII as it is, but for the backslash, every other byte as `\x` and two digits, at the
+/// end. An `Err` is want of memory, and changes nothing.
+pub fn push_escaped(out: &mut Vec<u8>, text: &[u8]) -> Result<(), AllocError>
+    ensures ok { OnOk result (out.new.items ≡ out.old.items ++ escaped text.now) }
+    ensures err { OnErr result (out.new.items ≡ out.old.items) }
+{
+    let len = out.len();
+    let outcome = push_escaped_bytes(out, text);
+    all_or_nothing(out, len, outcome)
+}
+
+/// A number in decimal digits, without leading zeros, at the end. An `Err` is want of memory, and
+/// changes nothing.
 pub fn push_number(alloc: Global, out: &mut Vec<u8>, number: u64) -> Result<(), AllocError>
-    ensures { OnOk result (out.new.items ≡ out.old.items ++ decimal number) }
+    ensures ok { OnOk result (out.new.items ≡ out.old.items ++ decimal number) }
+    ensures err { OnErr result (out.new.items ≡ out.old.items) }
 {
     let text = number.to_string(alloc)?;
     out.extend_from_slice(text.as_bytes())?;

@@ -18,7 +18,7 @@ use Rattle.ssh_bodies.specs.PrivateKey.{PrivateBody}
 use Rattle.ssh_bodies.specs.PrivateReading.{private_in}
 use Rattle.ssh_bodies.specs.Sshsig.{Sshsig}
 use Rattle.ssh_bodies.specs.SshsigReading.{sshsig_in}
-use Rattle.ssh_lines.specs.Text.{lines_of}
+use Rattle.ssh_text.specs.Text.{lines_of}
 use Rattle.ssh_lines.specs.KeyText.{base64_field, comment_field, type_field}
 use Rattle.ssh_options.specs.declared.cause.LineCause.{LineCause}
 use Rattle.ssh_options.specs.declared.cause.LineCause.TheVariants.{NoKey, KeyType, RetiredType, Base64, KeyBlob, TypeMismatch, CertificateOnLine}

@@ -28,7 +28,8 @@ use crate::line::read_blob;
 use crate::text::{push_fingerprint, push_fingerprint_line};
 use ssh_certs::{CertOptions, CertView, Principals, read_cert};
 use ssh_keys::{KeyView, NameClass, name_class};
-use ssh_lines::{LineCause, key_text};
+use ssh_lines::key_text;
+use ssh_options::LineCause;
 use ssh_print::{
     push_escaped, push_hex, push_number, push_number_line, push_text_line, push_word_line,
 };

@@ -5,7 +5,7 @@ ghost use Rattle.ssh_show.specs.ShownTexts.{IsClockAt, IsDateText, clock_text, l
 
 use jiff::SignedDuration;
 use jiff::civil::DateTime;
-use ssh_lines::epoch;
+use ssh_expiry::epoch;
 use std::alloc::{AllocError, Global};
 
 /// The last second of the year 9999, counted from 1970-01-01 in UTC.

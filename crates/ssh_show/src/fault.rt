@@ -5,7 +5,7 @@ ghost use Rattle.ssh_show.specs.declared.fault.ShowFault.TheVariants.{Memory};
 
 use ssh_bodies::BodyError;
 use ssh_certs::CertError;
-use ssh_lines::LineCause;
+use ssh_options::LineCause;
 use std::alloc::AllocError;
 
 /// Why a file is not shown.

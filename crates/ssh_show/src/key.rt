@@ -13,7 +13,8 @@ use crate::fault::ShowFault;
 use crate::line::read_blob;
 use crate::text::push_fingerprint_line;
 use ssh_keys::{KeyView, NameClass, name_class, read_key, rsa_bits};
-use ssh_lines::{LineCause, key_text};
+use ssh_lines::key_text;
+use ssh_options::LineCause;
 use ssh_print::{push_number_line, push_text_line, push_word_line};
 use std::alloc::{AllocError, Global};
 

@@ -11,6 +11,7 @@ mod key;
 mod kind;
 mod laws;
 mod line;
+mod samples;
 mod text;
 
 pub use answer::show;

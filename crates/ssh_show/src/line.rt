@@ -1,13 +1,14 @@
 //! The first line of a file that is shown, and its blob.
 
 ghost use Rattle.std.specs.Prelude.{◌≡◌};
-ghost use Rattle.ssh_lines.specs.Text.{lines_of};
+ghost use Rattle.ssh_text.specs.Text.{lines_of};
 ghost use Rattle.ssh_show.specs.Showing.{blob_of_field, blob_spelled, field_fault, first_of_lines};
 ghost use Rattle.ssh_show.specs.ShownLines.{Finds};
 
 use crate::fault::ShowFault;
 use ssh_inputs::decode;
-use ssh_lines::{LineCause, Lines};
+use ssh_options::LineCause;
+use ssh_text::Lines;
 use std::alloc::Global;
 
 /// The first line of a file, of any length, without its LF; of an empty file no bytes.

@@ -1,5 +1,5 @@
 use Rattle.std.proofs.Common.{◌∙◌, sym}
-use Rattle.ssh_lines.specs.Text.{lines_of, numbered}
+use Rattle.ssh_text.specs.Text.{lines_of, numbered}
 use Rattle.ssh_inputs.proofs.VouchedLemmas.{vouched_begin, vouched_broken, vouched_done, vouched_more, vouched_skip}
 use Rattle.ssh_inputs.proofs.vouch.read_vouched.Goals as goal
 

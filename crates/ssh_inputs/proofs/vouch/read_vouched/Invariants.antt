@@ -1,4 +1,4 @@
-use Rattle.ssh_lines.specs.Text.{lines_of, numbered}
+use Rattle.ssh_text.specs.Text.{lines_of, numbered}
 use Rattle.ssh_inputs.proofs.VouchedLemmas.{AreVouched}
 use Rattle.ssh_inputs.proofs.vouch.read_vouched.Given as goal
 

@@ -1,0 +1,35 @@
+//! Worked examples of the definitions. No call needs these functions: the check proves what they
+//! ensure.
+
+ghost use Rattle.ssh_inputs.specs.Samples.{
+  HexRead,
+  HexRefused,
+  NumbersRead,
+  NumbersRefused,
+  PartsRead,
+  VouchFilesRead,
+  VouchFilesRefused,
+  WordsRead,
+  ZoneTexts,
+};
+
+/// Values, as the definitions read them.
+fn values_as_read()
+    ensures hex { HexRead }
+    ensures no_hex { HexRefused }
+    ensures numbers { NumbersRead }
+    ensures no_numbers { NumbersRefused }
+    ensures zones { ZoneTexts }
+{}
+
+/// The words of a line, and the parts of standard input.
+fn words_as_read()
+    ensures words { WordsRead }
+    ensures parts { PartsRead }
+{}
+
+/// Vouch files, as the definitions read them.
+fn vouch_files_as_read()
+    ensures read { VouchFilesRead }
+    ensures refused { VouchFilesRefused }
+{}
