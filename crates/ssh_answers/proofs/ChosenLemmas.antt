@@ -1,19 +1,20 @@
 -- From what a reader over the chosen file gives to what the file of that name decides.
 use Rattle.std.proofs.Common.{◌≡◌, ◌∙◌, ◌++◌, ◌<◌, ◌+◌, ℕ, Bool, true, false, List, [], length, Option, Some, None, Result, Ok, Err, refl, sym, ap, subst, inl, inr, arith, rules}
-use Rattle.std.specs.Prelude.{◌⊎◌, ◌↔◌, IfSome, IsSome, IsTrue, OnOk, min, nat_lt, option_map}
+use Rattle.std.specs.Prelude.{◌⊎◌, ◌↔◌, IfSome, IsSome, IsTrue, OnErr, OnOk, min, nat_lt, option_map}
 use Rattle.std.specs.Str.{bytes_eq}
 use Rattle.std.proofs.Math.Nat.{min-eq_left}
 use Rattle.std.proofs.lemmas.Bool.{lt-ltb, ltb-true}
 use Rattle.std.proofs.lemmas.List.{append-nil, length-append}
 use Rattle.ssh_inputs.specs.SourceState.{Chosen, ChoosesKnown, IfTells, SourceState, bytes_at, choosing, dash, left_of, left_with, most_failures, name_of, named_file, nothing, standard_input}
 use Rattle.ssh_inputs.specs.Loading.{NoReadFailed, OneReadFailed}
-use Rattle.ssh_trust.specs.Answer.{Gives, file_limit, if_short}
+use Rattle.ssh_trust.specs.Answer.{Gives, if_short}
+use Rattle.ssh_text.specs.Text.{file_limit}
 use Rattle.ssh_trust.specs.Reads.{AnswersReader}
 use Rattle.ssh_trust.specs.declared.decision.Decision.{Decision}
 use Rattle.ssh_offers.specs.declared.query.Signed.{Signed}
 use Rattle.ssh_offers.specs.declared.error.AuditError.{AuditError}
 use Rattle.ssh_offers.specs.declared.error.AuditError.TheVariants.{Offer, Signature, WrongAlgorithm, WeakSignature, CertSignature, Address, FileTooLong, Memory, Read, Failed, Body}
-use Rattle.ssh_answers.specs.Audits.{Deciding, DecidesReader, answer_by}
+use Rattle.ssh_answers.specs.Audits.{Deciding, DecidesReader, answer_by, refusal_of}
 use Rattle.ssh_answers.specs.ChosenReads.{FailsOn, ReadsOn}
 use Rattle.ssh_answers.specs.Responding.{AnswersFile}
 
@@ -106,6 +107,11 @@ kept nothing s left = refl
 kept standard_input s left = refl
 kept (named_file name bytes) s left = refl
 
+chose : (c : Chosen) (s : SourceState) (left : List ℕ) → (left_with c s left).choices ≡ s.choices
+chose nothing s left = refl
+chose standard_input s left = refl
+chose (named_file name bytes) s left = refl
+
 named : (c : Chosen) (s : SourceState) (left : List ℕ) → s.chosen ≡ c → name_of (left_with c s left).chosen ≡ name_of c
 named nothing s left e = ap name_of e
 named standard_input s left e = ap name_of e
@@ -140,8 +146,21 @@ one-failed : (s t : SourceState) (name bytes : List ℕ) → s.failures < most_f
 one-failed s t name bytes counts there h =
     let c = choosing s name in
     let before : (left_with c.chosen c (left_of t)).failures ≡ s.failures = kept c.chosen c (left_of t) in
-    let more : min (s.failures + 1) most_failures ≡ s.failures + 1 = min-eq_left (omega (arith, counts)) in
-    (ap (λ x. x.failures) h ∙ (ap (λ n. min (n + 1) most_failures) before ∙ more), ap (λ x. x.failed) h ∙ (named c.chosen c (left_of t) refl ∙ (chosen s name bytes there).named))
+    let more : min (s.failures + 1) most_failures ≡ s.failures + 1 = min-eq_left (omega (arith, counts)) in (
+      ap (λ x. x.failures) h ∙ (ap (λ n. min (n + 1) most_failures) before ∙ more),
+      ap (λ x. x.failed) h ∙ (named c.chosen c (left_of t) refl ∙ (chosen s name bytes there).named),
+      ap (λ x. x.choices) h ∙ chose c.chosen c (left_of t),
+    )
+
+-- where a read failed the offer is not refused, since nothing is read then
+offered : (by : Deciding) (s t : SourceState) (name : List ℕ) → OnErr by (Some t ≡ Some (choosing s name)) → OneReadFailed s (Some t) name → refusal_of by ≡ None
+offered (Ok decision) s t name unread failed = refl
+offered (Err e) s t name unread failed =
+    let kept : Some t ≡ Some (choosing s name) = unread in
+    let same : t ≡ choosing s name = cc in
+    let none : t.failures ≡ s.failures = ap (λ (x : SourceState). x.failures) same in
+    let one : t.failures ≡ s.failures + 1 = failed.0 in
+    absurd (omega (arith, none, one))
 
 decided-by : (by : Deciding) (vouched : List Signed) (name bytes : List ℕ) (s t : SourceState) (result : Result Decision AuditError) → NoReadFailed s (Some t)
     → (result ≡ Err Memory) ⊎ (result ≡ answer_by by bytes vouched) → AnswersFile by vouched name (Some bytes) s (Some t) result
@@ -150,14 +169,16 @@ decided-by (Err x) vouched name bytes s t result none (inr e) = inr (inr (none, 
 decided-by (Ok decision) vouched name bytes s t result none (inr e) = inr (inr (none, e))
 
 decided : (by : Deciding) (vouched : List Signed) (name bytes : List ℕ) (s : SourceState) (t : Option SourceState) (result : Result Decision AuditError) → s.failures < most_failures → bytes_at s name ≡ Some bytes
-    → (result ≡ Err Read → FailsOn (Some (choosing s name)) t) → ((result ≡ Err Read → ⊥) → ReadsOn (Some (choosing s name)) t)
+    → OnErr by (t ≡ Some (choosing s name)) → (result ≡ Err Read → FailsOn (Some (choosing s name)) t) → ((result ≡ Err Read → ⊥) → ReadsOn (Some (choosing s name)) t)
     → DecidesReader by vouched (Some (left_of (choosing s name))) (option_map left_of t) result
     → AnswersFile by vouched name (Some bytes) s t result
-decided by vouched name bytes s None result counts there failed unfailed answer = absurd (either_way result failed unfailed)
-decided by vouched name bytes s (Some t) result counts there failed unfailed answer =
+decided by vouched name bytes s None result counts there unread failed unfailed answer = absurd (either_way result failed unfailed)
+decided by vouched name bytes s (Some t) result counts there unread failed unfailed answer =
     let is = chosen s name bytes there in
     let P : List ℕ → Type 0 = λ l. DecidesReader by vouched (Some l) (Some (left_of t)) result in
-    either_way result (λ e. inr (inl (one-failed s t name bytes counts there (failed e), e)))
+    either_way result (λ e.
+    let one : OneReadFailed s (Some t) name = one-failed s t name bytes counts there (failed e) in
+    inr (inl (offered by s t name unread one, one, e)))
     (λ other. decided-by by vouched name bytes s t result (none-failed s t name (unfailed other)) (by_reads by vouched bytes (left_of t) result other (subst P is.left answer)))
 
 there-some : (o : Option (List ℕ)) → IsSome o → (x : List ℕ) × (o ≡ Some x)
@@ -167,16 +188,23 @@ there-some (Some x) h = (x, refl)
 -- the decision by what a reader over the chosen file gave
 pub file_decided : (by : Deciding) (vouched : List Signed) (name : List ℕ) (o p q t : Option SourceState) (there : Bool) (result : Result Decision AuditError) → there ≡ true
     → IfSome o (λ s. IsTrue there ↔ IsSome (bytes_at s name)) → ChoosesKnown o p name → t ≡ q
-    → (result ≡ Err Read → FailsOn p q) → ((result ≡ Err Read → ⊥) → ReadsOn p q) → DecidesReader by vouched (option_map left_of p) (option_map left_of q) result
+    → OnErr by (q ≡ p) → (result ≡ Err Read → FailsOn p q) → ((result ≡ Err Read → ⊥) → ReadsOn p q) → DecidesReader by vouched (option_map left_of p) (option_map left_of q) result
     → IfTells o (λ s. AnswersFile by vouched name (bytes_at s name) s t result)
-file_decided by vouched name None p q t there result found is chosen same failed unfailed answer = tt
-file_decided by vouched name (Some s) p q t there result found is chosen same failed unfailed answer = λ counts.
+file_decided by vouched name None p q t there result found is chosen same unread failed unfailed answer = tt
+file_decided by vouched name (Some s) p q t there result found is chosen same unread failed unfailed answer = λ counts.
     let some = there-some (bytes_at s name) (is.0 found) in
     let A : Option (List ℕ) → Type 0 = λ z. AnswersFile by vouched name z s t result in
+    let N : Option SourceState → Option SourceState → Type 0 = λ x y. OnErr by (y ≡ x) in
     let F : Option SourceState → Option SourceState → Type 0 = λ x y. result ≡ Err Read → FailsOn x y in
     let U : Option SourceState → Option SourceState → Type 0 = λ x y. (result ≡ Err Read → ⊥) → ReadsOn x y in
     let R : Option SourceState → Option SourceState → Type 0 = λ x y. DecidesReader by vouched (option_map left_of x) (option_map left_of y) result in
     subst A (sym some.1) (decided by vouched name some.0 s t result counts some.1
+    (subst (λ x. N x t) chosen (subst (N p) (sym same) unread))
     (subst (λ x. F x t) chosen (subst (F p) (sym same) failed))
     (subst (λ x. U x t) chosen (subst (U p) (sym same) unfailed))
     (subst (λ x. R x t) chosen (subst (R p) (sym same) answer)))
+
+-- what follows where the offer is refused
+pub where_refused : {A E P Q : Type 0} (r : Result A E) → (P → Q) → OnErr r P → OnErr r Q
+where_refused (Ok x) f h = tt
+where_refused (Err e) f h = f h

@@ -1,7 +1,7 @@
 -- An answer with status 0 is a grant.
 use Rattle.std.proofs.Common.{◌≡◌, ◌∙◌, ◌<◌, cond, ℕ, Bool, true, false, List, length, Option, Some, None, Result, Ok, Err, ap, subst, sym, refl, arith, nat_lt}
-use Rattle.ssh_lines.specs.declared.entry.AuthEntry.{AuthEntry}
-use Rattle.ssh_lines.specs.declared.known.KnownEntry.{KnownEntry}
+use Rattle.ssh_lines.specs.AuthEntry.{AuthEntry}
+use Rattle.ssh_lines.specs.KnownEntry.{KnownEntry}
 use Rattle.ssh_offers.specs.declared.error.AuditError.{AuditError}
 use Rattle.ssh_offers.specs.declared.error.AuditError.TheVariants.{FileTooLong}
 use Rattle.ssh_offers.specs.declared.query.Signed.{Signed}
@@ -11,7 +11,7 @@ use Rattle.ssh_offers.specs.Query.{HostCheck, Login}
 use Rattle.ssh_rights.specs.declared.rights.Rights.{Rights}
 use Rattle.ssh_trust.specs.declared.decision.Decision.{Decision}
 use Rattle.ssh_trust.specs.declared.decision.Decision.TheVariants.{Granted, Denied}
-use Rattle.ssh_trust.specs.Answer.{file_limit}
+use Rattle.ssh_text.specs.Text.{file_limit}
 use Rattle.ssh_trust.specs.Decision.{LoginMeans, login_decision}
 use Rattle.ssh_trust.specs.HostDecision.{HostMeans, host_decision}
 use Rattle.ssh_trust.proofs.HostMeaningLemmas.{host_means}

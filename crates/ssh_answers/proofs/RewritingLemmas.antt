@@ -9,7 +9,7 @@ use Rattle.ssh_inputs.specs.declared.read.ReadFault.{ReadFault}
 use Rattle.ssh_inputs.specs.declared.read.ReadFault.TheVariants as fault
 use Rattle.ssh_offers.specs.declared.error.AuditError.TheVariants.{FileTooLong}
 use Rattle.ssh_print.specs.Responses.{Response as Shown, refused_response}
-use Rattle.ssh_trust.specs.Answer.{file_limit}
+use Rattle.ssh_text.specs.Text.{file_limit}
 use Rattle.ssh_answers.specs.declared.rewriting.RewriteKind.{RewriteKind}
 use Rattle.ssh_answers.specs.Rewritings.{IsTrustFault, Rewrites, canonical_file, new_file, new_response, rewrite_over}
 use Rattle.ssh_answers.proofs.SourceLemmas.{left-none}

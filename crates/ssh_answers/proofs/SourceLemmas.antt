@@ -1,40 +1,47 @@
--- Sources with the same files and the same input tell the same, and what reads that did not fail leave.
-use Rattle.std.proofs.Common.{◌≡◌, ◌∙◌, ℕ, Bool, true, false, cond, List, [], length, Option, Some, None, refl, ap, arith}
+-- Sources with the same files, the same input and the same counts tell the same, and what reads that did not fail leave.
+use Rattle.std.proofs.Common.{◌≡◌, ◌∙◌, ◌+◌, ℕ, true, cond, List, [], length, Option, Some, None, refl, sym, ap}
 use Rattle.std.specs.Str.{bytes_eq}
 use Rattle.std.proofs.lemmas.Bool.{lt-ltb}
-use Rattle.ssh_inputs.specs.SourceState.{SourceState, bytes_at, dash}
+use Rattle.ssh_inputs.specs.SourceState.{SourceState, bytes_at, dash, next_choice}
 use Rattle.ssh_inputs.specs.Parts.{after_whole, cut_at_empty}
 use Rattle.ssh_inputs.specs.Loading.{NoReadFailed, OneReadFailed, IsLeft, IsTooLong, within_limit}
-use Rattle.ssh_trust.specs.Answer.{file_limit}
+use Rattle.ssh_text.specs.Text.{file_limit}
 use Rattle.ssh_answers.specs.Audits.{after_vouching, vouched_in}
 
--- ---- the same files and the same input
+-- ---- the same but for what is chosen
 
-abbrev pub Alike : SourceState → SourceState → Type 0
-Alike a b = (a.named ≡ b.named) × (a.input ≡ b.input)
+pub record Alike (a b : SourceState) : Type 0 where
+  pub named : a.named ≡ b.named
+  pub input : a.input ≡ b.input
+  pub failures : a.failures ≡ b.failures
+  pub choices : a.choices ≡ b.choices
+
+pub alike-same : (s : SourceState) → Alike s s
+alike-same s = record { named = refl; input = refl; failures = refl; choices = refl }
 
 pub file-alike : (a b : SourceState) (name : List ℕ) → Alike a b → bytes_at a name ≡ bytes_at b name
-file-alike a b name (n, i) = rw (n, i) refl
-
-whole-at : (t : Bool) (a b : SourceState) → Alike a b → Alike (cond t (record a { input = [] }) a) (cond t (record b { input = [] }) b)
-whole-at true a b h = (h.0, refl)
-whole-at false a b h = h
+file-alike a b name h = rw (h.named, h.input) refl
 
 pub whole-alike : (a b : SourceState) (name : List ℕ) → Alike a b → Alike (after_whole a name) (after_whole b name)
-whole-alike a b name h = whole-at (bytes_eq name dash) a b h
-
-part-at : (t : Bool) (a b : SourceState) → Alike a b
-    → Alike (cond t (record a { input = (cut_at_empty true a.input).1 }) a) (cond t (record b { input = (cut_at_empty true b.input).1 }) b)
-part-at true a b h = (h.0, ap (λ i. (cut_at_empty true i).1) h.1)
-part-at false a b h = h
+whole-alike a b name h = record {
+  named = h.named;
+  input = ap (λ i. cond (bytes_eq name dash) [] i) h.input;
+  failures = h.failures;
+  choices = ap next_choice h.choices;
+}
 
 pub vouching-alike : (vouch : Option (List ℕ)) (a b : SourceState) → Alike a b → Alike (after_vouching vouch a) (after_vouching vouch b)
 vouching-alike None a b h = h
-vouching-alike (Some v) a b h = part-at (bytes_eq v dash) a b h
+vouching-alike (Some v) a b h = record {
+  named = h.named;
+  input = ap (λ i. cond (bytes_eq v dash) (cut_at_empty true i).1 i) h.input;
+  failures = h.failures;
+  choices = ap next_choice h.choices;
+}
 
-pub vouched-same : (vouch : Option (List ℕ)) (a b : SourceState) → a.named ≡ b.named → a.input ≡ b.input → vouched_in vouch a ≡ vouched_in vouch b
-vouched-same None a b n i = refl
-vouched-same (Some v) a b n i = rw (n, i) refl
+pub vouched-same : (vouch : Option (List ℕ)) (a b : SourceState) → Alike a b → vouched_in vouch a ≡ vouched_in vouch b
+vouched-same None a b h = refl
+vouched-same (Some v) a b h = rw (h.named, h.input) refl
 
 -- ---- failed reads, and those that did not fail
 
@@ -42,9 +49,13 @@ pub none-failed : (s t : SourceState) (u : Option SourceState) → t.failures �
 none-failed s t None e h = h
 none-failed s t (Some x) e h = h ∙ e
 
-pub one-failed : (s t : SourceState) (u : Option SourceState) (name : List ℕ) → t.failures ≡ s.failures → OneReadFailed t u name → OneReadFailed s u name
-one-failed s t None name e h = h
-one-failed s t (Some x) name e h = (omega (arith, e, h), h.1)
+pub one-failed : (a b : SourceState) (u : Option SourceState) (name : List ℕ) → Alike a b → OneReadFailed a u name → OneReadFailed b u name
+one-failed a b None name e h = h
+one-failed a b (Some x) name e h = (h.0 ∙ ap (λ n. n + 1) e.failures, h.1, h.2 ∙ ap next_choice e.choices)
+
+-- what was left is the source after the reading, but for what is chosen
+pub left-alike : (s rest t : SourceState) → rest.failures ≡ s.failures → IsLeft s rest (Some t) → Alike t rest
+left-alike s rest t e h = record { named = h.0; input = h.1; failures = h.2 ∙ sym e; choices = h.3 }
 
 pub left-none : (s rest : SourceState) (t : Option SourceState) → IsLeft s rest t → NoReadFailed s t
 left-none s rest None h = h

@@ -4,9 +4,9 @@ use Rattle.ssh_trust.specs.declared.decision.Decision.{Decision}
 use Rattle.ssh_offers.specs.declared.error.AuditError.{AuditError}
 use Rattle.ssh_offers.specs.declared.error.AuditError.TheVariants.{Read}
 use Rattle.ssh_offers.specs.declared.query.Signed.{Signed}
-use Rattle.ssh_trust.specs.Query.{HostCheck, Login}
-use Rattle.ssh_trust.specs.HostClaim.{host_claim}
-use Rattle.ssh_trust.specs.LoginClaim.{login_claim}
+use Rattle.ssh_offers.specs.Query.{HostCheck, Login}
+use Rattle.ssh_offers.specs.HostClaim.{host_claim}
+use Rattle.ssh_offers.specs.LoginClaim.{login_claim}
 use Rattle.ssh_trust.specs.Answer.{if_short}
 use Rattle.ssh_trust.specs.Reads.{AnswersReader}
 use Rattle.ssh_trust.specs.Decision.{login_decision}
@@ -91,11 +91,24 @@ audit_response by f s = vouched_response by f.trust (after_vouching f.vouch s) (
 
 -- ---- failed reads
 
--- one read failed, and the response is that file's fault: A9 of the trust file, and its name of the vouch file
-abbrev pub IsAuditFault : AuditFiles → SourceState → Option SourceState → Response → Type 0
-IsAuditFault f s t r = (OneReadFailed s t f.trust × (r ≡ refused_response Read))
-    ⊎ ((name : List ℕ) × (f.vouch ≡ Some name) × OneReadFailed s t name × (r ≡ no_file_response name))
+-- the read of this file failed, no other file was chosen, and the response names it
+abbrev pub IsFileFault : List ℕ → SourceState → Option SourceState → Response → Type 0
+IsFileFault name s t r = OneReadFailed s t name × (r ≡ no_file_response name)
 
--- the response is the wanted one, and no read failed; or one failed, and it is the fault of the file that was read
-abbrev pub Audits : AuditFiles → Response → SourceState → Option SourceState → Response → Type 0
-Audits f wanted s t r = (NoReadFailed s t × (r ≡ wanted)) ⊎ IsAuditFault f s t r
+-- the same of the vouch file, where there is one
+abbrev pub IsVouchReadFault : Option (List ℕ) → SourceState → Option SourceState → Response → Type 0
+IsVouchReadFault None s t r = ⊥
+IsVouchReadFault (Some name) s t r = IsFileFault name s t r
+
+-- the offer is not refused, the read of the trust file of this name failed, and the response is A9
+abbrev pub IsTrustReadFault : Deciding → List ℕ → SourceState → Option SourceState → Response → Type 0
+IsTrustReadFault by name s t r = (refusal_of by ≡ None) × OneReadFailed s t name × (r ≡ refused_response Read)
+
+-- the vouch file's read failed; or, after it told its signatures, the trust file's did
+abbrev pub IsAuditFault : Deciding → AuditFiles → SourceState → Option SourceState → Response → Type 0
+IsAuditFault by f s t r = IsVouchReadFault f.vouch s t r
+    ⊎ ((vouched : List Signed) × (vouched_in f.vouch s ≡ Ok vouched) × IsTrustReadFault by f.trust (after_vouching f.vouch s) t r)
+
+-- the response is the answer, and no read failed; or one failed, and it is the fault of the file that was read
+abbrev pub Audits : Deciding → AuditFiles → SourceState → Option SourceState → Response → Type 0
+Audits by f s t r = (NoReadFailed s t × (r ≡ audit_response by f s)) ⊎ IsAuditFault by f s t r

@@ -1,8 +1,8 @@
 -- What an answer with status 0 to a login and to a host's key stands on (this project's rule).
 use Rattle.std.specs.Prelude.{◌≡◌, ◌<◌, ℕ, List, Some, None, Ok}
 use Rattle.std.specs.List.{AllByRecursion}
-use Rattle.ssh_lines.specs.declared.entry.AuthEntry.{AuthEntry}
-use Rattle.ssh_lines.specs.declared.known.KnownEntry.{KnownEntry}
+use Rattle.ssh_lines.specs.AuthEntry.{AuthEntry}
+use Rattle.ssh_lines.specs.KnownEntry.{KnownEntry}
 use Rattle.ssh_offers.specs.declared.query.Signed.{Signed}
 use Rattle.ssh_offers.specs.Evidence.{host_evidence, login_evidence}
 use Rattle.ssh_offers.specs.HostClaim.{HostClaim, host_claim}

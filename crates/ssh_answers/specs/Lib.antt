@@ -7,3 +7,4 @@ pub mod Rewritings
 pub mod VouchLines
 pub mod Granting
 pub mod ChosenReads
+pub mod Samples

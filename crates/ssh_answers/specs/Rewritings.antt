@@ -44,7 +44,7 @@ abbrev pub rewrite_over : RewriteKind → Option (List ℕ) → Response
 rewrite_over kind None = refused_response audit.Read
 rewrite_over kind (Some file) = new_response (new_file kind file)
 
--- one read failed, and the response is A9
+-- the read of this file failed, and the response is A9
 abbrev pub IsRewriteFault : List ℕ → SourceState → Option SourceState → Response → Type 0
 IsRewriteFault name s t r = OneReadFailed s t name × (r ≡ refused_response audit.Read)
 

@@ -6,11 +6,11 @@ use Rattle.ssh_offers.specs.declared.query.Signed.{Signed}
 use Rattle.ssh_offers.specs.FileSignature.{sshsig_claim}
 use Rattle.ssh_trust.specs.declared.signatures.SigAnswer.{SigAnswer}
 use Rattle.ssh_trust.specs.SignatureAnswer.{sig_answer}
-use Rattle.ssh_answers.specs.Audits.{after_vouching, vouched_in}
+use Rattle.ssh_answers.specs.Audits.{IsFileFault, IsVouchReadFault, after_vouching, vouched_in}
 use Rattle.ssh_answers.specs.Asked.{SshsigWords}
 use Rattle.ssh_inputs.specs.SourceState.{SourceState, bytes_at}
 use Rattle.ssh_inputs.specs.Parts.{after_whole}
-use Rattle.ssh_inputs.specs.Loading.{OneReadFailed, NoReadFailed, within_limit}
+use Rattle.ssh_inputs.specs.Loading.{NoReadFailed, within_limit}
 use Rattle.ssh_print.specs.Responses.{Response, no_file_response}
 use Rattle.ssh_print.specs.SignatureText.{sshsig_response}
 
@@ -60,14 +60,16 @@ signature_response w s = signature_over w w.vouch s
 
 -- ---- failed reads
 
--- a file that is read for these words
-abbrev pub IsFileOf : SshsigWords → List ℕ → Type 0
-IsFileOf w name = (name ≡ w.body) ⊎ ((name ≡ w.message) ⊎ (w.vouch ≡ Some name))
+-- the body's read failed; or, after it gave its bytes, the message's did
+abbrev pub IsContentFault : SshsigWords → SourceState → Option SourceState → Response → Type 0
+IsContentFault w s t r = IsFileFault w.body s t r
+    ⊎ ((body : List ℕ) × (within_limit (bytes_at s w.body) ≡ Some body) × IsFileFault w.message (after_whole s w.body) t r)
 
--- one read failed, and the response is that file's fault
+-- the vouch file's read failed; or, after it told its signatures, one of the others
 abbrev pub IsSignatureFault : SshsigWords → SourceState → Option SourceState → Response → Type 0
-IsSignatureFault w s t r = (name : List ℕ) × IsFileOf w name × OneReadFailed s t name × (r ≡ no_file_response name)
+IsSignatureFault w s t r = IsVouchReadFault w.vouch s t r
+    ⊎ ((vouched : List Signed) × (vouched_in w.vouch s ≡ Ok vouched) × IsContentFault w (after_vouching w.vouch s) t r)
 
--- the response is the wanted one, and no read failed; or one failed, and it is the fault of the file that was read
-abbrev pub Signs : SshsigWords → Response → SourceState → Option SourceState → Response → Type 0
-Signs w wanted s t r = (NoReadFailed s t × (r ≡ wanted)) ⊎ IsSignatureFault w s t r
+-- the response is the answer, and no read failed; or one failed, and it is the fault of the file that was read
+abbrev pub Signs : SshsigWords → SourceState → Option SourceState → Response → Type 0
+Signs w s t r = (NoReadFailed s t × (r ≡ signature_response w s)) ⊎ IsSignatureFault w s t r

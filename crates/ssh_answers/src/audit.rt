@@ -1,17 +1,16 @@
 //! What a trust file answers to a question, with the signatures that a vouch file vouches for.
 
-ghost use Rattle.std.specs.Prelude.{◌≡◌, Err, IfOk, option_map};
+ghost use Rattle.std.specs.Prelude.{◌≡◌, Err, IfOk, OnErr, option_map};
 ghost use Rattle.ssh_offers.specs.declared.error.AuditError.TheVariants.{Read};
-ghost use Rattle.ssh_answers.specs.Audits.{
-  Audits,
-  DecidesReader,
-  audit_response,
-  decided_response,
-  or_vouch_fault,
-  vouched_response,
-};
+ghost use Rattle.ssh_answers.specs.Audits.{Audits, DecidesReader, or_vouch_fault};
 ghost use Rattle.ssh_answers.specs.ChosenReads.{FailsOn, ReadsOn};
-ghost use Rattle.ssh_answers.specs.Responding.{AnswersFile, IsFaultOf, is_memory};
+ghost use Rattle.ssh_answers.specs.Responding.{
+  AnswersFile,
+  AuditsFile,
+  AuditsVouched,
+  IsFaultOf,
+  is_memory,
+};
 ghost use Rattle.ssh_answers.specs.AskedView.{names_of};
 ghost use Rattle.ssh_print.specs.ResponseView.{response};
 ghost use Rattle.ssh_inputs.specs.SourceState.{IfTells, bytes_at, left_of};
@@ -21,8 +20,9 @@ use crate::asked::AuditFiles;
 use crate::chosen::ChosenFile;
 use crate::question::Question;
 use ssh_inputs::{Files, ReadFault, VouchFault, read_vouch_file, read_vouched};
+use ssh_offers::{AuditError, Signed};
 use ssh_print::{Response, decision_response, file_fault, vouch_fault};
-use ssh_trust::{AuditError, Decision, Signed};
+use ssh_trust::Decision;
 use std::alloc::{AllocError, Global};
 
 /// The decision by the chosen file, which goes on lending the same source.
@@ -33,6 +33,8 @@ fn decide_chosen<Q: Question, F: Files>(
     file: &mut ChosenFile<'_, F>,
 ) -> Result<Decision, AuditError>
     ensures same { file.new.files.ghost_name ≡ file.old.files.ghost_name }
+    ensures unread { OnErr (Q.decides question.entry.now)
+        (F.source_state file.new.files.now ≡ F.source_state file.old.files.now) }
     ensures read { result ≡ Err Read → FailsOn (F.source_state file.old.files.now)
         (F.source_state file.new.files.now) }
     ensures unfailed { (result ≡ Err Read → ⊥) → ReadsOn (F.source_state file.old.files.now)
@@ -78,7 +80,8 @@ fn respond_vouched<Q: Question, F: Files>(
     files: &mut F,
 ) -> Result<Response, AllocError>
     ensures { IfTells (F.source_state files.old) (λ s. IfOk result (λ r.
-        Audits (names_of names.entry.now) (decided_response (Q.decides question.entry.now) vouched.now (bytes_at s (names_of names.entry.now).trust)) s (F.source_state files.new) (response r))) }
+        AuditsFile (Q.decides question.entry.now) names.entry.now.trust.now vouched.now s
+        (F.source_state files.new) (response r))) }
 {
     let answer = decide_by_file(alloc, names.trust, question, vouched, files);
     if is_memory(&answer) {
@@ -106,7 +109,8 @@ fn respond_bytes<Q: Question, F: Files>(
     files: &mut F,
 ) -> Result<Response, AllocError>
     ensures { IfTells (F.source_state files.old) (λ s. IfOk result (λ r.
-        Audits (names_of names.entry.now) (vouched_response (Q.decides question.entry.now) (names_of names.entry.now).trust s (or_vouch_fault (vouched_of bytes.now))) s (F.source_state files.new) (response r))) }
+        AuditsVouched (Q.decides question.entry.now) names.entry.now.trust.now
+        (or_vouch_fault (vouched_of bytes.now)) s (F.source_state files.new) (response r))) }
 {
     match read_vouched(alloc, bytes) {
         Ok(vouched) => {
@@ -126,7 +130,8 @@ pub fn respond_question<Q: Question, F: Files>(
     files: &mut F,
 ) -> Result<Response, AllocError>
     ensures { IfTells (F.source_state files.old) (λ s. IfOk result (λ r.
-        Audits (names_of names.entry.now) (audit_response (Q.decides question.entry.now) (names_of names.entry.now) s) s (F.source_state files.new) (response r))) }
+        Audits (Q.decides question.entry.now) (names_of names.entry.now) s
+        (F.source_state files.new) (response r))) }
 {
     match names.vouch {
         None => respond_vouched(alloc, names, question, &[], files),

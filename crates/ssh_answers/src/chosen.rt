@@ -5,7 +5,7 @@ ghost use Rattle.ssh_answers.specs.ChosenReads.{FailsOn, ReadsOn, reads_on};
 ghost use Rattle.ssh_inputs.specs.SourceState.{left_of};
 
 use ssh_inputs::Files;
-use ssh_trust::Source;
+use ssh_trust::{PIECE_SIZE, Source};
 use std::io::Result;
 
 /// The file that a source has chosen.
@@ -35,7 +35,7 @@ impl<F: Files> Source for ChosenFile<'_, F> {
 
     ghost begins = { λ x. (refl, reads_on (F.source_state x.files.now)) };
 
-    fn read_piece(&mut self, buf: &mut [u8]) -> Result<usize> {
+    fn read_piece(&mut self, buf: &mut [u8; PIECE_SIZE]) -> Result<usize> {
         self.files.read_chosen(buf)
     }
 }

@@ -9,6 +9,7 @@ mod chosen;
 mod laws;
 mod question;
 mod rewriting;
+mod samples;
 mod signature;
 
 pub use asked::{AuditFiles, SshsigWords};

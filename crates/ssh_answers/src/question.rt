@@ -1,8 +1,8 @@
 //! What is asked of a trust file.
 
-ghost use Rattle.std.specs.Prelude.{◌≡◌, ◌<◌, ◌^◌, Err, length};
+ghost use Rattle.std.specs.Prelude.{◌≡◌, ◌<◌, ◌^◌, Err, OnErr, length};
 ghost use Rattle.ssh_offers.specs.declared.error.AuditError.TheVariants.{Read};
-ghost use Rattle.ssh_trust.specs.Query.{host_check_of, login_of};
+ghost use Rattle.ssh_offers.specs.Query.{host_check_of, login_of};
 ghost use Rattle.ssh_answers.specs.Audits.{
   Deciding,
   DecidesReader,
@@ -11,10 +11,8 @@ ghost use Rattle.ssh_answers.specs.Audits.{
   refusal_of,
 };
 
-use ssh_offers::{HostClaimView, LoginClaimView};
-use ssh_trust::{
-    AuditError, Decision, HostQuery, LoginQuery, Signed, Source, host_from, login_from,
-};
+use ssh_offers::{AuditError, HostClaimView, HostQuery, LoginClaimView, LoginQuery, Signed};
+use ssh_trust::{Decision, Source, host_from, login_from};
 use std::alloc::Global;
 
 /// What is asked of a trust file.
@@ -27,12 +25,14 @@ pub trait Question {
         ensures { result ≡ refusal_of (decides self.entry.now) };
 
     /// The decision by what a trust file's reader has left, where these signatures are vouched for.
+    /// Where the offer is refused nothing is read.
     fn decide<S: Source>(
         &self,
         alloc: Global,
         file: &mut S,
         vouched: &[Signed],
     ) -> Result<Decision, AuditError>
+        ensures unread { OnErr (decides self.entry.now) (file.new ≡ file.old) }
         ensures read { result ≡ Err Read → S.failed file.old file.new }
         ensures unfailed { (result ≡ Err Read → ⊥) → S.unfailed file.old file.new }
         ensures answer { DecidesReader (decides self.entry.now) vouched.now (S.left file.old)

@@ -14,8 +14,9 @@ ghost use Rattle.ssh_print.specs.ResponseView.{response};
 ghost use Rattle.ssh_inputs.specs.SourceState.{IfTells, bytes_at};
 
 use ssh_inputs::{Files, ReadFault, read_whole};
+use ssh_offers::AuditError;
 use ssh_print::{DONE, Response, audit_fault};
-use ssh_trust::{AuditError, RewriteError, rewrite_auth, rewrite_known};
+use ssh_rewriting::{RewriteError, rewrite_auth, rewrite_known};
 use std::alloc::{AllocError, Global};
 
 /// The kinds of trust files that are written anew.

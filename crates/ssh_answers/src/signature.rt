@@ -3,15 +3,8 @@
 ghost use Rattle.std.specs.Prelude.{◌≡◌, IfOk};
 ghost use Rattle.ssh_answers.specs.Audits.{or_vouch_fault};
 ghost use Rattle.ssh_answers.specs.AskedView.{sshsig_texts_of};
-ghost use Rattle.ssh_answers.specs.Signatures.{
-  Signs,
-  body_response,
-  bytes_answer,
-  is_memory,
-  message_response,
-  signature_response,
-  vouched_over,
-};
+ghost use Rattle.ssh_answers.specs.Signatures.{Signs, bytes_answer, is_memory};
+ghost use Rattle.ssh_answers.specs.Responding.{SignsBody, SignsMessage, SignsVouched};
 ghost use Rattle.ssh_trust.specs.Answer.{Gives};
 ghost use Rattle.ssh_print.specs.ResponseView.{response};
 ghost use Rattle.ssh_print.specs.SignatureText.{sshsig_response};
@@ -21,8 +14,9 @@ ghost use Rattle.ssh_inputs.specs.VouchFile.{vouched_of};
 use crate::asked::SshsigWords;
 use crate::audit::unread;
 use ssh_inputs::{Files, VouchFault, read_vouch_file, read_vouched, read_whole};
+use ssh_offers::{AuditError, Signed};
 use ssh_print::{Response, sshsig_response, vouch_fault};
-use ssh_trust::{AuditError, SigAnswer, Signed, sshsig};
+use ssh_trust::{SigAnswer, sshsig};
 use std::alloc::{AllocError, Global};
 
 /// The answer by the bytes of a body and of a message.
@@ -74,7 +68,8 @@ fn respond_body<F: Files>(
     files: &mut F,
 ) -> Result<Response, AllocError>
     ensures { IfTells (F.source_state files.old) (λ s. IfOk result (λ r.
-        Signs (sshsig_texts_of words.entry.now) (message_response (sshsig_texts_of words.entry.now) vouched.now body.now s) s (F.source_state files.new) (response r))) }
+        SignsMessage (sshsig_texts_of words.entry.now) vouched.now body.now s
+        (F.source_state files.new) (response r))) }
 {
     match read_whole(alloc, files, words.message) {
         Ok(message) => respond_bytes(alloc, words, vouched, body, &message),
@@ -90,7 +85,8 @@ fn respond_vouched<F: Files>(
     files: &mut F,
 ) -> Result<Response, AllocError>
     ensures { IfTells (F.source_state files.old) (λ s. IfOk result (λ r.
-        Signs (sshsig_texts_of words.entry.now) (body_response (sshsig_texts_of words.entry.now) vouched.now s) s (F.source_state files.new) (response r))) }
+        SignsBody (sshsig_texts_of words.entry.now) vouched.now s (F.source_state files.new)
+        (response r))) }
 {
     match read_whole(alloc, files, words.body) {
         Ok(body) => respond_body(alloc, words, vouched, &body, files),
@@ -106,7 +102,8 @@ fn respond_vouch_bytes<F: Files>(
     files: &mut F,
 ) -> Result<Response, AllocError>
     ensures { IfTells (F.source_state files.old) (λ s. IfOk result (λ r.
-        Signs (sshsig_texts_of words.entry.now) (vouched_over (sshsig_texts_of words.entry.now) s (or_vouch_fault (vouched_of bytes.now))) s (F.source_state files.new) (response r))) }
+        SignsVouched (sshsig_texts_of words.entry.now) (or_vouch_fault (vouched_of bytes.now)) s
+        (F.source_state files.new) (response r))) }
 {
     match read_vouched(alloc, bytes) {
         Ok(vouched) => {
@@ -125,7 +122,7 @@ pub fn respond_sshsig<F: Files>(
     files: &mut F,
 ) -> Result<Response, AllocError>
     ensures { IfTells (F.source_state files.old) (λ s. IfOk result (λ r.
-        Signs (sshsig_texts_of words.entry.now) (signature_response (sshsig_texts_of words.entry.now) s) s (F.source_state files.new) (response r))) }
+        Signs (sshsig_texts_of words.entry.now) s (F.source_state files.new) (response r))) }
 {
     match words.vouch {
         None => respond_vouched(alloc, words, &[], files),

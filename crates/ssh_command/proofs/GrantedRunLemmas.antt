@@ -5,17 +5,17 @@ use Rattle.base64.specs.Engines.{standard}
 use Rattle.base64.specs.GeneralPurpose.{decoded_of}
 use Rattle.jiff.specs.Types.{TimeZone}
 use Rattle.ssh_wire.specs.Reading.{◌>>=◌}
-use Rattle.ssh_trust.specs.Query.{HostCheck, Login}
+use Rattle.ssh_offers.specs.Query.{HostCheck, Login}
 use Rattle.ssh_print.specs.Responses.{Response}
 use Rattle.ssh_inputs.specs.SourceState.{SourceState}
 use Rattle.ssh_inputs.specs.Values.{hex_bytes, number_below, short_bytes, short_hex, zone_text, ReadsZone}
 use Rattle.ssh_answers.specs.Asked.{AuditFiles}
-use Rattle.ssh_answers.specs.Audits.{IsAuditFault, host_by, login_by}
+use Rattle.ssh_answers.specs.Audits.{Deciding, IsAuditFault, IsVouchReadFault, host_by, login_by}
 use Rattle.ssh_answers.specs.Granting.{HostGranted, IsOfBytes, LoginGranted}
 use Rattle.ssh_answers.proofs.GrantingLemmas.{host_granted, login_granted}
 use Rattle.ssh_command.specs.CommandLine.{HostWords, LoginWords, Request, host, login, request_of}
 use Rattle.ssh_command.specs.GrantedRuns.{GrantsHost, GrantsLogin}
-use Rattle.ssh_command.specs.Requests.{Answers, IsAnswer, RespondsBy, answer_in, host_spelled, login_in_zone, login_spelled, or_value_fault, request_words, source_of, spelled_response}
+use Rattle.ssh_command.specs.Requests.{Answers, IsAnswer, IsSpelledFault, RespondsBy, host_spelled, login_in_zone, login_spelled, or_value_fault, request_words, source_of, spelled_response}
 
 -- ---- values that are none have the status 2
 
@@ -118,33 +118,42 @@ host-spelled w s r bytes (Ok q) spelled e h = record {
 
 -- ---- answers that are faults
 
-no-fault : (f : AuditFiles) (s : SourceState) (t : Option SourceState) (r : Response) → IsAuditFault f s t r → r.status ≡ 0 → ⊥
-no-fault f s t r (inl (one, e)) h = let two = status-of r _ e in absurd (omega (arith, two, h))
-no-fault f s t r (inr (name, told, one, e)) h = let two = status-of r _ e in absurd (omega (arith, two, h))
+vouch-fault : (vouch : Option (List ℕ)) (s : SourceState) (t : Option SourceState) (r : Response) → IsVouchReadFault vouch s t r → r.status ≡ 0 → ⊥
+vouch-fault None s t r fault h = fault
+vouch-fault (Some name) s t r fault h = let two = status-of r _ fault.1 in absurd (omega (arith, two, h))
+
+no-fault : (by : Deciding) (f : AuditFiles) (s : SourceState) (t : Option SourceState) (r : Response) → IsAuditFault by f s t r → r.status ≡ 0 → ⊥
+no-fault by f s t r (inl fault) h = vouch-fault f.vouch s t r fault h
+no-fault by f s t r (inr (vouched, told, fault)) h = let two = status-of r _ fault.2 in absurd (omega (arith, two, h))
+
+none-spelled : {Q : Type 0} (by : Q → Deciding) (f : AuditFiles) (s : SourceState) (t : Option SourceState) (q : Result Q Response) (r : Response)
+    → IsSpelledFault by f s t q r → r.status ≡ 0 → ⊥
+none-spelled by f s t (Err e) r fault h = fault
+none-spelled by f s t (Ok q) r fault h = no-fault (by q) f s t r fault h
 
 -- what is answered to the request that the words spell, where it is no fault of the words themselves
 responds-to : (words : List (List ℕ)) (q : Option Request) (s : SourceState) (t : Option SourceState) (r : Response) → request_of (request_words words s) ≡ q
-    → Answers words s t r → r.status ≡ 0 → RespondsBy q (answer_in (source_of words s) q) s t r
+    → Answers words s t r → r.status ≡ 0 → RespondsBy q (source_of words s) t r
 responds-to words q s t r e (inl (inl responds)) h =
-    let P : Option Request → Type 0 = λ x. RespondsBy x (answer_in (source_of words s) x) s t r in
+    let P : Option Request → Type 0 = λ x. RespondsBy x (source_of words s) t r in
     subst P e responds
 responds-to words q s t r e (inl (inr (line, none, usage))) h = let two = status-of r _ usage in absurd (omega (arith, two, h))
 responds-to words q s t r e (inr memory) h = let two = status-of r _ memory in absurd (omega (arith, two, h))
 
-login-by : (w : LoginWords) (s rest : SourceState) (t : Option SourceState) (r : Response) → IsOfBytes w.files rest
-    → RespondsBy (Some (login w)) (answer_in rest (Some (login w))) s t r → r.status ≡ 0 → GrantsLogin w rest r
-login-by w s rest t r bytes (inl (none, (zone, read, e))) h = login-spelled w zone rest r bytes read (login_spelled w zone) refl e h
-login-by w s rest t r bytes (inr fault) h = absurd (no-fault w.files s t r fault h)
+login-by : (w : LoginWords) (s : SourceState) (t : Option SourceState) (r : Response) → IsOfBytes w.files s
+    → RespondsBy (Some (login w)) s t r → r.status ≡ 0 → GrantsLogin w s r
+login-by w s t r bytes (inl (none, (zone, read, e))) h = login-spelled w zone s r bytes read (login_spelled w zone) refl e h
+login-by w s t r bytes (inr (zone, read, fault)) h = absurd (none-spelled login_by w.files s t (login_spelled w zone) r fault h)
 
-host-by : (w : HostWords) (s rest : SourceState) (t : Option SourceState) (r : Response) → IsOfBytes w.files rest
-    → RespondsBy (Some (host w)) (answer_in rest (Some (host w))) s t r → r.status ≡ 0 → GrantsHost w rest r
-host-by w s rest t r bytes (inl (none, e)) h = host-spelled w rest r bytes (host_spelled w) refl e h
-host-by w s rest t r bytes (inr fault) h = absurd (no-fault w.files s t r fault h)
+host-by : (w : HostWords) (s : SourceState) (t : Option SourceState) (r : Response) → IsOfBytes w.files s
+    → RespondsBy (Some (host w)) s t r → r.status ≡ 0 → GrantsHost w s r
+host-by w s t r bytes (inl (none, e)) h = host-spelled w s r bytes (host_spelled w) refl e h
+host-by w s t r bytes (inr fault) h = absurd (none-spelled host_by w.files s t (host_spelled w) r fault h)
 
 pub login_run : (words : List (List ℕ)) (w : LoginWords) (s : SourceState) (t : Option SourceState) (r : Response) → request_of (request_words words s) ≡ Some (login w)
     → IsOfBytes w.files (source_of words s) → Answers words s t r → r.status ≡ 0 → GrantsLogin w (source_of words s) r
-login_run words w s t r e bytes answers h = login-by w s (source_of words s) t r bytes (responds-to words (Some (login w)) s t r e answers h) h
+login_run words w s t r e bytes answers h = login-by w (source_of words s) t r bytes (responds-to words (Some (login w)) s t r e answers h) h
 
 pub host_run : (words : List (List ℕ)) (w : HostWords) (s : SourceState) (t : Option SourceState) (r : Response) → request_of (request_words words s) ≡ Some (host w)
     → IsOfBytes w.files (source_of words s) → Answers words s t r → r.status ≡ 0 → GrantsHost w (source_of words s) r
-host_run words w s t r e bytes answers h = host-by w s (source_of words s) t r bytes (responds-to words (Some (host w)) s t r e answers h) h
+host_run words w s t r e bytes answers h = host-by w (source_of words s) t r bytes (responds-to words (Some (host w)) s t r e answers h) h

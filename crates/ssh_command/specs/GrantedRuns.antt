@@ -1,7 +1,7 @@
 -- What a run that ends with status 0 stands on, where it was asked for a login or of a host's key (this project's rule).
 use Rattle.std.specs.Prelude.{◌≡◌, Option, Ok}
 use Rattle.jiff.specs.Types.{TimeZone}
-use Rattle.ssh_trust.specs.Query.{HostCheck, Login}
+use Rattle.ssh_offers.specs.Query.{HostCheck, Login}
 use Rattle.ssh_print.specs.Responses.{Response}
 use Rattle.ssh_inputs.specs.SourceState.{SourceState}
 use Rattle.ssh_inputs.specs.Values.{ReadsZone, zone_text}

@@ -5,3 +5,4 @@ pub mod ValuesRead
 pub mod Responding
 pub mod Printing
 pub mod GrantedRuns
+pub mod Samples

@@ -6,10 +6,10 @@ use Rattle.jiff.specs.Types.{TimeZone}
 use Rattle.ssh_wire.specs.Reading.{◌>>=◌}
 use Rattle.ssh_command.specs.declared.request.WordsFault.{WordsFault}
 use Rattle.ssh_command.specs.declared.request.WordsFault.TheVariants.{Usage, Memory}
-use Rattle.ssh_trust.specs.Query.{HostCheck, Login}
+use Rattle.ssh_offers.specs.Query.{HostCheck, Login}
 use Rattle.ssh_command.specs.CommandLine.{HostWords, LoginWords, Request, RewriteWords, ShowWords, host, login, rewrite, show, sshsig, request_of}
 use Rattle.ssh_answers.specs.Asked.{AuditFiles}
-use Rattle.ssh_answers.specs.Audits.{Deciding, IsAuditFault, audit_response, host_by, login_by}
+use Rattle.ssh_answers.specs.Audits.{Deciding, IsAuditFault, IsFileFault, audit_response, host_by, login_by}
 use Rattle.ssh_answers.specs.Signatures.{IsSignatureFault, signature_response}
 use Rattle.ssh_answers.specs.declared.rewriting.RewriteKind.{RewriteKind}
 use Rattle.ssh_answers.specs.Rewritings.{IsRewriteFault, rewrite_kind, rewrite_over}
@@ -20,7 +20,7 @@ use Rattle.ssh_inputs.specs.Parts.{first_line, after_line}
 use Rattle.ssh_inputs.specs.Values.{hex_bytes, number_below, short_bytes, short_hex, zone_text, ReadsZone}
 use Rattle.ssh_inputs.specs.Words.{words_in}
 use Rattle.ssh_print.specs.Responses.{Response, no_file_response, out_of_memory, usage_response, value_response}
-use Rattle.ssh_inputs.specs.Loading.{OneReadFailed, NoReadFailed, LineReadFailed, within_limit}
+use Rattle.ssh_inputs.specs.Loading.{NoReadFailed, LineReadFailed, within_limit}
 
 -- ---- values
 
@@ -128,28 +128,29 @@ abbrev pub source_of : List (List ℕ) → SourceState → SourceState
 source_of [] s = after_line s
 source_of (w ∷ words) s = s
 
--- the answer to these words over this source
-abbrev pub answer : List (List ℕ) → SourceState → Answer
-answer words s = answer_in (source_of words s) (request_of (request_words words s))
-
 -- ---- failed reads
 
--- one read failed, and the response is that file's fault
+-- a file was read to answer to what was spelled, and the response is its fault; where a value was not spelled no file is read
+abbrev pub IsSpelledFault : {Q : Type 0} → (Q → Deciding) → AuditFiles → SourceState → Option SourceState → Result Q Response → Response → Type 0
+IsSpelledFault by f s t (Err e) r = ⊥
+IsSpelledFault by f s t (Ok q) r = IsAuditFault (by q) f s t r
+
+-- a read failed after all that comes before it was in order, and the response is that file's fault
 abbrev pub IsReadFault : Option Request → SourceState → Option SourceState → Response → Type 0
 IsReadFault None s t r = ⊥
-IsReadFault (Some (login w)) s t r = IsAuditFault w.files s t r
-IsReadFault (Some (host w)) s t r = IsAuditFault w.files s t r
-IsReadFault (Some (show w)) s t r = OneReadFailed s t w.file × (r ≡ no_file_response w.file)
+IsReadFault (Some (login w)) s t r = (zone : Option TimeZone) × ReadsZone (zone_text w.zone) zone × IsSpelledFault login_by w.files s t (login_spelled w zone) r
+IsReadFault (Some (host w)) s t r = IsSpelledFault host_by w.files s t (host_spelled w) r
+IsReadFault (Some (show w)) s t r = (kind : ShowKind) × (show_kind w.kind ≡ Some kind) × IsFileFault w.file s t r
 IsReadFault (Some (sshsig w)) s t r = IsSignatureFault w s t r
-IsReadFault (Some (rewrite w)) s t r = IsRewriteFault w.file s t r
+IsReadFault (Some (rewrite w)) s t r = (kind : RewriteKind) × (rewrite_kind w.kind ≡ Some kind) × IsRewriteFault w.file s t r
 
--- the response is the wanted one, and no read failed; or one failed, and it is the fault of the file that was read
-abbrev pub RespondsBy : Option Request → Answer → SourceState → Option SourceState → Response → Type 0
-RespondsBy q wanted s t r = (NoReadFailed s t × IsAnswer wanted r) ⊎ IsReadFault q s t r
+-- the response is the answer to the request, and no read failed; or one failed, and it is the fault of the file that was read
+abbrev pub RespondsBy : Option Request → SourceState → Option SourceState → Response → Type 0
+RespondsBy q s t r = (NoReadFailed s t × IsAnswer (answer_in s q) r) ⊎ IsReadFault q s t r
 
 -- the same of words, where the first line of standard input may be what was not read
 abbrev pub Responds : List (List ℕ) → SourceState → Option SourceState → Response → Type 0
-Responds words s t r = RespondsBy (request_of (request_words words s)) (answer words s) s t r ⊎ (LineReadFailed s t × (words ≡ []) × (r ≡ usage_response))
+Responds words s t r = RespondsBy (request_of (request_words words s)) (source_of words s) t r ⊎ (LineReadFailed s t × (words ≡ []) × (r ≡ usage_response))
 
 -- the response is the answer where no read failed, and a read's fault where one did, unless memory was refused
 abbrev pub Answers : List (List ℕ) → SourceState → Option SourceState → Response → Type 0

@@ -5,7 +5,7 @@ use Rattle.ssh_command.specs.declared.values.LoginValues.{LoginValues}
 use Rattle.ssh_command.specs.declared.values.ValueFault.{ValueFault}
 use Rattle.ssh_command.specs.declared.values.ValueFault.TheVariants.{Value, Memory}
 use Rattle.ssh_command.specs.CommandLine.{HostWords, LoginWords}
-use Rattle.ssh_trust.specs.Query.{HostCheck, Login}
+use Rattle.ssh_offers.specs.Query.{HostCheck, Login}
 use Rattle.jiff.specs.Types.{TimeZone}
 use Rattle.jiff.specs.Words.{plain_zone}
 use Rattle.ssh_inputs.specs.Values.{ReadsZone, zone_text}

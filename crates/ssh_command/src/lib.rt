@@ -7,6 +7,7 @@ mod parse;
 mod program;
 mod request;
 mod respond;
+mod samples;
 mod values;
 
 pub use program::{refuse, run};

@@ -1,19 +1,9 @@
 //! From words and files to what is printed.
 
-ghost use Rattle.std.specs.Prelude.{◌<◌, ◌^◌, [], length, map, IfOk, Ok, Some};
+ghost use Rattle.std.specs.Prelude.{◌<◌, ◌^◌, [], length, map, IfOk, Some};
 ghost use Rattle.ssh_command.specs.CommandLine.{host, login, rewrite, show, request_of};
-ghost use Rattle.ssh_answers.specs.Audits.{host_by, login_by};
-ghost use Rattle.ssh_command.specs.Requests.{
-  Responds,
-  RespondsBy,
-  answer_in,
-  exactly,
-  host_response,
-  login_in_zone,
-  rewrite_response,
-  show_answer,
-  spelled_response,
-};
+ghost use Rattle.ssh_answers.specs.Audits.{Audits, host_by, login_by};
+ghost use Rattle.ssh_command.specs.Requests.{Responds, RespondsBy};
 ghost use Rattle.ssh_command.specs.ValuesRead.{host_with, login_with};
 ghost use Rattle.ssh_command.specs.Responding.{IsUsageOf};
 ghost use Rattle.ssh_command.specs.Parsing.{
@@ -33,9 +23,9 @@ use ssh_answers::{
     LoginQuestion, respond_question, respond_rewrite, respond_sshsig, rewrite_kind, unread,
 };
 use ssh_inputs::{Files, ReadFault, read_first_line, read_whole, read_words};
+use ssh_offers::{HostQuery, LoginQuery};
 use ssh_print::{Response, usage_fault, value_fault};
 use ssh_show::{show, show_kind};
-use ssh_trust::{HostQuery, LoginQuery};
 use std::alloc::{AllocError, Global};
 use std::convert::AsStr;
 
@@ -49,7 +39,8 @@ fn respond_login_values<F: Files>(
     requires session { length values.now.session.items < 2 ^ 32 }
     requires user { length words.now.user.now < 2 ^ 32 }
     ensures { IfTells (F.source_state files.old) (λ s. IfOk result (λ r.
-        RespondsBy (Some (login (texts_of words.entry.now))) (exactly (spelled_response login_by (texts_of words.entry.now).files s (Ok (login_with (texts_of words.entry.now) values.entry.now)))) s (F.source_state files.new) (response r))) }
+        Audits (login_by (login_with (texts_of words.entry.now) values.entry.now))
+        (texts_of words.entry.now).files s (F.source_state files.new) (response r))) }
 {
     let query = LoginQuery {
         offered: values.offered.as_slice(),
@@ -72,7 +63,8 @@ fn respond_login<F: Files>(
     files: &mut F,
 ) -> Result<Response, AllocError>
     ensures { IfTells (F.source_state files.old) (λ s. IfOk result (λ r.
-        RespondsBy (Some (login (texts_of words.entry.now))) (login_in_zone (texts_of words.entry.now) s) s (F.source_state files.new) (response r))) }
+        RespondsBy (Some (login (texts_of words.entry.now))) s (F.source_state files.new)
+        (response r))) }
 {
     match read_login_values(alloc, words) {
         Ok(values) => {
@@ -92,7 +84,8 @@ fn respond_host_values<F: Files>(
     files: &mut F,
 ) -> Result<Response, AllocError>
     ensures { IfTells (F.source_state files.old) (λ s. IfOk result (λ r.
-        RespondsBy (Some (host (host_texts_of words.entry.now))) (exactly (spelled_response host_by (host_texts_of words.entry.now).files s (Ok (host_with (host_texts_of words.entry.now) values.entry.now)))) s (F.source_state files.new) (response r))) }
+        Audits (host_by (host_with (host_texts_of words.entry.now) values.entry.now))
+        (host_texts_of words.entry.now).files s (F.source_state files.new) (response r))) }
 {
     let query = HostQuery {
         offered: values.offered.as_slice(),
@@ -112,7 +105,8 @@ fn respond_host<F: Files>(
     files: &mut F,
 ) -> Result<Response, AllocError>
     ensures { IfTells (F.source_state files.old) (λ s. IfOk result (λ r.
-        RespondsBy (Some (host (host_texts_of words.entry.now))) (exactly (host_response (host_texts_of words.entry.now) s)) s (F.source_state files.new) (response r))) }
+        RespondsBy (Some (host (host_texts_of words.entry.now))) s (F.source_state files.new)
+        (response r))) }
 {
     match read_host_values(alloc, words) {
         Ok(values) => {
@@ -131,7 +125,8 @@ fn respond_show<F: Files>(
     files: &mut F,
 ) -> Result<Response, AllocError>
     ensures { IfTells (F.source_state files.old) (λ s. IfOk result (λ r.
-        RespondsBy (Some (show (show_texts_of words.entry.now))) (show_answer (show_texts_of words.entry.now) s) s (F.source_state files.new) (response r))) }
+        RespondsBy (Some (show (show_texts_of words.entry.now))) s (F.source_state files.new)
+        (response r))) }
 {
     let Some(kind) = show_kind(words.kind) else {
         return value_fault(alloc, "kind");
@@ -149,8 +144,7 @@ fn respond_rewriting<F: Files>(
     files: &mut F,
 ) -> Result<Response, AllocError>
     ensures { IfTells (F.source_state files.old) (λ s. IfOk result (λ r.
-        RespondsBy (Some (rewrite (rewrite_texts_of words.entry.now)))
-        (exactly (rewrite_response (rewrite_texts_of words.entry.now) s)) s
+        RespondsBy (Some (rewrite (rewrite_texts_of words.entry.now))) s
         (F.source_state files.new) (response r))) }
 {
     match rewrite_kind(words.kind) {
@@ -166,9 +160,8 @@ fn respond_request<F: Files>(
     files: &mut F,
 ) -> Result<Response, AllocError>
     ensures { IfTells (F.source_state files.old) (λ s. IfOk result (λ r.
-        RespondsBy (Some (request_in_memory request.entry.now))
-        (answer_in s (Some (request_in_memory request.entry.now))) s
-        (F.source_state files.new) (response r))) }
+        RespondsBy (Some (request_in_memory request.entry.now)) s (F.source_state files.new)
+        (response r))) }
 {
     match request {
         Request::Login(words) => respond_login(alloc, words, files),
@@ -186,7 +179,8 @@ fn respond_words<S: AsStr, F: Files>(
     files: &mut F,
 ) -> Result<Response, AllocError>
     ensures { IfTells (F.source_state files.old) (λ s. IfOk result (λ r.
-        RespondsBy (request_of (map S.text words.now)) (answer_in s (request_of (map S.text words.now))) s (F.source_state files.new) (response r))) }
+        RespondsBy (request_of (map S.text words.now)) s (F.source_state files.new)
+        (response r))) }
 {
     match parse(alloc, words) {
         Ok(request) => respond_request(alloc, &request, files),

@@ -7,4 +7,4 @@ returns g c =
     file_decided (g.Q.Question.decides c.args.question.now) c.args.vouched.now c.args.name.now
     (g.F.Files.source_state c.args.files.now) (g.F.Files.source_state c.choose.new.self) (g.F.Files.source_state c.decide_chosen.new.file.files.now) _
     c.choose.result c.decide_chosen.result c.if-not-choose.false c.choose.ensures.there c.choose.ensures.chosen (search rules)
-    (search rules) (search rules) (search rules)
+    (search rules) (search rules) (search rules) (search rules)

@@ -1,8 +1,14 @@
 use Rattle.std.proofs.Common.{rules}
 use Rattle.ssh_answers.specs.AskedView.{names_of}
 use Rattle.ssh_print.specs.ResponseView.{response}
-use Rattle.ssh_answers.proofs.AuditLemmas.{vouch_responds, vouch_unread}
+use Rattle.ssh_answers.proofs.AuditLemmas.{none_responds, vouch_responds, vouch_unread}
 use Rattle.ssh_answers.proofs.audit.respond_question.Goals as goal
+
+pub returns-in-None : goal.returns-in-None
+returns-in-None g c =
+    none_responds response (names_of c.args.names.now) (g.Q.Question.decides c.args.question.now)
+    (g.F.Files.source_state c.args.files.now) (g.F.Files.source_state c.respond_vouched.new.files) c.respond_vouched.result
+    (search rules) c.respond_vouched.ensures
 
 pub returns-in-Ok : goal.returns-in-Ok
 returns-in-Ok g c =

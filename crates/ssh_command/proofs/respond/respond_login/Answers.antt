@@ -8,6 +8,6 @@ use Rattle.ssh_command.proofs.respond.respond_login.Goals as goal
 pub returns-in_ok-response-in-Ok : goal.returns-in_ok-response-in-Ok
 returns-in_ok-response-in-Ok g c =
     let words = texts_of c.args.words.now in
-    login_responds {E = ℕ} response words (Ok (login_with words c.in-Ok.values)) c.in-Ok.ensures.spelled.0
+    login_responds {E = ℕ} response words (login_with words c.in-Ok.values) c.in-Ok.ensures.spelled.0
     (g.F.Files.source_state c.args.files.now) (g.F.Files.source_state c.respond_login_values.new.files) (Ok c.in_ok-response-in-Ok.response)
     c.in-Ok.ensures.spelled.1 c.in-Ok.ensures.spelled.2 c.in_ok-response-in-Ok.ensures
