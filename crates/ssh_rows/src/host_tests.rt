@@ -1,9 +1,13 @@
 //! `host` on worked rows. What a row does not say is what [`PLAIN`] says. The hashed line was made
 //! by `ssh-keygen -H`.
 
-use crate::tests::host_certificates::{ANY_HOST, BAD_SIGNER, FORCED, OTHER_HOST, X1};
-use crate::tests::keys::{K0, K1, RSA, RSA_SHA2_SIGNATURE, RSA_SIGNATURE, S0};
-use crate::tests::user_certificates::X0;
+use crate::tests::host_certificates::{
+    ANY_HOST, BAD_SIGNER, FORCED, OTHER_HOST, SHA1_SIGNER, SHA256_SIGNER, X1,
+};
+use crate::tests::keys::{
+    K0, K1, RSA, RSA_SHA2_SIGNATURE, RSA_SHA512_SIGNATURE, RSA_SIGNATURE, S0,
+};
+use crate::tests::user_certificates::{BAD_SIGNER_OF_RSA, X0};
 use crate::tests::{asked, compare, compare_head, filled, joined};
 use std::alloc::Global;
 use std::process::Abort;
@@ -16,6 +20,10 @@ pub(crate) const K0_TRIPLE: &str =
 const X1_SIGNER: &str =
     "0000000b7373682d65643235353139000000200000000000000000000000000000000000000000000000000000000000000001 000000207373682d656432353531392d636572742d763031406f70656e7373682e636f6d0000000107000000200000000000000000000000000000000000000000000000000000000000000000000000000000000500000002000000026964000000050000000168000000000000006400000000000000c8000000000000000000000000000000330000000b7373682d65643235353139000000200000000000000000000000000000000000000000000000000000000000000001 0000000b7373682d6564323535313900000001aa";
 
+/// The same of the RSA key, by SHA-256 and by SHA-512.
+const RSA_TRIPLES: &str =
+    "000000077373682d72736100000003010001000000020080 01020304 0000000c7273612d736861322d32353600000001aa\n000000077373682d72736100000003010001000000020080 01020304 0000000c7273612d736861322d35313200000001aa\n";
+
 /// K0 without its last letter.
 const SHORT_K0: &str = "AAAAC3NzaC1lZDI1NTE5AAAAIAAAAAAAAAAAAAAAAAAAAAAAAAAAAAAAAAAAAAAAAAA";
 
@@ -24,15 +32,15 @@ const HASHED: &str = "|1|VlQCaiW1+U7/co5nYlEPYWJvj74=|sGtCcOsAz7rsnFiMHHGUTaU2BA
 
 /// A host's key that is asked of a file.
 #[derive(Clone, Copy)]
-struct Asked<'a> {
-    offer: &'a str,
-    signature: &'a str,
-    host: &'a str,
-    port: &'a str,
-    now: &'a str,
+pub(crate) struct Asked<'a> {
+    pub(crate) offer: &'a str,
+    pub(crate) signature: &'a str,
+    pub(crate) host: &'a str,
+    pub(crate) port: &'a str,
+    pub(crate) now: &'a str,
 }
 
-const PLAIN: Asked<'static> = Asked {
+pub(crate) const PLAIN: Asked<'static> = Asked {
     offer: K0,
     signature: S0,
     host: "h",
@@ -65,16 +73,17 @@ fn words_of<'a>(asked: &Asked<'a>) -> [&'a str; 17] {
     ]
 }
 
-/// Compares the lines before the evidence, where K0's signature and the signer's of X1 are vouched
-/// for.
-fn compare_vouched(
+/// Compares the lines before the evidence, where K0's signature, the signer's of X1 and the RSA key's
+/// are vouched for.
+pub(crate) fn compare_vouched(
     rt: &impl Abort,
     alloc: Global,
     asked: &Asked<'_>,
     file: &[u8],
     wanted: &str,
 ) -> Result<(), Fail> {
-    let vouched = joined(alloc, [K0_TRIPLE, "\n", X1_SIGNER, "\n"].as_slice())?;
+    let vouched = [K0_TRIPLE, "\n", X1_SIGNER, "\n", RSA_TRIPLES];
+    let vouched = joined(alloc, vouched.as_slice())?;
     compare_head(
         rt,
         alloc,
@@ -133,6 +142,16 @@ const KEY_ROWS: &[Row] = &[
         &["@cert-authority h ssh-ed25519 ", K0, "\n"],
         PLAIN,
         "denied N3\nreason 1 G3\n",
+    ),
+    (
+        &["h ssh-rsa ", RSA, "\n"],
+        asked!(PLAIN, offer: RSA, signature: RSA_SHA2_SIGNATURE),
+        "granted line 1\n",
+    ),
+    (
+        &["h ssh-rsa ", RSA, "\n"],
+        asked!(PLAIN, offer: RSA, signature: RSA_SHA512_SIGNATURE),
+        "granted line 1\n",
     ),
     (
         &["@other h ssh-ed25519 ", K0, "\n"],
@@ -272,6 +291,31 @@ const CERTIFICATE_ROWS: &[Row] = &[
         "denied N3\nreason 1 G13 force-command\n",
     ),
     (AUTHORITY, asked!(PLAIN, offer: BAD_SIGNER), "fault A5\n"),
+    (
+        &["@cert-authority h ssh-rsa ", RSA, "\n"],
+        asked!(PLAIN, offer: SHA1_SIGNER),
+        "fault A5\n",
+    ),
+    (
+        &["@cert-authority h ssh-rsa ", RSA, "\n"],
+        asked!(PLAIN, offer: SHA256_SIGNER),
+        "denied N6 1\n",
+    ),
+    (
+        AUTHORITY,
+        asked!(PLAIN, offer: BAD_SIGNER, signature: RSA_SHA2_SIGNATURE),
+        "fault A3\n",
+    ),
+    (
+        AUTHORITY,
+        asked!(PLAIN, offer: BAD_SIGNER_OF_RSA, signature: RSA_SIGNATURE),
+        "fault A4\n",
+    ),
+    (
+        AUTHORITY,
+        asked!(PLAIN, offer: BAD_SIGNER_OF_RSA, signature: RSA_SHA2_SIGNATURE),
+        "fault A5\n",
+    ),
 ];
 
 #[test]
@@ -433,6 +477,11 @@ const FAULTS: &[([&str; 7], &str, &str)] = &[
         "fault A1 K1 V1 0\n",
     ),
     (["f", K0, "00", "-", "22", "7", "-"], "", "fault A2 V1 0\n"),
+    (
+        ["f", "AAAA", "00", "-", "22", "7", "-"],
+        "",
+        "fault A1 K1 V1 0\n",
+    ),
     (
         ["f", K0, RSA_SHA2_SIGNATURE, "-", "22", "7", "-"],
         "",

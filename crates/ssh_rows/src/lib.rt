@@ -1,21 +1,21 @@
-//! Worked rows of the program: what it prints for words, files and a standard input, with its
-//! status, and what stands after failed reads and writes. There is nothing here but tests; they
+//! Worked rows of `login`, `host` and `rewrite`: what the program prints for words, files and a
+//! standard input, with its status, and what stands after failed reads and writes. There is nothing here but tests; they
 //! stand apart from what they run, so that they are proved beside it.
 #![tactic(auto)]
 
 #[cfg(test)]
-mod body_tests;
+mod cause_tests;
 #[cfg(test)]
 mod host_tests;
 #[cfg(test)]
+mod key_tests;
+#[cfg(test)]
 mod login_tests;
+#[cfg(test)]
+mod long_tests;
 #[cfg(test)]
 mod piece_tests;
 #[cfg(test)]
 mod rewrite_tests;
-#[cfg(test)]
-mod show_tests;
-#[cfg(test)]
-mod signature_tests;
 #[cfg(test)]
 mod tests;

@@ -1,11 +1,15 @@
 //! `login` on worked rows. What a row does not say is what [`PLAIN`] or [`CERTIFIED`] says.
 
-use crate::tests::keys::{K0, K1, RSA, RSA_SHA2_SIGNATURE, RSA_SIGNATURE, S0, SK, SK_NAME};
-use crate::tests::user_certificates::{
-    BAD_SIGNER, ELSEWHERE, ENDLESS, EXTENDED, FORCED, HOST, NEGATED, NO_COMMAND, NO_PRINCIPALS,
-    PERMITTED, TWICE, UNKNOWN, VERIFIED, X0,
+use crate::tests::keys::{
+    K0, K1, RSA, RSA_SHA2_SIGNATURE, RSA_SHA512_SIGNATURE, RSA_SIGNATURE, S0,
 };
-use crate::tests::{asked, compare, compare_head, filled, joined, printed};
+use crate::tests::user_certificates::{
+    ADDRESS_AND_MORE, BAD_SIGNER, BAD_SIGNER_OF_RSA, COMMAND_AND_MORE, ELSEWHERE, ENDLESS,
+    EXTENDED, FORCED, HOST, NEGATED, NO_COMMAND, NO_PRINCIPALS, PERMITTED, RSA_CERTIFICATE, TWICE,
+    UNKNOWN, VERIFIED, VERIFIED_WITH_DATA, X0,
+};
+use crate::tests::{asked, compare, compare_head, filled, joined};
+use ssh_row_files::printed;
 use std::alloc::Global;
 use std::process::Abort;
 use std::test::Fail;
@@ -17,10 +21,6 @@ pub(crate) const K0_TRIPLE: &str =
 const K1_TRIPLE: &str =
     "0000000b7373682d65643235353139000000200000000000000000000000000000000000000000000000000000000000000001 00000004010203043200000003616e6e0000000e7373682d636f6e6e656374696f6e000000097075626c69636b6579010000000b7373682d65643235353139000000330000000b7373682d65643235353139000000200000000000000000000000000000000000000000000000000000000000000001 0000000b7373682d6564323535313900000001aa";
 
-/// The same where SK is: the key, and what was signed.
-const SK_SIGNED: &str =
-    "0000001a736b2d7373682d65643235353139406f70656e7373682e636f6d000000200000000000000000000000000000000000000000000000000000000000000000000000047373683a 00000004010203043200000003616e6e0000000e7373682d636f6e6e656374696f6e000000097075626c69636b6579010000001a736b2d7373682d65643235353139406f70656e7373682e636f6d0000004a0000001a736b2d7373682d65643235353139406f70656e7373682e636f6d000000200000000000000000000000000000000000000000000000000000000000000000000000047373683a";
-
 /// The same where X0 is: the login's signature, and the signer's.
 const X0_LOGIN: &str =
     "0000000b7373682d65643235353139000000200000000000000000000000000000000000000000000000000000000000000000 00000004010203043200000003616e6e0000000e7373682d636f6e6e656374696f6e000000097075626c69636b657901000000207373682d656432353531392d636572742d763031406f70656e7373682e636f6d000000d5000000207373682d656432353531392d636572742d763031406f70656e7373682e636f6d00000001070000002000000000000000000000000000000000000000000000000000000000000000000000000000000005000000010000000269640000000700000003616e6e000000000000006400000000000000c8000000000000000000000000000000330000000b7373682d65643235353139000000200000000000000000000000000000000000000000000000000000000000000001000000140000000b7373682d6564323535313900000001aa 0000000b7373682d6564323535313900000001aa";
@@ -30,26 +30,28 @@ const X0_SIGNER: &str =
 
 /// A login that is asked of a file.
 #[derive(Clone, Copy)]
-struct Asked<'a> {
-    offer: &'a str,
-    algorithm: &'a str,
-    signature: &'a str,
-    address: &'a str,
-    now: &'a str,
+pub(crate) struct Asked<'a> {
+    pub(crate) offer: &'a str,
+    pub(crate) algorithm: &'a str,
+    pub(crate) signature: &'a str,
+    pub(crate) user: &'a str,
+    pub(crate) address: &'a str,
+    pub(crate) now: &'a str,
     /// The options that may be left out.
-    more: &'a [&'a str],
+    pub(crate) more: &'a [&'a str],
 }
 
-const PLAIN: Asked<'static> = Asked {
+pub(crate) const PLAIN: Asked<'static> = Asked {
     offer: K0,
     algorithm: "ssh-ed25519",
     signature: S0,
+    user: "ann",
     address: "192.0.2.1",
     now: "150",
     more: &[],
 };
 
-const CERTIFIED: Asked<'static> = Asked {
+pub(crate) const CERTIFIED: Asked<'static> = Asked {
     offer: X0,
     algorithm: "ssh-ed25519-cert-v01@openssh.com",
     ..PLAIN
@@ -70,7 +72,7 @@ fn first_words<'a>(asked: &Asked<'a>) -> [&'a str; 19] {
         "--session",
         "01020304",
         "--user",
-        "ann",
+        asked.user,
         "--address",
         asked.address,
         "--now",
@@ -81,7 +83,7 @@ fn first_words<'a>(asked: &Asked<'a>) -> [&'a str; 19] {
 }
 
 /// The words that ask for it.
-fn words_of<'a>(alloc: Global, asked: &Asked<'a>) -> Result<Vec<&'a str>, Fail> {
+pub(crate) fn words_of<'a>(alloc: Global, asked: &Asked<'a>) -> Result<Vec<&'a str>, Fail> {
     let mut words = Vec::new(alloc);
     words.extend_from_slice(first_words(asked).as_slice())?;
     words.extend_from_slice(asked.more)?;
@@ -103,7 +105,7 @@ fn listed(alloc: Global, answer: &str) -> Result<String, Fail> {
 }
 
 /// Compares the lines before the evidence, where all that is listed is vouched for.
-fn compare_vouched(
+pub(crate) fn compare_vouched(
     rt: &impl Abort,
     alloc: Global,
     asked: &Asked<'_>,
@@ -114,6 +116,17 @@ fn compare_vouched(
     let (_, first) = printed(alloc, &words, file.as_bytes(), b"")?;
     let vouched = listed(alloc, str::from_utf8(&first).unwrap_or(""))?;
     compare_head(rt, alloc, &words, file.as_bytes(), &vouched, wanted)
+}
+
+/// A file, a login, and the lines before the evidence.
+pub(crate) type FileRow = (&'static [&'static str], Asked<'static>, &'static str);
+
+/// The same of whole files.
+pub(crate) fn compare_files(rt: &impl Abort, alloc: Global, rows: &[FileRow]) -> Result<(), Fail> {
+    for (file, asked, wanted) in rows {
+        compare_vouched(rt, alloc, asked, &joined(alloc, file)?, wanted)?;
+    }
+    Ok(())
 }
 
 /// The same of files of one line, which holds these options and this key.
@@ -130,9 +143,9 @@ fn compare_lines(
     Ok(())
 }
 
-const ALL_RIGHTS: &str = "granted line 1\nrights port agent x11 pty rc\n";
+pub(crate) const ALL_RIGHTS: &str = "granted line 1\nrights port agent x11 pty rc\n";
 
-const NO_RIGHTS: &str = "granted line 1\nrights none\n";
+pub(crate) const NO_RIGHTS: &str = "granted line 1\nrights none\n";
 
 /// Lines of two keys.
 const ONE: &[&str] = &["ssh-ed25519 ", K0, " me\n"];
@@ -198,7 +211,7 @@ const KEY_ROWS: &[(&str, &[&str], &str, &str, &str)] = &[
 ];
 
 /// The lines of an answer with one piece of evidence.
-fn with_evidence(alloc: Global, head: &str, triple: &str) -> Result<String, Fail> {
+pub(crate) fn with_evidence(alloc: Global, head: &str, triple: &str) -> Result<String, Fail> {
     joined(alloc, [head, "evidence 0 ", triple, "\n"].as_slice())
 }
 
@@ -258,39 +271,6 @@ fn holds_the_limit_of_a_trust_file(rt: HostRuntime) -> Result<(), Fail> {
     Ok(())
 }
 
-/// A signature by SK with these flags.
-macro_rules! touched {
-    ($flags:literal) => {
-        concat!(
-            "0000001a736b2d7373682d65643235353139406f70656e7373682e636f6d00000001aa",
-            $flags,
-            "00000007"
-        )
-    };
-}
-
-/// Compares what a login by SK with this signature is answered.
-fn compare_touch(rt: &impl Abort, alloc: Global, signature: &str, head: &str) -> Result<(), Fail> {
-    let asked = Asked {
-        offer: SK,
-        algorithm: SK_NAME,
-        signature,
-        ..PLAIN
-    };
-    let words = words_of(alloc, &asked)?;
-    let file = joined(alloc, [SK_NAME, " ", SK, "\n"].as_slice())?;
-    let triple = joined(alloc, [SK_SIGNED, " ", signature].as_slice())?;
-    let wanted = with_evidence(alloc, head, &triple)?;
-    compare(rt, alloc, &words, file.as_bytes(), &triple, &wanted)
-}
-
-#[test]
-fn asks_for_a_touch(rt: HostRuntime) -> Result<(), Fail> {
-    compare_touch(&rt, rt.alloc(), touched!("00"), "denied N4\n")?;
-    compare_touch(&rt, rt.alloc(), touched!("04"), "denied N4\n")?;
-    compare_touch(&rt, rt.alloc(), touched!("01"), ALL_RIGHTS)
-}
-
 /// The offer, the algorithm and the signature, and why they are refused.
 const REFUSED: &[(&str, &str, &str, &str)] = &[
     ("", "ssh-ed25519", S0, "fault A1 K1 V1 0\n"),
@@ -306,7 +286,81 @@ const REFUSED: &[(&str, &str, &str, &str)] = &[
         S0,
         "fault A1 C1 V1 36\n",
     ),
+    ("AAAABGZyb2I=", "frob", S0, "fault A1 K2\n"),
+    ("AAAAB3NzaC1kc3M=", "ssh-dss", S0, "fault A1 K3\n"),
+    (
+        "AAAAE2VjZHNhLXNoYTItbmlzdHAyNTYAAAAIbmlzdHAzODQ=",
+        "ssh-ed25519",
+        S0,
+        "fault A1 K5\n",
+    ),
+    (
+        "AAAAE2VjZHNhLXNoYTItbmlzdHAyNTYAAAAIbmlzdHAyNTYAAABBAgAAAAAAAAAAAAAAAAAAAAAAAAAAAAAAAAAAAAAAAAAAAAAAAAAAAAAAAAAAAAAAAAAAAAAAAAAAAAAAAAAAAAA=",
+        "ssh-ed25519",
+        S0,
+        "fault A1 K6\n",
+    ),
+    (
+        "AAAAC3NzaC1lZDI1NTE5AAAAHwAAAAAAAAAAAAAAAAAAAAAAAAAAAAAAAAAAAAAAAAA=",
+        "ssh-ed25519",
+        S0,
+        "fault A1 K7\n",
+    ),
+    (
+        "AAAAB3NzaC1yc2EAAAAAAAAAAgCA",
+        "rsa-sha2-256",
+        S0,
+        "fault A1 K1 V5 11\n",
+    ),
+    (
+        "AAAAB3NzaC1yc2EAAAADAQABAAAAAgAB",
+        "rsa-sha2-256",
+        S0,
+        "fault A1 K1 V2 18\n",
+    ),
+    (
+        "AAAAB3NzaC1yc2EAAAADAQABAAAAAYA=",
+        "rsa-sha2-256",
+        S0,
+        "fault A1 K1 V3 18\n",
+    ),
+    (
+        "AAAAKGVjZHNhLXNoYTItbmlzdHAyNTYtY2VydC12MDFAb3BlbnNzaC5jb20AAAAAAAAACG5pc3RwMzg0",
+        "ssh-ed25519",
+        S0,
+        "fault A1 C2 K5\n",
+    ),
+    (
+        "AAAAKGVjZHNhLXNoYTItbmlzdHAyNTYtY2VydC12MDFAb3BlbnNzaC5jb20AAAAAAAAACG5pc3RwMjU2AAAAAQQ=",
+        "ssh-ed25519",
+        S0,
+        "fault A1 C2 K6\n",
+    ),
+    (
+        "AAAAIHNzaC1lZDI1NTE5LWNlcnQtdjAxQG9wZW5zc2guY29tAAAAAAAAAB8AAAAAAAAAAAAAAAAAAAAAAAAAAAAAAAAAAAAAAAAA",
+        "ssh-ed25519",
+        S0,
+        "fault A1 C2 K7\n",
+    ),
+    (
+        "AAAAIHNzaC1lZDI1NTE5LWNlcnQtdjAxQG9wZW5zc2guY29tAAAAAQcAAAAgAAAAAAAAAAAAAAAAAAAAAAAAAAAAAAAAAAAAAAAAAAAAAAAAAAAABQAAAAEAAAACaWQAAAAHAAAAA2FubgAAAAAAAABkAAAAAAAAAMgAAAAAAAAAAAAAAAAAAAAzAAAAC3NzaC1lZDI1NTE5AAAAIAAAAAAAAAAAAAAAAAAAAAAAAAAAAAAAAAAAAAAAAAABAAAAFAAAAAtzc2gtZWQyNTUxOQAAAAGqAA==",
+        "ssh-ed25519-cert-v01@openssh.com",
+        S0,
+        "fault A1 C1 V4 213\n",
+    ),
     (K0, "ssh-ed25519", "00", "fault A2 V1 0\n"),
+    (
+        K0,
+        "ssh-ed25519",
+        "0000000b7373682d6564323535313900000001aa00",
+        "fault A2 V4 20\n",
+    ),
+    (
+        K0,
+        "ssh-ed25519",
+        "0000001a736b2d7373682d65643235353139406f70656e7373682e636f6d00000001aa01000000",
+        "fault A2 V1 36\n",
+    ),
     (K0, "ssh-rsa", S0, "fault A3\n"),
     (K0, "ssh-ed25519", RSA_SHA2_SIGNATURE, "fault A3\n"),
     (RSA, "ssh-rsa", S0, "fault A4\n"),
@@ -314,19 +368,75 @@ const REFUSED: &[(&str, &str, &str, &str)] = &[
     (RSA, "rsa-sha2-256", RSA_SIGNATURE, "fault A4\n"),
     (RSA, "rsa-sha2-256", S0, "fault A3\n"),
     (RSA, "frob", RSA_SIGNATURE, "fault A3\n"),
+    (RSA, "rsa-sha2-256", RSA_SHA512_SIGNATURE, "fault A3\n"),
+    (RSA, "rsa-sha2-512", RSA_SHA2_SIGNATURE, "fault A3\n"),
+    (
+        RSA_CERTIFICATE,
+        "rsa-sha2-256-cert-v01@openssh.com",
+        RSA_SHA512_SIGNATURE,
+        "fault A3\n",
+    ),
+    (
+        RSA_CERTIFICATE,
+        "rsa-sha2-512-cert-v01@openssh.com",
+        RSA_SHA2_SIGNATURE,
+        "fault A3\n",
+    ),
+    (
+        RSA_CERTIFICATE,
+        "rsa-sha2-256",
+        RSA_SHA2_SIGNATURE,
+        "fault A3\n",
+    ),
+];
+
+/// Two reasons to refuse an offer, of which the first is told; the address is none either.
+const REFUSED_TWICE: &[(&str, &str, &str, &str)] = &[
+    ("AAAA", "ssh-ed25519", "00", "fault A1 K1 V1 0\n"),
+    (K0, "ssh-rsa", "00", "fault A2 V1 0\n"),
+    (RSA, "ssh-rsa", "00", "fault A2 V1 0\n"),
+    (RSA, "ssh-rsa", S0, "fault A4\n"),
+    (BAD_SIGNER, "ssh-ed25519", S0, "fault A3\n"),
+    (
+        BAD_SIGNER,
+        "ssh-ed25519-cert-v01@openssh.com",
+        RSA_SHA2_SIGNATURE,
+        "fault A3\n",
+    ),
+    (
+        BAD_SIGNER_OF_RSA,
+        "ssh-rsa-cert-v01@openssh.com",
+        RSA_SHA2_SIGNATURE,
+        "fault A4\n",
+    ),
+    (
+        BAD_SIGNER_OF_RSA,
+        "rsa-sha2-256-cert-v01@openssh.com",
+        RSA_SIGNATURE,
+        "fault A4\n",
+    ),
+    (
+        BAD_SIGNER_OF_RSA,
+        "rsa-sha2-256-cert-v01@openssh.com",
+        RSA_SHA2_SIGNATURE,
+        "fault A5\n",
+    ),
 ];
 
 #[test]
 fn refuses_offers(rt: HostRuntime) -> Result<(), Fail> {
     let alloc = rt.alloc();
-    for (offer, algorithm, signature, fault) in REFUSED {
-        let asked = Asked {
-            offer,
-            algorithm,
-            signature,
-            ..PLAIN
-        };
-        compare(&rt, alloc, &words_of(alloc, &asked)?, b"", "", fault)?;
+    for (rows, address) in [(REFUSED, "192.0.2.1"), (REFUSED_TWICE, "10.0.0.256")] {
+        for (offer, algorithm, signature, fault) in rows {
+            let asked = Asked {
+                offer,
+                algorithm,
+                signature,
+                address,
+                ..PLAIN
+            };
+            compare(&rt, alloc, &words_of(alloc, &asked)?, b"", "", fault)?;
+        }
     }
     Ok(())
 }
@@ -472,6 +582,16 @@ const OPTION_ROWS: &[(&str, Asked<'static>, &str)] = &[
         "denied N3\nreason 1 G6\n",
     ),
     (
+        "expiry-time=\"20240229\"",
+        asked!(PLAIN, now: "1709164800"),
+        ALL_RIGHTS,
+    ),
+    (
+        "expiry-time=\"20240229\"",
+        asked!(PLAIN, now: "1709164801"),
+        "denied N3\nreason 1 G6\n",
+    ),
+    (
         "expiry-time=\"20230229Z\"",
         PLAIN,
         "denied N3\nreason 1 G1 L6\n",
@@ -606,6 +726,21 @@ const CERTIFICATE_ROWS: &[(&str, Asked<'static>, &str)] = &[
     (
         AUTHORITY,
         asked!(CERTIFIED, offer: NO_COMMAND),
+        "denied N3\nreason 1 G15\n",
+    ),
+    (
+        AUTHORITY,
+        asked!(CERTIFIED, offer: COMMAND_AND_MORE),
+        "denied N3\nreason 1 G15\n",
+    ),
+    (
+        AUTHORITY,
+        asked!(CERTIFIED, offer: ADDRESS_AND_MORE),
+        "denied N3\nreason 1 G15\n",
+    ),
+    (
+        AUTHORITY,
+        asked!(CERTIFIED, offer: VERIFIED_WITH_DATA),
         "denied N3\nreason 1 G15\n",
     ),
     (

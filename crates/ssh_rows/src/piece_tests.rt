@@ -4,9 +4,7 @@ use crate::host_tests::{K0_TRIPLE as HOST_TRIPLE, host_line};
 use crate::login_tests::{K0_TRIPLE, login_line};
 use crate::tests::joined;
 use crate::tests::keys::{K0, S0};
-use crate::tests::sink::Page;
-use crate::tests::source::{OneFile, Sips};
-use ssh_command::run;
+use ssh_row_files::printed_by_bytes;
 use std::alloc::Global;
 use std::process::Abort;
 use std::test::Fail;
@@ -19,23 +17,26 @@ fn compare_sipped(
     input: &str,
     good: u64,
     wanted: &str,
-) {
-    let source = OneFile::new("f", file.as_bytes(), input.as_bytes());
-    let mut files = Sips::new(source, good);
-    let mut page = Page::new(alloc);
-    let none: [&str; 0] = [];
-    let _ = run(alloc, none.as_slice(), &mut files, &mut page);
-    assert_eq!(rt; str::from_utf8(page.taken()).ok(), Some(wanted), "{good}");
+) -> Result<(), Fail> {
+    let (_, text) = printed_by_bytes(alloc, &[], file.as_bytes(), input.as_bytes(), good)?;
+    assert_eq!(rt; str::from_utf8(&text).ok(), Some(wanted), "{good}");
+    Ok(())
 }
 
 /// Compares the answer where all reads are good, the last of which finds the end, and where one
 /// fails: then there is none, not after a line that admits either.
-fn compare_pieces(rt: &impl Abort, alloc: Global, file: &str, input: &str, wanted: &str) {
+fn compare_pieces(
+    rt: &impl Abort,
+    alloc: Global,
+    file: &str,
+    input: &str,
+    wanted: &str,
+) -> Result<(), Fail> {
     let length = file.len() as u64;
     for good in 0..=length {
-        compare_sipped(rt, alloc, file, input, good, "fault A9\n");
+        compare_sipped(rt, alloc, file, input, good, "fault A9\n")?;
     }
-    compare_sipped(rt, alloc, file, input, length + 1, wanted);
+    compare_sipped(rt, alloc, file, input, length + 1, wanted)
 }
 
 #[test]
@@ -47,7 +48,7 @@ fn answers_a_login_byte_by_byte(rt: HostRuntime) -> Result<(), Fail> {
     let wanted = joined(alloc, [head, K0_TRIPLE, "\n"].as_slice())?;
     for end in ["", "\n", "\r\n\n#"] {
         let file = joined(alloc, ["ssh-ed25519 ", K0, " me", end].as_slice())?;
-        compare_pieces(&rt, alloc, &file, &input, &wanted);
+        compare_pieces(&rt, alloc, &file, &input, &wanted)?;
     }
     Ok(())
 }
@@ -66,7 +67,7 @@ fn answers_a_host_byte_by_byte(rt: HostRuntime) -> Result<(), Fail> {
         let key = if second.is_empty() { "" } else { K0 };
         let file = joined(alloc, ["h ssh-ed25519 ", K0, "\n", second, key].as_slice())?;
         let wanted = joined(alloc, [head, "evidence 0 ", HOST_TRIPLE, "\n"].as_slice())?;
-        compare_pieces(&rt, alloc, &file, &input, &wanted);
+        compare_pieces(&rt, alloc, &file, &input, &wanted)?;
     }
     Ok(())
 }
@@ -80,6 +81,5 @@ fn writes_a_file_anew_byte_by_byte(rt: HostRuntime) -> Result<(), Fail> {
     )?;
     let wanted = joined(alloc, ["h ssh-ed25519 ", K0, "\n@revoked  x\n"].as_slice())?;
     let input = "rewrite --kind known --file f\n";
-    compare_pieces(&rt, alloc, &file, input, &wanted);
-    Ok(())
+    compare_pieces(&rt, alloc, &file, input, &wanted)
 }

@@ -1,14 +1,15 @@
 //! `rewrite` on worked files: the new file's bytes and nothing else, or a fault.
 
 use crate::tests::keys::K0;
-use crate::tests::{compare_failed, joined, printed};
+use crate::tests::{compare_failed, joined};
+use ssh_row_files::printed;
 use std::alloc::Global;
 use std::test::Fail;
 
 /// What is printed where the file `f` of this kind is written anew.
 fn rewritten(alloc: Global, kind: &str, file: &[u8]) -> Result<(u8, Vec<u8>), Fail> {
     let words = ["rewrite", "--kind", kind, "--file", "f"];
-    printed(alloc, words.as_slice(), file, b"")
+    Ok(printed(alloc, words.as_slice(), file, b"")?)
 }
 
 /// The kind, the file, and the new one.

@@ -3,15 +3,12 @@
 
 pub(crate) mod host_certificates;
 pub(crate) mod keys;
-pub(crate) mod sink;
-pub(crate) mod source;
 pub(crate) mod user_certificates;
 
 use crate::login_tests::{K0_TRIPLE, login_line};
 use keys::{K0, S0};
-use sink::{FailsOnce, Page};
-use source::{FailsAt, OneFile};
-use ssh_command::{WordsFault, refuse, run};
+use ssh_command::WordsFault;
+use ssh_row_files::{printed, printed_failing, printed_refusal, printed_until};
 use std::alloc::Global;
 use std::io::ErrorKind;
 use std::process::Abort;
@@ -40,19 +37,6 @@ pub(crate) fn filled(alloc: Global, text: &str, fill: u8, len: usize) -> Result<
     let mut bytes = Vec::from_slice(alloc, text.as_bytes())?;
     bytes.resize(len, fill)?;
     Ok(bytes)
-}
-
-/// What the program prints for words over a file `f` and standard input, with its status.
-pub(crate) fn printed(
-    alloc: Global,
-    words: &[&str],
-    file: &[u8],
-    input: &[u8],
-) -> Result<(u8, Vec<u8>), Fail> {
-    let mut files = OneFile::new("f", file, input);
-    let mut page = Page::new(alloc);
-    let status = run(alloc, words, &mut files, &mut page);
-    Ok((status, Vec::from_slice(alloc, page.taken())?))
 }
 
 /// The file of a login or of a host's key, written anew.
@@ -124,13 +108,17 @@ fn stops_at_a_failed_write(rt: HostRuntime) -> Result<(), Fail> {
     let words = ["frob"];
     for kind in [ErrorKind::Interrupted, ErrorKind::BrokenPipe] {
         for index in 1..14u64 {
-            let mut files = OneFile::new("f", b"", b"");
-            let mut writer = FailsOnce::new(rt.alloc(), index, kind);
-            let status = run(rt.alloc(), words.as_slice(), &mut files, &mut writer);
-            assert_eq!(rt; status, 2);
-            assert_eq!(rt; writer.calls(), index.min(12));
+            let (status, calls, text) = printed_until(
+                rt.alloc(),
+                words.as_slice(),
+                b"",
+                b"",
+                index,
+                kind,
+            )?;
+            assert_eq!(rt; (status, calls), (2, index.min(12)));
             let taken = (index - 1).min(12) as usize;
-            assert_eq!(rt; Some(writer.taken()), b"fault usage\n".get(..taken));
+            assert_eq!(rt; Some(text.as_slice()), b"fault usage\n".get(..taken));
         }
     }
     Ok(())
@@ -146,12 +134,17 @@ fn stops_an_answer_at_a_failed_write(rt: HostRuntime) -> Result<(), Fail> {
     let wanted = joined(alloc, [head, K0_TRIPLE, "\n"].as_slice())?;
     for taken in 0..wanted.len() {
         let index = taken as u64 + 1;
-        let mut files = OneFile::new("f", file.as_bytes(), input.as_bytes());
-        let mut writer = FailsOnce::new(alloc, index, ErrorKind::BrokenPipe);
-        let none: [&str; 0] = [];
-        let status = run(alloc, none.as_slice(), &mut files, &mut writer);
-        assert_eq!(rt; (status, writer.calls()), (2, index));
-        assert_eq!(rt; Some(writer.taken()), wanted.as_bytes().get(..taken));
+        let kind = ErrorKind::BrokenPipe;
+        let (status, calls, text) = printed_until(
+            alloc,
+            &[],
+            file.as_bytes(),
+            input.as_bytes(),
+            index,
+            kind,
+        )?;
+        assert_eq!(rt; (status, calls), (2, index));
+        assert_eq!(rt; Some(text.as_slice()), wanted.as_bytes().get(..taken));
     }
     Ok(())
 }
@@ -162,9 +155,8 @@ fn refuses_words_that_cannot_be_read(rt: HostRuntime) -> Result<(), Fail> {
         (WordsFault::Usage, "fault usage\n"),
         (WordsFault::Memory, "fault A8\n"),
     ] {
-        let mut page = Page::new(rt.alloc());
-        let status = refuse(fault, &mut page);
-        assert_eq!(rt; str::from_utf8(page.taken()).ok(), Some(wanted));
+        let (status, text) = printed_refusal(rt.alloc(), fault)?;
+        assert_eq!(rt; text.as_slice(), wanted.as_bytes());
         assert_eq!(rt; status, 2);
     }
     Ok(())
@@ -179,11 +171,8 @@ pub(crate) fn compare_failed(
     index: u64,
     wanted: &str,
 ) -> Result<(), Fail> {
-    let mut files = FailsAt::new(OneFile::new("f", file.as_bytes(), input.as_bytes()), index);
-    let mut page = Page::new(alloc);
-    let none: [&str; 0] = [];
-    let status = run(alloc, none.as_slice(), &mut files, &mut page);
-    assert_eq!(rt; str::from_utf8(page.taken()).ok(), Some(wanted), "{index}");
+    let (status, text) = printed_failing(alloc, &[], file.as_bytes(), input.as_bytes(), index)?;
+    assert_eq!(rt; str::from_utf8(&text).ok(), Some(wanted), "{index}");
     assert_eq!(rt; status, 2, "{index}");
     Ok(())
 }

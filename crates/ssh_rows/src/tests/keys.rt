@@ -24,3 +24,6 @@ pub(crate) const RSA_SIGNATURE: &str = "000000077373682d72736100000001aa";
 
 /// The same of `rsa-sha2-256`.
 pub(crate) const RSA_SHA2_SIGNATURE: &str = "0000000c7273612d736861322d32353600000001aa";
+
+/// The same of `rsa-sha2-512`.
+pub(crate) const RSA_SHA512_SIGNATURE: &str = "0000000c7273612d736861322d35313200000001aa";

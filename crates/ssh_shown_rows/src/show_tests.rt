@@ -1,19 +1,20 @@
 //! `show` on worked lines: what it prints letter by letter, and its faults.
 
-use ssh_show::{ShowKind, date_text, show};
+use crate::tests::shown;
+use ssh_show::date_text;
 use std::alloc::Global;
 use std::process::Abort;
 use std::test::Fail;
 
-/// The bytes of a file, and what is printed of it.
-type Row = (ShowKind, &'static [u8], &'static [u8]);
+/// The kind and the bytes of a file, and what is printed of it.
+type Row = (&'static str, &'static [u8], &'static [u8]);
 
 /// Compares what is printed of each file, and the status.
 fn compare_rows(rt: &impl Abort, alloc: Global, rows: &[Row], status: u8) -> Result<(), Fail> {
     for (kind, file, want) in rows {
-        let response = show(alloc, *kind, file)?;
-        assert_eq!(rt; response.text.as_slice(), *want);
-        assert_eq!(rt; response.status, status);
+        let (found_status, text) = shown(alloc, kind, file)?;
+        assert_eq!(rt; text.as_slice(), *want);
+        assert_eq!(rt; found_status, status);
     }
     Ok(())
 }
@@ -21,27 +22,27 @@ fn compare_rows(rt: &impl Abort, alloc: Global, rows: &[Row], status: u8) -> Res
 /// Keys and certificates, whose fingerprints were computed outside.
 const SHOWN: &[Row] = &[
     (
-        ShowKind::Key,
+        "key",
         b"ssh-rsa AAAAB3NzaC1yc2EAAAADAQABAAAAAgCA toy\n",
         b"type ssh-rsa\nbits 8\nfingerprint SHA256:rnquyraIzG+fCkqlUZ0iMJ1WMPMWZWyrqgIEFhNSFSI\ncomment toy\n",
     ),
     (
-        ShowKind::Key,
+        "key",
         b" \tssh-ed25519\t AAAAC3NzaC1lZDI1NTE5AAAAIAAAAAAAAAAAAAAAAAAAAAAAAAAAAAAAAAAAAAAAAAAA  me \\ \xc3 \t\r\r\nmore\n",
         b"type ssh-ed25519\nfingerprint SHA256:kmYcvdi2GkPeWxB6XLjrZB8JHsy2Hm8luHMFp9GMvqk\ncomment me \\x5c \\xc3\n",
     ),
     (
-        ShowKind::Key,
+        "key",
         b"ssh-ed25519 AAAAC3NzaC1lZDI1NTE5AAAAIAAAAAAAAAAAAAAAAAAAAAAAAAAAAAAAAAAAAAAAAAAA \t",
         b"type ssh-ed25519\nfingerprint SHA256:kmYcvdi2GkPeWxB6XLjrZB8JHsy2Hm8luHMFp9GMvqk\n",
     ),
     (
-        ShowKind::Cert,
+        "cert",
         b"ssh-ed25519-cert-v01@openssh.com AAAAIHNzaC1lZDI1NTE5LWNlcnQtdjAxQG9wZW5zc2guY29tAAAAAQcAAAAgAAAAAAAAAAAAAAAAAAAAAAAAAAAAAAAAAAAAAAAAAAAAAAAAAAAABQAAAAEAAAACaWQAAAAHAAAAA2FubgAAAAAAAABkAAAAAAAAAMgAAAAAAAAAAAAAAAAAAAAzAAAAC3NzaC1lZDI1NTE5AAAAIAAAAAAAAAAAAAAAAAAAAAAAAAAAAAAAAAAAAAAAAAABAAAAFAAAAAtzc2gtZWQyNTUxOQAAAAGq c\n",
         b"type ssh-ed25519-cert-v01@openssh.com\nfingerprint SHA256:kmYcvdi2GkPeWxB6XLjrZB8JHsy2Hm8luHMFp9GMvqk\nsigner ssh-ed25519 SHA256:gOPgXFWkBoXrFVwpjf0SBo3P1kFs+IvH5q/vnQhNpFw\nkind user\nserial 5\nid id\nprincipal ann\nvalid-after 100 1970-01-01T00:01:40Z\nvalid-before 200 1970-01-01T00:03:20Z\nsignature ssh-ed25519\n",
     ),
     (
-        ShowKind::Cert,
+        "cert",
         b"ssh-ed25519-cert-v01@openssh.com AAAAIHNzaC1lZDI1NTE5LWNlcnQtdjAxQG9wZW5zc2guY29tAAAAAQcAAAAgAAAAAAAAAAAAAAAAAAAAAAAAAAAAAAAAAAAAAAAAAAAAAAAAAAAABQAAAAMAAAACaWQAAAAPAAAAA2FubgAAAARhXGL/AAAAAAAAAAD//////////wAAACAAAAANZm9yY2UtY29tbWFuZAAAAAsAAAAHYSAiYiIgYwAAABIAAAAKcGVybWl0LXB0eQAAAAAAAAAAAAAAMwAAAAtzc2gtZWQyNTUxOQAAACAAAAAAAAAAAAAAAAAAAAAAAAAAAAAAAAAAAAAAAAAAAQAAABQAAAALc3NoLWVkMjU1MTkAAAABqg==\r\n",
         b"type ssh-ed25519-cert-v01@openssh.com\nfingerprint SHA256:kmYcvdi2GkPeWxB6XLjrZB8JHsy2Hm8luHMFp9GMvqk\nsigner ssh-ed25519 SHA256:gOPgXFWkBoXrFVwpjf0SBo3P1kFs+IvH5q/vnQhNpFw\nkind 3\nserial 5\nid id\nprincipal ann\nprincipal a\\x5cb\\xff\nvalid-after 0 1970-01-01T00:00:00Z\nvalid-before 18446744073709551615 -\ncritical force-command 0000000761202262222063\nextension permit-pty -\nsignature ssh-ed25519\n",
     ),
@@ -54,90 +55,90 @@ fn shows_files(rt: HostRuntime) -> Result<(), Fail> {
 
 /// Each fault of a line.
 const FAULTS: &[Row] = &[
-    (ShowKind::Key, b"", b"fault L7\n"),
+    ("key", b"", b"fault L7\n"),
     (
-        ShowKind::Key,
+        "key",
         b" \r\nssh-ed25519 AAAAC3NzaC1lZDI1NTE5AAAAIAAAAAAAAAAAAAAAAAAAAAAAAAAAAAAAAAAAAAAAAAAA",
         b"fault L7\n",
     ),
-    (ShowKind::Key, b"ssh-ed25519", b"fault L7\n"),
-    (ShowKind::Key, b"frob", b"fault L7\n"),
+    ("key", b"ssh-ed25519", b"fault L7\n"),
+    ("key", b"frob", b"fault L7\n"),
     (
-        ShowKind::Key,
+        "key",
         b"frob AAAAC3NzaC1lZDI1NTE5AAAAIAAAAAAAAAAAAAAAAAAAAAAAAAAAAAAAAAAAAAAAAAAA",
         b"fault L8\n",
     ),
-    (ShowKind::Key, b"ssh-dss AAAA", b"fault L9\n"),
+    ("key", b"ssh-dss AAAA", b"fault L9\n"),
     (
-        ShowKind::Key,
+        "key",
         b"ssh-ed25519-cert-v01@openssh.com AAAAC3NzaC1lZDI1NTE5AAAAIAAAAAAAAAAAAAAAAAAAAAAAAAAAAAAAAAAAAAAAAAAA",
         b"fault L13\n",
     ),
     (
-        ShowKind::Key,
+        "key",
         b"ssh-ed25519 AAAAC3NzaC1lZDI1NTE5AAAAIAAAAAAAAAAAAAAAAAAAAAAAAAAAAAAAAAAAAAAAAAAA*",
         b"fault L10\n",
     ),
-    (ShowKind::Key, b"ssh-ed25519 AAAA", b"fault L11 K1 V1 0\n"),
+    ("key", b"ssh-ed25519 AAAA", b"fault L11 K1 V1 0\n"),
     (
-        ShowKind::Key,
+        "key",
         b"ssh-rsa AAAAC3NzaC1lZDI1NTE5AAAAIAAAAAAAAAAAAAAAAAAAAAAAAAAAAAAAAAAAAAAAAAAA",
         b"fault L12\n",
     ),
-    (ShowKind::Cert, b"\n", b"fault L7\n"),
+    ("cert", b"\n", b"fault L7\n"),
     (
-        ShowKind::Cert,
+        "cert",
         b"ssh-ed25519 AAAAC3NzaC1lZDI1NTE5AAAAIAAAAAAAAAAAAAAAAAAAAAAAAAAAAAAAAAAAAAAAAAAA",
         b"fault L8\n",
     ),
-    (ShowKind::Cert, b"ssh-dss AAAA", b"fault L8\n"),
+    ("cert", b"ssh-dss AAAA", b"fault L8\n"),
     (
-        ShowKind::Cert,
+        "cert",
         b"ssh-ed25519-cert-v01@openssh.com AAA",
         b"fault L10\n",
     ),
     (
-        ShowKind::Cert,
+        "cert",
         b"ssh-rsa-cert-v01@openssh.com AAAAIHNzaC1lZDI1NTE5LWNlcnQtdjAxQG9wZW5zc2guY29tAAAAAQcAAAAgAAAAAAAAAAAAAAAAAAAAAAAAAAAAAAAAAAAAAAAAAAAAAAAAAAAABQAAAAEAAAACaWQAAAAHAAAAA2FubgAAAAAAAABkAAAAAAAAAMgAAAAAAAAAAAAAAAAAAAAzAAAAC3NzaC1lZDI1NTE5AAAAIAAAAAAAAAAAAAAAAAAAAAAAAAAAAAAAAAAAAAAAAAABAAAAFAAAAAtzc2gtZWQyNTUxOQAAAAGq",
         b"fault L12\n",
     ),
     (
-        ShowKind::Cert,
+        "cert",
         b"ssh-ed25519-cert-v01@openssh.com AAAAIHNzaC1lZDI1NTE5LWNlcnQtdjAxQG9wZW5zc2guY28=",
         b"fault C1 V1 0\n",
     ),
     (
-        ShowKind::Cert,
+        "cert",
         b"ssh-ed25519-cert-v01@openssh.com AAAAIHNzaC1lZDI1NTE5LWNlcnQtdjAxQG9wZW5zc2guY29tAAAAAQcAAAAgAAAAAAAAAAAAAAAAAAAAAAAAAAAAAAAAAAAAAAAAAA==",
         b"fault C2 K1 V1 41\n",
     ),
     (
-        ShowKind::Cert,
+        "cert",
         b"ssh-ed25519-cert-v01@openssh.com AAAAIHNzaC1lZDI1NTE5LWNlcnQtdjAxQG9wZW5zc2guY29tAAAAAQcAAAAgAAAAAAAAAAAAAAAAAAAAAAAAAAAAAAAAAAAAAAAAAAAAAAAAAAAABQAAAAEAAAACaWQAAAAHAAAAA2FubgAAAAAAAABkAAAAAAAAAMgAAAAAAAAAAAAAAAAAAAAyAAAAC3NzaC1lZDI1NTE5AAAAIAAAAAAAAAAAAAAAAAAAAAAAAAAAAAAAAAAAAAAAAAAAAAAUAAAAC3NzaC1lZDI1NTE5AAAAAao=",
         b"fault C3 K1 V1 15\n",
     ),
     (
-        ShowKind::Cert,
+        "cert",
         b"ssh-ed25519-cert-v01@openssh.com AAAAIHNzaC1lZDI1NTE5LWNlcnQtdjAxQG9wZW5zc2guY29tAAAAAQcAAAAgAAAAAAAAAAAAAAAAAAAAAAAAAAAAAAAAAAAAAAAAAAAAAAAAAAAABQAAAAEAAAACaWQAAAAHAAAAA2FubgAAAAAAAABkAAAAAAAAAMgAAAAAAAAAAAAAAAAAAADVAAAAIHNzaC1lZDI1NTE5LWNlcnQtdjAxQG9wZW5zc2guY29tAAAAAQcAAAAgAAAAAAAAAAAAAAAAAAAAAAAAAAAAAAAAAAAAAAAAAAAAAAAAAAAABQAAAAEAAAACaWQAAAAHAAAAA2FubgAAAAAAAABkAAAAAAAAAMgAAAAAAAAAAAAAAAAAAAAzAAAAC3NzaC1lZDI1NTE5AAAAIAAAAAAAAAAAAAAAAAAAAAAAAAAAAAAAAAAAAAAAAAABAAAAFAAAAAtzc2gtZWQyNTUxOQAAAAGqAAAAFAAAAAtzc2gtZWQyNTUxOQAAAAGq",
         b"fault C4\n",
     ),
     (
-        ShowKind::Cert,
+        "cert",
         b"ssh-ed25519-cert-v01@openssh.com AAAAIHNzaC1lZDI1NTE5LWNlcnQtdjAxQG9wZW5zc2guY29tAAAAAQcAAAAgAAAAAAAAAAAAAAAAAAAAAAAAAAAAAAAAAAAAAAAAAAAAAAAAAAAABQAAAAEAAAACaWQAAAAHAAAABGFubgAAAAAAAABkAAAAAAAAAMgAAAAAAAAAAAAAAAAAAAAzAAAAC3NzaC1lZDI1NTE5AAAAIAAAAAAAAAAAAAAAAAAAAAAAAAAAAAAAAAAAAAAAAAABAAAAFAAAAAtzc2gtZWQyNTUxOQAAAAGq",
         b"fault C5 99\n",
     ),
     (
-        ShowKind::Cert,
+        "cert",
         b"ssh-ed25519-cert-v01@openssh.com AAAAIHNzaC1lZDI1NTE5LWNlcnQtdjAxQG9wZW5zc2guY29tAAAAAQcAAAAgAAAAAAAAAAAAAAAAAAAAAAAAAAAAAAAAAAAAAAAAAAAAAAAAAAAABQAAAAEAAAACaWQAAAAHAAAAA2FubgAAAAAAAABkAAAAAAAAAMgAAAAEAAAAAQAAAAAAAAAAAAAAMwAAAAtzc2gtZWQyNTUxOQAAACAAAAAAAAAAAAAAAAAAAAAAAAAAAAAAAAAAAAAAAAAAAQAAABQAAAALc3NoLWVkMjU1MTkAAAABqg==",
         b"fault C6 126\n",
     ),
     (
-        ShowKind::Cert,
+        "cert",
         b"ssh-ed25519-cert-v01@openssh.com AAAAIHNzaC1lZDI1NTE5LWNlcnQtdjAxQG9wZW5zc2guY29tAAAAAQcAAAAgAAAAAAAAAAAAAAAAAAAAAAAAAAAAAAAAAAAAAAAAAAAAAAAAAAAABQAAAAEAAAACaWQAAAAHAAAAA2FubgAAAAAAAABkAAAAAAAAAMgAAAAAAAAAAAAAAAAAAAAzAAAAC3NzaC1lZDI1NTE5AAAAIAAAAAAAAAAAAAAAAAAAAAAAAAAAAAAAAAAAAAAAAAABAAAAEwAAAAtzc2gtZWQyNTUxOQAAAAE=",
         b"fault C7 V1 15\n",
     ),
     (
-        ShowKind::Cert,
+        "cert",
         b"ssh-ed25519-cert-v01@openssh.com AAAAC3NzaC1lZDI1NTE5AAAAIAAAAAAAAAAAAAAAAAAAAAAAAAAAAAAAAAAAAAAAAAAA",
         b"fault C8\n",
     ),
@@ -155,9 +156,9 @@ fn shows_a_long_line(rt: HostRuntime) -> Result<(), Fail> {
     for _ in 0..70_000 {
         file.push(b'c')?;
     }
-    let response = show(rt.alloc(), ShowKind::Key, &file)?;
-    assert_eq!(rt; response.status, 0);
-    assert_eq!(rt; response.text.len(), 13 + 7 + 63 + 8 + 70_000 + 1);
+    let (status, text) = shown(rt.alloc(), "key", &file)?;
+    assert_eq!(rt; status, 0);
+    assert_eq!(rt; text.len(), 13 + 7 + 63 + 8 + 70_000 + 1);
     Ok(())
 }
 

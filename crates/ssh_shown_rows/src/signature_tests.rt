@@ -1,6 +1,6 @@
 //! File signatures: the printed answers of worked bodies, and of one that `ssh-keygen` made.
 
-use crate::tests::printed;
+use ssh_row_files::printed;
 use std::alloc::Global;
 use std::test::Fail;
 
@@ -21,9 +21,21 @@ const SIGNATURE: &[u8] = b"\0\0\0\x14\0\0\0\x0bssh-ed25519\0\0\0\x01\xaa";
 /// The field of a signature of RSA with SHA-1, of no bytes.
 const SHA1_SIGNATURE: &[u8] = b"\0\0\0\x0f\0\0\0\x07ssh-rsa\0\0\0\0";
 
+/// The same with SHA-256 and with SHA-512, whose bytes are `aa`.
+const SHA256_SIGNATURE: &[u8] = b"\0\0\0\x15\0\0\0\x0crsa-sha2-256\0\0\0\x01\xaa";
+
+const SHA512_SIGNATURE: &[u8] = b"\0\0\0\x15\0\0\0\x0crsa-sha2-512\0\0\0\x01\xaa";
+
 /// The signature of the sample over `abc`, as a line of a vouch file.
 const TRIPLE: &str =
     "0000000b7373682d65643235353139000000200000000000000000000000000000000000000000000000000000000000000000 5353485349470000000466696c65000000000000000673686132353600000020ba7816bf8f01cfea414140de5dae2223b00361a396177a9cb410ff61f20015ad 0000000b7373682d6564323535313900000001aa";
+
+/// The same by the RSA key, with SHA-256 and with SHA-512.
+const SHA256_TRIPLE: &str =
+    "000000077373682d72736100000003010001000000020080 5353485349470000000466696c65000000000000000673686132353600000020ba7816bf8f01cfea414140de5dae2223b00361a396177a9cb410ff61f20015ad 0000000c7273612d736861322d32353600000001aa";
+
+const SHA512_TRIPLE: &str =
+    "000000077373682d72736100000003010001000000020080 5353485349470000000466696c65000000000000000673686132353600000020ba7816bf8f01cfea414140de5dae2223b00361a396177a9cb410ff61f20015ad 0000000c7273612d736861322d35313200000001aa";
 
 /// What `ssh-keygen -Y sign -n file` made of `abc`.
 const REAL_SSHSIG: &[u8] =
@@ -76,7 +88,7 @@ fn answer(
         "-",
     ];
     let input = format!(in alloc; "{vouched}\n\nabc")?;
-    printed(alloc, words.as_slice(), body, input.as_bytes())
+    Ok(printed(alloc, words.as_slice(), body, input.as_bytes())?)
 }
 
 #[test]
@@ -100,11 +112,30 @@ fn answers_a_file_signature(rt: HostRuntime) -> Result<(), Fail> {
     Ok(())
 }
 
+/// Bodies by the RSA key, and what has to be vouched for.
+const RSA_ROWS: [(Body, &str); 2] = [
+    ((1, RSA_KEY, FILE, SHA256, SHA256_SIGNATURE), SHA256_TRIPLE),
+    ((1, RSA_KEY, FILE, SHA256, SHA512_SIGNATURE), SHA512_TRIPLE),
+];
+
+#[test]
+fn knows_the_signatures_of_rsa(rt: HostRuntime) -> Result<(), Fail> {
+    let alloc = rt.alloc();
+    for (body, triple) in RSA_ROWS {
+        let bytes = body_of(alloc, body)?;
+        let (status, text) = answer(alloc, &bytes, "file", triple)?;
+        let wanted = format!(in alloc; "vouched\nevidence 0 {triple}\n")?;
+        assert_eq!(rt; text.as_slice(), wanted.as_bytes());
+        assert_eq!(rt; status, 0);
+    }
+    Ok(())
+}
+
 #[test]
 fn refuses_bodies(rt: HostRuntime) -> Result<(), Fail> {
     let alloc = rt.alloc();
     let cut: &[u8] = b"\0\0\0\x13\0\0\0\x0bssh-ed25519\0\0\0\x01";
-    let rows: [(Body, &str); 6] = [
+    let rows: [(Body, &str); 9] = [
         ((2, KEY, FILE, SHA256, SIGNATURE), "fault A11 B8\n"),
         ((1, KEY, b"\0\0\0\0", SHA256, SIGNATURE), "fault A11 B9\n"),
         (
@@ -112,7 +143,16 @@ fn refuses_bodies(rt: HostRuntime) -> Result<(), Fail> {
             "fault A11 B10\n",
         ),
         ((1, KEY, FILE, SHA256, cut), "fault A11 B12 V1 106\n"),
+        (
+            (1, b"\0\0\0\x0b\0\0\0\x07ssh-dss", FILE, SHA256, SIGNATURE),
+            "fault A11 B11 K3\n",
+        ),
         ((1, RSA_KEY, FILE, SHA256, SHA1_SIGNATURE), "fault A4\n"),
+        ((1, RSA_KEY, FILE, SHA256, SIGNATURE), "fault A3\n"),
+        (
+            (1, RSA_KEY, b"\0\0\0\0", SHA256, SHA1_SIGNATURE),
+            "fault A11 B9\n",
+        ),
         ((1, KEY, FILE, SHA256, SHA1_SIGNATURE), "fault A3\n"),
     ];
     for (body, wanted) in rows {

@@ -10,7 +10,7 @@ ghost use Rattle.ssh_inputs.specs.SourceState.{
   named_file,
   left_of,
 };
-ghost use Rattle.ssh_rows.specs.declared.tests.source.Place.TheVariants.{Nowhere, Input, File};
+ghost use Rattle.ssh_row_files.specs.declared.source.Place.TheVariants.{Nowhere, Input, File};
 
 use ssh_inputs::Files;
 use std::io::{Error, ErrorKind, Read, Result};
@@ -23,7 +23,8 @@ pub enum Place {
     File,
 }
 
-/// One file, and standard input, with a count of failed reads and the name of the last.
+/// One file, and standard input, with counts of chosen files and of failed reads, and the name of
+/// the last that failed.
 #[derive(Drop)]
 pub struct OneFile<'a> {
     name: &'a str,
@@ -31,6 +32,7 @@ pub struct OneFile<'a> {
     left: &'a [u8],
     input: &'a [u8],
     place: Place,
+    choices: u64,
     failures: u64,
     failed: Option<&'a str>,
 }
@@ -44,6 +46,7 @@ impl<'a> OneFile<'a> {
             left: b"",
             input,
             place: Place::Nowhere,
+            choices: 0,
             failures: 0,
             failed: None,
         }
@@ -55,6 +58,7 @@ impl Read for OneFile<'_> {
       named = λ name. if bytes_eq name m.name.now then Some m.bytes.now else None;
       input = m.input.now;
       chosen = elim m.place [ Nowhere ↦ nothing | Input ↦ standard_input | File ↦ named_file m.name.now m.left.now ];
+      choices = m.choices;
       failures = m.failures;
       failed = option_map (λ n. n.now) m.failed;
     })) };
@@ -69,6 +73,7 @@ impl Files for OneFile<'_> {
       named = λ name. if bytes_eq name m.name.now then Some m.bytes.now else None;
       input = m.input.now;
       chosen = elim m.place [ Nowhere ↦ nothing | Input ↦ standard_input | File ↦ named_file m.name.now m.left.now ];
+      choices = m.choices;
       failures = m.failures;
       failed = option_map (λ n. n.now) m.failed;
     }) };
@@ -76,6 +81,7 @@ impl Files for OneFile<'_> {
     ghost tells = { λ x. refl };
 
     fn choose(&mut self, name: &str) -> bool {
+        self.choices = self.choices.wrapping_add(1);
         if name == "-" {
             self.place = Place::Input;
             true
@@ -126,6 +132,7 @@ impl Read for FailsAt<'_> {
       named = λ name. if bytes_eq name m.source.name.now then Some m.source.bytes.now else None;
       input = m.source.input.now;
       chosen = elim m.source.place [ Nowhere ↦ nothing | Input ↦ standard_input | File ↦ named_file m.source.name.now m.source.left.now ];
+      choices = m.source.choices;
       failures = m.source.failures;
       failed = option_map (λ n. n.now) m.source.failed;
     })) };
@@ -140,6 +147,7 @@ impl Files for FailsAt<'_> {
       named = λ name. if bytes_eq name m.source.name.now then Some m.source.bytes.now else None;
       input = m.source.input.now;
       chosen = elim m.source.place [ Nowhere ↦ nothing | Input ↦ standard_input | File ↦ named_file m.source.name.now m.source.left.now ];
+      choices = m.source.choices;
       failures = m.source.failures;
       failed = option_map (λ n. n.now) m.source.failed;
     }) };

@@ -1,7 +1,8 @@
 //! `show` of private keys and of file signatures: what it prints letter by letter, that it prints
 //! no secret, and its faults.
 
-use crate::tests::printed;
+use crate::bodies::BODIES;
+use crate::tests::shown;
 use std::alloc::Global;
 use std::test::Fail;
 
@@ -38,12 +39,6 @@ fn body_of(alloc: Global, key: &[u8], section: &[u8], padding: &[u8]) -> Result<
     Ok(bytes)
 }
 
-/// What `show` prints of a file, with its status.
-fn shown(alloc: Global, kind: &str, file: &[u8]) -> Result<(u8, Vec<u8>), Fail> {
-    let words = ["show", "--kind", kind, "--file", "f"];
-    printed(alloc, words.as_slice(), file, b"")
-}
-
 #[test]
 fn shows_bodies(rt: HostRuntime) -> Result<(), Fail> {
     let alloc = rt.alloc();
@@ -69,6 +64,72 @@ fn shows_bodies(rt: HostRuntime) -> Result<(), Fail> {
         let (status, text) = shown(alloc, kind, file)?;
         assert_eq!(rt; text.as_slice(), wanted.as_bytes());
         assert_eq!(rt; status, 0);
+    }
+    Ok(())
+}
+
+#[test]
+fn shows_bodies_of_other_kinds(rt: HostRuntime) -> Result<(), Fail> {
+    for (body, wanted) in BODIES {
+        let (status, text) = shown(rt.alloc(), "private", body)?;
+        assert_eq!(rt; str::from_utf8(&text).ok(), Some(*wanted));
+        assert_eq!(rt; status, 0, "{wanted}");
+    }
+    Ok(())
+}
+
+/// The sample's section with another field of its comment, without its padding.
+fn section_with(alloc: Global, comment: &[u8]) -> Result<Vec<u8>, Fail> {
+    let before = SECTION.get(..127).unwrap_or(b"");
+    let mut section = Vec::from_slice(alloc, before)?;
+    section.extend_from_slice(comment)?;
+    Ok(section)
+}
+
+#[test]
+fn holds_the_limit_of_padding(rt: HostRuntime) -> Result<(), Fail> {
+    let alloc = rt.alloc();
+    for (comment, most, wanted) in [
+        (
+            b"\0\0\0\x07abcdefg".as_slice(),
+            254,
+            "type ssh-ed25519\nfingerprint SHA256:kmYcvdi2GkPeWxB6XLjrZB8JHsy2Hm8luHMFp9GMvqk\ncheck 1\ncomment abcdefg\n",
+        ),
+        (b"\0\0\0\x06abcdef".as_slice(), 255, "fault B5\n"),
+    ] {
+        let mut padding = Vec::new(alloc);
+        for byte in 1..=most {
+            padding.push(byte)?;
+        }
+        let body = body_of(alloc, KEY, &section_with(alloc, comment)?, &padding)?;
+        let (_, text) = shown(alloc, "private", &body)?;
+        assert_eq!(rt; str::from_utf8(&text).ok(), Some(wanted));
+    }
+    Ok(())
+}
+
+/// A place of the sample's body, the byte that is put there, and the fault.
+const CHANGES: &[(usize, u8, &str)] = &[
+    (38, 2, "fault B3\n"),
+    (38, 0, "fault B3\n"),
+    (47, b'S', "fault B11 K2\n"),
+    (61, 31, "fault B11 K7\n"),
+    (97, 134, "fault B13\n"),
+    (110, b'S', "fault B7\n"),
+    (125, 1, "fault B7\n"),
+];
+
+#[test]
+fn refuses_changed_bodies(rt: HostRuntime) -> Result<(), Fail> {
+    let alloc = rt.alloc();
+    for (place, byte, wanted) in CHANGES {
+        let mut body = body_of(alloc, KEY, SECTION, b"\x01\x02")?;
+        if let Some(old) = body.get_mut(*place) {
+            *old = *byte;
+        }
+        let (status, text) = shown(alloc, "private", &body)?;
+        assert_eq!(rt; str::from_utf8(&text).ok(), Some(*wanted), "{place}");
+        assert_eq!(rt; status, 2);
     }
     Ok(())
 }
@@ -183,6 +244,25 @@ fn refuses_other_bodies(rt: HostRuntime) -> Result<(), Fail> {
     for (kind, file, wanted) in rows {
         let (_, text) = shown(alloc, kind, file)?;
         assert_eq!(rt; text.as_slice(), wanted.as_bytes());
+    }
+    Ok(())
+}
+
+#[test]
+fn refuses_long_bodies(rt: HostRuntime) -> Result<(), Fail> {
+    let alloc = rt.alloc();
+    for (kind, text, len, wanted) in [
+        ("private", "openssh-key-v1\0", 262_145, "fault B14\n"),
+        ("private", "openssh-key-v1\0", 262_144, "fault B12 V1 15\n"),
+        ("sshsig", "SSHSIG", 262_145, "fault B14\n"),
+        ("sshsig", "SSHSIG", 262_144, "fault B8\n"),
+        ("key", "ssh-ed25519 ", 349_540, "fault L11 K8\n"),
+    ] {
+        let mut body = Vec::from_slice(alloc, text.as_bytes())?;
+        body.resize(len, b'A')?;
+        let (status, text) = shown(alloc, kind, &body)?;
+        assert_eq!(rt; str::from_utf8(&text).ok(), Some(wanted));
+        assert_eq!(rt; status, 2);
     }
     Ok(())
 }
