@@ -15,6 +15,7 @@ HERE = pathlib.Path(__file__).resolve().parent
 EXAMPLES = HERE.parent / "examples"
 PROGRAM = pathlib.Path(sys.argv[1] if len(sys.argv) > 1 else HERE.parent / "crates" / "ssh_audit" / "out" / "ssh_audit").resolve()
 NOW = "1750000000"
+NO_LINE = "not admitted: no line admits it (N3)"
 passed = failed = 0
 
 
@@ -28,8 +29,14 @@ def check(name, found, wanted):
 
 
 def run(room, *words, stdin=None):
-    ran = subprocess.run([str(w) for w in words], cwd=room, input=stdin, stdout=subprocess.PIPE, stderr=subprocess.PIPE, env={**os.environ, "SSH_AUDIT": str(PROGRAM)}, check=False)
+    ran = started(room, words, stdin)
     return ran.returncode, ran.stdout
+
+
+def started(room, words, stdin=None, **environment):
+    settings = {**os.environ, "SSH_AUDIT": str(PROGRAM), **environment}
+    given = {"stdin": subprocess.DEVNULL} if stdin is None else {"input": stdin}
+    return subprocess.run([str(w) for w in words], cwd=room, stdout=subprocess.PIPE, stderr=subprocess.PIPE, env=settings, check=False, **given)
 
 
 def made(room, *words):
@@ -43,6 +50,17 @@ def would_admit(room, key, lines, user="ann", address="192.0.2.1", *more):
     (room / "authorized_keys").write_text("".join(line + "\n" for line in lines))
     status, out = run(room, EXAMPLES / "would_admit.py", key, "authorized_keys", "--user", user, "--address", address, "--now", NOW, *more)
     return status, out.decode().split("\n")[:-1]
+
+
+def would_trust(room, key, lines, name="h.example", *more):
+    (room / "known_hosts").write_text("".join(line + "\n" for line in lines))
+    status, out = run(room, EXAMPLES / "would_trust.py", key, "known_hosts", "--host", name, "--now", NOW, *more)
+    return status, out.decode().split("\n")[:-1]
+
+
+def fingerprint(room, name):
+    """The type in the file and what ssh-keygen says of it."""
+    return public(room, name).split()[0] + " " + made(room, "ssh-keygen", "-l", "-f", name).decode().split()[1]
 
 
 def public(room, name):
@@ -67,15 +85,16 @@ def keygen_rows(room):
         every = "rights: port agent x11 pty rc"
         check(name, would_admit(room, name + ".pub", ["# a comment", other, key]), (0, [good.format(3), every]))
         check(name + " options", would_admit(room, name + ".pub", ["restrict,pty,command=\"backup\" " + key]), (0, [good.format(1), "rights: pty; command: backup"]))
-        check(name + " no line", would_admit(room, name + ".pub", [other]), (1, ["not admitted: no line admits it (N3)"]))
+        sought, signer = "looked for " + fingerprint(room, name + ".pub"), "looked for the signer " + fingerprint(room, "authority.pub")
+        check(name + " no line", would_admit(room, name + ".pub", [other]), (1, [NO_LINE, sought]))
         refused = "line 1: its from= list does not permit this client (G8)"
         check(name + " from", would_admit(room, name + ".pub", ["from=\"10.0.0.0/8\" " + key, key]), (0, [good.format(2), every, refused]))
         authority = "cert-authority " + other
         check(name + " certificate", would_admit(room, name + "-cert.pub", [authority]), (0, [both.format(1), "rights: port agent pty rc"]))
         wrong = "line 1: the certificate is for none of the principals that are asked for (G12)"
-        check(name + " principal", would_admit(room, name + "-cert.pub", [authority], "eve"), (1, ["not admitted: no line admits it (N3)", wrong]))
-        plain = "line 1: it is no authority for certificates (G4)"
-        check(name + " no authority", would_admit(room, name + "-cert.pub", [other]), (1, ["not admitted: no line admits it (N3)", plain]))
+        check(name + " principal", would_admit(room, name + "-cert.pub", [authority], "eve"), (1, [NO_LINE, signer, wrong]))
+        plain = "line 1: it is not an authority for certificates (G4)"
+        check(name + " no authority", would_admit(room, name + "-cert.pub", [other]), (1, [NO_LINE, signer, plain]))
 
 
 def openssl_key(room, name, kind):
@@ -159,6 +178,134 @@ def certificate_rows(room):
         check(name, (status, vouched.count(b"\n"), granted[0]), (0, 2, "granted line 1"))
 
 
+def host_rows(room):
+    """Hosts' keys of each kind and their certificates: trusted, revoked, hashed, by a port, unknown."""
+    authority = public(room, "authority.pub")
+    for name in ("ed25519", "rsa2048", "ecdsa256", "ecdsa384", "ecdsa521"):
+        key, sought = public(room, name + ".pub"), "looked for " + fingerprint(room, name + ".pub")
+        good, none = "trusted by line {}, if the host's signature is good", "not trusted: no line admits it (N3)"
+        file = name + ".pub"
+        check(name + " host", would_trust(room, file, ["# a comment", "g " + key, "H.example " + key]), (0, [good.format(3)]))
+        check(name + " no host", would_trust(room, file, ["g " + key]), (1, [none, sought]))
+        check(name + " port", would_trust(room, file, ["h.example " + key, "[h.example]:2222 " + key], "h.example", "--port", "2222"), (0, [good.format(2)]))
+        revoked = "not trusted: line 2 revokes the key, or the certificate's signer (N1)"
+        check(name + " revoked", would_trust(room, file, ["h.example " + key, "@revoked g " + key]), (1, [revoked]))
+        broken = "not trusted: line 2 may revoke any key, and cannot be read (N2)"
+        check(name + " broken revocation", would_trust(room, file, ["h.example " + key, "@revoked * " + key.split()[0]]), (1, [broken]))
+        unread = "line 1: it cannot be read: its list of host names has an empty item (G1 L16)"
+        check(name + " unreadable", would_trust(room, file, ["a,,h.example " + key, "h.example " + key]), (0, [good.format(2), unread]))
+        (room / "hashed").write_text("h.example " + key + "\n")
+        made(room, "ssh-keygen", "-q", "-H", "-f", "hashed")
+        check(name + " hashed", would_trust(room, file, [public(room, "hashed")]), (0, [good.format(1)]))
+        shutil.copy(room / file, room / "host.pub")
+        made(room, "ssh-keygen", "-q", "-s", "authority", "-h", "-I", name, "-n", "h.example", "-V", "20250101:20260101", "host.pub")
+        both = "trusted by line {}, if the host's and the signer's signatures are good"
+        check(name + " host certificate", would_trust(room, "host-cert.pub", ["@cert-authority *.example " + authority]), (0, [both.format(1)]))
+        signer = "looked for the signer " + fingerprint(room, "authority.pub")
+        check(name + " other authority", would_trust(room, "host-cert.pub", ["@cert-authority *.example " + key]), (1, [none, signer]))
+        user = "line 1: the certificate is of the other kind: a user's for a host, or a host's for a user (G9)"
+        check(name + " user's certificate", would_trust(room, name + "-cert.pub", ["@cert-authority *.example " + authority]), (1, [none, signer, user]))
+
+
+def refused(name, ran, wanted):
+    """Status 2, nothing on standard output, and one line with this text on standard error."""
+    told = ran.stderr.decode()
+    check(name, (ran.returncode, ran.stdout, told.count("\n"), wanted in told, "Traceback" in told), (2, b"", 1, True, False))
+    if wanted not in told:
+        print(f"  told    {told!r}")
+
+
+def asked_files(room):
+    """Files that hold no key, or not one, and how each is refused."""
+    key, other = public(room, "ed25519.pub"), public(room, "rsa2048.pub")
+    made(room, "openssl", "genpkey", "-algorithm", "ed25519", "-out", "pem")
+    yield "a missing file", "missing", None, "missing cannot be read: No such file"
+    yield "a folder", ".", None, ". cannot be read: Is a directory"
+    yield "a private key", "ed25519", None, "is a private key"
+    yield "a private key in PEM", "pem", None, "is a private key"
+    yield "a public key in PEM", "asked", made(room, "openssl", "pkey", "-in", "pem", "-pubout").decode(), "ssh-keygen -i -m PKCS8"
+    yield "an SSH2 key", "asked", made(room, "ssh-keygen", "-e", "-f", "rsa2048.pub").decode(), "ssh-keygen -i -f"
+    yield "no key", "asked", "", "holds no public key"
+    yield "a comment", "asked", "# " + key + "\n", "holds no public key"
+    yield "options before the key", "asked", "restrict " + key + "\n", "holds no public key"
+    yield "a host's name before the key", "asked", "h " + key + "\n", "holds no public key"
+    yield "a cut key", "asked", key.split()[0] + " " + key.split()[1][:-2] + "\n", "holds no public key"
+    yield "another type", "asked", "ssh-rsa " + key.split()[1] + "\n", "holds no public key"
+    yield "two keys", "asked", key + "\n" + other + "\n", "holds 2 lines: hand in one key at a time"
+    yield "a short key", "asked", "ssh-ed25519 AAAAC3NzaC1lZDI1NTE5AAAAAA==\n", "they are damaged (fault A1 K7)"
+    yield "a key with bytes after it", "asked", "ssh-ed25519 AAAAC3NzaC1lZDI1NTE5\n", "they are damaged (fault A1 K1 V1 15)"
+    yield "a retired key", "asked", "ssh-dss AAAAB3NzaC1kc3M=\n", "ssh-dss is retired (fault A1 K3)"
+    yield "an unknown type", "asked", "frob AAAABGZyb2I=\n", "its type is unknown (fault A1 K2)"
+
+
+def edge_rows(room):
+    """What cannot be asked has status 2 and a sentence, never a traceback or the status of a denial."""
+    key, pipe = public(room, "ed25519.pub"), "/dev/stdin"
+    admit = lambda file, trust, *more: [EXAMPLES / "would_admit.py", file, trust, "--user", "ann", "--address", "192.0.2.1", "--now", NOW, *more]
+    trusts = lambda file, trust, *more: [EXAMPLES / "would_trust.py", file, trust, "--host", "h", "--now", NOW, *more]
+    both = (("admit", admit, key + "\n", "admitted by line 1, if the client's signature is good\nrights: port agent x11 pty rc\n"), ("trust", trusts, f"h {key}\n", "trusted by line 1, if the host's signature is good\n"))
+    for name, words, content, answer in both:
+        (room / "trust").write_text(content)
+        for file in (pipe, "-"):
+            check(f"{name}: the file by {file}", run(room, *words("ed25519.pub", file), stdin=content.encode()), (0, answer.encode()))
+            check(f"{name}: the key by {file}", run(room, *words(file, "trust"), stdin=(key + "\n").encode()), (0, answer.encode()))
+            refused(f"{name}: both by {file}", started(room, words(file, file), (key + "\n").encode()), "it can be read once only")
+        substitution = ["bash", "-c", '"$0" <(cat "$1") <(cat "$2") "${@:3}"', *words("ed25519.pub", "trust")]
+        check(f"{name}: two pipes", run(room, *substitution), (0, answer.encode()))
+        for told, file, text, wanted in asked_files(room):
+            if text is not None:
+                (room / "asked").write_text(text)
+            refused(f"{name}: {told}", started(room, words(file, "trust")), wanted)
+        refused(f"{name}: a missing trust file", started(room, words("ed25519.pub", "missing")), "missing cannot be read: No such file")
+        refused(f"{name}: a folder as trust file", started(room, words("ed25519.pub", ".")), ". cannot be read: Is a directory")
+        refused(f"{name}: a trust file without an end", started(room, words("ed25519.pub", "/dev/zero")), "more than 67,108,864 bytes (fault A7)")
+        refused(f"{name}: a bad moment", started(room, words("ed25519.pub", "trust", "--now", "x")), "--now has a value that cannot be read (fault value now)")
+        not_built = started(room, words("ed25519.pub", "trust"), SSH_AUDIT=str(room / "missing"))
+        refused(f"{name}: no program", not_built, "is not there: `rt run < stdin` in crates/ssh_audit builds it")
+        refused(f"{name}: no program but a text", started(room, words("ed25519.pub", "trust"), SSH_AUDIT=str(room / "trust")), "cannot be run")
+        for program, wanted in (("true", "the program gave no answer (status 0)"), ("false", "the program gave no answer (status 1)")):
+            refused(f"{name}: {program}", started(room, words("ed25519.pub", "trust"), SSH_AUDIT=shutil.which(program)), wanted)
+        with open("/dev/full", "wb") as full:
+            ran = subprocess.run([str(word) for word in words("ed25519.pub", "trust")], cwd=room, stdout=full, stderr=subprocess.PIPE, env={**os.environ, "SSH_AUDIT": str(PROGRAM)}, check=False)
+        check(f"{name}: a full device", (ran.returncode, ran.stderr.count(b"\n"), b"Traceback" in ran.stderr), (2, 1, False))
+    refused("a bad address", started(room, admit("ed25519.pub", "trust", "--address", "h")), "--address is not an IPv4 or IPv6 address (fault A6)")
+    refused("a bad zone", started(room, admit("ed25519.pub", "trust", "--zone", "x")), "--zone has a value that cannot be read (fault value zone)")
+    refused("another key's algorithm", started(room, admit("ed25519.pub", "trust", "--algorithm", "rsa-sha2-512")), "does not go with this key or certificate (fault A3)")
+    refused("RSA with SHA-1", started(room, admit("rsa2048.pub", "trust", "--algorithm", "ssh-rsa")), "RSA with SHA-1 is not taken")
+    refused("a bad port", started(room, trusts("ed25519.pub", "trust", "--port", "65536")), "--port has a value that cannot be read (fault value port)")
+    sought = "looked for " + fingerprint(room, "ed25519.pub")
+    unread = ["line 1: it cannot be read: its options have not the form that sshd(8) gives (G1 L2)", "sshd may read a line that cannot be read here: count it as access until it is mended"]
+    check("an unreadable line", would_admit(room, "ed25519.pub", ["restrict,,pty " + key]), (1, [NO_LINE, sought, *unread]))
+    verifying = "not admitted: the first line that admits it, or the certificate, wants a security key that verifies its user; sshd asks that of security keys alone (N5)"
+    check("verify-required", would_admit(room, "ed25519.pub", ["verify-required " + key]), (1, [verifying]))
+
+
+def evidence_edge_rows(room):
+    """An answer that cannot be verified has status 2, and evidence that is not good status 1."""
+    verify = lambda *words, **how: started(room, [EXAMPLES / "verify_evidence.py", *words], **how)
+    blob = base64.b64decode(public(room, "ed25519.pub").split()[1])
+    line = lambda key, message, signature: f"evidence 0 {key.hex() or '-'} {message.hex() or '-'} {signature.hex() or '-'}\n".encode()
+    refused("a missing answer", verify("missing"), "missing cannot be read: No such file")
+    refused("an empty answer", verify(stdin=b""), "the answer lists no evidence: it is empty")
+    refused("a fault", verify(stdin=b"fault A9\n"), "the answer lists no evidence: fault A9")
+    refused("no hexadecimal", verify(stdin=b"evidence 0 zz 00 00\n"), "has not its form")
+    refused("two fields", verify(stdin=b"evidence 0 00 00\n"), "has not its form")
+    refused("no ASCII", verify(stdin=b"evidence 0 \xff 00 00\n"), "has not its form")
+    refused("no openssl", verify(stdin=line(blob, b"", b""), PATH=os.path.dirname(sys.executable)) if shutil.which("openssl", path=os.path.dirname(sys.executable)) is None else verify("missing"), "openssl is missing" if shutil.which("openssl", path=os.path.dirname(sys.executable)) is None else "missing cannot be read")
+    for name, evidence, wanted in (
+        ("no key", line(b"", b"", b""), "evidence 0: NOT GOOD (a field of the key or the signature is cut short)"),
+        ("an unknown type", line(string(b"frob"), b"", b""), "evidence 0: NOT GOOD (the key is of a type that this script does not know)"),
+        ("an unknown curve", line(string(b"ecdsa-sha2-frob") + string(b"frob") + string(b""), b"", b""), "evidence 0: NOT GOOD (the key is on a curve that this script does not know)"),
+        ("another algorithm", line(blob, b"", string(b"ssh-rsa") + string(b"")), "evidence 0: NOT GOOD (the signature's algorithm does not fit its key)"),
+        ("bytes after it", line(blob, b"", string(b"ssh-ed25519") + string(b"") + b"x"), "evidence 0: NOT GOOD (there are bytes after the signature)"),
+        ("a stand-in", line(blob, b"", string(b"ssh-ed25519") + string(b"\0")), "evidence 0: NOT GOOD"),
+    ):
+        ran = verify(stdin=evidence)
+        check(f"evidence: {name}", (ran.returncode, ran.stdout, ran.stderr.decode()), (1, b"", wanted + "\n"))
+    ran = verify("--vouch", "missing/file", stdin=line(blob, b"", b""))
+    check("a vouch file that cannot be written", (ran.returncode, b"missing/file cannot be written" in ran.stderr, b"Traceback" in ran.stderr), (2, True, False))
+
+
 def main():
     for need in ("ssh-keygen", "openssl"):
         if shutil.which(need) is None:
@@ -172,6 +319,9 @@ def main():
         keygen_rows(room)
         signed_rows(room)
         certificate_rows(room)
+        host_rows(room)
+        edge_rows(room)
+        evidence_edge_rows(room)
     print(f"{passed} passed, {failed} failed")
     return 1 if failed else 0
 

@@ -4,11 +4,13 @@
 usage: program.py [PROGRAM] [--after LOG]
 
 PROGRAM is crates/ssh_audit/out/ssh_audit where it is left out. After its own rows it starts the checks beside it:
-examples.py (keys, certificates and signatures of ssh-keygen and openssl through examples/) and refused_growth.py (each
-growth of memory refused in turn). The last line is 'N passed, M failed' for all of them; with --after, the counts in
-the last line of LOG, what `rt ci` printed, are added. The status is 0 where nothing failed. What cannot run has failed.
+examples.py (keys, certificates and signatures of ssh-keygen and openssl through examples/), documents.py (the commands
+of README.md and docs/MANUAL.md as they stand), codes.py (whether each printed code is in a row) and refused_growth.py
+(each growth of memory refused in turn). With --after, as .ci/run starts it, refused_bodies.py and refused_lines.py run
+too, which need the kit's `rt`, and the counts in the last line of LOG, what `rt ci` printed, are added. The last line
+is 'N passed, M failed' for all of them. The status is 0 where nothing failed. What cannot run has failed.
 
-Needs ssh-keygen (Debian: openssh-client), openssl 3, gcc, /dev/full, and the built program. It takes one to two minutes.
+Needs ssh-keygen (Debian: openssh-client), openssl 3, gcc, /dev/full, and the built program. It takes two to three minutes, without --after.
 """
 import argparse
 import base64
@@ -489,8 +491,8 @@ def counts_of(text):
     return (int(found[1]), int(found[2])) if found else None
 
 
-def other_check(name, path, tally):
-    ran = subprocess.run([sys.executable, HERE / name, path], stdout=subprocess.PIPE, stderr=subprocess.STDOUT, text=True, errors="replace", check=False)
+def other_check(name, tally, *arguments):
+    ran = subprocess.run([sys.executable, HERE / name, *arguments], stdout=subprocess.PIPE, stderr=subprocess.STDOUT, text=True, errors="replace", check=False)
     passed, failed = counts_of(ran.stdout) or (0, 1)
     if ran.returncode or failed:
         failed = failed or 1
@@ -528,8 +530,8 @@ def try_all(path, tally):
             except (OSError, subprocess.SubprocessError) as error:
                 tally.check(row.__name__, repr(error), "no error")
     print(f"program.py itself: {tally.passed} passed, {tally.failed} failed", flush=True)
-    for name in ("examples.py", "refused_growth.py"):
-        other_check(name, path, tally)
+    for name in ("examples.py", "documents.py", "refused_growth.py"):
+        other_check(name, tally, path)
 
 
 def main():
@@ -539,7 +541,11 @@ def main():
     asked = parser.parse_args()
     tally = Tally()
     try_all(asked.program.resolve(), tally)
+    if (HERE / "codes.py").exists():
+        other_check("codes.py", tally)
     if asked.after is not None:
+        for name in ("refused_bodies.py", "refused_lines.py"):
+            other_check(name, tally)
         passed, failed = counts_of(asked.after.read_text(errors="replace")) or (0, 1)
         tally.passed += passed
         tally.failed += failed

@@ -5,13 +5,13 @@ call has to tell out of memory or append its own bytes, and a vector that it ref
     python3 checks/refused_bodies.py
 
 It needs the kit's `rt`, proves nothing, and takes a minute or two: a copy of the repository gets one test for each row
-in place of the tests of ssh_bodies, and `rt try --test --fail-alloc N` runs them for N = 1, 2, .. until no row has an Nth
+in place of the tests of ssh_key_rows, and `rt try --test --fail-alloc N` runs them for N = 1, 2, .. until no row has an Nth
 growth. Another repository's folder may be given as an argument."""
 import hashlib
 import pathlib
 import sys
 
-from refused import check_rows
+from refused import check_rows, told
 
 TOP = pathlib.Path(sys.argv[1] if len(sys.argv) > 1 else pathlib.Path(__file__).parent.parent).resolve()
 
@@ -34,7 +34,7 @@ def signed(hash_name, message):
     return b"SSHSIG" + named + string(hashlib.new(hash_name.decode(), message).digest()), body
 
 
-HEAD = """use crate::{read_private, read_sshsig, sshsig_message, write_private, write_sshsig};
+HEAD = """use ssh_bodies::{read_private, read_sshsig, sshsig_message, write_private, write_sshsig};
 use std::test::Fail;
 """
 
@@ -87,4 +87,4 @@ def tests():
     return HEAD + "".join(texts), len(texts)
 
 
-sys.exit(0 if check_rows(TOP, "ssh_bodies", *tests()) else 1)
+sys.exit(told(check_rows(TOP, "ssh_key_rows", *tests())))

@@ -7,12 +7,12 @@ that was written in part. Run it as
     python3 checks/refused_lines.py
 
 It needs the kit's `rt`, proves nothing, and takes some minutes: a copy of the repository gets one test for each row in
-place of the tests of ssh_lines and of ssh_rewriting, and `rt try --test --fail-alloc N` runs them for N = 1, 2, ..
+place of the tests of ssh_line_rows, and `rt try --test --fail-alloc N` runs them for N = 1, 2, ..
 until no row has an Nth growth. Another repository's folder may be given as an argument."""
 import pathlib
 import sys
 
-from refused import check_rows
+from refused import check_rows, told
 
 TOP = pathlib.Path(sys.argv[1] if len(sys.argv) > 1 else pathlib.Path(__file__).parent.parent).resolve()
 KEY = "AAAAC3NzaC1lZDI1NTE5AAAAI" + "A" * 43
@@ -43,12 +43,16 @@ FAULTS = [
     (f"pty ssh-rsa {KEY}", "TypeMismatch"),
 ]
 
-# Lines of known_hosts, each with its answer.
+# Lines of known_hosts that have an entry, each with what is so of a view of it.
 HASHED = "|1|2vVav4ZtrRlI9vZVi2rMTIUivYg=|REDDqWL/xrS5Nz1y/EZm6d7b1vw="
+KNOWN_ENTRIES = [
+    (f"h,!*.a ssh-ed25519 {KEY} me", 'entry.names().text() == b"h,!*.a".as_slice() && entry.comment() == b"me".as_slice()'),
+    (f"@cert-authority * ssh-ed25519 {KEY}", 'entry.marker() == Marker::CertAuthority && entry.blob().len() == 51'),
+    (f"{HASHED} ssh-ed25519 {KEY}", 'names_host(&entry.names(), b"example.org")'),
+]
+
+# Lines of known_hosts without one, each with its answer.
 KNOWN = [
-    (f"h,!*.a ssh-ed25519 {KEY} me", 'Entry(entry) if entry.names.view().text() == b"h,!*.a".as_slice() && entry.comment.as_slice() == b"me".as_slice()'),
-    (f"@cert-authority * ssh-ed25519 {KEY}", 'Entry(entry) if entry.marker == Marker::CertAuthority && entry.key.blob().len() == 51'),
-    (f"{HASHED} ssh-ed25519 {KEY}", 'Entry(entry) if names_host(&entry.names.view(), b"example.org")'),
     (f"@revoked x ssh-ed25519 {KEY}", "Revoked(bytes) if bytes.as_slice().len() == 51"),
     (f"@revoked x ssh-ed25519 {KEY}*", "RevokedUnreadable"),
     ("@revoked x ssh-ed25519", "RevokedUnreadable"),
@@ -72,9 +76,9 @@ FILES = [
     ("rewrite_known", f"@revoked  h ssh-ed25519 {KEY}\n", f"@revoked  h ssh-ed25519 {KEY}\n"),
 ]
 
-HEAD = """use crate::{
-    AuthLine, KnownLine, LineCause, Marker, names_host, read_auth_line, read_known_line,
-};
+HEAD = """use ssh_lines::{AuthLine, KeyBuffer, KnownLine, Marker, read_auth_line, read_known_line};
+use ssh_names::names_host;
+use ssh_options::LineCause;
 use std::test::Fail;
 """
 
@@ -89,7 +93,23 @@ fn row_%d(rt: HostRuntime) -> Result<(), Fail> {
 }
 """
 
-FILES_HEAD = """use crate::{rewrite_auth, rewrite_known};
+ENTRY_ROW = """
+#[test]
+fn row_%d(rt: HostRuntime) -> Result<(), Fail> {
+    let mut buffer = KeyBuffer::new(rt.alloc())?;
+    let %s::Entry(entry) = %s(rt.alloc(), %s)? else {
+        return Err(Fail::new("no entry"));
+    };
+    let entry = entry.view(&mut buffer);
+    if %s {
+        Ok(())
+    } else {
+        Err(Fail::new("another entry"))
+    }
+}
+"""
+
+FILES_HEAD = """use ssh_rewriting::{rewrite_auth, rewrite_known};
 use std::test::Fail;
 """
 
@@ -112,13 +132,18 @@ def literal(text):
 
 
 def tests():
-    wanted = [
-        ("read_auth_line", line, f"AuthLine::Entry(entry) if entry.options.as_slice().len() == {options} && entry.comment.as_slice() == {literal(comment)}.as_slice()")
+    entries = [
+        ("AuthLine", "read_auth_line", line, f"entry.options().count() == {options} && entry.comment() == {literal(comment)}.as_slice()")
         for line, options, comment in ENTRIES
     ]
-    wanted += [("read_auth_line", line, f"AuthLine::Unreadable(LineCause::{cause})") for line, cause in FAULTS]
-    wanted += [("read_known_line", line, f"KnownLine::{answer}") for line, answer in KNOWN]
-    rows = [ROW % (number, call, literal(line), answer) for number, (call, line, answer) in enumerate(wanted, 1)]
+    entries += [("KnownLine", "read_known_line", line, wanted) for line, wanted in KNOWN_ENTRIES]
+    others = [("read_auth_line", line, f"AuthLine::Unreadable(LineCause::{cause})") for line, cause in FAULTS]
+    others += [("read_known_line", line, f"KnownLine::{answer}") for line, answer in KNOWN]
+    rows = [
+        ENTRY_ROW % (number, kind, call, literal(line), wanted)
+        for number, (kind, call, line, wanted) in enumerate(entries, 1)
+    ]
+    rows += [ROW % (number, call, literal(line), answer) for number, (call, line, answer) in enumerate(others, len(rows) + 1)]
     return HEAD + "".join(rows), len(rows)
 
 
@@ -127,5 +152,7 @@ def file_tests():
     return FILES_HEAD + "".join(rows), len(rows)
 
 
-FILES_PASS = check_rows(TOP, "ssh_rewriting", *file_tests(), told_by="error: Memory")
-sys.exit(0 if FILES_PASS and check_rows(TOP, "ssh_lines", *tests(), emptied=["known_tests.rt"]) else 1)
+sys.exit(told(
+    check_rows(TOP, "ssh_line_rows", *file_tests(), told_by="error: Memory"),
+    check_rows(TOP, "ssh_line_rows", *tests()),
+))
