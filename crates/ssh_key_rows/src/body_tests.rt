@@ -208,12 +208,20 @@ fn writes_what_was_read(rt: HostRuntime) -> Result<(), Fail> {
     Ok(())
 }
 
+/// A public key, the secret that goes with it, and one that does not.
+const PUBLIC: &[u8] = &[0; 32];
+
+const SECRET: &[u8] = &[0; 64];
+
+const OTHER_SECRET: &[u8] = &[1; 64];
+
 /// A body of plain fields, and fields that have none.
 #[test]
 fn makes_a_body_of_fields(rt: HostRuntime) -> Result<(), Fail> {
-    let (public, secret, other) = ([0; 32], [0; 64], [1; 64]);
-    let (public, secret) = (public.as_slice(), secret.as_slice());
-    let key = PrivateFields::Ed25519 { public, secret };
+    let key = PrivateFields::Ed25519 {
+        public: PUBLIC,
+        secret: SECRET,
+    };
     let mut out = Vec::new(rt.alloc());
     write_private(&PrivateView::from_fields(1, key, b"abc")?, &mut out)?;
     same(&rt, &out, &body(&rt, SECTION, b"\x01\x02")?);
@@ -225,11 +233,13 @@ fn makes_a_body_of_fields(rt: HostRuntime) -> Result<(), Fail> {
         scalar: zero,
     };
     let short = PrivateFields::Ed25519 {
-        public: &public[1..],
-        secret,
+        public: &PUBLIC[1..],
+        secret: SECRET,
     };
-    let secret = other.as_slice();
-    let unlike = PrivateFields::Ed25519 { public, secret };
+    let unlike = PrivateFields::Ed25519 {
+        public: PUBLIC,
+        secret: OTHER_SECRET,
+    };
     let value = BodyError::Wire(WireError {
         place: 0,
         cause: WireCause::Value,
@@ -243,8 +253,18 @@ fn makes_a_body_of_fields(rt: HostRuntime) -> Result<(), Fail> {
         let made = PrivateView::from_fields(1, fields, b"abc").map(|_| ());
         same(&rt, &made, &Err(want));
     }
-    let long = vec![in rt.alloc(); 0; 262_144]?;
-    let made = PrivateView::from_fields(1, key, &long).map(|_| ());
+    Ok(())
+}
+
+/// Fields whose body would pass the limit.
+#[test]
+fn makes_no_body_past_the_limit(rt: HostRuntime) -> Result<(), Fail> {
+    let comment = vec![in rt.alloc(); 0; 262_144]?;
+    let key = PrivateFields::Ed25519 {
+        public: PUBLIC,
+        secret: SECRET,
+    };
+    let made = PrivateView::from_fields(1, key, &comment).map(|_| ());
     same(&rt, &made, &Err(BodyError::TooLong));
     Ok(())
 }

@@ -136,13 +136,12 @@ fn makes_each_kind(rt: HostRuntime) -> Result<(), Fail> {
     Ok(())
 }
 
-/// The Ed25519 body with another comment, and so much padding that its section has 392 bytes.
+/// The Ed25519 body with another comment, given with its length before it, and so much padding that
+/// its section has 392 bytes.
 fn padded(rt: &HostRuntime, comment: &[u8]) -> Result<Vec<u8>, Fail> {
     let mut body = Vec::from_slice(rt.alloc(), &ED25519[..94])?;
     body.extend_from_slice(b"\0\0\x01\x88")?;
     body.extend_from_slice(&ED25519[98..225])?;
-    body.extend_from_slice(b"\0\0\0")?;
-    body.push(comment.len() as u8)?;
     body.extend_from_slice(comment)?;
     for byte in 1..=255 {
         if body.len() < 490 {
@@ -155,10 +154,10 @@ fn padded(rt: &HostRuntime, comment: &[u8]) -> Result<Vec<u8>, Fail> {
 /// The most padding that is read, and one byte more.
 #[test]
 fn reads_the_most_padding(rt: HostRuntime) -> Result<(), Fail> {
-    let most = padded(&rt, b"comment")?;
+    let most = padded(&rt, b"\0\0\0\x07comment")?;
     same(&rt, &most.last(), &Some(&254));
     same(&rt, &read_private(&most)?.comment, &b"comment".as_slice());
-    let more = padded(&rt, b"commen")?;
+    let more = padded(&rt, b"\0\0\0\x06commen")?;
     same(&rt, &more.last(), &Some(&255));
     same(
         &rt,

@@ -71,19 +71,21 @@ fn reads_every_option(rt: HostRuntime) -> Result<(), Fail> {
         text.extend_from_slice(b"=\"20240229Z\",")?;
     }
     text.pop();
-    let options = OptionsView::read(&text)?;
-    assert_eq!(rt; options.again().count(), 22);
-    for (i, option) in options.enumerate() {
-        let name = if i < 14 {
-            Flag::ALL[i].name()
-        } else {
-            ValueName::ALL[i - 14].name()
+    let mut options = OptionsView::read(&text)?;
+    for flag in Flag::ALL {
+        let Some(OptionView::Switch(read)) = options.next() else {
+            return Err(Fail::new("no flag"));
         };
-        same(&rt, &option.name(), &name);
-        if let OptionView::Setting(_, value) = option {
-            assert!(rt; value.is_text(b"20240229Z"));
-        }
+        same(&rt, &read, &flag);
     }
+    for name in ValueName::ALL {
+        let Some(OptionView::Setting(read, value)) = options.next() else {
+            return Err(Fail::new("no setting"));
+        };
+        same(&rt, &read, &name);
+        assert!(rt; value.is_text(b"20240229Z"));
+    }
+    assert!(rt; options.next().is_none());
     Ok(())
 }
 
