@@ -1,11 +1,11 @@
 //! Worked lines, by both ways to write them.
 
 use crate::compare::same;
-use ssh_canonical::{canonical_auth_line, canonical_known_line, write_auth_line, write_known_line};
 use ssh_lines::{
     AuthLine, AuthLineView, KeyBuffer, KnownLine, KnownLineView, read_auth_line, read_auth_view,
     read_known_line, read_known_view,
 };
+use ssh_rewriting::{canonical_auth_line, canonical_known_line, write_auth_line, write_known_line};
 use std::alloc::{AllocError, Global};
 use std::test::Fail;
 

@@ -1,3 +1,8 @@
+pub mod KeyTextLemmas
+pub mod AuthLineLemmas
+pub mod KnownLineLemmas
+pub mod Kept
+pub mod Written
 pub mod FileLemmas
 pub mod LineLemmas
 pub mod LoopLemmas

@@ -8,7 +8,7 @@ use Rattle.ssh_lines.specs.declared.known.KnownLine.{KnownLine}
 use Rattle.ssh_lines.specs.declared.known.KnownLine.TheVariants as known
 use Rattle.ssh_lines.specs.AuthGrammar.{auth_line}
 use Rattle.ssh_lines.specs.KnownGrammar.{known_line}
-use Rattle.ssh_canonical.specs.Canonical.{canonical_auth, canonical_known}
+use Rattle.ssh_rewriting.specs.Canonical.{canonical_auth, canonical_known}
 
 -- the lines of a file, each by what stands in its place and ended by an LF
 abbrev pub file_with : (List ℕ → List ℕ) → List ℕ → List ℕ

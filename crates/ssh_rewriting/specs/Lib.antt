@@ -1,3 +1,5 @@
+pub mod Canonical
+pub mod Kept
 pub mod Facts
 pub mod CanonicalFile
 pub mod Answer

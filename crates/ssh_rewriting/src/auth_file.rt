@@ -2,8 +2,8 @@
 
 ghost use Rattle.ssh_rewriting.specs.CanonicalFile.{auth_written};
 
+use crate::auth_line::write_auth_line;
 use crate::kind::Kind;
-use ssh_canonical::write_auth_line;
 use ssh_lines::{AuthLineView, KeyBuffer, read_auth_view};
 use std::alloc::AllocError;
 

@@ -3,7 +3,7 @@
 ghost use Rattle.ssh_rewriting.specs.CanonicalFile.{known_written};
 
 use crate::kind::Kind;
-use ssh_canonical::write_known_line;
+use crate::known_line::write_known_line;
 use ssh_lines::{KeyBuffer, KnownLineView, read_known_view};
 use std::alloc::AllocError;
 

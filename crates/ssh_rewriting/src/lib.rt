@@ -1,7 +1,18 @@
-//! Files of canonical lines, which say what the files say that they are made from.
+//! The canonical line of an entry of an authorized_keys or a known_hosts file, and files of such
+//! lines, which say what the files say that they are made from.
 //!
-//! A line that is no entry stays as it stands. A caller that asks whether a file is written already
-//! as it would be (a test runs these lines):
+//! A canonical line is read as its entry, is no longer than a line that spells the entry, and has no
+//! LF. A caller that writes a line anew (a test runs these lines):
+//!
+//! ```
+//! match read_auth_line(alloc, line)? {
+//!     AuthLine::Entry(entry) => Ok(Some(canonical_auth_line(alloc, &entry)?)),
+//!     _ => Ok(None),
+//! }
+//! ```
+//!
+//! In a file that is written anew a line that is no entry stays as it stands. A caller that asks
+//! whether a file is written already as it would be (a test runs these lines):
 //!
 //! ```
 //! let new = rewrite_known(alloc, file)?;
@@ -10,12 +21,19 @@
 #![tactic(auto)]
 
 mod auth_file;
+mod auth_line;
 mod error;
 mod file;
+mod key_text;
 mod kind;
 mod known_file;
+mod known_line;
+mod laws;
+mod options;
 mod rewrite;
 mod samples;
 
+pub use auth_line::{canonical_auth_line, write_auth_line};
 pub use error::RewriteError;
+pub use known_line::{canonical_known_line, write_known_line};
 pub use rewrite::{rewrite_auth, rewrite_known};

@@ -10,6 +10,5 @@ pub mod MeaningLemmas
 pub mod HostMeaningLemmas
 pub mod DenialLemmas
 pub mod SignatureLemmas
-pub mod RewritingLemmas
 pub mod ReadLemmas
 pub mod RefusalLemmas

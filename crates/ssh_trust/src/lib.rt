@@ -45,7 +45,6 @@ pub use scan::REASON_LIMIT;
 pub use signatures::{SigAnswer, sshsig};
 pub use source::{PIECE_SIZE, Source};
 pub use ssh_offers::{AuditError, HostQuery, Items, LoginQuery, OfferError, Signed};
-pub use ssh_rewriting::{RewriteError, rewrite_auth, rewrite_known};
 pub use ssh_rights::{Carried, CarriedName, Rights};
 pub use ssh_rules::Reason;
 pub use ssh_text::FILE_LIMIT;

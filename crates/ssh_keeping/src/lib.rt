@@ -1,0 +1,7 @@
+//! A file that is written anew keeps every decision.
+//!
+//! There is nothing here to call. The laws join two crates that know nothing of each other: what a
+//! trust file is written anew as (`ssh_rewriting`), and how it is decided (`ssh_trust`).
+#![tactic(auto)]
+
+mod laws;

@@ -1,0 +1,58 @@
+//! The canonical line of an entry of a known_hosts file.
+
+ghost use Rattle.std.specs.Prelude.{◌≡◌, ◌++◌, IfOk, OnOk, OnErr};
+ghost use Rattle.ssh_rewriting.specs.Canonical.{canonical_known, marker_part};
+ghost use Rattle.ssh_rewriting.specs.Kept.{Keeps};
+
+use crate::key_text::put_key;
+use ssh_lines::{KeyBuffer, KnownEntry, KnownEntryView, Marker};
+use std::alloc::{AllocError, Global};
+
+/// Writes a marker and a space at the end, if one stands there.
+fn put_marker(marker: Marker, out: &mut Vec<u8>) -> Result<(), AllocError>
+    ensures ok { OnOk result (out.new.items ≡ out.old.items ++ marker_part marker) }
+    ensures err { OnErr result (out.new.items ≡ out.old.items) }
+{
+    match marker {
+        Marker::Unmarked => Ok(()),
+        Marker::CertAuthority => out.extend_from_slice(b"@cert-authority "),
+    }
+}
+
+/// The canonical line of an entry: its marker if it has one, its names as they are, the type and
+/// the base64 of its key, and its comment if it has one, parted by one space. `Err` means out of
+/// memory.
+pub fn canonical_known_line(alloc: Global, entry: &KnownEntry) -> Result<Vec<u8>, AllocError>
+    ensures { IfOk result (λ line. line.items ≡ canonical_known entry.now) }
+{
+    let mut buffer = KeyBuffer::new(alloc)?;
+    let mut line = Vec::new(alloc);
+    write_known_line(&entry.view(&mut buffer), &mut line)?;
+    Ok(line)
+}
+
+/// After an `Err` a part of the line may stand at the end.
+fn put_known_line(entry: &KnownEntryView<'_>, out: &mut Vec<u8>) -> Result<(), AllocError>
+    ensures ok { OnOk result (out.new.items ≡ out.old.items ++ canonical_known entry.now) }
+    ensures err { OnErr result (Keeps out.old.items out.new.items) }
+{
+    put_marker(entry.marker(), out)?;
+    out.extend_from_slice(entry.names().text())?;
+    out.push(b' ')?;
+    put_key(entry.key().kind(), entry.blob(), entry.comment(), out)?;
+    Ok(())
+}
+
+/// Writes the canonical line of an entry at the end, from the line that it stands on. An `Err` is
+/// want of memory, and changes nothing.
+pub fn write_known_line(entry: &KnownEntryView<'_>, out: &mut Vec<u8>) -> Result<(), AllocError>
+    ensures ok { OnOk result (out.new.items ≡ out.old.items ++ canonical_known entry.now) }
+    ensures err { OnErr result (out.new.items ≡ out.old.items) }
+{
+    let len = out.len();
+    let outcome = put_known_line(entry, out);
+    if outcome.is_err() {
+        out.truncate(len);
+    }
+    outcome
+}
