@@ -4,3 +4,4 @@ pub mod Items
 pub mod PackedLists
 pub mod RowLaws
 pub mod Written
+pub mod OptionLemmas

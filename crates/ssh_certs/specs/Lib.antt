@@ -9,5 +9,9 @@ pub mod Rules
 pub mod View
 pub mod Writing
 pub mod CertificateOf
+pub mod OptionData
+pub mod OptionTable
+pub mod CertificateOptions
 pub mod Samples
+pub mod OptionSamples
 pub mod MadeCertificates

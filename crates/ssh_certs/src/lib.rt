@@ -1,9 +1,11 @@
 //! Certificates of SSH keys (PROTOCOL.certkeys, version 01).
 //!
 //! Reading borrows from the blob and copies nothing. A blob has at most 262,144 bytes; times are
-//! seconds from 1970-01-01 in UTC. No signature is verified here. A caller that asks whether a
-//! user's certificate admits a name now, and then has to see that the signature is the signer's
-//! over the signed part (a test runs these lines):
+//! seconds from 1970-01-01 in UTC. No signature is verified here. What a certificate says of an
+//! option that PROTOCOL.certkeys lists is asked by the option's variant: `CertView::has_named`,
+//! `has_formed` and `text_of`. A caller that asks whether a user's certificate admits a name now,
+//! and then has to see that the signature is the signer's over the signed part (a test runs these
+//! lines):
 //!
 //! ```
 //! let cert = read_cert(blob)?;
@@ -14,8 +16,12 @@
 //! ```
 #![tactic(auto)]
 
+mod certificate_option;
 mod error;
 mod fields;
+mod laws;
+mod option_data;
+mod options;
 mod packed;
 mod parts;
 mod reading;
@@ -25,7 +31,9 @@ mod spelled;
 mod view;
 mod writing;
 
+pub use certificate_option::CertificateOption;
 pub use error::{CertError, WriteError};
+pub use options::has_option;
 pub use packed::{CertOptions, Principals};
 pub use parts::CertParts;
 pub use reading::read_cert;

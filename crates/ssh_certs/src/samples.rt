@@ -6,6 +6,7 @@ ghost use Rattle.ssh_certs.specs.MadeCertificates.{
   MadeCertificatesRefused,
   SignedBySecurityKey,
 };
+ghost use Rattle.ssh_certs.specs.OptionSamples.{DataRead};
 ghost use Rattle.ssh_certs.specs.Samples.{SampleReads};
 
 /// A certificate, as the definitions read and write it.
@@ -16,6 +17,11 @@ fn read_samples()
 /// Certificates over an ECDSA key and over security keys, signed by RSA and ECDSA keys.
 fn made_certificates_as_read()
     ensures { MadeCertificatesRead }
+{}
+
+/// The data of options.
+fn option_data_as_read()
+    ensures { DataRead }
 {}
 
 /// A certificate that a security key signed.

@@ -1,4 +1,3 @@
-pub mod CertificateOptions
 pub mod Rights
 pub mod SecurityKeys
 pub mod Samples

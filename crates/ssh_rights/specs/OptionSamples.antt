@@ -1,32 +1,19 @@
--- Worked options of certificates: what their data holds, which command they force, and which rights they give. The names
--- are those of PROTOCOL.certkeys.
+-- Worked options of certificates: which command they force, and which rights they give. The names are those of
+-- PROTOCOL.certkeys.
 use Rattle.std.specs.Prelude.{◌≡◌, ℕ, Bool, true, false, List, [], ◌∷◌, ◌++◌, map, codes, Option, Some, None}
+use Rattle.ssh_certs.specs.declared.certificate_option.CertificateOption.TheVariants.{SourceAddress}
 use Rattle.ssh_certs.specs.Certificate.{CertOption}
+use Rattle.ssh_certs.specs.CertificateOptions.{forced_by_certificate, text_of}
 use Rattle.ssh_options.specs.AuthOption.{AuthOption, Switch}
 use Rattle.ssh_options.specs.declared.option.Flag.TheVariants as flag
 use Rattle.ssh_offers.specs.Offer.{Offer}
 use Rattle.ssh_rights.specs.declared.right.Right.TheVariants.{Agent, Port, Pty, UserRc, X11}
-use Rattle.ssh_rights.specs.CertificateOptions.{forced_by_certificate, one_string, text_in}
 use Rattle.ssh_rights.specs.Rights.{command_of, has_right}
 use Rattle.ssh_rights.specs.Samples.{bare, certificate, certificate_with, option}
 
 -- a string of up to 255 bytes
 abbrev short : ℕ → List ℕ → List ℕ
 short len text = 0 ∷ 0 ∷ 0 ∷ len ∷ text
-
--- data that is one string, and data that is not: with no bytes, too few, or some after the string
-abbrev pub DataRead : Type 0
-DataRead =
-    (one_string (short 2 (codes "ls")) ≡ Some (codes "ls"))
-    × (one_string (short 0 []) ≡ Some [])
-    × (one_string (short 3 (0 ∷ 34 ∷ 255 ∷ [])) ≡ Some (0 ∷ 34 ∷ 255 ∷ []))
-    × (one_string [] ≡ None)
-    × (one_string (0 ∷ 0 ∷ 0 ∷ []) ≡ None)
-    × (one_string (short 3 (codes "ls")) ≡ None)
-    × (one_string (codes "ls") ≡ None)
-    × (one_string (short 2 (codes "ls" ++ 0 ∷ [])) ≡ None)
-    × (one_string (short 0 (0 ∷ [])) ≡ None)
-    × (one_string (short 2 (codes "ls" ++ short 2 (codes "ls"))) ≡ None)
 
 -- the command that these critical options force
 abbrev Forces : List CertOption → Option (List ℕ) → Type 0
@@ -48,8 +35,8 @@ CommandsForced =
     × Forces (option (codes "Force-Command") (short 2 (codes "ls")) ∷ []) None
     × Forces (option (codes "source-address") (short 2 (codes "ls")) ∷ []) None
     × (forced_by_certificate (certificate_with [] (ls_forced ∷ [])) ≡ None)
-    × (text_in (codes "source-address") (option (codes "source-address") (short 8 (codes "10.0.0.1")) ∷ []) ≡ Some (codes "10.0.0.1"))
-    × (text_in (codes "source-address") (option (codes "source-address") (short 8 (codes "10.0.0.1" ++ 0 ∷ [])) ∷ []) ≡ None)
+    × (text_of SourceAddress (certificate_with (option (codes "source-address") (short 8 (codes "10.0.0.1")) ∷ []) []) ≡ Some (codes "10.0.0.1"))
+    × (text_of SourceAddress (certificate_with (option (codes "source-address") (short 8 (codes "10.0.0.1" ++ 0 ∷ [])) ∷ []) []) ≡ None)
 
 -- the line's command wins over the certificate's
 abbrev pub CommandsChosen : Type 0

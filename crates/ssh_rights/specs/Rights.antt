@@ -1,6 +1,9 @@
 -- What a login may do (sshd(8), AUTHORIZED_KEYS FILE FORMAT; PROTOCOL.certkeys).
-use Rattle.std.specs.Prelude.{◌≡◌, ◌⊎◌, ℕ, Bool, true, false, ◌&&◌, ◌||◌, if◌then◌else◌, List, [], ◌∷◌, ◌++◌, codes, Option, Some, None, unwrap_or}
+use Rattle.std.specs.Prelude.{◌≡◌, ◌⊎◌, ℕ, Bool, true, false, ◌&&◌, ◌||◌, if◌then◌else◌, List, [], ◌∷◌, ◌++◌, Option, Some, None, unwrap_or}
 use Rattle.std.specs.List.{AllByRecursion}
+use Rattle.ssh_certs.specs.declared.certificate_option.CertificateOption.{CertificateOption}
+use Rattle.ssh_certs.specs.declared.certificate_option.CertificateOption.TheVariants.{PermitPortForwarding, PermitAgentForwarding, PermitX11Forwarding, PermitPty, PermitUserRc}
+use Rattle.ssh_certs.specs.CertificateOptions.{forced_by_certificate, has_formed}
 use Rattle.ssh_lines.specs.AuthEntry.{AuthEntry}
 use Rattle.ssh_options.specs.AuthOption.{AuthOption, Switch, Setting}
 use Rattle.ssh_options.specs.declared.option.Flag.{Flag}
@@ -16,7 +19,6 @@ use Rattle.ssh_rights.specs.declared.rights.Rights.{Rights}
 use Rattle.ssh_rights.specs.declared.right.Right.{Right}
 use Rattle.ssh_rights.specs.declared.right.Right.TheVariants.{Port, Agent, X11, Pty, UserRc}
 use Rattle.ssh_offers.specs.Offer.{Offer, plain, certified}
-use Rattle.ssh_rights.specs.CertificateOptions.{forced_by_certificate, has_empty_option}
 
 -- the flags of a line that turn a right on and off
 abbrev pub turns_on : Right → Flag
@@ -34,12 +36,12 @@ turns_off Pty = flag.NoPty
 turns_off UserRc = flag.NoUserRc
 
 -- the extension of a certificate that gives it
-abbrev pub permit_name : Right → List ℕ
-permit_name Port = codes "permit-port-forwarding"
-permit_name Agent = codes "permit-agent-forwarding"
-permit_name X11 = codes "permit-X11-forwarding"
-permit_name Pty = codes "permit-pty"
-permit_name UserRc = codes "permit-user-rc"
+abbrev pub permit_of : Right → CertificateOption
+permit_of Port = PermitPortForwarding
+permit_of Agent = PermitAgentForwarding
+permit_of X11 = PermitX11Forwarding
+permit_of Pty = PermitPty
+permit_of UserRc = PermitUserRc
 
 -- whether an option turns a right on or off, if it does: `restrict` turns each off
 abbrev pub effect_on : Right → AuthOption → Option Bool
@@ -67,7 +69,7 @@ is_on x options = last_word x true options
 -- a certificate has to give the right too
 abbrev pub permits : Right → Offer → Bool
 permits x (plain key) = true
-permits x (certified c) = has_empty_option (permit_name x) c.extensions
+permits x (certified c) = has_formed (permit_of x) c
 
 abbrev pub has_right : Right → List AuthOption → Offer → Bool
 has_right x options offer = is_on x options && permits x offer

@@ -1,11 +1,12 @@
 -- Logins by security keys: touched, and verified (PROTOCOL.u2f; sshd(8), no-touch-required and verify-required).
-use Rattle.std.specs.Prelude.{ℕ, ◌==◌, bit_and, Bool, true, false, not, ◌&&◌, ◌||◌, List, codes, Option, Some, None}
+use Rattle.std.specs.Prelude.{ℕ, ◌==◌, bit_and, Bool, true, false, not, ◌&&◌, ◌||◌, List, Option, Some, None}
 use Rattle.ssh_keys.specs.Signature.{Signature}
+use Rattle.ssh_certs.specs.declared.certificate_option.CertificateOption.TheVariants as certificate_option
+use Rattle.ssh_certs.specs.CertificateOptions.{has_formed, has_named}
 use Rattle.ssh_options.specs.AuthOption.{AuthOption}
 use Rattle.ssh_options.specs.declared.option.Flag.TheVariants.{NoTouchRequired, VerifyRequired}
 use Rattle.ssh_options.specs.Settings.{has_flag}
 use Rattle.ssh_offers.specs.Offer.{Offer, plain, certified}
-use Rattle.ssh_rights.specs.CertificateOptions.{has_empty_option, has_option}
 
 -- the flags of a security key's signature
 abbrev pub user_present : ℕ
@@ -27,7 +28,7 @@ is_present (Some sk) = has_sk_flag user_present (Some sk)
 -- a certificate has to say too that no touch is required
 abbrev pub is_touch_waived : Offer → Bool
 is_touch_waived (plain key) = true
-is_touch_waived (certified c) = has_empty_option (codes "no-touch-required") c.extensions
+is_touch_waived (certified c) = has_formed certificate_option.NoTouchRequired c
 
 abbrev pub waives_touch : List AuthOption → Offer → Bool
 waives_touch options offer = has_flag NoTouchRequired options && is_touch_waived offer
@@ -38,7 +39,7 @@ touch_suffices options offer s = is_present s.sk || waives_touch options offer
 
 abbrev pub is_verification_asked : Offer → Bool
 is_verification_asked (plain key) = false
-is_verification_asked (certified c) = has_option (codes "verify-required") c.critical
+is_verification_asked (certified c) = has_named certificate_option.VerifyRequired c
 
 -- the line or the certificate asks that a security key verified the user
 abbrev pub wants_verification : List AuthOption → Offer → Bool

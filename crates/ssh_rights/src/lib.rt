@@ -1,5 +1,4 @@
-//! What a login that a line admits may do, and what its security key has to show; what the options
-//! of a certificate say.
+//! What a login that a line admits may do, and what its security key has to show.
 //!
 //! A caller that asks whether a line leaves a terminal and a shell to an offer (a test runs these
 //! lines):
@@ -13,15 +12,11 @@
 //! ```
 #![tactic(auto)]
 
-mod certificate_option;
 mod laws;
 mod right;
 mod rights;
 mod samples;
 mod security_key;
 
-pub use certificate_option::{
-    FORCE_COMMAND, VERIFY_REQUIRED, forced_command, has_option, one_string, text_in,
-};
 pub use rights::{Carried, CarriedName, Rights, line_command, rights_of};
 pub use security_key::{touch_suffices, verification_suffices};

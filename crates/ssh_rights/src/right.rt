@@ -7,13 +7,13 @@ ghost use Rattle.ssh_rights.specs.Rights.{
   effect_on,
   has_right,
   is_on,
-  permit_name,
+  permit_of,
   permits,
   turns_off,
   turns_on,
 };
 
-use crate::certificate_option::has_empty_option;
+use ssh_certs::CertificateOption;
 use ssh_offers::Offer;
 use ssh_options::{Flag, OptionView, OptionsView};
 
@@ -55,15 +55,15 @@ impl Right {
     }
 
     /// The extension of a certificate that gives it (PROTOCOL.certkeys).
-    fn permit_name(self) -> &'static [u8]
-        ensures { result.now ≡ permit_name self }
+    fn permit(self) -> CertificateOption
+        ensures { result ≡ permit_of self }
     {
         match self {
-            Right::Port => b"permit-port-forwarding",
-            Right::Agent => b"permit-agent-forwarding",
-            Right::X11 => b"permit-X11-forwarding",
-            Right::Pty => b"permit-pty",
-            Right::UserRc => b"permit-user-rc",
+            Right::Port => CertificateOption::PermitPortForwarding,
+            Right::Agent => CertificateOption::PermitAgentForwarding,
+            Right::X11 => CertificateOption::PermitX11Forwarding,
+            Right::Pty => CertificateOption::PermitPty,
+            Right::UserRc => CertificateOption::PermitUserRc,
         }
     }
 
@@ -97,9 +97,7 @@ impl Right {
     {
         match offer {
             Offer::Plain(_) => true,
-            Offer::Certified(certificate) => {
-                has_empty_option(self.permit_name(), certificate.extensions())
-            }
+            Offer::Certified(certificate) => certificate.has_formed(self.permit()),
         }
     }
 

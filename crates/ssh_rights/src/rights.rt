@@ -14,8 +14,8 @@ ghost use Rattle.ssh_rights.specs.Rights.{
   rights_of,
 };
 
-use crate::certificate_option::forced_command;
 use crate::right::Right;
+use ssh_certs::CertificateOption;
 use ssh_lines::AuthEntryView;
 use ssh_offers::{Items, Offer};
 use ssh_options::{OptionView, OptionsView, ValueName, ValueView};
@@ -114,7 +114,8 @@ fn certificate_command(alloc: Global, offer: &Offer<'_>) -> Result<Option<Bytes>
     match offer {
         Offer::Plain(_) => Ok(None),
         Offer::Certified(certificate) => {
-            let command = copied(alloc, forced_command(certificate))?;
+            let text = certificate.text_of(CertificateOption::ForceCommand);
+            let command = copied(alloc, text)?;
             Ok(command)
         }
     }

@@ -5,7 +5,6 @@ ghost use Rattle.ssh_rights.specs.OptionSamples.{
   CertificateRights,
   CommandsChosen,
   CommandsForced,
-  DataRead,
   LineRights,
 };
 ghost use Rattle.ssh_rights.specs.Samples.{
@@ -23,9 +22,8 @@ fn security_keys_as_judged()
     ensures certificates_verified { CertificatesVerified }
 {}
 
-/// The data of a certificate's options, and the commands that they force.
+/// The commands that a certificate's options force.
 fn options_as_read()
-    ensures data_read { DataRead }
     ensures forced { CommandsForced }
     ensures chosen { CommandsChosen }
 {}

@@ -12,7 +12,7 @@ ghost use Rattle.ssh_rights.specs.SecurityKeys.{
   verification_suffices,
 };
 
-use crate::certificate_option::{VERIFY_REQUIRED, has_empty_option, has_option};
+use ssh_certs::CertificateOption;
 use ssh_lines::AuthEntryView;
 use ssh_offers::{LoginClaimView, Offer};
 use ssh_options::Flag;
@@ -44,9 +44,7 @@ fn is_touch_waived(offer: &Offer<'_>) -> bool
 {
     match offer {
         Offer::Plain(_) => true,
-        Offer::Certified(certificate) => {
-            has_empty_option(b"no-touch-required", certificate.extensions())
-        }
+        Offer::Certified(certificate) => certificate.has_formed(CertificateOption::NoTouchRequired),
     }
 }
 
@@ -55,7 +53,7 @@ fn is_verification_asked(offer: &Offer<'_>) -> bool
 {
     match offer {
         Offer::Plain(_) => false,
-        Offer::Certified(certificate) => has_option(VERIFY_REQUIRED, certificate.critical()),
+        Offer::Certified(certificate) => certificate.has_named(CertificateOption::VerifyRequired),
     }
 }
 

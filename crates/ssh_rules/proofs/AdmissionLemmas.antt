@@ -14,7 +14,7 @@ use Rattle.ssh_rules.specs.declared.reason.Reason.TheVariants as reason
 use Rattle.ssh_offers.specs.Query.{Login}
 use Rattle.ssh_offers.specs.Offer.{Offer, OfCertificate, certified, is_certified, plain, subject}
 use Rattle.ssh_offers.specs.LoginClaim.{LoginClaim}
-use Rattle.ssh_rights.specs.CertificateOptions.{forced_by_certificate}
+use Rattle.ssh_certs.specs.CertificateOptions.{forced_by_certificate}
 use Rattle.ssh_rules.specs.CertificateRules.{first_unknown, has_its_form, has_two, is_known, repeats}
 use Rattle.ssh_rules.specs.CertificateForce.{user_certificate}
 use Rattle.ssh_rules.specs.Obstacles.{first_obstacle, unknown_row}

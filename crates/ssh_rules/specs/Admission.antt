@@ -5,6 +5,7 @@ use Rattle.std.specs.List.{AllByRecursion, list_all, list_any}
 use Rattle.std.specs.Str.{bytes_eq}
 use Rattle.ssh_keys.specs.PublicKey.{PublicKey, key_blob}
 use Rattle.ssh_certs.specs.Certificate.{Certificate, CertOption}
+use Rattle.ssh_certs.specs.CertificateOptions.{forced_by_certificate}
 use Rattle.ssh_lines.specs.AuthEntry.{AuthEntry}
 use Rattle.ssh_options.specs.declared.option.Flag.TheVariants.{CertAuthority}
 use Rattle.ssh_options.specs.declared.option.ValueName.TheVariants.{Command, ExpiryTime, From, Principals}
@@ -19,7 +20,6 @@ use Rattle.ssh_rules.specs.declared.reason.Reason.TheVariants as reason
 use Rattle.ssh_offers.specs.Query.{Login}
 use Rattle.ssh_offers.specs.Offer.{Offer, OfCertificate, certified, is_certified, plain, subject}
 use Rattle.ssh_offers.specs.LoginClaim.{LoginClaim}
-use Rattle.ssh_rights.specs.CertificateOptions.{forced_by_certificate}
 use Rattle.ssh_rules.specs.CertificateRules.{certificate_source, first_unknown, has_its_form, has_two, is_known, repeats}
 use Rattle.ssh_rules.specs.CertificateForce.{InForce, force_rows, user_certificate}
 use Rattle.ssh_rules.specs.Obstacles.{first_obstacle, key_row, or_later, permit_row, role_row, unknown_row, when}

@@ -1,13 +1,16 @@
 -- What the options and the principals of a certificate say (PROTOCOL.certkeys).
-use Rattle.std.specs.Prelude.{ℕ, Bool, false, not, ◌&&◌, ◌||◌, ◌==◌, if◌then◌else◌, List, [], ◌∷◌, length, codes, is_some, Option, Some, None}
+use Rattle.std.specs.Prelude.{ℕ, Bool, false, not, ◌&&◌, ◌||◌, ◌==◌, if◌then◌else◌, List, [], ◌∷◌, length, is_some, Option, Some, None}
 use Rattle.std.specs.List.{list_any, slice_split}
 use Rattle.std.specs.Str.{bytes_eq}
 use Rattle.ssh_patterns.specs.declared.address.Address.{Address}
 use Rattle.ssh_patterns.specs.declared.permit.Permit.{Permit}
 use Rattle.ssh_patterns.specs.declared.permit.Permit.TheVariants.{Yes}
 use Rattle.ssh_patterns.specs.Lists.{cidr_list}
+use Rattle.ssh_certs.specs.declared.certificate_option.CertificateOption.{CertificateOption}
+use Rattle.ssh_certs.specs.declared.certificate_option.CertificateOption.TheVariants.{SourceAddress}
 use Rattle.ssh_certs.specs.Certificate.{Certificate, CertOption}
-use Rattle.ssh_rights.specs.CertificateOptions.{has_option, one_string, text_in}
+use Rattle.ssh_certs.specs.CertificateOptions.{has_option, text_of}
+use Rattle.ssh_certs.specs.OptionTable.{critical_named, fits}
 
 abbrev pub source_by : Option (List ℕ) → Address → Permit
 source_by None address = Yes
@@ -15,12 +18,12 @@ source_by (Some list) address = cidr_list list address
 
 -- what the certificate's own list of sources says of an address
 abbrev pub certificate_source : Certificate → Address → Permit
-certificate_source c address = source_by (text_in (codes "source-address") c.critical) address
+certificate_source c address = source_by (text_of SourceAddress c) address
 
 -- ---- the critical options that a login knows
 
 abbrev pub is_known : List ℕ → Bool
-is_known name = bytes_eq name (codes "force-command") || (bytes_eq name (codes "source-address") || bytes_eq name (codes "verify-required"))
+is_known name = is_some (critical_named name)
 
 -- the name of the first option that no login knows
 abbrev pub first_unknown : List CertOption → Option (List ℕ)
@@ -36,9 +39,14 @@ has_two name (o ∷ options) = if bytes_eq o.name name then has_option name opti
 abbrev pub repeats : List CertOption → Bool
 repeats options = list_any (λ o. has_two o.name options) options
 
--- `verify-required` has no data, and each other one is a string
+-- the data has the form of the option, if it is one that a login knows
+abbrev pub fits_known : Option CertificateOption → List ℕ → Bool
+fits_known None value = false
+fits_known (Some option) value = fits option value
+
+-- the data of the option has its form
 abbrev pub has_its_form : CertOption → Bool
-has_its_form o = if bytes_eq o.name (codes "verify-required") then length o.value == 0 else is_some (one_string o.value)
+has_its_form o = fits_known (critical_named o.name) o.value
 
 -- ---- principals
 

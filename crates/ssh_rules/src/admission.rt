@@ -31,13 +31,13 @@ use crate::obstacle::{
 };
 use crate::reason::{Obstacle, Reason};
 use crate::value_text::ValueText;
-use ssh_certs::CertView;
+use ssh_certs::{CertView, CertificateOption};
 use ssh_expiry::expiry;
 use ssh_lines::AuthEntryView;
 use ssh_offers::{LoginClaimView, Offer};
 use ssh_options::{Flag, ValueName, ValueView};
 use ssh_patterns::{Permit, source_list};
-use ssh_rights::{forced_command, line_command};
+use ssh_rights::line_command;
 use std::alloc::{AllocError, Global};
 
 /// The kind number of a user's certificate (PROTOCOL.certkeys).
@@ -200,7 +200,8 @@ fn critical_obstacle(
     ) {
         return Ok(Some(obstacle));
     }
-    if commands_differ(line_command(entry), forced_command(certificate)) {
+    let own = certificate.text_of(CertificateOption::ForceCommand);
+    if commands_differ(line_command(entry), own) {
         return Ok(Some(Obstacle::Listed(Reason::CommandConflict)));
     }
     Ok(None)

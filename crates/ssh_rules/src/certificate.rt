@@ -3,8 +3,9 @@
 ghost use Rattle.std.specs.Prelude.{◌≡◌, option_copied, None};
 ghost use Rattle.std.specs.List.{list_all, list_any};
 ghost use Rattle.ssh_certs.specs.CertificateOf.{certificate_of};
+ghost use Rattle.ssh_certs.specs.CertificateOptions.{has_option, text_of};
 ghost use Rattle.ssh_certs.specs.Left.{options_left};
-ghost use Rattle.ssh_rights.specs.CertificateOptions.{has_option, one_string, text_in};
+ghost use Rattle.ssh_certs.specs.OptionTable.{critical_named, fits};
 ghost use Rattle.ssh_rules.specs.CertificateRules.{
   certificate_source,
   first_unknown,
@@ -18,18 +19,14 @@ ghost use Rattle.ssh_rules.specs.CertificateRules.{
   serves,
 };
 
-use ssh_certs::{CertOptions, CertView};
+use ssh_certs::{CertOptions, CertView, CertificateOption, has_option};
 use ssh_patterns::{Address, Permit, cidr_list};
-use ssh_rights::{FORCE_COMMAND, VERIFY_REQUIRED, has_option, one_string, text_in};
-
-/// The critical option whose text lists the addresses that the certificate may be used from.
-const SOURCE_ADDRESS: &[u8] = b"source-address";
 
 /// What the certificate's own list of sources says of an address.
 pub(crate) fn certificate_source(certificate: &CertView<'_>, address: &Address) -> Permit
     ensures { result ≡ certificate_source (certificate_of certificate.now) address.now }
 {
-    match text_in(SOURCE_ADDRESS, certificate.critical()) {
+    match certificate.text_of(CertificateOption::SourceAddress) {
         Some(list) => cidr_list(list, address),
         None => Permit::Yes,
     }
@@ -39,7 +36,7 @@ pub(crate) fn certificate_source(certificate: &CertView<'_>, address: &Address) 
 fn is_known(name: &[u8]) -> bool
     ensures { result ≡ is_known name.now }
 {
-    name == FORCE_COMMAND || name == SOURCE_ADDRESS || name == VERIFY_REQUIRED
+    CertificateOption::critical_named(name).is_some()
 }
 
 /// The name of the first option that no login knows.
@@ -83,10 +80,9 @@ pub(crate) fn has_repeated(certificate: &CertView<'_>) -> bool
 fn has_its_form(name: &[u8], value: &[u8]) -> bool
     ensures { result ≡ has_its_form (record { name = name.now; value = value.now }) }
 {
-    if name == VERIFY_REQUIRED {
-        value.is_empty()
-    } else {
-        one_string(value).is_some()
+    match CertificateOption::critical_named(name) {
+        Some(option) => option.fits(value),
+        None => false,
     }
 }
 

@@ -1,12 +1,11 @@
 use Rattle.std.proofs.Common.{refl}
 use Rattle.ssh_wire.specs.Reading.{string_at}
-use Rattle.ssh_rights.specs.CertificateOptions.{whole_string_at}
+use Rattle.ssh_certs.specs.OptionData.{whole_string_at}
 use Rattle.ssh_rights.proofs.samples.options_as_read.Goals as goal
 
 pub returns : goal.returns
 unfolding string_at whole_string_at
 returns c = record {
-  data_read = (refl, refl, refl, refl, refl, refl, refl, refl, refl, refl);
   forced = (refl, refl, refl, refl, refl, refl, refl, refl, refl, refl, refl, refl);
   chosen = (refl, refl, refl, refl);
 }

@@ -1,0 +1,46 @@
+-- What the options of a certificate say (PROTOCOL.certkeys).
+use Rattle.std.specs.Prelude.{ℕ, Bool, ◌&&◌, if◌then◌else◌, List, [], ◌∷◌, Option, Some, None, option_and_then}
+use Rattle.std.specs.List.{list_any}
+use Rattle.std.specs.Str.{bytes_eq}
+use Rattle.ssh_certs.specs.declared.certificate_option.CertificateOption.{CertificateOption}
+use Rattle.ssh_certs.specs.declared.certificate_option.CertificateOption.TheVariants.{ForceCommand}
+use Rattle.ssh_certs.specs.Certificate.{Certificate, CertOption}
+use Rattle.ssh_certs.specs.OptionData.{one_string}
+use Rattle.ssh_certs.specs.OptionTable.{fits, is_critical, name_of}
+
+-- ---- in a list, by name
+
+-- the data of the first option with this name
+abbrev pub option_in : List ℕ → List CertOption → Option (List ℕ)
+option_in name [] = None
+option_in name (o ∷ options) = if bytes_eq o.name name then Some o.value else option_in name options
+
+-- an option with this name
+abbrev pub has_option : List ℕ → List CertOption → Bool
+has_option name options = list_any (λ o. bytes_eq o.name name) options
+
+-- ---- in a certificate
+
+-- the list that the option stands in
+abbrev pub list_for : CertificateOption → Certificate → List CertOption
+list_for option c = if is_critical option then c.critical else c.extensions
+
+-- the certificate has the option, whatever its data
+abbrev pub has_named : CertificateOption → Certificate → Bool
+has_named option c = has_option (name_of option) (list_for option c)
+
+-- an option of this name, with data of its form
+abbrev pub is_formed : CertificateOption → CertOption → Bool
+is_formed option o = bytes_eq o.name (name_of option) && fits option o.value
+
+-- the certificate has the option, with data of its form
+abbrev pub has_formed : CertificateOption → Certificate → Bool
+has_formed option c = list_any (is_formed option) (list_for option c)
+
+-- the text of the first such option, where its data is one string
+abbrev pub text_of : CertificateOption → Certificate → Option (List ℕ)
+text_of option c = option_and_then one_string (option_in (name_of option) (list_for option c))
+
+-- the command that the certificate forces
+abbrev pub forced_by_certificate : Certificate → Option (List ℕ)
+forced_by_certificate c = text_of ForceCommand c
