@@ -1,5 +1,5 @@
 -- What is answered, by the lengths of the file and of the new one.
-use Rattle.std.proofs.Common.{◌≡◌, ℕ, ◌<◌, ◌≤◌, List, length, Result, Ok, Err, refl, sym, ap, ◌∙◌}
+use Rattle.std.proofs.Common.{◌≡◌, ℕ, ◌<◌, ◌≤◌, List, length, Ok, Err, refl, sym, ap, ◌∙◌}
 use Rattle.std.proofs.lemmas.Bool.{le-ltb, lt-ltb}
 use Rattle.ssh_rewriting.specs.declared.error.RewriteError.TheVariants.{TooLong}
 use Rattle.ssh_rewriting.specs.Answer.{rewritten}

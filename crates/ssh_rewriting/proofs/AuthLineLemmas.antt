@@ -10,7 +10,6 @@ use Rattle.ssh_options.specs.AuthOption.{AuthOption}
 use Rattle.ssh_options.specs.OptionNames.{same_name}
 use Rattle.ssh_options.specs.OptionText.{option_name, value_part, SpellsOption, SpellsItems}
 use Rattle.ssh_options.proofs.OptionLemmas.{AreNameBytes, other_byte, spelled-bytes}
-use Rattle.ssh_text.specs.Text.{line_limit}
 use Rattle.ssh_text.specs.Scan.{HasNoNewline}
 use Rattle.ssh_lines.specs.AuthEntry.{AuthEntry}
 use Rattle.ssh_lines.specs.declared.entry.AuthLine.TheVariants.{Entry}

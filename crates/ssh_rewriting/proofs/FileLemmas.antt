@@ -1,5 +1,5 @@
 -- A file of lines that keep what they say, each on one line, says the same; where each stands for itself, so does the file.
-use Rattle.std.proofs.Common.{◌≡◌, ◌≢◌, ℕ, ◌+◌, ◌≤◌, inl, inr, List, [], ◌∷◌, ◌++◌, length, length-append, map, refl, sym, ap, subst, ◌∙◌, arith}
+use Rattle.std.proofs.Common.{◌≡◌, ℕ, ◌+◌, ◌≤◌, inl, inr, List, [], ◌∷◌, ◌++◌, length, length-append, map, refl, sym, ap, subst, ◌∙◌, arith}
 use Rattle.std.specs.List.{AllByRecursion}
 use Rattle.ssh_names.proofs.ByteLemmas.{AreBytes, AreBytes-front, AreBytes-back}
 use Rattle.ssh_text.specs.Text.{lines_of, AreLines}

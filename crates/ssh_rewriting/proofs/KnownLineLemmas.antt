@@ -1,8 +1,6 @@
 -- The canonical line of a known_hosts entry spells it, and is no longer than the line that it comes from.
 use Rattle.std.proofs.Common.{◌≡◌, ℕ, ◌+◌, ◌≤◌, List, [], ◌∷◌, ◌++◌, length, length-append, refl, sym, ap, subst, ◌∙◌, arith, append_assoc}
-use Rattle.ssh_text.specs.Text.{line_limit}
 use Rattle.ssh_text.specs.Scan.{HasNoNewline}
-use Rattle.ssh_names.specs.Names.{names_text}
 use Rattle.ssh_lines.specs.declared.marker.Marker.{Marker}
 use Rattle.ssh_lines.specs.declared.marker.Marker.TheVariants as markers
 use Rattle.ssh_lines.specs.KnownEntry.{KnownEntry}

@@ -12,7 +12,7 @@ use Rattle.ssh_lines.proofs.ReadKnown.{known_line-spells}
 use Rattle.ssh_rewriting.proofs.AuthLineLemmas.{canonical-length, canonical-read, canonical-none}
 use Rattle.ssh_rewriting.proofs.KnownLineLemmas.{known-length, known-read, known-none}
 use Rattle.ssh_rewriting.specs.CanonicalFile.{auth_or_same, auth_written, known_or_same, known_written}
-use Rattle.ssh_rewriting.proofs.FileLemmas.{IsGood, IsKept, KeepsLines}
+use Rattle.ssh_rewriting.proofs.FileLemmas.{IsGood, KeepsLines}
 
 -- ---- authorized_keys
 

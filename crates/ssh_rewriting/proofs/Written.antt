@@ -1,5 +1,5 @@
 -- Options with commas between them, from the first one on.
-use Rattle.std.proofs.Common.{◌≡◌, ℕ, List, [], ◌∷◌, ◌++◌, map, refl, sym, ap, ◌∙◌, append_assoc, append-nil}
+use Rattle.std.proofs.Common.{◌≡◌, ℕ, List, [], ◌∷◌, ◌++◌, map, sym, ap, ◌∙◌, append_assoc, append-nil}
 use Rattle.std.specs.List.{join_with_byte, flat_map}
 use Rattle.ssh_options.specs.AuthOption.{AuthOption}
 use Rattle.ssh_rewriting.specs.Canonical.{after_comma, option_text, options_part}

@@ -3,7 +3,7 @@ use Rattle.std.specs.Prelude.{◌≡◌, ℕ, List, [], ◌∷◌, ◌++◌, cod
 use Rattle.base64.proofs.OnLiterals.{base64_on_literals}
 use Rattle.ssh_wire.specs.Spelling.{mpint_bytes}
 use Rattle.ssh_wire.specs.Reading.{string_at}
-use Rattle.ssh_keys.specs.PublicKey.{PublicKey, key_blob, rsa}
+use Rattle.ssh_keys.specs.PublicKey.{key_blob, rsa}
 use Rattle.ssh_keys.specs.Names.{plain_kind, certificate_kind}
 use Rattle.ssh_keys.specs.KeyReading.{key_in, blob_at, fields_at, public_at}
 use Rattle.ssh_options.specs.OptionNames.{row_of, row_named}

@@ -1,9 +1,9 @@
 -- An entry admits a host's key exactly where no row of the table holds.
-use Rattle.std.proofs.Common.{◌≡◌, ℕ, Bool, true, false, List, [], ◌∷◌, Option, Some, None, refl, sym}
+use Rattle.std.proofs.Common.{◌≡◌, ℕ, Bool, true, false, List, [], ◌∷◌, None, refl, sym}
 use Rattle.std.specs.Bool.{Decides}
 use Rattle.std.proofs.lemmas.Slice.Eq.{bytes_eq-Decides}
 use Rattle.ssh_keys.specs.PublicKey.{key_blob}
-use Rattle.ssh_certs.specs.Certificate.{Certificate, CertOption}
+use Rattle.ssh_certs.specs.Certificate.{CertOption}
 use Rattle.ssh_patterns.specs.Lists.{MatchesInLowerCase, is_match_in_lower_case}
 use Rattle.ssh_patterns.proofs.PermitLaw.{lower-tells, permits-tells}
 use Rattle.ssh_names.specs.Names.{Names, NamesHost, Patterns, Hashed, name_hash, names_host}
@@ -13,7 +13,7 @@ use Rattle.ssh_offers.specs.Offer.{Offer, OfCertificate, certified, is_certified
 use Rattle.ssh_offers.specs.HostClaim.{HostClaim}
 use Rattle.ssh_rules.specs.CertificateForce.{host_certificate}
 use Rattle.ssh_rules.specs.Obstacles.{first_obstacle, unknown_row}
-use Rattle.ssh_rules.specs.HostAdmission.{AdmitsHost, InsistsOnNothing, IsHostInForce, first_name, host_certificate_obstacle, host_force_rows, host_line_rows, host_obstacle, host_offer_obstacle, host_row, looked_up, marks_authority, principal_of}
+use Rattle.ssh_rules.specs.HostAdmission.{AdmitsHost, InsistsOnNothing, IsHostInForce, first_name, host_force_rows, host_line_rows, host_obstacle, host_offer_obstacle, host_row, looked_up, marks_authority, principal_of}
 use Rattle.ssh_rules.proofs.Tests.{none_of, of_none, both_none, none_both, key_held, held_key, same_role, role_same}
 use Rattle.ssh_rules.proofs.ForceLemmas.{in_force, force_none}
 
