@@ -4,8 +4,7 @@ pub mod LongLines
 pub mod HostScanLemmas
 pub mod CandidateLemmas
 pub mod AnswerLemmas
-pub mod LoginAuditLemmas
-pub mod HostAuditLemmas
+pub mod SearchLemmas
 pub mod MeaningLemmas
 pub mod HostMeaningLemmas
 pub mod DenialLemmas
