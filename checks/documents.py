@@ -1,5 +1,6 @@
 #!/usr/bin/env python3
-"""Runs the commands of README.md and docs/MANUAL.md as they stand, and compares what they print.
+"""Runs the commands of README.md and docs/MANUAL.md as they stand, and compares what they print; and compares the
+tables of options in docs/MANUAL.md with the rows in the code.
 
 usage: documents.py [PROGRAM]
 
@@ -7,7 +8,8 @@ A block of a document that is marked `sh` is run; in one that is marked `console
 command, and the lines below it are what it has to print (`..` at the end of a line: it was cut short there). Other
 blocks are not run. The blocks of one document run in one shell, at the top of the repository; a console's command may
 end with status 1 or 2, and a line of a block marked `sh` may not. Needs bash, ssh-keygen, openssl 3 and the built
-program. The last line is 'N passed, M failed'; the status is 0 where nothing failed."""
+program. A table `| Option of `NAME` | ..` has a row for each option of that subcommand in the order of the code, and says
+"left out" of exactly those that may be. The last line is 'N passed, M failed'; the status is 0 where nothing failed."""
 import os
 import pathlib
 import re
@@ -20,6 +22,9 @@ TOP = HERE.parent
 PROGRAM = pathlib.Path(sys.argv[1] if len(sys.argv) > 1 else TOP / "crates" / "ssh_audit" / "out" / "ssh_audit").resolve()
 DOCUMENTS = ("README.md", "docs/MANUAL.md")
 BLOCK = re.compile(r"^```(\S*)\n(.*?)^```$", re.MULTILINE | re.DOTALL)
+CODE = TOP / "crates" / "ssh_command" / "src"
+TABLE = re.compile(r"^\| Option of `(\w+)` \|.*\n\|[-|]*\|\n((?:\|.*\n)*)", re.MULTILINE)
+OPTION = re.compile(r"^\| `--(\w+)` \| (.*) \|$", re.MULTILINE)
 # Stands after each command's output, with its status.
 MARK = "\x1e"
 
@@ -72,6 +77,33 @@ def tried(document, room):
     return passed, failed
 
 
+def rows_of_code():
+    """The options of each subcommand, in their order, each with whether it may be left out."""
+    options = (CODE / "options.rt").read_text()
+    subcommands = (CODE / "subcommand.rt").read_text()
+    names = dict(re.findall(r'OptionName::(\w+) => "(\w+)",', options))
+    lists = {name: re.findall(r"\(OptionName::(\w+), (\w+)\)", body) for name, body in re.findall(r"^const (\w+): \[OptionRow; \d+\] = \[(.*?)\];$", subcommands, re.MULTILINE | re.DOTALL)}
+    places = dict(re.findall(r"Subcommand::(\w+) => &(\w+),", subcommands))
+    spelled = dict(re.findall(r'Subcommand::(\w+) => "(\w+)",', subcommands))
+    return {spelled[which]: [(names[option], needed == "Optional") for option, needed in lists[place]] for which, place in places.items()}
+
+
+def rows_of_manual():
+    """The same, of the tables in the manual."""
+    tables = TABLE.findall((TOP / "docs" / "MANUAL.md").read_text())
+    return {name: [(option, "left out" in text) for option, text in OPTION.findall(body)] for name, body in tables}
+
+
+def compared():
+    """How many subcommands have the same options in the code and in the manual, and how many do not."""
+    code, manual = rows_of_code(), rows_of_manual()
+    wrong = [name for name in sorted({*code, *manual}) if not code.get(name) or code.get(name) != manual.get(name)]
+    for name in wrong:
+        print(f"FAILED docs/MANUAL.md: the options of {name}\n  code   {code.get(name)}\n  manual {manual.get(name)}")
+    good = len({*code, *manual}) - len(wrong)
+    return (good, len(wrong)) if code else (good, len(wrong) + 1)
+
+
 def main():
     if not os.access(PROGRAM, os.X_OK):
         print(f"{PROGRAM} is not built: nothing was tried\n0 passed, 1 failed")
@@ -81,6 +113,8 @@ def main():
         with tempfile.TemporaryDirectory() as folder:
             counts = tried(document, pathlib.Path(folder).resolve())
         passed, failed = passed + counts[0], failed + counts[1]
+    counts = compared()
+    passed, failed = passed + counts[0], failed + counts[1]
     print(f"{passed} passed, {failed} failed")
     return 1 if failed else 0
 

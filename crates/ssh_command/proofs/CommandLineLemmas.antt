@@ -6,22 +6,33 @@ use Rattle.std.specs.Option.{ok_or}
 use Rattle.std.proofs.lemmas.Bool.{and_parts}
 use Rattle.clap.specs.Words.{App, Row, Text, kind_of, is_simple, subcommand_of}
 use Rattle.clap.specs.declared.error.Error.{Error}
-use Rattle.ssh_command.specs.Parsing.{FaultIs, Parses, request_in_memory}
+use Rattle.ssh_command.specs.WordsView.{FaultIs, Parses, request_in_memory}
 use Rattle.ssh_command.specs.declared.request.Request.{Request}
 use Rattle.ssh_command.specs.declared.request.WordsFault.{WordsFault}
+use Rattle.ssh_command.specs.declared.subcommand.Subcommand.{Subcommand}
+use Rattle.ssh_command.specs.declared.subcommand.Subcommand.TheVariants.{Show, Login, Host, Sshsig, Rewrite}
 use Rattle.ssh_command.specs.declared.request.WordsFault.TheVariants.{Usage, Memory}
 use Rattle.clap.specs.Faults.{fault_of, is_simple_and_free}
 use Rattle.clap.specs.declared.error.ErrorKind.{ErrorKind}
 use Rattle.clap.proofs.OnLiterals.{clap_on_literals}
-use Rattle.ssh_command.specs.CommandLine.{Request as Asked, command_line, host_app, login_app, rewrite_app, show_app, sshsig_app, request_in, request_of, spelled}
+use Rattle.ssh_command.specs.CommandLine.{Request as Asked, command_line, request_in, request_of, spelled, subcommand_app}
+
+-- each subcommand is plain
+pub plain_subcommand : (c : Subcommand) → (subcommand_app c).top.is_plain ≡ true
+unfolding subcommand_app
+plain_subcommand Show = refl
+plain_subcommand Login = refl
+plain_subcommand Host = refl
+plain_subcommand Sshsig = refl
+plain_subcommand Rewrite = refl
 
 pub is_plain : is_simple_and_free command_line ≡ true
-unfolding host_app login_app rewrite_app show_app sshsig_app clap_on_literals
+unfolding subcommand_app clap_on_literals
 is_plain = refl
 
 -- no words spell no request
 pub no_request : request_of [] ≡ None
-unfolding host_app login_app rewrite_app show_app sshsig_app clap_on_literals
+unfolding subcommand_app clap_on_literals
 no_request = refl
 
 -- words with a fault spell no request

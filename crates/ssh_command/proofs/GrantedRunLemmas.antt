@@ -1,21 +1,27 @@
 -- A run that ends with status 0 is a grant.
-use Rattle.std.proofs.Common.{◌≡◌, ◌∙◌, ℕ, List, Option, Some, None, Result, Ok, Err, ap, subst, sym, refl, inl, inr, arith, codes}
-use Rattle.std.specs.Prelude.{◌^◌}
-use Rattle.base64.specs.Engines.{standard}
-use Rattle.base64.specs.GeneralPurpose.{decoded_of}
+use Rattle.std.proofs.Common.{◌≡◌, ◌∙◌, ℕ, List, Option, Some, None, Result, Ok, Err, ap, subst, sym, refl, inl, inr, arith}
+use Rattle.std.specs.Option.{ok_or}
+use Rattle.clap.specs.Words.{Row, Text}
 use Rattle.jiff.specs.Types.{TimeZone}
 use Rattle.ssh_wire.specs.Reading.{◌>>=◌}
-use Rattle.ssh_offers.specs.Query.{HostCheck, Login}
-use Rattle.ssh_print.specs.Responses.{Response}
+use Rattle.ssh_offers.specs.Query.{HostCheck, Login as LoginAsked}
+use Rattle.ssh_print.specs.Responses.{Response, usage_response, value_response}
 use Rattle.ssh_inputs.specs.SourceState.{SourceState}
-use Rattle.ssh_inputs.specs.Values.{hex_bytes, number_below, short_bytes, short_hex, zone_text, ReadsZone}
-use Rattle.ssh_answers.specs.Asked.{AuditFiles}
-use Rattle.ssh_answers.specs.Audits.{Deciding, IsAuditFault, IsVouchReadFault, host_by, login_by}
-use Rattle.ssh_answers.specs.Granting.{HostGranted, IsOfBytes, LoginGranted}
-use Rattle.ssh_answers.proofs.GrantingLemmas.{host_granted, login_granted}
-use Rattle.ssh_command.specs.CommandLine.{HostWords, LoginWords, Request, host, login, request_of}
+use Rattle.ssh_inputs.specs.Values.{zone_text, ReadsZone}
+use Rattle.ssh_command.specs.declared.options.OptionName.{OptionName}
+use Rattle.ssh_command.specs.declared.options.OptionName.TheVariants as option
+use Rattle.ssh_command.specs.declared.subcommand.Subcommand.TheVariants.{Host, Login}
+use Rattle.ssh_command.specs.Asked.{AuditFiles}
+use Rattle.ssh_command.specs.Audits.{Audits, Deciding, IsAuditFault, IsVouchReadFault, host_by, login_by}
+use Rattle.ssh_command.specs.CommandLine.{Request, request_of}
 use Rattle.ssh_command.specs.GrantedRuns.{GrantsHost, GrantsLogin}
-use Rattle.ssh_command.specs.Requests.{Answers, IsAnswer, IsSpelledFault, RespondsBy, host_spelled, login_in_zone, login_spelled, or_value_fault, request_words, source_of, spelled_response}
+use Rattle.ssh_command.specs.Granting.{HostGranted, IsOfBytes, LoginGranted}
+use Rattle.ssh_command.specs.Hosts.{RespondsToHost, host_spelled}
+use Rattle.ssh_command.specs.Logins.{RespondsToLogin, login_spelled}
+use Rattle.ssh_command.specs.Options.{option_name}
+use Rattle.ssh_command.specs.Requests.{Answers, RespondsBy, request_words, source_of}
+use Rattle.ssh_command.specs.Spelling.{RespondsTo, audit_files, given, needed, or_fault, value}
+use Rattle.ssh_command.proofs.GrantingLemmas.{host_granted, login_granted}
 
 -- ---- values that are none have the status 2
 
@@ -25,96 +31,51 @@ err-same a b h = cc
 status-of : (a b : Response) → a ≡ b → a.status ≡ b.status
 status-of a b e = ap (λ (x : Response). x.status) e
 
-abbrev login_of_values : LoginWords → Option (List ℕ) → Option (List ℕ) → Option (List ℕ) → Option (List ℕ) → Option ℕ → Option TimeZone → Result Login Response
-login_of_values w offered signature session user now zone = do
-  offered ← or_value_fault (codes "offer") offered
-  signature ← or_value_fault (codes "signature") signature
-  session ← or_value_fault (codes "session") session
-  user ← or_value_fault (codes "user") user
-  now ← or_value_fault (codes "now") now
-  zone ← or_value_fault (codes "zone") zone
-  Ok (record {
-    offered = offered;
-    signature = signature;
-    algorithm = w.algorithm;
-    session = session;
-    user = user;
-    host = w.host;
-    address = w.address;
-    now = now;
-    zone = zone;
-  })
+-- where there is an answer in the place of a value, it has the status 2
+abbrev IsFaulty : {A : Type 0} → Result A Response → Type 0
+IsFaulty x = (f : Response) → x ≡ Err f → f.status ≡ 2
 
-values-two : (w : LoginWords) (o g s u : Option (List ℕ)) (n : Option ℕ) (z : Option TimeZone) (f : Response) → login_of_values w o g s u n z ≡ Err f → f.status ≡ 2
-values-two w None g s u n z f h = sym (status-of _ f (err-same _ f h))
-values-two w (Some o) None s u n z f h = sym (status-of _ f (err-same _ f h))
-values-two w (Some o) (Some g) None u n z f h = sym (status-of _ f (err-same _ f h))
-values-two w (Some o) (Some g) (Some s) None n z f h = sym (status-of _ f (err-same _ f h))
-values-two w (Some o) (Some g) (Some s) (Some u) None z f h = sym (status-of _ f (err-same _ f h))
-values-two w (Some o) (Some g) (Some s) (Some u) (Some n) None f h = sym (status-of _ f (err-same _ f h))
-values-two w (Some o) (Some g) (Some s) (Some u) (Some n) (Some z) f h = cc
+step-faulty : {A B : Type 0} (x : Result A Response) (next : A → Result B Response) → IsFaulty x → ((v : A) → IsFaulty (next v)) → IsFaulty (x >>= next)
+step-faulty (Ok v) next first rest f h = rest v f h
+step-faulty (Err e) next first rest f h = sym (status-of e f (err-same e f h)) ∙ first e refl
 
-login-two : (w : LoginWords) (zone : Option TimeZone) (f : Response) → login_spelled w zone ≡ Err f → f.status ≡ 2
+or-faulty : {A : Type 0} (o : Option A) (e : Response) → e.status ≡ 2 → IsFaulty (ok_or o e)
+or-faulty None e two f h = sym (status-of e f (err-same e f h)) ∙ two
+or-faulty (Some x) e two f h = cc
+
+none-faulty : {A : Type 0} (x : A) → IsFaulty (Ok x)
+none-faulty x f h = cc
+
+needed-faulty : (o : OptionName) (rows : List Row) → IsFaulty (needed o rows)
+needed-faulty o rows = or-faulty (given o rows) usage_response refl
+
+fault-faulty : {A : Type 0} (o : OptionName) (v : Option A) → IsFaulty (or_fault o v)
+fault-faulty o v = or-faulty v (value_response (option_name o)) refl
+
+value-faulty : {A : Type 0} (spells : Text → Option A) (o : OptionName) (rows : List Row) → IsFaulty (value spells o rows)
+value-faulty spells o rows = step-faulty (needed o rows) _ (needed-faulty o rows) (λ text. fault-faulty o (spells text))
+
+login-faulty : (rows : List Row) (zone : Option TimeZone) → IsFaulty (login_spelled rows zone)
 unfolding login_spelled
-login-two w zone f h =
-    values-two w (decoded_of standard w.offer) (hex_bytes w.signature) (short_hex w.session) (short_bytes w.user) (number_below (2 ^ 64) w.now) zone f h
+login-faulty rows zone =
+    step-faulty _ _ (value-faulty _ option.Offer rows) (λ offered.
+    step-faulty _ _ (value-faulty _ option.Signature rows) (λ signature.
+    step-faulty _ _ (value-faulty _ option.Session rows) (λ session.
+    step-faulty _ _ (value-faulty _ option.User rows) (λ user.
+    step-faulty _ _ (value-faulty _ option.Now rows) (λ now.
+    step-faulty _ _ (fault-faulty option.Zone zone) (λ zone.
+    step-faulty _ _ (needed-faulty option.Algorithm rows) (λ algorithm.
+    step-faulty _ _ (needed-faulty option.Address rows) (λ address. none-faulty _))))))))
 
-abbrev host_of_values : HostWords → Option (List ℕ) → Option (List ℕ) → Option (List ℕ) → Option ℕ → Option ℕ → Result HostCheck Response
-host_of_values w offered signature exchange_hash port now = do
-  offered ← or_value_fault (codes "offer") offered
-  signature ← or_value_fault (codes "signature") signature
-  exchange_hash ← or_value_fault (codes "hash") exchange_hash
-  port ← or_value_fault (codes "port") port
-  now ← or_value_fault (codes "now") now
-  Ok (record {
-    offered = offered;
-    signature = signature;
-    exchange_hash = exchange_hash;
-    host = w.host;
-    port = port;
-    now = now;
-  })
-
-host-values-two : (w : HostWords) (o g x : Option (List ℕ)) (p n : Option ℕ) (f : Response) → host_of_values w o g x p n ≡ Err f → f.status ≡ 2
-host-values-two w None g x p n f h = sym (status-of _ f (err-same _ f h))
-host-values-two w (Some o) None x p n f h = sym (status-of _ f (err-same _ f h))
-host-values-two w (Some o) (Some g) None p n f h = sym (status-of _ f (err-same _ f h))
-host-values-two w (Some o) (Some g) (Some x) None n f h = sym (status-of _ f (err-same _ f h))
-host-values-two w (Some o) (Some g) (Some x) (Some p) None f h = sym (status-of _ f (err-same _ f h))
-host-values-two w (Some o) (Some g) (Some x) (Some p) (Some n) f h = cc
-
-host-two : (w : HostWords) (f : Response) → host_spelled w ≡ Err f → f.status ≡ 2
+host-faulty : (rows : List Row) → IsFaulty (host_spelled rows)
 unfolding host_spelled
-host-two w f h =
-    host-values-two w (decoded_of standard w.offer) (hex_bytes w.signature) (hex_bytes w.hash) (number_below (2 ^ 16) w.port) (number_below (2 ^ 64) w.now) f h
-
--- ---- a response with the status 0
-
-login-spelled : (w : LoginWords) (zone : Option TimeZone) (s : SourceState) (r : Response) → IsOfBytes w.files s → ReadsZone (zone_text w.zone) zone
-    → (q : Result Login Response) → login_spelled w zone ≡ q → r ≡ spelled_response login_by w.files s q → r.status ≡ 0 → GrantsLogin w s r
-login-spelled w zone s r bytes read (Err f) spelled e h =
-    let two = login-two w zone f spelled in
-    let same = status-of r f e in
-    absurd (omega (arith, two, same, h))
-login-spelled w zone s r bytes read (Ok q) spelled e h = record {
-  zone = zone;
-  read = read;
-  asked = q;
-  spelled = spelled;
-  granted = subst (λ (x : Response). LoginGranted q w.files s x) (sym e) (login_granted q w.files s bytes (sym (status-of r _ e) ∙ h));
-}
-
-host-spelled : (w : HostWords) (s : SourceState) (r : Response) → IsOfBytes w.files s
-    → (q : Result HostCheck Response) → host_spelled w ≡ q → r ≡ spelled_response host_by w.files s q → r.status ≡ 0 → GrantsHost w s r
-host-spelled w s r bytes (Err f) spelled e h =
-    let two = host-two w f spelled in
-    let same = status-of r f e in
-    absurd (omega (arith, two, same, h))
-host-spelled w s r bytes (Ok q) spelled e h = record {
-  asked = q;
-  spelled = spelled;
-  granted = subst (λ (x : Response). HostGranted q w.files s x) (sym e) (host_granted q w.files s bytes (sym (status-of r _ e) ∙ h));
-}
+host-faulty rows =
+    step-faulty _ _ (value-faulty _ option.Offer rows) (λ offered.
+    step-faulty _ _ (value-faulty _ option.Signature rows) (λ signature.
+    step-faulty _ _ (value-faulty _ option.Hash rows) (λ exchange_hash.
+    step-faulty _ _ (value-faulty _ option.Port rows) (λ port.
+    step-faulty _ _ (value-faulty _ option.Now rows) (λ now.
+    step-faulty _ _ (needed-faulty option.Host rows) (λ host. none-faulty _))))))
 
 -- ---- answers that are faults
 
@@ -126,10 +87,41 @@ no-fault : (by : Deciding) (f : AuditFiles) (s : SourceState) (t : Option Source
 no-fault by f s t r (inl fault) h = vouch-fault f.vouch s t r fault h
 no-fault by f s t r (inr (vouched, told, fault)) h = let two = status-of r _ fault.2 in absurd (omega (arith, two, h))
 
-none-spelled : {Q : Type 0} (by : Q → Deciding) (f : AuditFiles) (s : SourceState) (t : Option SourceState) (q : Result Q Response) (r : Response)
-    → IsSpelledFault by f s t q r → r.status ≡ 0 → ⊥
-none-spelled by f s t (Err e) r fault h = fault
-none-spelled by f s t (Ok q) r fault h = no-fault (by q) f s t r fault h
+-- ---- a response with the status 0
+
+login-in : (rows : List Row) (told : Option TimeZone) (f : AuditFiles) (s : SourceState) (t : Option SourceState) (r : Response) → IsOfBytes f s
+    → ReadsZone (zone_text (given option.Zone rows)) told → (q : Result LoginAsked Response) → login_spelled rows told ≡ q
+    → RespondsTo (λ q. Audits (login_by q) f) q s t r → r.status ≡ 0 → GrantsLogin rows f s r
+login-in rows told f s t r bytes read (Err e) spelled h zero =
+    let two = login-faulty rows told e spelled in
+    let same = status-of r e h.1 in
+    absurd (omega (arith, two, same, zero))
+login-in rows told f s t r bytes read (Ok q) spelled (inr fault) zero = absurd (no-fault (login_by q) f s t r fault zero)
+login-in rows told f s t r bytes read (Ok q) spelled (inl (none, e)) zero = record {
+  zone = told;
+  read = read;
+  asked = q;
+  spelled = spelled;
+  granted = subst (λ (x : Response). LoginGranted q f s x) (sym e) (login_granted q f s bytes (sym (status-of r _ e) ∙ zero));
+}
+
+host-in : (rows : List Row) (f : AuditFiles) (s : SourceState) (t : Option SourceState) (r : Response) → IsOfBytes f s
+    → (q : Result HostCheck Response) → host_spelled rows ≡ q → RespondsTo (λ q. Audits (host_by q) f) q s t r → r.status ≡ 0 → GrantsHost rows f s r
+host-in rows f s t r bytes (Err e) spelled h zero =
+    let two = host-faulty rows e spelled in
+    let same = status-of r e h.1 in
+    absurd (omega (arith, two, same, zero))
+host-in rows f s t r bytes (Ok q) spelled (inr fault) zero = absurd (no-fault (host_by q) f s t r fault zero)
+host-in rows f s t r bytes (Ok q) spelled (inl (none, e)) zero = record {
+  asked = q;
+  spelled = spelled;
+  granted = subst (λ (x : Response). HostGranted q f s x) (sym e) (host_granted q f s bytes (sym (status-of r _ e) ∙ zero));
+}
+
+-- the files of the audit are these
+with-files : (responds : AuditFiles → SourceState → Option SourceState → Response → Type 0) (rows : List Row) (f : AuditFiles) (s : SourceState) (t : Option SourceState) (r : Response)
+    → audit_files rows ≡ Ok f → RespondsTo responds (audit_files rows) s t r → responds f s t r
+with-files responds rows f s t r e h = subst (λ (x : Result AuditFiles Response). RespondsTo responds x s t r) e h
 
 -- what is answered to the request that the words spell, where it is no fault of the words themselves
 responds-to : (words : List (List ℕ)) (q : Option Request) (s : SourceState) (t : Option SourceState) (r : Response) → request_of (request_words words s) ≡ q
@@ -140,20 +132,29 @@ responds-to words q s t r e (inl (inl responds)) h =
 responds-to words q s t r e (inl (inr (line, none, usage))) h = let two = status-of r _ usage in absurd (omega (arith, two, h))
 responds-to words q s t r e (inr memory) h = let two = status-of r _ memory in absurd (omega (arith, two, h))
 
-login-by : (w : LoginWords) (s : SourceState) (t : Option SourceState) (r : Response) → IsOfBytes w.files s
-    → RespondsBy (Some (login w)) s t r → r.status ≡ 0 → GrantsLogin w s r
-login-by w s t r bytes (inl (none, (zone, read, e))) h = login-spelled w zone s r bytes read (login_spelled w zone) refl e h
-login-by w s t r bytes (inr (zone, read, fault)) h = absurd (none-spelled login_by w.files s t (login_spelled w zone) r fault h)
+login-by : (rows : List Row) (f : AuditFiles) (s : SourceState) (t : Option SourceState) (r : Response) → audit_files rows ≡ Ok f → IsOfBytes f s
+    → RespondsToLogin rows s t r → r.status ≡ 0 → GrantsLogin rows f s r
+login-by rows f s t r e bytes (zone, read, h) zero =
+    login-in rows zone f s t r bytes read (login_spelled rows zone) refl (with-files (λ f. RespondsTo (λ q. Audits (login_by q) f) (login_spelled rows zone)) rows f s t r e h) zero
 
-host-by : (w : HostWords) (s : SourceState) (t : Option SourceState) (r : Response) → IsOfBytes w.files s
-    → RespondsBy (Some (host w)) s t r → r.status ≡ 0 → GrantsHost w s r
-host-by w s t r bytes (inl (none, e)) h = host-spelled w s r bytes (host_spelled w) refl e h
-host-by w s t r bytes (inr fault) h = absurd (none-spelled host_by w.files s t (host_spelled w) r fault h)
+host-by : (rows : List Row) (f : AuditFiles) (s : SourceState) (t : Option SourceState) (r : Response) → audit_files rows ≡ Ok f → IsOfBytes f s
+    → RespondsToHost rows s t r → r.status ≡ 0 → GrantsHost rows f s r
+host-by rows f s t r e bytes h zero = host-in rows f s t r bytes (host_spelled rows) refl (with-files (λ f. RespondsTo (λ q. Audits (host_by q) f) (host_spelled rows)) rows f s t r e h) zero
 
-pub login_run : (words : List (List ℕ)) (w : LoginWords) (s : SourceState) (t : Option SourceState) (r : Response) → request_of (request_words words s) ≡ Some (login w)
-    → IsOfBytes w.files (source_of words s) → Answers words s t r → r.status ≡ 0 → GrantsLogin w (source_of words s) r
-login_run words w s t r e bytes answers h = login-by w (source_of words s) t r bytes (responds-to words (Some (login w)) s t r e answers h) h
+abbrev login-request : List Row → Request
+login-request rows = record { subcommand = Login; rows = rows }
 
-pub host_run : (words : List (List ℕ)) (w : HostWords) (s : SourceState) (t : Option SourceState) (r : Response) → request_of (request_words words s) ≡ Some (host w)
-    → IsOfBytes w.files (source_of words s) → Answers words s t r → r.status ≡ 0 → GrantsHost w (source_of words s) r
-host_run words w s t r e bytes answers h = host-by w (source_of words s) t r bytes (responds-to words (Some (host w)) s t r e answers h) h
+abbrev host-request : List Row → Request
+host-request rows = record { subcommand = Host; rows = rows }
+
+pub login_run : (words : List (List ℕ)) (rows : List Row) (f : AuditFiles) (s : SourceState) (t : Option SourceState) (r : Response)
+    → request_of (request_words words s) ≡ Some (login-request rows) → audit_files rows ≡ Ok f
+    → IsOfBytes f (source_of words s) → Answers words s t r → r.status ≡ 0 → GrantsLogin rows f (source_of words s) r
+login_run words rows f s t r e files bytes answers zero =
+    login-by rows f (source_of words s) t r files bytes (responds-to words (Some (login-request rows)) s t r e answers zero) zero
+
+pub host_run : (words : List (List ℕ)) (rows : List Row) (f : AuditFiles) (s : SourceState) (t : Option SourceState) (r : Response)
+    → request_of (request_words words s) ≡ Some (host-request rows) → audit_files rows ≡ Ok f
+    → IsOfBytes f (source_of words s) → Answers words s t r → r.status ≡ 0 → GrantsHost rows f (source_of words s) r
+host_run words rows f s t r e files bytes answers zero =
+    host-by rows f (source_of words s) t r files bytes (responds-to words (Some (host-request rows)) s t r e answers zero) zero

@@ -1,5 +1,15 @@
 mod PlainCommand
 mod WrittenText
 mod CommandLineLemmas
+mod SubcommandLemmas
+mod SourceLemmas
+mod SignatureLemmas
+mod AuditLemmas
+mod EvidenceLemmas
+mod GrantingLemmas
+mod ChosenLemmas
+mod RewritingLemmas
+mod ShowLemmas
+mod LoginLemmas
 mod ResponseLemmas
 mod GrantedRunLemmas

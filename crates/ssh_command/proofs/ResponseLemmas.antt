@@ -1,168 +1,84 @@
 -- From what the parts answer to what the program answers and prints.
 use Rattle.std.proofs.Common.{◌≡◌, ◌∙◌, ◌<◌, ℕ, List, [], ◌∷◌, length, map, Option, Some, None, Result, Ok, Err, refl, sym, ap, subst, inl, inr, arith}
 use Rattle.std.specs.Prelude.{IfOk}
-use Rattle.ssh_inputs.specs.SourceState.{IfTells, SourceState, bytes_at}
-use Rattle.ssh_inputs.specs.Parts.{after_line, first_line}
-use Rattle.ssh_command.specs.CommandLine.{Request, host, login, rewrite, show, sshsig, request_of, HostWords, LoginWords, RewriteWords, ShowWords}
-use Rattle.ssh_inputs.specs.Words.{words_in}
-use Rattle.ssh_print.specs.Responses.{Response as Shown, no_file_response}
-use Rattle.ssh_show.specs.declared.kind.ShowKind.{ShowKind}
-use Rattle.ssh_show.specs.Showing.{Shows, show_kind}
-use Rattle.jiff.specs.Types.{TimeZone}
-use Rattle.ssh_answers.specs.Asked.{AuditFiles, SshsigWords}
-use Rattle.ssh_answers.specs.Signatures.{Signs}
-use Rattle.ssh_answers.specs.Audits.{Audits, Deciding, IsAuditFault, audit_response, host_by, login_by}
-use Rattle.ssh_answers.specs.Responding.{IsFaultOf}
-use Rattle.ssh_answers.specs.declared.rewriting.RewriteKind.{RewriteKind}
-use Rattle.ssh_answers.specs.Rewritings.{Rewrites, rewrite_kind, rewrite_over}
-use Rattle.ssh_command.specs.Requests.{Answer, exactly, shown, host_spelled, login_spelled, rewrite_by_kind, rewrite_response, show_answer, show_by_kind, show_over, IsAnswer, Responds, RespondsBy, IsReadFault, IsSpelledFault, answer_in, spelled_response}
-use Rattle.ssh_inputs.specs.Values.{ReadsZone, zone_text}
-use Rattle.ssh_inputs.specs.Loading.{FailsLine, FailsLoad, IsLeft, LoadsLine, NoReadFailed, within_limit}
-use Rattle.ssh_offers.specs.Query.{HostCheck, Login}
 use Rattle.std.proofs.lemmas.Bool.{lt-leb}
+use Rattle.clap.specs.Words.{Row}
+use Rattle.ssh_inputs.specs.SourceState.{IfTells, SourceState}
+use Rattle.ssh_inputs.specs.Parts.{after_line, first_line}
+use Rattle.ssh_inputs.specs.Words.{words_in}
+use Rattle.ssh_inputs.specs.Loading.{FailsLine, LoadsLine}
 use Rattle.ssh_inputs.specs.declared.read.ReadFault.{ReadFault}
 use Rattle.ssh_inputs.specs.declared.read.ReadFault.TheVariants as fault
-use Rattle.ssh_command.specs.Responding.{IsUsageOf}
-use Rattle.ssh_command.proofs.CommandLineLemmas.{no_request}
-use Rattle.ssh_answers.proofs.AuditLemmas.{audit-same, audit_fault-same}
-use Rattle.ssh_answers.proofs.SignatureLemmas.{signature-same, signature_fault-same}
-use Rattle.ssh_answers.proofs.SourceLemmas.{Alike, left-alike, none-failed, one-failed, over_limit}
 use Rattle.ssh_inputs.proofs.PieceLemmas.{words_long}
+use Rattle.ssh_print.specs.declared.response.Response.{Response as Printed}
+use Rattle.ssh_print.specs.ResponseView.{response}
+use Rattle.ssh_print.specs.Responses.{Response as Shown}
+use Rattle.ssh_show.specs.Showing.{show_kind}
+use Rattle.ssh_command.specs.declared.fault.Fault.{Fault}
+use Rattle.ssh_command.specs.declared.fault.Fault.TheVariants.{Usage, Value, Memory}
+use Rattle.ssh_command.specs.declared.options.OptionName.TheVariants as option
+use Rattle.ssh_command.specs.declared.subcommand.Subcommand.{Subcommand}
+use Rattle.ssh_command.specs.declared.subcommand.Subcommand.TheVariants.{Show, Login, Host, Sshsig, Rewrite}
+use Rattle.ssh_command.specs.Audits.{Audits, host_by, login_by}
+use Rattle.ssh_command.specs.CommandLine.{Request, request_of}
+use Rattle.ssh_command.specs.Hosts.{host_spelled}
+use Rattle.ssh_command.specs.Logins.{login_spelled}
+use Rattle.ssh_command.specs.Requests.{Responds, RespondsBy, RespondsIn}
+use Rattle.ssh_command.specs.Responding.{IsUsageOf}
+use Rattle.ssh_command.specs.Rewritings.{RewritesFile, rewrite_kind}
+use Rattle.ssh_command.specs.Shows.{ShowsFile}
+use Rattle.ssh_command.specs.Signatures.{Signs, sshsig_question}
+use Rattle.ssh_command.specs.Spelling.{IsToldAs, RespondsTo, audit_files, needed, value}
+use Rattle.ssh_command.specs.WordsView.{IfAnswered}
+use Rattle.ssh_command.proofs.AuditLemmas.{audits-same}
+use Rattle.ssh_command.proofs.CommandLineLemmas.{no_request}
+use Rattle.ssh_command.proofs.RewritingLemmas.{rewrites-same}
+use Rattle.ssh_command.proofs.ShowLemmas.{shows-same}
+use Rattle.ssh_command.proofs.SignatureLemmas.{signs-same}
+use Rattle.ssh_command.proofs.SourceLemmas.{Alike, left-alike, none-failed}
 
 -- ---- sources that are alike have the same answers
 
-values-same : {Q : Type 0} (by : Q → Deciding) (f : AuditFiles) (a b : SourceState) (q : Result Q Shown) → Alike a b → spelled_response by f a q ≡ spelled_response by f b q
-values-same by f a b (Err r) h = refl
-values-same by f a b (Ok q) h = audit-same (by q) f a b h
+spelled-same : {Q : Type 0} (responds : Q → SourceState → Option SourceState → Shown → Type 0) (spelled : Result Q Shown) (a b : SourceState) (u : Option SourceState) (r : Shown)
+    → Alike a b → ((q : Q) → responds q a u r → responds q b u r) → RespondsTo responds spelled a u r → RespondsTo responds spelled b u r
+spelled-same responds (Err x) a b u r e same h = (none-failed b a u e.failures h.0, h.1)
+spelled-same responds (Ok q) a b u r e same h = same q h
 
-show-same : (w : ShowWords) (a b : SourceState) → Alike a b → show_answer w a ≡ show_answer w b
-show-same w a b h = rw (h.named, h.input) refl
-
-rewrite-same : (w : RewriteWords) (a b : SourceState) → Alike a b → rewrite_response w a ≡ rewrite_response w b
-rewrite-same w a b h = rw (h.named, h.input) refl
-
-answers-same : (a b : SourceState) (q : Option Request) (r : Shown) → Alike a b → IsAnswer (answer_in a q) r → IsAnswer (answer_in b q) r
-answers-same a b None r e h = h
-answers-same a b (Some (login w)) r e (zone, reads, is) = (zone, reads, is ∙ values-same login_by w.files a b (login_spelled w zone) e)
-answers-same a b (Some (host w)) r e h = h ∙ values-same host_by w.files a b (host_spelled w) e
-answers-same a b (Some (sshsig w)) r e h = h ∙ signature-same w a b e
-answers-same a b (Some (rewrite w)) r e h = h ∙ rewrite-same w a b e
-answers-same a b (Some (show w)) r e h = subst (λ (o : Answer). IsAnswer o r) (show-same w a b e) h
-
-spelled_fault-same : {Q : Type 0} (by : Q → Deciding) (f : AuditFiles) (a b : SourceState) (u : Option SourceState) (q : Result Q Shown) (r : Shown) → Alike a b
-    → IsSpelledFault by f a u q r → IsSpelledFault by f b u q r
-spelled_fault-same by f a b u (Err x) r e h = h
-spelled_fault-same by f a b u (Ok q) r e h = audit_fault-same (by q) f a b u r e h
-
-fault-same : (q : Option Request) (a b : SourceState) (u : Option SourceState) (r : Shown) → Alike a b → IsReadFault q a u r → IsReadFault q b u r
-fault-same None a b u r e h = h
-fault-same (Some (login w)) a b u r e (zone, reads, h) = (zone, reads, spelled_fault-same login_by w.files a b u (login_spelled w zone) r e h)
-fault-same (Some (host w)) a b u r e h = spelled_fault-same host_by w.files a b u (host_spelled w) r e h
-fault-same (Some (sshsig w)) a b u r e h = signature_fault-same w a b u r e h
-fault-same (Some (rewrite w)) a b u r e (kind, named, fault) = (kind, named, (one-failed a b u w.file e fault.0, fault.1))
-fault-same (Some (show w)) a b u r e (kind, named, fault) = (kind, named, (one-failed a b u w.file e fault.0, fault.1))
+subcommand-same : (c : Subcommand) (rows : List Row) (a b : SourceState) (u : Option SourceState) (r : Shown) → Alike a b → RespondsIn c rows a u r → RespondsIn c rows b u r
+subcommand-same Show rows a b u r e h =
+    spelled-same (λ kind. RespondsTo (ShowsFile kind) (needed option.File rows)) (value show_kind option.Kind rows) a b u r e
+    (λ kind. spelled-same (ShowsFile kind) (needed option.File rows) a b u r e (λ name. shows-same kind name a b u r e)) h
+subcommand-same Login rows a b u r e (zone, read, h) = (
+  zone,
+  read,
+  spelled-same (λ f. RespondsTo (λ q. Audits (login_by q) f) (login_spelled rows zone)) (audit_files rows) a b u r e
+      (λ f. spelled-same (λ q. Audits (login_by q) f) (login_spelled rows zone) a b u r e (λ q. audits-same (login_by q) f a b u r e)) h,
+)
+subcommand-same Host rows a b u r e h =
+    spelled-same (λ f. RespondsTo (λ q. Audits (host_by q) f) (host_spelled rows)) (audit_files rows) a b u r e
+    (λ f. spelled-same (λ q. Audits (host_by q) f) (host_spelled rows) a b u r e (λ q. audits-same (host_by q) f a b u r e)) h
+subcommand-same Sshsig rows a b u r e h = spelled-same Signs (sshsig_question rows) a b u r e (λ q. signs-same q a b u r e) h
+subcommand-same Rewrite rows a b u r e h =
+    spelled-same (λ kind. RespondsTo (RewritesFile kind) (needed option.File rows)) (value rewrite_kind option.Kind rows) a b u r e
+    (λ kind. spelled-same (RewritesFile kind) (needed option.File rows) a b u r e (λ name. rewrites-same kind name a b u r e)) h
 
 shifted : (q : Option Request) (a b : SourceState) (u : Option SourceState) (r : Shown) → Alike a b → RespondsBy q a u r → RespondsBy q b u r
-shifted q a b u r e (inl h) = inl (none-failed b a u e.failures h.0, answers-same a b q r e h.1)
-shifted q a b u r e (inr h) = inr (fault-same q a b u r e h)
+shifted None a b u r e h = (none-failed b a u e.failures h.0, h.1)
+shifted (Some q) a b u r e h = subcommand-same q.subcommand q.rows a b u r e h
 
--- ---- values
+-- ---- faults
 
--- what is answered to a question is answered to the same question
-pub same_question : {Q R E : Type 0} (view : R → Shown) (by : Q → Deciding) (f : AuditFiles) (p q : Q) (o t : Option SourceState) (res : Result R E) → p ≡ q
-    → IfTells o (λ s. IfOk res (λ r. Audits (by p) f s t (view r)))
-    → IfTells o (λ s. IfOk res (λ r. Audits (by q) f s t (view r)))
-same_question {Q = Q} view by f p q o t res e h =
-    let P : Q → Type 0 = λ x. IfTells o (λ s. IfOk res (λ r. Audits (by x) f s t (view r))) in
-    subst P e h
+told : {E : Type 0} (P : Shown → Type 0) (f : Fault) (res : Result Printed E) → IfAnswered (Err f) P → IfOk res (λ r. IsToldAs f (response r)) → IfOk res (λ r. P (response r))
+told P f (Err x) h is = tt
+told P Usage (Ok r) h is = subst P (sym is) h
+told P (Value o) (Ok r) h is = subst P (sym is) h
+told P Memory (Ok r) h is = absurd is
 
-spelled-fault : {Q : Type 0} (by : Q → Deciding) (f : AuditFiles) (s : SourceState) (t : Option SourceState) (q : Q) (spelled : Result Q Shown) (r : Shown) → spelled ≡ Ok q
-    → IsAuditFault (by q) f s t r → IsSpelledFault by f s t spelled r
-spelled-fault {Q = Q} by f s t q spelled r e h = subst (λ (z : Result Q Shown). IsSpelledFault by f s t z r) (sym e) h
-
-login-by : (w : LoginWords) (q : Login) (zone : Option TimeZone) (s : SourceState) (t : Option SourceState) (r : Shown) → ReadsZone (zone_text w.zone) zone
-    → login_spelled w zone ≡ Ok q → Audits (login_by q) w.files s t r → RespondsBy (Some (login w)) s t r
-login-by w q zone s t r reads e (inl (none, is)) = inl (none, (zone, reads, is ∙ sym (ap (spelled_response login_by w.files s) e)))
-login-by w q zone s t r reads e (inr h) = inr (zone, reads, spelled-fault login_by w.files s t q (login_spelled w zone) r e h)
-
--- what is answered to the values of a login is answered to the login, in the zone of its text
-pub login_responds : {R E : Type 0} (view : R → Shown) (w : LoginWords) (q : Login) (zone : Option TimeZone) (o t : Option SourceState) (res : Result R E)
-    → ReadsZone (zone_text w.zone) zone → login_spelled w zone ≡ Ok q
-    → IfTells o (λ s. IfOk res (λ r. Audits (login_by q) w.files s t (view r)))
-    → IfTells o (λ s. IfOk res (λ r. RespondsBy (Some (login w)) s t (view r)))
-login_responds view w q told None t res reads e h = tt
-login_responds view w q told (Some s) t (Err x) reads e h = λ counts. tt
-login_responds view w q zone (Some s) t (Ok r) reads e h = λ counts. login-by w q zone s t (view r) reads e (h counts)
-
-host-by : (w : HostWords) (q : HostCheck) (s : SourceState) (t : Option SourceState) (r : Shown) → host_spelled w ≡ Ok q → Audits (host_by q) w.files s t r → RespondsBy (Some (host w)) s t r
-host-by w q s t r e (inl (none, is)) = inl (none, is ∙ sym (ap (spelled_response host_by w.files s) e))
-host-by w q s t r e (inr h) = inr (spelled-fault host_by w.files s t q (host_spelled w) r e h)
-
--- what is answered to the values of a host's key is answered to the host's key
-pub host_responds : {R E : Type 0} (view : R → Shown) (w : HostWords) (q : HostCheck) (o t : Option SourceState) (res : Result R E) → host_spelled w ≡ Ok q
-    → IfTells o (λ s. IfOk res (λ r. Audits (host_by q) w.files s t (view r)))
-    → IfTells o (λ s. IfOk res (λ r. RespondsBy (Some (host w)) s t (view r)))
-host_responds view w q None t res e h = tt
-host_responds view w q (Some s) t (Err x) e h = λ counts. tt
-host_responds view w q (Some s) t (Ok r) e h = λ counts. host-by w q s t (view r) e (h counts)
-
--- ---- kinds
-
-show-kind : (w : ShowWords) (kind : ShowKind) (s : SourceState) → show_kind w.kind ≡ Some kind → within_limit (bytes_at s w.file) ≡ None → show_answer w s ≡ exactly (no_file_response w.file)
-show-kind w kind s k h = ap (λ z. show_by_kind z w.file (bytes_at s w.file)) k ∙ ap (show_over kind w.file) h
-
-show-none : (w : ShowWords) (kind : ShowKind) (s : SourceState) (r : Shown) → show_kind w.kind ≡ Some kind → within_limit (bytes_at s w.file) ≡ None → r ≡ no_file_response w.file
-    → IsAnswer (show_answer w s) r
-show-none w kind s r k h is = subst (λ (o : Answer). IsAnswer o r) (sym (show-kind w kind s k h)) is
-
-show-fault : (w : ShowWords) (kind : ShowKind) (s : SourceState) (t : Option SourceState) (e : ReadFault) (r : Shown) → show_kind w.kind ≡ Some kind
-    → FailsLoad w.file (bytes_at s w.file) s t e → IsFaultOf w.file e r → RespondsBy (Some (show w)) s t r
-show-fault w kind s t fault.Missing r k fails is = inl (fails.1, show-none w kind s r k (ap within_limit fails.0) is)
-show-fault w kind s t fault.TooLong r k fails is = inl (fails.1, show-none w kind s r k (over_limit (bytes_at s w.file) fails.0) is)
-show-fault w kind s t fault.Failed r k fails is = inr (kind, k, (fails, is))
-show-fault w kind s t fault.Memory r k fails is = absurd is
-
--- a file to be shown that gives no bytes
-pub show_unread : {R E : Type 0} (view : R → Shown) (w : ShowWords) (kind : ShowKind) (o t : Option SourceState) (e : ReadFault) (res : Result R E) → show_kind w.kind ≡ Some kind
-    → IfTells o (λ s. FailsLoad w.file (bytes_at s w.file) s t e) → IfOk res (λ r. IsFaultOf w.file e (view r))
-    → IfTells o (λ s. IfOk res (λ r. RespondsBy (Some (show w)) s t (view r)))
-show_unread view w kind None t e res k fails is = tt
-show_unread view w kind (Some s) t e (Err x) k fails is = λ counts. tt
-show_unread view w kind (Some s) t e (Ok r) k fails is = λ counts. show-fault w kind s t e (view r) k (fails counts) is
-
-none-left : (s rest : SourceState) (t : Option SourceState) → IsLeft s rest t → NoReadFailed s t
-none-left s rest None h = h
-none-left s rest (Some t) h = h.2
-
-show-done : (w : ShowWords) (kind : ShowKind) (s rest : SourceState) (t : Option SourceState) (file : List ℕ) (r : Shown) → show_kind w.kind ≡ Some kind
-    → within_limit (bytes_at s w.file) ≡ Some file → IsLeft s rest t → Shows kind file r → RespondsBy (Some (show w)) s t r
-show-done w kind s rest t file r k bytes left is =
-    let whole : show_answer w s ≡ shown kind file = ap (λ z. show_by_kind z w.file (bytes_at s w.file)) k ∙ ap (show_over kind w.file) bytes in
-    inl (none-left s rest t left, subst (λ (o : Answer). IsAnswer o r) (sym whole) is)
-
--- a file to be shown that gives its bytes
-pub show_whole : {R E : Type 0} (view : R → Shown) (w : ShowWords) (kind : ShowKind) (o t : Option SourceState) (rest : SourceState → SourceState) (file : List ℕ) (res : Result R E)
-    → show_kind w.kind ≡ Some kind
-    → IfTells o (λ s. (within_limit (bytes_at s w.file) ≡ Some file) × IsLeft s (rest s) t) → IfOk res (λ r. Shows kind file (view r))
-    → IfTells o (λ s. IfOk res (λ r. RespondsBy (Some (show w)) s t (view r)))
-show_whole view w kind None t rest file res k loads is = tt
-show_whole view w kind (Some s) t rest file (Err x) k loads is = λ counts. tt
-show_whole view w kind (Some s) t rest file (Ok r) k loads is = λ counts.
-    let load = loads counts in
-    show-done w kind s (rest s) t file (view r) k load.0 load.1 is
-
-rewrite-by : (w : RewriteWords) (kind : RewriteKind) (s : SourceState) (t : Option SourceState) (r : Shown) → rewrite_kind w.kind ≡ Some kind
-    → Rewrites w.file (rewrite_over kind (bytes_at s w.file)) s t r → RespondsBy (Some (rewrite w)) s t r
-rewrite-by w kind s t r k (inl (none, is)) = inl (none, is ∙ sym (ap (λ z. rewrite_by_kind z (bytes_at s w.file)) k))
-rewrite-by w kind s t r k (inr h) = inr (kind, k, h)
-
--- what is answered to a trust file of a kind is answered to the words that name the kind
-pub rewrite_responds : {R E : Type 0} (view : R → Shown) (w : RewriteWords) (kind : RewriteKind) (o t : Option SourceState) (res : Result R E) → rewrite_kind w.kind ≡ Some kind
-    → IfTells o (λ s. IfOk res (λ r. Rewrites w.file (rewrite_over kind (bytes_at s w.file)) s t (view r)))
-    → IfTells o (λ s. IfOk res (λ r. RespondsBy (Some (rewrite w)) s t (view r)))
-rewrite_responds view w kind None t res k h = tt
-rewrite_responds view w kind (Some s) t (Err x) k h = λ counts. tt
-rewrite_responds view w kind (Some s) t (Ok r) k h = λ counts. rewrite-by w kind s t (view r) k (h counts)
+-- the answer to a fault is the answer that it stands for
+pub fault_told : {E : Type 0} (P : SourceState → Shown → Type 0) (o : Option SourceState) (f : Fault) (res : Result Printed E) → IfTells o (λ s. IfAnswered (Err f) (P s))
+    → IfOk res (λ r. IsToldAs f (response r)) → IfTells o (λ s. IfOk res (λ r. P s (response r)))
+fault_told P None f res h is = tt
+fault_told P (Some s) f res h is = λ counts. told (P s) f res (h counts) is
 
 -- ---- words
 
@@ -194,10 +110,7 @@ unread s u fault.Failed r fails is = inr (fails, refl, is)
 unread s u fault.Memory r fails is = absurd is
 unread s u fault.TooLong r fails is =
     let none : words_in (first_line s) ≡ [] = sym (words_long (first_line s) (lt-leb (length (first_line s)) 65536 fails.0)) in
-    inl (inl (
-      none-failed (after_line s) s u refl fails.1,
-      subst (λ (q : Option Request). IsAnswer (answer_in (after_line s) q) r) (sym (ap request_of none ∙ no_request)) is,
-    ))
+    inl (subst (λ (q : Option Request). RespondsBy q (after_line s) u r) (sym (ap request_of none ∙ no_request)) (none-failed (after_line s) s u refl fails.1, is))
 
 -- a first line of standard input that gives no words
 pub unread_responds : {R E : Type 0} (view : R → Shown) (o u : Option SourceState) (e : ReadFault) (res : Result R E)
@@ -234,9 +147,3 @@ pub no_words_respond : {R E W : Type 0} (view : R → Shown) (text : W → List 
     → IfTells o (λ s. IfOk res (λ r. Responds (map text words) s u (view r)))
 no_words_respond view text [] o u res none h = h
 no_words_respond view text (w ∷ words) o u res none h = absurd (omega (arith, none))
-
--- what is answered to a file signature is answered to the request that asks it
-pub sshsig_responds : {R E : Type 0} (view : R → Shown) (w : SshsigWords) (q : Option Request) (o u : Option SourceState) (res : Result R E) → q ≡ Some (sshsig w)
-    → IfTells o (λ s. IfOk res (λ r. Signs w s u (view r)))
-    → IfTells o (λ s. IfOk res (λ r. RespondsBy q s u (view r)))
-sshsig_responds view w q o u res e h = request_responds view q (Some (sshsig w)) o u res e h

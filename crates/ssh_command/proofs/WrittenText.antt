@@ -2,7 +2,7 @@
 use Rattle.std.proofs.Common.{◌≡◌, ◌∙◌, ◌++◌, ℕ, List, Option, Some, None, ap, sym, refl, take, ne_eqb}
 use Rattle.std.specs.Prelude.{if◌then◌else◌}
 use Rattle.std.proofs.lemmas.List.{append_assoc}
-use Rattle.ssh_inputs.specs.Account.{Account, NoneFailed, failing, takes_nothing, taking, where_told}
+use Rattle.ssh_command.specs.Account.{Account, NoneFailed, failing, takes_nothing, taking, where_told}
 use Rattle.ssh_command.specs.Printing.{Takes}
 
 -- after a write that says that it took n bytes

@@ -1,6 +1,6 @@
 -- What the program leaves with its writer.
 use Rattle.std.specs.Prelude.{◌≡◌, ◌⊎◌, ◌++◌, ◌<◌, ℕ, List, Option, length}
-use Rattle.ssh_inputs.specs.Account.{Account, failing, taking, where_told}
+use Rattle.ssh_command.specs.Account.{Account, failing, taking, where_told}
 use Rattle.ssh_print.specs.Responses.{Response}
 
 -- the text was taken up to this rest, and no write failed

@@ -1,81 +1,82 @@
 -- Worked words and values, as the definitions read them (this project's rules).
-use Rattle.std.specs.Prelude.{◌≡◌, ◌++◌, ℕ, List, [], ◌∷◌, codes, Option, Some, None, Result, Ok, Err, refl}
+use Rattle.std.specs.Prelude.{◌≡◌, ◌++◌, ℕ, List, [], ◌∷◌, codes, Option, Some, None, Result, Ok, Err, map, option_map, refl}
 use Rattle.base64.proofs.OnLiterals.{base64_on_literals}
 use Rattle.clap.proofs.OnLiterals.{clap_on_literals}
+use Rattle.clap.specs.Words.{Row, Text}
+use Rattle.clap.specs.declared.builder.value_parser.Reading.TheVariants as reading
 use Rattle.jiff.specs.Types.{TimeZone}
 use Rattle.ssh_print.specs.Responses.{Response}
 use Rattle.ssh_show.specs.Showing.{show_kind}
 use Rattle.ssh_show.specs.declared.kind.ShowKind.TheVariants as shown
-use Rattle.ssh_command.specs.CommandLine.{HostWords, LoginWords, Request, audit_files, host, host_app, host_words, login, login_app, login_words, request_of, rewrite, rewrite_app, rewrite_words, show, show_app, show_words, sshsig, sshsig_app, sshsig_words}
-use Rattle.ssh_command.specs.Requests.{host_spelled, login_spelled}
+use Rattle.ssh_command.specs.declared.options.OptionName.{OptionName}
+use Rattle.ssh_command.specs.declared.options.OptionName.TheVariants as option
+use Rattle.ssh_command.specs.declared.subcommand.Subcommand.{Subcommand}
+use Rattle.ssh_command.specs.declared.subcommand.Subcommand.TheVariants.{Show, Login, Host, Sshsig, Rewrite}
+use Rattle.ssh_command.specs.CommandLine.{request_of, subcommand_app}
+use Rattle.ssh_command.specs.Hosts.{host_spelled}
+use Rattle.ssh_command.specs.Logins.{login_spelled}
+use Rattle.ssh_command.specs.Options.{option_name, options_of}
+use Rattle.ssh_command.specs.Spelling.{given}
 
 -- ---- words
 
-abbrev login_needed : List (List ℕ)
+-- the subcommand that words ask for, and what they give to each of its options, in the order of the table
+abbrev asked : List Text → Option (Subcommand × List (Option Text))
+asked words = option_map (λ q. (q.subcommand, map (λ row. given row.0 q.rows) (options_of q.subcommand))) (request_of words)
+
+abbrev login_needed : List Text
 login_needed = codes "login" ∷ codes "--file" ∷ codes "f" ∷ codes "--offer" ∷ codes "o" ∷ codes "--signature" ∷ codes "s" ∷ codes "--algorithm" ∷ codes "a"
     ∷ codes "--session" ∷ codes "e" ∷ codes "--user" ∷ codes "u" ∷ codes "--address" ∷ codes "d" ∷ codes "--now" ∷ codes "n" ∷ []
 
-abbrev login_more : List (List ℕ)
+abbrev login_more : List Text
 login_more = codes "--zone" ∷ codes "z" ∷ codes "--vouch" ∷ codes "v" ∷ codes "--host" ∷ codes "h" ∷ []
 
-abbrev login_asked : Option (List ℕ) → Option (List ℕ) → Option (List ℕ) → Request
-login_asked vouch name zone = login (record {
-  files = record { trust = codes "f"; vouch = vouch };
-  offer = codes "o";
-  signature = codes "s";
-  algorithm = codes "a";
-  session = codes "e";
-  user = codes "u";
-  address = codes "d";
-  now = codes "n";
-  host = name;
-  zone = zone;
-})
+abbrev login_asked : Option Text → Option Text → Option Text → Option (Subcommand × List (Option Text))
+login_asked host zone vouch = Some (
+  Login,
+  Some (codes "f") ∷ Some (codes "o") ∷ Some (codes "s") ∷ Some (codes "a") ∷ Some (codes "e") ∷ Some (codes "u") ∷ Some (codes "d") ∷ Some (codes "n")
+      ∷ host ∷ zone ∷ vouch ∷ [],
+)
 
 -- the options of `login`, of which the last three may be left out
 abbrev pub LoginsAsked : Type 0
-LoginsAsked = (request_of login_needed ≡ Some (login_asked None None None))
-    × (request_of (login_needed ++ login_more) ≡ Some (login_asked (Some (codes "v")) (Some (codes "h")) (Some (codes "z"))))
+LoginsAsked = (asked login_needed ≡ login_asked None None None)
+    × (asked (login_needed ++ login_more) ≡ login_asked (Some (codes "h")) (Some (codes "z")) (Some (codes "v")))
 
 pub logins_asked : LoginsAsked
-unfolding host_app login_app rewrite_app show_app sshsig_app audit_files login_words clap_on_literals
+unfolding subcommand_app clap_on_literals
 logins_asked = (refl, refl)
 
-abbrev host_needed : List (List ℕ)
+abbrev host_needed : List Text
 host_needed = codes "host" ∷ codes "--port" ∷ codes "p" ∷ codes "--file" ∷ codes "f" ∷ codes "--offer" ∷ codes "o" ∷ codes "--signature" ∷ codes "s"
     ∷ codes "--hash" ∷ codes "x" ∷ codes "--host" ∷ codes "h" ∷ codes "--now" ∷ codes "n" ∷ []
 
-abbrev host_asked : Option (List ℕ) → Request
-host_asked vouch = host (record {
-  files = record { trust = codes "f"; vouch = vouch };
-  offer = codes "o";
-  signature = codes "s";
-  hash = codes "x";
-  host = codes "h";
-  port = codes "p";
-  now = codes "n";
-})
+abbrev host_asked : Option Text → Option (Subcommand × List (Option Text))
+host_asked vouch = Some (
+  Host,
+  Some (codes "f") ∷ Some (codes "o") ∷ Some (codes "s") ∷ Some (codes "x") ∷ Some (codes "h") ∷ Some (codes "p") ∷ Some (codes "n") ∷ vouch ∷ [],
+)
 
 -- those of `host`, in any order
 abbrev pub HostsAsked : Type 0
-HostsAsked = (request_of host_needed ≡ Some (host_asked None))
-    × (request_of (host_needed ++ codes "--vouch" ∷ codes "-" ∷ []) ≡ Some (host_asked (Some (codes "-"))))
+HostsAsked = (asked host_needed ≡ host_asked None)
+    × (asked (host_needed ++ codes "--vouch" ∷ codes "-" ∷ []) ≡ host_asked (Some (codes "-")))
 
 pub hosts_asked : HostsAsked
-unfolding host_app login_app rewrite_app show_app sshsig_app audit_files host_words clap_on_literals
+unfolding subcommand_app clap_on_literals
 hosts_asked = (refl, refl)
 
 -- those of the other commands
 abbrev pub OthersAsked : Type 0
-OthersAsked = (request_of (codes "show" ∷ codes "--kind" ∷ codes "key" ∷ codes "--file" ∷ codes "f" ∷ []) ≡ Some (show (record { kind = codes "key"; file = codes "f" })))
-    × (request_of (codes "rewrite" ∷ codes "--file" ∷ codes "-" ∷ codes "--kind" ∷ codes "auth" ∷ []) ≡ Some (rewrite (record { kind = codes "auth"; file = codes "-" })))
-    × (request_of (codes "sshsig" ∷ codes "--body" ∷ codes "b" ∷ codes "--message" ∷ codes "m" ∷ codes "--namespace" ∷ codes "file" ∷ [])
-    ≡ Some (sshsig (record { body = codes "b"; message = codes "m"; namespace = codes "file"; vouch = None })))
-    × (request_of (codes "sshsig" ∷ codes "--vouch" ∷ codes "v" ∷ codes "--body" ∷ codes "b" ∷ codes "--message" ∷ codes "m" ∷ codes "--namespace" ∷ codes "file" ∷ [])
-    ≡ Some (sshsig (record { body = codes "b"; message = codes "m"; namespace = codes "file"; vouch = Some (codes "v") })))
+OthersAsked = (asked (codes "show" ∷ codes "--kind" ∷ codes "key" ∷ codes "--file" ∷ codes "f" ∷ []) ≡ Some (Show, Some (codes "key") ∷ Some (codes "f") ∷ []))
+    × (asked (codes "rewrite" ∷ codes "--file" ∷ codes "-" ∷ codes "--kind" ∷ codes "auth" ∷ []) ≡ Some (Rewrite, Some (codes "auth") ∷ Some (codes "-") ∷ []))
+    × (asked (codes "sshsig" ∷ codes "--body" ∷ codes "b" ∷ codes "--message" ∷ codes "m" ∷ codes "--namespace" ∷ codes "file" ∷ [])
+    ≡ Some (Sshsig, Some (codes "b") ∷ Some (codes "m") ∷ Some (codes "file") ∷ None ∷ []))
+    × (asked (codes "sshsig" ∷ codes "--vouch" ∷ codes "v" ∷ codes "--body" ∷ codes "b" ∷ codes "--message" ∷ codes "m" ∷ codes "--namespace" ∷ codes "file" ∷ [])
+    ≡ Some (Sshsig, Some (codes "b") ∷ Some (codes "m") ∷ Some (codes "file") ∷ Some (codes "v") ∷ []))
 
 pub others_asked : OthersAsked
-unfolding host_app login_app rewrite_app show_app sshsig_app show_words sshsig_words rewrite_words clap_on_literals
+unfolding subcommand_app clap_on_literals
 others_asked = (refl, refl, refl, refl)
 
 -- no command, one that is none, an option that is missing, has no value, or is of another command
@@ -88,7 +89,7 @@ WordsRefused = (request_of [] ≡ None)
     × (request_of (codes "show" ∷ codes "--kind" ∷ codes "key" ∷ codes "--file" ∷ codes "f" ∷ codes "g" ∷ []) ≡ None)
 
 pub words_refused : WordsRefused
-unfolding host_app login_app rewrite_app show_app sshsig_app show_words clap_on_literals
+unfolding subcommand_app clap_on_literals
 words_refused = (refl, refl, refl, refl, refl, refl)
 
 -- the kinds that `show` knows
@@ -109,20 +110,28 @@ show_kinds = (refl, refl, refl, refl, refl, refl, refl)
 abbrev no_value : {A : Type 0} → List ℕ → Result A Response
 no_value name = Err (record { status = 2; text = codes "fault value " ++ name ++ codes "\n" })
 
--- the options of a login, of which these are read
-abbrev login_values : List ℕ → List ℕ → List ℕ → List ℕ → LoginWords
-login_values offer signature session now = record {
-  files = record { trust = codes "f"; vouch = None };
-  offer = offer;
-  signature = signature;
-  algorithm = codes "ssh-ed25519";
-  session = session;
-  user = codes "ann";
-  address = codes "192.0.2.1";
-  now = now;
-  host = None;
-  zone = None;
+-- an option that is given this text
+abbrev row : OptionName → Text → Row
+row o text = record {
+  id = option_name o;
+  values = text ∷ [];
+  count = None;
+  source = None;
+  reading = reading.AsWritten;
 }
+
+-- the options of a login, of which these are read
+abbrev login_values : Text → Text → Text → Text → List Row
+login_values offer signature session now =
+    row option.File (codes "f")
+    ∷ row option.Offer offer
+    ∷ row option.Signature signature
+    ∷ row option.Algorithm (codes "ssh-ed25519")
+    ∷ row option.Session session
+    ∷ row option.User (codes "ann")
+    ∷ row option.Address (codes "192.0.2.1")
+    ∷ row option.Now now
+    ∷ []
 
 -- a login that is spelled, in this zone
 abbrev pub LoginSpelled : TimeZone → Type 0
@@ -155,16 +164,16 @@ unfolding login_spelled base64_on_literals
 login_values_in_order = (refl, refl, refl, refl, refl)
 
 -- the options of a host's key, of which these are read
-abbrev host_values : List ℕ → List ℕ → List ℕ → List ℕ → List ℕ → HostWords
-host_values offer signature hash port now = record {
-  files = record { trust = codes "f"; vouch = None };
-  offer = offer;
-  signature = signature;
-  hash = hash;
-  host = codes "h";
-  port = port;
-  now = now;
-}
+abbrev host_values : Text → Text → Text → Text → Text → List Row
+host_values offer signature hash port now =
+    row option.File (codes "f")
+    ∷ row option.Offer offer
+    ∷ row option.Signature signature
+    ∷ row option.Hash hash
+    ∷ row option.Host (codes "h")
+    ∷ row option.Port port
+    ∷ row option.Now now
+    ∷ []
 
 -- a host's key that is spelled, and the first value that is none
 abbrev pub HostValuesInOrder : Type 0

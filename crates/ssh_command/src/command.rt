@@ -1,123 +1,85 @@
 //! The command line.
 
-ghost use Rattle.std.specs.Prelude.{◌≡◌, IfOk, fold, true};
+ghost use Rattle.std.specs.Prelude.{◌≡◌, IfOk};
 ghost use Rattle.clap.specs.Words.{app_of, with_rule, with_subcommand};
 ghost use Rattle.ssh_command.specs.CommandLine.{
   command_line,
   option_rule,
-  host_app,
-  login_app,
-  rewrite_app,
-  show_app,
-  sshsig_app,
+  subcommand_app,
+  with_options,
+  with_subcommands,
 };
 
+use crate::subcommand::{OptionRow, Subcommand};
 use clap::{Arg, Command};
 use std::alloc::{AllocError, Global};
 
-/// The command with one more option, which takes a value.
+/// The command with one more option.
 fn with_option<'a>(
     alloc: Global,
     command: Command<'a>,
-    name: &'a str,
-    required: bool,
+    row: OptionRow,
 ) -> Result<Command<'a>, AllocError>
-    ensures { IfOk result (λ c.
-        app_of c ≡ with_rule (app_of command.entry) (option_rule (name.entry.now, required))) }
+    ensures { IfOk result (λ c. app_of c ≡ with_rule (app_of command.entry) (option_rule row)) }
 {
-    let option = Arg::new(alloc, name).long(name).required(required);
-    command.arg(option)
+    let name: &'a str = row.0.name();
+    let required = row.1.is_required();
+    let arg = Arg::new(alloc, name).long(name).required(required);
+    command.arg(arg)
 }
 
-/// The command with these options too, in their order, each of which takes a value.
+/// The command with these options too, in their order.
 fn with_options<'a>(
     alloc: Global,
     command: Command<'a>,
-    names: &[&'a str],
-    required: bool,
+    rows: &[OptionRow],
 ) -> Result<Command<'a>, AllocError>
-    ensures { IfOk result (λ c. app_of c ≡ fold
-        (λ a name. with_rule a (option_rule (name.now, required)))
-        (app_of command.entry) names.entry.now) }
+    ensures { IfOk result (λ c. app_of c ≡ with_options (app_of command.entry) rows.entry.now) }
 {
     let mut command = command;
-    for name in names {
-        command = with_option(alloc, command, name, required)?;
+    for row in rows {
+        command = with_option(alloc, command, *row)?;
     }
     Ok(command)
 }
 
-/// The subcommand `login`.
-#[tactic(auto, unfolding(crate::specs::CommandLine::login_app))]
-fn login_command<'a>(alloc: Global) -> Result<Command<'a>, AllocError>
-    ensures { IfOk result (λ c. app_of c ≡ login_app) }
+/// The command of a subcommand.
+#[tactic(auto, unfolding(crate::specs::CommandLine::subcommand_app))]
+fn subcommand_command<'a>(alloc: Global, subcommand: Subcommand) -> Result<Command<'a>, AllocError>
+    ensures { IfOk result (λ c. app_of c ≡ subcommand_app subcommand) }
 {
-    let command = Command::new(alloc, "login");
-    let needed = [
-        "file",
-        "offer",
-        "signature",
-        "algorithm",
-        "session",
-        "user",
-        "address",
-        "now",
-    ];
-    let command = with_options(alloc, command, &needed, true)?;
-    with_options(alloc, command, &["host", "zone", "vouch"], false)
-}
-
-/// The subcommand `host`.
-#[tactic(auto, unfolding(crate::specs::CommandLine::host_app))]
-fn host_command<'a>(alloc: Global) -> Result<Command<'a>, AllocError>
-    ensures { IfOk result (λ c. app_of c ≡ host_app) }
-{
-    let command = Command::new(alloc, "host");
-    let needed = ["file", "offer", "signature", "hash", "host", "port", "now"];
-    let command = with_options(alloc, command, &needed, true)?;
-    with_options(alloc, command, &["vouch"], false)
-}
-
-/// The subcommand `show`.
-#[tactic(auto, unfolding(crate::specs::CommandLine::show_app))]
-fn show_command<'a>(alloc: Global) -> Result<Command<'a>, AllocError>
-    ensures { IfOk result (λ c. app_of c ≡ show_app) }
-{
-    let command = Command::new(alloc, "show");
-    let needed = ["kind", "file"];
-    with_options(alloc, command, &needed, true)
-}
-
-/// The subcommand `sshsig`.
-#[tactic(auto, unfolding(crate::specs::CommandLine::sshsig_app))]
-fn sshsig_command<'a>(alloc: Global) -> Result<Command<'a>, AllocError>
-    ensures { IfOk result (λ c. app_of c ≡ sshsig_app) }
-{
-    let command = Command::new(alloc, "sshsig");
-    let needed = ["body", "message", "namespace"];
-    let command = with_options(alloc, command, &needed, true)?;
-    with_options(alloc, command, &["vouch"], false)
-}
-
-/// The subcommand `rewrite`.
-#[tactic(auto, unfolding(crate::specs::CommandLine::rewrite_app))]
-fn rewrite_command<'a>(alloc: Global) -> Result<Command<'a>, AllocError>
-    ensures { IfOk result (λ c. app_of c ≡ rewrite_app) }
-{
-    let command = Command::new(alloc, "rewrite");
-    let needed = ["kind", "file"];
-    with_options(alloc, command, &needed, true)
+    let name: &'a str = subcommand.name();
+    let command = Command::new(alloc, name);
+    with_options(alloc, command, subcommand.options())
 }
 
 /// The command with one more subcommand.
-fn with_command<'a>(
+fn with_subcommand<'a>(
+    alloc: Global,
     command: Command<'a>,
-    subcommand: Command<'a>,
+    subcommand: Subcommand,
 ) -> Result<Command<'a>, AllocError>
-    ensures { (app_of subcommand.entry).top.is_plain ≡ true → IfOk result (λ c.
-        app_of c ≡ with_subcommand (app_of command.entry) (app_of subcommand.entry).top) }
+    ensures { IfOk result (λ c.
+        app_of c ≡ with_subcommand (app_of command.entry) (subcommand_app subcommand).top) }
 {
-    let command = command.subcommand(subcommand)?;
+    let inner = subcommand_command(alloc, subcommand)?;
+    let command = command.subcommand(inner)?;
+    Ok(command)
+}
+
+/// The command with these subcommands too, in their order.
+fn with_subcommands<'a>(
+    alloc: Global,
+    command: Command<'a>,
+    subcommands: &[Subcommand],
+) -> Result<Command<'a>, AllocError>
+    ensures { IfOk result (λ c.
+        app_of c ≡ with_subcommands (app_of command.entry) subcommands.entry.now) }
+{
+    let mut command = command;
+    for subcommand in subcommands {
+        command = with_subcommand(alloc, command, *subcommand)?;
+    }
     Ok(command)
 }
 
@@ -125,15 +87,7 @@ fn with_command<'a>(
 pub fn program<'a>(alloc: Global) -> Result<Command<'a>, AllocError>
     ensures { IfOk result (λ c. app_of c ≡ command_line) }
 {
-    let show = show_command(alloc)?;
-    let showing = with_command(Command::new(alloc, "ssh_audit"), show)?;
-    let login = login_command(alloc)?;
-    let logging_in = with_command(showing, login)?;
-    let host = host_command(alloc)?;
-    let trusting = with_command(logging_in, host)?;
-    let sshsig = sshsig_command(alloc)?;
-    let signing = with_command(trusting, sshsig)?;
-    let rewrite = rewrite_command(alloc)?;
-    let program = with_command(signing, rewrite)?;
-    Ok(program.no_binary_name(true).subcommand_required(true))
+    let command = Command::new(alloc, "ssh_audit");
+    let command = with_subcommands(alloc, command, Subcommand::all())?;
+    Ok(command.no_binary_name(true).subcommand_required(true))
 }

@@ -1,35 +1,65 @@
 //! Laws of the definitions, each proved on a function without a body.
 
-ghost use Rattle.std.specs.Prelude.{◌≡◌, ℕ, List, Option, Some};
+ghost use Rattle.std.specs.Prelude.{◌≡◌, ◌++◌, ℕ, List, Option, Some, Ok, codes};
+ghost use Rattle.std.specs.Fmt.{decimal};
+ghost use Rattle.std.specs.List.{AllByRecursion};
+ghost use Rattle.clap.specs.Words.{Row};
+ghost use Rattle.ssh_offers.specs.declared.query.Signed.{Signed as SignedValue};
+ghost use Rattle.ssh_offers.specs.Query.{HostCheck, Login as LoginAsked};
+ghost use Rattle.ssh_print.specs.DecisionText.{evidence_line};
 ghost use Rattle.ssh_print.specs.Responses.{Response as Shown};
 ghost use Rattle.ssh_inputs.specs.SourceState.{SourceState};
-ghost use Rattle.ssh_answers.specs.Granting.{IsOfBytes};
-ghost use Rattle.ssh_command.specs.CommandLine.{
-  HostWords,
-  LoginWords,
-  host as asks_host,
-  login as asks_login,
-  request_of,
-};
+ghost use Rattle.ssh_inputs.specs.VouchFile.{vouched_of};
+ghost use Rattle.ssh_command.specs.declared.subcommand.Subcommand.TheVariants.{Host, Login};
+ghost use Rattle.ssh_command.specs.Asked.{AuditFiles};
+ghost use Rattle.ssh_command.specs.Audits.{audit_response, host_by, login_by};
+ghost use Rattle.ssh_command.specs.CommandLine.{request_of};
 ghost use Rattle.ssh_command.specs.GrantedRuns.{GrantsHost, GrantsLogin};
+ghost use Rattle.ssh_command.specs.Granting.{HostGranted, IsOfBytes, LoginGranted};
 ghost use Rattle.ssh_command.specs.Requests.{Answers, request_words, source_of};
+ghost use Rattle.ssh_command.specs.Spelling.{audit_files};
+ghost use Rattle.ssh_command.specs.VouchLines.{HasBytes, vouch_file, vouch_line};
+
+/// What is printed of a signature is, after its number, a line of a vouch file; and a vouch file of
+/// such lines vouches for exactly these signatures.
+fn evidence_rule()
+    ensures line { (n : ℕ) (s : SignedValue)
+        → evidence_line n s ≡ codes "evidence " ++ decimal n ++ codes " " ++ vouch_line s
+        ++ codes "\n" }
+    ensures back { (evidence : List SignedValue) → AllByRecursion HasBytes evidence
+        → vouched_of (vouch_file evidence) ≡ Ok evidence }
+{}
+
+/// An answer with status 0 is a grant: of a login and of a host's key, by a line of the trust file
+/// that meets all conditions, where the vouch file vouches for all that it rests on; and the text is
+/// that grant's.
+fn status_rule()
+    ensures login { (q : LoginAsked) (f : AuditFiles) (s : SourceState) → IsOfBytes f s
+        → (audit_response (login_by q) f s).status ≡ 0
+        → LoginGranted q f s (audit_response (login_by q) f s) }
+    ensures host { (q : HostCheck) (f : AuditFiles) (s : SourceState) → IsOfBytes f s
+        → (audit_response (host_by q) f s).status ≡ 0
+        → HostGranted q f s (audit_response (host_by q) f s) }
+{}
 
 /// An answer of `run` with status 0 to words that ask for a login, or of a host's key, is a grant:
 /// the options spell what was asked, and a line of the trust file grants it; the text is that
 /// grant's.
 fn granted_rule()
-    ensures login { (words : List (List ℕ)) (w : LoginWords) (s : SourceState)
+    ensures login { (words : List (List ℕ)) (rows : List Row) (f : AuditFiles) (s : SourceState)
         (t : Option SourceState) (r : Shown)
-        → request_of (request_words words s) ≡ Some (asks_login w)
-        → IsOfBytes w.files (source_of words s)
+        → request_of (request_words words s) ≡ Some (record { subcommand = Login; rows = rows })
+        → audit_files rows ≡ Ok f
+        → IsOfBytes f (source_of words s)
         → Answers words s t r
         → r.status ≡ 0
-        → GrantsLogin w (source_of words s) r }
-    ensures host { (words : List (List ℕ)) (w : HostWords) (s : SourceState)
+        → GrantsLogin rows f (source_of words s) r }
+    ensures host { (words : List (List ℕ)) (rows : List Row) (f : AuditFiles) (s : SourceState)
         (t : Option SourceState) (r : Shown)
-        → request_of (request_words words s) ≡ Some (asks_host w)
-        → IsOfBytes w.files (source_of words s)
+        → request_of (request_words words s) ≡ Some (record { subcommand = Host; rows = rows })
+        → audit_files rows ≡ Ok f
+        → IsOfBytes f (source_of words s)
         → Answers words s t r
         → r.status ≡ 0
-        → GrantsHost w (source_of words s) r }
+        → GrantsHost rows f (source_of words s) r }
 {}

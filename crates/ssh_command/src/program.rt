@@ -1,7 +1,7 @@
 //! The program: words, files and a writer.
 
 ghost use Rattle.std.specs.Prelude.{◌≡◌, map};
-ghost use Rattle.ssh_inputs.specs.Account.{NoneFailed};
+ghost use Rattle.ssh_command.specs.Account.{NoneFailed};
 ghost use Rattle.ssh_print.specs.Responses.{Response as Shown};
 ghost use Rattle.ssh_command.specs.Requests.{Answers, words_response};
 ghost use Rattle.ssh_command.specs.Printing.{Prints};
@@ -9,7 +9,8 @@ ghost use Rattle.ssh_inputs.specs.SourceState.{IfTells};
 
 use crate::request::WordsFault;
 use crate::respond::respond;
-use ssh_inputs::{Files, Sink};
+use crate::sink::Sink;
+use ssh_inputs::Files;
 use ssh_print::FAULT;
 use std::alloc::{AllocError, Global};
 use std::convert::AsStr;

@@ -1,6 +1,17 @@
 //! Worked examples of the definitions. No call needs these functions: the check proves what they
 //! ensure.
 
+ghost use Rattle.std.specs.Prelude.{List, ℕ};
+ghost use Rattle.ssh_offers.specs.declared.query.Signed.{Signed as SignedValue};
+ghost use Rattle.ssh_trust.specs.declared.decision.Decision.{Decision as DecisionValue};
+ghost use Rattle.ssh_command.specs.FileSamples.{
+  FaultsInOrder,
+  RewriteKinds,
+  SignatureFaultsInOrder,
+  TrustFilesLeft,
+  VouchFilesTold,
+  VouchFilesWritten,
+};
 ghost use Rattle.jiff.specs.Types.{TimeZone as Zone};
 ghost use Rattle.ssh_command.specs.Samples.{
   HostValuesInOrder,
@@ -13,13 +24,28 @@ ghost use Rattle.ssh_command.specs.Samples.{
   WordsRefused,
 };
 
+/// What a vouch file tells and leaves, and what is printed as one.
+fn vouch_files_as_told()
+    ensures told { VouchFilesTold }
+    ensures left { TrustFilesLeft }
+    ensures written { VouchFilesWritten }
+{}
+
+/// Which fault is told where there are two.
+fn faults_in_order()
+    ensures audits { (decision : List ℕ → List SignedValue → DecisionValue)
+        → FaultsInOrder decision }
+    ensures signatures { SignatureFaultsInOrder }
+{}
+
 /// What words ask for.
 fn words_as_asked()
     ensures logins { LoginsAsked }
     ensures hosts { HostsAsked }
     ensures others { OthersAsked }
     ensures refused { WordsRefused }
-    ensures kinds { ShowKinds }
+    ensures shown { ShowKinds }
+    ensures rewritten { RewriteKinds }
 {}
 
 /// Values, or the first that is none.

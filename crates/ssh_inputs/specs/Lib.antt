@@ -1,5 +1,4 @@
 pub mod SourceState
-pub mod Account
 pub mod Parts
 pub mod Values
 pub mod Words

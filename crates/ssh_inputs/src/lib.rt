@@ -1,12 +1,10 @@
-//! What a program is given, and what it writes to: files by name, the values that words spell,
-//! vouch files, and a writer that remembers a failure.
+//! What a program is given: files by name, the values that words spell, and vouch files.
 #![tactic(auto)]
 
 mod base64_text;
 mod files;
 mod read;
 mod samples;
-mod sink;
 mod values;
 mod vouch;
 mod words;
@@ -15,7 +13,6 @@ mod zone;
 pub use base64_text::decode;
 pub use files::Files;
 pub use read::{ReadFault, read_first_line, read_vouch_file, read_whole};
-pub use sink::Sink;
 pub use values::{is_short, read_hex, read_number, read_port, read_short_hex};
 pub use vouch::{VouchFault, read_vouched};
 pub use words::read_words;

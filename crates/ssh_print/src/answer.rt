@@ -1,7 +1,6 @@
 //! The responses to what was asked.
 
 ghost use Rattle.std.specs.Prelude.{◌≡◌, IfOk};
-ghost use Rattle.ssh_print.specs.Codes.{body_codes, cert_codes, line_codes};
 ghost use Rattle.ssh_print.specs.Responses.{
   decision_status,
   decision_response,
@@ -14,69 +13,72 @@ ghost use Rattle.ssh_print.specs.Responses.{
 };
 ghost use Rattle.ssh_print.specs.ResponseView.{response};
 
-use crate::codes::{push_body_codes, push_cert_codes, push_fault_codes, push_line_codes};
+use crate::codes::push_fault_codes;
 use crate::decision_text::push_decision;
 use crate::response::{FAULT, Response};
 use crate::text::{push_escaped, push_number};
-use ssh_bodies::BodyError;
-use ssh_certs::CertError;
 use ssh_offers::AuditError;
-use ssh_options::LineCause;
 use ssh_trust::Decision;
 use std::alloc::{AllocError, Global};
+
+/// The response to a fault of these codes, each after a space.
+pub fn fault_response(alloc: Global, codes: &[u8]) -> Result<Response, AllocError>
+    ensures { IfOk result (λ r. response r ≡ fault_response codes.now) }
+{
+    let mut text = Vec::new(alloc);
+    text.extend_from_slice(b"fault")?;
+    text.extend_from_slice(codes)?;
+    text.push(b'\n')?;
+    Ok(Response {
+        status: FAULT,
+        text,
+    })
+}
 
 /// The response to words that ask for nothing.
 pub fn usage_fault(alloc: Global) -> Result<Response, AllocError>
     ensures { IfOk result (λ r. response r ≡ usage_response) }
 {
-    let mut text = Vec::new(alloc);
-    text.extend_from_slice(b"fault usage\n")?;
-    Ok(Response {
-        status: FAULT,
-        text,
-    })
+    fault_response(alloc, b" usage")
 }
 
 /// The response to a value that the option of this name does not take.
 pub fn value_fault(alloc: Global, name: &str) -> Result<Response, AllocError>
     ensures { IfOk result (λ r. response r ≡ value_response name.now) }
 {
-    let mut text = Vec::new(alloc);
-    text.extend_from_slice(b"fault value ")?;
-    text.extend_from_slice(name.as_bytes())?;
-    text.push(b'\n')?;
-    Ok(Response {
-        status: FAULT,
-        text,
-    })
+    let mut codes = Vec::new(alloc);
+    codes.extend_from_slice(b" value ")?;
+    codes.extend_from_slice(name.as_bytes())?;
+    fault_response(alloc, &codes)
 }
 
 /// The response to a file that gives no bytes.
 pub fn file_fault(alloc: Global, name: &str) -> Result<Response, AllocError>
     ensures { IfOk result (λ r. response r ≡ no_file_response name.now) }
 {
-    let mut text = Vec::new(alloc);
-    text.extend_from_slice(b"fault file ")?;
-    push_escaped(&mut text, name.as_bytes())?;
-    text.push(b'\n')?;
-    Ok(Response {
-        status: FAULT,
-        text,
-    })
+    let mut codes = Vec::new(alloc);
+    codes.extend_from_slice(b" file ")?;
+    push_escaped(&mut codes, name.as_bytes())?;
+    fault_response(alloc, &codes)
 }
 
 /// The response to a vouch file whose line of this number spells no triple.
 pub fn vouch_fault(alloc: Global, line: u64) -> Result<Response, AllocError>
     ensures { IfOk result (λ r. response r ≡ vouch_response line) }
 {
-    let mut text = Vec::new(alloc);
-    text.extend_from_slice(b"fault vouch ")?;
-    push_number(alloc, &mut text, line)?;
-    text.push(b'\n')?;
-    Ok(Response {
-        status: FAULT,
-        text,
-    })
+    let mut codes = Vec::new(alloc);
+    codes.extend_from_slice(b" vouch ")?;
+    push_number(alloc, &mut codes, line)?;
+    fault_response(alloc, &codes)
+}
+
+/// The response to a fault that stands in the place of an answer.
+pub fn audit_fault(alloc: Global, error: AuditError) -> Result<Response, AllocError>
+    ensures { IfOk result (λ r. response r ≡ refused_response error) }
+{
+    let mut codes = Vec::new(alloc);
+    push_fault_codes(alloc, &mut codes, error)?;
+    fault_response(alloc, &codes)
 }
 
 fn status_of(decision: &Decision) -> u8
@@ -86,20 +88,6 @@ fn status_of(decision: &Decision) -> u8
         Decision::Granted { .. } => 0,
         Decision::Denied { .. } => 1,
     }
-}
-
-/// The response to a fault that stands in the place of an answer.
-pub fn audit_fault(alloc: Global, error: AuditError) -> Result<Response, AllocError>
-    ensures { IfOk result (λ r. response r ≡ refused_response error) }
-{
-    let mut text = Vec::new(alloc);
-    text.extend_from_slice(b"fault")?;
-    push_fault_codes(alloc, &mut text, error)?;
-    text.push(b'\n')?;
-    Ok(Response {
-        status: FAULT,
-        text,
-    })
 }
 
 /// The response of a decision, or of the fault that stands in its place.
@@ -120,46 +108,4 @@ pub fn decision_response(
         }
         Err(error) => audit_fault(alloc, *error),
     }
-}
-
-/// The response to a line with this fault.
-pub fn line_fault(alloc: Global, cause: LineCause) -> Result<Response, AllocError>
-    ensures { IfOk result (λ r. response r ≡ fault_response (line_codes cause)) }
-{
-    let mut text = Vec::new(alloc);
-    text.extend_from_slice(b"fault")?;
-    push_line_codes(alloc, &mut text, cause)?;
-    text.push(b'\n')?;
-    Ok(Response {
-        status: FAULT,
-        text,
-    })
-}
-
-/// The response to a certificate with this fault.
-pub fn cert_fault(alloc: Global, error: CertError) -> Result<Response, AllocError>
-    ensures { IfOk result (λ r. response r ≡ fault_response (cert_codes error)) }
-{
-    let mut text = Vec::new(alloc);
-    text.extend_from_slice(b"fault")?;
-    push_cert_codes(alloc, &mut text, error)?;
-    text.push(b'\n')?;
-    Ok(Response {
-        status: FAULT,
-        text,
-    })
-}
-
-/// The response to a body with this fault.
-pub fn body_fault(alloc: Global, error: BodyError) -> Result<Response, AllocError>
-    ensures { IfOk result (λ r. response r ≡ fault_response (body_codes error)) }
-{
-    let mut text = Vec::new(alloc);
-    text.extend_from_slice(b"fault")?;
-    push_body_codes(alloc, &mut text, error)?;
-    text.push(b'\n')?;
-    Ok(Response {
-        status: FAULT,
-        text,
-    })
 }

@@ -12,9 +12,10 @@ mod signature_text;
 mod text;
 
 pub use answer::{
-    audit_fault, body_fault, cert_fault, decision_response, file_fault, line_fault, usage_fault,
-    value_fault, vouch_fault,
+    audit_fault, decision_response, fault_response, file_fault, usage_fault, value_fault,
+    vouch_fault,
 };
+pub use codes::{push_body_codes, push_cert_codes, push_line_codes};
 pub use line::{push_number_line, push_text_line, push_word_line};
 pub use response::{DONE, FAULT, Response};
 pub use signature_text::sshsig_response;

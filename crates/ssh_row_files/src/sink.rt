@@ -2,9 +2,9 @@
 
 ghost use Rattle.std.specs.Prelude.{◌≡◌, Some, refl};
 ghost use Rattle.std.specs.Io.{WritesAtMost};
-ghost use Rattle.ssh_inputs.specs.Account.{NoneFailed, after_write, where_told};
+ghost use Rattle.ssh_command.specs.Account.{NoneFailed, after_write, where_told};
 
-use ssh_inputs::Sink;
+use ssh_command::Sink;
 use std::alloc::Global;
 use std::io::{Error, ErrorKind, Result, Write};
 

@@ -7,11 +7,11 @@ ghost use Rattle.ssh_show.specs.ShownLines.{PrintsFile};
 
 use crate::body::{show_private, show_sshsig};
 use crate::cert::show_cert;
-use crate::fault::ShowFault;
+use crate::fault::{ShowFault, body_fault, cert_fault, line_fault};
 use crate::key::show_key;
 use crate::kind::ShowKind;
 use crate::line::first_line;
-use ssh_print::{DONE, Response, body_fault, cert_fault, line_fault};
+use ssh_print::{DONE, Response};
 use std::alloc::{AllocError, Global};
 
 /// What is printed of a file, or why it is not shown.

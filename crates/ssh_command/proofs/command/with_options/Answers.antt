@@ -1,20 +1,20 @@
-use Rattle.std.proofs.Common.{◌≡◌, ◌∙◌, ap, sym, List, ℕ, Bor, [], get_or}
+use Rattle.std.proofs.Common.{◌∙◌, ap, sym, get_or}
 use Rattle.std.proofs.lemmas.List.{take_all}
 use Rattle.std.proofs.lemmas.List.Sums.{fold_more}
-use Rattle.std.specs.Prelude.{fold}
 use Rattle.clap.specs.Words.{App, app_of, with_rule}
-use Rattle.ssh_command.specs.CommandLine.{option_rule}
+use Rattle.ssh_command.specs.declared.options.Needed.{Needed}
+use Rattle.ssh_command.specs.declared.options.Needed.TheVariants.{Required}
+use Rattle.ssh_command.specs.declared.options.OptionName.{OptionName}
+use Rattle.ssh_command.specs.declared.options.OptionName.TheVariants.{Kind}
+use Rattle.ssh_command.specs.CommandLine.{option_rule, with_options}
 use Rattle.ssh_command.proofs.command.with_options.Goals as goal
 
-pub loop-name-preserved : goal.loop-name-preserved
-loop-name-preserved c =
-    let adds : App → Bor (List ℕ) → App = λ a name. with_rule a (option_rule (name.now, c.args.required)) in
-    let none : Bor (List ℕ) = record { ref_ptr = (0, 0); now = [] } in
-    let item : Bor (List ℕ) = get_or c.args.names.now c.loop-name.name-index none in
-    c.in_ok-command.ensures ∙ (ap (λ (a : App). adds a item) c.loop-name.invariant
-    ∙ sym (fold_more adds (app_of c.args.command) c.args.names.now c.loop-name.name-index none c.loop-name-test.true))
+pub loop-row-preserved : goal.loop-row-preserved
+loop-row-preserved c =
+    let adds : App → OptionName × Needed → App = λ a row. with_rule a (option_rule row) in
+    let item : OptionName × Needed = get_or c.args.rows.now c.loop-row.row-index (Kind, Required) in
+    c.in_ok-command.ensures ∙ (ap (λ (a : App). adds a item) c.loop-row.invariant
+    ∙ sym (fold_more adds (app_of c.args.command) c.args.rows.now c.loop-row.row-index (Kind, Required) c.loop-row-test.true))
 
 pub returns : goal.returns
-returns c =
-    let adds : App → Bor (List ℕ) → App = λ a name. with_rule a (option_rule (name.now, c.args.required)) in
-    c.loop-name.invariant ∙ ap (fold adds (app_of c.args.command)) (take_all c.loop-name.name-index c.args.names.now c.loop-name-test.false)
+returns c = c.loop-row.invariant ∙ ap (with_options (app_of c.args.command)) (take_all c.loop-row.row-index c.args.rows.now c.loop-row-test.false)

@@ -1,5 +1,5 @@
 use Rattle.std.proofs.Common.{length}
-use Rattle.ssh_inputs.specs.Account.{NoneFailed}
+use Rattle.ssh_command.specs.Account.{NoneFailed}
 use Rattle.ssh_command.specs.Printing.{Takes}
 use Rattle.ssh_command.proofs.program.put_out.Given as goal
 

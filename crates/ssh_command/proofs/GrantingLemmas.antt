@@ -1,0 +1,152 @@
+-- An answer with status 0 is a grant.
+use Rattle.std.proofs.Common.{◌≡◌, ◌∙◌, ◌<◌, cond, ℕ, Bool, true, false, List, length, Option, Some, None, Result, Ok, Err, ap, subst, sym, refl, arith, nat_lt}
+use Rattle.ssh_lines.specs.AuthEntry.{AuthEntry}
+use Rattle.ssh_lines.specs.KnownEntry.{KnownEntry}
+use Rattle.ssh_offers.specs.declared.error.AuditError.{AuditError}
+use Rattle.ssh_offers.specs.declared.error.AuditError.TheVariants.{FileTooLong}
+use Rattle.ssh_offers.specs.declared.query.Signed.{Signed}
+use Rattle.ssh_offers.specs.HostClaim.{host_claim}
+use Rattle.ssh_offers.specs.LoginClaim.{login_claim}
+use Rattle.ssh_offers.specs.Query.{HostCheck, Login}
+use Rattle.ssh_rights.specs.declared.rights.Rights.{Rights}
+use Rattle.ssh_trust.specs.declared.decision.Decision.{Decision}
+use Rattle.ssh_trust.specs.declared.decision.Decision.TheVariants.{Granted, Denied}
+use Rattle.ssh_text.specs.Text.{file_limit}
+use Rattle.ssh_trust.specs.Decision.{LoginMeans, login_decision}
+use Rattle.ssh_trust.specs.HostDecision.{HostMeans, host_decision}
+use Rattle.ssh_trust.proofs.HostMeaningLemmas.{host_means}
+use Rattle.ssh_trust.proofs.MeaningLemmas.{login_means}
+use Rattle.ssh_print.specs.Responses.{Response, decision_response, decision_status, no_file_response, vouch_response}
+use Rattle.ssh_inputs.specs.Loading.{within_limit}
+use Rattle.ssh_inputs.specs.Parts.{part_at}
+use Rattle.ssh_inputs.specs.SourceState.{SourceState, bytes_at}
+use Rattle.ssh_inputs.specs.VouchFile.{vouched_of}
+use Rattle.ssh_command.specs.Asked.{AuditFiles}
+use Rattle.ssh_command.specs.Audits.{Deciding, after_vouching, audit_response, decided_by, decided_response, host_by, login_by, or_vouch_fault, vouched_in, vouched_or_fault, vouched_response}
+use Rattle.ssh_command.specs.Granting.{HostGranted, IsOfBytes, LoginGranted}
+
+-- ---- faults have the status 2
+
+err-same : {A B : Type 0} (a b : B) → ◌≡◌ {A = Result A B} (Err a) (Err b) → a ≡ b
+err-same a b h = cc
+
+fault-read : (v : Result (List Signed) ℕ) (r : Response) → or_vouch_fault v ≡ Err r → r.status ≡ 2
+fault-read (Ok vouched) r h = cc
+fault-read (Err n) r h = ap (λ (x : Response). x.status) (sym (err-same (vouch_response n) r h))
+
+fault-over : (name : List ℕ) (o : Option (List ℕ)) (r : Response) → vouched_or_fault name o ≡ Err r → r.status ≡ 2
+fault-over name None r h = ap (λ (x : Response). x.status) (sym (err-same (no_file_response name) r h))
+fault-over name (Some bytes) r h = fault-read (vouched_of bytes) r h
+
+fault-in : (vouch : Option (List ℕ)) (s : SourceState) (r : Response) → vouched_in vouch s ≡ Err r → r.status ≡ 2
+fault-in None s r h = cc
+fault-in (Some name) s r h = fault-over name (within_limit (part_at s name)) r h
+
+-- ---- a decision with the status 0 is granted
+
+record IsGranted (d : Decision) : Type 0 where
+  line : ℕ
+  rights : Option Rights
+  evidence : List Signed
+  is : d ≡ Granted line rights evidence
+
+granted-by : (d : Decision) → decision_status d ≡ 0 → IsGranted d
+granted-by (Granted line rights evidence) h = record { line = line; rights = rights; evidence = evidence; is = refl }
+granted-by (Denied why reasons evidence) h = absurd (omega (arith, h))
+
+short-by : (long : Bool) (d : Decision) → (decision_response (cond long (Err FileTooLong) (Ok d))).status ≡ 0 → (long ≡ false) × (decision_status d ≡ 0)
+short-by true d h = absurd (omega (arith, h))
+short-by false d h = (refl, h)
+
+short-printed : (long : Bool) (d : Decision) → long ≡ false → decision_response (cond long (Err FileTooLong) (Ok d)) ≡ decision_response (Ok d)
+short-printed true d h = cc
+short-printed false d h = refl
+
+-- ---- what was asked, and what the files hold
+
+record Answered {C : Type 0} (claimed : Result C AuditError) (decision : List ℕ → C → List Signed → Decision) (f : AuditFiles) (s : SourceState) (r : Response) : Type 0 where
+  claim : C
+  offered : claimed ≡ Ok claim
+  vouched : List Signed
+  told : vouched_in f.vouch s ≡ Ok vouched
+  file : List ℕ
+  trusted : bytes_at (after_vouching f.vouch s) f.trust ≡ Some file
+  granted : IsGranted (decision file claim vouched)
+  printed : r ≡ decision_response (Ok (Granted granted.line granted.rights granted.evidence))
+
+answered-file : {C : Type 0} (claimed : Result C AuditError) (decision : List ℕ → C → List Signed → Decision) (f : AuditFiles) (s : SourceState) (vouched : List Signed)
+    → vouched_in f.vouch s ≡ Ok vouched → (o : Option (List ℕ)) → bytes_at (after_vouching f.vouch s) f.trust ≡ o
+    → (decided_response (decided_by decision claimed) vouched o).status ≡ 0
+    → Answered claimed decision f s (decided_response (decided_by decision claimed) vouched o)
+answered-file (Err e) decision f s vouched told None at h = absurd (omega (arith, h))
+answered-file (Ok c) decision f s vouched told None at h = absurd (omega (arith, h))
+answered-file (Err e) decision f s vouched told (Some file) at h = absurd (omega (arith, h))
+answered-file (Ok c) decision f s vouched told (Some file) at h =
+    let short = short-by (nat_lt file_limit (length file)) (decision file c vouched) h in
+    let granted = granted-by (decision file c vouched) short.1 in
+    record {
+      claim = c;
+      offered = refl;
+      vouched = vouched;
+      told = told;
+      file = file;
+      trusted = at;
+      granted = granted;
+      printed =
+          short-printed (nat_lt file_limit (length file)) (decision file c vouched) short.0
+          ∙ ap (λ (d : Decision). decision_response (Ok d)) granted.is;
+    }
+
+answered-vouched : {C : Type 0} (claimed : Result C AuditError) (decision : List ℕ → C → List Signed → Decision) (f : AuditFiles) (s : SourceState)
+    → (v : Result (List Signed) Response) → vouched_in f.vouch s ≡ v
+    → (vouched_response (decided_by decision claimed) f.trust (after_vouching f.vouch s) v).status ≡ 0
+    → Answered claimed decision f s (vouched_response (decided_by decision claimed) f.trust (after_vouching f.vouch s) v)
+answered-vouched claimed decision f s (Err r) e h = let two = fault-in f.vouch s r e in absurd (omega (arith, two, h))
+answered-vouched claimed decision f s (Ok vouched) e h =
+    answered-file claimed decision f s vouched e (bytes_at (after_vouching f.vouch s) f.trust) refl h
+
+answered : {C : Type 0} (claimed : Result C AuditError) (decision : List ℕ → C → List Signed → Decision) (f : AuditFiles) (s : SourceState)
+    → (audit_response (decided_by decision claimed) f s).status ≡ 0 → Answered claimed decision f s (audit_response (decided_by decision claimed) f s)
+answered claimed decision f s h = answered-vouched claimed decision f s (vouched_in f.vouch s) refl h
+
+-- ---- logins and hosts
+
+printed-as : (line : ℕ) (r t : Option Rights) (e g : List Signed) → r ≡ t → e ≡ g
+    → decision_response (Ok (Granted line r e)) ≡ decision_response (Ok (Granted line t g))
+printed-as line r t e g same_rights same_evidence =
+    ap (λ (x : Option Rights). decision_response (Ok (Granted line x e))) same_rights
+    ∙ ap (λ (x : List Signed). decision_response (Ok (Granted line t x))) same_evidence
+
+pub login_granted : (q : Login) (f : AuditFiles) (s : SourceState) → IsOfBytes f s → (audit_response (login_by q) f s).status ≡ 0 → LoginGranted q f s (audit_response (login_by q) f s)
+login_granted q f s bytes h =
+    let a = answered (login_claim q) login_decision f s h in
+    let means = subst (λ (d : Decision). LoginMeans a.file a.claim a.vouched d) a.granted.is (login_means a.file a.claim a.vouched (bytes a.file a.trusted)) in
+    record {
+      claim = a.claim;
+      offered = a.offered;
+      vouched = a.vouched;
+      told = a.told;
+      file = a.file;
+      trusted = a.trusted;
+      line = a.granted.line;
+      entry = means.0;
+      grant = means.1;
+      printed = a.printed ∙ printed-as a.granted.line _ _ _ _ means.2 means.3;
+    }
+
+pub host_granted : (q : HostCheck) (f : AuditFiles) (s : SourceState) → IsOfBytes f s → (audit_response (host_by q) f s).status ≡ 0 → HostGranted q f s (audit_response (host_by q) f s)
+host_granted q f s bytes h =
+    let a = answered (host_claim q) host_decision f s h in
+    let means = subst (λ (d : Decision). HostMeans a.file a.claim a.vouched d) a.granted.is (host_means a.file a.claim a.vouched (bytes a.file a.trusted)) in
+    record {
+      claim = a.claim;
+      offered = a.offered;
+      vouched = a.vouched;
+      told = a.told;
+      file = a.file;
+      trusted = a.trusted;
+      line = a.granted.line;
+      entry = means.0;
+      grant = means.1;
+      printed = a.printed ∙ printed-as a.granted.line _ _ _ _ means.2 means.3;
+    }

@@ -1,0 +1,85 @@
+-- From the values of a login and what the files answer to it, to what is answered to its options.
+use Rattle.std.proofs.Common.{◌≡◌, ℕ, List, Option, Some, None, Result, Ok, Err, option_map, refl, subst, sym}
+use Rattle.std.specs.Option.{ok_or}
+use Rattle.std.specs.Prelude.{◌^◌, IfOk}
+use Rattle.base64.specs.Engines.{standard}
+use Rattle.base64.specs.GeneralPurpose.{decoded_of}
+use Rattle.clap.specs.Words.{Row}
+use Rattle.jiff.specs.Types.{TimeZone}
+use Rattle.ssh_offers.specs.Query.{Login}
+use Rattle.ssh_inputs.specs.SourceState.{IfTells, SourceState}
+use Rattle.ssh_inputs.specs.Values.{ReadsZone, hex_bytes, number_below, short_bytes, short_hex, zone_text}
+use Rattle.ssh_print.specs.declared.response.Response.{Response as Printed}
+use Rattle.ssh_print.specs.ResponseView.{response}
+use Rattle.ssh_print.specs.Responses.{Response as Shown}
+use Rattle.ssh_command.specs.declared.fault.Fault.{Fault}
+use Rattle.ssh_command.specs.declared.fault.Fault.TheVariants.{Usage, Value, Memory}
+use Rattle.ssh_command.specs.declared.options.OptionName.{OptionName}
+use Rattle.ssh_command.specs.declared.options.OptionName.TheVariants as option
+use Rattle.ssh_command.specs.Asked.{AuditFiles}
+use Rattle.ssh_command.specs.Audits.{Audits, login_by}
+use Rattle.ssh_command.specs.Logins.{RespondsInZone, RespondsToLogin, login_spelled}
+use Rattle.ssh_command.specs.Spelling.{RespondsTo, audit_files, given, needed, or_fault, value}
+use Rattle.ssh_command.specs.WordsView.{IfAnswered}
+
+-- ---- values
+
+-- a value that was read is the option's, as view sees it
+pub given_value : {V A : Type 0} (view : V → A) (o : OptionName) (read : Option V) (v : V) → Ok v ≡ ok_or read (Value o) → or_fault o (option_map view read) ≡ Ok (view v)
+given_value view o None v h = cc
+given_value view o (Some x) v h = cc
+
+-- the login of these values
+pub login_is_spelled : (rows : List Row) (told : Option TimeZone) (offered signature session user : List ℕ) (now : ℕ) (zone : TimeZone) (algorithm address : List ℕ)
+    → value (decoded_of standard) option.Offer rows ≡ Ok offered
+    → value hex_bytes option.Signature rows ≡ Ok signature
+    → value short_hex option.Session rows ≡ Ok session
+    → value short_bytes option.User rows ≡ Ok user
+    → value (number_below (2 ^ 64)) option.Now rows ≡ Ok now
+    → or_fault option.Zone told ≡ Ok zone
+    → needed option.Algorithm rows ≡ Ok algorithm
+    → needed option.Address rows ≡ Ok address
+    → login_spelled rows told ≡ Ok (record {
+      offered = offered;
+      signature = signature;
+      algorithm = algorithm;
+      session = session;
+      user = user;
+      host = given option.Host rows;
+      address = address;
+      now = now;
+      zone = zone;
+    })
+unfolding login_spelled
+login_is_spelled rows told offered signature session user now zone algorithm address a b c d e f g h = rw (a, b, c, d, e, f, g, h) refl
+
+-- ---- answers
+
+spelled-so : {Q : Type 0} (responds : Q → SourceState → Option SourceState → Shown → Type 0) (spelled : Result Q Shown) (q : Q) (s : SourceState) (t : Option SourceState) (r : Shown)
+    → spelled ≡ Ok q → responds q s t r → RespondsTo responds spelled s t r
+spelled-so {Q = Q} responds spelled q s t r e h = subst (λ (x : Result Q Shown). RespondsTo responds x s t r) (sym e) h
+
+login-by : (rows : List Row) (told : Option TimeZone) (f : AuditFiles) (p q : Login) (s : SourceState) (t : Option SourceState) (r : Shown) → audit_files rows ≡ Ok f
+    → login_spelled rows told ≡ Ok q → p ≡ q → Audits (login_by p) f s t r → RespondsInZone rows told s t r
+login-by rows told f p q s t r files spelled same h =
+    spelled-so (λ names. RespondsTo (λ login. Audits (login_by login) names) (login_spelled rows told)) (audit_files rows) f s t r files
+    (spelled-so (λ login. Audits (login_by login) f) (login_spelled rows told) q s t r spelled (subst (λ (x : Login). Audits (login_by x) f s t r) same h))
+
+-- what is answered to the login that the options spell is answered to the options
+pub login_responds : {R E : Type 0} (view : R → Shown) (rows : List Row) (told : Option TimeZone) (f : AuditFiles) (p q : Login) (o t : Option SourceState) (res : Result R E)
+    → audit_files rows ≡ Ok f → login_spelled rows told ≡ Ok q → p ≡ q
+    → IfTells o (λ s. IfOk res (λ r. Audits (login_by p) f s t (view r)))
+    → IfTells o (λ s. IfOk res (λ r. RespondsInZone rows told s t (view r)))
+login_responds view rows told f p q None t res files spelled same h = tt
+login_responds view rows told f p q (Some s) t (Err x) files spelled same h = λ counts. tt
+login_responds view rows told f p q (Some s) t (Ok r) files spelled same h = λ counts. login-by rows told f p q s t (view r) files spelled same (h counts)
+
+-- and where the zone is that of the option's text
+pub zone_responds : (rows : List Row) (told : Option TimeZone) (o t : Option SourceState) (res : Result Printed Fault) → ReadsZone (zone_text (given option.Zone rows)) told
+    → IfTells o (λ s. IfAnswered res (λ r. RespondsInZone rows told s t r))
+    → IfTells o (λ s. IfAnswered res (λ r. RespondsToLogin rows s t r))
+zone_responds rows told None t res read h = tt
+zone_responds rows told (Some s) t (Ok r) read h = λ counts. (told, read, h counts)
+zone_responds rows told (Some s) t (Err Usage) read h = λ counts. (told, read, h counts)
+zone_responds rows told (Some s) t (Err (Value x)) read h = λ counts. (told, read, h counts)
+zone_responds rows told (Some s) t (Err Memory) read h = λ counts. tt

@@ -1,0 +1,17 @@
+use Rattle.std.proofs.Common.{rules}
+use Rattle.ssh_print.specs.ResponseView.{response}
+use Rattle.ssh_command.specs.AskedView.{question_of}
+use Rattle.ssh_command.proofs.SignatureLemmas.{message_responds, message_unread}
+use Rattle.ssh_command.proofs.sshsig.respond_body.Goals as goal
+
+pub returns-in-Ok : goal.returns-in-Ok
+returns-in-Ok g c =
+    message_responds response (question_of c.args.question.now) c.args.vouched.now c.args.body.now c.in-Ok.message.items c.deref.result.now
+    (g.F.Files.source_state c.args.files.now) (g.F.Files.source_state c.read_whole.new.files) c.respond_bytes.result
+    (search rules) c.in-Ok.ensures.bytes c.respond_bytes.ensures
+
+pub returns-in-Err : goal.returns-in-Err
+returns-in-Err g c =
+    message_unread response (question_of c.args.question.now) c.args.vouched.now c.args.body.now
+    (g.F.Files.source_state c.args.files.now) (g.F.Files.source_state c.read_whole.new.files) c.in-Err.fault c.unread.result
+    c.in-Err.ensures.bytes c.unread.ensures

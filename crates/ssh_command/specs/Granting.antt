@@ -1,0 +1,48 @@
+-- What an answer with status 0 to a login and to a host's key stands on (this project's rule).
+use Rattle.std.specs.Prelude.{◌≡◌, ◌<◌, ℕ, List, Some, None, Ok}
+use Rattle.std.specs.List.{AllByRecursion}
+use Rattle.ssh_lines.specs.AuthEntry.{AuthEntry}
+use Rattle.ssh_lines.specs.KnownEntry.{KnownEntry}
+use Rattle.ssh_offers.specs.declared.query.Signed.{Signed}
+use Rattle.ssh_offers.specs.Evidence.{host_evidence, login_evidence}
+use Rattle.ssh_offers.specs.HostClaim.{HostClaim, host_claim}
+use Rattle.ssh_offers.specs.LoginClaim.{LoginClaim, login_claim}
+use Rattle.ssh_offers.specs.Query.{HostCheck, Login}
+use Rattle.ssh_rights.specs.Rights.{rights_of}
+use Rattle.ssh_trust.specs.declared.decision.Decision.TheVariants.{Granted}
+use Rattle.ssh_trust.specs.Decision.{IsGrant}
+use Rattle.ssh_trust.specs.HostDecision.{IsHostGrant}
+use Rattle.ssh_print.specs.Responses.{Response, decision_response}
+use Rattle.ssh_inputs.specs.SourceState.{SourceState, bytes_at}
+use Rattle.ssh_command.specs.Asked.{AuditFiles}
+use Rattle.ssh_command.specs.Audits.{after_vouching, vouched_in}
+
+-- the trust file, where it is there, is of bytes
+abbrev pub IsOfBytes : AuditFiles → SourceState → Type 0
+IsOfBytes f s = (file : List ℕ) → bytes_at (after_vouching f.vouch s) f.trust ≡ Some file → AllByRecursion (λ c. c < 256) file
+
+-- The vouch file vouches for these, the trust file has these bytes, and a line of it is one to grant the login at; this is printed.
+pub record LoginGranted (q : Login) (f : AuditFiles) (s : SourceState) (r : Response) : Type 0 where
+  pub claim : LoginClaim
+  pub offered : login_claim q ≡ Ok claim
+  pub vouched : List Signed
+  pub told : vouched_in f.vouch s ≡ Ok vouched
+  pub file : List ℕ
+  pub trusted : bytes_at (after_vouching f.vouch s) f.trust ≡ Some file
+  pub line : ℕ
+  pub entry : AuthEntry
+  pub grant : IsGrant file claim vouched line entry
+  pub printed : r ≡ decision_response (Ok (Granted line (Some (rights_of entry claim.offer)) (login_evidence claim)))
+
+-- the same of a host's key, for which no rights are printed
+pub record HostGranted (q : HostCheck) (f : AuditFiles) (s : SourceState) (r : Response) : Type 0 where
+  pub claim : HostClaim
+  pub offered : host_claim q ≡ Ok claim
+  pub vouched : List Signed
+  pub told : vouched_in f.vouch s ≡ Ok vouched
+  pub file : List ℕ
+  pub trusted : bytes_at (after_vouching f.vouch s) f.trust ≡ Some file
+  pub line : ℕ
+  pub entry : KnownEntry
+  pub grant : IsHostGrant file claim vouched line entry
+  pub printed : r ≡ decision_response (Ok (Granted line None (host_evidence claim)))

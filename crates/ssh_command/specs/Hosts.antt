@@ -1,0 +1,35 @@
+-- What is answered to a host's key.
+use Rattle.std.specs.Prelude.{◌^◌, List, Option, Result, Ok}
+use Rattle.base64.specs.Engines.{standard}
+use Rattle.base64.specs.GeneralPurpose.{decoded_of}
+use Rattle.clap.specs.Words.{Row}
+use Rattle.ssh_wire.specs.Reading.{◌>>=◌}
+use Rattle.ssh_offers.specs.Query.{HostCheck}
+use Rattle.ssh_inputs.specs.SourceState.{SourceState}
+use Rattle.ssh_inputs.specs.Values.{hex_bytes, number_below}
+use Rattle.ssh_print.specs.Responses.{Response}
+use Rattle.ssh_command.specs.declared.options.OptionName.TheVariants as option
+use Rattle.ssh_command.specs.Audits.{Audits, host_by}
+use Rattle.ssh_command.specs.Spelling.{RespondsTo, audit_files, needed, value}
+
+-- the host's key that the options spell, or the first value that is none, in this order
+unfoldable pub host_spelled : List Row → Result HostCheck Response
+host_spelled rows = do
+  offered ← value (decoded_of standard) option.Offer rows
+  signature ← value hex_bytes option.Signature rows
+  exchange_hash ← value hex_bytes option.Hash rows
+  port ← value (number_below (2 ^ 16)) option.Port rows
+  now ← value (number_below (2 ^ 64)) option.Now rows
+  host ← needed option.Host rows
+  Ok (record {
+    offered = offered;
+    signature = signature;
+    exchange_hash = exchange_hash;
+    host = host;
+    port = port;
+    now = now;
+  })
+
+-- what the files answer to the host's key that is spelled
+abbrev pub RespondsToHost : List Row → SourceState → Option SourceState → Response → Type 0
+RespondsToHost rows = RespondsTo (λ files. RespondsTo (λ check. Audits (host_by check) files) (host_spelled rows)) (audit_files rows)

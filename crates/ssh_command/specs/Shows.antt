@@ -1,0 +1,23 @@
+-- What is answered to `show`, over the files of a source.
+use Rattle.std.specs.Prelude.{◌≡◌, ◌⊎◌, ℕ, List, Option, Some, None}
+use Rattle.clap.specs.Words.{Row}
+use Rattle.ssh_inputs.specs.SourceState.{SourceState, bytes_at}
+use Rattle.ssh_inputs.specs.Loading.{NoReadFailed, within_limit}
+use Rattle.ssh_print.specs.Responses.{Response, no_file_response}
+use Rattle.ssh_show.specs.declared.kind.ShowKind.{ShowKind}
+use Rattle.ssh_show.specs.Showing.{Shows, show_kind}
+use Rattle.ssh_command.specs.declared.options.OptionName.TheVariants as option
+use Rattle.ssh_command.specs.Audits.{IsFileFault}
+use Rattle.ssh_command.specs.Spelling.{RespondsTo, needed, value}
+
+-- what the bytes of the file of this name are shown as
+abbrev pub ShowsBytes : ShowKind → List ℕ → Option (List ℕ) → Response → Type 0
+ShowsBytes kind name None r = r ≡ no_file_response name
+ShowsBytes kind name (Some file) r = Shows kind file r
+
+-- what the file of this name is shown as, or its read failed
+abbrev pub ShowsFile : ShowKind → List ℕ → SourceState → Option SourceState → Response → Type 0
+ShowsFile kind name s t r = (NoReadFailed s t × ShowsBytes kind name (within_limit (bytes_at s name)) r) ⊎ IsFileFault name s t r
+
+abbrev pub RespondsToShow : List Row → SourceState → Option SourceState → Response → Type 0
+RespondsToShow rows = RespondsTo (λ kind. RespondsTo (ShowsFile kind) (needed option.File rows)) (value show_kind option.Kind rows)

@@ -1,0 +1,110 @@
+//! What the program answers to a trust file that is to be written anew.
+
+ghost use Rattle.std.specs.Prelude.{◌≡◌, IfOk};
+ghost use Rattle.ssh_command.specs.Rewritings.{
+  IsTrustFault,
+  MakesNew,
+  RespondsToRewrite,
+  RewritesFile,
+  new_file,
+  new_response,
+  rewrite_kind,
+};
+ghost use Rattle.ssh_command.specs.WordsView.{IfAnswered, rows_in};
+ghost use Rattle.ssh_print.specs.ResponseView.{response};
+ghost use Rattle.ssh_inputs.specs.SourceState.{IfTells};
+
+use crate::fault::Fault;
+use crate::options::OptionName;
+use crate::words::Words;
+use ssh_inputs::{Files, ReadFault, read_whole};
+use ssh_offers::AuditError;
+use ssh_print::{DONE, Response, audit_fault};
+use ssh_rewriting::{RewriteError, rewrite_auth, rewrite_known};
+use std::alloc::{AllocError, Global};
+
+/// The kinds of trust files that are written anew.
+#[derive(Clone, Copy, Debug, PartialEq, Eq)]
+pub enum RewriteKind {
+    /// An authorized_keys file.
+    Auth,
+    /// A known_hosts file.
+    Known,
+}
+
+/// The kind that a word names, if it names one.
+fn rewrite_kind(word: &str) -> Option<RewriteKind>
+    ensures { result ≡ rewrite_kind word.now }
+{
+    if word == "auth" {
+        Some(RewriteKind::Auth)
+    } else if word == "known" {
+        Some(RewriteKind::Known)
+    } else {
+        None
+    }
+}
+
+/// The new file.
+fn write_new(alloc: Global, kind: RewriteKind, file: &[u8]) -> Result<Vec<u8>, RewriteError>
+    ensures { MakesNew (λ v. v.items) (new_file kind file.now) result }
+{
+    match kind {
+        RewriteKind::Auth => rewrite_auth(alloc, file),
+        RewriteKind::Known => rewrite_known(alloc, file),
+    }
+}
+
+/// The response by the bytes of the file.
+fn respond_bytes(alloc: Global, kind: RewriteKind, file: &[u8]) -> Result<Response, AllocError>
+    ensures { IfOk result (λ r. response r ≡ new_response (new_file kind file.now)) }
+{
+    match write_new(alloc, kind, file) {
+        Ok(text) => Ok(Response { status: DONE, text }),
+        Err(RewriteError::TooLong) => audit_fault(alloc, AuditError::FileTooLong),
+        Err(RewriteError::Memory) => Err(AllocError),
+    }
+}
+
+/// The response to a trust file that gives no bytes.
+fn unread_trust(alloc: Global, fault: ReadFault) -> Result<Response, AllocError>
+    ensures { IfOk result (λ r. IsTrustFault fault (response r)) }
+{
+    match fault {
+        ReadFault::Memory => Err(AllocError),
+        ReadFault::TooLong => audit_fault(alloc, AuditError::FileTooLong),
+        _ => audit_fault(alloc, AuditError::Read),
+    }
+}
+
+/// The response to a trust file of this kind that is to be written anew.
+fn rewrite_file<F: Files>(
+    alloc: Global,
+    kind: RewriteKind,
+    name: &str,
+    files: &mut F,
+) -> Result<Response, AllocError>
+    ensures { IfTells (F.source_state files.old) (λ s. IfOk result (λ r.
+        RewritesFile kind name.now s (F.source_state files.new) (response r))) }
+{
+    match read_whole(alloc, files, name) {
+        Ok(file) => respond_bytes(alloc, kind, &file),
+        Err(fault) => unread_trust(alloc, fault),
+    }
+}
+
+/// The response to `rewrite`.
+pub fn respond_rewrite<F: Files>(
+    alloc: Global,
+    words: &Words<'_>,
+    files: &mut F,
+) -> Result<Response, Fault>
+    ensures { IfTells (F.source_state files.old) (λ s. IfAnswered result (λ r.
+        RespondsToRewrite (rows_in words.now) s (F.source_state files.new) r)) }
+{
+    let word = words.needed(OptionName::Kind)?;
+    let kind = OptionName::Kind.or_fault(rewrite_kind(word))?;
+    let name = words.needed(OptionName::File)?;
+    let response = rewrite_file(alloc, kind, name, files)?;
+    Ok(response)
+}

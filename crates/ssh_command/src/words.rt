@@ -1,0 +1,123 @@
+//! The values that words give to the options of a subcommand.
+
+ghost use Rattle.std.specs.Prelude.{◌≡◌, ◌<◌, ◌^◌, length, option_map, IfOk};
+ghost use Rattle.base64.specs.Engines.{standard};
+ghost use Rattle.base64.specs.GeneralPurpose.{decoded_of};
+ghost use Rattle.ssh_command.specs.AskedView.{names_of, question_of};
+ghost use Rattle.ssh_command.specs.Signatures.{sshsig_question};
+ghost use Rattle.ssh_command.specs.Spelling.{audit_files, given, needed, value};
+ghost use Rattle.ssh_command.specs.WordsView.{Spells, rows_in};
+ghost use Rattle.ssh_inputs.specs.Values.{hex_bytes, number_below, short_bytes, short_hex};
+
+use crate::asked::{AuditFiles, SshsigQuestion};
+use crate::fault::Fault;
+use crate::options::OptionName;
+use clap::ArgMatches;
+use ssh_inputs::{decode, is_short, read_hex, read_number, read_port, read_short_hex};
+use std::alloc::Global;
+
+/// The values that words give to the options of a subcommand. Each is read by a method that says
+/// what it spells; where it spells none, the fault names the option.
+#[derive(Drop)]
+pub struct Words<'a> {
+    pub matches: ArgMatches<'a>,
+}
+
+impl<'a> Words<'a> {
+    /// The text of an option, if it is given.
+    pub fn given(&self, option: OptionName) -> Option<&'a str>
+        ensures { option_map (λ s. s.now) result ≡ given option (rows_in self.now) }
+    {
+        self.matches.get_str(option.name())
+    }
+
+    /// The text of an option that has to be given.
+    pub fn needed(&self, option: OptionName) -> Result<&'a str, Fault>
+        ensures { Spells (λ s. s.now) (needed option (rows_in self.now)) result }
+    {
+        self.given(option).ok_or(Fault::Usage)
+    }
+
+    /// The bytes that the text is the base64 of.
+    pub fn base64(&self, alloc: Global, option: OptionName) -> Result<Vec<u8>, Fault>
+        ensures { Spells (λ v. v.items) (value (decoded_of standard) option (rows_in self.now))
+            result }
+    {
+        let text = self.needed(option)?;
+        let bytes = decode(alloc, text.as_bytes())?;
+        option.or_fault(bytes)
+    }
+
+    /// The bytes that the text spells in hexadecimal.
+    pub fn hex(&self, alloc: Global, option: OptionName) -> Result<Vec<u8>, Fault>
+        ensures { Spells (λ v. v.items) (value hex_bytes option (rows_in self.now)) result }
+    {
+        let text = self.needed(option)?;
+        let bytes = read_hex(alloc, text.as_bytes())?;
+        option.or_fault(bytes)
+    }
+
+    /// The bytes that the text spells in hexadecimal, where a string of the login bytes can have
+    /// them.
+    pub fn short_hex(&self, alloc: Global, option: OptionName) -> Result<Vec<u8>, Fault>
+        ensures value { Spells (λ v. v.items) (value short_hex option (rows_in self.now)) result }
+        ensures short { IfOk result (λ v. length v.items < 2 ^ 32) }
+    {
+        let text = self.needed(option)?;
+        let bytes = read_short_hex(alloc, text.as_bytes())?;
+        option.or_fault(bytes)
+    }
+
+    /// The text itself, where a string of the login bytes can have its bytes.
+    pub fn short_text(&self, option: OptionName) -> Result<&'a str, Fault>
+        ensures value { Spells (λ s. s.now) (value short_bytes option (rows_in self.now)) result }
+        ensures short { IfOk result (λ s. length s.now < 2 ^ 32) }
+    {
+        let text = self.needed(option)?;
+        if is_short(text.as_bytes()) {
+            Ok(text)
+        } else {
+            Err(Fault::Value(option))
+        }
+    }
+
+    /// The number that the text spells.
+    pub fn number(&self, option: OptionName) -> Result<u64, Fault>
+        ensures { Spells (λ n. n) (value (number_below (2 ^ 64)) option (rows_in self.now))
+            result }
+    {
+        let text = self.needed(option)?;
+        option.or_fault(read_number(text))
+    }
+
+    /// The port that the text spells.
+    pub fn port(&self, option: OptionName) -> Result<u16, Fault>
+        ensures { Spells (λ n. n) (value (number_below (2 ^ 16)) option (rows_in self.now))
+            result }
+    {
+        let text = self.needed(option)?;
+        option.or_fault(read_port(text))
+    }
+
+    /// The names of the files of an audit.
+    pub fn audit_files(&self) -> Result<AuditFiles<'a>, Fault>
+        ensures { Spells names_of (audit_files (rows_in self.now)) result }
+    {
+        Ok(AuditFiles {
+            trust: self.needed(OptionName::File)?,
+            vouch: self.given(OptionName::Vouch),
+        })
+    }
+
+    /// What is asked of a file signature.
+    pub fn sshsig_question(&self) -> Result<SshsigQuestion<'a>, Fault>
+        ensures { Spells question_of (sshsig_question (rows_in self.now)) result }
+    {
+        Ok(SshsigQuestion {
+            body: self.needed(OptionName::Body)?,
+            message: self.needed(OptionName::Message)?,
+            namespace: self.needed(OptionName::Namespace)?,
+            vouch: self.given(OptionName::Vouch),
+        })
+    }
+}
