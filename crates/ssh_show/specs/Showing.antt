@@ -14,7 +14,6 @@ use Rattle.ssh_certs.specs.Certificate as certs
 use Rattle.ssh_certs.specs.CertificateReading.{certificate_in}
 use Rattle.ssh_certs.specs.declared.error.CertError.{CertError}
 use Rattle.ssh_bodies.specs.declared.error.BodyError.{BodyError}
-use Rattle.ssh_bodies.specs.PrivateKey.{PrivateBody}
 use Rattle.ssh_bodies.specs.PrivateReading.{private_in}
 use Rattle.ssh_bodies.specs.Sshsig.{Sshsig}
 use Rattle.ssh_bodies.specs.SshsigReading.{sshsig_in}
