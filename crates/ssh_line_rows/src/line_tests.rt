@@ -122,7 +122,11 @@ fn reads_an_entry_in_its_line(rt: HostRuntime) -> Result<(), Fail> {
             Some(OptionView::Setting(ValueName::From, _))
         )
     );
-    same(&rt, &entry.options().count(), &3);
+    let mut options = entry.options();
+    for _ in 0..3 {
+        assert!(rt; options.next().is_some());
+    }
+    assert!(rt; options.next().is_none());
     Ok(())
 }
 

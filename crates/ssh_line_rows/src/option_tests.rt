@@ -15,7 +15,11 @@ fn reads_options_in_their_line(rt: HostRuntime) -> Result<(), Fail> {
     };
     assert!(rt; options.has_flag(Flag::Pty) && !options.has_flag(Flag::Restrict));
     assert!(rt; options.settings(ValueName::ExpiryTime).next().is_none());
-    same(&rt, &options.again().count(), &3);
+    let mut all = options.again();
+    for _ in 0..3 {
+        assert!(rt; all.next().is_some());
+    }
+    assert!(rt; all.next().is_none());
     assert!(rt; options.settings(ValueName::From).next().is_some());
     let Some(command) = options.settings(ValueName::Command).next() else {
         return Err(Fail::new("no command"));
