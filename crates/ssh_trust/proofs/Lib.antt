@@ -4,7 +4,8 @@ pub mod LongLines
 pub mod HostScanLemmas
 pub mod CandidateLemmas
 pub mod AnswerLemmas
-pub mod SearchLemmas
+pub mod LoginAuditLemmas
+pub mod HostAuditLemmas
 pub mod MeaningLemmas
 pub mod HostMeaningLemmas
 pub mod DenialLemmas

@@ -7,8 +7,7 @@ use Rattle.ssh_rules.specs.declared.verdict.LineVerdict.{LineVerdict}
 use Rattle.ssh_rules.specs.Verdict.{login_verdict}
 use Rattle.ssh_trust.specs.declared.login_scan.Candidate.{Candidate}
 use Rattle.ssh_trust.specs.Candidate.{IsFirstAdmitted}
-use Rattle.ssh_trust.specs.declared.scan.Scan.{Scan}
-use Rattle.ssh_trust.specs.Scan.{scan_line, scan_of}
+use Rattle.ssh_trust.specs.Scan.{scan_of}
 use Rattle.ssh_trust.specs.declared.decision.Cause.{Cause}
 use Rattle.ssh_trust.specs.declared.decision.Cause.TheVariants.{NoLine, TouchMissing, VerifyMissing, NotVouched}
 use Rattle.ssh_trust.specs.declared.decision.Decision.{Decision}
@@ -62,10 +61,6 @@ candidate_at claim c = record {
   verified = verification_suffices (c.1).options claim.offer claim.signature;
   rights = rights_of c.1 claim.offer;
 }
-
--- what is said of a login with one more line
-abbrev pub login_scan_line : LoginClaim → Scan Candidate → ℕ × List ℕ → Scan Candidate
-login_scan_line claim s x = scan_line (candidate_at claim) (line_verdict claim) s x
 
 abbrev pub vouching_cause : Option ℕ → Option Cause
 vouching_cause None = None
