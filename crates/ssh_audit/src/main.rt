@@ -6,7 +6,7 @@
 
 mod system;
 
-use ssh_command::{WordsFault, refuse, run};
+use ssh_command::{WordsError, refuse, run};
 use std::alloc::Global;
 use std::io::{ErrorKind, Result};
 use std::process::ExitCode;
@@ -28,9 +28,9 @@ fn main(rt: HostRuntime) -> ExitCode {
     let status = match read_words(&rt) {
         Ok(words) => run(rt.alloc(), words.as_slice(), &mut files, &mut writer),
         Err(error) if error.kind() == ErrorKind::OutOfMemory => {
-            refuse(WordsFault::Memory, &mut writer)
+            refuse(WordsError::Memory, &mut writer)
         }
-        Err(_) => refuse(WordsFault::Usage, &mut writer),
+        Err(_) => refuse(WordsError::Usage, &mut writer),
     };
     ExitCode::from(status)
 }

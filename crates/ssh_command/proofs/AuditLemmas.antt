@@ -5,8 +5,8 @@ use Rattle.ssh_inputs.specs.SourceState.{IfTells, SourceState, bytes_at}
 use Rattle.ssh_inputs.specs.Parts.{after_part, part_at}
 use Rattle.ssh_inputs.specs.Loading.{FailsLoad, IsLeft, within_limit}
 use Rattle.ssh_inputs.specs.VouchFile.{vouched_of}
-use Rattle.ssh_inputs.specs.declared.read.ReadFault.{ReadFault}
-use Rattle.ssh_inputs.specs.declared.read.ReadFault.TheVariants as fault
+use Rattle.ssh_inputs.specs.declared.read.ReadError.{ReadError}
+use Rattle.ssh_inputs.specs.declared.read.ReadError.TheVariants as fault
 use Rattle.ssh_offers.specs.declared.query.Signed.{Signed}
 use Rattle.ssh_print.specs.Responses.{Response as Shown, no_file_response}
 use Rattle.ssh_command.specs.Asked.{AuditFiles}
@@ -55,7 +55,7 @@ pub vouch_read_failed : (vouch : Option (List ℕ)) (name : List ℕ) (s : Sourc
     → IsVouchReadFault (Some name) s u r → IsVouchReadFault vouch s u r
 vouch_read_failed vouch name s u r v h = subst (λ (z : Option (List ℕ)). IsVouchReadFault z s u r) (sym v) h
 
-vouch_fault : (f : AuditFiles) (by : Deciding) (name : List ℕ) (s : SourceState) (u : Option SourceState) (e : ReadFault) (r : Shown) → f.vouch ≡ Some name
+vouch_fault : (f : AuditFiles) (by : Deciding) (name : List ℕ) (s : SourceState) (u : Option SourceState) (e : ReadError) (r : Shown) → f.vouch ≡ Some name
     → FailsLoad name (part_at s name) s u e → IsFaultOf name e r → Audits by f s u r
 vouch_fault f by name s u fault.Missing r v fails is = inl (fails.1, is ∙ sym (not_told by f s name v (ap within_limit fails.0)))
 vouch_fault f by name s u fault.TooLong r v fails is = inl (fails.1, is ∙ sym (not_told by f s name v (over_limit (part_at s name) fails.0)))
@@ -63,7 +63,7 @@ vouch_fault f by name s u fault.Failed r v fails is = inr (inl (vouch_read_faile
 vouch_fault f by name s u fault.Memory r v fails is = absurd is
 
 -- a vouch file that gives no bytes
-pub vouch_unread : {R E : Type 0} (view : R → Shown) (f : AuditFiles) (by : Deciding) (name : List ℕ) (o u : Option SourceState) (e : ReadFault) (res : Result R E) → f.vouch ≡ Some name
+pub vouch_unread : {R E : Type 0} (view : R → Shown) (f : AuditFiles) (by : Deciding) (name : List ℕ) (o u : Option SourceState) (e : ReadError) (res : Result R E) → f.vouch ≡ Some name
     → IfTells o (λ s. FailsLoad name (part_at s name) s u e) → IfOk res (λ r. IsFaultOf name e (view r))
     → IfTells o (λ s. IfOk res (λ r. Audits by f s u (view r)))
 vouch_unread view f by name None u e res v fails is = tt

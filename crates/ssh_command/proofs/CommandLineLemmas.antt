@@ -8,10 +8,10 @@ use Rattle.clap.specs.Words.{App, Row, Text, kind_of, is_simple, subcommand_of}
 use Rattle.clap.specs.declared.error.Error.{Error}
 use Rattle.ssh_command.specs.WordsView.{FaultIs, Parses, request_in_memory}
 use Rattle.ssh_command.specs.declared.request.Request.{Request}
-use Rattle.ssh_command.specs.declared.request.WordsFault.{WordsFault}
+use Rattle.ssh_command.specs.declared.request.WordsError.{WordsError}
 use Rattle.ssh_command.specs.declared.subcommand.Subcommand.{Subcommand}
 use Rattle.ssh_command.specs.declared.subcommand.Subcommand.TheVariants.{Show, Login, Host, Sshsig, Rewrite}
-use Rattle.ssh_command.specs.declared.request.WordsFault.TheVariants.{Usage, Memory}
+use Rattle.ssh_command.specs.declared.request.WordsError.TheVariants.{Usage, Memory}
 use Rattle.clap.specs.Faults.{fault_of, is_simple_and_free}
 use Rattle.clap.specs.declared.error.ErrorKind.{ErrorKind}
 use Rattle.clap.proofs.OnLiterals.{clap_on_literals}
@@ -44,12 +44,12 @@ pub fault_spells_none : (words : List (List ℕ)) (k : ErrorKind) → IsAmong k 
 fault_spells_none words k h = spelled-among words k (fault_of command_line words) h
 
 -- what a failed parse of the command line answers is right
-failed-with : (words : List (List ℕ)) (e : Error) (r : WordsFault) → FaultIs e r → HasKind (fault_of command_line words) e → Parses words (Err r)
+failed-with : (words : List (List ℕ)) (e : Error) (r : WordsError) → FaultIs e r → HasKind (fault_of command_line words) e → Parses words (Err r)
 failed-with words e Usage other (inl out) = absurd (other out)
 failed-with words e Usage other (inr fault) = fault_spells_none words (kind_of e) fault
 failed-with words e Memory other kinds = tt
 
-pub failed : (app : App) (words : List (List ℕ)) (e : Error) (r : WordsFault) → app ≡ command_line → FaultIs e r
+pub failed : (app : App) (words : List (List ℕ)) (e : Error) (r : WordsError) → app ≡ command_line → FaultIs e r
     → (is_simple_and_free app ≡ true → HasKind (fault_of app words) e) → Parses words (Err r)
 failed app words e r is fault kinds = failed-with words e r fault
     (subst (λ (a : App). HasKind (fault_of a words) e) is (kinds (ap is_simple_and_free is ∙ is_plain)))
@@ -65,7 +65,7 @@ spelled-free words ks none = ap (spelled words) none
 simple : (app : App) → is_simple_and_free app ≡ true → is_simple app ≡ true
 simple app h = (and_parts (is_simple app) _ h).0
 
-pub parsed : (app : App) (words : List (List ℕ)) (rows : Option (Text × List Row)) (o : Option Request) (r : Result Request WordsFault) → app ≡ command_line
+pub parsed : (app : App) (words : List (List ℕ)) (rows : Option (Text × List Row)) (o : Option Request) (r : Result Request WordsError) → app ≡ command_line
     → (is_simple_and_free app ≡ true → fault_of app words ≡ []) → (is_simple app ≡ true → rows ≡ subcommand_of app words)
     → option_map request_in_memory o ≡ option_and_then request_in rows → r ≡ ok_or o Usage → Parses words r
 parsed app words rows o r is free matches here answered =

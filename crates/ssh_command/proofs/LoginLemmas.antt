@@ -12,8 +12,8 @@ use Rattle.ssh_inputs.specs.Values.{ReadsZone, hex_bytes, number_below, short_by
 use Rattle.ssh_print.specs.declared.response.Response.{Response as Printed}
 use Rattle.ssh_print.specs.ResponseView.{response}
 use Rattle.ssh_print.specs.Responses.{Response as Shown}
-use Rattle.ssh_command.specs.declared.fault.Fault.{Fault}
-use Rattle.ssh_command.specs.declared.fault.Fault.TheVariants.{Usage, Value, Memory}
+use Rattle.ssh_command.specs.declared.error.CommandError.{CommandError}
+use Rattle.ssh_command.specs.declared.error.CommandError.TheVariants.{Usage, Value, Memory}
 use Rattle.ssh_command.specs.declared.options.OptionName.{OptionName}
 use Rattle.ssh_command.specs.declared.options.OptionName.TheVariants as option
 use Rattle.ssh_command.specs.Asked.{AuditFiles}
@@ -75,7 +75,7 @@ login_responds view rows told f p q (Some s) t (Err x) files spelled same h = λ
 login_responds view rows told f p q (Some s) t (Ok r) files spelled same h = λ counts. login-by rows told f p q s t (view r) files spelled same (h counts)
 
 -- and where the zone is that of the option's text
-pub zone_responds : (rows : List Row) (told : Option TimeZone) (o t : Option SourceState) (res : Result Printed Fault) → ReadsZone (zone_text (given option.Zone rows)) told
+pub zone_responds : (rows : List Row) (told : Option TimeZone) (o t : Option SourceState) (res : Result Printed CommandError) → ReadsZone (zone_text (given option.Zone rows)) told
     → IfTells o (λ s. IfAnswered res (λ r. RespondsInZone rows told s t r))
     → IfTells o (λ s. IfAnswered res (λ r. RespondsToLogin rows s t r))
 zone_responds rows told None t res read h = tt

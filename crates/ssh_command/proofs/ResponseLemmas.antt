@@ -7,15 +7,15 @@ use Rattle.ssh_inputs.specs.SourceState.{IfTells, SourceState}
 use Rattle.ssh_inputs.specs.Parts.{after_line, first_line}
 use Rattle.ssh_inputs.specs.Words.{words_in}
 use Rattle.ssh_inputs.specs.Loading.{FailsLine, LoadsLine}
-use Rattle.ssh_inputs.specs.declared.read.ReadFault.{ReadFault}
-use Rattle.ssh_inputs.specs.declared.read.ReadFault.TheVariants as fault
+use Rattle.ssh_inputs.specs.declared.read.ReadError.{ReadError}
+use Rattle.ssh_inputs.specs.declared.read.ReadError.TheVariants as fault
 use Rattle.ssh_inputs.proofs.PieceLemmas.{words_long}
 use Rattle.ssh_print.specs.declared.response.Response.{Response as Printed}
 use Rattle.ssh_print.specs.ResponseView.{response}
 use Rattle.ssh_print.specs.Responses.{Response as Shown}
 use Rattle.ssh_show.specs.Showing.{show_kind}
-use Rattle.ssh_command.specs.declared.fault.Fault.{Fault}
-use Rattle.ssh_command.specs.declared.fault.Fault.TheVariants.{Usage, Value, Memory}
+use Rattle.ssh_command.specs.declared.error.CommandError.{CommandError}
+use Rattle.ssh_command.specs.declared.error.CommandError.TheVariants.{Usage, Value, Memory}
 use Rattle.ssh_command.specs.declared.options.OptionName.TheVariants as option
 use Rattle.ssh_command.specs.declared.subcommand.Subcommand.{Subcommand}
 use Rattle.ssh_command.specs.declared.subcommand.Subcommand.TheVariants.{Show, Login, Host, Sshsig, Rewrite}
@@ -68,14 +68,14 @@ shifted (Some q) a b u r e h = subcommand-same q.subcommand q.rows a b u r e h
 
 -- ---- faults
 
-told : {E : Type 0} (P : Shown → Type 0) (f : Fault) (res : Result Printed E) → IfAnswered (Err f) P → IfOk res (λ r. IsToldAs f (response r)) → IfOk res (λ r. P (response r))
+told : {E : Type 0} (P : Shown → Type 0) (f : CommandError) (res : Result Printed E) → IfAnswered (Err f) P → IfOk res (λ r. IsToldAs f (response r)) → IfOk res (λ r. P (response r))
 told P f (Err x) h is = tt
 told P Usage (Ok r) h is = subst P (sym is) h
 told P (Value o) (Ok r) h is = subst P (sym is) h
 told P Memory (Ok r) h is = absurd is
 
 -- the answer to a fault is the answer that it stands for
-pub fault_told : {E : Type 0} (P : SourceState → Shown → Type 0) (o : Option SourceState) (f : Fault) (res : Result Printed E) → IfTells o (λ s. IfAnswered (Err f) (P s))
+pub fault_told : {E : Type 0} (P : SourceState → Shown → Type 0) (o : Option SourceState) (f : CommandError) (res : Result Printed E) → IfTells o (λ s. IfAnswered (Err f) (P s))
     → IfOk res (λ r. IsToldAs f (response r)) → IfTells o (λ s. IfOk res (λ r. P s (response r)))
 fault_told P None f res h is = tt
 fault_told P (Some s) f res h is = λ counts. told (P s) f res (h counts) is
@@ -104,7 +104,7 @@ line_responds view bytes words (Some s) (Some t) u line res is loads h = λ coun
     let same : t.failures ≡ s.failures = load.1.2 in
     lined view bytes s t u line res load (rw is at (h (omega (arith, counts, same))))
 
-unread : (s : SourceState) (u : Option SourceState) (e : ReadFault) (r : Shown) → FailsLine s u e → IsUsageOf e r → Responds [] s u r
+unread : (s : SourceState) (u : Option SourceState) (e : ReadError) (r : Shown) → FailsLine s u e → IsUsageOf e r → Responds [] s u r
 unread s u fault.Missing r fails is = absurd fails
 unread s u fault.Failed r fails is = inr (fails, refl, is)
 unread s u fault.Memory r fails is = absurd is
@@ -113,7 +113,7 @@ unread s u fault.TooLong r fails is =
     inl (subst (λ (q : Option Request). RespondsBy q (after_line s) u r) (sym (ap request_of none ∙ no_request)) (none-failed (after_line s) s u refl fails.1, is))
 
 -- a first line of standard input that gives no words
-pub unread_responds : {R E : Type 0} (view : R → Shown) (o u : Option SourceState) (e : ReadFault) (res : Result R E)
+pub unread_responds : {R E : Type 0} (view : R → Shown) (o u : Option SourceState) (e : ReadError) (res : Result R E)
     → IfTells o (λ s. FailsLine s u e) → IfOk res (λ r. IsUsageOf e (view r)) → IfTells o (λ s. IfOk res (λ r. Responds [] s u (view r)))
 unread_responds view None u e res fails is = tt
 unread_responds view (Some s) u e (Err x) fails is = λ counts. tt

@@ -5,8 +5,8 @@ use Rattle.std.proofs.lemmas.Bool.{lt-ltb}
 use Rattle.ssh_inputs.specs.SourceState.{IfTells, SourceState, bytes_at}
 use Rattle.ssh_inputs.specs.Parts.{after_whole}
 use Rattle.ssh_inputs.specs.Loading.{FailsLoad, IsLeft, IsTooLong, within_limit}
-use Rattle.ssh_inputs.specs.declared.read.ReadFault.{ReadFault}
-use Rattle.ssh_inputs.specs.declared.read.ReadFault.TheVariants as fault
+use Rattle.ssh_inputs.specs.declared.read.ReadError.{ReadError}
+use Rattle.ssh_inputs.specs.declared.read.ReadError.TheVariants as fault
 use Rattle.ssh_offers.specs.declared.error.AuditError.TheVariants.{FileTooLong}
 use Rattle.ssh_print.specs.Responses.{Response as Shown, refused_response}
 use Rattle.ssh_text.specs.Text.{file_limit}
@@ -47,7 +47,7 @@ too-long : (kind : RewriteKind) (bytes : Option (List ℕ)) → IsTooLong bytes 
 too-long kind None h = absurd h
 too-long kind (Some bytes) h = rw (lt-ltb file_limit (length bytes) h) refl
 
-fault-by : (kind : RewriteKind) (name : List ℕ) (bytes : Option (List ℕ)) (s : SourceState) (t : Option SourceState) (e : ReadFault) (r : Shown)
+fault-by : (kind : RewriteKind) (name : List ℕ) (bytes : Option (List ℕ)) (s : SourceState) (t : Option SourceState) (e : ReadError) (r : Shown)
     → FailsLoad name bytes s t e → IsTrustFault e r → Rewrites name (rewrite_over kind bytes) s t r
 fault-by kind name bytes s t fault.Missing r fails is = inl (fails.1, is ∙ sym (ap (rewrite_over kind) fails.0))
 fault-by kind name bytes s t fault.TooLong r fails is = inl (fails.1, is ∙ sym (too-long kind bytes fails.0))
@@ -55,7 +55,7 @@ fault-by kind name bytes s t fault.Failed r fails is = inr (fails, is)
 fault-by kind name bytes s t fault.Memory r fails is = absurd is
 
 -- a file that gives no bytes
-pub file_unread : {R E : Type 0} (view : R → Shown) (kind : RewriteKind) (name : List ℕ) (o t : Option SourceState) (e : ReadFault) (res : Result R E)
+pub file_unread : {R E : Type 0} (view : R → Shown) (kind : RewriteKind) (name : List ℕ) (o t : Option SourceState) (e : ReadError) (res : Result R E)
     → IfTells o (λ s. FailsLoad name (bytes_at s name) s t e) → IfOk res (λ r. IsTrustFault e (view r))
     → IfTells o (λ s. IfOk res (λ r. Rewrites name (rewrite_over kind (bytes_at s name)) s t (view r)))
 file_unread view kind name None t e res fails is = tt

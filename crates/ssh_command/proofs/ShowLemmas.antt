@@ -4,8 +4,8 @@ use Rattle.std.specs.Prelude.{IfOk}
 use Rattle.ssh_inputs.specs.SourceState.{IfTells, SourceState, bytes_at}
 use Rattle.ssh_inputs.specs.Parts.{after_whole}
 use Rattle.ssh_inputs.specs.Loading.{FailsLoad, IsLeft, within_limit}
-use Rattle.ssh_inputs.specs.declared.read.ReadFault.{ReadFault}
-use Rattle.ssh_inputs.specs.declared.read.ReadFault.TheVariants as fault
+use Rattle.ssh_inputs.specs.declared.read.ReadError.{ReadError}
+use Rattle.ssh_inputs.specs.declared.read.ReadError.TheVariants as fault
 use Rattle.ssh_print.specs.Responses.{Response as Shown}
 use Rattle.ssh_show.specs.declared.kind.ShowKind.{ShowKind}
 use Rattle.ssh_show.specs.Showing.{Shows}
@@ -23,7 +23,7 @@ shows-same kind name a b u r e (inr h) = inr (one-failed a b u name e h.0, h.1)
 no-bytes : (kind : ShowKind) (name : List ℕ) (o : Option (List ℕ)) (r : Shown) → o ≡ None → ShowsBytes kind name None r → ShowsBytes kind name o r
 no-bytes kind name o r e h = subst (λ (x : Option (List ℕ)). ShowsBytes kind name x r) (sym e) h
 
-fault-by : (kind : ShowKind) (name : List ℕ) (s : SourceState) (t : Option SourceState) (e : ReadFault) (r : Shown)
+fault-by : (kind : ShowKind) (name : List ℕ) (s : SourceState) (t : Option SourceState) (e : ReadError) (r : Shown)
     → FailsLoad name (bytes_at s name) s t e → IsFaultOf name e r → ShowsFile kind name s t r
 fault-by kind name s t fault.Missing r fails is = inl (fails.1, no-bytes kind name _ r (ap within_limit fails.0) is)
 fault-by kind name s t fault.TooLong r fails is = inl (fails.1, no-bytes kind name _ r (over_limit (bytes_at s name) fails.0) is)
@@ -31,7 +31,7 @@ fault-by kind name s t fault.Failed r fails is = inr (fails, is)
 fault-by kind name s t fault.Memory r fails is = absurd is
 
 -- a file that gives no bytes
-pub file_unshown : {R E : Type 0} (view : R → Shown) (kind : ShowKind) (name : List ℕ) (o t : Option SourceState) (e : ReadFault) (res : Result R E)
+pub file_unshown : {R E : Type 0} (view : R → Shown) (kind : ShowKind) (name : List ℕ) (o t : Option SourceState) (e : ReadError) (res : Result R E)
     → IfTells o (λ s. FailsLoad name (bytes_at s name) s t e) → IfOk res (λ r. IsFaultOf name e (view r))
     → IfTells o (λ s. IfOk res (λ r. ShowsFile kind name s t (view r)))
 file_unshown view kind name None t e res fails is = tt

@@ -5,8 +5,8 @@ use Rattle.ssh_inputs.specs.SourceState.{IfTells, SourceState, bytes_at}
 use Rattle.ssh_inputs.specs.Parts.{after_part, after_whole, part_at}
 use Rattle.ssh_inputs.specs.VouchFile.{vouched_of}
 use Rattle.ssh_inputs.specs.Loading.{FailsLoad, IsLeft, within_limit}
-use Rattle.ssh_inputs.specs.declared.read.ReadFault.{ReadFault}
-use Rattle.ssh_inputs.specs.declared.read.ReadFault.TheVariants as fault
+use Rattle.ssh_inputs.specs.declared.read.ReadError.{ReadError}
+use Rattle.ssh_inputs.specs.declared.read.ReadError.TheVariants as fault
 use Rattle.ssh_offers.specs.declared.query.Signed.{Signed}
 use Rattle.ssh_print.specs.Responses.{Response as Shown, no_file_response}
 use Rattle.ssh_print.specs.SignatureText.{sshsig_response}
@@ -61,28 +61,28 @@ signs-same w a b u r e (inr h) = inr (signature_fault-same w a b u r e h)
 
 -- ---- files that give no bytes
 
-message-fault : (w : SshsigQuestion) (vouched : List Signed) (body : List ℕ) (s : SourceState) (u : Option SourceState) (e : ReadFault) (r : Shown)
+message-fault : (w : SshsigQuestion) (vouched : List Signed) (body : List ℕ) (s : SourceState) (u : Option SourceState) (e : ReadError) (r : Shown)
     → FailsLoad w.message (bytes_at s w.message) s u e → IsFaultOf w.message e r → SignsMessage w vouched body s u r
 message-fault w vouched body s u fault.Missing r fails is = inl (fails.1, is ∙ sym (ap (λ o. message_over w vouched body (within_limit o)) fails.0))
 message-fault w vouched body s u fault.TooLong r fails is = inl (fails.1, is ∙ sym (ap (message_over w vouched body) (over_limit (bytes_at s w.message) fails.0)))
 message-fault w vouched body s u fault.Failed r fails is = inr (fails, is)
 message-fault w vouched body s u fault.Memory r fails is = absurd is
 
-pub message_unread : {R E : Type 0} (view : R → Shown) (w : SshsigQuestion) (vouched : List Signed) (body : List ℕ) (o u : Option SourceState) (e : ReadFault) (res : Result R E)
+pub message_unread : {R E : Type 0} (view : R → Shown) (w : SshsigQuestion) (vouched : List Signed) (body : List ℕ) (o u : Option SourceState) (e : ReadError) (res : Result R E)
     → IfTells o (λ s. FailsLoad w.message (bytes_at s w.message) s u e) → IfOk res (λ r. IsFaultOf w.message e (view r))
     → IfTells o (λ s. IfOk res (λ r. SignsMessage w vouched body s u (view r)))
 message_unread view w vouched body None u e res fails is = tt
 message_unread view w vouched body (Some s) u e (Err x) fails is = λ counts. tt
 message_unread view w vouched body (Some s) u e (Ok r) fails is = λ counts. message-fault w vouched body s u e (view r) (fails counts) is
 
-body-fault : (w : SshsigQuestion) (vouched : List Signed) (s : SourceState) (u : Option SourceState) (e : ReadFault) (r : Shown)
+body-fault : (w : SshsigQuestion) (vouched : List Signed) (s : SourceState) (u : Option SourceState) (e : ReadError) (r : Shown)
     → FailsLoad w.body (bytes_at s w.body) s u e → IsFaultOf w.body e r → SignsBody w vouched s u r
 body-fault w vouched s u fault.Missing r fails is = inl (fails.1, is ∙ sym (ap (λ o. body_over w vouched s (within_limit o)) fails.0))
 body-fault w vouched s u fault.TooLong r fails is = inl (fails.1, is ∙ sym (ap (body_over w vouched s) (over_limit (bytes_at s w.body) fails.0)))
 body-fault w vouched s u fault.Failed r fails is = inr (inl (fails, is))
 body-fault w vouched s u fault.Memory r fails is = absurd is
 
-pub body_unread : {R E : Type 0} (view : R → Shown) (w : SshsigQuestion) (vouched : List Signed) (o u : Option SourceState) (e : ReadFault) (res : Result R E)
+pub body_unread : {R E : Type 0} (view : R → Shown) (w : SshsigQuestion) (vouched : List Signed) (o u : Option SourceState) (e : ReadError) (res : Result R E)
     → IfTells o (λ s. FailsLoad w.body (bytes_at s w.body) s u e) → IfOk res (λ r. IsFaultOf w.body e (view r))
     → IfTells o (λ s. IfOk res (λ r. SignsBody w vouched s u (view r)))
 body_unread view w vouched None u e res fails is = tt
@@ -94,14 +94,14 @@ not-told w s name v h =
     let none : vouched_in w.vouch s ≡ Err (no_file_response name) = ap (λ z. vouched_in z s) v ∙ ap (vouched_or_fault name) h in
     ap (vouched_over w (after_vouching w.vouch s)) none
 
-vouch-fault : (w : SshsigQuestion) (name : List ℕ) (s : SourceState) (u : Option SourceState) (e : ReadFault) (r : Shown) → w.vouch ≡ Some name
+vouch-fault : (w : SshsigQuestion) (name : List ℕ) (s : SourceState) (u : Option SourceState) (e : ReadError) (r : Shown) → w.vouch ≡ Some name
     → FailsLoad name (part_at s name) s u e → IsFaultOf name e r → Signs w s u r
 vouch-fault w name s u fault.Missing r v fails is = inl (fails.1, is ∙ sym (not-told w s name v (ap within_limit fails.0)))
 vouch-fault w name s u fault.TooLong r v fails is = inl (fails.1, is ∙ sym (not-told w s name v (over_limit (part_at s name) fails.0)))
 vouch-fault w name s u fault.Failed r v fails is = inr (inl (vouch_read_failed w.vouch name s u r v (fails, is)))
 vouch-fault w name s u fault.Memory r v fails is = absurd is
 
-pub vouch_file_unread : {R E : Type 0} (view : R → Shown) (w : SshsigQuestion) (name : List ℕ) (o u : Option SourceState) (e : ReadFault) (res : Result R E) → w.vouch ≡ Some name
+pub vouch_file_unread : {R E : Type 0} (view : R → Shown) (w : SshsigQuestion) (name : List ℕ) (o u : Option SourceState) (e : ReadError) (res : Result R E) → w.vouch ≡ Some name
     → IfTells o (λ s. FailsLoad name (part_at s name) s u e) → IfOk res (λ r. IsFaultOf name e (view r))
     → IfTells o (λ s. IfOk res (λ r. Signs w s u (view r)))
 vouch_file_unread view w name None u e res v fails is = tt

@@ -6,8 +6,8 @@ use Rattle.ssh_inputs.specs.Parts.{first_line, after_line}
 use Rattle.ssh_inputs.specs.Words.{words_in}
 use Rattle.ssh_inputs.specs.Loading.{NoReadFailed, LineReadFailed}
 use Rattle.ssh_print.specs.Responses.{Response, out_of_memory, usage_response}
-use Rattle.ssh_command.specs.declared.request.WordsFault.{WordsFault}
-use Rattle.ssh_command.specs.declared.request.WordsFault.TheVariants.{Usage, Memory}
+use Rattle.ssh_command.specs.declared.request.WordsError.{WordsError}
+use Rattle.ssh_command.specs.declared.request.WordsError.TheVariants.{Usage, Memory}
 use Rattle.ssh_command.specs.declared.subcommand.Subcommand.{Subcommand}
 use Rattle.ssh_command.specs.declared.subcommand.Subcommand.TheVariants.{Show, Login, Host, Sshsig, Rewrite}
 use Rattle.ssh_command.specs.CommandLine.{Request, request_of}
@@ -54,6 +54,6 @@ Answers words s t r = Responds words s t r ⊎ (r ≡ out_of_memory)
 -- ---- words that cannot be had
 
 -- what is answered where the program's own words cannot be read
-abbrev pub words_response : WordsFault → Response
+abbrev pub words_response : WordsError → Response
 words_response Usage = usage_response
 words_response Memory = out_of_memory

@@ -10,11 +10,11 @@ use Rattle.ssh_command.specs.Asked.{SshsigQuestion}
 use Rattle.ssh_command.specs.Signatures.{IsContentFault, body_response, message_response}
 use Rattle.ssh_inputs.specs.Loading.{NoReadFailed, OneReadFailed}
 use Rattle.ssh_print.specs.Responses.{Response, no_file_response, usage_response}
-use Rattle.ssh_inputs.specs.declared.read.ReadFault.{ReadFault}
-use Rattle.ssh_inputs.specs.declared.read.ReadFault.TheVariants as fault
+use Rattle.ssh_inputs.specs.declared.read.ReadError.{ReadError}
+use Rattle.ssh_inputs.specs.declared.read.ReadError.TheVariants as fault
 
 -- the response to a file that gives no bytes, and is no trust file
-abbrev pub IsFaultOf : List ℕ → ReadFault → Response → Type 0
+abbrev pub IsFaultOf : List ℕ → ReadError → Response → Type 0
 IsFaultOf name fault.Memory r = ⊥
 IsFaultOf name e r = r ≡ no_file_response name
 
@@ -51,6 +51,6 @@ is_memory (Err Memory) = true
 is_memory _ = false
 
 -- the response to a first line that gives no words
-abbrev pub IsUsageOf : ReadFault → Response → Type 0
+abbrev pub IsUsageOf : ReadError → Response → Type 0
 IsUsageOf fault.Memory r = ⊥
 IsUsageOf e r = r ≡ usage_response

@@ -8,8 +8,8 @@ use Rattle.ssh_rewriting.specs.Answer.{rewritten}
 use Rattle.ssh_rewriting.specs.CanonicalFile.{canonical_auth_file, canonical_known_file}
 use Rattle.ssh_inputs.specs.SourceState.{SourceState, bytes_at}
 use Rattle.ssh_inputs.specs.Loading.{NoReadFailed, OneReadFailed}
-use Rattle.ssh_inputs.specs.declared.read.ReadFault.{ReadFault}
-use Rattle.ssh_inputs.specs.declared.read.ReadFault.TheVariants as fault
+use Rattle.ssh_inputs.specs.declared.read.ReadError.{ReadError}
+use Rattle.ssh_inputs.specs.declared.read.ReadError.TheVariants as fault
 use Rattle.ssh_print.specs.Responses.{Response, refused_response}
 use Rattle.clap.specs.Words.{Row}
 use Rattle.ssh_command.specs.declared.options.OptionName.TheVariants as option
@@ -70,7 +70,7 @@ MakesNew view new (Err TooLong) = new ≡ Err TooLong
 MakesNew view new (Err Memory) = ⊤
 
 -- the response to a trust file that gives no bytes
-abbrev pub IsTrustFault : ReadFault → Response → Type 0
+abbrev pub IsTrustFault : ReadError → Response → Type 0
 IsTrustFault fault.Memory r = ⊥
 IsTrustFault fault.TooLong r = r ≡ refused_response audit.FileTooLong
 IsTrustFault fault.Missing r = r ≡ refused_response audit.Read

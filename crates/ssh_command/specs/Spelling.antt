@@ -6,8 +6,8 @@ use Rattle.ssh_wire.specs.Reading.{◌>>=◌}
 use Rattle.ssh_inputs.specs.SourceState.{SourceState}
 use Rattle.ssh_inputs.specs.Loading.{NoReadFailed}
 use Rattle.ssh_print.specs.Responses.{Response, usage_response, value_response}
-use Rattle.ssh_command.specs.declared.fault.Fault.{Fault}
-use Rattle.ssh_command.specs.declared.fault.Fault.TheVariants.{Usage, Value, Memory}
+use Rattle.ssh_command.specs.declared.error.CommandError.{CommandError}
+use Rattle.ssh_command.specs.declared.error.CommandError.TheVariants.{Usage, Value, Memory}
 use Rattle.ssh_command.specs.declared.options.OptionName.{OptionName}
 use Rattle.ssh_command.specs.declared.options.OptionName.TheVariants.{File, Vouch}
 use Rattle.ssh_command.specs.Asked.{AuditFiles}
@@ -49,7 +49,7 @@ RespondsTo responds (Err e) s t r = NoReadFailed s t × (r ≡ e)
 RespondsTo responds (Ok q) s t r = responds q s t r
 
 -- the answer to a fault, where memory was not refused
-abbrev pub IsToldAs : Fault → Response → Type 0
+abbrev pub IsToldAs : CommandError → Response → Type 0
 IsToldAs Usage r = r ≡ usage_response
 IsToldAs (Value o) r = r ≡ value_response (option_name o)
 IsToldAs Memory r = ⊥

@@ -6,11 +6,11 @@ use Rattle.clap.specs.declared.error.ErrorKind.TheVariants.{OutOfMemory}
 use Rattle.ssh_print.specs.declared.response.Response.{Response as Printed}
 use Rattle.ssh_print.specs.ResponseView.{response}
 use Rattle.ssh_print.specs.Responses.{Response, usage_response, value_response}
-use Rattle.ssh_command.specs.declared.fault.Fault.{Fault}
-use Rattle.ssh_command.specs.declared.fault.Fault.TheVariants.{Usage, Value, Memory}
+use Rattle.ssh_command.specs.declared.error.CommandError.{CommandError}
+use Rattle.ssh_command.specs.declared.error.CommandError.TheVariants.{Usage, Value, Memory}
 use Rattle.ssh_command.specs.declared.request.Request.{Request}
-use Rattle.ssh_command.specs.declared.request.WordsFault.{WordsFault}
-use Rattle.ssh_command.specs.declared.request.WordsFault.TheVariants as words
+use Rattle.ssh_command.specs.declared.request.WordsError.{WordsError}
+use Rattle.ssh_command.specs.declared.request.WordsError.TheVariants as words
 use Rattle.ssh_command.specs.declared.words.Words.{Words}
 use Rattle.ssh_command.specs.CommandLine.{Request as Asked, request_of}
 use Rattle.ssh_command.specs.Options.{option_name}
@@ -23,25 +23,25 @@ abbrev pub request_in_memory : Request → Asked
 request_in_memory q = record { subcommand = q.subcommand; rows = rows_in q.words }
 
 -- the request that the words spell, or a usage fault where they spell none, unless memory was refused
-abbrev pub Parses : List (List ℕ) → Result Request WordsFault → Type 0
+abbrev pub Parses : List (List ℕ) → Result Request WordsError → Type 0
 Parses given (Ok r) = request_of given ≡ Some (request_in_memory r)
 Parses given (Err words.Usage) = request_of given ≡ None
 Parses given (Err words.Memory) = ⊤
 
 -- memory was refused, or it was not
-abbrev pub FaultIs : Error → WordsFault → Type 0
+abbrev pub FaultIs : Error → WordsError → Type 0
 FaultIs e words.Usage = kind_of e ≢ OutOfMemory
 FaultIs e words.Memory = ⊤
 
 -- what was spelled, or its fault, unless memory was refused
-abbrev pub Spells : {V A : Type 0} → (V → A) → Result A Response → Result V Fault → Type 0
+abbrev pub Spells : {V A : Type 0} → (V → A) → Result A Response → Result V CommandError → Type 0
 Spells view wanted (Ok v) = wanted ≡ Ok (view v)
 Spells view wanted (Err Usage) = wanted ≡ Err usage_response
 Spells view wanted (Err (Value o)) = wanted ≡ Err (value_response (option_name o))
 Spells view wanted (Err Memory) = ⊤
 
 -- a fact about the response, which a fault stands for too, unless memory was refused
-abbrev pub IfAnswered : Result Printed Fault → (Response → Type 0) → Type 0
+abbrev pub IfAnswered : Result Printed CommandError → (Response → Type 0) → Type 0
 IfAnswered (Ok r) P = P (response r)
 IfAnswered (Err Usage) P = P usage_response
 IfAnswered (Err (Value o)) P = P (value_response (option_name o))

@@ -19,7 +19,7 @@ ghost use Rattle.ssh_inputs.specs.VouchFile.{vouched_of};
 use crate::asked::AuditFiles;
 use crate::chosen::ChosenFile;
 use crate::question::Question;
-use ssh_inputs::{Files, ReadFault, VouchFault, read_vouch_file, read_vouched};
+use ssh_inputs::{Files, ReadError, VouchError, read_vouch_file, read_vouched};
 use ssh_offers::{AuditError, Signed};
 use ssh_print::{Response, decision_response, file_fault, vouch_fault};
 use ssh_trust::Decision;
@@ -92,11 +92,11 @@ fn respond_vouched<Q: Question, F: Files>(
 }
 
 /// The response to a file that gives no bytes, and is no trust file.
-pub fn unread(alloc: Global, name: &str, fault: ReadFault) -> Result<Response, AllocError>
+pub fn unread(alloc: Global, name: &str, fault: ReadError) -> Result<Response, AllocError>
     ensures { IfOk result (λ r. IsFaultOf name.now fault (response r)) }
 {
     match fault {
-        ReadFault::Memory => Err(AllocError),
+        ReadError::Memory => Err(AllocError),
         _ => file_fault(alloc, name),
     }
 }
@@ -118,8 +118,8 @@ fn respond_bytes<Q: Question, F: Files>(
             let response = respond_vouched(alloc, names, question, &vouched, files)?;
             Ok(response)
         }
-        Err(VouchFault::Line(number)) => vouch_fault(alloc, number),
-        Err(VouchFault::Memory) => Err(AllocError),
+        Err(VouchError::Line(number)) => vouch_fault(alloc, number),
+        Err(VouchError::Memory) => Err(AllocError),
     }
 }
 

@@ -5,7 +5,7 @@ ghost use Rattle.ssh_command.specs.WordsView.{IfAnswered, rows_in};
 ghost use Rattle.ssh_inputs.specs.SourceState.{IfTells};
 
 use crate::audit::respond_question;
-use crate::fault::Fault;
+use crate::error::CommandError;
 use crate::options::OptionName;
 use crate::words::Words;
 use ssh_inputs::Files;
@@ -19,7 +19,7 @@ pub fn respond_host<F: Files>(
     alloc: Global,
     words: &Words<'_>,
     files: &mut F,
-) -> Result<Response, Fault>
+) -> Result<Response, CommandError>
     ensures { IfTells (F.source_state files.old) (λ s. IfAnswered result (λ r.
         RespondsToHost (rows_in words.now) s (F.source_state files.new) r)) }
 {

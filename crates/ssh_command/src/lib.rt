@@ -5,7 +5,7 @@ mod asked;
 mod audit;
 mod chosen;
 mod command;
-mod fault;
+mod error;
 mod host;
 mod laws;
 mod login;
@@ -24,5 +24,5 @@ mod subcommand;
 mod words;
 
 pub use program::{refuse, run};
-pub use request::WordsFault;
+pub use request::WordsError;
 pub use sink::Sink;

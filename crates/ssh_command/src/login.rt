@@ -7,7 +7,7 @@ ghost use Rattle.ssh_command.specs.WordsView.{IfAnswered, rows_in};
 ghost use Rattle.ssh_inputs.specs.SourceState.{IfTells};
 
 use crate::audit::respond_question;
-use crate::fault::Fault;
+use crate::error::CommandError;
 use crate::options::OptionName;
 use crate::question::LoginQuestion;
 use crate::words::Words;
@@ -24,7 +24,7 @@ fn respond_in_zone<F: Files>(
     words: &Words<'_>,
     zone: Option<TimeZone<'static>>,
     files: &mut F,
-) -> Result<Response, Fault>
+) -> Result<Response, CommandError>
     ensures { IfTells (F.source_state files.old) (λ s. IfAnswered result (λ r.
         RespondsInZone (rows_in words.now) (option_map plain_zone zone.entry) s
         (F.source_state files.new) r)) }
@@ -58,7 +58,7 @@ pub fn respond_login<F: Files>(
     alloc: Global,
     words: &Words<'_>,
     files: &mut F,
-) -> Result<Response, Fault>
+) -> Result<Response, CommandError>
     ensures { IfTells (F.source_state files.old) (λ s. IfAnswered result (λ r.
         RespondsToLogin (rows_in words.now) s (F.source_state files.new) r)) }
 {

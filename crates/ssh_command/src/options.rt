@@ -2,10 +2,10 @@
 
 ghost use Rattle.std.specs.Prelude.{◌≡◌};
 ghost use Rattle.std.specs.Option.{ok_or};
-ghost use Rattle.ssh_command.specs.declared.fault.Fault.TheVariants.{Value};
+ghost use Rattle.ssh_command.specs.declared.error.CommandError.TheVariants.{Value};
 ghost use Rattle.ssh_command.specs.Options.{is_required, option_name};
 
-use crate::fault::Fault;
+use crate::error::CommandError;
 
 /// An option, which takes a value.
 #[derive(Clone, Copy, Debug, PartialEq, Eq)]
@@ -56,10 +56,10 @@ impl OptionName {
     }
 
     /// The value, or the fault that this option has none.
-    pub fn or_fault<T>(self, value: Option<T>) -> Result<T, Fault>
+    pub fn or_fault<T>(self, value: Option<T>) -> Result<T, CommandError>
         ensures { result ≡ ok_or value (Value self) }
     {
-        value.ok_or(Fault::Value(self))
+        value.ok_or(CommandError::Value(self))
     }
 }
 

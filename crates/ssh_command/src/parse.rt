@@ -6,7 +6,7 @@ ghost use Rattle.ssh_command.specs.CommandLine.{request_in};
 ghost use Rattle.ssh_command.specs.WordsView.{FaultIs, Parses, request_in_memory};
 
 use crate::command::program;
-use crate::request::{Request, WordsFault};
+use crate::request::{Request, WordsError};
 use crate::subcommand::Subcommand;
 use crate::words::Words;
 use clap::error::ErrorKind;
@@ -14,13 +14,13 @@ use clap::{ArgMatches, Error};
 use std::alloc::Global;
 use std::convert::AsStr;
 
-fn words_fault(error: &Error) -> WordsFault
+fn words_fault(error: &Error) -> WordsError
     ensures { FaultIs error.now result }
 {
     if error.kind() == ErrorKind::OutOfMemory {
-        WordsFault::Memory
+        WordsError::Memory
     } else {
-        WordsFault::Usage
+        WordsError::Usage
     }
 }
 
@@ -39,15 +39,15 @@ fn request<'a>(matches: ArgMatches<'a>) -> Option<Request<'a>>
 }
 
 /// The request that the words spell.
-pub fn parse<'a, S: AsStr>(alloc: Global, words: &'a [S]) -> Result<Request<'a>, WordsFault>
+pub fn parse<'a, S: AsStr>(alloc: Global, words: &'a [S]) -> Result<Request<'a>, WordsError>
     ensures { Parses (map S.text words.entry.now) result }
 {
     let command = match program(alloc) {
         Ok(command) => command,
-        Err(_) => return Err(WordsFault::Memory),
+        Err(_) => return Err(WordsError::Memory),
     };
     match command.try_get_matches_from(words) {
-        Ok(matches) => request(matches).ok_or(WordsFault::Usage),
+        Ok(matches) => request(matches).ok_or(WordsError::Usage),
         Err(error) => Err(words_fault(&error)),
     }
 }

@@ -7,7 +7,7 @@ ghost use Rattle.ssh_command.specs.Requests.{Answers, words_response};
 ghost use Rattle.ssh_command.specs.Printing.{Prints};
 ghost use Rattle.ssh_inputs.specs.SourceState.{IfTells};
 
-use crate::request::WordsFault;
+use crate::request::WordsError;
 use crate::respond::respond;
 use crate::sink::Sink;
 use ssh_inputs::Files;
@@ -57,18 +57,18 @@ pub fn run<S: AsStr, F: Files, W: Sink>(
 }
 
 /// What is printed where the program's own words cannot be read.
-fn fault_text<'a>(fault: WordsFault) -> &'a [u8]
+fn fault_text<'a>(fault: WordsError) -> &'a [u8]
     ensures { result.now ≡ (words_response fault).text }
 {
     match fault {
-        WordsFault::Usage => b"fault usage\n",
-        WordsFault::Memory => b"fault A8\n",
+        WordsError::Usage => b"fault usage\n",
+        WordsError::Memory => b"fault A8\n",
     }
 }
 
 /// Prints that the program's own words cannot be read, since one is not in UTF-8 or memory was
 /// refused, and returns the status 2.
-pub fn refuse<W: Sink>(fault: WordsFault, writer: &mut W) -> u8
+pub fn refuse<W: Sink>(fault: WordsError, writer: &mut W) -> u8
     requires { NoneFailed (W.account writer.old) }
     ensures { Prints (W.account writer.old) (W.account writer.new) (words_response fault) result }
 {

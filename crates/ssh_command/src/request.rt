@@ -12,7 +12,7 @@ pub struct Request<'a> {
 
 /// Why words give no request.
 #[derive(Clone, Copy, Debug, PartialEq, Eq)]
-pub enum WordsFault {
+pub enum WordsError {
     Usage,
     Memory,
 }

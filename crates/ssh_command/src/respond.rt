@@ -8,16 +8,16 @@ ghost use Rattle.ssh_command.specs.WordsView.{IfAnswered, request_in_memory};
 ghost use Rattle.ssh_print.specs.ResponseView.{response};
 ghost use Rattle.ssh_inputs.specs.SourceState.{IfTells};
 
-use crate::fault::{Fault, respond_fault};
+use crate::error::{CommandError, respond_fault};
 use crate::host::respond_host;
 use crate::login::respond_login;
 use crate::parse::parse;
-use crate::request::{Request, WordsFault};
+use crate::request::{Request, WordsError};
 use crate::rewriting::respond_rewrite;
 use crate::show::respond_show;
 use crate::sshsig::respond_sshsig;
 use crate::subcommand::Subcommand;
-use ssh_inputs::{Files, ReadFault, read_first_line, read_words};
+use ssh_inputs::{Files, ReadError, read_first_line, read_words};
 use ssh_print::{Response, usage_fault};
 use std::alloc::{AllocError, Global};
 use std::convert::AsStr;
@@ -27,7 +27,7 @@ fn respond_subcommand<F: Files>(
     alloc: Global,
     request: &Request<'_>,
     files: &mut F,
-) -> Result<Response, Fault>
+) -> Result<Response, CommandError>
     ensures { IfTells (F.source_state files.old) (λ s. IfAnswered result (λ r.
         RespondsBy (Some (request_in_memory request.now)) s (F.source_state files.new) r)) }
 {
@@ -68,17 +68,17 @@ fn respond_words<S: AsStr, F: Files>(
 {
     match parse(alloc, words) {
         Ok(request) => respond_request(alloc, &request, files),
-        Err(WordsFault::Usage) => usage_fault(alloc),
-        Err(WordsFault::Memory) => Err(AllocError),
+        Err(WordsError::Usage) => usage_fault(alloc),
+        Err(WordsError::Memory) => Err(AllocError),
     }
 }
 
 /// The response to a first line of standard input that gives no words.
-fn unread_line(alloc: Global, fault: ReadFault) -> Result<Response, AllocError>
+fn unread_line(alloc: Global, fault: ReadError) -> Result<Response, AllocError>
     ensures { IfOk result (λ r. IsUsageOf fault (response r)) }
 {
     match fault {
-        ReadFault::Memory => Err(AllocError),
+        ReadError::Memory => Err(AllocError),
         _ => usage_fault(alloc),
     }
 }

@@ -14,10 +14,10 @@ ghost use Rattle.ssh_command.specs.WordsView.{IfAnswered, rows_in};
 ghost use Rattle.ssh_print.specs.ResponseView.{response};
 ghost use Rattle.ssh_inputs.specs.SourceState.{IfTells};
 
-use crate::fault::Fault;
+use crate::error::CommandError;
 use crate::options::OptionName;
 use crate::words::Words;
-use ssh_inputs::{Files, ReadFault, read_whole};
+use ssh_inputs::{Files, ReadError, read_whole};
 use ssh_offers::AuditError;
 use ssh_print::{DONE, Response, audit_fault};
 use ssh_rewriting::{RewriteError, rewrite_auth, rewrite_known};
@@ -67,12 +67,12 @@ fn respond_bytes(alloc: Global, kind: RewriteKind, file: &[u8]) -> Result<Respon
 }
 
 /// The response to a trust file that gives no bytes.
-fn unread_trust(alloc: Global, fault: ReadFault) -> Result<Response, AllocError>
+fn unread_trust(alloc: Global, fault: ReadError) -> Result<Response, AllocError>
     ensures { IfOk result (λ r. IsTrustFault fault (response r)) }
 {
     match fault {
-        ReadFault::Memory => Err(AllocError),
-        ReadFault::TooLong => audit_fault(alloc, AuditError::FileTooLong),
+        ReadError::Memory => Err(AllocError),
+        ReadError::TooLong => audit_fault(alloc, AuditError::FileTooLong),
         _ => audit_fault(alloc, AuditError::Read),
     }
 }
@@ -98,7 +98,7 @@ pub fn respond_rewrite<F: Files>(
     alloc: Global,
     words: &Words<'_>,
     files: &mut F,
-) -> Result<Response, Fault>
+) -> Result<Response, CommandError>
     ensures { IfTells (F.source_state files.old) (λ s. IfAnswered result (λ r.
         RespondsToRewrite (rows_in words.now) s (F.source_state files.new) r)) }
 {

@@ -7,7 +7,7 @@ ghost use Rattle.ssh_print.specs.ResponseView.{response};
 ghost use Rattle.ssh_inputs.specs.SourceState.{IfTells};
 
 use crate::audit::unread;
-use crate::fault::Fault;
+use crate::error::CommandError;
 use crate::options::OptionName;
 use crate::words::Words;
 use ssh_inputs::{Files, read_whole};
@@ -36,7 +36,7 @@ pub fn respond_show<F: Files>(
     alloc: Global,
     words: &Words<'_>,
     files: &mut F,
-) -> Result<Response, Fault>
+) -> Result<Response, CommandError>
     ensures { IfTells (F.source_state files.old) (λ s. IfAnswered result (λ r.
         RespondsToShow (rows_in words.now) s (F.source_state files.new) r)) }
 {

@@ -14,9 +14,9 @@ ghost use Rattle.ssh_inputs.specs.VouchFile.{vouched_of};
 
 use crate::asked::SshsigQuestion;
 use crate::audit::{is_memory, unread};
-use crate::fault::Fault;
+use crate::error::CommandError;
 use crate::words::Words;
-use ssh_inputs::{Files, VouchFault, read_vouch_file, read_vouched, read_whole};
+use ssh_inputs::{Files, VouchError, read_vouch_file, read_vouched, read_whole};
 use ssh_offers::{AuditError, Signed};
 use ssh_print::{Response, sshsig_response, vouch_fault};
 use ssh_trust::{SigAnswer, sshsig};
@@ -107,8 +107,8 @@ fn respond_vouch_bytes<F: Files>(
             let response = respond_vouched(alloc, question, &vouched, files)?;
             Ok(response)
         }
-        Err(VouchFault::Line(number)) => vouch_fault(alloc, number),
-        Err(VouchFault::Memory) => Err(AllocError),
+        Err(VouchError::Line(number)) => vouch_fault(alloc, number),
+        Err(VouchError::Memory) => Err(AllocError),
     }
 }
 
@@ -135,7 +135,7 @@ pub fn respond_sshsig<F: Files>(
     alloc: Global,
     words: &Words<'_>,
     files: &mut F,
-) -> Result<Response, Fault>
+) -> Result<Response, CommandError>
     ensures { IfTells (F.source_state files.old) (λ s. IfAnswered result (λ r.
         RespondsToSshsig (rows_in words.now) s (F.source_state files.new) r)) }
 {

@@ -10,7 +10,7 @@ ghost use Rattle.ssh_command.specs.WordsView.{Spells, rows_in};
 ghost use Rattle.ssh_inputs.specs.Values.{hex_bytes, number_below, short_bytes, short_hex};
 
 use crate::asked::{AuditFiles, SshsigQuestion};
-use crate::fault::Fault;
+use crate::error::CommandError;
 use crate::options::OptionName;
 use clap::ArgMatches;
 use ssh_inputs::{decode, is_short, read_hex, read_number, read_port, read_short_hex};
@@ -32,14 +32,14 @@ impl<'a> Words<'a> {
     }
 
     /// The text of an option that has to be given.
-    pub fn needed(&self, option: OptionName) -> Result<&'a str, Fault>
+    pub fn needed(&self, option: OptionName) -> Result<&'a str, CommandError>
         ensures { Spells (λ s. s.now) (needed option (rows_in self.now)) result }
     {
-        self.given(option).ok_or(Fault::Usage)
+        self.given(option).ok_or(CommandError::Usage)
     }
 
     /// The bytes that the text is the base64 of.
-    pub fn base64(&self, alloc: Global, option: OptionName) -> Result<Vec<u8>, Fault>
+    pub fn base64(&self, alloc: Global, option: OptionName) -> Result<Vec<u8>, CommandError>
         ensures { Spells (λ v. v.items) (value (decoded_of standard) option (rows_in self.now))
             result }
     {
@@ -49,7 +49,7 @@ impl<'a> Words<'a> {
     }
 
     /// The bytes that the text spells in hexadecimal.
-    pub fn hex(&self, alloc: Global, option: OptionName) -> Result<Vec<u8>, Fault>
+    pub fn hex(&self, alloc: Global, option: OptionName) -> Result<Vec<u8>, CommandError>
         ensures { Spells (λ v. v.items) (value hex_bytes option (rows_in self.now)) result }
     {
         let text = self.needed(option)?;
@@ -59,7 +59,7 @@ impl<'a> Words<'a> {
 
     /// The bytes that the text spells in hexadecimal, where a string of the login bytes can have
     /// them.
-    pub fn short_hex(&self, alloc: Global, option: OptionName) -> Result<Vec<u8>, Fault>
+    pub fn short_hex(&self, alloc: Global, option: OptionName) -> Result<Vec<u8>, CommandError>
         ensures value { Spells (λ v. v.items) (value short_hex option (rows_in self.now)) result }
         ensures short { IfOk result (λ v. length v.items < 2 ^ 32) }
     {
@@ -69,7 +69,7 @@ impl<'a> Words<'a> {
     }
 
     /// The text itself, where a string of the login bytes can have its bytes.
-    pub fn short_text(&self, option: OptionName) -> Result<&'a str, Fault>
+    pub fn short_text(&self, option: OptionName) -> Result<&'a str, CommandError>
         ensures value { Spells (λ s. s.now) (value short_bytes option (rows_in self.now)) result }
         ensures short { IfOk result (λ s. length s.now < 2 ^ 32) }
     {
@@ -77,12 +77,12 @@ impl<'a> Words<'a> {
         if is_short(text.as_bytes()) {
             Ok(text)
         } else {
-            Err(Fault::Value(option))
+            Err(CommandError::Value(option))
         }
     }
 
     /// The number that the text spells.
-    pub fn number(&self, option: OptionName) -> Result<u64, Fault>
+    pub fn number(&self, option: OptionName) -> Result<u64, CommandError>
         ensures { Spells (λ n. n) (value (number_below (2 ^ 64)) option (rows_in self.now))
             result }
     {
@@ -91,7 +91,7 @@ impl<'a> Words<'a> {
     }
 
     /// The port that the text spells.
-    pub fn port(&self, option: OptionName) -> Result<u16, Fault>
+    pub fn port(&self, option: OptionName) -> Result<u16, CommandError>
         ensures { Spells (λ n. n) (value (number_below (2 ^ 16)) option (rows_in self.now))
             result }
     {
@@ -100,7 +100,7 @@ impl<'a> Words<'a> {
     }
 
     /// The names of the files of an audit.
-    pub fn audit_files(&self) -> Result<AuditFiles<'a>, Fault>
+    pub fn audit_files(&self) -> Result<AuditFiles<'a>, CommandError>
         ensures { Spells names_of (audit_files (rows_in self.now)) result }
     {
         Ok(AuditFiles {
@@ -110,7 +110,7 @@ impl<'a> Words<'a> {
     }
 
     /// What is asked of a file signature.
-    pub fn sshsig_question(&self) -> Result<SshsigQuestion<'a>, Fault>
+    pub fn sshsig_question(&self) -> Result<SshsigQuestion<'a>, CommandError>
         ensures { Spells question_of (sshsig_question (rows_in self.now)) result }
     {
         Ok(SshsigQuestion {

@@ -3,8 +3,8 @@ use Rattle.std.specs.Prelude.{◌≡◌, ◌⊎◌, ◌++◌, ◌+◌, ℕ, List
 use Rattle.ssh_text.specs.Text.{file_limit, line_limit}
 use Rattle.ssh_inputs.specs.SourceState.{SourceState, dash, next_choice}
 use Rattle.ssh_inputs.specs.Parts.{first_line, after_line}
-use Rattle.ssh_inputs.specs.declared.read.ReadFault.{ReadFault}
-use Rattle.ssh_inputs.specs.declared.read.ReadFault.TheVariants as fault
+use Rattle.ssh_inputs.specs.declared.read.ReadError.{ReadError}
+use Rattle.ssh_inputs.specs.declared.read.ReadError.TheVariants as fault
 
 -- ---- failed reads
 
@@ -44,7 +44,7 @@ abbrev pub IsGathered : Option (List ℕ) → SourceState → SourceState → Op
 IsGathered bytes rest s t got = ((bytes ≡ Some got) × IsLeft s rest t) ⊎ ((file_limit < length got) × IsTooLong bytes × NoReadFailed s t)
 
 -- what a reading of the file of this name up to the limit answers
-abbrev pub Gathers : {V : Type 0} → (V → List ℕ) → List ℕ → Option (List ℕ) → SourceState → SourceState → Option SourceState → Result V ReadFault → Type 0
+abbrev pub Gathers : {V : Type 0} → (V → List ℕ) → List ℕ → Option (List ℕ) → SourceState → SourceState → Option SourceState → Result V ReadError → Type 0
 Gathers view name bytes rest s t (Ok v) = IsGathered bytes rest s t (view v)
 Gathers view name bytes rest s t (Err fault.Missing) = (bytes ≡ None) × NoReadFailed s t
 Gathers view name bytes rest s t (Err fault.TooLong) = ⊥
@@ -52,27 +52,27 @@ Gathers view name bytes rest s t (Err fault.Failed) = OneReadFailed s t name
 Gathers view name bytes rest s t (Err fault.Memory) = ⊤
 
 -- why a reading of these bytes of the file of this name gives none
-abbrev pub FailsLoad : List ℕ → Option (List ℕ) → SourceState → Option SourceState → ReadFault → Type 0
+abbrev pub FailsLoad : List ℕ → Option (List ℕ) → SourceState → Option SourceState → ReadError → Type 0
 FailsLoad name bytes s t fault.Missing = (bytes ≡ None) × NoReadFailed s t
 FailsLoad name bytes s t fault.TooLong = IsTooLong bytes × NoReadFailed s t
 FailsLoad name bytes s t fault.Failed = OneReadFailed s t name
 FailsLoad name bytes s t fault.Memory = ⊤
 
 -- what a reading of these bytes of the file of this name answers, where `rest` is left; the bytes that it gives are seen by `view`
-abbrev pub Loads : {V : Type 0} → (V → List ℕ) → List ℕ → Option (List ℕ) → SourceState → SourceState → Option SourceState → Result V ReadFault → Type 0
+abbrev pub Loads : {V : Type 0} → (V → List ℕ) → List ℕ → Option (List ℕ) → SourceState → SourceState → Option SourceState → Result V ReadError → Type 0
 Loads view name bytes rest s t (Ok v) = (within_limit bytes ≡ Some (view v)) × IsLeft s rest t
 Loads view name bytes rest s t (Err e) = FailsLoad name bytes s t e
 
 -- ---- the first line of standard input
 
 -- why the first line of standard input was not read
-abbrev pub FailsLine : SourceState → Option SourceState → ReadFault → Type 0
+abbrev pub FailsLine : SourceState → Option SourceState → ReadError → Type 0
 FailsLine s t fault.Missing = ⊥
 FailsLine s t fault.TooLong = (line_limit < length (first_line s)) × NoReadFailed s t
 FailsLine s t fault.Failed = LineReadFailed s t
 FailsLine s t fault.Memory = ⊤
 
 -- what a reading of the first line of standard input answers
-abbrev pub LoadsLine : {V : Type 0} → (V → List ℕ) → SourceState → Option SourceState → Result V ReadFault → Type 0
+abbrev pub LoadsLine : {V : Type 0} → (V → List ℕ) → SourceState → Option SourceState → Result V ReadError → Type 0
 LoadsLine view s t (Ok v) = (first_line s ≡ view v) × IsLeft s (after_line s) t
 LoadsLine view s t (Err e) = FailsLine s t e

@@ -3,8 +3,8 @@ use Rattle.std.specs.Prelude.{◌∷◌, [], ◌==◌, ◌+◌, ℕ, Bool, true,
 use Rattle.std.specs.List.{list_any, position}
 use Rattle.ssh_offers.specs.declared.query.Signed.{Signed}
 use Rattle.ssh_text.specs.Text.{lines_of}
-use Rattle.ssh_inputs.specs.declared.vouch.VouchFault.{VouchFault}
-use Rattle.ssh_inputs.specs.declared.vouch.VouchFault.TheVariants.{Line, Memory}
+use Rattle.ssh_inputs.specs.declared.vouch.VouchError.{VouchError}
+use Rattle.ssh_inputs.specs.declared.vouch.VouchError.TheVariants.{Line, Memory}
 use Rattle.ssh_inputs.specs.Values.{hex_bytes}
 use Rattle.ssh_inputs.specs.Words.{is_space}
 
@@ -56,7 +56,7 @@ unfoldable pub vouched_of : List ℕ → Result (List Signed) ℕ
 vouched_of file = vouched_from 1 (lines_of file)
 
 -- the signatures, seen by view, or the first line that spells none; nothing is said where memory was refused
-abbrev pub Vouches : {V : Type 0} → (V → List Signed) → Result V VouchFault → Result (List Signed) ℕ → Type 0
+abbrev pub Vouches : {V : Type 0} → (V → List Signed) → Result V VouchError → Result (List Signed) ℕ → Type 0
 Vouches view (Ok vouched) read = read ≡ Ok (view vouched)
 Vouches view (Err (Line n)) read = read ≡ Err n
 Vouches view (Err Memory) read = ⊤

@@ -12,7 +12,7 @@ use std::alloc::Global;
 
 /// Why a file gives no bytes.
 #[derive(Clone, Copy, Debug, PartialEq, Eq)]
-pub enum ReadFault {
+pub enum ReadError {
     Missing,
     TooLong,
     Failed,
@@ -23,13 +23,13 @@ pub enum ReadFault {
 const PIECE: usize = 4096;
 
 /// The bytes of the file of this name; of a file that passes the limit, as many as pass it.
-fn gather<F: Files>(alloc: Global, files: &mut F, name: &str) -> Result<Vec<u8>, ReadFault>
+fn gather<F: Files>(alloc: Global, files: &mut F, name: &str) -> Result<Vec<u8>, ReadError>
     ensures { IfTells (F.source_state files.old) (λ s.
         Gathers (λ v. v.items) name.now (bytes_at s name.now) (after_whole s name.now) s
         (F.source_state files.new) result) }
 {
     if !files.choose(name) {
-        return Err(ReadFault::Missing);
+        return Err(ReadError::Missing);
     }
     let mut bytes = Vec::new(alloc);
     let mut piece = [0u8; PIECE];
@@ -38,16 +38,16 @@ fn gather<F: Files>(alloc: Global, files: &mut F, name: &str) -> Result<Vec<u8>,
             Ok(0) => return Ok(bytes),
             Ok(n) => match bytes.extend_from_slice(&piece[..n]) {
                 Ok(()) => {}
-                Err(_) => return Err(ReadFault::Memory),
+                Err(_) => return Err(ReadError::Memory),
             },
-            Err(_) => return Err(ReadFault::Failed),
+            Err(_) => return Err(ReadError::Failed),
         }
     }
     Ok(bytes)
 }
 
 /// The bytes of the file of this name, which may not pass the limit.
-pub fn read_whole<F: Files>(alloc: Global, files: &mut F, name: &str) -> Result<Vec<u8>, ReadFault>
+pub fn read_whole<F: Files>(alloc: Global, files: &mut F, name: &str) -> Result<Vec<u8>, ReadError>
     ensures short { IfOk result (λ v. length v.items ≤ file_limit) }
     ensures bytes { IfTells (F.source_state files.old) (λ s.
         Loads (λ v. v.items) name.now (bytes_at s name.now) (after_whole s name.now) s
@@ -56,7 +56,7 @@ pub fn read_whole<F: Files>(alloc: Global, files: &mut F, name: &str) -> Result<
     match gather(alloc, files, name) {
         Ok(bytes) => {
             if bytes.len() > FILE_LIMIT {
-                Err(ReadFault::TooLong)
+                Err(ReadError::TooLong)
             } else {
                 Ok(bytes)
             }
@@ -73,14 +73,14 @@ fn ends_part(fresh: bool, byte: u8) -> bool
 }
 
 /// The bytes of standard input up to the end of its first empty line.
-fn read_part<F: Files>(alloc: Global, files: &mut F) -> Result<Vec<u8>, ReadFault>
+fn read_part<F: Files>(alloc: Global, files: &mut F) -> Result<Vec<u8>, ReadError>
     ensures short { IfOk result (λ v. length v.items ≤ file_limit) }
     ensures bytes { IfTells (F.source_state files.old) (λ s.
         Loads (λ v. v.items) dash (Some (cut_at_empty true s.input).0)
         (after_reading s (cut_at_empty true s.input).1) s (F.source_state files.new) result) }
 {
     if !files.choose("-") {
-        return Err(ReadFault::Missing);
+        return Err(ReadError::Missing);
     }
     let mut bytes = Vec::new(alloc);
     let mut fresh = true;
@@ -91,20 +91,20 @@ fn read_part<F: Files>(alloc: Global, files: &mut F) -> Result<Vec<u8>, ReadFaul
             Ok(_) => {
                 let byte = piece[0];
                 if bytes.push(byte).is_err() {
-                    return Err(ReadFault::Memory);
+                    return Err(ReadError::Memory);
                 }
                 if ends_part(fresh, byte) {
                     if bytes.len() > FILE_LIMIT {
-                        return Err(ReadFault::TooLong);
+                        return Err(ReadError::TooLong);
                     }
                     return Ok(bytes);
                 }
                 fresh = byte == b'\n';
             }
-            Err(_) => return Err(ReadFault::Failed),
+            Err(_) => return Err(ReadError::Failed),
         }
     }
-    Err(ReadFault::TooLong)
+    Err(ReadError::TooLong)
 }
 
 /// The bytes of a vouch file; of standard input, its part up to the first empty line.
@@ -112,7 +112,7 @@ pub fn read_vouch_file<F: Files>(
     alloc: Global,
     files: &mut F,
     name: &str,
-) -> Result<Vec<u8>, ReadFault>
+) -> Result<Vec<u8>, ReadError>
     ensures short { IfOk result (λ v. length v.items ≤ file_limit) }
     ensures bytes { IfTells (F.source_state files.old) (λ s.
         Loads (λ v. v.items) name.now (part_at s name.now) (after_part s name.now) s
@@ -126,12 +126,12 @@ pub fn read_vouch_file<F: Files>(
 }
 
 /// The first line of standard input, without its LF.
-pub fn read_first_line<F: Files>(alloc: Global, files: &mut F) -> Result<Vec<u8>, ReadFault>
+pub fn read_first_line<F: Files>(alloc: Global, files: &mut F) -> Result<Vec<u8>, ReadError>
     ensures { IfTells (F.source_state files.old)
         (λ s. LoadsLine (λ v. v.items) s (F.source_state files.new) result) }
 {
     if !files.choose("-") {
-        return Err(ReadFault::Missing);
+        return Err(ReadError::Missing);
     }
     let mut bytes = Vec::new(alloc);
     let mut piece = [0u8; 1];
@@ -144,11 +144,11 @@ pub fn read_first_line<F: Files>(alloc: Global, files: &mut F) -> Result<Vec<u8>
                     return Ok(bytes);
                 }
                 if bytes.push(byte).is_err() {
-                    return Err(ReadFault::Memory);
+                    return Err(ReadError::Memory);
                 }
             }
-            Err(_) => return Err(ReadFault::Failed),
+            Err(_) => return Err(ReadError::Failed),
         }
     }
-    Err(ReadFault::TooLong)
+    Err(ReadError::TooLong)
 }

@@ -14,7 +14,7 @@ ghost use Rattle.ssh_inputs.specs.VouchFile.{
 };
 ghost use Rattle.ssh_inputs.specs.Values.{hex_bytes};
 ghost use Rattle.ssh_inputs.specs.Words.{is_space};
-ghost use Rattle.ssh_inputs.specs.declared.vouch.VouchFault.TheVariants.{Memory};
+ghost use Rattle.ssh_inputs.specs.declared.vouch.VouchError.TheVariants.{Memory};
 
 use crate::values::read_hex;
 use ssh_offers::Signed;
@@ -23,17 +23,17 @@ use std::alloc::{AllocError, Global};
 
 /// Why a vouch file tells no signatures.
 #[derive(Clone, Copy, Debug, PartialEq, Eq)]
-pub enum VouchFault {
+pub enum VouchError {
     /// The line of this number spells no triple.
     Line(u64),
     Memory,
 }
 
-impl From<AllocError> for VouchFault {
+impl From<AllocError> for VouchError {
     ghost from_gives = { λ x e. e ≡ Memory };
 
-    fn from(_e: AllocError) -> VouchFault {
-        VouchFault::Memory
+    fn from(_e: AllocError) -> VouchError {
+        VouchError::Memory
     }
 }
 
@@ -128,7 +128,7 @@ fn keep(vouched: &mut Vec<Signed>, signed: Signed) -> Result<(), AllocError>
 }
 
 /// The signatures of a vouch file, or the first line that spells none.
-pub fn read_vouched(alloc: Global, bytes: &[u8]) -> Result<Vec<Signed>, VouchFault>
+pub fn read_vouched(alloc: Global, bytes: &[u8]) -> Result<Vec<Signed>, VouchError>
     ensures { Vouches (λ v. v.items) result (vouched_of bytes.now) }
 {
     let mut vouched = Vec::new(alloc);
@@ -138,7 +138,7 @@ pub fn read_vouched(alloc: Global, bytes: &[u8]) -> Result<Vec<Signed>, VouchFau
         }
         match read_triple(alloc, line)? {
             Some(signed) => keep(&mut vouched, signed)?,
-            None => return Err(VouchFault::Line(number)),
+            None => return Err(VouchError::Line(number)),
         }
     }
     Ok(vouched)

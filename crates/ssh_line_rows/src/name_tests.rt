@@ -1,7 +1,7 @@
 //! What no clause says: outside vectors, and that calls that take memory can succeed.
 
 use crate::compare::same;
-use ssh_names::{NamesFault, hash_name, hmac_sha1, lookup_name, names_host, read_names};
+use ssh_names::{NamesError, hash_name, hmac_sha1, lookup_name, names_host, read_names};
 use std::alloc::{AllocError, Global};
 use std::test::Fail;
 
@@ -23,7 +23,7 @@ fn names(
     field: &[u8],
     host: &[u8],
     port: u16,
-) -> Result<Result<bool, NamesFault>, AllocError> {
+) -> Result<Result<bool, NamesError>, AllocError> {
     let name = lookup_name(alloc, host, port)?;
     Ok(read_names(field).map(|names| names_host(&names, &name)))
 }
@@ -103,7 +103,7 @@ fn keygen_fields(rt: HostRuntime) -> Result<(), Fail> {
             &KEYGEN_FIELD[..59],
             b"example.org".as_slice(),
             22,
-            Err(NamesFault::HashedName),
+            Err(NamesError::HashedName),
         ),
     ] {
         same(&rt, &names(rt.alloc(), field, host, port)?, &want);
@@ -125,13 +125,13 @@ fn lists(rt: HostRuntime) -> Result<(), Fail> {
             b"h,,g".as_slice(),
             b"h".as_slice(),
             22,
-            Err(NamesFault::EmptyItem),
+            Err(NamesError::EmptyItem),
         ),
         (
             b"|1|x".as_slice(),
             b"h".as_slice(),
             22,
-            Err(NamesFault::HashedName),
+            Err(NamesError::HashedName),
         ),
     ] {
         same(&rt, &names(rt.alloc(), field, host, port)?, &want);

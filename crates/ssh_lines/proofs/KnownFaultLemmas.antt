@@ -17,8 +17,8 @@ use Rattle.ssh_names.proofs.ByteLemmas.{AreBytes, IsBytes-from_all}
 use Rattle.ssh_names.proofs.DecodedBytes.{decoded-bytes}
 use Rattle.ssh_names.proofs.FieldLemmas.{fault-names, names-spelled}
 use Rattle.ssh_names.specs.Names.{Names, SpellsNames, names_of, IsNamesFault}
-use Rattle.ssh_names.specs.declared.fault.NamesFault.{NamesFault}
-use Rattle.ssh_names.specs.declared.fault.NamesFault.TheVariants as faults
+use Rattle.ssh_names.specs.declared.error.NamesError.{NamesError}
+use Rattle.ssh_names.specs.declared.error.NamesError.TheVariants as faults
 use Rattle.ssh_options.specs.declared.cause.LineCause.{LineCause}
 use Rattle.ssh_options.specs.declared.cause.LineCause.TheVariants as causes
 use Rattle.ssh_text.specs.Text.{body_of, first_word, after_word, next_field, comment_of}
@@ -126,7 +126,7 @@ of-key causes.Marker text k n f = (k, n, f)
 of-key causes.HashedName text k n f = absurd f
 of-key causes.Names text k n f = absurd f
 
-of-names : (fault : NamesFault) (text : List ℕ) → HasKey (next_field text) → IsNamesFault fault (first_word text) → IsTextFault (names_cause fault) text
+of-names : (fault : NamesError) (text : List ℕ) → HasKey (next_field text) → IsNamesFault fault (first_word text) → IsTextFault (names_cause fault) text
 of-names faults.HashedName text k f = (k, f)
 of-names faults.EmptyItem text k f = (k, f)
 
@@ -140,7 +140,7 @@ key-by text marker names (Err e) cause are k n p h =
     let bytes = IsBytes-from_all (field_of key) (word-bytes (next_field key) (next-bytes key (next-bytes text are))) in
     of-key cause text k (names, n) (class-fault key (class_of (first_word key)) cause bytes refl (p ∙ ap (λ x. Err x) is))
 
-names-by : (text : List ℕ) (marker : Marker) (names : Result Names NamesFault) (cause : LineCause) → AreBytes text
+names-by : (text : List ℕ) (marker : Marker) (names : Result Names NamesError) (cause : LineCause) → AreBytes text
     → HasKey (next_field text) → names_of (first_word text) ≡ names
     → entry_of_names marker names (next_field text) ≡ Err cause → IsTextFault cause text
 names-by text marker (Err fault) cause are k n h =

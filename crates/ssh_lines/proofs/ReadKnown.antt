@@ -4,7 +4,7 @@ use Rattle.base64.specs.GeneralPurpose.{decode_of}
 use Rattle.base64.specs.Engines.{standard}
 use Rattle.base64.specs.declared.decode.DecodeError.{DecodeError}
 use Rattle.ssh_names.specs.Names.{Names, SpellsNames, names_of}
-use Rattle.ssh_names.specs.declared.fault.NamesFault.{NamesFault}
+use Rattle.ssh_names.specs.declared.error.NamesError.{NamesError}
 use Rattle.ssh_names.proofs.FieldLemmas.{names-read, names-spelled}
 use Rattle.ssh_keys.specs.Names.{name_of}
 use Rattle.ssh_keys.specs.PublicKey.{kind_of, key_blob}
@@ -168,7 +168,7 @@ key-by marker field key entry names (Ok part) l n p h =
     subst (λ x. ReadFields marker field key x) is
     (record { marker_is = refl; says = record { names = n; part = part-from key (record { key = part.key; comment = part.comment }) l p } })
 
-names-by : (marker : Marker) (field key : List ℕ) (entry : KnownEntry) (names : Result Names NamesFault)
+names-by : (marker : Marker) (field key : List ℕ) (entry : KnownEntry) (names : Result Names NamesError)
     → lacks_key key ≡ false → names_of field ≡ names → entry_of_names marker names key ≡ Ok entry → ReadFields marker field key entry
 names-by marker field key entry (Err fault) l n h = cc
 names-by marker field key entry (Ok names) l n h = key-by marker field key entry names (key_after_fields key) l n refl h

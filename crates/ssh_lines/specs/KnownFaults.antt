@@ -7,7 +7,7 @@ use Rattle.ssh_keys.specs.Names.{name_of, class_of}
 use Rattle.ssh_keys.specs.PublicKey.{PublicKey, kind_of, key_blob, IsKey}
 use Rattle.ssh_keys.specs.KeyReading.{key_in}
 use Rattle.ssh_names.specs.Names.{Names, SpellsNames, IsNamesFault}
-use Rattle.ssh_names.specs.declared.fault.NamesFault.TheVariants as faults
+use Rattle.ssh_names.specs.declared.error.NamesError.TheVariants as faults
 use Rattle.ssh_options.specs.declared.cause.LineCause.{LineCause}
 use Rattle.ssh_options.specs.declared.cause.LineCause.TheVariants as causes
 use Rattle.ssh_text.specs.Text.{line_limit, body_of, first_word, next_field}

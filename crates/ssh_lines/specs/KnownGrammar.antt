@@ -4,8 +4,8 @@ use Rattle.base64.specs.GeneralPurpose.{decode_of, IsBytes}
 use Rattle.base64.specs.Engines.{standard}
 use Rattle.base64.specs.declared.decode.DecodeError.{DecodeError}
 use Rattle.ssh_names.specs.Names.{Names, SpellsNames, names_of}
-use Rattle.ssh_names.specs.declared.fault.NamesFault.{NamesFault}
-use Rattle.ssh_names.specs.declared.fault.NamesFault.TheVariants as faults
+use Rattle.ssh_names.specs.declared.error.NamesError.{NamesError}
+use Rattle.ssh_names.specs.declared.error.NamesError.TheVariants as faults
 use Rattle.ssh_options.specs.declared.cause.LineCause.{LineCause}
 use Rattle.ssh_options.specs.declared.cause.LineCause.TheVariants as causes
 use Rattle.ssh_text.specs.Text.{line_limit, body_of, first_word, next_field, AreBlanks, HasNoBlank, IsGap}
@@ -59,7 +59,7 @@ Blind line = (line_limit < length line) ⊎ ((first_word (body_of line) ≡ revo
 -- ---- reading, with the first fault
 
 -- L15 and L16
-abbrev pub names_cause : NamesFault → LineCause
+abbrev pub names_cause : NamesError → LineCause
 names_cause faults.HashedName = causes.HashedName
 names_cause faults.EmptyItem = causes.Names
 
@@ -68,7 +68,7 @@ entry_of_key marker names (Err cause) = Err cause
 entry_of_key marker names (Ok part) =
     Ok (record { marker = marker; names = names; key = part.key; comment = part.comment })
 
-abbrev pub entry_of_names : Marker → Result Names NamesFault → List ℕ → Result KnownEntry LineCause
+abbrev pub entry_of_names : Marker → Result Names NamesError → List ℕ → Result KnownEntry LineCause
 entry_of_names marker (Err fault) key = Err (names_cause fault)
 entry_of_names marker (Ok names) key = entry_of_key marker names (key_after_fields key)
 

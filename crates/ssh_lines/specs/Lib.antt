@@ -4,7 +4,7 @@ pub mod AuthEntry
 pub mod KnownEntry
 pub mod Kept
 pub mod KeyText
-pub mod Fault
+pub mod LineError
 pub mod KeyPart
 pub mod AuthGrammar
 pub mod LineView

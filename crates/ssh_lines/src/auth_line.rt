@@ -6,11 +6,11 @@ ghost use Rattle.ssh_options.specs.declared.cause.LineCause.{LineCause};
 ghost use Rattle.ssh_lines.specs.AuthFaults.{IsAuthFault};
 ghost use Rattle.ssh_lines.specs.AuthGrammar.{SpellsEntry, auth_line, entry_of};
 ghost use Rattle.ssh_lines.specs.EntryFields.{needs_bytes};
-ghost use Rattle.ssh_lines.specs.Fault.{SaysEntry};
+ghost use Rattle.ssh_lines.specs.LineError.{SaysEntry};
 
 use crate::entry::{AuthEntry, AuthLine};
 use crate::entry_fields::EntryFields;
-use crate::fault::Fault;
+use crate::error::LineError;
 use crate::front::{Front, front_of};
 use base64::decoded_len_estimate;
 use ssh_options::LineCause;
@@ -18,7 +18,7 @@ use std::alloc::{AllocError, Global};
 
 /// The entry of a line with this body, which is neither blank nor a comment.
 #[tactic(auto, using(crate::proofs::BytesLemmas::fields_need_bytes))]
-fn entry_in(alloc: Global, line: &[u8], body: &[u8]) -> Result<AuthEntry, Fault>
+fn entry_in(alloc: Global, line: &[u8], body: &[u8]) -> Result<AuthEntry, LineError>
     requires { auth_line line.now ≡ entry_of body.now }
     ensures { SaysEntry result (entry_of body.now) }
 {
@@ -40,8 +40,8 @@ fn read_line(alloc: Global, line: &[u8]) -> Result<AuthLine, AllocError>
         Front::Comment => Ok(AuthLine::Comment),
         Front::Fields(body) => match entry_in(alloc, line, body) {
             Ok(entry) => Ok(AuthLine::Entry(entry)),
-            Err(Fault::Cause(cause)) => Ok(AuthLine::Unreadable(cause)),
-            Err(Fault::Memory) => Err(AllocError),
+            Err(LineError::Cause(cause)) => Ok(AuthLine::Unreadable(cause)),
+            Err(LineError::Memory) => Err(AllocError),
         },
     }
 }

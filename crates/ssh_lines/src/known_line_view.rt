@@ -21,7 +21,7 @@ use crate::key_view::{key_fields, key_in_field};
 use crate::known_view::KnownEntryView;
 use crate::marker::{FirstField, Marker, first_field_of};
 use ssh_keys::name_class;
-use ssh_names::{NamesFault, read_names};
+use ssh_names::{NamesError, read_names};
 use ssh_options::LineCause;
 use ssh_text::{skip_blanks, split_word};
 
@@ -52,8 +52,8 @@ fn view_fields<'a>(
     let (word, base64, rest) = key_fields(key)?;
     let names = match read_names(field) {
         Ok(names) => names,
-        Err(NamesFault::HashedName) => return Err(LineCause::HashedName),
-        Err(NamesFault::EmptyItem) => return Err(LineCause::Names),
+        Err(NamesError::HashedName) => return Err(LineCause::HashedName),
+        Err(NamesError::EmptyItem) => return Err(LineCause::Names),
     };
     let part = key_in_field(name_class(word), base64, rest, buffer)?;
     Ok(KnownEntryView::new(marker, names, part))

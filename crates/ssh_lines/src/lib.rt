@@ -23,7 +23,7 @@ mod auth_view;
 mod blob;
 mod entry;
 mod entry_fields;
-mod fault;
+mod error;
 mod front;
 mod key_buffer;
 mod key_line;

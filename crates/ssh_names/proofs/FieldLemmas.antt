@@ -16,8 +16,8 @@ use Rattle.ssh_patterns.specs.Cut.{after_mark}
 use Rattle.ssh_patterns.specs.Lists.{items_of}
 use Rattle.ssh_patterns.proofs.CutLemmas.{after_mark-whole}
 use Rattle.ssh_patterns.proofs.OctetLemmas.{and_then-some}
-use Rattle.ssh_names.specs.declared.fault.NamesFault.{NamesFault}
-use Rattle.ssh_names.specs.declared.fault.NamesFault.TheVariants as faults
+use Rattle.ssh_names.specs.declared.error.NamesError.{NamesError}
+use Rattle.ssh_names.specs.declared.error.NamesError.TheVariants as faults
 use Rattle.ssh_names.specs.declared.hashed.HashedName.{HashedName}
 use Rattle.ssh_names.specs.Names.{Names, Patterns, Hashed, AreNames, IsNamesFault, IsTwentyBytes, SpellsNames, base64, begins_with_bar, has_empty_item, hashed_of, if_twenty, names_by_hash, names_of, names_text, twenty_bytes_of}
 use Rattle.ssh_names.proofs.ByteLemmas.{AreBytes, AreBytes-back, AreBytes-front, IsBytes-from_all}
@@ -180,25 +180,25 @@ some-field names field h = λ e. none-empty names (ap names_of (sym e) ∙ names
 
 -- ---- what is read
 
-pub found-names : (read : Result Names NamesFault) (field : List ℕ) → AreBytes field → read ≡ names_of field → IfOk read (λ names. SpellsNames names field)
+pub found-names : (read : Result Names NamesError) (field : List ℕ) → AreBytes field → read ≡ names_of field → IfOk read (λ names. SpellsNames names field)
 found-names (Ok names) field bytes h = names-spelled field names bytes (sym h)
 found-names (Err fault) field bytes h = tt
 
-pub only-names : (read : Result Names NamesFault) (field : List ℕ) → read ≡ names_of field → (names : Names) → SpellsNames names field → read ≡ Ok names
+pub only-names : (read : Result Names NamesError) (field : List ℕ) → read ≡ names_of field → (names : Names) → SpellsNames names field → read ≡ Ok names
 only-names read field h names spells = h ∙ names-read names field spells
 
 -- ---- faults
 
-hash-fault : (o : Option HashedName) (fault : NamesFault) → names_by_hash o ≡ Err fault → fault ≡ faults.HashedName
+hash-fault : (o : Option HashedName) (fault : NamesError) → names_by_hash o ≡ Err fault → fault ≡ faults.HashedName
 hash-fault None fault h = cc
 hash-fault (Some name) fault h = cc
 
-list-fault : (b : Bool) (field : List ℕ) (fault : NamesFault) → has_empty_item field ≡ b
+list-fault : (b : Bool) (field : List ℕ) (fault : NamesError) → has_empty_item field ≡ b
     → (if b then Err faults.EmptyItem else Ok (Patterns field)) ≡ Err fault → (fault ≡ faults.EmptyItem) × Any (λ item. item.text ≡ []) (items_of field)
 list-fault true field fault e h = (cc, empty-from_test (items_of field) e)
 list-fault false field fault e h = cc
 
-bar-fault : (b : Bool) (field : List ℕ) (fault : NamesFault) → begins_with_bar field ≡ b
+bar-fault : (b : Bool) (field : List ℕ) (fault : NamesError) → begins_with_bar field ≡ b
     → (if b then names_by_hash (hashed_of field) else if has_empty_item field then Err faults.EmptyItem else Ok (Patterns field)) ≡ Err fault
     → names_of field ≡ Err fault → IsNamesFault fault field
 bar-fault true field fault bar h e =
@@ -208,10 +208,10 @@ bar-fault false field fault bar h e =
     let parts = list-fault (has_empty_item field) field fault refl h in
     rw parts.0 (bar, parts.1)
 
-fault-of : (field : List ℕ) (fault : NamesFault) → names_of field ≡ Err fault → IsNamesFault fault field
+fault-of : (field : List ℕ) (fault : NamesError) → names_of field ≡ Err fault → IsNamesFault fault field
 unfolding names_of
 fault-of field fault h = bar-fault (begins_with_bar field) field fault refl h h
 
-pub fault-names : (read : Result Names NamesFault) (field : List ℕ) → read ≡ names_of field → IfErr read (λ fault. IsNamesFault fault field)
+pub fault-names : (read : Result Names NamesError) (field : List ℕ) → read ≡ names_of field → IfErr read (λ fault. IsNamesFault fault field)
 fault-names (Ok names) field h = tt
 fault-names (Err fault) field h = fault-of field fault (sym h)

@@ -8,8 +8,8 @@ use Rattle.base64.specs.declared.decode.DecodeError.{DecodeError}
 use Rattle.ssh_patterns.specs.Cut.{after_mark}
 use Rattle.ssh_patterns.specs.Lists.{Permits, MatchesInLowerCase, items_of, host_list}
 use Rattle.ssh_patterns.specs.Matching.{is_empty}
-use Rattle.ssh_names.specs.declared.fault.NamesFault.{NamesFault}
-use Rattle.ssh_names.specs.declared.fault.NamesFault.TheVariants as faults
+use Rattle.ssh_names.specs.declared.error.NamesError.{NamesError}
+use Rattle.ssh_names.specs.declared.error.NamesError.TheVariants as faults
 use Rattle.ssh_names.specs.declared.hashed.HashedName.{HashedName}
 use Rattle.ssh_names.specs.Hmac.{hmac_sha1}
 
@@ -84,7 +84,7 @@ pub record SpellsNames (names : Names) (field : List ℕ) : Type 0 where
   pub text : field ≡ names_text names
 
 -- Why a field spells no names: it begins with `|` and spells none, or it is a list with an empty item.
-abbrev pub IsNamesFault : NamesFault → List ℕ → Type 0
+abbrev pub IsNamesFault : NamesError → List ℕ → Type 0
 IsNamesFault faults.HashedName field =
     (begins_with_bar field ≡ true) × ((names : Names) → ¬ SpellsNames names field)
 IsNamesFault faults.EmptyItem field =
@@ -125,13 +125,13 @@ said field None = Patterns field
 said field (Some name) = Hashed name.salt name.hash
 
 -- the hashed name that was read, if any
-abbrev pub names_by_hash : Option HashedName → Result Names NamesFault
+abbrev pub names_by_hash : Option HashedName → Result Names NamesError
 names_by_hash None = Err faults.HashedName
 names_by_hash (Some name) = Ok (Hashed name.salt name.hash)
 
 -- The names of a field, or its fault: a field that begins with `|` is one hashed name, and every other
 -- one is a list without empty items (this project's rule).
-unfoldable pub names_of : List ℕ → Result Names NamesFault
+unfoldable pub names_of : List ℕ → Result Names NamesError
 names_of field =
     if begins_with_bar field then names_by_hash (hashed_of field)
     else if has_empty_item field then Err faults.EmptyItem

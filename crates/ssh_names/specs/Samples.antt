@@ -4,7 +4,7 @@ use Rattle.std.specs.Fmt.{digits}
 use Rattle.ssh_patterns.specs.Digits.{number_to_base}
 use Rattle.base64.proofs.OnLiterals.{base64_on_literals}
 use Rattle.sha1.specs.Sha1.{sha1, digest_bytes, hash_after, compress, rounds, schedule, first_words}
-use Rattle.ssh_names.specs.declared.fault.NamesFault.TheVariants.{HashedName, EmptyItem}
+use Rattle.ssh_names.specs.declared.error.NamesError.TheVariants.{HashedName, EmptyItem}
 use Rattle.ssh_names.specs.Hmac.{hmac_sha1}
 use Rattle.ssh_names.specs.Names.{Patterns, Hashed, hashed_field, hashed_of, lookup_name, names_of, twenty_bytes_of}
 

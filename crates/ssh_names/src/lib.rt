@@ -14,7 +14,7 @@
 //! ```
 #![tactic(auto)]
 
-mod fault;
+mod error;
 mod hashed;
 mod hmac;
 mod laws;
@@ -22,7 +22,7 @@ mod lookup;
 mod names;
 mod samples;
 
-pub use fault::NamesFault;
+pub use error::NamesError;
 pub use hashed::hash_name;
 pub use hmac::hmac_sha1;
 pub use lookup::lookup_name;

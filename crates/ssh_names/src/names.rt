@@ -16,7 +16,7 @@ ghost use Rattle.ssh_names.specs.Names.{
   names_text,
 };
 
-use crate::fault::NamesFault;
+use crate::error::NamesError;
 use crate::hashed::{HashedName, read_hashed};
 use crate::hmac::hmac_sha1;
 use ssh_patterns::host_list;
@@ -112,12 +112,12 @@ fn has_empty_item(list: &[u8]) -> bool
 
 /// The names of a field, or its fault.
 #[tactic(auto, unfolding(crate::specs::Names::names_of))]
-fn view_names(field: &[u8]) -> Result<HostNames<'_>, NamesFault>
+fn view_names(field: &[u8]) -> Result<HostNames<'_>, NamesError>
     ensures { result ≡ names_of field.now }
 {
     if begins_with_bar(field) {
         let Some(name) = read_hashed(field) else {
-            return Err(NamesFault::HashedName);
+            return Err(NamesError::HashedName);
         };
         return Ok(HostNames {
             text: field,
@@ -125,7 +125,7 @@ fn view_names(field: &[u8]) -> Result<HostNames<'_>, NamesFault>
         });
     }
     if has_empty_item(field) {
-        return Err(NamesFault::EmptyItem);
+        return Err(NamesError::EmptyItem);
     }
     Ok(HostNames {
         text: field,
@@ -137,7 +137,7 @@ fn view_names(field: &[u8]) -> Result<HostNames<'_>, NamesFault>
 /// `|` and the base64 of a hash of 20 bytes, or a list of patterns with commas between them, which
 /// does not begin with `|` and of which no item is empty (sshd(8), SSH_KNOWN_HOSTS FILE FORMAT; the
 /// empty item is refused by this project's rule). No memory is taken.
-pub fn read_names(field: &[u8]) -> Result<HostNames<'_>, NamesFault>
+pub fn read_names(field: &[u8]) -> Result<HostNames<'_>, NamesError>
     // Names that are read are those that the field spells.
     ensures found { IfOk result (λ names. SpellsNames names field.now) }
     // Names that the field spells are the ones that are read.

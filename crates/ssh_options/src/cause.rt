@@ -23,7 +23,7 @@ pub enum LineCause {
     #[error("an option stands twice that may stand once")]
     RepeatedOption,
     /// L6: a text of another form, or a date or a time of day that does not exist.
-    #[error("an expiry time is none")]
+    #[error("the text of an expiry time is not a time")]
     ExpiryText,
     /// L7: no key type, or no base64 field after it.
     #[error("the key type or the key is missing")]
@@ -51,7 +51,7 @@ pub enum LineCause {
     Marker,
     /// L15: the names begin with `|` and are no hashed name: `|1|`, a salt and a hash of 20 bytes
     /// each in base64, with `|` between them.
-    #[error("a hashed name is none")]
+    #[error("a name that begins with | is not a hashed name")]
     HashedName,
     /// L16: an item of the list of names is empty.
     #[error("an item among the names is empty")]

@@ -2,7 +2,7 @@
 
 use crate::sink::{FailsOnce, Page};
 use crate::source::{FailsAt, OneFile, Sips};
-use ssh_command::{WordsFault, refuse, run};
+use ssh_command::{WordsError, refuse, run};
 use std::alloc::{AllocError, Global};
 use std::io::ErrorKind;
 
@@ -65,7 +65,7 @@ pub fn printed_until(
 }
 
 /// What is printed where the program's own words cannot be read, with the status.
-pub fn printed_refusal(alloc: Global, fault: WordsFault) -> Result<(u8, Vec<u8>), AllocError> {
+pub fn printed_refusal(alloc: Global, fault: WordsError) -> Result<(u8, Vec<u8>), AllocError> {
     let mut page = Page::new(alloc);
     let status = refuse(fault, &mut page);
     Ok((status, Vec::from_slice(alloc, page.taken())?))

@@ -7,7 +7,7 @@ pub(crate) mod user_certificates;
 
 use crate::login_tests::{K0_TRIPLE, login_line};
 use keys::{K0, S0};
-use ssh_command::WordsFault;
+use ssh_command::WordsError;
 use ssh_row_files::{printed, printed_failing, printed_refusal, printed_until};
 use std::alloc::Global;
 use std::io::ErrorKind;
@@ -152,8 +152,8 @@ fn stops_an_answer_at_a_failed_write(rt: HostRuntime) -> Result<(), Fail> {
 #[test]
 fn refuses_words_that_cannot_be_read(rt: HostRuntime) -> Result<(), Fail> {
     for (fault, wanted) in [
-        (WordsFault::Usage, "fault usage\n"),
-        (WordsFault::Memory, "fault A8\n"),
+        (WordsError::Usage, "fault usage\n"),
+        (WordsError::Memory, "fault A8\n"),
     ] {
         let (status, text) = printed_refusal(rt.alloc(), fault)?;
         assert_eq!(rt; text.as_slice(), wanted.as_bytes());

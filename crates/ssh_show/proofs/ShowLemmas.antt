@@ -7,7 +7,7 @@ use Rattle.ssh_certs.specs.Certificate.{Certificate}
 use Rattle.ssh_lines.specs.KeyText.{comment_field}
 use Rattle.ssh_show.specs.declared.kind.ShowKind.{ShowKind}
 use Rattle.ssh_show.specs.declared.kind.ShowKind.TheVariants as shown
-use Rattle.ssh_show.specs.declared.fault.ShowFault.{ShowFault}
+use Rattle.ssh_show.specs.declared.error.ShowError.{ShowError}
 use Rattle.ssh_show.specs.Showing.{IsAnswerTo, Shows, cert_on, file_signature_in, key_on, public_half_in, shown_line}
 use Rattle.ssh_show.specs.ShownBodies.{IsHalfText, IsSignatureText}
 use Rattle.ssh_show.specs.ShownTexts.{IsCertText, IsDateText, IsKeyText, cert_lines, clock_text, key_lines}
@@ -53,7 +53,7 @@ one-cert_text c a b x y =
 same-response : (a b : Response) → a.status ≡ b.status → a.text ≡ b.text → a ≡ b
 same-response a b s t = λ i. record { status = s i; text = t i }
 
-one-response : {A : Type 0} (IsTextOf : A → List ℕ → Type 0) (read : Result A ShowFault) (a b : Response)
+one-response : {A : Type 0} (IsTextOf : A → List ℕ → Type 0) (read : Result A ShowError) (a b : Response)
     → ((x : A) (s t : List ℕ) → IsTextOf x s → IsTextOf x t → s ≡ t) → IsAnswerTo IsTextOf read a → IsAnswerTo IsTextOf read b → a ≡ b
 one-response IsTextOf (Ok x) a b one h k = same-response a b (h.0 ∙ sym k.0) (one x a.text b.text h.1 k.1)
 one-response IsTextOf (Err e) a b one h k = h ∙ sym k

@@ -23,8 +23,8 @@ use Rattle.ssh_options.specs.declared.cause.LineCause.{LineCause}
 use Rattle.ssh_options.specs.declared.cause.LineCause.TheVariants.{NoKey, KeyType, RetiredType, Base64, KeyBlob, TypeMismatch, CertificateOnLine}
 use Rattle.ssh_show.specs.declared.kind.ShowKind.{ShowKind}
 use Rattle.ssh_show.specs.declared.kind.ShowKind.TheVariants as shown
-use Rattle.ssh_show.specs.declared.fault.ShowFault.{ShowFault}
-use Rattle.ssh_show.specs.declared.fault.ShowFault.TheVariants.{Line, Cert, Body, Memory}
+use Rattle.ssh_show.specs.declared.error.ShowError.{ShowError}
+use Rattle.ssh_show.specs.declared.error.ShowError.TheVariants.{Line, Cert, Body, Memory}
 use Rattle.ssh_show.specs.ShownBodies.{IsHalfText, IsSignatureText, PublicHalf, public_half}
 use Rattle.ssh_show.specs.ShownTexts.{IsCertText, IsKeyText}
 use Rattle.ssh_print.specs.Responses.{Response, fault_response, out_of_memory}
@@ -72,65 +72,65 @@ field_fault [] fault = Some NoKey
 field_fault (c ∷ cs) fault = fault
 
 -- the blob of a base64 field
-abbrev pub blob_spelled : Option (List ℕ) → Result (List ℕ) ShowFault
+abbrev pub blob_spelled : Option (List ℕ) → Result (List ℕ) ShowError
 blob_spelled None = Err (Line Base64)
 blob_spelled (Some blob) = Ok blob
 
 -- the same, where the fields have no fault
-abbrev pub blob_of_field : Option LineCause → List ℕ → Result (List ℕ) ShowFault
+abbrev pub blob_of_field : Option LineCause → List ℕ → Result (List ℕ) ShowError
 blob_of_field (Some cause) field = Err (Line cause)
 blob_of_field None field = blob_spelled (decoded_of standard field)
 
 -- a key, where its type is the line's
-abbrev pub key_of_type : List ℕ → Result PublicKey KeyError → Result PublicKey ShowFault
+abbrev pub key_of_type : List ℕ → Result PublicKey KeyError → Result PublicKey ShowError
 key_of_type type (Err e) = Err (Line (KeyBlob e))
 key_of_type type (Ok key) = if bytes_eq (name_of (kind_of key)) type then Ok key else Err (Line TypeMismatch)
 
-abbrev pub key_of_blob : List ℕ → Result (List ℕ) ShowFault → Result PublicKey ShowFault
+abbrev pub key_of_blob : List ℕ → Result (List ℕ) ShowError → Result PublicKey ShowError
 key_of_blob type (Err e) = Err e
 key_of_blob type (Ok blob) = key_of_type type (key_in blob)
 
 -- the key on a line, or the first fault
-unfoldable pub key_on : List ℕ → Result PublicKey ShowFault
+unfoldable pub key_on : List ℕ → Result PublicKey ShowError
 key_on line = key_of_blob (type_field line) (blob_of_field (field_fault (base64_field line) (key_type_fault (class_of (type_field line)))) (base64_field line))
 
 -- a certificate, where its type is the line's
-abbrev pub cert_of_type : List ℕ → Result certs.Certificate CertError → Result certs.Certificate ShowFault
+abbrev pub cert_of_type : List ℕ → Result certs.Certificate CertError → Result certs.Certificate ShowError
 cert_of_type type (Err e) = Err (Cert e)
 cert_of_type type (Ok cert) = if bytes_eq (certificate_name_of (kind_of cert.key)) type then Ok cert else Err (Line TypeMismatch)
 
-abbrev pub cert_of_blob : List ℕ → Result (List ℕ) ShowFault → Result certs.Certificate ShowFault
+abbrev pub cert_of_blob : List ℕ → Result (List ℕ) ShowError → Result certs.Certificate ShowError
 cert_of_blob type (Err e) = Err e
 cert_of_blob type (Ok blob) = cert_of_type type (certificate_in blob)
 
 -- the certificate on a line, or the first fault
-unfoldable pub cert_on : List ℕ → Result certs.Certificate ShowFault
+unfoldable pub cert_on : List ℕ → Result certs.Certificate ShowError
 cert_on line = cert_of_blob (type_field line) (blob_of_field (field_fault (base64_field line) (cert_type_fault (class_of (type_field line)))) (base64_field line))
 
 -- ---- bodies, with the first fault
 
-abbrev pub or_body_fault : {A B : Type 0} → (A → B) → Result A BodyError → Result B ShowFault
+abbrev pub or_body_fault : {A B : Type 0} → (A → B) → Result A BodyError → Result B ShowError
 or_body_fault f (Err e) = Err (Body e)
 or_body_fault f (Ok x) = Ok (f x)
 
 -- what is shown of the private key that a body holds
-unfoldable pub public_half_in : List ℕ → Result PublicHalf ShowFault
+unfoldable pub public_half_in : List ℕ → Result PublicHalf ShowError
 public_half_in file = or_body_fault public_half (private_in file)
 
 -- the file signature that a body spells
-unfoldable pub file_signature_in : List ℕ → Result Sshsig ShowFault
+unfoldable pub file_signature_in : List ℕ → Result Sshsig ShowError
 file_signature_in file = or_body_fault (λ v. v) (sshsig_in file)
 
 -- ---- answers
 
-abbrev pub show_fault_response : ShowFault → Response
+abbrev pub show_fault_response : ShowError → Response
 show_fault_response (Line cause) = fault_response (line_codes cause)
 show_fault_response (Cert e) = fault_response (cert_codes e)
 show_fault_response (Body e) = fault_response (body_codes e)
 show_fault_response Memory = out_of_memory
 
 -- the text of what was read with status 0, or its fault
-abbrev pub IsAnswerTo : {A : Type 0} → (A → List ℕ → Type 0) → Result A ShowFault → Response → Type 0
+abbrev pub IsAnswerTo : {A : Type 0} → (A → List ℕ → Type 0) → Result A ShowError → Response → Type 0
 IsAnswerTo IsTextOf (Ok x) r = (r.status ≡ 0) × IsTextOf x r.text
 IsAnswerTo IsTextOf (Err e) r = r ≡ show_fault_response e
 

@@ -7,7 +7,7 @@ ghost use Rattle.ssh_show.specs.ShownLines.{PrintsFile};
 
 use crate::body::{show_private, show_sshsig};
 use crate::cert::show_cert;
-use crate::fault::{ShowFault, body_fault, cert_fault, line_fault};
+use crate::error::{ShowError, body_fault, cert_fault, line_fault};
 use crate::key::show_key;
 use crate::kind::ShowKind;
 use crate::line::first_line;
@@ -15,7 +15,7 @@ use ssh_print::{DONE, Response};
 use std::alloc::{AllocError, Global};
 
 /// What is printed of a file, or why it is not shown.
-fn shown(alloc: Global, kind: ShowKind, file: &[u8]) -> Result<Vec<u8>, ShowFault>
+fn shown(alloc: Global, kind: ShowKind, file: &[u8]) -> Result<Vec<u8>, ShowError>
     ensures { PrintsFile (λ text. text.items) kind file.now result }
 {
     match kind {
@@ -33,9 +33,9 @@ pub fn show(alloc: Global, kind: ShowKind, file: &[u8]) -> Result<Response, Allo
 {
     match shown(alloc, kind, file) {
         Ok(text) => Ok(Response { status: DONE, text }),
-        Err(ShowFault::Line(cause)) => line_fault(alloc, cause),
-        Err(ShowFault::Cert(error)) => cert_fault(alloc, error),
-        Err(ShowFault::Body(error)) => body_fault(alloc, error),
-        Err(ShowFault::Memory) => Err(AllocError),
+        Err(ShowError::Line(cause)) => line_fault(alloc, cause),
+        Err(ShowError::Cert(error)) => cert_fault(alloc, error),
+        Err(ShowError::Body(error)) => body_fault(alloc, error),
+        Err(ShowError::Memory) => Err(AllocError),
     }
 }

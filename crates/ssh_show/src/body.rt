@@ -16,7 +16,7 @@ ghost use Rattle.ssh_show.specs.ShownBodies.{
 };
 ghost use Rattle.ssh_show.specs.ShownLines.{Prints};
 
-use crate::fault::ShowFault;
+use crate::error::ShowError;
 use crate::key::push_comment;
 use crate::text::push_fingerprint_line;
 use ssh_bodies::{PrivateView, SshsigView, read_private, read_sshsig};
@@ -74,10 +74,10 @@ fn push_signature(alloc: Global, out: &mut Vec<u8>, view: &SshsigView<'_>) -> Re
 
 /// What is printed of the private key that a body holds.
 #[tactic(auto, unfolding(crate::specs::Showing::public_half_in))]
-pub fn show_private(alloc: Global, body: &[u8]) -> Result<Vec<u8>, ShowFault>
+pub fn show_private(alloc: Global, body: &[u8]) -> Result<Vec<u8>, ShowError>
     ensures { Prints (λ text. text.items) IsHalfText (public_half_in body.now) result }
 {
-    let view = read_private(body).map_err(ShowFault::Body)?;
+    let view = read_private(body).map_err(ShowError::Body)?;
     let mut lines = Vec::new(alloc);
     push_half(alloc, &mut lines, &view)?;
     Ok(lines)
@@ -85,10 +85,10 @@ pub fn show_private(alloc: Global, body: &[u8]) -> Result<Vec<u8>, ShowFault>
 
 /// What is printed of the file signature that a body spells.
 #[tactic(auto, unfolding(crate::specs::Showing::file_signature_in))]
-pub fn show_sshsig(alloc: Global, body: &[u8]) -> Result<Vec<u8>, ShowFault>
+pub fn show_sshsig(alloc: Global, body: &[u8]) -> Result<Vec<u8>, ShowError>
     ensures { Prints (λ text. text.items) IsSignatureText (file_signature_in body.now) result }
 {
-    let view = read_sshsig(body).map_err(ShowFault::Body)?;
+    let view = read_sshsig(body).map_err(ShowError::Body)?;
     let mut lines = Vec::new(alloc);
     push_signature(alloc, &mut lines, &view)?;
     Ok(lines)

@@ -23,7 +23,7 @@ ghost use Rattle.ssh_show.specs.ShownTexts.{
 ghost use Rattle.ssh_print.specs.Texts.{text_line, word_line};
 
 use crate::date::date_text;
-use crate::fault::ShowFault;
+use crate::error::ShowError;
 use crate::line::read_blob;
 use crate::text::{push_fingerprint, push_fingerprint_line};
 use ssh_certs::{CertOptions, CertView, Principals, read_cert};
@@ -46,13 +46,13 @@ fn cert_type_fault(class: NameClass) -> Option<LineCause>
 }
 
 /// The certificate in its blob, where its type is the line's.
-fn read_typed_cert<'a>(type_name: &[u8], blob: &'a [u8]) -> Result<CertView<'a>, ShowFault>
+fn read_typed_cert<'a>(type_name: &[u8], blob: &'a [u8]) -> Result<CertView<'a>, ShowError>
     ensures { Finds certificate_of (cert_of_type type_name.now (certificate_in blob.now)) result }
 {
     match read_cert(blob) {
-        Err(e) => Err(ShowFault::Cert(e)),
+        Err(e) => Err(ShowError::Cert(e)),
         Ok(cert) if cert.key().kind().certificate_name() != type_name => {
-            Err(ShowFault::Line(LineCause::TypeMismatch))
+            Err(ShowError::Line(LineCause::TypeMismatch))
         }
         Ok(cert) => Ok(cert),
     }
@@ -221,7 +221,7 @@ fn cert_text(alloc: Global, cert: &CertView<'_>) -> Result<Vec<u8>, AllocError>
 
 /// What is printed of the certificate on a line, which is given without its LF.
 #[tactic(auto, unfolding(crate::specs::Showing::cert_on))]
-pub fn show_cert(alloc: Global, line: &[u8]) -> Result<Vec<u8>, ShowFault>
+pub fn show_cert(alloc: Global, line: &[u8]) -> Result<Vec<u8>, ShowError>
     ensures { Prints (λ text. text.items) IsCertText (cert_on line.now) result }
 {
     let text = key_text(line);

@@ -9,7 +9,7 @@ ghost use Rattle.ssh_show.specs.Showing.{key_of_type, key_on, key_type_fault};
 ghost use Rattle.ssh_show.specs.ShownLines.{Finds, Prints};
 ghost use Rattle.ssh_show.specs.ShownTexts.{IsKeyText, bits_line, comment_line, key_lines};
 
-use crate::fault::ShowFault;
+use crate::error::ShowError;
 use crate::line::read_blob;
 use crate::text::push_fingerprint_line;
 use ssh_keys::{KeyView, NameClass, name_class, read_key, rsa_bits};
@@ -31,13 +31,13 @@ fn key_type_fault(class: NameClass) -> Option<LineCause>
 }
 
 /// The key in its blob, where its type is the line's.
-fn read_typed_key<'a>(type_name: &[u8], blob: &'a [u8]) -> Result<KeyView<'a>, ShowFault>
+fn read_typed_key<'a>(type_name: &[u8], blob: &'a [u8]) -> Result<KeyView<'a>, ShowError>
     ensures { Finds key_of (key_of_type type_name.now (key_in blob.now)) result }
 {
     match read_key(blob) {
-        Err(e) => Err(ShowFault::Line(LineCause::KeyBlob(e))),
+        Err(e) => Err(ShowError::Line(LineCause::KeyBlob(e))),
         Ok(key) if key.kind().name() != type_name => {
-            Err(ShowFault::Line(LineCause::TypeMismatch))
+            Err(ShowError::Line(LineCause::TypeMismatch))
         }
         Ok(key) => Ok(key),
     }
@@ -85,7 +85,7 @@ fn push_key(
 
 /// What is printed of the key on a line, which is given without its LF.
 #[tactic(auto, unfolding(crate::specs::Showing::key_on))]
-pub fn show_key(alloc: Global, line: &[u8]) -> Result<Vec<u8>, ShowFault>
+pub fn show_key(alloc: Global, line: &[u8]) -> Result<Vec<u8>, ShowError>
     ensures { Prints (λ text. text.items) (λ key text. IsKeyText key (comment_field line.now) text)
         (key_on line.now) result }
 {

@@ -6,7 +6,7 @@ mod answer;
 mod body;
 mod cert;
 mod date;
-mod fault;
+mod error;
 mod key;
 mod kind;
 mod laws;

@@ -5,7 +5,7 @@ ghost use Rattle.ssh_text.specs.Text.{lines_of};
 ghost use Rattle.ssh_show.specs.Showing.{blob_of_field, blob_spelled, field_fault, first_of_lines};
 ghost use Rattle.ssh_show.specs.ShownLines.{Finds};
 
-use crate::fault::ShowFault;
+use crate::error::ShowError;
 use ssh_inputs::decode;
 use ssh_options::LineCause;
 use ssh_text::Lines;
@@ -38,15 +38,15 @@ pub fn read_blob(
     alloc: Global,
     base64: &[u8],
     type_fault: Option<LineCause>,
-) -> Result<Vec<u8>, ShowFault>
+) -> Result<Vec<u8>, ShowError>
     ensures { Finds (λ blob. blob.items)
         (blob_of_field (field_fault base64.now type_fault) base64.now) result }
 {
     if let Some(cause) = field_fault(base64, type_fault) {
-        return Err(ShowFault::Line(cause));
+        return Err(ShowError::Line(cause));
     }
     match decode(alloc, base64)? {
         Some(blob) => Ok(blob),
-        None => Err(ShowFault::Line(LineCause::Base64)),
+        None => Err(ShowError::Line(LineCause::Base64)),
     }
 }

@@ -4,7 +4,7 @@ use thiserror::Error;
 
 /// The fault of the names field of a known_hosts line.
 #[derive(Clone, Copy, Debug, PartialEq, Eq, Error)]
-pub enum NamesFault {
+pub enum NamesError {
     /// The field begins with `|` and is no hashed name.
     #[error("not a hashed name")]
     HashedName,

@@ -1,7 +1,7 @@
 //! Why words are not answered.
 
 ghost use Rattle.std.specs.Prelude.{◌≡◌, IfOk};
-ghost use Rattle.ssh_command.specs.declared.fault.Fault.TheVariants.{Memory};
+ghost use Rattle.ssh_command.specs.declared.error.CommandError.TheVariants.{Memory};
 ghost use Rattle.ssh_command.specs.Spelling.{IsToldAs};
 ghost use Rattle.ssh_print.specs.ResponseView.{response};
 
@@ -11,7 +11,7 @@ use std::alloc::{AllocError, Global};
 
 /// Why words are not answered.
 #[derive(Clone, Copy, Debug, PartialEq, Eq)]
-pub enum Fault {
+pub enum CommandError {
     /// They ask for nothing.
     Usage,
     /// The text of this option spells no value.
@@ -19,21 +19,21 @@ pub enum Fault {
     Memory,
 }
 
-impl From<AllocError> for Fault {
+impl From<AllocError> for CommandError {
     ghost from_gives = { λ x e. e ≡ Memory };
 
-    fn from(_e: AllocError) -> Fault {
-        Fault::Memory
+    fn from(_e: AllocError) -> CommandError {
+        CommandError::Memory
     }
 }
 
 /// The response to a fault.
-pub fn respond_fault(alloc: Global, fault: Fault) -> Result<Response, AllocError>
+pub fn respond_fault(alloc: Global, fault: CommandError) -> Result<Response, AllocError>
     ensures { IfOk result (λ r. IsToldAs fault (response r)) }
 {
     match fault {
-        Fault::Usage => usage_fault(alloc),
-        Fault::Value(option) => value_fault(alloc, option.name()),
-        Fault::Memory => Err(AllocError),
+        CommandError::Usage => usage_fault(alloc),
+        CommandError::Value(option) => value_fault(alloc, option.name()),
+        CommandError::Memory => Err(AllocError),
     }
 }

@@ -4,7 +4,7 @@ ghost use Rattle.std.specs.Prelude.{◌≡◌, IfOk};
 ghost use Rattle.ssh_print.specs.Codes.{body_codes, cert_codes, line_codes};
 ghost use Rattle.ssh_print.specs.ResponseView.{response};
 ghost use Rattle.ssh_print.specs.Responses.{fault_response};
-ghost use Rattle.ssh_show.specs.declared.fault.ShowFault.TheVariants.{Memory};
+ghost use Rattle.ssh_show.specs.declared.error.ShowError.TheVariants.{Memory};
 
 use ssh_bodies::BodyError;
 use ssh_certs::CertError;
@@ -14,7 +14,7 @@ use std::alloc::{AllocError, Global};
 
 /// Why a file is not shown.
 #[derive(Clone, Copy, Debug, PartialEq, Eq)]
-pub enum ShowFault {
+pub enum ShowError {
     /// Its first line holds no key, or not what was asked for.
     Line(LineCause),
     /// The base64 of its first line is that of no certificate.
@@ -24,11 +24,11 @@ pub enum ShowFault {
     Memory,
 }
 
-impl From<AllocError> for ShowFault {
+impl From<AllocError> for ShowError {
     ghost from_gives = { λ x e. e ≡ Memory };
 
-    fn from(_e: AllocError) -> ShowFault {
-        ShowFault::Memory
+    fn from(_e: AllocError) -> ShowError {
+        ShowError::Memory
     }
 }
 
