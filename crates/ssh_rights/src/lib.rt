@@ -18,5 +18,5 @@ mod rights;
 mod samples;
 mod security_key;
 
-pub use rights::{Carried, CarriedName, Rights, line_command, rights_of};
+pub use rights::{Carried, CarriedName, Rights, rights_of};
 pub use security_key::{touch_suffices, verification_suffices};

@@ -101,7 +101,7 @@ fn carried_texts(alloc: Global, options: OptionsView<'_>) -> Result<Items<Carrie
 }
 
 /// The command that the line forces, in the line.
-pub fn line_command<'a>(entry: &AuthEntryView<'a>) -> Option<ValueView<'a>>
+fn line_command<'a>(entry: &AuthEntryView<'a>) -> Option<ValueView<'a>>
     ensures { result ≡ setting Command entry.now.options }
 {
     entry.settings(ValueName::Command).next()

@@ -37,7 +37,6 @@ use ssh_lines::AuthEntryView;
 use ssh_offers::{LoginClaimView, Offer};
 use ssh_options::{Flag, ValueName, ValueView};
 use ssh_patterns::{Permit, source_list};
-use ssh_rights::line_command;
 use std::alloc::{AllocError, Global};
 
 /// The kind number of a user's certificate (PROTOCOL.certkeys).
@@ -201,7 +200,7 @@ fn critical_obstacle(
         return Ok(Some(obstacle));
     }
     let own = certificate.text_of(CertificateOption::ForceCommand);
-    if commands_differ(line_command(entry), own) {
+    if commands_differ(entry.settings(ValueName::Command).next(), own) {
         return Ok(Some(Obstacle::Listed(Reason::CommandConflict)));
     }
     Ok(None)
