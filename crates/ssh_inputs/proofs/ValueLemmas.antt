@@ -1,54 +1,57 @@
 -- Steps of reading values.
-use Rattle.std.proofs.Common.{◌≡◌, ◌∙◌, ◌^◌, ◌<◌, ◌≤◌, ◌&&◌, ◌==◌, nat_lt, nat_le, ℕ, Bool, true, false, cond, List, [], ◌∷◌, ◌++◌, length, drop, slice_index, Option, Some, None, Result, Ok, Err, refl, sym, ap, arith}
-use Rattle.std.specs.Prelude.{option_map, OkIff}
+use Rattle.std.proofs.Common.{inl, inr, ◌≡◌, ◌∙◌, ◌⊎◌, ◌+◌, ◌*◌, ◌%◌, ◌^◌, ◌<◌, ◌≤◌, ◌&&◌, ◌==◌, if◌then◌else◌, nat_lt, nat_le, ℕ, Bool, true, false, cond, List, [], ◌∷◌, length, Option, Some, None, Result, Ok, Err, refl, sym, ap, arith}
+use Rattle.std.specs.Prelude.{OkIff}
 use Rattle.std.specs.List.{list_all}
 use Rattle.std.specs.Char.{digit_value}
 use Rattle.std.specs.Result.{result_ok}
 use Rattle.std.specs.Str.Parse.{AllDigits, IsNumeral, ParsesUnsigned, digits_value, without_leading_plus}
-use Rattle.std.proofs.lemmas.Bool.{and_parts, ltb-true, lt-ltb, leb-true, ne_eqb}
-use Rattle.std.proofs.lemmas.List.{append_assoc}
+use Rattle.std.proofs.lemmas.Bool.{and_parts, eqb-true, ltb-true, lt-ltb, leb-true, ne_eqb}
+use Rattle.hex.specs.declared.error.FromHexError.{FromHexError}
+use Rattle.hex.specs.declared.error.FromHexError.TheVariants.{OddLength, OutOfMemory}
+use Rattle.hex.specs.Hex.{decode_of, decode_pairs, digit_or_error, ◌>>=◌}
 use Rattle.ssh_inputs.specs.Values.{hex_value, pair_value, pair_values, prepend, is_digit, number_below}
 
 -- ---- hexadecimal
 
-abbrev pub onto : List ℕ → Option (List ℕ) → Option (List ℕ)
-onto done rest = option_map (λ xs. done ++ xs) rest
+-- one more pair of digits, as the kit's hex reads it
+pair-same : (high low : Option ℕ) (a b i : ℕ) (rest : Result (List ℕ) FromHexError)
+    → result_ok ((digit_or_error a i high >>= (λ h. digit_or_error b (i + 1) low >>= (λ l. Ok (h * 16 + l)))) >>= (λ byte. rest >>= (λ bytes. Ok (byte ∷ bytes))))
+    ≡ prepend (pair_value high low) (result_ok rest)
+pair-same None low a b i rest = refl
+pair-same (Some h) None a b i rest = refl
+pair-same (Some h) (Some l) a b i (Err e) = refl
+pair-same (Some h) (Some l) a b i (Ok bytes) =
+    let same : h * 16 + l ≡ 16 * h + l = omega arith in
+    ap (λ (n : ℕ). Some (n ∷ bytes)) same
 
--- the bytes that pairs of digits spell, from a front that was read
-abbrev pub AreRead : List ℕ → List ℕ → List ℕ → Type 0
-AreRead text done rest = pair_values text ≡ onto done (pair_values rest)
+pairs-same : (i : ℕ) (text : List ℕ) → result_ok (decode_pairs i text) ≡ pair_values text
+unfolding decode_pairs
+pairs-same i [] = refl
+pairs-same i (a ∷ []) = refl
+pairs-same i (a ∷ b ∷ rest) =
+    pair-same (hex_value a) (hex_value b) a b i (decode_pairs (i + 2) rest) ∙ ap (prepend (pair_value (hex_value a) (hex_value b))) (pairs-same (i + 2) rest)
 
-pub read_none : (o : Option (List ℕ)) → o ≡ onto [] o
-read_none None = refl
-read_none (Some xs) = refl
+prepend-none : (o : Option ℕ) → prepend o None ≡ None
+prepend-none None = refl
+prepend-none (Some x) = refl
 
-onto-one : (done : List ℕ) (x : ℕ) (o : Option (List ℕ)) → onto done (prepend (Some x) o) ≡ onto (done ++ x ∷ []) o
-onto-one done x None = refl
-onto-one done x (Some xs) = ap (λ (l : List ℕ). Some l) (sym (append_assoc done (x ∷ []) xs))
+odd-none : (text : List ℕ) → length text % 2 ≡ 1 → pair_values text ≡ None
+odd-none [] h = absurd (omega arith)
+odd-none (a ∷ []) h = refl
+odd-none (a ∷ b ∷ rest) h = rw (odd-none rest (omega arith)) (prepend-none (pair_value (hex_value a) (hex_value b)))
 
-pairs-step : (rest : List ℕ) → 2 ≤ length rest → pair_values rest ≡ prepend (pair_value (hex_value (slice_index rest 0)) (hex_value (slice_index rest 1))) (pair_values (drop 2 rest))
-pairs-step [] some = absurd (omega (arith, some))
-pairs-step (a ∷ []) some = absurd (omega (arith, some))
-pairs-step (a ∷ b ∷ rest) some = refl
+decoded-by : (odd : Bool) (text : List ℕ) → (length text % 2 == 1) ≡ odd → result_ok (if odd then Err OddLength else decode_pairs 0 text) ≡ pair_values text
+decoded-by true text h = sym (odd-none text (eqb-true (length text % 2) 1 h))
+decoded-by false text h = pairs-same 0 text
 
-pub read_more : (text done rest : List ℕ) (x : ℕ) → 2 ≤ length rest → Some x ≡ pair_value (hex_value (slice_index rest 0)) (hex_value (slice_index rest 1))
-    → AreRead text done rest → AreRead text (done ++ x ∷ []) (drop 2 rest)
-read_more text done rest x some is h =
-    h ∙ (ap (onto done) (pairs-step rest some) ∙ (ap (λ o. onto done (prepend o (pair_values (drop 2 rest)))) (sym is) ∙ onto-one done x (pair_values (drop 2 rest))))
+-- the kit's hex reads pairs of digits
+pub decoded-same : (text : List ℕ) → result_ok (decode_of text) ≡ pair_values text
+decoded-same text = decoded-by (length text % 2 == 1) text refl
 
-pub read_broken : (text done rest : List ℕ) → 2 ≤ length rest → None ≡ pair_value (hex_value (slice_index rest 0)) (hex_value (slice_index rest 1))
-    → AreRead text done rest → None ≡ pair_values text
-read_broken text done rest some is h =
-    sym (h ∙ (ap (onto done) (pairs-step rest some) ∙ ap (λ o. onto done (prepend o (pair_values (drop 2 rest)))) (sym is)))
-
-pub read_all : (text done rest : List ℕ) → length rest ≡ 0 → AreRead text done rest → Some (done ++ []) ≡ pair_values text
-read_all text done [] none h = sym h
-read_all text done (a ∷ rest) none h = absurd (omega (arith, none))
-
-pub read_odd : (text done rest : List ℕ) → length rest < 2 → 0 < length rest → AreRead text done rest → None ≡ pair_values text
-read_odd text done [] few some h = absurd (omega (arith, some))
-read_odd text done (a ∷ []) few some h = sym h
-read_odd text done (a ∷ b ∷ rest) few some h = absurd (omega (arith, few))
+-- what it refuses, other than for want of memory, has no bytes
+pub undecoded : (text : List ℕ) (e : FromHexError) → (e ≡ OutOfMemory → ⊥) → (e ≡ OutOfMemory) ⊎ (decode_of text ≡ Err e) → None ≡ pair_values text
+undecoded text e other (inl memory) = absurd (other memory)
+undecoded text e other (inr refused) = ap result_ok (sym refused) ∙ decoded-same text
 
 -- ---- numbers
 

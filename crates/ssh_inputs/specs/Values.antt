@@ -1,8 +1,9 @@
 -- How words spell values.
-use Rattle.std.specs.Prelude.{◌∷◌, [], ◌==◌, ◌&&◌, ◌+◌, ◌-◌, ◌*◌, ℕ, Bool, List, Option, Some, None, length, nat_lt, nat_le, option_and_then, if◌then◌else◌, ◌≡◌, ◌^◌, codes}
+use Rattle.std.specs.Prelude.{◌∷◌, [], ◌==◌, ◌&&◌, ◌+◌, ◌*◌, ℕ, Bool, List, Option, Some, None, length, nat_lt, nat_le, option_and_then, if◌then◌else◌, ◌≡◌, ◌^◌, codes}
 use Rattle.std.specs.List.{list_all}
 use Rattle.std.specs.Str.{bytes_eq}
 use Rattle.std.specs.Str.Parse.{digits_value}
+use Rattle.hex.specs.Hex.{hex_digit_value}
 use Rattle.jiff.specs.Placed.{IsPosixZone}
 use Rattle.jiff.specs.Types.{TimeZone}
 use Rattle.jiff.specs.Words.{read_whole}
@@ -18,11 +19,9 @@ number_below bound text = if nat_lt 0 (length text) && (list_all is_digit text &
 
 -- ---- hexadecimal: two digits for each byte, in either case, or a dash for no bytes
 
+-- the value of a digit
 abbrev pub hex_value : ℕ → Option ℕ
-hex_value b = if is_digit b then Some (b - 48)
-    else if nat_le 97 b && nat_le b 102 then Some (b - 87)
-    else if nat_le 65 b && nat_le b 70 then Some (b - 55)
-    else None
+hex_value b = hex_digit_value b
 
 abbrev pub pair_value : Option ℕ → Option ℕ → Option ℕ
 pair_value (Some high) (Some low) = Some (16 * high + low)

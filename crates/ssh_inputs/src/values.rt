@@ -3,8 +3,6 @@
 ghost use Rattle.std.specs.Prelude.{◌≡◌, ◌<◌, ◌^◌, length, nat_lt, option_map, IfOk, IfSome};
 ghost use Rattle.std.specs.List.{list_all};
 ghost use Rattle.ssh_inputs.specs.Values.{
-  hex_value,
-  pair_value,
   hex_bytes,
   pair_values,
   is_digit,
@@ -12,48 +10,17 @@ ghost use Rattle.ssh_inputs.specs.Values.{
   short_hex,
 };
 
+use hex::FromHexError;
 use std::alloc::{AllocError, Global};
-
-/// The value of a hexadecimal digit, in either case.
-fn hex_value(byte: u8) -> Option<u8>
-    ensures { result ≡ hex_value byte }
-{
-    match byte {
-        b'0'..=b'9' => Some(byte - b'0'),
-        b'a'..=b'f' => Some(byte - b'a' + 10),
-        b'A'..=b'F' => Some(byte - b'A' + 10),
-        _ => None,
-    }
-}
-
-/// The byte that two digits spell.
-fn pair_value(high: u8, low: u8) -> Option<u8>
-    ensures { result ≡ pair_value (hex_value high) (hex_value low) }
-{
-    match (hex_value(high), hex_value(low)) {
-        (Some(high), Some(low)) if high < 16 && low < 16 => Some(16 * high + low),
-        _ => None,
-    }
-}
 
 /// The bytes that pairs of digits spell.
 fn read_pairs(alloc: Global, text: &[u8]) -> Result<Option<Vec<u8>>, AllocError>
     ensures { IfOk result (λ bytes. option_map (λ v. v.items) bytes ≡ pair_values text.now) }
 {
-    let mut bytes = Vec::new(alloc);
-    let mut rest = text;
-    while rest.len() >= 2 {
-        let Some(byte) = pair_value(rest[0], rest[1]) else {
-            return Ok(None);
-        };
-        bytes.push(byte)?;
-        let (_, after) = rest.split_at(2);
-        rest = after;
-    }
-    if rest.is_empty() {
-        Ok(Some(bytes))
-    } else {
-        Ok(None)
+    match hex::decode(alloc, text) {
+        Ok(bytes) => Ok(Some(bytes)),
+        Err(FromHexError::OutOfMemory) => Err(AllocError),
+        Err(_) => Ok(None),
     }
 }
 

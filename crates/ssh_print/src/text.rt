@@ -6,7 +6,6 @@ ghost use Rattle.std.specs.Fmt.{decimal};
 ghost use Rattle.ssh_certs.specs.Writing.{Keeps};
 ghost use Rattle.ssh_print.specs.Texts.{
   hex_digit,
-  hex_pair,
   hex_text,
   is_plain,
   escaped_byte,
@@ -43,25 +42,6 @@ fn hex_digit(digit: u8) -> u8
     }
 }
 
-fn push_pair(out: &mut Vec<u8>, byte: u8) -> Result<(), AllocError>
-    ensures ok { OnOk result (out.new.items ≡ out.old.items ++ hex_pair byte) }
-    ensures err { OnErr result (out.new.items ≡ out.old.items) }
-{
-    out.extend_from_slice(&[hex_digit(byte / 16), hex_digit(byte % 16)])?;
-    Ok(())
-}
-
-/// After an `Err` a part of it may stand there.
-fn push_pairs(out: &mut Vec<u8>, bytes: &[u8]) -> Result<(), AllocError>
-    ensures ok { OnOk result (out.new.items ≡ out.old.items ++ flat_map hex_pair bytes.now) }
-    ensures err { OnErr result (Keeps out.old.items out.new.items) }
-{
-    for byte in bytes {
-        push_pair(out, *byte)?;
-    }
-    Ok(())
-}
-
 /// Lower case hexadecimal, `-` for no bytes, at the end. An `Err` is want of memory, and changes
 /// nothing.
 pub fn push_hex(out: &mut Vec<u8>, bytes: &[u8]) -> Result<(), AllocError>
@@ -71,9 +51,9 @@ pub fn push_hex(out: &mut Vec<u8>, bytes: &[u8]) -> Result<(), AllocError>
     if bytes.is_empty() {
         return out.extend_from_slice(b"-");
     }
-    let len = out.len();
-    let outcome = push_pairs(out, bytes);
-    all_or_nothing(out, len, outcome)
+    let text = hex::encode(*out.allocator(), bytes)?;
+    out.extend_from_slice(text.as_bytes())?;
+    Ok(())
 }
 
 fn is_plain(byte: u8) -> bool

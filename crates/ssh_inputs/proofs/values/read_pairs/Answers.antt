@@ -1,8 +1,10 @@
-use Rattle.std.proofs.Common.{arith}
-use Rattle.ssh_inputs.proofs.ValueLemmas.{read_more}
+use Rattle.std.proofs.Common.{◌∙◌, sym, ap, rules}
+use Rattle.std.specs.Result.{result_ok}
+use Rattle.ssh_inputs.proofs.ValueLemmas.{decoded-same, undecoded}
 use Rattle.ssh_inputs.proofs.values.read_pairs.Goals as goal
 
-pub loop-rest-preserved : goal.loop-rest-preserved
-loop-rest-preserved c =
-    rw (c.in_ok-push.ensures.items, c.split_at.ensures.back)
-    (read_more c.args.text.now c.loop-rest.bytes.items c.loop-rest.rest.now c.in-Some.byte (omega arith) c.in-Some.ensures c.loop-rest.invariant)
+pub returns-in-Ok : goal.returns-in-Ok
+returns-in-Ok c = ap result_ok (sym c.in-Ok.ensures.ok) ∙ decoded-same c.args.text.now
+
+pub returns-in-Err : goal.returns-in-Err
+returns-in-Err c = undecoded c.args.text.now c.in-Err.field-0 (search rules) c.in-Err.ensures.err
