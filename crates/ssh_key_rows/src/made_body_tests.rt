@@ -159,10 +159,6 @@ fn reads_the_most_padding(rt: HostRuntime) -> Result<(), Fail> {
     same(&rt, &read_private(&most)?.comment, &b"comment".as_slice());
     let more = padded(&rt, b"\0\0\0\x06commen")?;
     same(&rt, &more.last(), &Some(&255));
-    same(
-        &rt,
-        &read_private(&more).map(|_| ()),
-        &Err(BodyError::Padding),
-    );
+    same(&rt, &read_private(&more).err(), &Some(BodyError::Padding));
     Ok(())
 }
