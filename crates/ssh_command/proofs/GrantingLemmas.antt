@@ -12,7 +12,7 @@ use Rattle.ssh_rights.specs.declared.rights.Rights.{Rights}
 use Rattle.ssh_trust.specs.declared.decision.Decision.{Decision}
 use Rattle.ssh_trust.specs.declared.decision.Decision.TheVariants.{Granted, Denied}
 use Rattle.ssh_text.specs.Text.{file_limit}
-use Rattle.ssh_trust.specs.Decision.{LoginMeans, login_decision}
+use Rattle.ssh_trust.specs.LoginDecision.{LoginMeans, login_decision}
 use Rattle.ssh_trust.specs.HostDecision.{HostMeans, host_decision}
 use Rattle.ssh_trust.proofs.HostMeaningLemmas.{host_means}
 use Rattle.ssh_trust.proofs.MeaningLemmas.{login_means}

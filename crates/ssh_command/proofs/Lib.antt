@@ -3,7 +3,7 @@ mod WrittenText
 mod CommandLineLemmas
 mod SubcommandLemmas
 mod SourceLemmas
-mod SignatureLemmas
+mod SshsigLemmas
 mod AuditLemmas
 mod EvidenceLemmas
 mod GrantingLemmas

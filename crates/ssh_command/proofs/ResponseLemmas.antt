@@ -27,14 +27,14 @@ use Rattle.ssh_command.specs.Requests.{Responds, RespondsBy, RespondsIn}
 use Rattle.ssh_command.specs.Responding.{IsUsageOf}
 use Rattle.ssh_command.specs.Rewritings.{RewritesFile, rewrite_kind}
 use Rattle.ssh_command.specs.Shows.{ShowsFile}
-use Rattle.ssh_command.specs.Signatures.{Signs, sshsig_question}
+use Rattle.ssh_command.specs.Sshsigs.{Signs, sshsig_question}
 use Rattle.ssh_command.specs.Spelling.{IsToldAs, RespondsTo, audit_files, needed, value}
 use Rattle.ssh_command.specs.WordsView.{IfAnswered}
 use Rattle.ssh_command.proofs.AuditLemmas.{audits-same}
 use Rattle.ssh_command.proofs.CommandLineLemmas.{no_request}
 use Rattle.ssh_command.proofs.RewritingLemmas.{rewrites-same}
 use Rattle.ssh_command.proofs.ShowLemmas.{shows-same}
-use Rattle.ssh_command.proofs.SignatureLemmas.{signs-same}
+use Rattle.ssh_command.proofs.SshsigLemmas.{signs-same}
 use Rattle.ssh_command.proofs.SourceLemmas.{Alike, left-alike, none-failed}
 
 -- ---- sources that are alike have the same answers

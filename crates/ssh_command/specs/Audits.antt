@@ -9,7 +9,7 @@ use Rattle.ssh_offers.specs.HostClaim.{host_claim}
 use Rattle.ssh_offers.specs.LoginClaim.{login_claim}
 use Rattle.ssh_trust.specs.Answer.{if_short}
 use Rattle.ssh_trust.specs.Reads.{AnswersReader}
-use Rattle.ssh_trust.specs.Decision.{login_decision}
+use Rattle.ssh_trust.specs.LoginDecision.{login_decision}
 use Rattle.ssh_trust.specs.HostDecision.{host_decision}
 use Rattle.ssh_command.specs.Asked.{AuditFiles}
 use Rattle.ssh_inputs.specs.SourceState.{SourceState, bytes_at}

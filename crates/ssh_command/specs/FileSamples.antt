@@ -12,7 +12,7 @@ use Rattle.ssh_command.specs.Asked.{SshsigQuestion}
 use Rattle.ssh_command.specs.Audits.{after_vouching, audit_response, vouched_in}
 use Rattle.ssh_command.specs.Rewritings.{rewrite_kind, rewrite_over}
 use Rattle.ssh_command.specs.declared.rewriting.RewriteKind.TheVariants.{Auth, Known}
-use Rattle.ssh_command.specs.Signatures.{signature_response}
+use Rattle.ssh_command.specs.Sshsigs.{signature_response}
 use Rattle.ssh_command.specs.VouchLines.{vouch_file}
 
 -- ---- sources

@@ -10,7 +10,7 @@ use Rattle.ssh_offers.specs.LoginClaim.{LoginClaim, login_claim}
 use Rattle.ssh_offers.specs.Query.{HostCheck, Login}
 use Rattle.ssh_rights.specs.Rights.{rights_of}
 use Rattle.ssh_trust.specs.declared.decision.Decision.TheVariants.{Granted}
-use Rattle.ssh_trust.specs.Decision.{IsGrant}
+use Rattle.ssh_trust.specs.LoginDecision.{IsGrant}
 use Rattle.ssh_trust.specs.HostDecision.{IsHostGrant}
 use Rattle.ssh_print.specs.Responses.{Response, decision_response}
 use Rattle.ssh_inputs.specs.SourceState.{SourceState, bytes_at}

@@ -8,7 +8,7 @@ pub mod Audits
 pub mod Logins
 pub mod Hosts
 pub mod Shows
-pub mod Signatures
+pub mod Sshsigs
 pub mod Rewritings
 pub mod Requests
 pub mod Responding

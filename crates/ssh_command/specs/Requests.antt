@@ -15,7 +15,7 @@ use Rattle.ssh_command.specs.Hosts.{RespondsToHost}
 use Rattle.ssh_command.specs.Logins.{RespondsToLogin}
 use Rattle.ssh_command.specs.Rewritings.{RespondsToRewrite}
 use Rattle.ssh_command.specs.Shows.{RespondsToShow}
-use Rattle.ssh_command.specs.Signatures.{RespondsToSshsig}
+use Rattle.ssh_command.specs.Sshsigs.{RespondsToSshsig}
 
 -- ---- requests
 

@@ -3,12 +3,12 @@
 ghost use Rattle.std.specs.Prelude.{◌≡◌, IfOk};
 ghost use Rattle.ssh_command.specs.Audits.{or_vouch_fault};
 ghost use Rattle.ssh_command.specs.AskedView.{question_of};
-ghost use Rattle.ssh_command.specs.Signatures.{RespondsToSshsig, Signs, bytes_answer};
+ghost use Rattle.ssh_command.specs.Sshsigs.{RespondsToSshsig, Signs, bytes_answer};
 ghost use Rattle.ssh_command.specs.Responding.{SignsBody, SignsMessage, SignsVouched};
 ghost use Rattle.ssh_trust.specs.Answer.{Gives};
 ghost use Rattle.ssh_command.specs.WordsView.{IfAnswered, rows_in};
 ghost use Rattle.ssh_print.specs.ResponseView.{response};
-ghost use Rattle.ssh_print.specs.SignatureText.{sshsig_response};
+ghost use Rattle.ssh_print.specs.SshsigText.{sshsig_response};
 ghost use Rattle.ssh_inputs.specs.SourceState.{IfTells};
 ghost use Rattle.ssh_inputs.specs.VouchFile.{vouched_of};
 
@@ -19,7 +19,7 @@ use crate::words::Words;
 use ssh_inputs::{Files, VouchError, read_vouch_file, read_vouched, read_whole};
 use ssh_offers::{AuditError, Signed};
 use ssh_print::{Response, sshsig_response, vouch_fault};
-use ssh_trust::{SigAnswer, sshsig};
+use ssh_trust::{SshsigAnswer, sshsig};
 use std::alloc::{AllocError, Global};
 
 /// The answer by the bytes of a body and of a message.
@@ -29,7 +29,7 @@ fn answer_bytes(
     vouched: &[Signed],
     body: &[u8],
     message: &[u8],
-) -> Result<SigAnswer, AuditError>
+) -> Result<SshsigAnswer, AuditError>
     ensures { Gives
         (bytes_answer (question_of question.entry.now) vouched.now body.now message.now) result }
 {

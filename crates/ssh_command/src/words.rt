@@ -4,7 +4,7 @@ ghost use Rattle.std.specs.Prelude.{◌≡◌, ◌<◌, ◌^◌, length, option_
 ghost use Rattle.base64.specs.Engines.{standard};
 ghost use Rattle.base64.specs.GeneralPurpose.{decoded_of};
 ghost use Rattle.ssh_command.specs.AskedView.{names_of, question_of};
-ghost use Rattle.ssh_command.specs.Signatures.{sshsig_question};
+ghost use Rattle.ssh_command.specs.Sshsigs.{sshsig_question};
 ghost use Rattle.ssh_command.specs.Spelling.{audit_files, given, needed, value};
 ghost use Rattle.ssh_command.specs.WordsView.{Spells, rows_in};
 ghost use Rattle.ssh_inputs.specs.Values.{hex_bytes, number_below, short_bytes, short_hex};

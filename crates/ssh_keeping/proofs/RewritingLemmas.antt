@@ -20,7 +20,7 @@ use Rattle.ssh_rules.specs.Verdict.{host_verdict, login_verdict}
 use Rattle.ssh_trust.specs.declared.decision.Decision.{Decision}
 use Rattle.ssh_trust.specs.declared.host_scan.HostScan.{HostScan}
 use Rattle.ssh_trust.specs.Answer.{host_answer, login_answer}
-use Rattle.ssh_trust.specs.Decision.{candidate_at, decision_of, login_decision, verdicts}
+use Rattle.ssh_trust.specs.LoginDecision.{candidate_at, decision_of, login_decision, verdicts}
 use Rattle.ssh_trust.specs.HostDecision.{host_decision, host_decision_of}
 use Rattle.ssh_trust.specs.HostScan.{first_number, host_scan_of, is_blind, number_at, revokes_by}
 use Rattle.ssh_trust.specs.Scan.{scan_of}

@@ -9,7 +9,7 @@ ghost use Rattle.ssh_offers.specs.declared.query.Signed.{Signed as SignedValue};
 ghost use Rattle.ssh_offers.specs.HostClaim.{HostClaim};
 ghost use Rattle.ssh_offers.specs.LoginClaim.{LoginClaim};
 ghost use Rattle.ssh_trust.specs.Answer.{host_answer, login_answer};
-ghost use Rattle.ssh_trust.specs.Decision.{login_decision};
+ghost use Rattle.ssh_trust.specs.LoginDecision.{login_decision};
 ghost use Rattle.ssh_trust.specs.HostDecision.{host_decision};
 
 /// A decision on a login uses a file through what its lines say alone, and so a file that is

@@ -2,6 +2,6 @@ pub mod Texts
 pub mod Codes
 pub mod DecisionText
 pub mod Responses
-pub mod SignatureText
+pub mod SshsigText
 pub mod ResponseView
 pub mod Samples

@@ -14,12 +14,12 @@ use Rattle.ssh_rights.specs.declared.rights.Rights.{Rights}
 use Rattle.ssh_rules.specs.declared.reason.Reason.TheVariants as reason
 use Rattle.ssh_trust.specs.declared.decision.Cause.TheVariants as cause
 use Rattle.ssh_trust.specs.declared.decision.Decision.TheVariants.{Granted, Denied}
-use Rattle.ssh_trust.specs.declared.signatures.SigAnswer.TheVariants.{Vouched, OtherNamespace, NotVouched}
+use Rattle.ssh_trust.specs.declared.sshsig_answer.SshsigAnswer.TheVariants.{Vouched, OtherNamespace, NotVouched}
 use Rattle.ssh_print.specs.Texts.{hex_text, escaped, text_line, word_line}
 use Rattle.ssh_print.specs.Codes.{wire_codes, key_codes, cert_codes, body_codes, line_codes, reason_codes, cause_codes, fault_codes}
 use Rattle.ssh_print.specs.DecisionText.{evidence_lines, rights_lines}
 use Rattle.ssh_print.specs.Responses.{decision_response, fault_response, no_file_response, out_of_memory, refused_response, usage_response, value_response, vouch_response}
-use Rattle.ssh_print.specs.SignatureText.{sshsig_response}
+use Rattle.ssh_print.specs.SshsigText.{sshsig_response}
 
 -- ---- codes
 

@@ -8,7 +8,7 @@ mod decision_text;
 mod line;
 mod response;
 mod samples;
-mod signature_text;
+mod sshsig_text;
 mod text;
 
 pub use answer::{
@@ -18,5 +18,5 @@ pub use answer::{
 pub use codes::{push_body_codes, push_cert_codes, push_line_codes};
 pub use line::{push_number_line, push_text_line, push_word_line};
 pub use response::{DONE, FAULT, Response};
-pub use signature_text::sshsig_response;
+pub use sshsig_text::sshsig_response;
 pub use text::{push_escaped, push_hex, push_number};

@@ -61,6 +61,13 @@ impl<'a> SoughtHost<'a> {
         })
     }
 
+    /// The claim.
+    pub fn claim(&self) -> &HostClaimView<'a>
+        ensures { host_claim_of result.now ≡ self.now }
+    {
+        &self.claim
+    }
+
     /// The name that the host is looked up by.
     pub(crate) fn name(&self) -> &[u8]
         ensures { result.now ≡ looked_up self.now.query }

@@ -1,15 +1,11 @@
 -- What is answered by an audit, whatever it searches for.
-use Rattle.std.proofs.Common.{◌≡◌, ◌∙◌, ◌+◌, ◌<◌, ◌≤◌, ◌↔◌, ℕ, List, length, nat_lt, Result, Ok, Err, ap, sym, subst, refl, inl, inr, arith}
-use Rattle.std.specs.Prelude.{IfOk}
+use Rattle.std.proofs.Common.{◌≡◌, ◌∙◌, ◌+◌, ◌<◌, ◌≤◌, ◌↔◌, ℕ, List, length, nat_lt, Result, Ok, Err, refl, inl, inr, arith}
 use Rattle.std.proofs.lemmas.Bool.{cases_Bool, le-ltb, lt-ltb, ltb-false, ltb-true}
-use Rattle.ssh_text.specs.Text.{file_limit, lines_of, numbered}
+use Rattle.ssh_text.specs.Text.{file_limit}
 use Rattle.ssh_offers.specs.declared.error.AuditError.{AuditError}
 use Rattle.ssh_offers.specs.declared.error.AuditError.TheVariants.{FileTooLong, Memory}
 use Rattle.ssh_trust.specs.declared.decision.Decision.{Decision}
 use Rattle.ssh_trust.specs.Answer.{Gives, OfClaim, RefusesAs, if_short}
-use Rattle.ssh_trust.specs.Findings.{Findings, FoundBy, no_findings}
-use Rattle.ssh_trust.specs.Scan.{after_lines}
-use Rattle.ssh_trust.proofs.CandidateLemmas.{answer-by}
 
 pub err-inj : {A : Type 0} (e f : AuditError) → ◌≡◌ {A = Result A AuditError} (Err e) (Err f) → e ≡ f
 err-inj e f h = cc
@@ -52,15 +48,6 @@ fed-gives file d e too_long else_memory =
           rw memory tt
     ]
 
--- the decision by all lines
-pub decided-by : {Q S : Type 0} (add : Q → S → ℕ × List ℕ → S) (nothing : S) (decide : Q → S → Decision) (bytes : List ℕ) (claim : Q) (search : Findings Q S)
-    (d : Decision) → length bytes ≤ file_limit → FoundBy add (no_findings nothing claim) (numbered 1 (lines_of bytes)) search → d ≡ decide search.claim search.said
-    → if_short bytes (decide claim (after_lines (add claim) nothing (numbered 1 (lines_of bytes)))) ≡ Ok d
-decided-by {Q = Q} {S = S} add nothing decide bytes claim search d short h e =
-    rw (le-ltb file_limit (length bytes) short)
-    (ap (λ (x : Decision). Ok x) (sym (e ∙ ap (λ (f : Findings Q S). decide f.claim f.said) h)))
-
--- an answer that is a decision means what is said of it
-pub means-by : (P : Decision → Type 0) (file : List ℕ) (d : Decision) (result : Result Decision AuditError) → P d → Gives (if_short file d) result → IfOk result P
-means-by P file d (Ok x) p h = subst P (answer-by (nat_lt file_limit (length file)) d x h) p
-means-by P file d (Err e) p h = tt
+-- a decision on a file within the limit
+pub decided-gives : (file : List ℕ) (d x : Decision) → length file ≤ file_limit → x ≡ d → Gives (if_short file d) (Ok x)
+decided-gives file d x short e = rw (le-ltb file_limit (length file) short, e) refl

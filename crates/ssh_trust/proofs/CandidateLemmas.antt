@@ -1,15 +1,13 @@
 -- The candidate by what each line is to an offer is the candidate in the subject's words.
-use Rattle.std.proofs.Common.{◌≡◌, ◌∙◌, ◌+◌, ◌-◌, ◌<◌, cond, get_or, ℕ, zero, suc, Bool, true, false, List, [], ◌∷◌, ◌++◌, map, Option, Some, None, Ok, Err, ap, subst, sym, refl, inl, inr, arith}
+use Rattle.std.proofs.Common.{◌≡◌, ◌∙◌, ◌+◌, ◌-◌, ◌<◌, get_or, ℕ, zero, suc, List, [], ◌∷◌, ◌++◌, map, Option, Some, None, ap, subst, sym, refl, inl, inr, arith}
 use Rattle.std.specs.Prelude.{slice_get}
 use Rattle.std.specs.List.{AllByRecursion}
 use Rattle.ssh_text.specs.Text.{AreLines, lines_of}
 use Rattle.ssh_text.proofs.LineLemmas.{lines_of-are, lines_of-only}
-use Rattle.ssh_offers.specs.declared.error.AuditError.TheVariants.{FileTooLong}
 use Rattle.ssh_rules.specs.declared.reason.Obstacle.{Obstacle}
 use Rattle.ssh_rules.specs.declared.verdict.LineVerdict.{LineVerdict}
 use Rattle.ssh_rules.specs.declared.verdict.LineVerdict.TheVariants.{Admits, Skips}
 use Rattle.ssh_rules.specs.Verdict.{verdict_by}
-use Rattle.ssh_trust.specs.declared.decision.Decision.{Decision}
 use Rattle.ssh_trust.specs.FileLines.{IsLineAt}
 use Rattle.ssh_trust.specs.Candidate.{IsFirstAdmitted, candidate_of, first_admitted}
 
@@ -77,6 +75,10 @@ line-of file i line at = subst (λ (ls : List (List ℕ)). slice_get ls (i - 1) 
 bytes-front : (a b : List ℕ) → AreBytes (a ++ b) → AreBytes a
 bytes-front [] b h = tt
 bytes-front (c ∷ a) b h = (h.0, bytes-front a b h.1)
+
+pub bytes-append : (a b : List ℕ) → AreBytes a → AreBytes b → AreBytes (a ++ b)
+bytes-append [] b h k = k
+bytes-append (c ∷ cs) b h k = (h.0, bytes-append cs b h.1 k)
 
 bytes-back : (a b : List ℕ) → AreBytes (a ++ b) → AreBytes b
 bytes-back [] b h = h
@@ -157,12 +159,6 @@ one-candidate verdict judges file i j e f a b =
     subst (λ k. slice_get (map verdict (lines_of file)) (k - 1) ≡ Some (Admits f)) same (stands-admits verdict judges file j f b) in
     let inner : Admits e ≡ Admits f = some-same _ _ (sym (stands-admits verdict judges file i e a) ∙ at) in
     cc
-
--- ---- the answer
-
-pub answer-by : (long : Bool) (wanted d : Decision) → cond long (Err FileTooLong) (Ok wanted) ≡ Ok d → wanted ≡ d
-answer-by true wanted d h = cc
-answer-by false wanted d h = cc
 
 -- ---- bytes of a slice
 

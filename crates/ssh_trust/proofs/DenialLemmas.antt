@@ -32,7 +32,7 @@ use Rattle.ssh_rules.specs.Admission.{login_obstacle}
 use Rattle.ssh_rules.specs.HostAdmission.{host_obstacle}
 use Rattle.ssh_rules.specs.Verdict.{host_verdict, login_verdict, verdict_by}
 use Rattle.ssh_trust.specs.Candidate.{IsFirstAdmitted, admits, before_candidate, candidate_of, first_admitted, reasons_from, reasons_of, with_reason}
-use Rattle.ssh_trust.specs.Decision.{IsCandidate, candidate_at, cause_by, decision_by, decision_of, line_verdict, login_decision, verdicts}
+use Rattle.ssh_trust.specs.LoginDecision.{IsCandidate, candidate_at, cause_by, decision_by, decision_of, line_verdict, login_decision, verdicts}
 use Rattle.ssh_trust.specs.Denial.{AreReasons, HostDenialMeans, HostReason, IsPassedOver, IsFirstUnvouched, LoginDenialMeans, LoginReason, RisesFrom}
 use Rattle.ssh_trust.specs.HostDecision.{IsHostCandidate, RevokesOwn, host_decision, host_decision_by, revocation_cause}
 use Rattle.ssh_trust.specs.HostScan.{first_number, host_line_verdict, host_scan_of, is_blind, number_at, revokes_by}

@@ -4,11 +4,10 @@ pub mod LongLines
 pub mod HostScanLemmas
 pub mod CandidateLemmas
 pub mod AnswerLemmas
-pub mod LoginAuditLemmas
-pub mod HostAuditLemmas
+pub mod SearchLemmas
 pub mod MeaningLemmas
 pub mod HostMeaningLemmas
 pub mod DenialLemmas
-pub mod SignatureLemmas
+pub mod SshsigLemmas
 pub mod ReadLemmas
 pub mod RefusalLemmas

@@ -18,7 +18,7 @@ use Rattle.ssh_rights.specs.SecurityKeys.{touch_suffices, verification_suffices}
 use Rattle.ssh_rules.specs.Admission.{AdmitsLogin, login_obstacle}
 use Rattle.ssh_rules.specs.Verdict.{login_verdict, verdict_by}
 use Rattle.ssh_trust.specs.Candidate.{candidate_of, reasons_of}
-use Rattle.ssh_trust.specs.Decision.{IsCandidate, LoginMeans, cause_by, candidate_at, decision_by, decision_of, line_verdict, login_decision, verdicts}
+use Rattle.ssh_trust.specs.LoginDecision.{IsCandidate, LoginMeans, cause_by, candidate_at, decision_by, decision_of, line_verdict, login_decision, verdicts}
 use Rattle.ssh_rules.proofs.AdmissionLemmas.{admits_where_none, none_where_admits}
 use Rattle.ssh_offers.proofs.VouchingLemmas.{none_unvouched, all_vouched}
 use Rattle.ssh_trust.proofs.CandidateLemmas.{AreBytes, Judges, admits-by, candidate-is, no-candidate, one-candidate}

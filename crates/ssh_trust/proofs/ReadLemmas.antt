@@ -8,12 +8,14 @@ use Rattle.ssh_offers.specs.declared.error.AuditError.{AuditError}
 use Rattle.ssh_offers.specs.declared.error.AuditError.TheVariants.{Offer, Signature, WrongAlgorithm, WeakSignature, CertSignature, Address, FileTooLong, Memory, Read, Failed, Body}
 use Rattle.ssh_trust.specs.declared.decision.Decision.{Decision}
 use Rattle.ssh_trust.specs.declared.pieces.Pieces.{Pieces}
-use Rattle.ssh_trust.specs.Answer.{Gives, OfClaim, RefusesAs, if_short}
+use Rattle.ssh_trust.specs.declared.search.Search.{Search}
+use Rattle.ssh_trust.specs.Answer.{Gives, RefusesAs, if_short}
 use Rattle.ssh_text.specs.Text.{file_limit}
 use Rattle.ssh_trust.specs.Audit.{HasRead, HasTaken}
 use Rattle.ssh_trust.specs.Reads.{AnswersReader, IsFedBy, StopsBy, piece_size}
 use Rattle.ssh_trust.proofs.AuditLemmas.{taken-more}
 use Rattle.ssh_trust.proofs.AnswerLemmas.{err-inj}
+use Rattle.ssh_trust.proofs.CandidateLemmas.{AreBytes}
 
 -- ---- the bytes that are left
 
@@ -36,36 +38,36 @@ consumes-kept (Some was) (Some is) (Some are) xs h k = h ∙ ap (λ s. xs ++ s) 
 -- ---- the loop
 
 -- the audit stands for the bytes before, and for what the reader gave so far
-pub record IsFeeding {T : Type 0} (Found : T → List (ℕ × List ℕ) → T → Type 0) (first : T) (audit : Pieces T) (bytes : List ℕ) (old now : Option (List ℕ)) : Type 0 where
+pub record IsFeeding {T S : Type 0} (Found : List (ℕ × List ℕ) → Search T S → Type 0) (audit : Pieces T S) (bytes : List ℕ) (old now : Option (List ℕ)) : Type 0 where
   pub given : List ℕ
   pub consumed : Consumes old now given
-  pub taken : HasTaken Found first audit (bytes ++ given)
+  pub taken : HasTaken Found audit (bytes ++ given)
 
-pub feeding-none : {T : Type 0} (Found : T → List (ℕ × List ℕ) → T → Type 0) (first : T) (audit : Pieces T) (bytes : List ℕ) (left : Option (List ℕ))
-    → HasTaken Found first audit bytes → IsFeeding Found first audit bytes left left
-feeding-none Found first audit bytes left h = record {
+pub feeding-none : {T S : Type 0} (Found : List (ℕ × List ℕ) → Search T S → Type 0) (audit : Pieces T S) (bytes : List ℕ) (left : Option (List ℕ))
+    → HasTaken Found audit bytes → IsFeeding Found audit bytes left left
+feeding-none Found audit bytes left h = record {
   given = [];
   consumed = consumes-none left;
-  taken = subst (λ s. HasTaken Found first audit s) (sym (append-nil bytes)) h;
+  taken = subst (λ s. HasTaken Found audit s) (sym (append-nil bytes)) h;
 }
 
-pub feeding-more : {T : Type 0} (Found : T → List (ℕ × List ℕ) → T → Type 0) (first : T) (audit after : Pieces T) (bytes piece : List ℕ) (old now new : Option (List ℕ))
-    → IsFeeding Found first audit bytes old now → Consumes now new piece
-    → audit.scanner.used + length piece ≤ file_limit → after.failed ≡ false
-    → ((used : List ℕ) → HasRead Found first audit used → HasRead Found first after (used ++ piece))
-    → IsFeeding Found first after bytes old new
-feeding-more Found first audit after bytes piece old now new h consumed short sound read = record {
+pub feeding-more : {T S : Type 0} (Found : List (ℕ × List ℕ) → Search T S → Type 0) (audit after : Pieces T S) (bytes piece : List ℕ) (old now new : Option (List ℕ))
+    → IsFeeding Found audit bytes old now → Consumes now new piece
+    → AreBytes piece → audit.scanner.used + length piece ≤ file_limit → after.failed ≡ false
+    → ((used : List ℕ) → HasRead Found audit used → HasRead Found after (used ++ piece))
+    → IsFeeding Found after bytes old new
+feeding-more Found audit after bytes piece old now new h consumed are short sound read = record {
   given = h.given ++ piece;
   consumed = consumes-more old now new h.given piece h.consumed consumed;
-  taken = subst (λ s. HasTaken Found first after s) (append_assoc bytes h.given piece)
-      (taken-more Found first audit after (bytes ++ h.given) piece h.taken short sound (read (bytes ++ h.given) h.taken.read));
+  taken = subst (λ s. HasTaken Found after s) (append_assoc bytes h.given piece)
+      (taken-more Found audit after (bytes ++ h.given) piece h.taken are short sound (read (bytes ++ h.given) h.taken.read));
 }
 
 -- the reader ended
-pub fed-whole : {T : Type 0} (Found : T → List (ℕ × List ℕ) → T → Type 0) (first : T) (audit : Pieces T) (bytes : List ℕ) (old now new : Option (List ℕ))
-    → IsFeeding Found first audit bytes old now → Consumes now new [] → IsAtEnd new
-    → IsFedBy (λ given. HasTaken Found first audit (bytes ++ given)) old new (length bytes) (Ok tt)
-fed-whole Found first audit bytes old now new h consumed end =
+pub fed-whole : {T S : Type 0} (Found : List (ℕ × List ℕ) → Search T S → Type 0) (audit : Pieces T S) (bytes : List ℕ) (old now new : Option (List ℕ))
+    → IsFeeding Found audit bytes old now → Consumes now new [] → IsAtEnd new
+    → IsFedBy (λ given. HasTaken Found audit (bytes ++ given)) old new (length bytes) (Ok tt)
+fed-whole Found audit bytes old now new h consumed end =
     let short = h.taken.short in
     let long = length-append bytes h.given in
     record {
@@ -80,10 +82,10 @@ pub ends-read : ◌≡◌ {A = Result (Unit {0}) AuditError} (Ok tt) (Err Read) 
 ends-read h = cc
 
 -- a read failed
-pub fed-unread : {T : Type 0} (Found : T → List (ℕ × List ℕ) → T → Type 0) (first : T) (audit after : Pieces T) (bytes : List ℕ) (old now new : Option (List ℕ))
-    → IsFeeding Found first audit bytes old now → Keeps now new
-    → IsFedBy (λ given. HasTaken Found first after (bytes ++ given)) old new (length bytes) (Err Read)
-fed-unread Found first audit after bytes old now new h kept =
+pub fed-unread : {T S : Type 0} (Found : List (ℕ × List ℕ) → Search T S → Type 0) (audit after : Pieces T S) (bytes : List ℕ) (old now new : Option (List ℕ))
+    → IsFeeding Found audit bytes old now → Keeps now new
+    → IsFedBy (λ given. HasTaken Found after (bytes ++ given)) old new (length bytes) (Err Read)
+fed-unread Found audit after bytes old now new h kept =
     let short = h.taken.short in
     let long = length-append bytes h.given in
     record {
@@ -123,11 +125,11 @@ stops-by P new size e (too-long h is) = rw is h
 stops-by P new size e (no-memory is) = rw is tt
 
 -- a piece was refused
-pub fed-partly : {T : Type 0} (Found : T → List (ℕ × List ℕ) → T → Type 0) (first : T) (audit after : Pieces T) (bytes piece : List ℕ) (old now new : Option (List ℕ)) (e : AuditError)
-    → IsFeeding Found first audit bytes old now → Consumes now new piece → length piece ≤ piece_size
+pub fed-partly : {T S : Type 0} (Found : List (ℕ × List ℕ) → Search T S → Type 0) (audit after : Pieces T S) (bytes piece : List ℕ) (old now new : Option (List ℕ)) (e : AuditError)
+    → IsFeeding Found audit bytes old now → Consumes now new piece → length piece ≤ piece_size
     → Refusal audit.failed (audit.scanner.used + length piece) e
-    → IsFedBy (λ given. HasTaken Found first after (bytes ++ given)) old new (length bytes) (Err e)
-fed-partly Found first audit after bytes piece old now new e h consumed few why =
+    → IsFedBy (λ given. HasTaken Found after (bytes ++ given)) old new (length bytes) (Err e)
+fed-partly Found audit after bytes piece old now new e h consumed few why =
     let short = h.taken.short in
     let long = length-append bytes h.given in
     let more = length-append h.given piece in
@@ -137,7 +139,7 @@ fed-partly Found first audit after bytes piece old now new e h consumed few why 
       given = h.given ++ piece;
       consumed = consumes-more old now new h.given piece h.consumed consumed;
       bounded = omega (arith, short, long, more, few);
-      stops = stops-by (HasTaken Found first after (bytes ++ (h.given ++ piece))) new (length bytes + length (h.given ++ piece)) e (rw (h.taken.sound, size) at why);
+      stops = stops-by (HasTaken Found after (bytes ++ (h.given ++ piece))) new (length bytes + length (h.given ++ piece)) e (rw (h.taken.sound, size) at why);
     }
 
 -- ---- the answer
@@ -183,16 +185,6 @@ answers-whole P old new of_file result h answer = record {
 }
 
 -- ---- where no audit was made, or no decision
-
-abbrev refused-by : {Q : Type 0} → AuditError → Result Q AuditError
-refused-by e = Err e
-
--- the refusal of an offer, or of memory, is no failed read
-pub unmade-reads-not : {Q : Type 0} (A : Type 0) (r : Result Q AuditError) (e : AuditError) → (r ≡ Err Read → ⊥) → RefusesAs {A = A} r (Err e)
-    → OfClaim r (λ _. ◌≡◌ {A = Result A AuditError} (Err e) (Err Memory)) → e ≡ Read → ⊥
-unmade-reads-not A (Ok claim) e claimed refused memory read = let bad : Memory ≡ Read = sym (err-inj e Memory memory) ∙ read in cc
-unmade-reads-not {Q = Q} A (Err f) e claimed refused memory read =
-    claimed (ap (λ (x : AuditError). refused-by {Q = Q} x) (sym (err-inj e f refused) ∙ read))
 
 -- where an audit was made, the offer is not refused
 pub on-claim : {Q A : Type 0} (r : Result Q AuditError) (audit : A) → RefusesAs r (Ok audit) → ((claim : Q) → r ≡ Ok claim → ⊥) → ⊥

@@ -6,7 +6,7 @@ use Rattle.ssh_offers.specs.declared.error.AuditError.TheVariants.{FileTooLong, 
 use Rattle.ssh_offers.specs.declared.query.Signed.{Signed}
 use Rattle.ssh_offers.specs.LoginClaim.{LoginClaim}
 use Rattle.ssh_offers.specs.HostClaim.{HostClaim}
-use Rattle.ssh_trust.specs.Decision.{login_decision}
+use Rattle.ssh_trust.specs.LoginDecision.{login_decision}
 use Rattle.ssh_trust.specs.HostDecision.{host_decision}
 use Rattle.ssh_text.specs.Text.{file_limit}
 

@@ -24,7 +24,7 @@ use Rattle.ssh_trust.specs.declared.decision.Cause.TheVariants.{NoLine, NotVouch
 use Rattle.ssh_trust.specs.declared.decision.Decision.{Decision}
 use Rattle.ssh_trust.specs.declared.decision.Decision.TheVariants.{Granted, Denied}
 use Rattle.ssh_trust.specs.Candidate.{reason_limit}
-use Rattle.ssh_trust.specs.Decision.{IsCandidate}
+use Rattle.ssh_trust.specs.LoginDecision.{IsCandidate}
 use Rattle.ssh_trust.specs.FileLines.{IsLineAt}
 use Rattle.ssh_trust.specs.HostDecision.{BlindAt, IsHostCandidate, IsLeast, RevokesAt}
 

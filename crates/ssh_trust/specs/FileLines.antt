@@ -1,6 +1,8 @@
--- A line of a file by its number.
-use Rattle.std.specs.Prelude.{◌≡◌, ℕ, ◌-◌, ◌<◌, List, Some, slice_get}
-use Rattle.ssh_text.specs.Text.{AreLines}
+-- A line of a file by its number, and as it is handed on.
+use Rattle.std.specs.Prelude.{◌≡◌, ℕ, ◌-◌, ◌<◌, List, Some, length, slice_get}
+use Rattle.ssh_text.specs.declared.scanner.Line.{Line}
+use Rattle.ssh_text.specs.declared.scanner.Line.TheVariants.{Whole, TooLong}
+use Rattle.ssh_text.specs.Text.{AreLines, line_limit}
 
 -- this is line i of the file, counted from 1
 pub record IsLineAt (file : List ℕ) (i : ℕ) (line : List ℕ) : Type 0 where
@@ -8,3 +10,8 @@ pub record IsLineAt (file : List ℕ) (i : ℕ) (line : List ℕ) : Type 0 where
   pub are_lines : AreLines lines file
   pub from_one : 0 < i
   pub stands : slice_get lines (i - 1) ≡ Some line
+
+-- a line that is handed on has these bytes, or is marked, where they are more than a line may have
+abbrev pub IsText : Line → List ℕ → Type 0
+IsText (Whole text) line = text.now ≡ line
+IsText TooLong line = line_limit < length line

@@ -1,7 +1,7 @@
 pub mod FileLines
 pub mod Candidate
 pub mod Scan
-pub mod Decision
+pub mod LoginDecision
 pub mod HostScan
 pub mod HostDecision
 pub mod Denial
@@ -9,5 +9,5 @@ pub mod Answer
 pub mod Findings
 pub mod Audit
 pub mod Reads
-pub mod SignatureAnswer
+pub mod SshsigAnswer
 pub mod Samples

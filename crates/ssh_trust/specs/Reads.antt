@@ -20,6 +20,13 @@ pub record AnswersReader (old new : Option (List ℕ)) (of_file : List ℕ → R
   pub to_end : OnOk result (IsAtEnd new)
   pub answer : (result ≡ Err Read → ⊥) → Gives (of_file given) result
 
+-- the reader gave all that it had, and this is true of the file that those bytes are
+pub record HoldsOfRead (old new : Option (List ℕ)) (Holds : List ℕ → Type 0) : Type 0 where
+  pub given : List ℕ
+  pub consumed : Consumes old new given
+  pub to_end : IsAtEnd new
+  pub holds : Holds given
+
 -- ---- an audit that is fed from a reader
 
 -- why an audit is fed no more: the reader ended, or a file of this size is too long, or memory or a read was refused

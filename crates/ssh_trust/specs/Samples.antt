@@ -3,7 +3,6 @@ use Rattle.std.specs.Prelude.{◌≡◌, ℕ, Bool, true, false, List, [], ◌�
 use Rattle.ssh_offers.specs.declared.error.AuditError.TheVariants.{FileTooLong}
 use Rattle.ssh_offers.specs.declared.query.Signed.{Signed}
 use Rattle.ssh_rights.specs.declared.rights.Rights.{Rights}
-use Rattle.ssh_rules.specs.declared.reason.Reason.{Reason}
 use Rattle.ssh_rules.specs.declared.reason.Reason.TheVariants.{Expired, SourceRefused}
 use Rattle.ssh_rules.specs.declared.verdict.LineVerdict.{LineVerdict}
 use Rattle.ssh_rules.specs.declared.verdict.LineVerdict.TheVariants.{Admits, Skips}
@@ -14,7 +13,7 @@ use Rattle.ssh_trust.specs.declared.host_scan.HostScan.{HostScan}
 use Rattle.ssh_trust.specs.declared.login_scan.Candidate.{Candidate}
 use Rattle.ssh_trust.specs.Answer.{if_short}
 use Rattle.ssh_trust.specs.Candidate.{candidate_of, reasons_of}
-use Rattle.ssh_trust.specs.Decision.{decision_of}
+use Rattle.ssh_trust.specs.LoginDecision.{decision_of}
 use Rattle.ssh_trust.specs.HostDecision.{host_decision_of}
 
 -- ---- the evidence of a certificate: the key's signature, and that of its signer

@@ -7,10 +7,10 @@ ghost use Rattle.ssh_offers.specs.HostClaim.{host_claim};
 ghost use Rattle.ssh_offers.specs.Evidence.{host_evidence};
 ghost use Rattle.ssh_trust.specs.HostDecision.{HostMeans};
 ghost use Rattle.ssh_trust.specs.Answer.{Gives, OfClaim, RefusesAs, host_answer};
-ghost use Rattle.ssh_trust.specs.Reads.{AnswersReader};
+ghost use Rattle.ssh_trust.specs.Reads.{AnswersReader, HoldsOfRead};
 
+use crate::audit::HostAudit;
 use crate::decision::Decision;
-use crate::host_audit::HostAudit;
 use crate::source::Source;
 use ssh_offers::{AuditError, HostClaimView, HostQuery, Items, Signed, host_evidence};
 use std::alloc::Global;
@@ -36,10 +36,7 @@ pub fn host(
     ensures answer { OfClaim (host_claim (host_check_of query.entry.now))
         (λ claim. Gives (host_answer file.now claim vouched.now) result) }
 {
-    let mut audit = HostAudit::new(alloc, query)?;
-    audit.feed(file)?;
-    let decision = audit.finish(vouched)?;
-    Ok(decision)
+    HostAudit::of_file(alloc, file, query, vouched)
 }
 
 /// Answers a host's key by what a known_hosts file's reader has left, as `host` answers by the
@@ -61,15 +58,18 @@ pub fn host_from<S: Source>(
     // A9 is answered exactly where the last read failed.
     ensures read { result ≡ Err Read → S.failed reader.old reader.new }
     ensures unfailed { (result ≡ Err Read → ⊥) → S.unfailed reader.old reader.new }
+    // A decision means of the bytes that the reader gave, which are all that it had, what it means
+    // of a file.
+    ensures means { OfClaim (host_claim (host_check_of query.entry.now))
+        (λ claim. IfOk result (λ decision.
+        HoldsOfRead (S.left reader.old) (S.left reader.new)
+        (λ file. HostMeans file claim vouched.now decision))) }
     // The whole answer on the bytes that the reader gave, unless memory or a read was refused.
     ensures answer { OfClaim (host_claim (host_check_of query.entry.now))
         (λ claim. AnswersReader (S.left reader.old) (S.left reader.new)
         (λ file. host_answer file claim vouched.now) result) }
 {
-    let mut audit = HostAudit::new(alloc, query)?;
-    audit.feed_from(reader)?;
-    let decision = audit.finish(vouched)?;
-    Ok(decision)
+    HostAudit::of_reader(alloc, reader, query, vouched)
 }
 
 /// What a decision on this host's key rests on, whatever the file: the key's signature over the

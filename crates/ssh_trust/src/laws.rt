@@ -5,7 +5,7 @@ ghost use Rattle.std.specs.List.{AllByRecursion};
 ghost use Rattle.ssh_offers.specs.declared.query.Signed.{Signed as SignedValue};
 ghost use Rattle.ssh_offers.specs.HostClaim.{HostClaim};
 ghost use Rattle.ssh_offers.specs.LoginClaim.{LoginClaim};
-ghost use Rattle.ssh_trust.specs.Decision.{LoginMeans, login_decision};
+ghost use Rattle.ssh_trust.specs.LoginDecision.{LoginMeans, login_decision};
 ghost use Rattle.ssh_trust.specs.Denial.{HostDenialMeans, LoginDenialMeans};
 ghost use Rattle.ssh_trust.specs.HostDecision.{HostMeans, host_decision};
 

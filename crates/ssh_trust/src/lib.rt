@@ -18,33 +18,33 @@
 //! ```
 #![tactic(auto)]
 
+mod audit;
 mod counted;
-mod decide;
 mod decision;
-mod host_audit;
 mod host_decide;
 mod host_scan;
 mod hosts;
 mod laws;
-mod login_audit;
+mod login_decide;
 mod login_scan;
 mod logins;
 mod pieces;
 mod samples;
 mod scan;
-mod signatures;
+mod search;
+mod sought;
 mod source;
+mod sshsig_answer;
 
+pub use audit::{HostAudit, LoginAudit};
 pub use counted::Counted;
 pub use decision::{Cause, Decision};
-pub use host_audit::HostAudit;
 pub use hosts::{evidence_of_host, host, host_from};
-pub use login_audit::LoginAudit;
 pub use logins::{evidence_of_login, login, login_from};
 pub use scan::REASON_LIMIT;
-pub use signatures::{SigAnswer, sshsig};
 pub use source::{PIECE_SIZE, Source};
 pub use ssh_offers::{AuditError, HostQuery, Items, LoginQuery, OfferError, Signed};
 pub use ssh_rights::{Carried, CarriedName, Rights};
 pub use ssh_rules::Reason;
 pub use ssh_text::FILE_LIMIT;
+pub use sshsig_answer::{SshsigAnswer, sshsig};

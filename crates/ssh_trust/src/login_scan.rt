@@ -1,32 +1,36 @@
 //! The first line that admits a login, and why the lines before it do not: one line after the
 //! other.
 
-ghost use Rattle.std.specs.Prelude.{◌≡◌, ◌≤◌, ℕ, List, length, IfOk, OnOk};
+ghost use Rattle.std.specs.Prelude.{◌≡◌, ◌<◌, ◌^◌, ℕ, List, length, IfOk};
 ghost use Rattle.ssh_lines.specs.AuthGrammar.{auth_line};
 ghost use Rattle.ssh_lines.specs.LineView.{line_seen};
 ghost use Rattle.ssh_offers.specs.ClaimViews.{claim_of};
-ghost use Rattle.ssh_offers.specs.Evidence.{login_evidence};
-ghost use Rattle.ssh_trust.specs.Candidate.{reason_limit};
-ghost use Rattle.ssh_trust.specs.Decision.{candidate_at, decision_of, line_verdict};
-ghost use Rattle.ssh_trust.specs.Findings.{IsKept, IsText, LoginFound, login_reasons, no_login_findings};
-ghost use Rattle.ssh_trust.specs.Scan.{scan_line, scan_verdict};
+ghost use Rattle.ssh_offers.specs.LoginClaim.{LoginClaim, login_claim};
+ghost use Rattle.ssh_offers.specs.Query.{login_of};
+ghost use Rattle.ssh_trust.specs.LoginDecision.{
+  LoginMeans,
+  candidate_at,
+  login_decision,
+  login_scan_line,
+};
+ghost use Rattle.ssh_trust.specs.FileLines.{IsText};
+ghost use Rattle.ssh_trust.specs.Scan.{empty_scan};
 
-use crate::decide::decide;
 use crate::decision::Decision;
-use crate::pieces::Search;
+use crate::login_decide::decide_login;
 use crate::scan::Scan;
+use crate::sought::Sought;
 use ssh_lines::{AuthEntryView, AuthLineView, KeyBuffer, read_auth_view};
-use ssh_offers::{LoginClaimView, Signed, login_evidence};
+use ssh_offers::{AuditError, LoginClaimView, LoginQuery, Signed, login_evidence};
 use ssh_options::LineCause;
 use ssh_rights::{Rights, rights_of, touch_suffices, verification_suffices};
 use ssh_rules::{LineVerdict, login_verdict};
 use ssh_text::Line;
 use std::alloc::{AllocError, Global};
-use std::marker::Model;
 
 /// The first line that admits the login, and what it gives.
 #[derive(Drop)]
-pub(crate) struct Candidate {
+pub struct Candidate {
     /// Its number, from 1.
     pub(crate) line: u64,
     /// A security key was touched, where it has to be.
@@ -55,32 +59,6 @@ fn candidate_at(
     })
 }
 
-/// Takes what a line is to the login.
-fn take_verdict(
-    scan: &mut Scan<Candidate>,
-    alloc: Global,
-    number: u64,
-    verdict: LineVerdict<AuthEntryView<'_>>,
-    claim: &LoginClaimView<'_>,
-) -> Result<(), AllocError>
-    ensures value { OnOk result (scan.new ≡ scan_verdict (candidate_at (claim_of claim.now))
-        scan.old number verdict.entry) }
-    ensures bounded { length scan.old.reasons ≤ reason_limit
-        → length scan.new.reasons ≤ reason_limit }
-{
-    match verdict {
-        LineVerdict::Admits(entry) => {
-            let candidate = candidate_at(alloc, number, &entry, claim)?;
-            scan.candidate = Some(candidate);
-            Ok(())
-        }
-        LineVerdict::Skips(reason) => {
-            scan.list(number, reason)?;
-            Ok(())
-        }
-    }
-}
-
 /// What a line says, where it is not longer than a line may be.
 #[tactic(auto, using(crate::proofs::LongLines::long_auth))]
 fn view_of<'a>(line: Line<'a>, buffer: &'a mut KeyBuffer) -> AuthLineView<'a>
@@ -92,93 +70,70 @@ fn view_of<'a>(line: Line<'a>, buffer: &'a mut KeyBuffer) -> AuthLineView<'a>
     }
 }
 
-/// Takes the next line of the file, which has this number. Lines after the candidate change
-/// nothing.
-fn take_line(
-    scan: &mut Scan<Candidate>,
-    alloc: Global,
-    number: u64,
-    line: Line<'_>,
-    buffer: &mut KeyBuffer,
-    claim: &LoginClaimView<'_>,
-) -> Result<(), AllocError>
-    ensures value { OnOk result ((text : List ℕ)
-        → IsText line.entry text
-        → scan.new ≡ scan_line (candidate_at (claim_of claim.now))
-        (line_verdict (claim_of claim.now)) scan.old (number, text)) }
-    ensures bounded { length scan.old.reasons ≤ reason_limit
-        → length scan.new.reasons ≤ reason_limit }
-{
-    if scan.candidate.is_some() {
-        return Ok(());
+/// The first line that admits the login. Lines after it change nothing.
+impl<'a> Sought for LoginClaimView<'a> {
+    type Query = LoginQuery<'a>;
+
+    type Said = Scan<Candidate>;
+
+    ghost Claim = { LoginClaim };
+
+    ghost can_ask = { λ q. (length q.session.now < 2 ^ 32) × (length q.user.now < 2 ^ 32) };
+
+    ghost claim = { λ q. login_claim (login_of q) };
+
+    ghost claimed = { claim_of };
+
+    ghost nothing = { empty_scan };
+
+    ghost add = { login_scan_line };
+
+    ghost reasons = { λ s. s.reasons };
+
+    ghost decision = { login_decision };
+
+    ghost means = { LoginMeans };
+
+    fn read(_alloc: Global, query: &LoginQuery<'a>) -> Result<LoginClaimView<'a>, AuditError> {
+        let claim = LoginClaimView::read(query)?;
+        Ok(claim)
     }
-    let verdict = login_verdict(alloc, view_of(line, buffer), claim)?;
-    take_verdict(scan, alloc, number, verdict, claim)?;
-    Ok(())
-}
 
-/// The search for the line that admits a login. Contracts see its claim, what the lines say, and the
-/// length of its buffer.
-#[derive(Drop)]
-pub(crate) struct LoginSearch<'a> {
-    alloc: Global,
-    claim: LoginClaimView<'a>,
-    buffer: KeyBuffer,
-    scan: Scan<Candidate>,
-}
+    fn silence(&self, alloc: Global) -> Scan<Candidate> {
+        Scan::new(alloc)
+    }
 
-impl<'a> Model for LoginSearch<'a> {
-    ghost use Rattle.ssh_lines.specs.KeyBuffers.{buffer_size};
-    ghost use Rattle.ssh_offers.specs.ClaimViews.{claim_of};
-    ghost use Rattle.ssh_trust.specs.Findings.{LoginFindings};
-
-    ghost Value = { LoginFindings };
-
-    ghost view = { λ s. record { claim = claim_of s.claim; said = s.scan; room = buffer_size s.buffer } };
-}
-
-impl<'a> LoginSearch<'a> {
-    /// No line yet.
-    pub(crate) fn new(
+    fn take_line(
+        &self,
         alloc: Global,
-        claim: &LoginClaimView<'a>,
-    ) -> Result<LoginSearch<'a>, AllocError>
-        ensures { IfOk result (λ search. search ≡ no_login_findings (claim_of claim.now)) }
-    {
-        let buffer = KeyBuffer::new(alloc)?;
-        Ok(LoginSearch {
-            alloc,
-            claim: *claim,
-            buffer,
-            scan: Scan::new(alloc),
-        })
+        number: u64,
+        line: Line<'_>,
+        buffer: &mut KeyBuffer,
+        said: &mut Scan<Candidate>,
+    ) -> Result<(), AllocError> {
+        if said.candidate.is_some() {
+            return Ok(());
+        }
+        match login_verdict(alloc, view_of(line, buffer), self)? {
+            LineVerdict::Admits(entry) => {
+                let candidate = candidate_at(alloc, number, &entry, self)?;
+                said.candidate = Some(candidate);
+                Ok(())
+            }
+            LineVerdict::Skips(reason) => {
+                said.list(number, reason)?;
+                Ok(())
+            }
+        }
     }
 
-    /// The decision by what the lines say.
-    pub(crate) fn decide(self, vouched: &[Signed]) -> Result<Decision, AllocError>
-        ensures { IfOk result (λ decision.
-            decision ≡ decision_of (login_evidence self.entry.claim) vouched.now
-            self.entry.said.candidate self.entry.said.reasons) }
-    {
-        let evidence = login_evidence(self.alloc, &self.claim)?;
-        Ok(decide(self.scan, evidence, vouched))
-    }
-}
-
-impl<'a> Search for LoginSearch<'a> {
-    ghost found = { LoginFound };
-
-    ghost is_bounded = { λ s. IsKept login_reasons s };
-
-    fn take_line(&mut self, number: u64, line: Line<'_>) -> Result<(), AllocError> {
-        take_line(
-            &mut self.scan,
-            self.alloc,
-            number,
-            line,
-            &mut self.buffer,
-            &self.claim,
-        )?;
-        Ok(())
+    fn decide(
+        &self,
+        alloc: Global,
+        said: Scan<Candidate>,
+        vouched: &[Signed],
+    ) -> Result<Decision, AllocError> {
+        let evidence = login_evidence(alloc, self)?;
+        Ok(decide_login(said, evidence, vouched))
     }
 }

@@ -5,12 +5,12 @@ ghost use Rattle.ssh_offers.specs.declared.error.AuditError.TheVariants.{Read};
 ghost use Rattle.ssh_offers.specs.Query.{login_of};
 ghost use Rattle.ssh_offers.specs.LoginClaim.{login_claim};
 ghost use Rattle.ssh_offers.specs.Evidence.{login_evidence};
-ghost use Rattle.ssh_trust.specs.Decision.{LoginMeans};
+ghost use Rattle.ssh_trust.specs.LoginDecision.{LoginMeans};
 ghost use Rattle.ssh_trust.specs.Answer.{Gives, OfClaim, RefusesAs, login_answer};
-ghost use Rattle.ssh_trust.specs.Reads.{AnswersReader};
+ghost use Rattle.ssh_trust.specs.Reads.{AnswersReader, HoldsOfRead};
 
+use crate::audit::LoginAudit;
 use crate::decision::Decision;
-use crate::login_audit::LoginAudit;
 use crate::source::Source;
 use ssh_offers::{AuditError, Items, LoginClaimView, LoginQuery, Signed, login_evidence};
 use std::alloc::Global;
@@ -39,10 +39,7 @@ pub fn login(
     ensures answer { OfClaim (login_claim (login_of query.entry.now))
         (λ claim. Gives (login_answer file.now claim vouched.now) result) }
 {
-    let mut audit = LoginAudit::new(alloc, query)?;
-    audit.feed(file)?;
-    let decision = audit.finish(vouched)?;
-    Ok(decision)
+    LoginAudit::of_file(alloc, file, query, vouched)
 }
 
 /// Answers a login by what an authorized_keys file's reader has left, as `login` answers by the
@@ -66,15 +63,18 @@ pub fn login_from<S: Source>(
     // A9 is answered exactly where the last read failed.
     ensures read { result ≡ Err Read → S.failed reader.old reader.new }
     ensures unfailed { (result ≡ Err Read → ⊥) → S.unfailed reader.old reader.new }
+    // A decision means of the bytes that the reader gave, which are all that it had, what it means
+    // of a file.
+    ensures means { OfClaim (login_claim (login_of query.entry.now))
+        (λ claim. IfOk result (λ decision.
+        HoldsOfRead (S.left reader.old) (S.left reader.new)
+        (λ file. LoginMeans file claim vouched.now decision))) }
     // The whole answer on the bytes that the reader gave, unless memory or a read was refused.
     ensures answer { OfClaim (login_claim (login_of query.entry.now))
         (λ claim. AnswersReader (S.left reader.old) (S.left reader.new)
         (λ file. login_answer file claim vouched.now) result) }
 {
-    let mut audit = LoginAudit::new(alloc, query)?;
-    audit.feed_from(reader)?;
-    let decision = audit.finish(vouched)?;
-    Ok(decision)
+    LoginAudit::of_reader(alloc, reader, query, vouched)
 }
 
 /// What a decision on this login rests on, whatever the file: the offered key's signature over the

@@ -8,7 +8,6 @@ ghost use Rattle.std.specs.Prelude.{
   ◌+◌,
   ◌^◌,
   ◌++◌,
-  ◌∷◌,
   [],
   length,
   take,
@@ -21,6 +20,7 @@ ghost use Rattle.std.specs.Prelude.{
   OnOk,
   OnErr,
 };
+ghost use Rattle.std.specs.List.{AllByRecursion};
 ghost use Rattle.ssh_offers.specs.declared.error.AuditError.TheVariants.{
   Failed,
   FileTooLong,
@@ -29,46 +29,32 @@ ghost use Rattle.ssh_offers.specs.declared.error.AuditError.TheVariants.{
 };
 ghost use Rattle.ssh_text.specs.Text.{file_limit, line_limit, lines_of, numbered};
 ghost use Rattle.ssh_trust.specs.Audit.{HasRead, HasTaken};
-ghost use Rattle.ssh_trust.specs.Findings.{IsText};
+ghost use Rattle.ssh_trust.specs.Findings.{HasFound, IsKept};
 ghost use Rattle.ssh_trust.specs.Reads.{IsFedBy};
 
+use crate::search::Search;
+use crate::sought::Sought;
 use crate::source::{PIECE_SIZE, Source};
 use ssh_offers::AuditError;
 use ssh_text::{FILE_LIMIT, Line, Scanner};
 use std::alloc::{AllocError, Global};
 
-/// A search of lines, which keeps what those so far say.
-pub(crate) trait Search {
-    /// From the first state, these numbered lines lead to the second.
-    ghost found: { Self → List (ℕ × List ℕ) → Self → Type 0 };
-
-    /// No more is kept than a search may keep.
-    ghost is_bounded: { Self → Type 0 };
-
-    /// Takes the next line, which has this number. Out of memory, what is kept is worth nothing.
-    fn take_line(&mut self, number: u64, line: Line<'_>) -> Result<(), AllocError>
-        ensures found { OnOk result ((text : List ℕ)
-            → IsText line.entry text
-            → (first : Self) (lines : List (ℕ × List ℕ))
-            → found first lines self.old
-            → found first (lines ++ (number, text) ∷ []) self.new) }
-        ensures bounded { is_bounded self.old → is_bounded self.new };
-}
-
 /// A file that comes in pieces, and the search of its lines. It keeps the bytes of one unfinished
 /// line at most; lines that lie whole in a piece are searched there.
 #[derive(Drop)]
-pub(crate) struct Pieces<T> {
+pub(crate) struct Pieces<T, S> {
     scanner: Scanner,
-    pub(crate) search: T,
+    pub(crate) search: Search<T, S>,
     /// A piece was refused.
     pub(crate) failed: bool,
 }
 
-impl<T: Search + Drop> Pieces<T> {
+impl<T: Sought<Said = S> + Drop, S: Drop> Pieces<T, S> {
     /// No piece yet.
-    pub(crate) fn new(alloc: Global, search: T) -> Pieces<T>
-        ensures read { T.found search [] search → HasRead T.found search result [] }
+    pub(crate) fn new(alloc: Global, search: Search<T, S>) -> Pieces<T, S>
+        ensures read { (claim : T.Claim)
+            → HasFound T.claimed T.nothing T.add claim [] search
+            → HasRead (HasFound T.claimed T.nothing T.add claim) result [] }
         ensures search { result.search ≡ search }
         ensures sound { result.failed ≡ false }
         ensures bounded { length result.scanner.kept.bytes ≤ line_limit }
@@ -84,15 +70,15 @@ impl<T: Search + Drop> Pieces<T> {
     fn step(&mut self, rest: &[u8]) -> Result<(usize, bool), AllocError>
         requires { self.old.scanner.used + length rest.now < 2 ^ 64 }
         ensures read { IfOk result (λ fed.
-            (first : T) (bytes : List ℕ)
-            → HasRead T.found first self.old bytes
-            → HasRead T.found first self.new (bytes ++ take fed.0 rest.now)) }
+            (claim : T.Claim) (bytes : List ℕ)
+            → HasRead (HasFound T.claimed T.nothing T.add claim) self.old bytes
+            → HasRead (HasFound T.claimed T.nothing T.add claim) self.new (bytes ++ take fed.0 rest.now)) }
         ensures used { IfOk result (λ fed. self.new.scanner.used ≡ self.old.scanner.used + fed.0) }
         ensures within { IfOk result (λ fed. fed.0 ≤ length rest.now) }
         ensures some { IfOk result (λ fed. fed.1 ≡ true → 0 < fed.0) }
         ensures all { IfOk result (λ fed. fed.1 ≡ false → fed.0 ≡ length rest.now) }
         ensures failed { self.new.failed ≡ self.old.failed }
-        ensures bounded { T.is_bounded self.old.search → T.is_bounded self.new.search }
+        ensures bounded { IsKept T.reasons self.old.search → IsKept T.reasons self.new.search }
         ensures line { length self.new.scanner.kept.bytes ≤ line_limit }
     {
         if let Some((number, text)) = self.scanner.whole_line(rest) {
@@ -110,13 +96,13 @@ impl<T: Search + Drop> Pieces<T> {
     /// Takes a piece.
     fn take(&mut self, piece: &[u8]) -> Result<(), AllocError>
         requires { self.old.scanner.used + length piece.now < 2 ^ 64 }
-        ensures read { OnOk result ((first : T) (bytes : List ℕ)
-            → HasRead T.found first self.old bytes
-            → HasRead T.found first self.new (bytes ++ piece.now)) }
+        ensures read { OnOk result ((claim : T.Claim) (bytes : List ℕ)
+            → HasRead (HasFound T.claimed T.nothing T.add claim) self.old bytes
+            → HasRead (HasFound T.claimed T.nothing T.add claim) self.new (bytes ++ piece.now)) }
         ensures used { OnOk result
             (self.new.scanner.used ≡ self.old.scanner.used + length piece.now) }
         ensures failed { self.new.failed ≡ self.old.failed }
-        ensures bounded { T.is_bounded self.old.search → T.is_bounded self.new.search }
+        ensures bounded { IsKept T.reasons self.old.search → IsKept T.reasons self.new.search }
         ensures line { length self.new.scanner.kept.bytes ≤ line_limit }
     {
         let mut done = 0;
@@ -133,12 +119,13 @@ impl<T: Search + Drop> Pieces<T> {
     /// Takes a piece whole, unless one was refused before, or it makes the file too long, or memory
     /// is refused.
     pub(crate) fn feed(&mut self, piece: &[u8]) -> Result<(), AuditError>
-        ensures read { OnOk result ((first : T) (bytes : List ℕ)
-            → HasRead T.found first self.old bytes
-            → HasRead T.found first self.new (bytes ++ piece.now)) }
+        ensures read { OnOk result ((claim : T.Claim) (bytes : List ℕ)
+            → HasRead (HasFound T.claimed T.nothing T.add claim) self.old bytes
+            → HasRead (HasFound T.claimed T.nothing T.add claim) self.new (bytes ++ piece.now)) }
         ensures used { OnOk result
             (self.new.scanner.used ≡ self.old.scanner.used + length piece.now) }
         ensures short { OnOk result (self.old.scanner.used + length piece.now ≤ file_limit) }
+        ensures octets { OnOk result (AllByRecursion (λ c. c < 256) piece.now) }
         ensures sound { OnOk result (self.new.failed ≡ false) }
         ensures left { OnErr result (self.new.failed ≡ true) }
         ensures failed { (result ≡ Err Failed) ↔ (self.old.failed ≡ true) }
@@ -148,7 +135,7 @@ impl<T: Search + Drop> Pieces<T> {
         ensures else_memory { self.old.failed ≡ false
             → self.old.scanner.used + length piece.now ≤ file_limit
             → OnErr result (result ≡ Err Memory) }
-        ensures bounded { T.is_bounded self.old.search → T.is_bounded self.new.search }
+        ensures bounded { IsKept T.reasons self.old.search → IsKept T.reasons self.new.search }
         ensures line { length self.old.scanner.kept.bytes ≤ line_limit
             → length self.new.scanner.kept.bytes ≤ line_limit }
     {
@@ -171,15 +158,15 @@ impl<T: Search + Drop> Pieces<T> {
 
     /// Takes what a reader has left, up to its end. A failed read is `A9`. No read asks for more than
     /// 4,096 bytes, by the type of what it is given.
-    pub(crate) fn feed_from<S: Source>(&mut self, reader: &mut S) -> Result<(), AuditError>
-        ensures read { result ≡ Err Read → S.failed reader.old reader.new }
-        ensures unfailed { (result ≡ Err Read → ⊥) → S.unfailed reader.old reader.new }
-        ensures fed { (first : T) (bytes : List ℕ)
-            → HasTaken T.found first self.old bytes
-            → IsFedBy (λ given. HasTaken T.found first self.new (bytes ++ given))
-            (S.left reader.old) (S.left reader.new) (length bytes) result }
+    pub(crate) fn feed_from<R: Source>(&mut self, reader: &mut R) -> Result<(), AuditError>
+        ensures read { result ≡ Err Read → R.failed reader.old reader.new }
+        ensures unfailed { (result ≡ Err Read → ⊥) → R.unfailed reader.old reader.new }
+        ensures fed { (claim : T.Claim) (bytes : List ℕ)
+            → HasTaken (HasFound T.claimed T.nothing T.add claim) self.old bytes
+            → IsFedBy (λ given. HasTaken (HasFound T.claimed T.nothing T.add claim) self.new (bytes ++ given))
+            (R.left reader.old) (R.left reader.new) (length bytes) result }
         ensures left { OnErr result (self.new.failed ≡ true) }
-        ensures bounded { T.is_bounded self.old.search → T.is_bounded self.new.search }
+        ensures bounded { IsKept T.reasons self.old.search → IsKept T.reasons self.new.search }
         ensures line { length self.old.scanner.kept.bytes ≤ line_limit
             → length self.new.scanner.kept.bytes ≤ line_limit }
     {
@@ -198,9 +185,9 @@ impl<T: Search + Drop> Pieces<T> {
 
     /// Takes the last line, which may lack its LF.
     fn end(&mut self) -> Result<(), AllocError>
-        ensures { OnOk result ((first : T) (bytes : List ℕ)
-            → HasRead T.found first self.old bytes
-            → T.found first (numbered 1 (lines_of bytes)) self.new.search) }
+        ensures { OnOk result ((claim : T.Claim) (bytes : List ℕ)
+            → HasRead (HasFound T.claimed T.nothing T.add claim) self.old bytes
+            → HasFound T.claimed T.nothing T.add claim (numbered 1 (lines_of bytes)) self.new.search) }
     {
         if self.scanner.finish() {
             let (number, last) = self.scanner.line();
@@ -210,12 +197,12 @@ impl<T: Search + Drop> Pieces<T> {
     }
 
     /// Ends the file: what was found in all lines, unless a piece was refused or memory is.
-    pub(crate) fn finish(mut self) -> Result<T, AuditError>
+    pub(crate) fn finish(mut self) -> Result<Search<T, S>, AuditError>
         ensures failed { self.failed ≡ true → result ≡ Err Failed }
         ensures found { IfOk result (λ search.
-            (first : T) (bytes : List ℕ)
-            → HasRead T.found first self bytes
-            → T.found first (numbered 1 (lines_of bytes)) search) }
+            (claim : T.Claim) (bytes : List ℕ)
+            → HasRead (HasFound T.claimed T.nothing T.add claim) self bytes
+            → HasFound T.claimed T.nothing T.add claim (numbered 1 (lines_of bytes)) search) }
         ensures else_memory { self.failed ≡ false → OnErr result (result ≡ Err Memory) }
     {
         if self.failed {

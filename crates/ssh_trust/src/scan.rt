@@ -14,7 +14,7 @@ pub const REASON_LIMIT: usize = 100;
 /// What the lines so far say: what the first line that admits gives, and the reasons of the lines
 /// before it.
 #[derive(Drop)]
-pub(crate) struct Scan<C> {
+pub struct Scan<C> {
     pub(crate) candidate: Option<C>,
     pub(crate) reasons: Items<(u64, Reason)>,
 }

@@ -2,7 +2,7 @@
 
 use ssh_bodies::BodyError;
 use ssh_offers::{AuditError, Signed};
-use ssh_trust::{SigAnswer, sshsig};
+use ssh_trust::{SshsigAnswer, sshsig};
 use std::test::Fail;
 
 /// A file signature of 111 bytes for the namespace `file`, by the Ed25519 key of 32 zero bytes.
@@ -18,7 +18,7 @@ fn vouches_for_a_file_signature(rt: HostRuntime) -> Result<(), Fail> {
     let alloc = rt.alloc();
     let none: [Signed; 0] = [];
     let evidence = match sshsig(alloc, SSHSIG, b"abc", b"file", none.as_slice())? {
-        SigAnswer::NotVouched { evidence } => evidence,
+        SshsigAnswer::NotVouched { evidence } => evidence,
         _ => return Err(Fail::new("not vouched for")),
     };
     match evidence.as_slice() {
@@ -26,7 +26,7 @@ fn vouches_for_a_file_signature(rt: HostRuntime) -> Result<(), Fail> {
         _ => return Err(Fail::new("one piece of evidence")),
     }
     match sshsig(alloc, SSHSIG, b"abc", b"file", evidence.as_slice())? {
-        SigAnswer::Vouched { .. } => Ok(()),
+        SshsigAnswer::Vouched { .. } => Ok(()),
         _ => Err(Fail::new("vouched for")),
     }
 }
@@ -36,7 +36,7 @@ fn refuses_a_file_signature(rt: HostRuntime) -> Result<(), Fail> {
     let alloc = rt.alloc();
     let none: [Signed; 0] = [];
     match sshsig(alloc, SSHSIG, b"abc", b"git", none.as_slice())? {
-        SigAnswer::OtherNamespace => {}
+        SshsigAnswer::OtherNamespace => {}
         _ => return Err(Fail::new("another namespace")),
     }
     match sshsig(alloc, b"SSH", b"abc", b"file", none.as_slice()) {

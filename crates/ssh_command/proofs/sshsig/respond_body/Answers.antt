@@ -1,7 +1,7 @@
 use Rattle.std.proofs.Common.{rules}
 use Rattle.ssh_print.specs.ResponseView.{response}
 use Rattle.ssh_command.specs.AskedView.{question_of}
-use Rattle.ssh_command.proofs.SignatureLemmas.{message_responds, message_unread}
+use Rattle.ssh_command.proofs.SshsigLemmas.{message_responds, message_unread}
 use Rattle.ssh_command.proofs.sshsig.respond_body.Goals as goal
 
 pub returns-in-Ok : goal.returns-in-Ok

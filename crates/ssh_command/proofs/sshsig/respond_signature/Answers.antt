@@ -1,7 +1,7 @@
 use Rattle.std.proofs.Common.{rules}
 use Rattle.ssh_print.specs.ResponseView.{response}
 use Rattle.ssh_command.specs.AskedView.{question_of}
-use Rattle.ssh_command.proofs.SignatureLemmas.{vouch_file_responds, vouch_file_unread, words_signed}
+use Rattle.ssh_command.proofs.SshsigLemmas.{vouch_file_responds, vouch_file_unread, words_signed}
 use Rattle.ssh_command.proofs.sshsig.respond_signature.Goals as goal
 
 pub returns-in-None : goal.returns-in-None

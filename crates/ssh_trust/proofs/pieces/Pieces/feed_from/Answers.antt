@@ -1,13 +1,14 @@
 use Rattle.std.proofs.Common.{take, subst, refl, arith}
 use Rattle.std.specs.Io.KnownBytes.{Consumes}
 use Rattle.std.proofs.lemmas.Result.{err_from_is_err_and}
+use Rattle.ssh_trust.specs.Findings.{HasFound}
 use Rattle.ssh_trust.proofs.ReadLemmas.{ends-read, fed-partly, fed-unread, fed-whole, feeding-more, feeding-none, refusal}
 use Rattle.ssh_trust.proofs.pieces.Pieces.feed_from.Goals as goal
 
 pub loop-n-init : goal.loop-n-init
 loop-n-init g c = record {
-  unfailed = g.met.S.Source.begins c.args.reader.now;
-  fed = λ first bytes h. feeding-none g.T.Search.found first c.args.self.now bytes (g.S.Source.left c.args.reader.now) h;
+  unfailed = g.met.R.Source.begins c.args.reader.now;
+  fed = λ claim bytes h. feeding-none (HasFound g.T.Sought.claimed g.T.Sought.nothing g.T.Sought.add claim) c.args.self.now bytes (g.R.Source.left c.args.reader.now) h;
   bounded = λ h. h;
   line = λ h. h;
 }
@@ -18,10 +19,10 @@ loop-n-preserved g c =
     let before = c.loop-n.invariant in
     record {
       unfailed = c.in-Ok.ensures.unfailed c.args.reader.now before.unfailed;
-      fed = λ first bytes h.
-          feeding-more g.T.Search.found first c.loop-n.self c.feed.new.self bytes (take c.in-Ok.n c.read_piece.new.buf) (g.S.Source.left c.args.reader.now)
-          (g.S.Source.left c.loop-n.reader) (g.S.Source.left c.read_piece.new.self) (before.fed first bytes h) c.in-Ok.ensures.bytes.0 fed.short fed.sound
-          (λ used k. fed.read first used k);
+      fed = λ claim bytes h.
+          feeding-more (HasFound g.T.Sought.claimed g.T.Sought.nothing g.T.Sought.add claim) c.loop-n.self c.feed.new.self bytes (take c.in-Ok.n c.read_piece.new.buf) (g.R.Source.left c.args.reader.now)
+          (g.R.Source.left c.loop-n.reader) (g.R.Source.left c.read_piece.new.self) (before.fed claim bytes h) c.in-Ok.ensures.bytes.0 fed.octets fed.short fed.sound
+          (λ used k. fed.read claim used k);
       bounded = λ h. c.feed.ensures.bounded (before.bounded h);
       line = λ h. c.feed.ensures.line (before.line h);
     }
@@ -34,12 +35,12 @@ pub returns-in-Ok-eq0-clause-unfailed : goal.returns-in-Ok-eq0-clause-unfailed
 returns-in-Ok-eq0-clause-unfailed g c not = c.in-Ok-eq0.ensures.unfailed c.args.reader.now c.loop-n.invariant.unfailed
 
 pub returns-in-Ok-eq0-clause-fed : goal.returns-in-Ok-eq0-clause-fed
-returns-in-Ok-eq0-clause-fed g c first bytes h =
+returns-in-Ok-eq0-clause-fed g c claim bytes h =
     let given = c.in-Ok-eq0.ensures.bytes in
-    let old = g.S.Source.left c.loop-n.reader in
-    let new = g.S.Source.left c.read_piece.new.self in
+    let old = g.R.Source.left c.loop-n.reader in
+    let new = g.R.Source.left c.read_piece.new.self in
     let same = c.read_piece.auto.buf in
-    fed-whole g.T.Search.found first c.loop-n.self bytes (g.S.Source.left c.args.reader.now) old new (c.loop-n.invariant.fed first bytes h)
+    fed-whole (HasFound g.T.Sought.claimed g.T.Sought.nothing g.T.Sought.add claim) c.loop-n.self bytes (g.R.Source.left c.args.reader.now) old new (c.loop-n.invariant.fed claim bytes h)
     (subst (λ n. Consumes old new (take n c.read_piece.new.buf)) c.in-Ok-eq0.field-0-test given.0)
     (given.1 c.in-Ok-eq0.field-0-test (omega (arith, same)))
 
@@ -48,12 +49,12 @@ returns-in-Ok-eq0-clause-left g c = tt
 
 -- a piece that was refused
 pub returns-in_err-feed-in-Ok-clause-fed : goal.returns-in_err-feed-in-Ok-clause-fed
-returns-in_err-feed-in-Ok-clause-fed g c first bytes h =
+returns-in_err-feed-in-Ok-clause-fed g c claim bytes h =
     let p = err_from_is_err_and c.from_residual.result c.from_residual.ensures.1 in
     let fed = c.in_err-feed-in-Ok.ensures in
     rw (p.1, p.2)
-    (fed-partly g.T.Search.found first c.loop-n.self c.feed.new.self bytes (take c.in-Ok.n c.read_piece.new.buf) (g.S.Source.left c.args.reader.now)
-    (g.S.Source.left c.loop-n.reader) (g.S.Source.left c.read_piece.new.self) _ (c.loop-n.invariant.fed first bytes h) c.in-Ok.ensures.bytes.0
+    (fed-partly (HasFound g.T.Sought.claimed g.T.Sought.nothing g.T.Sought.add claim) c.loop-n.self c.feed.new.self bytes (take c.in-Ok.n c.read_piece.new.buf) (g.R.Source.left c.args.reader.now)
+    (g.R.Source.left c.loop-n.reader) (g.R.Source.left c.read_piece.new.self) _ (c.loop-n.invariant.fed claim bytes h) c.in-Ok.ensures.bytes.0
     (let same = c.read_piece.auto.buf in let bound = c.in-Ok.ensures.bound.0 in let size = c.in-Ok.ensures.bound.1 in omega (arith, same, bound, size))
     (refusal _ _ _ fed.failed fed.too_long fed.else_memory))
 
@@ -68,6 +69,6 @@ pub returns-in-Err-clause-left : goal.returns-in-Err-clause-left
 returns-in-Err-clause-left g c = refl
 
 pub returns-in-Err-clause-fed : goal.returns-in-Err-clause-fed
-returns-in-Err-clause-fed g c first bytes h =
-    fed-unread g.T.Search.found first c.loop-n.self _ bytes (g.S.Source.left c.args.reader.now) (g.S.Source.left c.loop-n.reader)
-    (g.S.Source.left c.read_piece.new.self) (c.loop-n.invariant.fed first bytes h) c.in-Err.ensures.bytes
+returns-in-Err-clause-fed g c claim bytes h =
+    fed-unread (HasFound g.T.Sought.claimed g.T.Sought.nothing g.T.Sought.add claim) c.loop-n.self _ bytes (g.R.Source.left c.args.reader.now) (g.R.Source.left c.loop-n.reader)
+    (g.R.Source.left c.read_piece.new.self) (c.loop-n.invariant.fed claim bytes h) c.in-Err.ensures.bytes

@@ -1,15 +1,16 @@
 use Rattle.std.proofs.Common.{◌-◌, ◌≤◌, length, List, ℕ}
 use Rattle.ssh_text.specs.Text.{file_limit, line_limit}
+use Rattle.ssh_trust.specs.Findings.{HasFound, IsKept}
 use Rattle.ssh_trust.specs.Audit.{HasTaken}
 use Rattle.ssh_trust.proofs.ReadLemmas.{IsFeeding}
 use Rattle.ssh_trust.proofs.pieces.Pieces.feed_from.Given as goal
 
 abbrev pub invariant-loop-n : goal.invariant-loop-n
 invariant-loop-n g l = record {
-  unfailed : g.S.Source.unfailed l.fn.reader l.reader;
-  fed : (first : g.row.T.Denot) (bytes : List ℕ) → HasTaken g.T.Search.found first l.fn.self bytes
-      → IsFeeding g.T.Search.found first l.self bytes (g.S.Source.left l.fn.reader) (g.S.Source.left l.reader);
-  bounded : g.T.Search.is_bounded l.fn.self.search → g.T.Search.is_bounded l.self.search;
+  unfailed : g.R.Source.unfailed l.fn.reader l.reader;
+  fed : (claim : g.T.Sought.Claim) (bytes : List ℕ) → HasTaken (HasFound g.T.Sought.claimed g.T.Sought.nothing g.T.Sought.add claim) l.fn.self bytes
+      → IsFeeding (HasFound g.T.Sought.claimed g.T.Sought.nothing g.T.Sought.add claim) l.self bytes (g.R.Source.left l.fn.reader) (g.R.Source.left l.reader);
+  bounded : IsKept g.T.Sought.reasons l.fn.self.search → IsKept g.T.Sought.reasons l.self.search;
   line : length l.fn.self.scanner.kept.bytes ≤ line_limit → length l.self.scanner.kept.bytes ≤ line_limit;
 }
 

@@ -1,23 +1,24 @@
 use Rattle.std.proofs.Common.{◌≡◌, ◌∙◌, true, false, sym, refl, subst, arith}
 use Rattle.std.proofs.lemmas.List.{take_all}
 use Rattle.ssh_text.specs.Scan.{StandsFor, has_newline, up_to_newline}
+use Rattle.ssh_trust.specs.Findings.{HasFound}
 use Rattle.ssh_trust.proofs.AuditLemmas.{found-line, found-part, part-of, ready}
 use Rattle.ssh_trust.proofs.pieces.Pieces.step.Goals as goal
 
 pub returns-in-Some-clause-read : goal.returns-in-Some-clause-read
-returns-in-Some-clause-read g c first bytes h =
+returns-in-Some-clause-read g c claim bytes h =
     let line = c.in-Some.ensures in
     let rest = c.args.rest.now in
     rw (part-of c.in-Some.text.now rest line.part)
     (record {
       scanned = line.stands_for bytes h.scanned;
       found =
-          found-line g.T.Search.found first _ _ bytes rest (up_to_newline rest) _ _ refl line.newline (line.line bytes h.scanned)
-          (λ lines f. c.in_ok-take_line.ensures.found _ refl first lines f) h.found;
+          found-line (HasFound g.T.Sought.claimed g.T.Sought.nothing g.T.Sought.add claim) _ _ bytes rest (up_to_newline rest) _ _ refl line.newline (line.line bytes h.scanned)
+          (λ lines f. c.in_ok-take_line.ensures.found _ refl claim lines f) h.found;
     })
 
 pub returns-in_ok-take_line-2-clause-read : goal.returns-in_ok-take_line-2-clause-read
-returns-in_ok-take_line-2-clause-read g c first bytes h =
+returns-in_ok-take_line-2-clause-read g c claim bytes h =
     let fed = c.in_ok-taken.ensures in
     let rest = c.args.rest.now in
     let same = c.whole_line.ensures.none c.in_default.is in
@@ -27,12 +28,12 @@ returns-in_ok-take_line-2-clause-read g c first bytes h =
     record {
       scanned = stands;
       found =
-          found-line g.T.Search.found first _ _ bytes rest _ _ line.text fed.part newline line.last
-          (λ lines f. c.in_ok-take_line-2.ensures.found line.text line.is first lines f) h.found;
+          found-line (HasFound g.T.Sought.claimed g.T.Sought.nothing g.T.Sought.add claim) _ _ bytes rest _ _ line.text fed.part newline line.last
+          (λ lines f. c.in_ok-take_line-2.ensures.found line.text line.is claim lines f) h.found;
     }
 
 pub returns-else-ready-clause-read : goal.returns-else-ready-clause-read
-returns-else-ready-clause-read g c first bytes h =
+returns-else-ready-clause-read g c claim bytes h =
     let fed = c.in_ok-taken.ensures in
     let rest = c.args.rest.now in
     let none : has_newline rest ≡ false = sym fed.newline ∙ c.if-ready.false in
@@ -40,5 +41,5 @@ returns-else-ready-clause-read g c first bytes h =
     let same = c.whole_line.ensures.none c.in_default.is in
     record {
       scanned = fed.stands_for bytes (subst (λ s. StandsFor s bytes) (sym same) h.scanned);
-      found = found-part g.T.Search.found first _ bytes rest _ (take_all c.in_ok-taken.taken rest (omega arith)) none h.found;
+      found = found-part (HasFound g.T.Sought.claimed g.T.Sought.nothing g.T.Sought.add claim) _ bytes rest _ (take_all c.in_ok-taken.taken rest (omega arith)) none h.found;
     }

@@ -1,5 +1,6 @@
 use Rattle.std.proofs.Common.{◌∙◌, length, sym, subst, refl, ap, arith, append-nil}
 use Rattle.std.proofs.lemmas.List.{length-drop}
+use Rattle.ssh_trust.specs.Findings.{HasFound}
 use Rattle.ssh_trust.specs.Audit.{HasRead}
 use Rattle.ssh_trust.proofs.AuditLemmas.{parts-add, parts-all}
 use Rattle.ssh_trust.proofs.pieces.Pieces.take.Goals as goal
@@ -10,14 +11,14 @@ loop-taken-init g c = (
   omega arith,
   refl,
   λ h. h,
-  λ first bytes h. subst (λ s. HasRead g.T.Search.found first c.args.self.now s) (sym (append-nil bytes)) h,
+  λ claim bytes h. subst (λ s. HasRead (HasFound g.T.Sought.claimed g.T.Sought.nothing g.T.Sought.add claim) c.args.self.now s) (sym (append-nil bytes)) h,
 )
 
 pub returns-then-not-ready-clause-read : goal.returns-then-not-ready-clause-read
-returns-then-not-ready-clause-read g c first bytes h =
+returns-then-not-ready-clause-read g c claim bytes h =
     let fed = c.in_ok-taken.ensures in
     let rest = c.split_at.ensures.back in
-    let read = fed.read first _ (c.loop-taken.invariant.4 first bytes h) in
+    let read = fed.read claim _ (c.loop-taken.invariant.4 claim bytes h) in
     rw (parts-all bytes c.args.piece.now c.loop-taken.done c.in_ok-taken.taken (fed.all c.if-not-ready.true ∙ ap (λ s. length s) rest), ← rest) read
 
 pub loop-taken-preserved : goal.loop-taken-preserved
@@ -34,6 +35,6 @@ loop-taken-preserved g c =
       omega arith,
       fed.failed ∙ c.loop-taken.invariant.2,
       λ h. fed.bounded (c.loop-taken.invariant.3 h),
-      λ first bytes h.
-          rw (parts-add bytes c.args.piece.now c.loop-taken.done c.in_ok-taken.taken, ← rest) (fed.read first _ (c.loop-taken.invariant.4 first bytes h)),
+      λ claim bytes h.
+          rw (parts-add bytes c.args.piece.now c.loop-taken.done c.in_ok-taken.taken, ← rest) (fed.read claim _ (c.loop-taken.invariant.4 claim bytes h)),
     )

@@ -1,0 +1,87 @@
+-- What is answered to a file signature, over the files of a source.
+use Rattle.std.specs.Prelude.{◌≡◌, ◌⊎◌, ℕ, List, Option, Some, None, Result, Ok, Err}
+use Rattle.ssh_offers.specs.declared.error.AuditError.{AuditError}
+use Rattle.ssh_offers.specs.declared.query.Signed.{Signed}
+use Rattle.ssh_offers.specs.FileSignature.{sshsig_claim}
+use Rattle.ssh_trust.specs.declared.sshsig_answer.SshsigAnswer.{SshsigAnswer}
+use Rattle.ssh_trust.specs.SshsigAnswer.{sshsig_answer}
+use Rattle.ssh_command.specs.Audits.{IsFileFault, IsVouchReadFault, after_vouching, vouched_in}
+use Rattle.clap.specs.Words.{Row}
+use Rattle.ssh_wire.specs.Reading.{◌>>=◌}
+use Rattle.ssh_command.specs.declared.options.OptionName.TheVariants as option
+use Rattle.ssh_command.specs.Asked.{SshsigQuestion}
+use Rattle.ssh_command.specs.Spelling.{RespondsTo, given, needed}
+use Rattle.ssh_inputs.specs.SourceState.{SourceState, bytes_at}
+use Rattle.ssh_inputs.specs.Parts.{after_whole}
+use Rattle.ssh_inputs.specs.Loading.{NoReadFailed, within_limit}
+use Rattle.ssh_print.specs.Responses.{Response, no_file_response}
+use Rattle.ssh_print.specs.SshsigText.{sshsig_response}
+
+-- ---- bytes
+
+-- the answer by a claim, which may be refused
+abbrev pub claim_answer : {C : Type 0} → (C → SshsigAnswer) → Result C AuditError → Result SshsigAnswer AuditError
+claim_answer answer (Err e) = Err e
+claim_answer answer (Ok v) = Ok (answer v)
+
+-- what is answered to a body and a message
+abbrev pub bytes_answer : SshsigQuestion → List Signed → List ℕ → List ℕ → Result SshsigAnswer AuditError
+bytes_answer w vouched body message = claim_answer (λ v. sshsig_answer v message w.namespace vouched) (sshsig_claim body)
+
+-- ---- files: the vouch file first, then the body's, then the message's
+
+abbrev pub message_over : SshsigQuestion → List Signed → List ℕ → Option (List ℕ) → Response
+message_over w vouched body None = no_file_response w.message
+message_over w vouched body (Some message) = sshsig_response (bytes_answer w vouched body message)
+
+-- the answer after the body was read
+abbrev pub message_response : SshsigQuestion → List Signed → List ℕ → SourceState → Response
+message_response w vouched body s = message_over w vouched body (within_limit (bytes_at s w.message))
+
+abbrev pub body_over : SshsigQuestion → List Signed → SourceState → Option (List ℕ) → Response
+body_over w vouched s None = no_file_response w.body
+body_over w vouched s (Some body) = message_response w vouched body (after_whole s w.body)
+
+-- the answer after the vouch file was read
+abbrev pub body_response : SshsigQuestion → List Signed → SourceState → Response
+body_response w vouched s = body_over w vouched s (within_limit (bytes_at s w.body))
+
+abbrev pub vouched_over : SshsigQuestion → SourceState → Result (List Signed) Response → Response
+vouched_over w s (Err r) = r
+vouched_over w s (Ok vouched) = body_response w vouched s
+
+-- the answer where the vouch file, if there is one, has this name
+abbrev pub signature_over : SshsigQuestion → Option (List ℕ) → SourceState → Response
+signature_over w vouch s = vouched_over w (after_vouching vouch s) (vouched_in vouch s)
+
+abbrev pub signature_response : SshsigQuestion → SourceState → Response
+signature_response w s = signature_over w w.vouch s
+
+-- ---- failed reads
+
+-- the body's read failed; or, after it gave its bytes, the message's did
+abbrev pub IsContentFault : SshsigQuestion → SourceState → Option SourceState → Response → Type 0
+IsContentFault w s t r = IsFileFault w.body s t r
+    ⊎ ((body : List ℕ) × (within_limit (bytes_at s w.body) ≡ Some body) × IsFileFault w.message (after_whole s w.body) t r)
+
+-- the vouch file's read failed; or, after it told its signatures, one of the others
+abbrev pub IsSignatureFault : SshsigQuestion → SourceState → Option SourceState → Response → Type 0
+IsSignatureFault w s t r = IsVouchReadFault w.vouch s t r
+    ⊎ ((vouched : List Signed) × (vouched_in w.vouch s ≡ Ok vouched) × IsContentFault w (after_vouching w.vouch s) t r)
+
+-- the response is the answer, and no read failed; or one failed, and it is the fault of the file that was read
+abbrev pub Signs : SshsigQuestion → SourceState → Option SourceState → Response → Type 0
+Signs w s t r = (NoReadFailed s t × (r ≡ signature_response w s)) ⊎ IsSignatureFault w s t r
+
+-- ---- words
+
+-- the question that the options spell
+abbrev pub sshsig_question : List Row → Result SshsigQuestion Response
+sshsig_question rows = do
+  body ← needed option.Body rows
+  message ← needed option.Message rows
+  namespace ← needed option.Namespace rows
+  Ok (record { body = body; message = message; namespace = namespace; vouch = given option.Vouch rows })
+
+abbrev pub RespondsToSshsig : List Row → SourceState → Option SourceState → Response → Type 0
+RespondsToSshsig rows = RespondsTo Signs (sshsig_question rows)

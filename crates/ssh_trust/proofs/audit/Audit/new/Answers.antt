@@ -1,0 +1,11 @@
+use Rattle.ssh_trust.specs.Findings.{HasFound}
+use Rattle.ssh_trust.proofs.AnswerLemmas.{of-claim}
+use Rattle.ssh_trust.proofs.AuditLemmas.{stands-new}
+use Rattle.ssh_trust.proofs.audit.Audit.new.Goals as goal
+
+pub returns-clause-made : goal.returns-clause-made
+returns-clause-made g c =
+    of-claim (g.T.Sought.claim c.args.query.now) _
+    (λ claim is.
+    stands-new (HasFound g.T.Sought.claimed g.T.Sought.nothing g.T.Sought.add claim) c.new-2.result
+    (c.new-2.ensures.read claim (rw is at c.in_ok-search.ensures.made)) c.new-2.ensures.sound)

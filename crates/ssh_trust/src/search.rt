@@ -1,0 +1,90 @@
+//! A search of the lines of a trust file, whatever is sought.
+
+ghost use Rattle.std.specs.Prelude.{
+  ◌≡◌,
+  ◌<◌,
+  ◌++◌,
+  ◌∷◌,
+  [],
+  ℕ,
+  List,
+  Err,
+  IfOk,
+  OnOk,
+  OnErr,
+};
+ghost use Rattle.std.specs.List.{AllByRecursion};
+ghost use Rattle.ssh_offers.specs.declared.error.AuditError.TheVariants.{Memory, Read};
+ghost use Rattle.ssh_text.specs.Text.{lines_of, numbered};
+ghost use Rattle.ssh_trust.specs.Answer.{OfClaim, RefusesAs};
+ghost use Rattle.ssh_trust.specs.FileLines.{IsText};
+ghost use Rattle.ssh_trust.specs.Findings.{HasFound, IsKept};
+
+use crate::decision::Decision;
+use crate::sought::Sought;
+use ssh_lines::KeyBuffer;
+use ssh_offers::{AuditError, Signed};
+use ssh_text::Line;
+use std::alloc::{AllocError, Global};
+
+/// What is sought, what the lines so far say to it, and the buffer for their keys.
+#[derive(Drop)]
+pub(crate) struct Search<T, S> {
+    alloc: Global,
+    sought: T,
+    buffer: KeyBuffer,
+    said: S,
+}
+
+impl<T: Sought<Said = S> + Drop, S: Drop> Search<T, S> {
+    /// No line yet.
+    pub(crate) fn new(alloc: Global, query: &T::Query) -> Result<Search<T, S>, AuditError>
+        requires can_ask { T.can_ask query.now }
+        ensures refused { RefusesAs (T.claim query.entry.now) result }
+        ensures made { OfClaim (T.claim query.entry.now)
+            (λ claim. IfOk result (HasFound T.claimed T.nothing T.add claim [])) }
+        ensures else_memory { OfClaim (T.claim query.entry.now)
+            (λ claim. OnErr result (result ≡ Err Memory)) }
+        ensures bounded { IfOk result (IsKept T.reasons) }
+        ensures unread { result ≡ Err Read → ⊥ }
+    {
+        let sought = T::read(alloc, query)?;
+        let buffer = KeyBuffer::new(alloc)?;
+        let said = sought.silence(alloc);
+        Ok(Search {
+            alloc,
+            sought,
+            buffer,
+            said,
+        })
+    }
+
+    /// Takes the next line, which has this number. Out of memory, what is kept is worth nothing.
+    pub(crate) fn take_line(&mut self, number: u64, line: Line<'_>) -> Result<(), AllocError>
+        ensures found { OnOk result ((text : List ℕ)
+            → IsText line.entry text
+            → (claim : T.Claim) (lines : List (ℕ × List ℕ))
+            → HasFound T.claimed T.nothing T.add claim lines self.old
+            → HasFound T.claimed T.nothing T.add claim (lines ++ (number, text) ∷ []) self.new) }
+        ensures bounded { IsKept T.reasons self.old → IsKept T.reasons self.new }
+    {
+        self.sought
+            .take_line(self.alloc, number, line, &mut self.buffer, &mut self.said)?;
+        Ok(())
+    }
+
+    /// The decision by what all lines say.
+    pub(crate) fn decide(self, vouched: &[Signed]) -> Result<Decision, AllocError>
+        ensures decided { IfOk result (λ decision. (claim : T.Claim) (file : List ℕ)
+            → HasFound T.claimed T.nothing T.add claim (numbered 1 (lines_of file)) self
+            → decision ≡ T.decision file claim vouched.now) }
+        ensures means { IfOk result (λ decision. (claim : T.Claim) (file : List ℕ)
+            → HasFound T.claimed T.nothing T.add claim (numbered 1 (lines_of file)) self
+            → AllByRecursion (λ c. c < 256) file
+            → T.means file claim vouched.now decision) }
+    {
+        let said = self.said;
+        let decision = self.sought.decide(self.alloc, said, vouched)?;
+        Ok(decision)
+    }
+}
