@@ -1,7 +1,7 @@
 -- From what the files give to what is answered to a question.
 use Rattle.std.proofs.Common.{◌≡◌, ◌∙◌, ℕ, List, [], Option, Some, None, Result, Ok, Err, refl, sym, ap, subst, inl, inr, arith}
 use Rattle.std.specs.Prelude.{IfOk}
-use Rattle.ssh_inputs.specs.SourceState.{IfTells, SourceState, bytes_at}
+use Rattle.ssh_inputs.specs.SourceState.{IfTells, SourceState}
 use Rattle.ssh_inputs.specs.Parts.{after_part, part_at}
 use Rattle.ssh_inputs.specs.Loading.{FailsLoad, IsLeft, within_limit}
 use Rattle.ssh_inputs.specs.VouchFile.{vouched_of}

@@ -1,6 +1,5 @@
 -- A printed signature is read back from a vouch file.
-use Rattle.std.proofs.Common.{◌≡◌, ◌≢◌, ◌∙◌, ◌+◌, ◌*◌, ◌/◌, ◌%◌, ◌≤◌, ◌<◌, ◌++◌, not, cond, eqb, ltb, ℕ, zero, suc, Bool, true, false, List, [], ◌∷◌, length, map, take, drop, Option, Some, None, Ok, ap, subst, sym, refl, inl, inr, arith, codes}
-use Rattle.std.specs.Prelude.{option_and_then}
+use Rattle.std.proofs.Common.{◌≡◌, ◌≢◌, ◌∙◌, ◌+◌, ◌*◌, ◌/◌, ◌%◌, ◌≤◌, ◌<◌, ◌++◌, cond, eqb, ℕ, zero, suc, Bool, true, false, List, [], ◌∷◌, length, map, Some, Ok, ap, subst, sym, refl, inl, inr, arith, codes}
 use Rattle.std.specs.List.{AllByRecursion, flat_map, position_or_len}
 use Rattle.std.specs.Fmt.{decimal}
 use Rattle.std.specs.Str.{bytes_eq}
@@ -11,12 +10,12 @@ use Rattle.std.proofs.lemmas.Bool.{cases_Bool, lt-ltb, ne_eqb}
 use Rattle.std.proofs.lemmas.List.{append_assoc, append-nil, length-append}
 use Rattle.std.proofs.lemmas.Slice.Eq.{bytes_eq-Decides}
 use Rattle.ssh_text.proofs.LineLemmas.{lines_of-only}
-use Rattle.ssh_text.specs.Text.{AreLines, lines_of}
+use Rattle.ssh_text.specs.Text.{AreLines}
 use Rattle.ssh_offers.specs.declared.query.Signed.{Signed}
 use Rattle.ssh_print.specs.DecisionText.{evidence_line}
 use Rattle.ssh_print.specs.Texts.{hex_digit, hex_pair, hex_text}
-use Rattle.ssh_inputs.specs.Values.{hex_bytes, hex_value, pair_value, pair_values, prepend}
-use Rattle.ssh_inputs.specs.VouchFile.{cut_at_space, has_space, is_skipped, signed_of, three_fields, triple_of, vouched_from, vouched_of, with_signed}
+use Rattle.ssh_inputs.specs.Values.{hex_bytes, hex_value, pair_values, prepend}
+use Rattle.ssh_inputs.specs.VouchFile.{cut_at_space, has_space, is_skipped, three_fields, triple_of, vouched_from, vouched_of}
 use Rattle.ssh_inputs.specs.Words.{is_space}
 use Rattle.ssh_command.specs.VouchLines.{HasBytes, vouch_file, vouch_line}
 

@@ -1,7 +1,5 @@
 -- An answer with status 0 is a grant.
-use Rattle.std.proofs.Common.{◌≡◌, ◌∙◌, ◌<◌, cond, ℕ, Bool, true, false, List, length, Option, Some, None, Result, Ok, Err, ap, subst, sym, refl, arith, nat_lt}
-use Rattle.ssh_lines.specs.AuthEntry.{AuthEntry}
-use Rattle.ssh_lines.specs.KnownEntry.{KnownEntry}
+use Rattle.std.proofs.Common.{◌≡◌, ◌∙◌, cond, ℕ, Bool, true, false, List, length, Option, Some, None, Result, Ok, Err, ap, subst, sym, refl, arith, nat_lt}
 use Rattle.ssh_offers.specs.declared.error.AuditError.{AuditError}
 use Rattle.ssh_offers.specs.declared.error.AuditError.TheVariants.{FileTooLong}
 use Rattle.ssh_offers.specs.declared.query.Signed.{Signed}
@@ -22,7 +20,7 @@ use Rattle.ssh_inputs.specs.Parts.{part_at}
 use Rattle.ssh_inputs.specs.SourceState.{SourceState, bytes_at}
 use Rattle.ssh_inputs.specs.VouchFile.{vouched_of}
 use Rattle.ssh_command.specs.Asked.{AuditFiles}
-use Rattle.ssh_command.specs.Audits.{Deciding, after_vouching, audit_response, decided_by, decided_response, host_by, login_by, or_vouch_fault, vouched_in, vouched_or_fault, vouched_response}
+use Rattle.ssh_command.specs.Audits.{after_vouching, audit_response, decided_by, decided_response, host_by, login_by, or_vouch_fault, vouched_in, vouched_or_fault, vouched_response}
 use Rattle.ssh_command.specs.Granting.{HostGranted, IsOfBytes, LoginGranted}
 
 -- ---- faults have the status 2

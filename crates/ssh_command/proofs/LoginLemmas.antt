@@ -10,7 +10,6 @@ use Rattle.ssh_offers.specs.Query.{Login}
 use Rattle.ssh_inputs.specs.SourceState.{IfTells, SourceState}
 use Rattle.ssh_inputs.specs.Values.{ReadsZone, hex_bytes, number_below, short_bytes, short_hex, zone_text}
 use Rattle.ssh_print.specs.declared.response.Response.{Response as Printed}
-use Rattle.ssh_print.specs.ResponseView.{response}
 use Rattle.ssh_print.specs.Responses.{Response as Shown}
 use Rattle.ssh_command.specs.declared.error.CommandError.{CommandError}
 use Rattle.ssh_command.specs.declared.error.CommandError.TheVariants.{Usage, Value, Memory}

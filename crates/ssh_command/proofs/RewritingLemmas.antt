@@ -1,5 +1,5 @@
 -- From what the file gives to what is answered to its being written anew.
-use Rattle.std.proofs.Common.{◌≡◌, ◌∙◌, ◌<◌, ℕ, Bool, true, false, cond, List, length, Option, Some, None, Result, Ok, Err, refl, sym, ap, inl, inr, nat_lt}
+use Rattle.std.proofs.Common.{◌≡◌, ◌∙◌, ℕ, Bool, true, false, cond, List, length, Option, Some, None, Result, Ok, Err, refl, sym, ap, inl, inr, nat_lt}
 use Rattle.std.specs.Prelude.{IfOk}
 use Rattle.std.proofs.lemmas.Bool.{lt-ltb}
 use Rattle.ssh_inputs.specs.SourceState.{IfTells, SourceState, bytes_at}
@@ -11,7 +11,7 @@ use Rattle.ssh_offers.specs.declared.error.AuditError.TheVariants.{FileTooLong}
 use Rattle.ssh_print.specs.Responses.{Response as Shown, refused_response}
 use Rattle.ssh_text.specs.Text.{file_limit}
 use Rattle.ssh_command.specs.declared.rewriting.RewriteKind.{RewriteKind}
-use Rattle.ssh_command.specs.Rewritings.{IsTrustFault, Rewrites, RewritesFile, canonical_file, new_file, new_response, rewrite_over}
+use Rattle.ssh_command.specs.Rewritings.{IsTrustFault, Rewrites, RewritesFile, new_file, new_response, rewrite_over}
 use Rattle.ssh_command.proofs.SourceLemmas.{Alike, file-alike, left-none, none-failed, one-failed}
 
 pub rewrites-same : (kind : RewriteKind) (name : List ℕ) (a b : SourceState) (u : Option SourceState) (r : Shown) → Alike a b
