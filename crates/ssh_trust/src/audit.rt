@@ -34,7 +34,7 @@ use crate::login_scan::Candidate;
 use crate::pieces::Pieces;
 use crate::scan::Scan;
 use crate::search::Search;
-use crate::sought::Sought;
+use crate::sought::{Listing, Sought};
 use crate::source::Source;
 use ssh_offers::{AuditError, LoginClaimView, Signed};
 use ssh_rules::SoughtHost;
@@ -55,19 +55,22 @@ pub type HostAudit<'a> = Audit<SoughtHost<'a>, HostScan>;
 /// Answers a query by a trust file that comes in pieces: `LoginAudit` or `HostAudit`. It has what is
 /// sought and what the lines say to it.
 #[derive(Drop)]
-pub struct Audit<T, S> {
+pub struct Audit<T, S: Listing> {
     pieces: Pieces<T, S>,
 }
 
-impl<T, S> Model for Audit<T, S> {
+impl<T, S: Listing> Model for Audit<T, S> {
     ghost use Rattle.ssh_trust.specs.declared.pieces.Pieces.{Pieces};
+    ghost use Rattle.ssh_trust.specs.Audit.{IsBounded};
 
     ghost Value = { Pieces T S };
 
     ghost view = { λ s. s.pieces };
+
+    ghost invariant = { λ s. IsBounded S.reasons s.pieces };
 }
 
-impl<T: Sought<Said = S> + Drop, S: Drop> Audit<T, S> {
+impl<T: Sought<Said = S> + Drop, S: Listing + Drop> Audit<T, S> {
     /// An audit that took no piece. An offer is refused by `A1` to `A6`, that of a host by `A1` to
     /// `A5`, before any memory is taken, and out of memory is `A8`. The session and the user of a
     /// login have fewer than 2^32 bytes each.
@@ -82,7 +85,7 @@ impl<T: Sought<Said = S> + Drop, S: Drop> Audit<T, S> {
         ensures else_memory { OfClaim (T.claim query.entry.now)
             (λ claim. OnErr result (result ≡ Err Memory)) }
         // It keeps no more than it may.
-        ensures bounded { IfOk result (IsBounded T.reasons) }
+        ensures bounded { IfOk result (IsBounded S.reasons) }
         // Nothing is read.
         ensures unread { result ≡ Err Read → ⊥ }
     {
@@ -112,8 +115,8 @@ impl<T: Sought<Said = S> + Drop, S: Drop> Audit<T, S> {
             → OnErr result (result ≡ Err Memory) }
         // A refusal is for ever.
         ensures left { OnErr result (self.new.failed ≡ true) }
-        // An audit that keeps no more than it may goes on so.
-        ensures bounded { IsBounded T.reasons self.old → IsBounded T.reasons self.new }
+        // The audit keeps no more than it may.
+        ensures bounded { IsBounded S.reasons self.new }
     {
         self.pieces.feed(piece)?;
         Ok(())
@@ -132,8 +135,8 @@ impl<T: Sought<Said = S> + Drop, S: Drop> Audit<T, S> {
             (R.left reader.old) (R.left reader.new) (length bytes) result }
         // A refusal is for ever.
         ensures left { OnErr result (self.new.failed ≡ true) }
-        // An audit that keeps no more than it may goes on so.
-        ensures bounded { IsBounded T.reasons self.old → IsBounded T.reasons self.new }
+        // The audit keeps no more than it may.
+        ensures bounded { IsBounded S.reasons self.new }
     {
         self.pieces.feed_from(reader)
     }

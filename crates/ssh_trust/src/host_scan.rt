@@ -13,7 +13,7 @@ ghost use Rattle.ssh_trust.specs.HostScan.{empty_host_scan, first_so_far, host_s
 use crate::decision::Decision;
 use crate::host_decide::decide_host;
 use crate::scan::Scan;
-use crate::sought::Sought;
+use crate::sought::{Listing, Sought};
 use ssh_lines::{KeyBuffer, KnownEntryView, KnownLineView, read_known_view};
 use ssh_offers::{AuditError, HostClaimView, HostQuery, Signed, host_evidence};
 use ssh_rules::{LineVerdict, SoughtHost, host_verdict, may_revoke};
@@ -30,6 +30,10 @@ pub struct HostScan {
     pub(crate) revoked: Option<u64>,
     /// The first line that may revoke any key.
     pub(crate) blind: Option<u64>,
+}
+
+impl Listing for HostScan {
+    ghost reasons = { λ s. s.admission.reasons };
 }
 
 /// The first number so far, after one more line.
@@ -72,8 +76,6 @@ impl<'a> Sought for SoughtHost<'a> {
     ghost nothing = { empty_host_scan };
 
     ghost add = { host_scan_line };
-
-    ghost reasons = { λ s. s.admission.reasons };
 
     ghost decision = { host_decision };
 

@@ -88,8 +88,6 @@ impl<'a> Sought for LoginClaimView<'a> {
 
     ghost add = { login_scan_line };
 
-    ghost reasons = { λ s. s.reasons };
-
     ghost decision = { login_decision };
 
     ghost means = { LoginMeans };

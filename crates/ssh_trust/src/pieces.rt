@@ -33,7 +33,7 @@ ghost use Rattle.ssh_trust.specs.Findings.{HasFound, IsKept};
 ghost use Rattle.ssh_trust.specs.Reads.{IsFedBy};
 
 use crate::search::Search;
-use crate::sought::Sought;
+use crate::sought::{Listing, Sought};
 use crate::source::{PIECE_SIZE, Source};
 use ssh_offers::AuditError;
 use ssh_text::{FILE_LIMIT, Line, Scanner};
@@ -49,7 +49,7 @@ pub(crate) struct Pieces<T, S> {
     pub(crate) failed: bool,
 }
 
-impl<T: Sought<Said = S> + Drop, S: Drop> Pieces<T, S> {
+impl<T: Sought<Said = S> + Drop, S: Listing + Drop> Pieces<T, S> {
     /// No piece yet.
     pub(crate) fn new(alloc: Global, search: Search<T, S>) -> Pieces<T, S>
         ensures read { (claim : T.Claim)
@@ -78,7 +78,7 @@ impl<T: Sought<Said = S> + Drop, S: Drop> Pieces<T, S> {
         ensures some { IfOk result (λ fed. fed.1 ≡ true → 0 < fed.0) }
         ensures all { IfOk result (λ fed. fed.1 ≡ false → fed.0 ≡ length rest.now) }
         ensures failed { self.new.failed ≡ self.old.failed }
-        ensures bounded { IsKept T.reasons self.old.search → IsKept T.reasons self.new.search }
+        ensures bounded { IsKept S.reasons self.old.search → IsKept S.reasons self.new.search }
         ensures line { length self.new.scanner.kept.bytes ≤ line_limit }
     {
         if let Some((number, text)) = self.scanner.whole_line(rest) {
@@ -102,7 +102,7 @@ impl<T: Sought<Said = S> + Drop, S: Drop> Pieces<T, S> {
         ensures used { OnOk result
             (self.new.scanner.used ≡ self.old.scanner.used + length piece.now) }
         ensures failed { self.new.failed ≡ self.old.failed }
-        ensures bounded { IsKept T.reasons self.old.search → IsKept T.reasons self.new.search }
+        ensures bounded { IsKept S.reasons self.old.search → IsKept S.reasons self.new.search }
         ensures line { length self.new.scanner.kept.bytes ≤ line_limit }
     {
         let mut done = 0;
@@ -135,7 +135,7 @@ impl<T: Sought<Said = S> + Drop, S: Drop> Pieces<T, S> {
         ensures else_memory { self.old.failed ≡ false
             → self.old.scanner.used + length piece.now ≤ file_limit
             → OnErr result (result ≡ Err Memory) }
-        ensures bounded { IsKept T.reasons self.old.search → IsKept T.reasons self.new.search }
+        ensures bounded { IsKept S.reasons self.old.search → IsKept S.reasons self.new.search }
         ensures line { length self.old.scanner.kept.bytes ≤ line_limit
             → length self.new.scanner.kept.bytes ≤ line_limit }
     {
@@ -166,7 +166,7 @@ impl<T: Sought<Said = S> + Drop, S: Drop> Pieces<T, S> {
             → IsFedBy (λ given. HasTaken (HasFound T.claimed T.nothing T.add claim) self.new (bytes ++ given))
             (R.left reader.old) (R.left reader.new) (length bytes) result }
         ensures left { OnErr result (self.new.failed ≡ true) }
-        ensures bounded { IsKept T.reasons self.old.search → IsKept T.reasons self.new.search }
+        ensures bounded { IsKept S.reasons self.old.search → IsKept S.reasons self.new.search }
         ensures line { length self.old.scanner.kept.bytes ≤ line_limit
             → length self.new.scanner.kept.bytes ≤ line_limit }
     {

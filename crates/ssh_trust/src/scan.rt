@@ -4,6 +4,7 @@ ghost use Rattle.std.specs.Prelude.{◌≡◌, ◌≤◌, length, OnOk};
 ghost use Rattle.ssh_trust.specs.Candidate.{reason_limit};
 ghost use Rattle.ssh_trust.specs.Scan.{empty_scan, listed_with};
 
+use crate::sought::Listing;
 use ssh_offers::Items;
 use ssh_rules::Reason;
 use std::alloc::{AllocError, Global};
@@ -17,6 +18,10 @@ pub const REASON_LIMIT: usize = 100;
 pub struct Scan<C> {
     pub(crate) candidate: Option<C>,
     pub(crate) reasons: Items<(u64, Reason)>,
+}
+
+impl<C> Listing for Scan<C> {
+    ghost reasons = { λ s. s.reasons };
 }
 
 impl<C> Scan<C> {

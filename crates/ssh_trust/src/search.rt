@@ -21,7 +21,7 @@ ghost use Rattle.ssh_trust.specs.FileLines.{IsText};
 ghost use Rattle.ssh_trust.specs.Findings.{HasFound, IsKept};
 
 use crate::decision::Decision;
-use crate::sought::Sought;
+use crate::sought::{Listing, Sought};
 use ssh_lines::KeyBuffer;
 use ssh_offers::{AuditError, Signed};
 use ssh_text::Line;
@@ -36,7 +36,7 @@ pub(crate) struct Search<T, S> {
     said: S,
 }
 
-impl<T: Sought<Said = S> + Drop, S: Drop> Search<T, S> {
+impl<T: Sought<Said = S> + Drop, S: Listing + Drop> Search<T, S> {
     /// No line yet.
     pub(crate) fn new(alloc: Global, query: &T::Query) -> Result<Search<T, S>, AuditError>
         requires can_ask { T.can_ask query.now }
@@ -45,7 +45,7 @@ impl<T: Sought<Said = S> + Drop, S: Drop> Search<T, S> {
             (λ claim. IfOk result (HasFound T.claimed T.nothing T.add claim [])) }
         ensures else_memory { OfClaim (T.claim query.entry.now)
             (λ claim. OnErr result (result ≡ Err Memory)) }
-        ensures bounded { IfOk result (IsKept T.reasons) }
+        ensures bounded { IfOk result (IsKept S.reasons) }
         ensures unread { result ≡ Err Read → ⊥ }
     {
         let sought = T::read(alloc, query)?;
@@ -66,7 +66,7 @@ impl<T: Sought<Said = S> + Drop, S: Drop> Search<T, S> {
             → (claim : T.Claim) (lines : List (ℕ × List ℕ))
             → HasFound T.claimed T.nothing T.add claim lines self.old
             → HasFound T.claimed T.nothing T.add claim (lines ++ (number, text) ∷ []) self.new) }
-        ensures bounded { IsKept T.reasons self.old → IsKept T.reasons self.new }
+        ensures bounded { IsKept S.reasons self.old → IsKept S.reasons self.new }
     {
         self.sought
             .take_line(self.alloc, number, line, &mut self.buffer, &mut self.said)?;

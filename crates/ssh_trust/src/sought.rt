@@ -32,13 +32,19 @@ use ssh_offers::{AuditError, Signed};
 use ssh_text::Line;
 use std::alloc::{AllocError, Global};
 
+/// What the lines so far say to what is sought.
+pub trait Listing {
+    /// The reasons that it lists.
+    ghost reasons: { Self → List (ℕ × Reason) };
+}
+
 /// What is sought in a kind of trust file.
 pub trait Sought {
     /// What is asked.
     type Query;
 
     /// What the lines so far say to it.
-    type Said: Drop;
+    type Said: Listing + Drop;
 
     /// What is claimed, where the offer is not refused.
     ghost Claim: { Type 0 };
@@ -57,9 +63,6 @@ pub trait Sought {
 
     /// What is said with one more numbered line.
     ghost add: { Claim → Self.Said → ℕ × List ℕ → Self.Said };
-
-    /// The reasons that are listed.
-    ghost reasons: { Self.Said → List (ℕ × Reason) };
 
     /// What a file decides of a claim, where these signatures are vouched for.
     ghost decision: { List ℕ → Claim → List SignedValue → DecisionValue };
@@ -80,7 +83,7 @@ pub trait Sought {
     /// What no line says.
     fn silence(&self, alloc: Global) -> Self::Said
         ensures value { result ≡ nothing }
-        ensures few { length (reasons result) ≤ reason_limit };
+        ensures few { length (Self.Said.reasons result) ≤ reason_limit };
 
     /// Takes the next line of the file, which has this number. Out of memory, what is said is worth
     /// nothing.
@@ -95,8 +98,8 @@ pub trait Sought {
         ensures value { OnOk result ((text : List ℕ)
             → IsText line.entry text
             → said.new ≡ add (claimed self.now) said.old (number, text)) }
-        ensures few { length (reasons said.old) ≤ reason_limit
-            → length (reasons said.new) ≤ reason_limit };
+        ensures few { length (Self.Said.reasons said.old) ≤ reason_limit
+            → length (Self.Said.reasons said.new) ≤ reason_limit };
 
     /// The decision by what all lines say.
     fn decide(
