@@ -1,8 +1,8 @@
 #!/usr/bin/env python3
 """Reads each row below by `read_auth_line` or `read_known_line`, and writes files anew by `rewrite_auth` or
-`rewrite_known`, with each growth of memory refused in turn. Each call has to tell out of memory or give the row's own
-answer: a line that has an entry never becomes unreadable, no revocation is lost, and nothing is handed back of a file
-that was written in part. Run it as
+`rewrite_known`, or with their names hidden by `hash_known`, with each growth of memory refused in turn. Each call has
+to tell out of memory or give the row's own answer: a line that has an entry never becomes unreadable, no revocation is
+lost, and nothing is handed back of a file that was written in part. Run it as
 
     python3 checks/refused_lines.py
 
@@ -76,6 +76,15 @@ FILES = [
     ("rewrite_known", f"@revoked  h ssh-ed25519 {KEY}\n", f"@revoked  h ssh-ed25519 {KEY}\n"),
 ]
 
+# Files, each with what is written where its names are hidden by the salts of bytes 01 and 02.
+A_FIRST = "|1|AQEBAQEBAQEBAQEBAQEBAQEBAQE=|iAn0Cdcbw7KbaLXPluOAm015HYA="
+B_SECOND = "|1|AgICAgICAgICAgICAgICAgICAgI=|7eKGHxN8qvDwgTeWkb1qlvlT9oI="
+HIDDEN_FILES = [
+    (f"A,b  ssh-ed25519 {KEY} c", f"{A_FIRST} ssh-ed25519 {KEY} c\n{B_SECOND} ssh-ed25519 {KEY} c\n"),
+    (f"*.a  ssh-ed25519 {KEY}", f"*.a  ssh-ed25519 {KEY}\n"),
+]
+SALTS = "&[[1; 20], [2; 20]]"
+
 HEAD = """use ssh_lines::{AuthLine, KeyBuffer, KnownLine, Marker, read_auth_line, read_known_line};
 use ssh_names::names_host;
 use ssh_options::LineCause;
@@ -109,7 +118,7 @@ fn row_%d(rt: HostRuntime) -> Result<(), Fail> {
 }
 """
 
-FILES_HEAD = """use ssh_rewriting::{rewrite_auth, rewrite_known};
+FILES_HEAD = """use ssh_rewriting::{hash_known, rewrite_auth, rewrite_known};
 use std::test::Fail;
 """
 
@@ -148,7 +157,9 @@ def tests():
 
 
 def file_tests():
-    rows = [FILE_ROW % (number, call, literal(old), literal(new)) for number, (call, old, new) in enumerate(FILES, 1)]
+    files = [(call, literal(old), new) for call, old, new in FILES]
+    files += [("hash_known", f"{literal(old)}, {SALTS}", new) for old, new in HIDDEN_FILES]
+    rows = [FILE_ROW % (number, call, arguments, literal(new)) for number, (call, arguments, new) in enumerate(files, 1)]
     return FILES_HEAD + "".join(rows), len(rows)
 
 

@@ -1,7 +1,7 @@
 //! Worked rows of what the lines of trust files are made of: patterns and addresses, words, names,
-//! options and expiry times, whole lines, their canonical form, and files that are rewritten. There
-//! is nothing here but tests; they stand apart from what they call, so that they are proved beside
-//! it.
+//! options and expiry times, whole lines, their canonical form, and files that are rewritten or
+//! whose names are hidden. There is nothing here but tests; they stand apart from what they call, so
+//! that they are proved beside it.
 #![tactic(auto)]
 
 #[cfg(test)]
@@ -10,6 +10,8 @@ mod canonical_tests;
 mod compare;
 #[cfg(test)]
 mod expiry_tests;
+#[cfg(test)]
+mod hashing_tests;
 #[cfg(test)]
 mod known_line_tests;
 #[cfg(test)]

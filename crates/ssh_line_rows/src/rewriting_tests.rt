@@ -10,7 +10,7 @@ use std::test::Fail;
 const KEY: &[u8] = b"AAAAC3NzaC1lZDI1NTE5AAAAIAAAAAAAAAAAAAAAAAAAAAAAAAAAAAAAAAAAAAAAAAAA";
 
 /// The text with the key in place of each `%`.
-fn with_keys(alloc: Global, text: &[u8]) -> Result<Vec<u8>, AllocError> {
+pub(crate) fn with_keys(alloc: Global, text: &[u8]) -> Result<Vec<u8>, AllocError> {
     let mut file = Vec::new(alloc);
     for byte in text {
         if *byte == b'%' {

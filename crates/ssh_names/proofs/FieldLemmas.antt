@@ -26,7 +26,7 @@ use Rattle.ssh_names.proofs.ListLemmas.{empty-from_test, some-from_test, test-fr
 
 -- ---- the 20 bytes of a base64 text
 
-length-base64 : (bytes : List ℕ) → length bytes ≡ 20 → length (base64 bytes) ≡ 28
+pub length-base64 : (bytes : List ℕ) → length bytes ≡ 20 → length (base64 bytes) ≡ 28
 length-base64 bytes count =
     length-append (encode_symbols standard.encode_table bytes) _
     ∙ rw (length-encode_symbols standard.encode_table bytes, count) refl

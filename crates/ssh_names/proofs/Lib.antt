@@ -3,3 +3,4 @@ pub mod DecodedBytes
 pub mod FieldLemmas
 pub mod HmacLemmas
 pub mod ListLemmas
+pub mod HashedLemmas

@@ -18,6 +18,11 @@ pub data Names : Type 0 where
   Patterns : (list : List ℕ) → Names
   Hashed : (salt hash : List ℕ) → Names
 
+-- the list, where the names are one
+abbrev pub list_of : Names → Option (List ℕ)
+list_of (Patterns list) = Some list
+list_of (Hashed salt hash) = None
+
 -- ---- looking up
 
 -- the name that a host and a port are looked up by: the host in lower case for port 22, else `[host]:port`

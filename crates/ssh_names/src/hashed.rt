@@ -18,6 +18,9 @@ use std::alloc::{AllocError, Global};
 /// The symbols of the base64 of 20 bytes.
 const TEXT_LEN: usize = 28;
 
+/// The bytes of the field of a hashed name.
+const FIELD_LEN: usize = 60;
+
 /// The hash of a name, and the salt that it was hashed with.
 #[derive(Clone, Copy, Debug, PartialEq, Eq)]
 pub(crate) struct HashedName {
@@ -89,19 +92,24 @@ fn base64_of(bytes: &[u8; 20]) -> [u8; TEXT_LEN]
 }
 
 /// The names field that hides a name after a salt, as `ssh-keygen -H` writes it: `|1|`, the base64
-/// of the salt, `|`, and the base64 of the name's HMAC-SHA1 under the salt. It has 60 bytes. The
-/// name is taken as it is, so it wants to be one that hosts are looked up by. `Err` means out of
-/// memory.
+/// of the salt, `|`, and the base64 of the name's HMAC-SHA1 under the salt. The name is taken as it
+/// is, so it wants to be one that hosts are looked up by. No memory is taken.
+pub fn hashed_field(salt: &[u8; 20], name: &[u8]) -> [u8; FIELD_LEN]
+    ensures { result ≡ hashed_field salt.now name.now }
+{
+    let mut field = *b"|1|............................|............................";
+    field[3..31].copy_from_slice(&base64_of(salt));
+    field[32..].copy_from_slice(&base64_of(&hmac_sha1(salt, name)));
+    field
+}
+
+/// The same field, of 60 bytes, in a vector. `Err` means out of memory.
 pub fn hash_name(alloc: Global, salt: &[u8; 20], name: &[u8]) -> Result<Vec<u8>, AllocError>
     // The field spells the salt and the hash of the name.
     ensures spelled { IfOk result (λ field. SpellsNames (hidden salt.now name.now) field.items) }
     ensures field { IfOk result (λ field. field.items ≡ hashed_field salt.now name.now) }
     ensures length { IfOk result (λ field. length field.items ≡ 60) }
 {
-    let mut field = Vec::with_capacity(alloc, 60)?;
-    field.extend_from_slice(b"|1|")?;
-    field.extend_from_slice(&base64_of(salt))?;
-    field.push(b'|')?;
-    field.extend_from_slice(&base64_of(&hmac_sha1(salt, name)))?;
+    let field = hashed_field(salt, name).to_vec(alloc)?;
     Ok(field)
 }

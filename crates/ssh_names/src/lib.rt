@@ -23,7 +23,7 @@ mod names;
 mod samples;
 
 pub use error::NamesError;
-pub use hashed::hash_name;
+pub use hashed::{hash_name, hashed_field};
 pub use hmac::hmac_sha1;
 pub use lookup::lookup_name;
 pub use names::{HostNames, names_host, read_names};

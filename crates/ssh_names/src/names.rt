@@ -1,6 +1,6 @@
 //! The names of a known_hosts line, in place.
 
-ghost use Rattle.std.specs.Prelude.{◌≡◌, ◌↔◌, IsTrue, IfErr, IfOk, Ok};
+ghost use Rattle.std.specs.Prelude.{◌≡◌, ◌↔◌, IsTrue, IfErr, IfOk, Ok, option_copied};
 ghost use Rattle.ssh_patterns.specs.Lists.{item_of};
 ghost use Rattle.ssh_patterns.specs.Matching.{is_empty};
 ghost use Rattle.ssh_names.specs.Names.{
@@ -11,6 +11,7 @@ ghost use Rattle.ssh_names.specs.Names.{
   are_same_names,
   begins_with_bar,
   has_empty_item,
+  list_of,
   names_host,
   names_of,
   names_text,
@@ -47,6 +48,16 @@ impl<'a> HostNames<'a> {
         ensures text { result.now ≡ names_text self.now }
     {
         self.text
+    }
+
+    /// The list, where the names are one.
+    pub fn list(&self) -> Option<&'a [u8]>
+        ensures { option_copied result ≡ list_of self.now }
+    {
+        match self.hashed {
+            None => Some(self.text),
+            Some(_) => None,
+        }
     }
 
     /// The same names again.

@@ -25,6 +25,7 @@ mod text;
 pub use address::{Address, parse_address};
 pub use error::PatternError;
 pub use hosts::{host_list, host_list_counted};
+pub use list::first_piece;
 pub use net::{Net, contains, parse_net};
 pub use pattern::{matches, matches_counted};
 pub use permit::Permit;

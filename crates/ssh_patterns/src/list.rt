@@ -60,8 +60,9 @@ pub(crate) trait Asked {
             (λ judged. IsTrue judged.0 → least_turns self.now ≤ judged.1) };
 }
 
-/// The first piece of a list, and what is left of the list after its comma.
-fn first_piece(list: &[u8]) -> (&[u8], Option<&[u8]>)
+/// The first piece of a list, and what is left of the list after its comma, if it has one. No
+/// memory is taken.
+pub fn first_piece(list: &[u8]) -> (&[u8], Option<&[u8]>)
     ensures pieces { pieces list.now ≡ result.0.now ∷ pieces_left (option_copied result.1) }
     ensures shorter { IfSome result.1 (λ left. length left.now < length list.now) }
     ensures lengths { length result.0.now + 1 + length_left (option_copied result.1)

@@ -19,7 +19,7 @@ pub record IsKept {A : Type 0} (read : List ℕ → A) (written : List ℕ → L
 abbrev pub IsGood : List ℕ → Type 0
 IsGood line = HasNoNewline line × AreBytes line
 
-abbrev AreGood : List (List ℕ) → Type 0
+abbrev pub AreGood : List (List ℕ) → Type 0
 AreGood lines = AllByRecursion IsGood lines
 
 abbrev pub KeepsLines : {A : Type 0} → (List ℕ → A) → (List ℕ → List ℕ) → Type 0
@@ -51,7 +51,7 @@ good-lines (line ∷ lines) file (none, inr (last, whole, some)) b =
     let Good : List (List ℕ) → Type 0 = λ ls. AreGood ls in
     ((none, subst AreBytes whole b), subst Good (sym last) tt)
 
-good : (file : List ℕ) → AreBytes file → AreGood (lines_of file)
+pub good : (file : List ℕ) → AreBytes file → AreGood (lines_of file)
 good file b = good-lines (lines_of file) file (lines_of-are file) b
 
 new-lines : {A : Type 0} (read : List ℕ → A) (written : List ℕ → List ℕ) → KeepsLines read written

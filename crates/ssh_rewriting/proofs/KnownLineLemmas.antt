@@ -1,6 +1,8 @@
 -- The canonical line of a known_hosts entry spells it, and is no longer than the line that it comes from.
 use Rattle.std.proofs.Common.{◌≡◌, ℕ, ◌+◌, ◌≤◌, List, [], ◌∷◌, ◌++◌, length, length-append, refl, sym, ap, subst, ◌∙◌, arith, append_assoc}
+use Rattle.ssh_text.specs.Text.{line_limit, HasNoBlank}
 use Rattle.ssh_text.specs.Scan.{HasNoNewline}
+use Rattle.ssh_names.specs.Names.{Names, SpellsNames}
 use Rattle.ssh_lines.specs.declared.marker.Marker.{Marker}
 use Rattle.ssh_lines.specs.declared.marker.Marker.TheVariants as markers
 use Rattle.ssh_lines.specs.KnownEntry.{KnownEntry}
@@ -54,44 +56,62 @@ known-length entry line (short, (front, marker, names, gap, key, f, m, n, b, g, 
     subst P n.text (with-length entry front marker names gap key line (marker-length entry.marker names marker m) (gap-length gap g)
     (key-length entry.key entry.comment key k) whole)
 
+-- A line with other names spells the entry with these names, where they may follow the marker and the line has room.
+pub with-spelled : (entry : KnownEntry) (line : List ℕ) (names : Names) (text : List ℕ) → SpellsKnown entry line
+    → SpellsMarker entry.marker text (marker_part entry.marker) → SpellsNames names text → HasNoBlank text
+    → length (line_with_names entry text) ≤ line_limit → SpellsKnown (record entry { names = names }) (line_with_names entry text)
+with-spelled entry line names text (short, (front, marker, old, gap, key, f, m, n, b, g, k, whole)) marked spelled free less = (
+  less,
+  (
+    [],
+    marker_part entry.marker,
+    text,
+    32 ∷ [],
+    written_key entry.key entry.comment,
+    tt,
+    marked,
+    spelled,
+    free,
+    one_gap,
+    spells-key entry.key entry.comment key k,
+    regrouped (marker_part entry.marker) text (key_text entry.key) (comment_part entry.comment),
+  ),
+)
+
 -- The canonical line spells its entry.
 pub known-spelled : (entry : KnownEntry) (line : List ℕ) → SpellsKnown entry line → SpellsKnown entry (canonical_known entry)
 known-spelled entry line h = go h (known-length entry line h)
   where
     go : SpellsKnown entry line → length (canonical_known entry) ≤ length line → SpellsKnown entry (canonical_known entry)
-    go (short, (front, marker, names, gap, key, f, m, n, b, g, k, whole)) less = (
-      omega (arith, short, less),
-      (
-        [],
-        marker_part entry.marker,
-        names,
-        32 ∷ [],
-        written_key entry.key entry.comment,
-        tt,
-        spells-marker_part entry.marker names marker m,
-        n,
-        b,
-        one_gap,
-        spells-key entry.key entry.comment key k,
-        ap (line_with_names entry) (sym n.text) ∙ regrouped (marker_part entry.marker) names (key_text entry.key) (comment_part entry.comment),
-      ),
-    )
+    go (short, (front, marker, names, gap, key, f, m, n, b, g, k, whole)) less =
+        let P : List ℕ → Type 0 = λ t. SpellsKnown entry (line_with_names entry t) in
+        let Q : List ℕ → Type 0 = λ t. length (line_with_names entry t) ≤ line_limit in
+        subst P n.text
+        (with-spelled entry line entry.names names h (spells-marker_part entry.marker names marker m) n b (subst Q (sym n.text) (omega (arith, short, less))))
 
 -- The canonical line is read as the entry.
 pub known-read : (entry : KnownEntry) (line : List ℕ) → SpellsKnown entry line → known_line (canonical_known entry) ≡ Entry entry
 known-read entry line h = known_line-spelled entry (canonical_known entry) (known-spelled entry line h)
 
--- It is one line, as the line that it comes from.
-pub known-none : (entry : KnownEntry) (line : List ℕ) → SpellsKnown entry line → HasNoNewline line → HasNoNewline (canonical_known entry)
-known-none entry line (short, (front, marker, names, gap, key, f, m, n, b, g, k, whole)) free =
+-- A line with other names is one line, as the line that it comes from, where the names are.
+pub with-none : (entry : KnownEntry) (line text : List ℕ) → SpellsKnown entry line → HasNoNewline line → HasNoNewline text
+    → HasNoNewline (line_with_names entry text)
+with-none entry line text (short, (front, marker, names, gap, key, f, m, n, b, g, k, whole)) free none =
     let cut = subst HasNoNewline whole free in
-    let fields = none-front (front ++ marker ++ names ++ gap) key cut in
-    let before = none-front (front ++ marker ++ names) gap fields in
-    let marked = none-front (front ++ marker) names before in
-    let P : List ℕ → Type 0 = λ t. HasNoNewline (line_with_names entry t) in
-    let written = none-append (marker_part entry.marker ++ names ++ 32 ∷ []) (written_key entry.key entry.comment)
-    (none-append (marker_part entry.marker ++ names) (32 ∷ [])
-    (none-append (marker_part entry.marker) names (none-marker entry.marker names marker m (none-back front marker marked)) (none-back (front ++ marker) names before))
-    blank-none)
+    let before = none-front (front ++ marker ++ names) gap (none-front (front ++ marker ++ names ++ gap) key cut) in
+    let marked = none-marker entry.marker names marker m (none-back front marker (none-front (front ++ marker) names before)) in
+    let written = none-append (marker_part entry.marker ++ text ++ 32 ∷ []) (written_key entry.key entry.comment)
+    (none-append (marker_part entry.marker ++ text) (32 ∷ []) (none-append (marker_part entry.marker) text marked none) blank-none)
     (none-key entry.key entry.comment key k (none-back (front ++ marker ++ names ++ gap) key cut)) in
-    subst P n.text (subst HasNoNewline (sym (regrouped (marker_part entry.marker) names (key_text entry.key) (comment_part entry.comment))) written)
+    subst HasNoNewline (sym (regrouped (marker_part entry.marker) text (key_text entry.key) (comment_part entry.comment))) written
+
+-- The canonical line is one line, as the line that it comes from.
+pub known-none : (entry : KnownEntry) (line : List ℕ) → SpellsKnown entry line → HasNoNewline line → HasNoNewline (canonical_known entry)
+known-none entry line h free = go h
+  where
+    go : SpellsKnown entry line → HasNoNewline (canonical_known entry)
+    go (short, (front, marker, names, gap, key, f, m, n, b, g, k, whole)) =
+        let P : List ℕ → Type 0 = λ t. HasNoNewline (line_with_names entry t) in
+        let cut = subst HasNoNewline whole free in
+        let before = none-front (front ++ marker ++ names) gap (none-front (front ++ marker ++ names ++ gap) key cut) in
+        subst P n.text (with-none entry line names h free (none-back (front ++ marker) names before))

@@ -6,4 +6,12 @@ pub mod Written
 pub mod FileLemmas
 pub mod LineLemmas
 pub mod LoopLemmas
+pub mod BoundedLemmas
 pub mod AnswerLemmas
+pub mod HiddenLemmas
+pub mod HashLoopLemmas
+pub mod HashedLineLemmas
+pub mod HashedFactsLemmas
+pub mod MemberLemmas
+pub mod PlainLemmas
+pub mod HashedNamesLemmas

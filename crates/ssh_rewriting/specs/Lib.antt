@@ -1,6 +1,9 @@
 pub mod Canonical
 pub mod Kept
 pub mod Facts
+pub mod HashedFile
+pub mod HashedNames
+pub mod Bounded
 pub mod CanonicalFile
 pub mod Answer
 pub mod Samples

@@ -1,6 +1,7 @@
 -- Entries, and the lines that they are written as; files, and what they are written anew as.
-use Rattle.std.specs.Prelude.{◌≡◌, ℕ, List, [], ◌∷◌, ◌++◌, codes, refl, replicate, Ok}
+use Rattle.std.specs.Prelude.{◌≡◌, ℕ, List, [], ◌∷◌, ◌++◌, codes, refl, replicate, Ok, Err}
 use Rattle.base64.proofs.OnLiterals.{base64_on_literals}
+use Rattle.ssh_text.specs.Scan.{with_newlines}
 use Rattle.ssh_wire.specs.Spelling.{mpint_bytes}
 use Rattle.ssh_wire.specs.Reading.{string_at}
 use Rattle.ssh_keys.specs.PublicKey.{key_blob, rsa}
@@ -23,7 +24,9 @@ use Rattle.ssh_lines.specs.AuthGrammar.{auth_line}
 use Rattle.ssh_lines.specs.Markers.{first_field_of}
 use Rattle.ssh_lines.specs.KnownGrammar.{entry_of_fields, known_line}
 use Rattle.ssh_rewriting.specs.Canonical.{canonical_auth, canonical_known}
-use Rattle.ssh_rewriting.specs.Answer.{rewritten}
+use Rattle.ssh_rewriting.specs.declared.hash_error.HashError.TheVariants.{TooFewSalts}
+use Rattle.ssh_rewriting.specs.Answer.{hashed, rewritten}
+use Rattle.ssh_rewriting.specs.HashedFile.{hashed_file, hashed_line}
 use Rattle.ssh_rewriting.specs.CanonicalFile.{canonical_auth_file, canonical_known_file}
 
 -- ---- entries
@@ -89,3 +92,37 @@ KnownFilesWritten =
 pub known_files_written : KnownFilesWritten
 unfolding known_line entry_of_fields first_field_of names_of hashed_of twenty_bytes_of key_in key_blob blob_at fields_at public_at string_at plain_kind certificate_kind base64_on_literals
 known_files_written = refl
+
+-- ---- files whose names are hidden
+
+-- salts of bytes 01 and 02
+abbrev first_salt : List ℕ
+first_salt = replicate 20 1
+
+abbrev second_salt : List ℕ
+second_salt = replicate 20 2
+
+-- an entry with two names, its line, and the lines that hide them
+abbrev two_names : KnownEntry
+two_names = of_hosts Unmarked (Patterns (codes "A,b")) (codes "c")
+
+abbrev two_named : List ℕ
+two_named = codes "A,b  " ++ zero_line ++ codes " c "
+
+abbrev two_hidden : List ℕ
+two_hidden = with_newlines (hashed_line two_names first_salt (codes "a") ∷ hashed_line two_names second_salt (codes "b") ∷ [])
+
+-- lines that are kept: patterns, and a revocation
+abbrev kept_lines : List ℕ
+kept_lines = codes "*.x  " ++ zero_line ++ codes "\na,!b  " ++ zero_line ++ codes "\n@revoked  h " ++ zero_line
+
+abbrev pub HashedFilesWritten : Type 0
+HashedFilesWritten =
+    (hashed_file two_named (first_salt ∷ second_salt ∷ []) ≡ two_hidden)
+    × (hashed two_named (first_salt ∷ []) ≡ Err TooFewSalts)
+    × (hashed kept_lines [] ≡ Ok (kept_lines ++ codes "\n"))
+    × (hashed [] [] ≡ Ok [])
+
+pub hashed_files_written : HashedFilesWritten
+unfolding known_line entry_of_fields first_field_of names_of hashed_of twenty_bytes_of key_in key_blob blob_at fields_at public_at string_at plain_kind certificate_kind base64_on_literals
+hashed_files_written = (refl, refl, refl, refl)

@@ -1,6 +1,6 @@
 //! A file whose lines are replaced, within the limit of trust files.
 
-ghost use Rattle.std.specs.Prelude.{◌≡◌, ◌<◌, ◌≤◌, length, Ok, Err, IfOk, IfErr};
+ghost use Rattle.std.specs.Prelude.{◌≡◌, ◌<◌, ◌≤◌, nat_lt, length, Ok, Err, IfOk, IfErr};
 ghost use Rattle.ssh_rewriting.specs.declared.error.RewriteError.TheVariants.{TooLong};
 ghost use Rattle.ssh_rewriting.specs.Answer.{rewritten};
 ghost use Rattle.ssh_text.specs.Text.{file_limit};
@@ -12,13 +12,20 @@ use ssh_lines::KeyBuffer;
 use ssh_text::{FILE_LIMIT, Lines};
 use std::alloc::{AllocError, Global};
 
+/// The file is past the limit.
+pub(crate) fn is_past_limit(file: &[u8]) -> bool
+    ensures { result ≡ nat_lt file_limit (length file.now) }
+{
+    file.len() > FILE_LIMIT
+}
+
 /// The file is within the limit.
 fn check_len(file: &[u8]) -> Result<(), RewriteError>
     ensures short { IfOk result (λ u. length file.now ≤ file_limit) }
     ensures long { IfErr result (λ e. file_limit < length file.now) }
     ensures error { IfErr result (λ e. e ≡ TooLong) }
 {
-    if file.len() > FILE_LIMIT {
+    if is_past_limit(file) {
         return Err(RewriteError::TooLong);
     }
     Ok(())

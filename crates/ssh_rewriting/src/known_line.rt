@@ -1,7 +1,7 @@
 //! The canonical line of an entry of a known_hosts file.
 
 ghost use Rattle.std.specs.Prelude.{◌≡◌, ◌++◌, IfOk, OnOk, OnErr};
-ghost use Rattle.ssh_rewriting.specs.Canonical.{canonical_known, marker_part};
+ghost use Rattle.ssh_rewriting.specs.Canonical.{canonical_known, line_with_names, marker_part};
 ghost use Rattle.ssh_rewriting.specs.Kept.{Keeps};
 
 use crate::key_text::put_key;
@@ -31,16 +31,41 @@ pub fn canonical_known_line(alloc: Global, entry: &KnownEntry) -> Result<Vec<u8>
     Ok(line)
 }
 
-/// After an `Err` a part of the line may stand at the end.
-fn put_known_line(entry: &KnownEntryView<'_>, out: &mut Vec<u8>) -> Result<(), AllocError>
-    ensures ok { OnOk result (out.new.items ≡ out.old.items ++ canonical_known entry.now) }
+/// Writes an entry's line at the end, with this text as its names. After an `Err` a part of it may
+/// stand there.
+fn put_line_with_names(
+    entry: &KnownEntryView<'_>,
+    names: &[u8],
+    out: &mut Vec<u8>,
+) -> Result<(), AllocError>
+    ensures ok { OnOk result (
+        out.new.items ≡ out.old.items ++ line_with_names entry.now names.now) }
     ensures err { OnErr result (Keeps out.old.items out.new.items) }
 {
     put_marker(entry.marker(), out)?;
-    out.extend_from_slice(entry.names().text())?;
+    out.extend_from_slice(names)?;
     out.push(b' ')?;
     put_key(entry.key().kind(), entry.blob(), entry.comment(), out)?;
     Ok(())
+}
+
+/// Writes an entry's line at the end, with this text as its names. An `Err` is want of memory, and
+/// changes nothing.
+pub(crate) fn write_line_with_names(
+    entry: &KnownEntryView<'_>,
+    names: &[u8],
+    out: &mut Vec<u8>,
+) -> Result<(), AllocError>
+    ensures ok { OnOk result (
+        out.new.items ≡ out.old.items ++ line_with_names entry.now names.now) }
+    ensures err { OnErr result (out.new.items ≡ out.old.items) }
+{
+    let len = out.len();
+    let outcome = put_line_with_names(entry, names, out);
+    if outcome.is_err() {
+        out.truncate(len);
+    }
+    outcome
 }
 
 /// Writes the canonical line of an entry at the end, from the line that it stands on. An `Err` is
@@ -49,10 +74,5 @@ pub fn write_known_line(entry: &KnownEntryView<'_>, out: &mut Vec<u8>) -> Result
     ensures ok { OnOk result (out.new.items ≡ out.old.items ++ canonical_known entry.now) }
     ensures err { OnErr result (out.new.items ≡ out.old.items) }
 {
-    let len = out.len();
-    let outcome = put_known_line(entry, out);
-    if outcome.is_err() {
-        out.truncate(len);
-    }
-    outcome
+    write_line_with_names(entry, entry.names().text(), out)
 }

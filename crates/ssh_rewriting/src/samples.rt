@@ -4,6 +4,7 @@
 ghost use Rattle.ssh_rewriting.specs.Samples.{
   AuthFilesWritten,
   AuthSamplesWritten,
+  HashedFilesWritten,
   KnownFilesWritten,
   KnownSamplesWritten,
 };
@@ -14,8 +15,9 @@ fn entries_as_written()
     ensures known { KnownSamplesWritten }
 {}
 
-/// Files, and what they are written anew as.
+/// Files, and what they are written anew as, and with their names hidden.
 fn files_as_written()
     ensures auth { AuthFilesWritten }
     ensures known { KnownFilesWritten }
+    ensures hashed { HashedFilesWritten }
 {}

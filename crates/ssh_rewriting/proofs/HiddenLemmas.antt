@@ -1,0 +1,105 @@
+-- The lines that hide the names of an entry.
+use Rattle.std.proofs.Common.{◌≡◌, ℕ, ◌+◌, true, false, Bool, nat_le, List, [], ◌∷◌, ◌++◌, length, map, drop, replicate, refl, sym, ap, subst, ◌∙◌, arith, length-append}
+use Rattle.std.specs.Prelude.{if◌then◌else◌, Some, None}
+use Rattle.std.proofs.lemmas.Bool.{and_parts}
+use Rattle.std.proofs.lemmas.List.{length-map, length-replicate}
+use Rattle.std.specs.List.{zip}
+use Rattle.std.specs.Str.{str_to_ascii_lowercase}
+use Rattle.base64.specs.Rfc4648.{encoded_size, padding_len}
+use Rattle.base64.proofs.RoundTrip.{length-encode_symbols}
+use Rattle.base64.specs.Engines.{standard}
+use Rattle.base64.specs.Rfc4648.{encode_symbols}
+use Rattle.ssh_keys.specs.Names.{name_of}
+use Rattle.ssh_keys.specs.PublicKey.{kind_of, key_blob}
+use Rattle.ssh_patterns.specs.Lists.{pieces}
+use Rattle.ssh_lines.specs.KeyPart.{base64}
+use Rattle.ssh_names.specs.Names.{Names, Patterns, Hashed, names_text}
+use Rattle.ssh_text.specs.Text.{line_limit}
+use Rattle.ssh_lines.specs.KnownEntry.{KnownEntry}
+use Rattle.ssh_lines.specs.declared.known.KnownLine.{KnownLine}
+use Rattle.ssh_lines.specs.declared.known.KnownLine.TheVariants as known
+use Rattle.ssh_rewriting.specs.Canonical.{comment_part, marker_part}
+use Rattle.ssh_rewriting.specs.Bounded.{bounded_line, bounded_lines}
+use Rattle.ssh_rewriting.specs.HashedFile.{are_plain, hashed_length, hashed_line, hidden_entry, is_hidden, lower_names}
+
+-- ---- lengths
+
+length-symbols : (bytes : List ℕ) → length (base64 bytes) ≡ encoded_size (length bytes) true
+length-symbols bytes =
+    length-append (encode_symbols standard.encode_table bytes) (replicate (padding_len (length bytes)) 61)
+    ∙ rw (length-encode_symbols standard.encode_table bytes, length-replicate {A = ℕ} (padding_len (length bytes)) 61) refl
+
+parts-length : (marker kind symbols comment : List ℕ)
+    → length (marker ++ [] ++ 32 ∷ (kind ++ 32 ∷ symbols) ++ comment) + 60 ≡ length marker + 60 + 1 + (length kind + 1 + length symbols) + length comment
+parts-length marker kind symbols comment = simp length-append (omega arith)
+
+-- how many bytes the hashed line of an entry has, part by part
+pub hashed-length : (entry : KnownEntry)
+    → hashed_length entry
+    ≡ length (marker_part entry.marker) + 60 + 1 + (length (name_of (kind_of entry.key)) + 1 + encoded_size (length (key_blob entry.key)) true) + length (comment_part entry.comment)
+hashed-length entry =
+    parts-length (marker_part entry.marker) (name_of (kind_of entry.key)) (base64 (key_blob entry.key)) (comment_part entry.comment)
+    ∙ rw (length-symbols (key_blob entry.key)) refl
+
+-- ---- lines
+
+plain-is : (b : Bool) (entry : KnownEntry) (said : KnownLine) (found : KnownEntry) → is_hidden entry ≡ b → said ≡ known.Entry entry
+    → (if b then Some entry else None) ≡ Some found → (said ≡ known.Entry found) × (is_hidden found ≡ true)
+plain-is true entry said found e is h =
+    let same : entry ≡ found = cc h in
+    (is ∙ ap known.Entry same, ap is_hidden (sym same) ∙ e)
+plain-is false entry said found e is h = cc h
+
+-- what is known of an entry whose names are hidden
+pub hidden-is : (said : KnownLine) (entry : KnownEntry) → hidden_entry said ≡ Some entry → (said ≡ known.Entry entry) × (is_hidden entry ≡ true)
+hidden-is (known.Entry other) entry h = plain-is (is_hidden other) other (known.Entry other) entry refl refl h
+hidden-is known.Blank entry h = cc h
+hidden-is known.Comment entry h = cc h
+hidden-is (known.Revoked bytes) entry h = cc h
+hidden-is known.RevokedUnreadable entry h = cc h
+hidden-is (known.Unreadable cause) entry h = cc h
+
+plain-pieces : (names : Names) → are_plain names ≡ true → lower_names names ≡ map str_to_ascii_lowercase (pieces (names_text names))
+plain-pieces (Patterns list) h = refl
+plain-pieces (Hashed salt hash) h = cc h
+
+-- its names are the pieces of its list
+pub hidden_pieces : (said : KnownLine) (entry : KnownEntry) → hidden_entry said ≡ Some entry
+    → lower_names entry.names ≡ map str_to_ascii_lowercase (pieces (names_text entry.names))
+hidden_pieces said entry h =
+    plain-pieces entry.names (and_parts (are_plain entry.names) (nat_le (hashed_length entry) line_limit) (hidden-is said entry h).1).0
+
+pub length_pieces : (said : KnownLine) (entry : KnownEntry) → hidden_entry said ≡ Some entry
+    → length (lower_names entry.names) ≡ length (pieces (names_text entry.names))
+length_pieces said entry h = ap length (hidden_pieces said entry h) ∙ length-map (pieces (names_text entry.names)) str_to_ascii_lowercase
+
+-- the lines that hide the names of these pieces, each with the next salt
+abbrev pub lines_of_names : KnownEntry → List (List ℕ) → List (List ℕ) → List (List ℕ)
+lines_of_names entry salts parts = map (λ x. hashed_line entry x.0 x.1) (zip salts (map str_to_ascii_lowercase parts))
+
+-- These pieces are left of all of them, and these salts: their lines after this file are all lines after the old one.
+abbrev pub NamesLeft : KnownEntry → (all parts given salts : List (List ℕ)) (old file : List ℕ) → Type 0
+NamesLeft entry all parts given salts old file =
+    (bounded_lines file (lines_of_names entry salts parts) ≡ bounded_lines old (lines_of_names entry given all))
+    × (drop (length parts) salts ≡ drop (length all) given)
+    × (length salts + length all ≡ length given + length parts)
+
+-- one name is hidden by the next salt
+pub names-step : (entry : KnownEntry) (all parts left given salts after : List (List ℕ)) (part lower salt old file new : List ℕ)
+    → parts ≡ part ∷ left → salts ≡ salt ∷ after → lower ≡ str_to_ascii_lowercase part → new ≡ bounded_line file (hashed_line entry salt lower)
+    → NamesLeft entry all parts given salts old file → NamesLeft entry all left given after old new
+names-step entry all parts left given salts after part lower salt old file new some next is put (lines, drops, count) =
+    let now : NamesLeft entry all (part ∷ left) given (salt ∷ after) old file =
+    subst (λ p. NamesLeft entry all p given (salt ∷ after) old file) some (subst (λ s. NamesLeft entry all parts given s old file) next (lines, drops, count)) in
+    let written : new ≡ bounded_line file (hashed_line entry salt (str_to_ascii_lowercase part)) = put ∙ ap (λ n. bounded_line file (hashed_line entry salt n)) is in
+    (ap (λ f. bounded_lines f (lines_of_names entry after left)) written ∙ now.0, now.1, omega (arith, now.2))
+
+no-names : (entry : KnownEntry) (salts : List (List ℕ)) (file : List ℕ) → bounded_lines file (lines_of_names entry salts []) ≡ file
+no-names entry [] file = refl
+no-names entry (salt ∷ salts) file = refl
+
+-- no name is left
+pub names-end : (entry : KnownEntry) (all parts given salts : List (List ℕ)) (old file : List ℕ) → parts ≡ []
+    → NamesLeft entry all parts given salts old file → file ≡ bounded_lines old (lines_of_names entry given all)
+names-end entry all parts given salts old file none (lines, drops, count) =
+    sym (no-names entry salts file) ∙ ap (λ p. bounded_lines file (lines_of_names entry salts p)) (sym none) ∙ lines
