@@ -1,1 +1,4 @@
+pub mod ListLemmas
+pub mod HashedFactsLemmas
+pub mod GrantLemmas
 pub mod RewritingLemmas

@@ -119,7 +119,7 @@ login-rewritten file new claim vouched bytes h =
       login-within new claim vouched short.new_short ∙ ap (λ (d : Decision). Ok d) same,
     )
 
-host-within : (file : List ℕ) (claim : HostClaim) (vouched : List Signed) → ltb file_limit (length file) ≡ false → host_answer file claim vouched ≡ Ok (host_decision file claim vouched)
+pub host-within : (file : List ℕ) (claim : HostClaim) (vouched : List Signed) → ltb file_limit (length file) ≡ false → host_answer file claim vouched ≡ Ok (host_decision file claim vouched)
 host-within file claim vouched short = rw short refl
 
 pub host-rewritten : (file new : List ℕ) (claim : HostClaim) (vouched : List Signed) → AreBytes file → rewritten file (canonical_known_file file) ≡ Ok new
