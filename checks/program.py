@@ -15,6 +15,7 @@ Needs ssh-keygen (Debian: openssh-client), openssl 3, gcc, /dev/full, and the bu
 import argparse
 import base64
 import fcntl
+import hmac
 import os
 import pathlib
 import re
@@ -77,6 +78,16 @@ SHOWN_CERTIFICATE = (
     "signer ssh-ed25519 SHA256:gOPgXFWkBoXrFVwpjf0SBo3P1kFs+IvH5q/vnQhNpFw\nkind user\nserial 5\nid id\nprincipal ann\n"
     "valid-after 100 1970-01-01T00:01:40Z\nvalid-before 200 1970-01-01T00:03:20Z\nsignature ssh-ed25519\n"
 )
+# Two salts, and what `h` is hashed to by the first and `g` by the second (Python's hmac).
+SALTS = "0123456789abcdefghij0123456789ABCDEFGHIJ"
+
+
+def hashed_name(name, salt):
+    parts = salt.encode(), hmac.digest(salt.encode(), name.encode(), "sha1")
+    return "|1|" + "|".join(base64.b64encode(part).decode() for part in parts)
+
+
+HASHED_LINES = "".join(f"{hashed_name(name, salt)} ssh-ed25519 {KEY}\n" for name, salt in (("h", SALTS[:20]), ("g", SALTS[20:])))
 FILES = {
     "keys": f"ssh-ed25519 {KEY} me\n",
     "other keys": f"ssh-ed25519 {OTHER_KEY} me\n",
@@ -89,6 +100,9 @@ FILES = {
     "bad vouch": "# none\nzz\n",
     "loose keys": f"  PTY,Restrict  ssh-ed25519\t{KEY}  me \r\n#  x",
     "loose hosts": f"h,g\tssh-ed25519  {KEY}\r\n@revoked  *  ssh-ed25519 {KEY}\n",
+    "loose names": f"# c\r\nH,g\tssh-ed25519  {KEY}\r\n@revoked  h ssh-ed25519 {KEY}\n",
+    "salts": SALTS,
+    "long salts": SALTS + "k",
     "empty": "",
     "-": f"ssh-ed25519 {OTHER_KEY} me\n",
     "\u00e9\\": f"ssh-ed25519 {KEY} me\n",
@@ -170,6 +184,10 @@ def rewrite(kind, file):
     return ["rewrite", "--kind", kind, "--file", file]
 
 
+def hash_names(file, salts):
+    return ["hash", "--file", file, "--salts", salts]
+
+
 # ---- rows
 
 
@@ -198,6 +216,10 @@ def rows():
     yield rewrite("known", "loose hosts"), f"h,g ssh-ed25519 {KEY}\n@revoked  *  ssh-ed25519 {KEY}\n", 0
     yield rewrite("auth", "empty"), "", 0
     yield rewrite("hosts", "loose hosts"), "fault value kind\n", 2
+    yield hash_names("loose names", "salts"), f"# c\r\n{HASHED_LINES}@revoked  h ssh-ed25519 {KEY}\n", 0
+    yield hash_names("empty", "empty"), "", 0
+    yield hash_names("loose names", "empty"), "fault A12\n", 2
+    yield hash_names("loose names", "long salts"), "fault file long salts\n", 2
     yield sshsig("body", "message", "file vouched"), VOUCHED, 0
     yield sshsig("body", "message"), NOT_VOUCHED, 1
     yield sshsig("body", "message", "file vouched", "git"), "denied namespace\n", 1
@@ -212,6 +234,8 @@ def rows():
     yield show("key", "-"), SHOWN, 0, keys
     yield show("cert", "-"), SHOWN_CERTIFICATE, 0, certificate
     yield rewrite("auth", "-"), FILES["keys"], 0, keys
+    yield hash_names("-", "salts"), HASHED_LINES, 0, f"h,g ssh-ed25519 {KEY}".encode()
+    yield hash_names("hosts", "-"), HASHED_LINES.split("\n")[0] + "\n", 0, SALTS.encode()
     yield sshsig("body", "-", "file vouched"), VOUCHED, 0, SIGNED_MESSAGE
     yield sshsig("-", "message", "file vouched"), VOUCHED, 0, SSHSIG
     yield sshsig("body", "-", "-"), VOUCHED, 0, FILE_TRIPLE.encode() + b"\n" + SIGNED_MESSAGE
@@ -231,6 +255,8 @@ def rows():
         yield show("private", name), f"fault file {told}\n", 2, keys
         yield show("sshsig", name), f"fault file {told}\n", 2, SSHSIG
         yield rewrite("auth", name), "fault A9\n", 2, keys
+        yield hash_names(name, "salts"), "fault A9\n", 2, hosts
+        yield hash_names("hosts", name), f"fault file {told}\n", 2, SALTS.encode()
     # files whose reads fail: a folder; the one that is read first is told
     yield login(".", "vouched"), "fault A9\n", 2, keys
     yield login("keys", "."), "fault file .\n", 2, keys
@@ -240,6 +266,8 @@ def rows():
     yield host(".", "host vouched"), "fault A9\n", 2, hosts
     yield host("hosts", "."), "fault file .\n", 2
     yield rewrite("known", "."), "fault A9\n", 2, hosts
+    yield hash_names(".", "salts"), "fault A9\n", 2, hosts
+    yield hash_names(".", "."), "fault file .\n", 2, hosts
     yield sshsig(".", "missing"), "fault file .\n", 2
     yield sshsig("missing", "."), "fault file missing\n", 2
     yield show("key", "."), "fault file .\n", 2, keys
@@ -255,6 +283,8 @@ def rows():
     for kind in ("key", "cert", "private", "sshsig"):
         yield show(kind, "/dev/zero"), "fault file /dev/zero\n", 2
     yield rewrite("auth", "/dev/zero"), "fault A7\n", 2
+    yield hash_names("/dev/zero", "salts"), "fault A7\n", 2
+    yield hash_names("hosts", "/dev/zero"), "fault file /dev/zero\n", 2
     # words
     yield ["frob"], "fault usage\n", 2
     yield ["login"], "fault usage\n", 2
@@ -416,6 +446,27 @@ def keygen_rows(program, tally):
     tally.check("another namespace", program.run(sshsig("raw", "message", namespace="File")), (1, b"denied namespace\n", b""))
 
 
+def hashing_rows(program, tally):
+    """Names that ssh-keygen -H would hash, hashed here: ssh-keygen finds each at its line, and no other name, and no name
+    is there to read."""
+    keygen(program, "-t", "ed25519", "-N", "", "-f", "host key")
+    key = (program.room / "host key.pub").read_text().split()[1]
+    names = ["h.example", "192.0.2.7", "[g.example]:2222", "2001:db8::7", "Upper.example", "alias"]
+    lines = [f"{names[0]},{names[1]} ssh-ed25519 {key} c\n", f"{names[2]} ssh-ed25519 {key}\n", f"{names[3]},{names[4]},{names[5]} ssh-ed25519 {key}\n"]
+    (program.room / "plain").write_text("".join(lines))
+    (program.room / "random salts").write_bytes(os.urandom(20 * len(names)))
+    status, new, errors = program.run(hash_names("plain", "random salts"))
+    tally.check("names hashed", (status, new.count(b"\n"), errors), (0, len(names), b""))
+    tally.check("no name to read", [name for name in names if name.lower().encode() in new.lower()], [])
+    (program.room / "hashed").write_bytes(new)
+    for number, name in enumerate(names):
+        found = keygen(program, "-F", name.lower(), "-f", "hashed")
+        tally.check(f"ssh-keygen finds {name}", found.encode(), new.splitlines(keepends=True)[number])
+    for name in ("x.example", "[h.example]:2222", "g.example"):
+        ran = subprocess.run(["ssh-keygen", "-F", name, "-f", "hashed"], cwd=program.room, stdout=subprocess.PIPE, stderr=subprocess.DEVNULL)
+        tally.check(f"ssh-keygen does not find {name}", (ran.returncode, ran.stdout), (1, b""))
+
+
 # ---- writers
 
 
@@ -479,7 +530,7 @@ def long_text_rows(program, tally):
         tally.check(f"a long text, of which {wants} bytes are read", (ended, got == wanted[:wants]), ((status, b""), True))
 
 
-ROWS = (answer_rows, size_rows, input_rows, endless_rows, star_rows, bench_rows, keygen_rows, writer_rows, long_text_rows)
+ROWS = (answer_rows, size_rows, input_rows, endless_rows, star_rows, bench_rows, keygen_rows, hashing_rows, writer_rows, long_text_rows)
 
 
 # ---- the other checks

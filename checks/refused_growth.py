@@ -142,9 +142,22 @@ def rewrite_rows(key):
     yield "no kind", [*words, "key"], key
 
 
+def hash_rows(key):
+    """Names hashed with two salts, with none, and with fewer than there are names; a file with nothing to hash."""
+    line = b"h,g  " + key
+    words = ["hash", "--file", "-", "--salts"]
+    yield "no salts", [*words, os.devnull], line
+    yield "nothing to hash", [*words, os.devnull], b"*.x  " + key + b" \r\n@revoked  x"
+    with tempfile.NamedTemporaryFile() as salts:
+        salts.write(bytes(range(40)))
+        salts.flush()
+        yield "hashed hosts", [*words, salts.name], b"@cert-authority " + line + b"\n# x"
+        yield "too few salts", [*words, salts.name], 2 * (line + b"\n")
+
+
 def rows():
     """The stored run, the same login over files and vouch files that give reasons, a denial and faults; `show`; `host`;
-    `sshsig`; `rewrite`."""
+    `sshsig`; `rewrite`; `hash`."""
     stored = (CRATE / "stdin").read_bytes()
     words, vouched, rest = stored.split(b"\n", 2)
     key = next(line for line in rest.split(b"\n") if line.startswith(b"ssh-"))
@@ -163,6 +176,7 @@ def rows():
     yield from host_rows(words, key, vouched.split(b" "))
     yield from body_rows()
     yield from rewrite_rows(key)
+    yield from hash_rows(key)
 
 
 def check(preload, name, words, stdin):

@@ -13,7 +13,7 @@ use Rattle.ssh_trust.specs.Reads.{AnswersReader}
 use Rattle.ssh_trust.specs.declared.decision.Decision.{Decision}
 use Rattle.ssh_offers.specs.declared.query.Signed.{Signed}
 use Rattle.ssh_offers.specs.declared.error.AuditError.{AuditError}
-use Rattle.ssh_offers.specs.declared.error.AuditError.TheVariants.{Offer, Signature, WrongAlgorithm, WeakSignature, CertSignature, Address, FileTooLong, Memory, Read, Failed, Body}
+use Rattle.ssh_offers.specs.declared.error.AuditError.TheVariants.{Offer, Signature, WrongAlgorithm, WeakSignature, CertSignature, Address, FileTooLong, Memory, Read, Failed, Body, Salts}
 use Rattle.ssh_command.specs.Audits.{Deciding, DecidesReader, answer_by, refusal_of}
 use Rattle.ssh_command.specs.ChosenReads.{FailsOn, ReadsOn}
 use Rattle.ssh_command.specs.Responding.{AnswersFile}
@@ -37,6 +37,7 @@ read-is (Err Memory) h = cc
 read-is (Err Read) h = refl
 read-is (Err Failed) h = cc
 read-is (Err (Body x)) h = cc
+read-is (Err Salts) h = cc
 
 not_read : {A : Type 0} (r : Result A AuditError) → is_read r ≡ false → r ≡ Err Read → ⊥
 not_read r h e = cc
@@ -80,6 +81,7 @@ told answer (Err Memory) h = inl refl
 told answer (Err Read) h = inr (sym h)
 told answer (Err Failed) h = inr (sym h)
 told answer (Err (Body x)) h = inr (sym h)
+told answer (Err Salts) h = inr (sym h)
 
 whole : (decision : List ℕ → Decision) (given left : List ℕ) (result : Result Decision AuditError) → OnOk result (left ≡ []) → result ≡ if_short given (decision given)
     → result ≡ if_short (given ++ left) (decision (given ++ left))

@@ -10,7 +10,7 @@ use Rattle.ssh_command.specs.WordsView.{FaultIs, Parses, request_in_memory}
 use Rattle.ssh_command.specs.declared.request.Request.{Request}
 use Rattle.ssh_command.specs.declared.request.WordsError.{WordsError}
 use Rattle.ssh_command.specs.declared.subcommand.Subcommand.{Subcommand}
-use Rattle.ssh_command.specs.declared.subcommand.Subcommand.TheVariants.{Show, Login, Host, Sshsig, Rewrite}
+use Rattle.ssh_command.specs.declared.subcommand.Subcommand.TheVariants.{Show, Login, Host, Sshsig, Rewrite, Hash}
 use Rattle.ssh_command.specs.declared.request.WordsError.TheVariants.{Usage, Memory}
 use Rattle.clap.specs.Faults.{fault_of, is_simple_and_free}
 use Rattle.clap.specs.declared.error.ErrorKind.{ErrorKind}
@@ -25,6 +25,7 @@ plain_subcommand Login = refl
 plain_subcommand Host = refl
 plain_subcommand Sshsig = refl
 plain_subcommand Rewrite = refl
+plain_subcommand Hash = refl
 
 pub is_plain : is_simple_and_free command_line ≡ true
 unfolding subcommand_app clap_on_literals

@@ -9,6 +9,7 @@ mod EvidenceLemmas
 mod GrantingLemmas
 mod ChosenLemmas
 mod RewritingLemmas
+mod HashingLemmas
 mod ShowLemmas
 mod LoginLemmas
 mod ResponseLemmas

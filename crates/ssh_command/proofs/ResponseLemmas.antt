@@ -12,26 +12,28 @@ use Rattle.ssh_inputs.specs.declared.read.ReadError.TheVariants as fault
 use Rattle.ssh_inputs.proofs.PieceLemmas.{words_long}
 use Rattle.ssh_print.specs.declared.response.Response.{Response as Printed}
 use Rattle.ssh_print.specs.ResponseView.{response}
-use Rattle.ssh_print.specs.Responses.{Response as Shown}
+use Rattle.ssh_print.specs.Responses.{Response as Shown, usage_response}
 use Rattle.ssh_show.specs.Showing.{show_kind}
 use Rattle.ssh_command.specs.declared.error.CommandError.{CommandError}
 use Rattle.ssh_command.specs.declared.error.CommandError.TheVariants.{Usage, Value, Memory}
 use Rattle.ssh_command.specs.declared.options.OptionName.TheVariants as option
 use Rattle.ssh_command.specs.declared.subcommand.Subcommand.{Subcommand}
-use Rattle.ssh_command.specs.declared.subcommand.Subcommand.TheVariants.{Show, Login, Host, Sshsig, Rewrite}
+use Rattle.ssh_command.specs.declared.subcommand.Subcommand.TheVariants.{Show, Login, Host, Sshsig, Rewrite, Hash}
 use Rattle.ssh_command.specs.Audits.{Audits, host_by, login_by}
 use Rattle.ssh_command.specs.CommandLine.{Request, request_of}
+use Rattle.ssh_command.specs.Hashings.{Hashes}
 use Rattle.ssh_command.specs.Hosts.{host_spelled}
 use Rattle.ssh_command.specs.Logins.{login_spelled}
 use Rattle.ssh_command.specs.Requests.{Responds, RespondsBy, RespondsIn}
 use Rattle.ssh_command.specs.Responding.{IsUsageOf}
-use Rattle.ssh_command.specs.Rewritings.{RewritesFile, rewrite_kind}
+use Rattle.ssh_command.specs.Rewritings.{RewritesFile, new_file, rewrite_kind}
 use Rattle.ssh_command.specs.Shows.{ShowsFile}
 use Rattle.ssh_command.specs.Sshsigs.{Signs, sshsig_question}
 use Rattle.ssh_command.specs.Spelling.{IsToldAs, RespondsTo, audit_files, needed, value}
 use Rattle.ssh_command.specs.WordsView.{IfAnswered}
 use Rattle.ssh_command.proofs.AuditLemmas.{audits-same}
 use Rattle.ssh_command.proofs.CommandLineLemmas.{no_request}
+use Rattle.ssh_command.proofs.HashingLemmas.{hashes-same}
 use Rattle.ssh_command.proofs.RewritingLemmas.{rewrites-same}
 use Rattle.ssh_command.proofs.ShowLemmas.{shows-same}
 use Rattle.ssh_command.proofs.SshsigLemmas.{signs-same}
@@ -59,8 +61,11 @@ subcommand-same Host rows a b u r e h =
     (λ f. spelled-same (λ q. Audits (host_by q) f) (host_spelled rows) a b u r e (λ q. audits-same (host_by q) f a b u r e)) h
 subcommand-same Sshsig rows a b u r e h = spelled-same Signs (sshsig_question rows) a b u r e (λ q. signs-same q a b u r e) h
 subcommand-same Rewrite rows a b u r e h =
-    spelled-same (λ kind. RespondsTo (RewritesFile kind) (needed option.File rows)) (value rewrite_kind option.Kind rows) a b u r e
-    (λ kind. spelled-same (RewritesFile kind) (needed option.File rows) a b u r e (λ name. rewrites-same kind name a b u r e)) h
+    spelled-same (λ kind. RespondsTo (RewritesFile (new_file kind)) (needed option.File rows)) (value rewrite_kind option.Kind rows) a b u r e
+    (λ kind. spelled-same (RewritesFile (new_file kind)) (needed option.File rows) a b u r e (λ name. rewrites-same (new_file kind) name a b u r e)) h
+subcommand-same Hash rows a b u r e h =
+    spelled-same (λ trust. RespondsTo (Hashes trust) (needed option.Salts rows)) (needed option.File rows) a b u r e
+    (λ trust. spelled-same (Hashes trust) (needed option.Salts rows) a b u r e (λ salts. hashes-same trust salts a b u r e)) h
 
 shifted : (q : Option Request) (a b : SourceState) (u : Option SourceState) (r : Shown) → Alike a b → RespondsBy q a u r → RespondsBy q b u r
 shifted None a b u r e h = (none-failed b a u e.failures h.0, h.1)
@@ -140,6 +145,13 @@ pub request_responds : {R E : Type 0} (view : R → Shown) (p q : Option Request
 request_responds view p q o u res e h =
     let P : Option Request → Type 0 = λ x. IfTells o (λ s. IfOk res (λ r. RespondsBy x s u (view r))) in
     subst P (sym e) h
+
+-- words that ask for nothing are answered without a read
+pub nothing_responds : {R E : Type 0} (view : R → Shown) (o : Option SourceState) (res : Result R E) → IfOk res (λ r. view r ≡ usage_response)
+    → IfTells o (λ s. IfOk res (λ r. RespondsBy None s o (view r)))
+nothing_responds view None res h = tt
+nothing_responds view (Some s) (Err e) h = λ counts. tt
+nothing_responds view (Some s) (Ok r) h = λ counts. (refl, h)
 
 -- no words: those of the first line of standard input
 pub no_words_respond : {R E W : Type 0} (view : R → Shown) (text : W → List ℕ) (words : List W) (o u : Option SourceState) (res : Result R E) → length words ≡ 0

@@ -37,3 +37,13 @@ pub request_found : (m : ArgMatches) (name : Text) (rows : List Row) (c : Subcom
     → request-for c rows ≡ option_and_then request_in (subcommand_rows_of m)
 request_found m name rows c named found command =
     request-by (subcommand_rows_of m) name rows c (pair-by _ _ _ name rows named found) command
+
+unnamed-by : (sub : Option (Text × List Row)) (name : Text) (rows : List Row) → sub ≡ Some (name, rows) → None ≡ subcommand_named name
+    → None ≡ option_and_then request_in sub
+unnamed-by sub name rows pair none = rw (pair, sym none) refl
+
+-- none of a subcommand that a parse found, whose name is none of the table's
+pub request_unnamed : (m : ArgMatches) (name : Text) (rows : List Row) → Some name ≡ subcommand_name_of m
+    → Some rows ≡ option_map (λ (p : Text × List Row). p.1) (subcommand_rows_of m) → None ≡ subcommand_named name
+    → None ≡ option_and_then request_in (subcommand_rows_of m)
+request_unnamed m name rows named found none = unnamed-by (subcommand_rows_of m) name rows (pair-by _ _ _ name rows named found) none

@@ -10,8 +10,9 @@ use Rattle.ssh_print.specs.Responses.{Response}
 use Rattle.ssh_trust.specs.declared.decision.Decision.{Decision}
 use Rattle.ssh_command.specs.Asked.{SshsigQuestion}
 use Rattle.ssh_command.specs.Audits.{after_vouching, audit_response, vouched_in}
-use Rattle.ssh_command.specs.Rewritings.{rewrite_kind, rewrite_over}
-use Rattle.ssh_command.specs.declared.rewriting.RewriteKind.TheVariants.{Auth, Known}
+use Rattle.ssh_command.specs.Hashings.{hash_response}
+use Rattle.ssh_command.specs.Rewritings.{new_file, rewrite_kind, rewrite_over}
+use Rattle.ssh_command.specs.declared.rewriting.NewFile.TheVariants.{CanonicalAuth, CanonicalKnown}
 use Rattle.ssh_command.specs.Sshsigs.{signature_response}
 use Rattle.ssh_command.specs.VouchLines.{vouch_file}
 
@@ -104,13 +105,30 @@ signature_faults_in_order = (refl, refl, refl, refl)
 
 -- the kinds that `rewrite` knows, and the fault of a trust file that is not there
 abbrev pub RewriteKinds : Type 0
-RewriteKinds = (rewrite_kind (codes "auth") ≡ Some Auth)
-    × (rewrite_kind (codes "known") ≡ Some Known)
+RewriteKinds = (rewrite_kind (codes "auth") ≡ Some CanonicalAuth)
+    × (rewrite_kind (codes "known") ≡ Some CanonicalKnown)
     × (rewrite_kind (codes "Auth") ≡ None)
     × (rewrite_kind (codes "key") ≡ None)
     × (rewrite_kind [] ≡ None)
-    × (rewrite_over Auth None ≡ fault (codes "A9"))
-    × (rewrite_over Known None ≡ fault (codes "A9"))
+    × (rewrite_over (new_file CanonicalAuth) None ≡ fault (codes "A9"))
+    × (rewrite_over (new_file CanonicalKnown) None ≡ fault (codes "A9"))
 
 pub rewrite_kinds : RewriteKinds
 rewrite_kinds = (refl, refl, refl, refl, refl, refl, refl)
+
+-- ---- files whose names are hashed
+
+-- a file of these salts, and an empty standard input
+abbrev salt_source : List ℕ → SourceState
+salt_source salts = source (codes "s") salts []
+
+-- The salts come first: a file of them that is not there, or has a byte too many, is told before a trust file that is not there. More salts than
+-- names to hash are no fault.
+abbrev pub HashFaultsInOrder : Type 0
+HashFaultsInOrder = (hash_response dash (codes "s") (salt_source (codes "0123456789abcdefghij")) ≡ record { status = 0; text = [] })
+    × (hash_response (codes "f") (codes "s") (salt_source []) ≡ fault (codes "A9"))
+    × (hash_response (codes "f") (codes "t") (salt_source []) ≡ fault (codes "file t"))
+    × (hash_response (codes "f") (codes "s") (salt_source (codes "0123456789abcdefghijk")) ≡ fault (codes "file s"))
+
+pub hash_faults_in_order : HashFaultsInOrder
+hash_faults_in_order = (refl, refl, refl, refl)

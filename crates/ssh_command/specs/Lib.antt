@@ -10,6 +10,7 @@ pub mod Hosts
 pub mod Shows
 pub mod Sshsigs
 pub mod Rewritings
+pub mod Hashings
 pub mod Requests
 pub mod Responding
 pub mod VouchLines

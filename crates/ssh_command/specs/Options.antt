@@ -7,7 +7,7 @@ use Rattle.ssh_command.specs.declared.options.Needed.TheVariants.{Required, Opti
 use Rattle.ssh_command.specs.declared.options.OptionName.{OptionName}
 use Rattle.ssh_command.specs.declared.options.OptionName.TheVariants as option
 use Rattle.ssh_command.specs.declared.subcommand.Subcommand.{Subcommand}
-use Rattle.ssh_command.specs.declared.subcommand.Subcommand.TheVariants.{Show, Login, Host, Sshsig, Rewrite}
+use Rattle.ssh_command.specs.declared.subcommand.Subcommand.TheVariants.{Show, Login, Host, Sshsig, Rewrite, Hash}
 
 -- ---- options
 
@@ -29,6 +29,7 @@ option_name option.Port = codes "port"
 option_name option.Body = codes "body"
 option_name option.Message = codes "message"
 option_name option.Namespace = codes "namespace"
+option_name option.Salts = codes "salts"
 
 abbrev pub is_required : Needed → Bool
 is_required Required = true
@@ -37,7 +38,7 @@ is_required Optional = false
 -- ---- subcommands
 
 abbrev pub subcommands : List Subcommand
-subcommands = Show ∷ Login ∷ Host ∷ Sshsig ∷ Rewrite ∷ []
+subcommands = Show ∷ Login ∷ Host ∷ Sshsig ∷ Rewrite ∷ Hash ∷ []
 
 abbrev pub subcommand_name : Subcommand → Text
 subcommand_name Show = codes "show"
@@ -45,6 +46,7 @@ subcommand_name Login = codes "login"
 subcommand_name Host = codes "host"
 subcommand_name Sshsig = codes "sshsig"
 subcommand_name Rewrite = codes "rewrite"
+subcommand_name Hash = codes "hash"
 
 -- the subcommand of a name, if there is one
 abbrev pub subcommand_named : Text → Option Subcommand
@@ -60,3 +62,4 @@ options_of Host = (option.File, Required) ∷ (option.Offer, Required) ∷ (opti
     ∷ (option.Host, Required) ∷ (option.Port, Required) ∷ (option.Now, Required) ∷ (option.Vouch, Optional) ∷ []
 options_of Sshsig = (option.Body, Required) ∷ (option.Message, Required) ∷ (option.Namespace, Required) ∷ (option.Vouch, Optional) ∷ []
 options_of Rewrite = (option.Kind, Required) ∷ (option.File, Required) ∷ []
+options_of Hash = (option.File, Required) ∷ (option.Salts, Required) ∷ []

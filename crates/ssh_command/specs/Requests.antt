@@ -9,8 +9,9 @@ use Rattle.ssh_print.specs.Responses.{Response, out_of_memory, usage_response}
 use Rattle.ssh_command.specs.declared.request.WordsError.{WordsError}
 use Rattle.ssh_command.specs.declared.request.WordsError.TheVariants.{Usage, Memory}
 use Rattle.ssh_command.specs.declared.subcommand.Subcommand.{Subcommand}
-use Rattle.ssh_command.specs.declared.subcommand.Subcommand.TheVariants.{Show, Login, Host, Sshsig, Rewrite}
+use Rattle.ssh_command.specs.declared.subcommand.Subcommand.TheVariants.{Show, Login, Host, Sshsig, Rewrite, Hash}
 use Rattle.ssh_command.specs.CommandLine.{Request, request_of}
+use Rattle.ssh_command.specs.Hashings.{RespondsToHash}
 use Rattle.ssh_command.specs.Hosts.{RespondsToHost}
 use Rattle.ssh_command.specs.Logins.{RespondsToLogin}
 use Rattle.ssh_command.specs.Rewritings.{RespondsToRewrite}
@@ -20,13 +21,14 @@ use Rattle.ssh_command.specs.Sshsigs.{RespondsToSshsig}
 -- ---- requests
 
 -- The response is the answer to the options of the subcommand, and no read failed; or one failed, and it is the fault of the file that was
--- read. The values come first, then a vouch file, then the other files.
+-- read. The values come first, then a vouch file or the salts, then the other files.
 abbrev pub RespondsIn : Subcommand → List Row → SourceState → Option SourceState → Response → Type 0
 RespondsIn Show = RespondsToShow
 RespondsIn Login = RespondsToLogin
 RespondsIn Host = RespondsToHost
 RespondsIn Sshsig = RespondsToSshsig
 RespondsIn Rewrite = RespondsToRewrite
+RespondsIn Hash = RespondsToHash
 
 abbrev pub RespondsBy : Option Request → SourceState → Option SourceState → Response → Type 0
 RespondsBy None s t r = NoReadFailed s t × (r ≡ usage_response)

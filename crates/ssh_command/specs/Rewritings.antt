@@ -2,9 +2,9 @@
 use Rattle.std.specs.Prelude.{◌≡◌, ◌⊎◌, ℕ, List, Option, Some, None, Result, Ok, Err, codes, if◌then◌else◌, ⊤}
 use Rattle.std.specs.Str.{bytes_eq}
 use Rattle.ssh_offers.specs.declared.error.AuditError.TheVariants as audit
-use Rattle.ssh_rewriting.specs.declared.error.RewriteError.{RewriteError}
-use Rattle.ssh_rewriting.specs.declared.error.RewriteError.TheVariants.{TooLong, Memory}
-use Rattle.ssh_rewriting.specs.Answer.{rewritten}
+use Rattle.ssh_rewriting.specs.declared.hash_error.HashError.{HashError}
+use Rattle.ssh_rewriting.specs.declared.hash_error.HashError.TheVariants.{TooLong, TooFewSalts, Memory}
+use Rattle.ssh_rewriting.specs.Answer.{as_hash_error, hashed, rewritten}
 use Rattle.ssh_rewriting.specs.CanonicalFile.{canonical_auth_file, canonical_known_file}
 use Rattle.ssh_inputs.specs.SourceState.{SourceState, bytes_at}
 use Rattle.ssh_inputs.specs.Loading.{NoReadFailed, OneReadFailed}
@@ -13,39 +13,38 @@ use Rattle.ssh_inputs.specs.declared.read.ReadError.TheVariants as fault
 use Rattle.ssh_print.specs.Responses.{Response, refused_response}
 use Rattle.clap.specs.Words.{Row}
 use Rattle.ssh_command.specs.declared.options.OptionName.TheVariants as option
-use Rattle.ssh_command.specs.declared.rewriting.RewriteKind.{RewriteKind}
-use Rattle.ssh_command.specs.declared.rewriting.RewriteKind.TheVariants.{Auth, Known}
+use Rattle.ssh_command.specs.declared.rewriting.NewFile.{NewFile}
+use Rattle.ssh_command.specs.declared.rewriting.NewFile.TheVariants.{CanonicalAuth, CanonicalKnown, HashedKnown}
 use Rattle.ssh_command.specs.Spelling.{RespondsTo, needed, value}
 
--- the kinds of trust files
-abbrev pub rewrite_kind : List ℕ → Option RewriteKind
+-- the kinds of trust files, by what they are written anew as
+abbrev pub rewrite_kind : List ℕ → Option NewFile
 rewrite_kind word =
-    if bytes_eq word (codes "auth") then Some Auth
-    else if bytes_eq word (codes "known") then Some Known
+    if bytes_eq word (codes "auth") then Some CanonicalAuth
+    else if bytes_eq word (codes "known") then Some CanonicalKnown
     else None
 
 -- ---- bytes
 
-abbrev pub canonical_file : RewriteKind → List ℕ → List ℕ
-canonical_file Auth file = canonical_auth_file file
-canonical_file Known file = canonical_known_file file
+-- the new file, or why there is none
+abbrev pub new_file : NewFile → List ℕ → Result (List ℕ) HashError
+new_file CanonicalAuth file = as_hash_error (rewritten file (canonical_auth_file file))
+new_file CanonicalKnown file = as_hash_error (rewritten file (canonical_known_file file))
+new_file (HashedKnown salts) file = hashed file salts.now
 
--- the canonical file, where neither it nor the file is past the limit
-abbrev pub new_file : RewriteKind → List ℕ → Result (List ℕ) RewriteError
-new_file kind file = rewritten file (canonical_file kind file)
-
--- the bytes of the new file and nothing else, or A7
-abbrev pub new_response : Result (List ℕ) RewriteError → Response
+-- the bytes of the new file and nothing else, or A7, or A12
+abbrev pub new_response : Result (List ℕ) HashError → Response
 new_response (Ok new) = record { status = 0; text = new }
 new_response (Err TooLong) = refused_response audit.FileTooLong
+new_response (Err TooFewSalts) = refused_response audit.Salts
 new_response (Err Memory) = refused_response audit.Memory
 
 -- ---- files
 
 -- A file that is not there is A9, as of every trust file.
-abbrev pub rewrite_over : RewriteKind → Option (List ℕ) → Response
-rewrite_over kind None = refused_response audit.Read
-rewrite_over kind (Some file) = new_response (new_file kind file)
+abbrev pub rewrite_over : (List ℕ → Result (List ℕ) HashError) → Option (List ℕ) → Response
+rewrite_over made None = refused_response audit.Read
+rewrite_over made (Some file) = new_response (made file)
 
 -- the read of this file failed, and the response is A9
 abbrev pub IsRewriteFault : List ℕ → SourceState → Option SourceState → Response → Type 0
@@ -55,18 +54,20 @@ IsRewriteFault name s t r = OneReadFailed s t name × (r ≡ refused_response au
 abbrev pub Rewrites : List ℕ → Response → SourceState → Option SourceState → Response → Type 0
 Rewrites name wanted s t r = (NoReadFailed s t × (r ≡ wanted)) ⊎ IsRewriteFault name s t r
 
-abbrev pub RewritesFile : RewriteKind → List ℕ → SourceState → Option SourceState → Response → Type 0
-RewritesFile kind name s t r = Rewrites name (rewrite_over kind (bytes_at s name)) s t r
+-- the file of this name is written anew, by what is made of its bytes
+abbrev pub RewritesFile : (List ℕ → Result (List ℕ) HashError) → List ℕ → SourceState → Option SourceState → Response → Type 0
+RewritesFile made name s t r = Rewrites name (rewrite_over made (bytes_at s name)) s t r
 
 abbrev pub RespondsToRewrite : List Row → SourceState → Option SourceState → Response → Type 0
-RespondsToRewrite rows = RespondsTo (λ kind. RespondsTo (RewritesFile kind) (needed option.File rows)) (value rewrite_kind option.Kind rows)
+RespondsToRewrite rows = RespondsTo (λ kind. RespondsTo (RewritesFile (new_file kind)) (needed option.File rows)) (value rewrite_kind option.Kind rows)
 
 -- ---- part by part
 
--- the new file was made, or it is refused as too long, or memory was refused
-abbrev pub MakesNew : {V : Type 0} → (V → List ℕ) → Result (List ℕ) RewriteError → Result V RewriteError → Type 0
+-- the new file was made, or it is refused so, or memory was refused
+abbrev pub MakesNew : {V : Type 0} → (V → List ℕ) → Result (List ℕ) HashError → Result V HashError → Type 0
 MakesNew view new (Ok v) = new ≡ Ok (view v)
 MakesNew view new (Err TooLong) = new ≡ Err TooLong
+MakesNew view new (Err TooFewSalts) = new ≡ Err TooFewSalts
 MakesNew view new (Err Memory) = ⊤
 
 -- the response to a trust file that gives no bytes

@@ -11,7 +11,7 @@ use Rattle.ssh_show.specs.declared.kind.ShowKind.TheVariants as shown
 use Rattle.ssh_command.specs.declared.options.OptionName.{OptionName}
 use Rattle.ssh_command.specs.declared.options.OptionName.TheVariants as option
 use Rattle.ssh_command.specs.declared.subcommand.Subcommand.{Subcommand}
-use Rattle.ssh_command.specs.declared.subcommand.Subcommand.TheVariants.{Show, Login, Host, Sshsig, Rewrite}
+use Rattle.ssh_command.specs.declared.subcommand.Subcommand.TheVariants.{Show, Login, Host, Sshsig, Rewrite, Hash}
 use Rattle.ssh_command.specs.CommandLine.{request_of, subcommand_app}
 use Rattle.ssh_command.specs.Hosts.{host_spelled}
 use Rattle.ssh_command.specs.Logins.{login_spelled}
@@ -70,6 +70,7 @@ hosts_asked = (refl, refl)
 abbrev pub OthersAsked : Type 0
 OthersAsked = (asked (codes "show" ∷ codes "--kind" ∷ codes "key" ∷ codes "--file" ∷ codes "f" ∷ []) ≡ Some (Show, Some (codes "key") ∷ Some (codes "f") ∷ []))
     × (asked (codes "rewrite" ∷ codes "--file" ∷ codes "-" ∷ codes "--kind" ∷ codes "auth" ∷ []) ≡ Some (Rewrite, Some (codes "auth") ∷ Some (codes "-") ∷ []))
+    × (asked (codes "hash" ∷ codes "--salts" ∷ codes "s" ∷ codes "--file" ∷ codes "f" ∷ []) ≡ Some (Hash, Some (codes "f") ∷ Some (codes "s") ∷ []))
     × (asked (codes "sshsig" ∷ codes "--body" ∷ codes "b" ∷ codes "--message" ∷ codes "m" ∷ codes "--namespace" ∷ codes "file" ∷ [])
     ≡ Some (Sshsig, Some (codes "b") ∷ Some (codes "m") ∷ Some (codes "file") ∷ None ∷ []))
     × (asked (codes "sshsig" ∷ codes "--vouch" ∷ codes "v" ∷ codes "--body" ∷ codes "b" ∷ codes "--message" ∷ codes "m" ∷ codes "--namespace" ∷ codes "file" ∷ [])
@@ -77,7 +78,7 @@ OthersAsked = (asked (codes "show" ∷ codes "--kind" ∷ codes "key" ∷ codes 
 
 pub others_asked : OthersAsked
 unfolding subcommand_app clap_on_literals
-others_asked = (refl, refl, refl, refl)
+others_asked = (refl, refl, refl, refl, refl)
 
 -- no command, one that is none, an option that is missing, has no value, or is of another command
 abbrev pub WordsRefused : Type 0

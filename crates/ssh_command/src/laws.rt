@@ -30,22 +30,18 @@ fn evidence_rule()
         → vouched_of (vouch_file evidence) ≡ Ok evidence }
 {}
 
-/// An answer with status 0 is a grant: of a login and of a host's key, by a line of the trust file
+/// An answer with status 0 is a grant: of a login or of a host's key, by a line of the trust file
 /// that meets all conditions, where the vouch file vouches for all that it rests on; and the text is
 /// that grant's.
-fn status_rule()
-    ensures login { (q : LoginAsked) (f : AuditFiles) (s : SourceState) → IsOfBytes f s
+fn granted_rule()
+    // What is answered to what is asked of these files.
+    ensures asked_login { (q : LoginAsked) (f : AuditFiles) (s : SourceState) → IsOfBytes f s
         → (audit_response (login_by q) f s).status ≡ 0
         → LoginGranted q f s (audit_response (login_by q) f s) }
-    ensures host { (q : HostCheck) (f : AuditFiles) (s : SourceState) → IsOfBytes f s
+    ensures asked_host { (q : HostCheck) (f : AuditFiles) (s : SourceState) → IsOfBytes f s
         → (audit_response (host_by q) f s).status ≡ 0
         → HostGranted q f s (audit_response (host_by q) f s) }
-{}
-
-/// An answer of `run` with status 0 to words that ask for a login, or of a host's key, is a grant:
-/// the options spell what was asked, and a line of the trust file grants it; the text is that
-/// grant's.
-fn granted_rule()
+    // What `run` answers to words that ask for it: the options spell what was asked.
     ensures login { (words : List (List ℕ)) (rows : List Row) (f : AuditFiles) (s : SourceState)
         (t : Option SourceState) (r : Shown)
         → request_of (request_words words s) ≡ Some (record { subcommand = Login; rows = rows })

@@ -6,6 +6,7 @@ mod audit;
 mod chosen;
 mod command;
 mod error;
+mod hashing;
 mod host;
 mod laws;
 mod login;

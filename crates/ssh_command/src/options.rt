@@ -27,6 +27,7 @@ pub enum OptionName {
     Body,
     Message,
     Namespace,
+    Salts,
 }
 
 impl OptionName {
@@ -52,6 +53,7 @@ impl OptionName {
             OptionName::Body => "body",
             OptionName::Message => "message",
             OptionName::Namespace => "namespace",
+            OptionName::Salts => "salts",
         }
     }
 

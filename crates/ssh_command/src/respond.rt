@@ -9,6 +9,7 @@ ghost use Rattle.ssh_print.specs.ResponseView.{response};
 ghost use Rattle.ssh_inputs.specs.SourceState.{IfTells};
 
 use crate::error::{CommandError, respond_fault};
+use crate::hashing::respond_hash;
 use crate::host::respond_host;
 use crate::login::respond_login;
 use crate::parse::parse;
@@ -37,6 +38,7 @@ fn respond_subcommand<F: Files>(
         Subcommand::Host => respond_host(alloc, &request.words, files),
         Subcommand::Sshsig => respond_sshsig(alloc, &request.words, files),
         Subcommand::Rewrite => respond_rewrite(alloc, &request.words, files),
+        Subcommand::Hash => respond_hash(alloc, &request.words, files),
     }
 }
 

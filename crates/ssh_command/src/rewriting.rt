@@ -20,49 +20,54 @@ use crate::words::Words;
 use ssh_inputs::{Files, ReadError, read_whole};
 use ssh_offers::AuditError;
 use ssh_print::{DONE, Response, audit_fault};
-use ssh_rewriting::{RewriteError, rewrite_auth, rewrite_known};
+use ssh_rewriting::{HashError, hash_known, rewrite_auth, rewrite_known};
 use std::alloc::{AllocError, Global};
 
-/// The kinds of trust files that are written anew.
-#[derive(Clone, Copy, Debug, PartialEq, Eq)]
-pub enum RewriteKind {
-    /// An authorized_keys file.
-    Auth,
-    /// A known_hosts file.
-    Known,
+/// What a trust file is written anew as.
+#[derive(Clone, Copy)]
+pub enum NewFile<'a> {
+    /// An authorized_keys file, of canonical lines.
+    CanonicalAuth,
+    /// A known_hosts file, of canonical lines.
+    CanonicalKnown,
+    /// A known_hosts file whose names are hashed with these salts.
+    HashedKnown(&'a [[u8; 20]]),
 }
 
-/// The kind that a word names, if it names one.
-fn rewrite_kind(word: &str) -> Option<RewriteKind>
+/// What the kind that a word names is written anew as, if it names one.
+fn rewrite_kind(word: &str) -> Option<NewFile<'static>>
     ensures { result ≡ rewrite_kind word.now }
 {
     if word == "auth" {
-        Some(RewriteKind::Auth)
+        Some(NewFile::CanonicalAuth)
     } else if word == "known" {
-        Some(RewriteKind::Known)
+        Some(NewFile::CanonicalKnown)
     } else {
         None
     }
 }
 
 /// The new file.
-fn write_new(alloc: Global, kind: RewriteKind, file: &[u8]) -> Result<Vec<u8>, RewriteError>
-    ensures { MakesNew (λ v. v.items) (new_file kind file.now) result }
+fn write_new(alloc: Global, kind: NewFile<'_>, file: &[u8]) -> Result<Vec<u8>, HashError>
+    ensures { MakesNew (λ v. v.items) (new_file kind.entry file.now) result }
 {
-    match kind {
-        RewriteKind::Auth => rewrite_auth(alloc, file),
-        RewriteKind::Known => rewrite_known(alloc, file),
-    }
+    let new = match kind {
+        NewFile::CanonicalAuth => rewrite_auth(alloc, file)?,
+        NewFile::CanonicalKnown => rewrite_known(alloc, file)?,
+        NewFile::HashedKnown(salts) => hash_known(alloc, file, salts)?,
+    };
+    Ok(new)
 }
 
 /// The response by the bytes of the file.
-fn respond_bytes(alloc: Global, kind: RewriteKind, file: &[u8]) -> Result<Response, AllocError>
-    ensures { IfOk result (λ r. response r ≡ new_response (new_file kind file.now)) }
+fn respond_bytes(alloc: Global, kind: NewFile<'_>, file: &[u8]) -> Result<Response, AllocError>
+    ensures { IfOk result (λ r. response r ≡ new_response (new_file kind.entry file.now)) }
 {
     match write_new(alloc, kind, file) {
         Ok(text) => Ok(Response { status: DONE, text }),
-        Err(RewriteError::TooLong) => audit_fault(alloc, AuditError::FileTooLong),
-        Err(RewriteError::Memory) => Err(AllocError),
+        Err(HashError::TooLong) => audit_fault(alloc, AuditError::FileTooLong),
+        Err(HashError::TooFewSalts) => audit_fault(alloc, AuditError::Salts),
+        Err(HashError::Memory) => Err(AllocError),
     }
 }
 
@@ -77,15 +82,15 @@ fn unread_trust(alloc: Global, fault: ReadError) -> Result<Response, AllocError>
     }
 }
 
-/// The response to a trust file of this kind that is to be written anew.
-fn rewrite_file<F: Files>(
+/// The response to a trust file that is to be written anew.
+pub fn rewrite_file<F: Files>(
     alloc: Global,
-    kind: RewriteKind,
+    kind: NewFile<'_>,
     name: &str,
     files: &mut F,
 ) -> Result<Response, AllocError>
     ensures { IfTells (F.source_state files.old) (λ s. IfOk result (λ r.
-        RewritesFile kind name.now s (F.source_state files.new) (response r))) }
+        RewritesFile (new_file kind.entry) name.now s (F.source_state files.new) (response r))) }
 {
     match read_whole(alloc, files, name) {
         Ok(file) => respond_bytes(alloc, kind, &file),

@@ -6,6 +6,7 @@ ghost use Rattle.ssh_offers.specs.declared.query.Signed.{Signed as SignedValue};
 ghost use Rattle.ssh_trust.specs.declared.decision.Decision.{Decision as DecisionValue};
 ghost use Rattle.ssh_command.specs.FileSamples.{
   FaultsInOrder,
+  HashFaultsInOrder,
   RewriteKinds,
   SignatureFaultsInOrder,
   TrustFilesLeft,
@@ -24,32 +25,25 @@ ghost use Rattle.ssh_command.specs.Samples.{
   WordsRefused,
 };
 
-/// What a vouch file tells and leaves, and what is printed as one.
-fn vouch_files_as_told()
-    ensures told { VouchFilesTold }
+/// What files tell and leave, what is printed as one, and which fault is told where there are two.
+fn files_as_told()
+    ensures vouched { VouchFilesTold }
     ensures left { TrustFilesLeft }
     ensures written { VouchFilesWritten }
-{}
-
-/// Which fault is told where there are two.
-fn faults_in_order()
     ensures audits { (decision : List ℕ → List SignedValue → DecisionValue)
         → FaultsInOrder decision }
     ensures signatures { SignatureFaultsInOrder }
+    ensures rewritten { RewriteKinds }
+    ensures hashed { HashFaultsInOrder }
 {}
 
-/// What words ask for.
+/// What words ask for: a subcommand with its values, or the first that is none.
 fn words_as_asked()
     ensures logins { LoginsAsked }
     ensures hosts { HostsAsked }
     ensures others { OthersAsked }
     ensures refused { WordsRefused }
     ensures shown { ShowKinds }
-    ensures rewritten { RewriteKinds }
-{}
-
-/// Values, or the first that is none.
-fn values_as_spelled()
     ensures login { (zone : Zone) → LoginSpelled zone }
     ensures login_order { LoginValuesInOrder }
     ensures host_order { HostValuesInOrder }

@@ -19,17 +19,19 @@ pub enum Subcommand {
     Host,
     Sshsig,
     Rewrite,
+    Hash,
 }
 
 /// A row of the options of a subcommand.
 pub type OptionRow = (OptionName, Needed);
 
-const SUBCOMMANDS: [Subcommand; 5] = [
+const SUBCOMMANDS: [Subcommand; 6] = [
     Subcommand::Show,
     Subcommand::Login,
     Subcommand::Host,
     Subcommand::Sshsig,
     Subcommand::Rewrite,
+    Subcommand::Hash,
 ];
 
 const SHOW: [OptionRow; 2] = [(OptionName::Kind, Required), (OptionName::File, Required)];
@@ -68,6 +70,8 @@ const SSHSIG: [OptionRow; 4] = [
 
 const REWRITE: [OptionRow; 2] = [(OptionName::Kind, Required), (OptionName::File, Required)];
 
+const HASH: [OptionRow; 2] = [(OptionName::File, Required), (OptionName::Salts, Required)];
+
 impl Subcommand {
     /// Every subcommand.
     pub fn all() -> &'static [Subcommand]
@@ -86,6 +90,7 @@ impl Subcommand {
             Subcommand::Host => "host",
             Subcommand::Sshsig => "sshsig",
             Subcommand::Rewrite => "rewrite",
+            Subcommand::Hash => "hash",
         }
     }
 
@@ -109,6 +114,7 @@ impl Subcommand {
             Subcommand::Host => &HOST,
             Subcommand::Sshsig => &SSHSIG,
             Subcommand::Rewrite => &REWRITE,
+            Subcommand::Hash => &HASH,
         }
     }
 }

@@ -5,6 +5,7 @@ use Rattle.std.specs.Str.Lossy.{utf8_valid_len}
 use Rattle.std.proofs.Math.Utf8.{encode}
 use Rattle.ssh_offers.specs.declared.query.Signed.{Signed}
 use Rattle.ssh_inputs.specs.Parts.{cut_at_empty, cut_at_line}
+use Rattle.ssh_inputs.specs.Salts.{salts_of}
 use Rattle.ssh_inputs.specs.Values.{hex_bytes, number_below, zone_text}
 use Rattle.ssh_inputs.specs.VouchFile.{three_fields, vouched_of}
 use Rattle.ssh_inputs.specs.Words.{pieces_of, words_in}
@@ -76,6 +77,17 @@ ZoneTexts = (zone_text None ≡ codes "UTC0") × (zone_text (Some (codes "EST5ED
 
 pub zone_texts : ZoneTexts
 zone_texts = (refl, refl)
+
+-- 20 bytes for each salt, and none left over
+abbrev pub SaltsRead : Type 0
+SaltsRead = (salts_of [] ≡ Some [])
+    × (salts_of (codes "0123456789abcdefghij") ≡ Some (codes "0123456789abcdefghij" ∷ []))
+    × (salts_of (codes "0123456789abcdefghij0123456789ABCDEFGHIJ") ≡ Some (codes "0123456789abcdefghij" ∷ codes "0123456789ABCDEFGHIJ" ∷ []))
+    × (salts_of (codes "0123456789abcdefghi") ≡ None)
+    × (salts_of (codes "0123456789abcdefghijk") ≡ None)
+
+pub salts_read : SaltsRead
+salts_read = (refl, refl, refl, refl, refl)
 
 -- ---- words
 

@@ -4,6 +4,7 @@
 mod base64_text;
 mod files;
 mod read;
+mod salts;
 mod samples;
 mod values;
 mod vouch;
@@ -13,6 +14,7 @@ mod zone;
 pub use base64_text::decode;
 pub use files::Files;
 pub use read::{ReadError, read_first_line, read_vouch_file, read_whole};
+pub use salts::read_salts;
 pub use values::{is_short, read_hex, read_number, read_port, read_short_hex};
 pub use vouch::{VouchError, read_vouched};
 pub use words::read_words;

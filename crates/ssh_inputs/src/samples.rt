@@ -7,6 +7,7 @@ ghost use Rattle.ssh_inputs.specs.Samples.{
   NumbersRead,
   NumbersRefused,
   PartsRead,
+  SaltsRead,
   VouchFilesRead,
   VouchFilesRefused,
   WordsRead,
@@ -20,6 +21,7 @@ fn values_as_read()
     ensures numbers { NumbersRead }
     ensures no_numbers { NumbersRefused }
     ensures zones { ZoneTexts }
+    ensures salts { SaltsRead }
 {}
 
 /// The words of a line, and the parts of standard input.

@@ -60,6 +60,9 @@ pub enum AuditError {
     /// `A11`: the body of a file signature is none. It is tested before all others.
     #[error("the body: {0}")]
     Body(BodyError),
+    /// `A12`: there are fewer salts than names to hash. Hashing alone answers it.
+    #[error("there are fewer salts than names to hash")]
+    Salts,
 }
 
 impl From<AllocError> for AuditError {

@@ -129,3 +129,4 @@ fault_codes error.Memory = codes " A8"
 fault_codes error.Read = codes " A9"
 fault_codes error.Failed = codes " A10"
 fault_codes (error.Body e) = codes " A11" ++ body_codes e
+fault_codes error.Salts = codes " A12"

@@ -152,7 +152,7 @@ pub cause_codes_shown : CauseCodesShown
 unfolding digits
 cause_codes_shown = (refl, refl, refl, refl, refl, refl)
 
--- A1 to A11, some with an inner fault
+-- A1 to A12, some with an inner fault
 abbrev pub FaultCodesShown : Type 0
 FaultCodesShown =
     (fault_codes (error.Offer (offer.Key key.Curve)) ≡ codes " A1 K5")
@@ -167,10 +167,11 @@ FaultCodesShown =
     × (fault_codes error.Read ≡ codes " A9")
     × (fault_codes error.Failed ≡ codes " A10")
     × (fault_codes (error.Body body.Version) ≡ codes " A11 B8")
+    × (fault_codes error.Salts ≡ codes " A12")
 
 pub fault_codes_shown : FaultCodesShown
 unfolding digits
-fault_codes_shown = (refl, refl, refl, refl, refl, refl, refl, refl, refl, refl, refl, refl)
+fault_codes_shown = (refl, refl, refl, refl, refl, refl, refl, refl, refl, refl, refl, refl, refl)
 
 -- ---- small texts
 

@@ -209,6 +209,7 @@ pub fn push_fault_codes(
             out.extend_from_slice(b" A11")?;
             push_body_codes(alloc, out, e)?;
         }
+        AuditError::Salts => out.extend_from_slice(b" A12")?,
     }
     Ok(())
 }

@@ -5,7 +5,7 @@ use Rattle.std.specs.Io.KnownBytes.{Consumes, IsAtEnd, Keeps}
 use Rattle.std.proofs.lemmas.Bool.{cases_Bool, lt-ltb, ltb-false, ltb-true}
 use Rattle.std.proofs.lemmas.List.{length-append}
 use Rattle.ssh_offers.specs.declared.error.AuditError.{AuditError}
-use Rattle.ssh_offers.specs.declared.error.AuditError.TheVariants.{Offer, Signature, WrongAlgorithm, WeakSignature, CertSignature, Address, FileTooLong, Memory, Read, Failed, Body}
+use Rattle.ssh_offers.specs.declared.error.AuditError.TheVariants.{Offer, Signature, WrongAlgorithm, WeakSignature, CertSignature, Address, FileTooLong, Memory, Read, Failed, Body, Salts}
 use Rattle.ssh_trust.specs.declared.decision.Decision.{Decision}
 use Rattle.ssh_trust.specs.declared.pieces.Pieces.{Pieces}
 use Rattle.ssh_trust.specs.declared.search.Search.{Search}
@@ -157,6 +157,7 @@ stopped P new given d CertSignature h n = absurd h
 stopped P new given d Address h n = absurd h
 stopped P new given d Failed h n = absurd h
 stopped P new given d (Body x) h n = absurd h
+stopped P new given d Salts h n = absurd h
 
 -- an audit that stopped before the reader's end
 pub answers-stopped : (P : List ℕ → Type 0) (old new : Option (List ℕ)) (decision : List ℕ → Decision) (e : AuditError)

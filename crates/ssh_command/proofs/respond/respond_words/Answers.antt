@@ -1,8 +1,8 @@
-use Rattle.std.proofs.Common.{Some, map, rules}
+use Rattle.std.proofs.Common.{None, Some, map, rules}
 use Rattle.ssh_print.specs.ResponseView.{response}
 use Rattle.ssh_command.specs.CommandLine.{request_of}
 use Rattle.ssh_command.specs.WordsView.{request_in_memory}
-use Rattle.ssh_command.proofs.ResponseLemmas.{request_responds}
+use Rattle.ssh_command.proofs.ResponseLemmas.{nothing_responds, request_responds}
 use Rattle.ssh_command.proofs.respond.respond_words.Goals as goal
 
 pub returns-in-Ok : goal.returns-in-Ok
@@ -10,3 +10,9 @@ returns-in-Ok g c =
     request_responds response (request_of (map g.S.AsStr.text c.args.words.now)) (Some (request_in_memory c.in-Ok.request))
     (g.F.Files.source_state c.args.files.now) (g.F.Files.source_state c.respond_request.new.files) c.respond_request.result
     (search rules) c.respond_request.ensures
+
+pub returns-in-Err-Usage : goal.returns-in-Err-Usage
+returns-in-Err-Usage g c =
+    request_responds response (request_of (map g.S.AsStr.text c.args.words.now)) None
+    (g.F.Files.source_state c.args.files.now) (g.F.Files.source_state c.args.files.now) c.usage_fault.result
+    (search rules) (nothing_responds response (g.F.Files.source_state c.args.files.now) c.usage_fault.result c.usage_fault.ensures)
