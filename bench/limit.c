@@ -6,6 +6,7 @@
  *   limit host FILE BASE64 NAME                known_hosts: the first line of that name, and the first revocation
  *   limit auth FILE                            authorized_keys: the lines, each ended by an LF
  *   limit known FILE                           the same of known_hosts
+ *   limit hash FILE SALTS                      known_hosts: a line for each plain name, hashed with the next 20 bytes
  *
  * It streams the file. Of each line it finds the end, skips blanks and comments, cuts options or names off, looks the
  * type up, decodes the base64, walks the fields of the key blob, and compares the blob with the key. Only where that is
@@ -14,7 +15,8 @@
  *
  * It prints "line N", "revoked N" or "none", and "unreadable N" where it met such lines. Status: 0 found, 1 not found,
  * 2 no such file, command or base64. Of auth and known it writes the lines as they are, each after it was looked at in
- * the same way, and nothing else; the status is 0.
+ * the same way, and nothing else; the status is 0. Of hash it writes such lines, and every other as it is; the status is
+ * 2 where the salts run out.
  */
 #include <fcntl.h>
 #include <stdint.h>
@@ -73,6 +75,17 @@ static long decode(Span text, uint8_t *out) {
     uint32_t bits = group(last, 4 - padding);
     if ((seen | bits) & NO_DIGIT || bits & unused) return -1;
     return put(end, bits, 3 - padding) - out;
+}
+
+/* Writes the base64 of 20 bytes. */
+static void write_base64(const uint8_t bytes[20], FILE *out) {
+    for (int at = 0; at < 18; at += 3) {
+        uint32_t bits = (uint32_t)bytes[at] << 16 | (uint32_t)bytes[at + 1] << 8 | bytes[at + 2];
+        for (int place = 0; place < 4; place++) putc_unlocked(ALPHABET[bits >> (18 - 6 * place) & 63], out);
+    }
+    uint32_t bits = (uint32_t)bytes[18] << 10 | (uint32_t)bytes[19] << 2;
+    for (int place = 0; place < 3; place++) putc_unlocked(ALPHABET[bits >> (12 - 6 * place) & 63], out);
+    putc_unlocked('=', out);
 }
 
 /* ---- key blobs (RFC 4253 section 6.6, RFC 5656, RFC 8709, PROTOCOL.u2f) */
@@ -427,13 +440,63 @@ static int copy_lines(Lines *lines, const Command *command) {
     return 0;
 }
 
+/* The names and what stands after them, of an entry whose names are plain. */
+static int take_plain_names(Span line, Span *marker, Span *names, Span *rest) {
+    static const Sought nothing;
+    if (line.len == 0 || *line.at == '#' || host_line(line, &nothing) == UNREADABLE) return 0;
+    *rest = line;
+    *marker = (Span){line.at, 0};
+    if (*line.at == '@') *marker = take_word(rest);
+    if (same(*marker, REVOKED_MARK)) return 0;
+    *names = take_word(rest);
+    skip_blanks(rest);
+    for (size_t i = 0; i < names->len; i++)
+        if (strchr("|*?!", names->at[i])) return 0;
+    return 1;
+}
+
+static void write_hashed(Span marker, Span name, const uint8_t salt[SALT], Span rest) {
+    uint8_t text[LINE_LIMIT], digest[DIGEST];
+    for (size_t i = 0; i < name.len; i++) text[i] = lower(name.at[i]);
+    hmac_sha1(salt, text, name.len, digest);
+    if (marker.len) fwrite(marker.at, 1, marker.len, stdout), putc_unlocked(' ', stdout);
+    fputs("|1|", stdout);
+    write_base64(salt, stdout);
+    putc_unlocked('|', stdout);
+    write_base64(digest, stdout);
+    putc_unlocked(' ', stdout);
+    fwrite(rest.at, 1, rest.len, stdout);
+    putc_unlocked('\n', stdout);
+}
+
+/* Each line, or one for each of its names. */
+static int hash_lines(Lines *lines, FILE *salts) {
+    Span line, marker, names, rest, name;
+    uint8_t salt[SALT];
+    while (next_line(lines, &line)) {
+        if (!take_plain_names(line, &marker, &names, &rest)) {
+            fwrite(line.at, 1, line.len, stdout);
+            putc_unlocked('\n', stdout);
+            continue;
+        }
+        while (take_item(&names, &name)) {
+            if (fread(salt, 1, SALT, salts) != SALT) return 2;
+            write_hashed(marker, name, salt, rest);
+        }
+    }
+    return 0;
+}
+
 int main(int argc, char **argv) {
     static Lines lines;
     static uint8_t key[LINE_LIMIT];
     const Command *command = argc < 2 ? NULL : find_command(argc, argv);
-    if (!command) return 2;
+    int hashes = argc == 4 && strcmp(argv[1], "hash") == 0;
+    if (!command && !hashes) return 2;
     fill_digits();
     lines.file = open(argv[2], O_RDONLY);
+    FILE *salts = hashes ? fopen(argv[3], "rb") : NULL;
+    if (hashes) return lines.file < 0 || !salts ? 2 : hash_lines(&lines, salts);
     if (lines.file >= 0 && argc == 3) return copy_lines(&lines, command);
     long len = argc == 3 ? -1 : decode(text_of(argv[3]), key);
     if (lines.file < 0 || len < 0) return 2;
