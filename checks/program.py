@@ -5,12 +5,14 @@ usage: program.py [PROGRAM] [--after LOG]
 
 PROGRAM is crates/ssh_audit/out/ssh_audit where it is left out. After its own rows it starts the checks beside it:
 examples.py (keys, certificates and signatures of ssh-keygen and openssl through examples/), documents.py (the commands
-of README.md and docs/MANUAL.md as they stand), codes.py (whether each printed code is in a row) and refused_growth.py
-(each growth of memory refused in turn). With --after, as .ci/run starts it, refused_bodies.py and refused_lines.py run
-too, which need the kit's `rt`, and the counts in the last line of LOG, what `rt ci` printed, are added. The last line
-is 'N passed, M failed' for all of them. The status is 0 where nothing failed. What cannot run has failed.
+of README.md and docs/MANUAL.md as they stand), codes.py (whether each printed code is in a row), refused_growth.py (each
+growth of memory refused in turn) and hostile.py (input that was made to hurt). With --after, as .ci/run starts it,
+refused_bodies.py and refused_lines.py run too, which need the kit's `rt`, and the counts in the last line of LOG, what
+`rt ci` printed, are added. The last line is 'N passed, M failed' for all of them. The status is 0 where nothing failed.
+What cannot run has failed.
 
-Needs ssh-keygen (Debian: openssh-client), openssl 3, gcc, /dev/full, and the built program. It takes two to three minutes, without --after.
+Needs ssh-keygen (Debian: openssh-client), openssl 3, gcc, /dev/full, and the built program. It takes some three minutes,
+without --after.
 """
 import argparse
 import base64
@@ -581,7 +583,7 @@ def try_all(path, tally):
             except (OSError, subprocess.SubprocessError) as error:
                 tally.check(row.__name__, repr(error), "no error")
     print(f"program.py itself: {tally.passed} passed, {tally.failed} failed", flush=True)
-    for name in ("examples.py", "documents.py", "refused_growth.py"):
+    for name in ("examples.py", "documents.py", "refused_growth.py", "hostile.py"):
         other_check(name, tally, path)
 
 

@@ -1,0 +1,243 @@
+#!/usr/bin/env python3
+"""Runs the built program on input that was made to hurt: pipes without an end as each kind of file, little address
+space, a file that shrinks while it is read, names of files that are no plain words, and random bytes, half of them
+mutations of files that are read. Whatever it is given, the program has to end with a status of 0 to 2 and a text of
+one of the forms that docs/CODES.md lists, and nothing on standard error.
+
+usage: hostile.py [PROGRAM] [--seconds N] [--seed N]
+
+Random bytes are tried for N seconds (20 where nothing is said); the same seed gives the same files, as many as the time
+allows. The last line is 'N passed, M failed'; the status is 0 where nothing failed."""
+import argparse
+import concurrent.futures
+import os
+import pathlib
+import random
+import re
+import resource
+import subprocess
+import sys
+import tempfile
+import threading
+import time
+
+sys.dont_write_bytecode = True
+import program
+from program import FILES, SSHSIG, SIGNED_MESSAGE, Tally, hash_names, host, login, rewrite, show, sshsig
+from refused_growth import private_body
+
+DEFAULT = pathlib.Path(program.CRATE) / "out" / "ssh_audit"
+CODE = rb"[A-Z]\d+( [ -~]*)?"
+TRIPLE = rb"( ([0-9a-f]{2})+| -){3}"
+EVIDENCE = rb"(evidence \d" + TRIPLE + rb"\n){1,2}"
+FAULT = re.compile(rb"fault (" + CODE + rb"|usage|value [a-z]+|file [ -~]*|vouch \d+)\n")
+DECISION = re.compile(
+    rb"(granted line \d+\n(rights[ a-z0-9]*\n(command [ -~]*\n)?(carry [ -~]*\n)*)?"
+    rb"|denied N[1-6]( \d+)?\n(reason \d+ G\d+[ -~]*\n){0,100})" + EVIDENCE
+)
+SIGNATURE = re.compile(rb"denied namespace\n|(vouched|denied N6 0)\n" + EVIDENCE)
+SHOWN = re.compile(rb"type [ -~]*\n([a-z-]+ [ -~]*\n)*")
+NEW = re.compile(rb"(.*\n)?", re.DOTALL)
+
+
+def form_of(asked):
+    """The form of an answer to these words that is no fault."""
+    forms = {"login": DECISION, "host": DECISION, "sshsig": SIGNATURE, "show": SHOWN, "rewrite": NEW, "hash": NEW}
+    return forms[asked[0]]
+
+
+def run(path, room, asked, stdin=b"", memory=None):
+    limit = (lambda: resource.setrlimit(resource.RLIMIT_AS, (memory, memory))) if memory else None
+    how = {"input": stdin} if isinstance(stdin, bytes) else {"stdin": stdin}
+    ran = subprocess.run([path, *asked], cwd=room, capture_output=True, timeout=program.SECONDS, check=False, preexec_fn=limit, **how)
+    return ran.returncode, ran.stdout, ran.stderr
+
+
+def is_defined(asked, answer):
+    """Whether the status goes with the text, and the text has a defined form."""
+    status, text, errors = answer
+    if errors or status not in (0, 1, 2):
+        return False
+    return bool((FAULT if status == 2 else form_of(asked)).fullmatch(text))
+
+
+# ---- files without an end, by a name
+
+
+def fed(fifo):
+    """Writes LFs into a FIFO for ever, or until nobody reads it."""
+    return subprocess.Popen(["sh", "-c", 'yes "" > "$1"', "", fifo], stderr=subprocess.DEVNULL)
+
+
+def fifo_rows(path, room, tally):
+    os.mkfifo(room / "fifo")
+    for asked, wanted in (
+        (login("fifo"), "fault A7\n"),
+        (login("keys", "fifo"), "fault file fifo\n"),
+        (host("fifo"), "fault A7\n"),
+        (host("hosts", "fifo"), "fault file fifo\n"),
+        (sshsig("fifo", "message"), "fault file fifo\n"),
+        (sshsig("body", "fifo"), "fault file fifo\n"),
+        (sshsig("body", "message", "fifo"), "fault file fifo\n"),
+        (rewrite("auth", "fifo"), "fault A7\n"),
+        (rewrite("known", "fifo"), "fault A7\n"),
+        (hash_names("fifo", "salts"), "fault A7\n"),
+        (hash_names("hosts", "fifo"), "fault file fifo\n"),
+        *((show(kind, "fifo"), "fault file fifo\n") for kind in ("key", "cert", "private", "sshsig")),
+    ):
+        writer = fed(room / "fifo")
+        try:
+            found = run(path, room, asked)
+        except subprocess.TimeoutExpired:
+            found = "no end"
+        writer.kill()
+        writer.wait()
+        tally.check(f"a FIFO without an end: {' '.join(asked[:5])}", found, (2, wanted.encode(), b""))
+
+
+# ---- little memory
+
+
+def memory_rows(path, room, tally):
+    """With little address space the answer is the own one, or out of memory, or the system starts no program at all."""
+    for asked in (login("keys", "vouched"), host("hosts", "host vouched"), rewrite("auth", "keys"), hash_names("hosts", "salts"), show("key", "keys"), sshsig("body", "message", "file vouched")):
+        own = run(path, room, asked)
+        answers = [run(path, room, asked, memory=mebibytes << 20) for mebibytes in range(1, 40)]
+        started = [answer for answer in answers if answer[0] >= 0 and answer[0] != 127]
+        other = [answer for answer in started if answer not in (own, (2, b"fault A8\n", b""))]
+        tally.check(f"little address space: {asked[0]}", (other[:1], answers[-1]), ([], own))
+
+
+# ---- files that change
+
+
+def shrinking_rows(path, room, tally):
+    """A trust file that is cut off while it is read: the answer is of a defined form, whatever was read."""
+    line = b"#" + b"x" * 62 + b"\n"
+    for turn in range(5):
+        (room / "shrinking").write_bytes(line * (1 << 20))
+        cut = threading.Timer(0.002 * (turn + 1), os.truncate, (room / "shrinking", turn * 1000))
+        cut.start()
+        answer = run(path, room, login("shrinking"))
+        cut.join()
+        tally.check(f"a file that shrinks, turn {turn}", is_defined(login("shrinking"), answer), True)
+    (room / "shrinking").unlink()
+
+
+# ---- names of files
+
+
+def name_rows(path, room, tally):
+    """A name with a line break, one with bytes that are no UTF-8, and long ones."""
+    (room / "a\nb").write_text(FILES["keys"])
+    tally.check("a line break in a name", run(path, room, login("a\nb", "vouched"))[0], 0)
+    tally.check("a missing name with a line break", run(path, room, login("keys", "c\nd")), (2, b"fault file c\\x0ad\n", b""))
+    (room / "real").mkdir()
+    with open(os.fsencode(room / "real") + b"/\xff", "wb") as other:
+        other.write(FILES["keys"].encode())
+    tally.check("a name that is no UTF-8", run(path, room, login(b"real/\xff", "vouched")), (2, b"fault usage\n", b""))
+    for length in (255, 256, 4095, 4096, 100_000):
+        name = "n" * length
+        tally.check(f"a name of {length} bytes", run(path, room, login("keys", name)), (2, f"fault file {name}\n".encode(), b""))
+
+
+# ---- random bytes
+
+
+def mutated(draw, sample):
+    """The bytes with some changes: a byte, a run cut out, doubled or replaced, the end cut off."""
+    data = bytearray(sample)
+    for _ in range(draw.randint(1, 8)):
+        at = draw.randint(0, len(data))
+        end = min(len(data), at + draw.choice((1, 1, 2, 4, 16, 64)))
+        change = draw.randint(0, 5)
+        if change == 0 and at < len(data):
+            data[at] = draw.randint(0, 255)
+        elif change == 1:
+            del data[at:end]
+        elif change == 2:
+            data[at:at] = data[at:end]
+        elif change == 3:
+            data[at:end] = draw.randbytes(end - at)
+        elif change == 4:
+            data[at:at] = draw.choice((b"\n", b" ", b"\t", b",", b'"', b"\\", b"\0", b"=", b"@", b"|", b"\xff\xff\xff\xff", b"\r\n"))
+        else:
+            del data[at + draw.randint(0, 64) :]
+    return bytes(data)
+
+
+def samples():
+    """The words that ask about standard input, and what is read from it."""
+    lines = (
+        'from="10.0.0.0/8,*.example.org,!b?d",command="a \\"b\\"",no-pty,expiry-time="20300101" ' + FILES["keys"]
+        + 'cert-authority,principals="ann,bob" ' + FILES["keys"] + "# c\n\n" + FILES["keys"]
+    ).encode()
+    known = ("h,*.g,!x.g " + FILES["hosts"].split(" ", 1)[1] + "|1|" + "A" * 27 + "=|" + "A" * 27 + "= " + FILES["hosts"].split(" ", 1)[1]
+             + "@cert-authority " + FILES["hosts"] + FILES["revoked"]).encode()
+    yield login("-", "vouched"), lines
+    yield host("-", "host vouched"), known
+    yield rewrite("auth", "-"), lines
+    yield rewrite("known", "-"), known
+    yield hash_names("-", "many salts"), known
+    yield login("keys", "-"), (FILES["vouched"] + "# c\n" + FILES["file vouched"]).encode()
+    yield show("key", "-"), FILES["keys"].encode()
+    yield show("cert", "-"), FILES["certificate"].encode()
+    yield show("private", "-"), private_body()
+    yield show("sshsig", "-"), SSHSIG
+    yield sshsig("-", "message", "file vouched"), SSHSIG
+
+
+def try_one(path, room, asked, data):
+    try:
+        answer = run(path, room, asked, data)
+    except subprocess.TimeoutExpired:
+        answer = ("no end", b"", b"")
+    return is_defined(asked, answer) or (asked, data, answer)
+
+
+def random_rows(path, room, tally, seconds, seed):
+    """As many files as the time allows, in turns of a hundred. One check: all have an answer of a defined form."""
+    draw = random.Random(seed)
+    kinds = list(samples())
+    ends = time.monotonic() + seconds
+    tried, wrong = 0, []
+    with concurrent.futures.ThreadPoolExecutor(os.cpu_count() or 2) as pool:
+        while time.monotonic() < ends and not wrong:
+            turn = []
+            for _ in range(100):
+                asked, sample = draw.choice(kinds)
+                data = mutated(draw, sample) if draw.random() < 0.5 else draw.randbytes(draw.choice((0, 1, 7, 64, 300, 5000)))
+                turn.append(pool.submit(try_one, path, room, asked, data))
+            found = [it.result() for it in turn]
+            tried += len(found)
+            wrong += [it for it in found if it is not True]
+    print(f"random files: {tried} by seed {seed}")
+    tally.check("random files", wrong[:1], [])
+
+
+def main():
+    parser = argparse.ArgumentParser(description=__doc__, formatter_class=argparse.RawDescriptionHelpFormatter)
+    parser.add_argument("program", nargs="?", default=str(DEFAULT))
+    parser.add_argument("--seconds", type=float, default=20)
+    parser.add_argument("--seed", type=int, default=1)
+    args = parser.parse_args()
+    path, tally = os.path.abspath(args.program), Tally()
+    if not os.access(path, os.X_OK):
+        print(f"{path} is not built: nothing was tried\n0 passed, 1 failed")
+        return 1
+    with tempfile.TemporaryDirectory() as folder:
+        room = pathlib.Path(folder)
+        for name, text in FILES.items():
+            (room / name).write_text(text, encoding="utf-8")
+        (room / "body").write_bytes(SSHSIG)
+        (room / "message").write_bytes(SIGNED_MESSAGE)
+        (room / "many salts").write_bytes(bytes(20 * 1000))
+        for row in (fifo_rows, memory_rows, shrinking_rows, name_rows):
+            row(path, room, tally)
+        random_rows(path, room, tally, args.seconds, args.seed)
+    print(f"{tally.passed} passed, {tally.failed} failed")
+    return 1 if tally.failed else 0
+
+
+if __name__ == "__main__":
+    sys.exit(main())
