@@ -1,6 +1,19 @@
 //! Patterns (ssh_config(5), PATTERNS).
 
-ghost use Rattle.std.specs.Prelude.{◌≡◌, ◌↔◌, ◌≤◌, ◌+◌, ◌*◌, IsTrue, length, map, option_map};
+ghost use Rattle.std.specs.Prelude.{
+  ◌≡◌,
+  ◌↔◌,
+  ◌<◌,
+  ◌≤◌,
+  ◌+◌,
+  ◌*◌,
+  ◌&&◌,
+  false,
+  IsTrue,
+  length,
+  map,
+  option_map,
+};
 ghost use Rattle.ssh_patterns.specs.Matching.{Matches, is_match, after_star, after_byte, folded};
 
 /// How two bytes are compared.
@@ -54,10 +67,58 @@ fn after_byte<'p, 't>(case: Case, pattern: &'p [u8], text: &'t [u8]) -> Option<(
     }
 }
 
+/// What is left of the pattern and of the text without the bytes at their ends that are the same,
+/// up to the last star, and whether nothing at their ends differs.
+fn without_end<'p, 't>(case: Case, pattern: &'p [u8], text: &'t [u8]) -> (bool, &'p [u8], &'t [u8])
+    ensures value { is_match (map (folded case) pattern.entry.now) (map (folded case) text.entry.now)
+        ≡ (result.0
+        && is_match (map (folded case) result.1.now) (map (folded case) result.2.now)) }
+    ensures lengths { length result.1.now + length text.entry.now
+        ≡ length result.2.now + length pattern.entry.now }
+    ensures shorter { length result.2.now ≤ length text.entry.now }
+    ensures differ { result.0 ≡ false → 0 < length result.1.now }
+{
+    let mut wanted = pattern;
+    let mut left = text;
+    while let [front @ .., last] = wanted {
+        let [others @ .., byte] = left else {
+            return (true, wanted, left);
+        };
+        let last = case.fold(*last);
+        if last == b'*' {
+            return (true, wanted, left);
+        }
+        if last != b'?' && last != case.fold(*byte) {
+            return (false, wanted, left);
+        }
+        wanted = front;
+        left = others;
+    }
+    (true, wanted, left)
+}
+
+/// Whether the text matches the pattern, each byte of both as it is compared, and the turns of the
+/// loops: one for each byte at their ends, and then those from the front. Mostly the last byte shows
+/// that a text does not match.
+pub(crate) fn matches_in(case: Case, pattern: &[u8], text: &[u8]) -> (bool, u128)
+    ensures value { result.0 ≡ is_match (map (folded case) pattern.now)
+        (map (folded case) text.now) }
+    ensures most { result.1 ≤ (length pattern.now + 1) * (length text.now + 1) }
+    ensures least { IsTrue result.0 → length text.now ≤ result.1 }
+{
+    let (alike, wanted, left) = without_end(case, pattern, text);
+    let passed = (text.len() - left.len()) as u128;
+    if !alike {
+        return (false, passed + 1);
+    }
+    let (matches, turns) = matches_from_front(case, wanted, left);
+    (matches, passed + turns)
+}
+
 /// Whether the text matches the pattern, each byte of both as it is compared, and the turns of the
 /// loop. A star stands for no bytes at first. Where what follows it does not match, the last star
 /// stands for one byte more: an earlier one never needs to.
-pub(crate) fn matches_in(case: Case, pattern: &[u8], text: &[u8]) -> (bool, u128)
+fn matches_from_front(case: Case, pattern: &[u8], text: &[u8]) -> (bool, u128)
     ensures value { result.0 ≡ is_match (map (folded case) pattern.now)
         (map (folded case) text.now) }
     ensures most { result.1 ≤ (length pattern.now + 1) * (length text.now + 1) }

@@ -1,20 +1,9 @@
-use Rattle.std.proofs.Common.{◌∙◌, sym, map}
-use Rattle.ssh_patterns.specs.Matching.{folded}
-use Rattle.ssh_patterns.proofs.TurnLemmas.{going-start, going-star, going-byte, text-end}
+use Rattle.std.proofs.Common.{length}
+use Rattle.ssh_patterns.proofs.EndLemmas.{both-turns}
 use Rattle.ssh_patterns.proofs.pattern.matches_in.Goals as goal
 
-pub loop-rest-init : goal.loop-rest-init
-loop-rest-init c = going-start (map (folded c.args.case) c.args.pattern.now) (map (folded c.args.case) c.args.text.now)
-
-pub loop-rest-preserved-in-Some : goal.loop-rest-preserved-in-Some
-loop-rest-preserved-in-Some c = going-star _ _ _ _ _ _ _ _ c.loop-rest.invariant (sym c.in-Some.ensures)
-
-pub loop-rest-preserved-in-Some-after_byte : goal.loop-rest-preserved-in-Some-after_byte
-loop-rest-preserved-in-Some-after_byte c =
-    going-byte _ _ _ _ _ _ _ _ _ c.loop-rest.invariant (sym c.in_default.ensures) (sym c.in-Some-after_byte.ensures)
-
-pub returns-then-is_empty-clause-value : goal.returns-then-is_empty-clause-value
-returns-then-is_empty-clause-value c =
-    c.is_empty-then-is_empty.ensures
-    ∙ text-end (folded c.args.case) _ _ _ _ _ c.loop-rest.wanted.now c.loop-rest.left.now c.loop-rest.invariant
-    (sym c.in_default.ensures) (sym c.if-is_empty.ensures)
+pub returns-clause-most : goal.returns-clause-most
+returns-clause-most c =
+    both-turns (length c.args.pattern.now) (length c.args.text.now) (length c.without_end-alike.result.1.now)
+    (length c.without_end-alike.result.2.now) c.matches_from_front-matches.result.1 c.without_end-alike.ensures.lengths
+    c.without_end-alike.ensures.shorter c.matches_from_front-matches.ensures.most

@@ -1,7 +1,7 @@
 use Rattle.std.proofs.Common.{ℕ, List, length, map, option_map}
 use Rattle.ssh_patterns.specs.Matching.{is_match, folded}
 use Rattle.ssh_patterns.proofs.TurnLemmas.{Going, turns_left}
-use Rattle.ssh_patterns.proofs.pattern.matches_in.Given as goal
+use Rattle.ssh_patterns.proofs.pattern.matches_from_front.Given as goal
 
 abbrev pub invariant-loop-rest : goal.invariant-loop-rest
 invariant-loop-rest l =
