@@ -3,9 +3,11 @@
 ghost use Rattle.std.specs.Prelude.{
   ◌≡◌,
   ◌↔◌,
+  ◌<◌,
   ◌≤◌,
   ◌+◌,
   IsTrue,
+  IsOk,
   ◌++◌,
   [],
   length,
@@ -90,6 +92,7 @@ impl KeptLine {
         ensures count { OnOk result (kept_count self.new ≤ kept_count self.old + length part.now) }
         ensures bound { length self.new.bytes ≤ line_limit }
         ensures err { OnErr result (self.new ≡ self.old) }
+        ensures spare { line_limit < length part.now → IsOk result }
     {
         if self.too_long {
             return Ok(());
@@ -109,6 +112,7 @@ impl KeptLine {
         ensures count { OnOk result (kept_count self.new ≤ length part.now) }
         ensures bound { length self.new.bytes ≤ line_limit }
         ensures err { OnErr result (self.new ≡ self.old) }
+        ensures spare { line_limit < length part.now → IsOk result }
     {
         if part.len() > LINE_LIMIT {
             self.bytes.clear();

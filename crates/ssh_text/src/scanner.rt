@@ -16,6 +16,7 @@ ghost use Rattle.std.specs.Prelude.{
   false,
   List,
   ℕ,
+  IsOk,
   IsTrue,
   IsSome,
   IfSome,
@@ -24,7 +25,7 @@ ghost use Rattle.std.specs.Prelude.{
   OnOk,
   OnErr,
 };
-ghost use Rattle.ssh_text.specs.Text.{line_limit};
+ghost use Rattle.ssh_text.specs.Text.{line_len, line_limit};
 ghost use Rattle.ssh_text.specs.Scan.{
   HasNoNewline,
   IsLastLine,
@@ -117,6 +118,8 @@ impl Scanner {
         ensures used { IfOk result (λ fed. self.new.used ≡ self.old.used + fed.0) }
         ensures bounded { length self.new.kept.bytes ≤ line_limit }
         ensures err { OnErr result (self.new ≡ self.old) }
+        // What makes a line too long is used whatever memory does.
+        ensures spare { line_limit < line_len piece.now → IsOk result }
     {
         let end = line_len(piece);
         self.take_part(&piece[..end])?;
@@ -139,6 +142,7 @@ impl Scanner {
         ensures ready { OnOk result (self.new.ready ≡ false) }
         ensures bounded { length self.new.kept.bytes ≤ line_limit }
         ensures err { OnErr result (self.new ≡ self.old) }
+        ensures spare { line_limit < length part.now → IsOk result }
     {
         if self.ended {
             self.kept.begin(part)?;
