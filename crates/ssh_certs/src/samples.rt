@@ -14,19 +14,16 @@ fn read_samples()
     ensures { SampleReads }
 {}
 
-/// Certificates over an ECDSA key and over security keys, signed by RSA and ECDSA keys.
+/// Certificates over an ECDSA key and over security keys, signed by RSA and ECDSA keys, and one that
+/// a security key signed.
 fn made_certificates_as_read()
-    ensures { MadeCertificatesRead }
+    ensures made { MadeCertificatesRead }
+    ensures by_security_key { SignedBySecurityKey }
 {}
 
 /// The data of options.
 fn option_data_as_read()
     ensures { DataRead }
-{}
-
-/// A certificate that a security key signed.
-fn signed_by_security_key()
-    ensures { SignedBySecurityKey }
 {}
 
 /// Certificates with a fault in a public field, and cut ones.

@@ -3,6 +3,7 @@ pub mod SignatureLaws
 pub mod Blobs
 pub mod Ranges
 pub mod Bits
+pub mod RsaSizes
 pub mod Texts
 pub mod KeyFaults
 pub mod SignatureFaults

@@ -11,4 +11,7 @@ use Rattle.ssh_certs.proofs.samples.made_certificates_as_read.Goals as goal
 
 pub returns : goal.returns
 unfolding string_at boolean_at mpint_at mpint_bytes plain_kind certificate_kind key_blob positive_at point_at public_at fields_at blob_at key_in signature_blob sk_at signature_at signature_in signed_part certificate_blob items_within packed_at signer_at certificate_signature_at certificate_at certificate_in
-returns c = ((refl, refl, refl), (refl, refl, refl), (refl, refl, refl))
+returns c = record {
+  made = ((refl, refl, refl), (refl, refl, refl), (refl, refl, refl));
+  by_security_key = (refl, refl);
+}
