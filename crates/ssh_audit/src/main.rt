@@ -6,7 +6,8 @@
 
 mod system;
 
-use ssh_command::{WordsError, refuse, run};
+use ssh_command::{refuse, run};
+use ssh_words::WordsError;
 use std::alloc::Global;
 use std::io::{ErrorKind, Result};
 use std::process::ExitCode;

@@ -9,7 +9,7 @@ use Rattle.ssh_inputs.specs.declared.read.ReadError.{ReadError}
 use Rattle.ssh_inputs.specs.declared.read.ReadError.TheVariants as fault
 use Rattle.ssh_offers.specs.declared.query.Signed.{Signed}
 use Rattle.ssh_print.specs.Responses.{Response as Shown, no_file_response}
-use Rattle.ssh_command.specs.Asked.{AuditFiles}
+use Rattle.ssh_words.specs.Asked.{AuditFiles}
 use Rattle.ssh_command.specs.Audits.{Audits, Deciding, IsAuditFault, IsTrustReadFault, IsVouchReadFault, after_vouching, audit_response, decided_response, or_vouch_fault, vouched_in, vouched_or_fault, vouched_response}
 use Rattle.ssh_command.specs.Responding.{AuditsFile, AuditsVouched, IsFaultOf}
 use Rattle.ssh_command.proofs.SourceLemmas.{Alike, alike-same, file-alike, left-alike, none-failed, one-failed, over_limit, vouched-same, vouching-alike}

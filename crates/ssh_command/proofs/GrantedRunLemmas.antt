@@ -1,26 +1,28 @@
 -- A run that ends with status 0 is a grant.
 use Rattle.std.proofs.Common.{◌≡◌, ◌∙◌, ℕ, List, Option, Some, None, Result, Ok, Err, ap, subst, sym, refl, inl, inr, arith}
+use Rattle.std.specs.Prelude.{◌^◌}
 use Rattle.std.specs.Option.{ok_or}
 use Rattle.clap.specs.Words.{Row, Text}
 use Rattle.jiff.specs.Types.{TimeZone}
 use Rattle.ssh_wire.specs.Reading.{◌>>=◌}
+use Rattle.ssh_offers.specs.declared.query.EmptyPrincipals.TheVariants.{Any}
 use Rattle.ssh_offers.specs.Query.{HostCheck, Login as LoginAsked}
 use Rattle.ssh_print.specs.Responses.{Response, usage_response, value_response}
 use Rattle.ssh_inputs.specs.SourceState.{SourceState}
-use Rattle.ssh_inputs.specs.Values.{zone_text, ReadsZone}
-use Rattle.ssh_command.specs.declared.options.OptionName.{OptionName}
-use Rattle.ssh_command.specs.declared.options.OptionName.TheVariants as option
-use Rattle.ssh_command.specs.declared.subcommand.Subcommand.TheVariants.{Host, Login}
-use Rattle.ssh_command.specs.Asked.{AuditFiles}
+use Rattle.ssh_inputs.specs.Values.{empty_principals_of, number_below, zone_text, ReadsZone}
+use Rattle.ssh_words.specs.declared.options.OptionName.{OptionName}
+use Rattle.ssh_words.specs.declared.options.OptionName.TheVariants as option
+use Rattle.ssh_words.specs.declared.subcommand.Subcommand.TheVariants.{Host, Login}
+use Rattle.ssh_words.specs.Asked.{AuditFiles}
 use Rattle.ssh_command.specs.Audits.{Audits, Deciding, IsAuditFault, IsVouchReadFault, host_by, login_by}
-use Rattle.ssh_command.specs.CommandLine.{Request, request_of}
+use Rattle.ssh_words.specs.CommandLine.{Request, request_of}
 use Rattle.ssh_command.specs.GrantedRuns.{GrantsHost, GrantsLogin}
 use Rattle.ssh_command.specs.Granting.{HostGranted, IsOfBytes, LoginGranted}
 use Rattle.ssh_command.specs.Hosts.{RespondsToHost, host_spelled}
 use Rattle.ssh_command.specs.Logins.{RespondsToLogin, login_spelled}
-use Rattle.ssh_command.specs.Options.{option_name}
+use Rattle.ssh_words.specs.Options.{option_name}
 use Rattle.ssh_command.specs.Requests.{Answers, RespondsBy, request_words, source_of}
-use Rattle.ssh_command.specs.Spelling.{RespondsTo, audit_files, given, needed, or_fault, value}
+use Rattle.ssh_words.specs.Spelling.{RespondsTo, audit_files, given, needed, or_fault, read_or, value, value_or}
 use Rattle.ssh_command.proofs.GrantingLemmas.{host_granted, login_granted}
 
 -- ---- values that are none have the status 2
@@ -55,6 +57,9 @@ fault-faulty o v = or-faulty v (value_response (option_name o)) refl
 value-faulty : {A : Type 0} (spells : Text → Option A) (o : OptionName) (rows : List Row) → IsFaulty (value spells o rows)
 value-faulty spells o rows = step-faulty (needed o rows) _ (needed-faulty o rows) (λ text. fault-faulty o (spells text))
 
+optional-faulty : {A : Type 0} (absent : A) (spells : Text → Option A) (o : OptionName) (rows : List Row) → IsFaulty (value_or absent spells o rows)
+optional-faulty absent spells o rows = fault-faulty o (read_or absent spells (given o rows))
+
 login-faulty : (rows : List Row) (zone : Option TimeZone) → IsFaulty (login_spelled rows zone)
 unfolding login_spelled
 login-faulty rows zone =
@@ -64,8 +69,10 @@ login-faulty rows zone =
     step-faulty _ _ (value-faulty _ option.User rows) (λ user.
     step-faulty _ _ (value-faulty _ option.Now rows) (λ now.
     step-faulty _ _ (fault-faulty option.Zone zone) (λ zone.
+    step-faulty _ _ (optional-faulty Any empty_principals_of option.EmptyPrincipals rows) (λ empty_principals.
+    step-faulty _ _ (optional-faulty 0 (number_below (2 ^ 32)) option.RsaMinimum rows) (λ rsa_minimum.
     step-faulty _ _ (needed-faulty option.Algorithm rows) (λ algorithm.
-    step-faulty _ _ (needed-faulty option.Address rows) (λ address. none-faulty _))))))))
+    step-faulty _ _ (needed-faulty option.Address rows) (λ address. none-faulty _))))))))))
 
 host-faulty : (rows : List Row) → IsFaulty (host_spelled rows)
 unfolding host_spelled
@@ -75,7 +82,9 @@ host-faulty rows =
     step-faulty _ _ (value-faulty _ option.Hash rows) (λ exchange_hash.
     step-faulty _ _ (value-faulty _ option.Port rows) (λ port.
     step-faulty _ _ (value-faulty _ option.Now rows) (λ now.
-    step-faulty _ _ (needed-faulty option.Host rows) (λ host. none-faulty _))))))
+    step-faulty _ _ (optional-faulty Any empty_principals_of option.EmptyPrincipals rows) (λ empty_principals.
+    step-faulty _ _ (optional-faulty 0 (number_below (2 ^ 32)) option.RsaMinimum rows) (λ rsa_minimum.
+    step-faulty _ _ (needed-faulty option.Host rows) (λ host. none-faulty _))))))))
 
 -- ---- answers that are faults
 

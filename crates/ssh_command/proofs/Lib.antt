@@ -1,7 +1,4 @@
-mod PlainCommand
 mod WrittenText
-mod CommandLineLemmas
-mod SubcommandLemmas
 mod SourceLemmas
 mod SshsigLemmas
 mod AuditLemmas

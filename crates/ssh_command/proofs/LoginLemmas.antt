@@ -6,20 +6,22 @@ use Rattle.base64.specs.Engines.{standard}
 use Rattle.base64.specs.GeneralPurpose.{decoded_of}
 use Rattle.clap.specs.Words.{Row}
 use Rattle.jiff.specs.Types.{TimeZone}
+use Rattle.ssh_offers.specs.declared.query.EmptyPrincipals.{EmptyPrincipals}
+use Rattle.ssh_offers.specs.declared.query.EmptyPrincipals.TheVariants.{Any}
 use Rattle.ssh_offers.specs.Query.{Login}
 use Rattle.ssh_inputs.specs.SourceState.{IfTells, SourceState}
-use Rattle.ssh_inputs.specs.Values.{ReadsZone, hex_bytes, number_below, short_bytes, short_hex, zone_text}
+use Rattle.ssh_inputs.specs.Values.{ReadsZone, empty_principals_of, hex_bytes, number_below, short_bytes, short_hex, zone_text}
 use Rattle.ssh_print.specs.declared.response.Response.{Response as Printed}
 use Rattle.ssh_print.specs.Responses.{Response as Shown}
-use Rattle.ssh_command.specs.declared.error.CommandError.{CommandError}
-use Rattle.ssh_command.specs.declared.error.CommandError.TheVariants.{Usage, Value, Memory}
-use Rattle.ssh_command.specs.declared.options.OptionName.{OptionName}
-use Rattle.ssh_command.specs.declared.options.OptionName.TheVariants as option
-use Rattle.ssh_command.specs.Asked.{AuditFiles}
+use Rattle.ssh_words.specs.declared.error.CommandError.{CommandError}
+use Rattle.ssh_words.specs.declared.error.CommandError.TheVariants.{Usage, Value, Memory}
+use Rattle.ssh_words.specs.declared.options.OptionName.{OptionName}
+use Rattle.ssh_words.specs.declared.options.OptionName.TheVariants as option
+use Rattle.ssh_words.specs.Asked.{AuditFiles}
 use Rattle.ssh_command.specs.Audits.{Audits, login_by}
 use Rattle.ssh_command.specs.Logins.{RespondsInZone, RespondsToLogin, login_spelled}
-use Rattle.ssh_command.specs.Spelling.{RespondsTo, audit_files, given, needed, or_fault, value}
-use Rattle.ssh_command.specs.WordsView.{IfAnswered}
+use Rattle.ssh_words.specs.Spelling.{RespondsTo, audit_files, given, needed, or_fault, value, value_or}
+use Rattle.ssh_words.specs.WordsView.{IfAnswered}
 
 -- ---- values
 
@@ -29,13 +31,15 @@ given_value view o None v h = cc
 given_value view o (Some x) v h = cc
 
 -- the login of these values
-pub login_is_spelled : (rows : List Row) (told : Option TimeZone) (offered signature session user : List ℕ) (now : ℕ) (zone : TimeZone) (algorithm address : List ℕ)
+pub login_is_spelled : (rows : List Row) (told : Option TimeZone) (offered signature session user : List ℕ) (now : ℕ) (zone : TimeZone) (empty : EmptyPrincipals) (bits : ℕ) (algorithm address : List ℕ)
     → value (decoded_of standard) option.Offer rows ≡ Ok offered
     → value hex_bytes option.Signature rows ≡ Ok signature
     → value short_hex option.Session rows ≡ Ok session
     → value short_bytes option.User rows ≡ Ok user
     → value (number_below (2 ^ 64)) option.Now rows ≡ Ok now
     → or_fault option.Zone told ≡ Ok zone
+    → value_or Any empty_principals_of option.EmptyPrincipals rows ≡ Ok empty
+    → value_or 0 (number_below (2 ^ 32)) option.RsaMinimum rows ≡ Ok bits
     → needed option.Algorithm rows ≡ Ok algorithm
     → needed option.Address rows ≡ Ok address
     → login_spelled rows told ≡ Ok (record {
@@ -48,9 +52,11 @@ pub login_is_spelled : (rows : List Row) (told : Option TimeZone) (offered signa
       address = address;
       now = now;
       zone = zone;
+      empty_principals = empty;
+      rsa_minimum = bits;
     })
 unfolding login_spelled
-login_is_spelled rows told offered signature session user now zone algorithm address a b c d e f g h = rw (a, b, c, d, e, f, g, h) refl
+login_is_spelled rows told offered signature session user now zone empty bits algorithm address a b c d e f g h i j = rw (a, b, c, d, e, f, g, h, i, j) refl
 
 -- ---- answers
 

@@ -14,13 +14,13 @@ use Rattle.ssh_print.specs.declared.response.Response.{Response as Printed}
 use Rattle.ssh_print.specs.ResponseView.{response}
 use Rattle.ssh_print.specs.Responses.{Response as Shown, usage_response}
 use Rattle.ssh_show.specs.Showing.{show_kind}
-use Rattle.ssh_command.specs.declared.error.CommandError.{CommandError}
-use Rattle.ssh_command.specs.declared.error.CommandError.TheVariants.{Usage, Value, Memory}
-use Rattle.ssh_command.specs.declared.options.OptionName.TheVariants as option
-use Rattle.ssh_command.specs.declared.subcommand.Subcommand.{Subcommand}
-use Rattle.ssh_command.specs.declared.subcommand.Subcommand.TheVariants.{Show, Login, Host, Sshsig, Rewrite, Hash}
+use Rattle.ssh_words.specs.declared.error.CommandError.{CommandError}
+use Rattle.ssh_words.specs.declared.error.CommandError.TheVariants.{Usage, Value, Memory}
+use Rattle.ssh_words.specs.declared.options.OptionName.TheVariants as option
+use Rattle.ssh_words.specs.declared.subcommand.Subcommand.{Subcommand}
+use Rattle.ssh_words.specs.declared.subcommand.Subcommand.TheVariants.{Show, Login, Host, Sshsig, Rewrite, Hash}
 use Rattle.ssh_command.specs.Audits.{Audits, host_by, login_by}
-use Rattle.ssh_command.specs.CommandLine.{Request, request_of}
+use Rattle.ssh_words.specs.CommandLine.{Request, request_of}
 use Rattle.ssh_command.specs.Hashings.{Hashes}
 use Rattle.ssh_command.specs.Hosts.{host_spelled}
 use Rattle.ssh_command.specs.Logins.{login_spelled}
@@ -28,11 +28,11 @@ use Rattle.ssh_command.specs.Requests.{Responds, RespondsBy, RespondsIn}
 use Rattle.ssh_command.specs.Responding.{IsUsageOf}
 use Rattle.ssh_command.specs.Rewritings.{RewritesFile, new_file, rewrite_kind}
 use Rattle.ssh_command.specs.Shows.{ShowsFile}
-use Rattle.ssh_command.specs.Sshsigs.{Signs, sshsig_question}
-use Rattle.ssh_command.specs.Spelling.{IsToldAs, RespondsTo, audit_files, needed, value}
-use Rattle.ssh_command.specs.WordsView.{IfAnswered}
+use Rattle.ssh_command.specs.Sshsigs.{Signs}
+use Rattle.ssh_words.specs.Spelling.{IsToldAs, RespondsTo, audit_files, needed, sshsig_question, value}
+use Rattle.ssh_words.specs.WordsView.{IfAnswered}
 use Rattle.ssh_command.proofs.AuditLemmas.{audits-same}
-use Rattle.ssh_command.proofs.CommandLineLemmas.{no_request}
+use Rattle.ssh_words.proofs.CommandLineLemmas.{no_request}
 use Rattle.ssh_command.proofs.HashingLemmas.{hashes-same}
 use Rattle.ssh_command.proofs.RewritingLemmas.{rewrites-same}
 use Rattle.ssh_command.proofs.ShowLemmas.{shows-same}

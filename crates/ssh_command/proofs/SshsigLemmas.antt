@@ -11,7 +11,7 @@ use Rattle.ssh_offers.specs.declared.query.Signed.{Signed}
 use Rattle.ssh_print.specs.Responses.{Response as Shown, no_file_response}
 use Rattle.ssh_print.specs.SshsigText.{sshsig_response}
 use Rattle.ssh_command.specs.Audits.{after_vouching, or_vouch_fault, vouched_in, vouched_or_fault}
-use Rattle.ssh_command.specs.Asked.{SshsigQuestion}
+use Rattle.ssh_words.specs.Asked.{SshsigQuestion}
 use Rattle.ssh_command.specs.Responding.{IsFaultOf, SignsBody, SignsMessage, SignsVouched}
 use Rattle.ssh_command.specs.Sshsigs.{IsContentFault, IsSignatureFault, Signs, body_over, body_response, bytes_answer, message_over, message_response, signature_response, vouched_over}
 use Rattle.ssh_command.proofs.AuditLemmas.{left_by, told_by, vouch_fault-same, vouch_read_failed}

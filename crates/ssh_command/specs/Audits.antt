@@ -11,7 +11,7 @@ use Rattle.ssh_trust.specs.Answer.{if_short}
 use Rattle.ssh_trust.specs.Reads.{AnswersReader}
 use Rattle.ssh_trust.specs.LoginDecision.{login_decision}
 use Rattle.ssh_trust.specs.HostDecision.{host_decision}
-use Rattle.ssh_command.specs.Asked.{AuditFiles}
+use Rattle.ssh_words.specs.Asked.{AuditFiles}
 use Rattle.ssh_inputs.specs.SourceState.{SourceState, bytes_at}
 use Rattle.ssh_inputs.specs.Parts.{part_at, after_part}
 use Rattle.ssh_inputs.specs.VouchFile.{vouched_of}

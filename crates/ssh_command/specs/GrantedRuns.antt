@@ -6,12 +6,12 @@ use Rattle.ssh_offers.specs.Query.{HostCheck, Login}
 use Rattle.ssh_print.specs.Responses.{Response}
 use Rattle.ssh_inputs.specs.SourceState.{SourceState}
 use Rattle.ssh_inputs.specs.Values.{ReadsZone, zone_text}
-use Rattle.ssh_command.specs.declared.options.OptionName.TheVariants as option
-use Rattle.ssh_command.specs.Asked.{AuditFiles}
+use Rattle.ssh_words.specs.declared.options.OptionName.TheVariants as option
+use Rattle.ssh_words.specs.Asked.{AuditFiles}
 use Rattle.ssh_command.specs.Granting.{HostGranted, LoginGranted}
 use Rattle.ssh_command.specs.Hosts.{host_spelled}
 use Rattle.ssh_command.specs.Logins.{login_spelled}
-use Rattle.ssh_command.specs.Spelling.{given}
+use Rattle.ssh_words.specs.Spelling.{given}
 
 -- the options spell this login, in the zone of its text, and the files grant it
 pub record GrantsLogin (rows : List Row) (f : AuditFiles) (s : SourceState) (r : Response) : Type 0 where

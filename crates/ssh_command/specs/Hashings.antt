@@ -8,10 +8,10 @@ use Rattle.ssh_inputs.specs.Loading.{NoReadFailed, within_limit}
 use Rattle.ssh_inputs.specs.Salts.{salts_of}
 use Rattle.ssh_print.specs.Responses.{Response, no_file_response}
 use Rattle.clap.specs.Words.{Row}
-use Rattle.ssh_command.specs.declared.options.OptionName.TheVariants as option
+use Rattle.ssh_words.specs.declared.options.OptionName.TheVariants as option
 use Rattle.ssh_command.specs.Audits.{IsFileFault}
 use Rattle.ssh_command.specs.Rewritings.{IsRewriteFault, RewritesFile, rewrite_over}
-use Rattle.ssh_command.specs.Spelling.{RespondsTo, needed}
+use Rattle.ssh_words.specs.Spelling.{RespondsTo, needed}
 
 -- ---- salts
 

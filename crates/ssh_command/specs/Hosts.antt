@@ -4,13 +4,14 @@ use Rattle.base64.specs.Engines.{standard}
 use Rattle.base64.specs.GeneralPurpose.{decoded_of}
 use Rattle.clap.specs.Words.{Row}
 use Rattle.ssh_wire.specs.Reading.{◌>>=◌}
+use Rattle.ssh_offers.specs.declared.query.EmptyPrincipals.TheVariants.{Any}
 use Rattle.ssh_offers.specs.Query.{HostCheck}
 use Rattle.ssh_inputs.specs.SourceState.{SourceState}
-use Rattle.ssh_inputs.specs.Values.{hex_bytes, number_below}
+use Rattle.ssh_inputs.specs.Values.{empty_principals_of, hex_bytes, number_below}
 use Rattle.ssh_print.specs.Responses.{Response}
-use Rattle.ssh_command.specs.declared.options.OptionName.TheVariants as option
+use Rattle.ssh_words.specs.declared.options.OptionName.TheVariants as option
 use Rattle.ssh_command.specs.Audits.{Audits, host_by}
-use Rattle.ssh_command.specs.Spelling.{RespondsTo, audit_files, needed, value}
+use Rattle.ssh_words.specs.Spelling.{RespondsTo, audit_files, needed, value, value_or}
 
 -- the host's key that the options spell, or the first value that is none, in this order
 unfoldable pub host_spelled : List Row → Result HostCheck Response
@@ -20,6 +21,8 @@ host_spelled rows = do
   exchange_hash ← value hex_bytes option.Hash rows
   port ← value (number_below (2 ^ 16)) option.Port rows
   now ← value (number_below (2 ^ 64)) option.Now rows
+  empty_principals ← value_or Any empty_principals_of option.EmptyPrincipals rows
+  rsa_minimum ← value_or 0 (number_below (2 ^ 32)) option.RsaMinimum rows
   host ← needed option.Host rows
   Ok (record {
     offered = offered;
@@ -28,6 +31,8 @@ host_spelled rows = do
     host = host;
     port = port;
     now = now;
+    empty_principals = empty_principals;
+    rsa_minimum = rsa_minimum;
   })
 
 -- what the files answer to the host's key that is spelled

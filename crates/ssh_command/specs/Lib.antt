@@ -1,9 +1,3 @@
-pub mod Options
-pub mod CommandLine
-pub mod Asked
-pub mod AskedView
-pub mod Spelling
-pub mod WordsView
 pub mod Audits
 pub mod Logins
 pub mod Hosts

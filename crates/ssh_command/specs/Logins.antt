@@ -5,13 +5,14 @@ use Rattle.base64.specs.GeneralPurpose.{decoded_of}
 use Rattle.clap.specs.Words.{Row}
 use Rattle.jiff.specs.Types.{TimeZone}
 use Rattle.ssh_wire.specs.Reading.{◌>>=◌}
+use Rattle.ssh_offers.specs.declared.query.EmptyPrincipals.TheVariants.{Any}
 use Rattle.ssh_offers.specs.Query.{Login}
 use Rattle.ssh_inputs.specs.SourceState.{SourceState}
-use Rattle.ssh_inputs.specs.Values.{ReadsZone, hex_bytes, number_below, short_bytes, short_hex, zone_text}
+use Rattle.ssh_inputs.specs.Values.{ReadsZone, empty_principals_of, hex_bytes, number_below, short_bytes, short_hex, zone_text}
 use Rattle.ssh_print.specs.Responses.{Response}
-use Rattle.ssh_command.specs.declared.options.OptionName.TheVariants as option
+use Rattle.ssh_words.specs.declared.options.OptionName.TheVariants as option
 use Rattle.ssh_command.specs.Audits.{Audits, login_by}
-use Rattle.ssh_command.specs.Spelling.{RespondsTo, audit_files, given, needed, or_fault, value}
+use Rattle.ssh_words.specs.Spelling.{RespondsTo, audit_files, given, needed, or_fault, value, value_or}
 
 -- the login that the options spell, the zone being read; or the first value that is none, in this order
 unfoldable pub login_spelled : List Row → Option TimeZone → Result Login Response
@@ -22,6 +23,8 @@ login_spelled rows zone = do
   user ← value short_bytes option.User rows
   now ← value (number_below (2 ^ 64)) option.Now rows
   zone ← or_fault option.Zone zone
+  empty_principals ← value_or Any empty_principals_of option.EmptyPrincipals rows
+  rsa_minimum ← value_or 0 (number_below (2 ^ 32)) option.RsaMinimum rows
   algorithm ← needed option.Algorithm rows
   address ← needed option.Address rows
   Ok (record {
@@ -34,6 +37,8 @@ login_spelled rows zone = do
     address = address;
     now = now;
     zone = zone;
+    empty_principals = empty_principals;
+    rsa_minimum = rsa_minimum;
   })
 
 -- what the files answer to the login that is spelled in this zone

@@ -6,11 +6,11 @@ use Rattle.ssh_inputs.specs.Parts.{first_line, after_line}
 use Rattle.ssh_inputs.specs.Words.{words_in}
 use Rattle.ssh_inputs.specs.Loading.{NoReadFailed, LineReadFailed}
 use Rattle.ssh_print.specs.Responses.{Response, out_of_memory, usage_response}
-use Rattle.ssh_command.specs.declared.request.WordsError.{WordsError}
-use Rattle.ssh_command.specs.declared.request.WordsError.TheVariants.{Usage, Memory}
-use Rattle.ssh_command.specs.declared.subcommand.Subcommand.{Subcommand}
-use Rattle.ssh_command.specs.declared.subcommand.Subcommand.TheVariants.{Show, Login, Host, Sshsig, Rewrite, Hash}
-use Rattle.ssh_command.specs.CommandLine.{Request, request_of}
+use Rattle.ssh_words.specs.declared.request.WordsError.{WordsError}
+use Rattle.ssh_words.specs.declared.request.WordsError.TheVariants.{Usage, Memory}
+use Rattle.ssh_words.specs.declared.subcommand.Subcommand.{Subcommand}
+use Rattle.ssh_words.specs.declared.subcommand.Subcommand.TheVariants.{Show, Login, Host, Sshsig, Rewrite, Hash}
+use Rattle.ssh_words.specs.CommandLine.{Request, request_of}
 use Rattle.ssh_command.specs.Hashings.{RespondsToHash}
 use Rattle.ssh_command.specs.Hosts.{RespondsToHost}
 use Rattle.ssh_command.specs.Logins.{RespondsToLogin}

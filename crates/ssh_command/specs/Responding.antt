@@ -6,7 +6,7 @@ use Rattle.ssh_offers.specs.declared.error.AuditError.{AuditError}
 use Rattle.ssh_offers.specs.declared.error.AuditError.TheVariants.{Read, Memory}
 use Rattle.ssh_offers.specs.declared.query.Signed.{Signed}
 use Rattle.ssh_command.specs.Audits.{Deciding, IsFileFault, IsTrustReadFault, answer_over, decided_response, refusal_of}
-use Rattle.ssh_command.specs.Asked.{SshsigQuestion}
+use Rattle.ssh_words.specs.Asked.{SshsigQuestion}
 use Rattle.ssh_command.specs.Sshsigs.{IsContentFault, body_response, message_response}
 use Rattle.ssh_inputs.specs.Loading.{NoReadFailed, OneReadFailed}
 use Rattle.ssh_print.specs.Responses.{Response, no_file_response, usage_response}

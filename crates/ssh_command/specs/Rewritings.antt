@@ -12,10 +12,10 @@ use Rattle.ssh_inputs.specs.declared.read.ReadError.{ReadError}
 use Rattle.ssh_inputs.specs.declared.read.ReadError.TheVariants as fault
 use Rattle.ssh_print.specs.Responses.{Response, refused_response}
 use Rattle.clap.specs.Words.{Row}
-use Rattle.ssh_command.specs.declared.options.OptionName.TheVariants as option
+use Rattle.ssh_words.specs.declared.options.OptionName.TheVariants as option
 use Rattle.ssh_command.specs.declared.rewriting.NewFile.{NewFile}
 use Rattle.ssh_command.specs.declared.rewriting.NewFile.TheVariants.{CanonicalAuth, CanonicalKnown, HashedKnown}
-use Rattle.ssh_command.specs.Spelling.{RespondsTo, needed, value}
+use Rattle.ssh_words.specs.Spelling.{RespondsTo, needed, value}
 
 -- the kinds of trust files, by what they are written anew as
 abbrev pub rewrite_kind : List ℕ → Option NewFile

@@ -6,9 +6,9 @@ use Rattle.ssh_inputs.specs.Loading.{NoReadFailed, within_limit}
 use Rattle.ssh_print.specs.Responses.{Response, no_file_response}
 use Rattle.ssh_show.specs.declared.kind.ShowKind.{ShowKind}
 use Rattle.ssh_show.specs.Showing.{Shows, show_kind}
-use Rattle.ssh_command.specs.declared.options.OptionName.TheVariants as option
+use Rattle.ssh_words.specs.declared.options.OptionName.TheVariants as option
 use Rattle.ssh_command.specs.Audits.{IsFileFault}
-use Rattle.ssh_command.specs.Spelling.{RespondsTo, needed, value}
+use Rattle.ssh_words.specs.Spelling.{RespondsTo, needed, value}
 
 -- what the bytes of the file of this name are shown as
 abbrev pub ShowsBytes : ShowKind → List ℕ → Option (List ℕ) → Response → Type 0

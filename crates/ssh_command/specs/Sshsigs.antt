@@ -7,10 +7,8 @@ use Rattle.ssh_trust.specs.declared.sshsig_answer.SshsigAnswer.{SshsigAnswer}
 use Rattle.ssh_trust.specs.SshsigAnswer.{sshsig_answer}
 use Rattle.ssh_command.specs.Audits.{IsFileFault, IsVouchReadFault, after_vouching, vouched_in}
 use Rattle.clap.specs.Words.{Row}
-use Rattle.ssh_wire.specs.Reading.{◌>>=◌}
-use Rattle.ssh_command.specs.declared.options.OptionName.TheVariants as option
-use Rattle.ssh_command.specs.Asked.{SshsigQuestion}
-use Rattle.ssh_command.specs.Spelling.{RespondsTo, given, needed}
+use Rattle.ssh_words.specs.Asked.{SshsigQuestion}
+use Rattle.ssh_words.specs.Spelling.{RespondsTo, sshsig_question}
 use Rattle.ssh_inputs.specs.SourceState.{SourceState, bytes_at}
 use Rattle.ssh_inputs.specs.Parts.{after_whole}
 use Rattle.ssh_inputs.specs.Loading.{NoReadFailed, within_limit}
@@ -74,14 +72,6 @@ abbrev pub Signs : SshsigQuestion → SourceState → Option SourceState → Res
 Signs w s t r = (NoReadFailed s t × (r ≡ signature_response w s)) ⊎ IsSignatureFault w s t r
 
 -- ---- words
-
--- the question that the options spell
-abbrev pub sshsig_question : List Row → Result SshsigQuestion Response
-sshsig_question rows = do
-  body ← needed option.Body rows
-  message ← needed option.Message rows
-  namespace ← needed option.Namespace rows
-  Ok (record { body = body; message = message; namespace = namespace; vouch = given option.Vouch rows })
 
 abbrev pub RespondsToSshsig : List Row → SourceState → Option SourceState → Response → Type 0
 RespondsToSshsig rows = RespondsTo Signs (sshsig_question rows)

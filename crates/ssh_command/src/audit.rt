@@ -11,18 +11,18 @@ ghost use Rattle.ssh_command.specs.Responding.{
   IsFaultOf,
   is_memory,
 };
-ghost use Rattle.ssh_command.specs.AskedView.{names_of};
+ghost use Rattle.ssh_words.specs.AskedView.{names_of};
 ghost use Rattle.ssh_print.specs.ResponseView.{response};
 ghost use Rattle.ssh_inputs.specs.SourceState.{IfTells, bytes_at, left_of};
 ghost use Rattle.ssh_inputs.specs.VouchFile.{vouched_of};
 
-use crate::asked::AuditFiles;
 use crate::chosen::ChosenFile;
 use crate::question::Question;
 use ssh_inputs::{Files, ReadError, VouchError, read_vouch_file, read_vouched};
 use ssh_offers::{AuditError, Signed};
 use ssh_print::{Response, decision_response, file_fault, vouch_fault};
 use ssh_trust::Decision;
+use ssh_words::AuditFiles;
 use std::alloc::{AllocError, Global};
 
 /// The decision by the chosen file, which goes on lending the same source.

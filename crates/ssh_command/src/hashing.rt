@@ -2,17 +2,15 @@
 
 ghost use Rattle.std.specs.Prelude.{IfOk, Some};
 ghost use Rattle.ssh_command.specs.Hashings.{Hashes, HashesBy, RespondsToHash, salts_or_fault};
-ghost use Rattle.ssh_command.specs.WordsView.{IfAnswered, rows_in};
+ghost use Rattle.ssh_words.specs.WordsView.{IfAnswered, rows_in};
 ghost use Rattle.ssh_print.specs.ResponseView.{response};
 ghost use Rattle.ssh_inputs.specs.SourceState.{IfTells};
 
 use crate::audit::unread;
-use crate::error::CommandError;
-use crate::options::OptionName;
 use crate::rewriting::{NewFile, rewrite_file};
-use crate::words::Words;
 use ssh_inputs::{Files, read_salts, read_whole};
 use ssh_print::{Response, file_fault};
+use ssh_words::{CommandError, OptionName, Words};
 use std::alloc::{AllocError, Global};
 
 /// The response after the bytes of the file of salts were read.

@@ -1,16 +1,14 @@
 //! What is answered to `host`.
 
 ghost use Rattle.ssh_command.specs.Hosts.{RespondsToHost};
-ghost use Rattle.ssh_command.specs.WordsView.{IfAnswered, rows_in};
+ghost use Rattle.ssh_words.specs.WordsView.{IfAnswered, rows_in};
 ghost use Rattle.ssh_inputs.specs.SourceState.{IfTells};
 
 use crate::audit::respond_question;
-use crate::error::CommandError;
-use crate::options::OptionName;
-use crate::words::Words;
 use ssh_inputs::Files;
 use ssh_offers::HostQuery;
 use ssh_print::Response;
+use ssh_words::{CommandError, OptionName, Words};
 use std::alloc::Global;
 
 /// The response to a host's key.
@@ -29,6 +27,8 @@ pub fn respond_host<F: Files>(
     let exchange_hash = words.hex(alloc, OptionName::Hash)?;
     let port = words.port(OptionName::Port)?;
     let now = words.number(OptionName::Now)?;
+    let empty_principals = words.empty_principals()?;
+    let rsa_minimum = words.rsa_minimum()?;
     let host = words.needed(OptionName::Host)?;
     let query = HostQuery {
         offered: offered.as_slice(),
@@ -37,6 +37,8 @@ pub fn respond_host<F: Files>(
         host: host.as_bytes(),
         port,
         now,
+        empty_principals,
+        rsa_minimum,
     };
     let response = respond_question(alloc, &names, &query, files)?;
     Ok(response)

@@ -10,14 +10,14 @@ ghost use Rattle.ssh_print.specs.DecisionText.{evidence_line};
 ghost use Rattle.ssh_print.specs.Responses.{Response as Shown};
 ghost use Rattle.ssh_inputs.specs.SourceState.{SourceState};
 ghost use Rattle.ssh_inputs.specs.VouchFile.{vouched_of};
-ghost use Rattle.ssh_command.specs.declared.subcommand.Subcommand.TheVariants.{Host, Login};
-ghost use Rattle.ssh_command.specs.Asked.{AuditFiles};
+ghost use Rattle.ssh_words.specs.declared.subcommand.Subcommand.TheVariants.{Host, Login};
+ghost use Rattle.ssh_words.specs.Asked.{AuditFiles};
 ghost use Rattle.ssh_command.specs.Audits.{audit_response, host_by, login_by};
-ghost use Rattle.ssh_command.specs.CommandLine.{request_of};
+ghost use Rattle.ssh_words.specs.CommandLine.{request_of};
 ghost use Rattle.ssh_command.specs.GrantedRuns.{GrantsHost, GrantsLogin};
 ghost use Rattle.ssh_command.specs.Granting.{HostGranted, IsOfBytes, LoginGranted};
 ghost use Rattle.ssh_command.specs.Requests.{Answers, request_words, source_of};
-ghost use Rattle.ssh_command.specs.Spelling.{audit_files};
+ghost use Rattle.ssh_words.specs.Spelling.{audit_files};
 ghost use Rattle.ssh_command.specs.VouchLines.{HasBytes, vouch_file, vouch_line};
 
 /// What is printed of a signature is, after its number, a line of a vouch file; and a vouch file of

@@ -3,18 +3,16 @@
 ghost use Rattle.std.specs.Prelude.{option_map};
 ghost use Rattle.jiff.specs.Words.{plain_zone};
 ghost use Rattle.ssh_command.specs.Logins.{RespondsInZone, RespondsToLogin};
-ghost use Rattle.ssh_command.specs.WordsView.{IfAnswered, rows_in};
+ghost use Rattle.ssh_words.specs.WordsView.{IfAnswered, rows_in};
 ghost use Rattle.ssh_inputs.specs.SourceState.{IfTells};
 
 use crate::audit::respond_question;
-use crate::error::CommandError;
-use crate::options::OptionName;
 use crate::question::LoginQuestion;
-use crate::words::Words;
 use jiff::tz::TimeZone;
 use ssh_inputs::{Files, zone_of};
 use ssh_offers::LoginQuery;
 use ssh_print::Response;
+use ssh_words::{CommandError, OptionName, Words};
 use std::alloc::Global;
 
 /// The response to a login, where the zone is read.
@@ -36,6 +34,8 @@ fn respond_in_zone<F: Files>(
     let user = words.short_text(OptionName::User)?;
     let now = words.number(OptionName::Now)?;
     let zone = OptionName::Zone.or_fault(zone)?;
+    let empty_principals = words.empty_principals()?;
+    let rsa_minimum = words.rsa_minimum()?;
     let algorithm = words.needed(OptionName::Algorithm)?;
     let address = words.needed(OptionName::Address)?;
     let query = LoginQuery {
@@ -48,6 +48,8 @@ fn respond_in_zone<F: Files>(
         address: address.as_bytes(),
         now,
         zone: &zone,
+        empty_principals,
+        rsa_minimum,
     };
     let response = respond_question(alloc, &names, &LoginQuestion { query }, files)?;
     Ok(response)

@@ -7,11 +7,11 @@ ghost use Rattle.ssh_command.specs.Requests.{Answers, words_response};
 ghost use Rattle.ssh_command.specs.Printing.{Prints};
 ghost use Rattle.ssh_inputs.specs.SourceState.{IfTells};
 
-use crate::request::WordsError;
 use crate::respond::respond;
 use crate::sink::Sink;
 use ssh_inputs::Files;
 use ssh_print::FAULT;
+use ssh_words::WordsError;
 use std::alloc::{AllocError, Global};
 use std::convert::AsStr;
 

@@ -1,25 +1,22 @@
 //! From words and files to what is printed.
 
 ghost use Rattle.std.specs.Prelude.{[], map, IfOk, Some};
-ghost use Rattle.ssh_command.specs.CommandLine.{request_of};
+ghost use Rattle.ssh_words.specs.CommandLine.{request_of};
 ghost use Rattle.ssh_command.specs.Requests.{Responds, RespondsBy};
 ghost use Rattle.ssh_command.specs.Responding.{IsUsageOf};
-ghost use Rattle.ssh_command.specs.WordsView.{IfAnswered, request_in_memory};
+ghost use Rattle.ssh_words.specs.WordsView.{IfAnswered, request_in_memory};
 ghost use Rattle.ssh_print.specs.ResponseView.{response};
 ghost use Rattle.ssh_inputs.specs.SourceState.{IfTells};
 
-use crate::error::{CommandError, respond_fault};
 use crate::hashing::respond_hash;
 use crate::host::respond_host;
 use crate::login::respond_login;
-use crate::parse::parse;
-use crate::request::{Request, WordsError};
 use crate::rewriting::respond_rewrite;
 use crate::show::respond_show;
 use crate::sshsig::respond_sshsig;
-use crate::subcommand::Subcommand;
 use ssh_inputs::{Files, ReadError, read_first_line, read_words};
 use ssh_print::{Response, usage_fault};
+use ssh_words::{CommandError, Request, Subcommand, WordsError, parse, respond_fault};
 use std::alloc::{AllocError, Global};
 use std::convert::AsStr;
 

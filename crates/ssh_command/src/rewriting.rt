@@ -10,17 +10,15 @@ ghost use Rattle.ssh_command.specs.Rewritings.{
   new_response,
   rewrite_kind,
 };
-ghost use Rattle.ssh_command.specs.WordsView.{IfAnswered, rows_in};
+ghost use Rattle.ssh_words.specs.WordsView.{IfAnswered, rows_in};
 ghost use Rattle.ssh_print.specs.ResponseView.{response};
 ghost use Rattle.ssh_inputs.specs.SourceState.{IfTells};
 
-use crate::error::CommandError;
-use crate::options::OptionName;
-use crate::words::Words;
 use ssh_inputs::{Files, ReadError, read_whole};
 use ssh_offers::AuditError;
 use ssh_print::{DONE, Response, audit_fault};
 use ssh_rewriting::{HashError, hash_known, rewrite_auth, rewrite_known};
+use ssh_words::{CommandError, OptionName, Words};
 use std::alloc::{AllocError, Global};
 
 /// What a trust file is written anew as.

@@ -16,13 +16,10 @@ ghost use Rattle.ssh_command.specs.FileSamples.{
 ghost use Rattle.jiff.specs.Types.{TimeZone as Zone};
 ghost use Rattle.ssh_command.specs.Samples.{
   HostValuesInOrder,
-  HostsAsked,
+  LoginAsksMore,
   LoginSpelled,
   LoginValuesInOrder,
-  LoginsAsked,
-  OthersAsked,
   ShowKinds,
-  WordsRefused,
 };
 
 /// What files tell and leave, what is printed as one, and which fault is told where there are two.
@@ -37,14 +34,11 @@ fn files_as_told()
     ensures hashed { HashFaultsInOrder }
 {}
 
-/// What words ask for: a subcommand with its values, or the first that is none.
-fn words_as_asked()
-    ensures logins { LoginsAsked }
-    ensures hosts { HostsAsked }
-    ensures others { OthersAsked }
-    ensures refused { WordsRefused }
+/// Which values texts spell, and which fault is told where more than one spells none.
+fn values_as_read()
     ensures shown { ShowKinds }
     ensures login { (zone : Zone) → LoginSpelled zone }
+    ensures login_more { (zone : Zone) → LoginAsksMore zone }
     ensures login_order { LoginValuesInOrder }
     ensures host_order { HostValuesInOrder }
 {}

@@ -2,17 +2,15 @@
 
 ghost use Rattle.std.specs.Prelude.{IfOk};
 ghost use Rattle.ssh_command.specs.Shows.{RespondsToShow, ShowsFile};
-ghost use Rattle.ssh_command.specs.WordsView.{IfAnswered, rows_in};
+ghost use Rattle.ssh_words.specs.WordsView.{IfAnswered, rows_in};
 ghost use Rattle.ssh_print.specs.ResponseView.{response};
 ghost use Rattle.ssh_inputs.specs.SourceState.{IfTells};
 
 use crate::audit::unread;
-use crate::error::CommandError;
-use crate::options::OptionName;
-use crate::words::Words;
 use ssh_inputs::{Files, read_whole};
 use ssh_print::Response;
 use ssh_show::{ShowKind, show, show_kind};
+use ssh_words::{CommandError, OptionName, Words};
 use std::alloc::{AllocError, Global};
 
 /// The response to a file that is to be shown as this kind.

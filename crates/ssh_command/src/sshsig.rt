@@ -2,24 +2,22 @@
 
 ghost use Rattle.std.specs.Prelude.{◌≡◌, IfOk};
 ghost use Rattle.ssh_command.specs.Audits.{or_vouch_fault};
-ghost use Rattle.ssh_command.specs.AskedView.{question_of};
+ghost use Rattle.ssh_words.specs.AskedView.{question_of};
 ghost use Rattle.ssh_command.specs.Sshsigs.{RespondsToSshsig, Signs, bytes_answer};
 ghost use Rattle.ssh_command.specs.Responding.{SignsBody, SignsMessage, SignsVouched};
 ghost use Rattle.ssh_trust.specs.Answer.{Gives};
-ghost use Rattle.ssh_command.specs.WordsView.{IfAnswered, rows_in};
+ghost use Rattle.ssh_words.specs.WordsView.{IfAnswered, rows_in};
 ghost use Rattle.ssh_print.specs.ResponseView.{response};
 ghost use Rattle.ssh_print.specs.SshsigText.{sshsig_response};
 ghost use Rattle.ssh_inputs.specs.SourceState.{IfTells};
 ghost use Rattle.ssh_inputs.specs.VouchFile.{vouched_of};
 
-use crate::asked::SshsigQuestion;
 use crate::audit::{is_memory, unread};
-use crate::error::CommandError;
-use crate::words::Words;
 use ssh_inputs::{Files, VouchError, read_vouch_file, read_vouched, read_whole};
 use ssh_offers::{AuditError, Signed};
 use ssh_print::{Response, sshsig_response, vouch_fault};
 use ssh_trust::{SshsigAnswer, sshsig};
+use ssh_words::{CommandError, SshsigQuestion, Words};
 use std::alloc::{AllocError, Global};
 
 /// The answer by the bytes of a body and of a message.

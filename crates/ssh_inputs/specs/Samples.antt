@@ -3,10 +3,11 @@ use Rattle.std.specs.Prelude.{◌≡◌, ◌^◌, ℕ, List, [], ◌∷◌, code
 use Rattle.std.specs.Str.{chars, is_utf8}
 use Rattle.std.specs.Str.Lossy.{utf8_valid_len}
 use Rattle.std.proofs.Math.Utf8.{encode}
+use Rattle.ssh_offers.specs.declared.query.EmptyPrincipals.TheVariants.{Any, Never}
 use Rattle.ssh_offers.specs.declared.query.Signed.{Signed}
 use Rattle.ssh_inputs.specs.Parts.{cut_at_empty, cut_at_line}
 use Rattle.ssh_inputs.specs.Salts.{salts_of}
-use Rattle.ssh_inputs.specs.Values.{hex_bytes, number_below, zone_text}
+use Rattle.ssh_inputs.specs.Values.{empty_principals_of, hex_bytes, number_below, zone_text}
 use Rattle.ssh_inputs.specs.VouchFile.{three_fields, vouched_of}
 use Rattle.ssh_inputs.specs.Words.{pieces_of, words_in}
 
@@ -51,9 +52,10 @@ NumbersRead = (number_below (2 ^ 64) (codes "0") ≡ Some 0)
     × (number_below (2 ^ 16) (codes "22") ≡ Some 22)
     × (number_below (2 ^ 16) (codes "65535") ≡ Some 65535)
     × (number_below (2 ^ 16) (codes "000000000000000000000022") ≡ Some 22)
+    × (number_below (2 ^ 32) (codes "4294967295") ≡ Some 4294967295)
 
 pub numbers_read : NumbersRead
-numbers_read = (refl, refl, refl, refl, refl, refl)
+numbers_read = (refl, refl, refl, refl, refl, refl, refl)
 
 -- one more than the last, no digit, a sign, a blank, other digits
 abbrev pub NumbersRefused : Type 0
@@ -67,9 +69,21 @@ NumbersRefused = (number_below (2 ^ 64) (codes "18446744073709551616") ≡ None)
     × (number_below (2 ^ 64) (codes "15:") ≡ None)
     × (number_below (2 ^ 16) (codes "65536") ≡ None)
     × (number_below (2 ^ 16) (codes "65558") ≡ None)
+    × (number_below (2 ^ 32) (codes "4294967296") ≡ None)
 
 pub numbers_refused : NumbersRefused
-numbers_refused = (refl, refl, refl, refl, refl, refl, refl, refl, refl, refl)
+numbers_refused = (refl, refl, refl, refl, refl, refl, refl, refl, refl, refl, refl)
+
+-- two words, in lower case
+abbrev pub EmptyPrincipalsRead : Type 0
+EmptyPrincipalsRead = (empty_principals_of (codes "any") ≡ Some Any)
+    × (empty_principals_of (codes "never") ≡ Some Never)
+    × (empty_principals_of (codes "Never") ≡ None)
+    × (empty_principals_of (codes "none") ≡ None)
+    × (empty_principals_of [] ≡ None)
+
+pub empty_principals_read : EmptyPrincipalsRead
+empty_principals_read = (refl, refl, refl, refl, refl)
 
 -- where no zone is named it is UTC
 abbrev pub ZoneTexts : Type 0

@@ -7,6 +7,8 @@ use Rattle.hex.specs.Hex.{hex_digit_value}
 use Rattle.jiff.specs.Placed.{IsPosixZone}
 use Rattle.jiff.specs.Types.{TimeZone}
 use Rattle.jiff.specs.Words.{read_whole}
+use Rattle.ssh_offers.specs.declared.query.EmptyPrincipals.{EmptyPrincipals}
+use Rattle.ssh_offers.specs.declared.query.EmptyPrincipals.TheVariants.{Any, Never}
 
 -- ---- numbers: decimal digits alone, below a bound
 
@@ -60,3 +62,8 @@ zone_text (Some text) = text
 abbrev pub ReadsZone : List ℕ → Option TimeZone → Type 0
 ReadsZone text None = read_whole text ≡ None
 ReadsZone text (Some zone) = IsPosixZone text zone
+
+-- ---- whom a certificate without principals is for
+
+abbrev pub empty_principals_of : List ℕ → Option EmptyPrincipals
+empty_principals_of text = if bytes_eq text (codes "any") then Some Any else if bytes_eq text (codes "never") then Some Never else None

@@ -15,7 +15,9 @@ pub use base64_text::decode;
 pub use files::Files;
 pub use read::{ReadError, read_first_line, read_vouch_file, read_whole};
 pub use salts::read_salts;
-pub use values::{is_short, read_hex, read_number, read_port, read_short_hex};
+pub use values::{
+    is_short, read_bits, read_empty_principals, read_hex, read_number, read_port, read_short_hex,
+};
 pub use vouch::{VouchError, read_vouched};
 pub use words::read_words;
 pub use zone::zone_of;

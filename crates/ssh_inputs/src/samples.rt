@@ -2,6 +2,7 @@
 //! ensure.
 
 ghost use Rattle.ssh_inputs.specs.Samples.{
+  EmptyPrincipalsRead,
   HexRead,
   HexRefused,
   NumbersRead,
@@ -21,6 +22,7 @@ fn values_as_read()
     ensures numbers { NumbersRead }
     ensures no_numbers { NumbersRefused }
     ensures zones { ZoneTexts }
+    ensures empty_principals { EmptyPrincipalsRead }
     ensures salts { SaltsRead }
 {}
 

@@ -3,6 +3,7 @@
 ghost use Rattle.std.specs.Prelude.{◌≡◌, ◌<◌, ◌^◌, length, nat_lt, option_map, IfOk, IfSome};
 ghost use Rattle.std.specs.List.{list_all};
 ghost use Rattle.ssh_inputs.specs.Values.{
+  empty_principals_of,
   hex_bytes,
   pair_values,
   is_digit,
@@ -11,6 +12,7 @@ ghost use Rattle.ssh_inputs.specs.Values.{
 };
 
 use hex::FromHexError;
+use ssh_offers::EmptyPrincipals;
 use std::alloc::{AllocError, Global};
 
 /// The bytes that pairs of digits spell.
@@ -80,4 +82,25 @@ pub fn read_port(text: &str) -> Option<u16>
 {
     let number = read_number(text)?;
     u16::try_from(number).ok()
+}
+
+/// The number of bits that decimal digits spell, below 2^32, without a sign; leading zeros are good.
+pub fn read_bits(text: &str) -> Option<u32>
+    ensures { result ≡ number_below (2 ^ 32) text.now }
+{
+    let number = read_number(text)?;
+    u32::try_from(number).ok()
+}
+
+/// Whom a certificate without principals is for: `any` or `never`.
+pub fn read_empty_principals(text: &str) -> Option<EmptyPrincipals>
+    ensures { result ≡ empty_principals_of text.now }
+{
+    if text == "any" {
+        Some(EmptyPrincipals::Any)
+    } else if text == "never" {
+        Some(EmptyPrincipals::Never)
+    } else {
+        None
+    }
 }

@@ -100,10 +100,10 @@ admits-entry claim e a = ap (λ (o : Option Obstacle). admits (verdict_by o e)) 
 
 -- the same entry but for its names
 with-names : (claim : HostClaim) (e : KnownEntry) (names : Names) → AdmitsHost e claim → NamesHost names (looked_up claim.query) → AdmitsHost (record e { names = names }) claim
-with-names claim e names a h = record { key = a.key; role = a.role; names = h; in_force = a.in_force; critical = a.critical }
+with-names claim e names a h = record { key = a.key; role = a.role; names = h; in_force = a.in_force; critical = a.critical; sizes = a.sizes }
 
 without-names : (claim : HostClaim) (e : KnownEntry) (names : Names) → AdmitsHost (record e { names = names }) claim → NamesHost e.names (looked_up claim.query) → AdmitsHost e claim
-without-names claim e names a h = record { key = a.key; role = a.role; names = h; in_force = a.in_force; critical = a.critical }
+without-names claim e names a h = record { key = a.key; role = a.role; names = h; in_force = a.in_force; critical = a.critical; sizes = a.sizes }
 
 names-plain : (names : Names) (claim : HostClaim) → are_plain names ≡ true → NamesHost names (looked_up claim.query) ↔ Contains (lower_names names) (looked_up claim.query)
 names-plain names claim p =

@@ -84,43 +84,6 @@ fn refuses_private_bodies(rt: HostRuntime) -> Result<(), Fail> {
     Ok(())
 }
 
-/// A private body cut at each length.
-#[test]
-fn cuts_a_private_body(rt: HostRuntime) -> Result<(), Fail> {
-    let good = body(&rt, SECTION, b"\x01\x02")?;
-    for (n, _) in good.iter().enumerate() {
-        let want = match n {
-            0..15 => BodyError::Magic,
-            15..23 => short(15),
-            23..31 => short(23),
-            31..35 => short(31),
-            35..39 => short(35),
-            39..94 => short(39),
-            _ => short(94),
-        };
-        assert_eq!(rt; read_private(&good[..n]).err(), Some(want), "at {n}");
-    }
-    Ok(())
-}
-
-/// A private section cut at each length, padded or not: its places count in the whole body.
-#[test]
-fn cuts_a_private_section(rt: HostRuntime) -> Result<(), Fail> {
-    for (n, _) in SECTION.iter().enumerate() {
-        let cut = body(&rt, &SECTION[..n], b"")?;
-        let want = match n {
-            _ if n % 8 != 0 => BodyError::NotMultipleOfEight,
-            0 => short(98),
-            8 | 16 => short(106),
-            24..57 => short(121),
-            64..125 => short(157),
-            _ => short(225),
-        };
-        assert_eq!(rt; read_private(&cut).err(), Some(want), "at {n}");
-    }
-    Ok(())
-}
-
 /// A file signature and the first fault of each of its changes.
 #[test]
 fn refuses_file_signatures(rt: HostRuntime) -> Result<(), Fail> {
@@ -144,18 +107,6 @@ fn refuses_file_signatures(rt: HostRuntime) -> Result<(), Fail> {
     ];
     for (bytes, want) in rows {
         same(&rt, &read_sshsig(&bytes).err(), &Some(want));
-    }
-    for (n, _) in SSHSIG.iter().enumerate() {
-        let want = match n {
-            0..6 => BodyError::Magic,
-            6..10 => short(6),
-            10..65 => short(10),
-            65..73 => short(65),
-            73..77 => short(73),
-            77..87 => short(77),
-            _ => short(87),
-        };
-        assert_eq!(rt; read_sshsig(&SSHSIG[..n]).err(), Some(want), "at {n}");
     }
     Ok(())
 }

@@ -58,38 +58,6 @@ fn refuses_keys(rt: HostRuntime) {
     }
 }
 
-/// A key cut at each length, and with a byte too many.
-#[test]
-fn cuts_a_key(rt: HostRuntime) -> Result<(), Fail> {
-    for (n, _) in K0.iter().enumerate() {
-        let place = if n < 15 { 0 } else { 15 };
-        let want = KeyError::Wire(fault(place, WireCause::Short));
-        assert_eq!(rt; read_key(&K0[..n]).err(), Some(want), "at {n}");
-    }
-    let mut longer = Vec::from_slice(rt.alloc(), K0)?;
-    longer.push(0)?;
-    let want = KeyError::Wire(fault(51, WireCause::Trailing));
-    same(&rt, &read_key(&longer).err(), &Some(want));
-    Ok(())
-}
-
-/// A signature cut, and with a byte too many.
-#[test]
-fn cuts_signatures(rt: HostRuntime) -> Result<(), Fail> {
-    let mut longer = Vec::from_slice(rt.alloc(), S0)?;
-    longer.push(0)?;
-    let rows = [
-        (&S0[..14], fault(0, WireCause::Short)),
-        (&S0[..19], fault(15, WireCause::Short)),
-        (longer.as_slice(), fault(20, WireCause::Trailing)),
-        (&SK_SIGNATURE[..39], fault(36, WireCause::Short)),
-    ];
-    for (blob, want) in rows {
-        same(&rt, &read_signature(blob).err(), &Some(want));
-    }
-    Ok(())
-}
-
 /// Keys and signatures, read and written back.
 #[test]
 fn writes_what_was_read(rt: HostRuntime) -> Result<(), Fail> {

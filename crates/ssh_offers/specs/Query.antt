@@ -2,6 +2,7 @@
 use Rattle.std.specs.Prelude.{ℕ, List, Option, option_copied}
 use Rattle.jiff.specs.Types.{TimeZone}
 use Rattle.jiff.specs.Words.{plain_zone}
+use Rattle.ssh_offers.specs.declared.query.EmptyPrincipals.{EmptyPrincipals}
 use Rattle.ssh_offers.specs.declared.query.HostQuery.{HostQuery}
 use Rattle.ssh_offers.specs.declared.query.LoginQuery.{LoginQuery}
 
@@ -15,6 +16,8 @@ pub record Login : Type 0 where
   pub address : List ℕ
   pub now : ℕ
   pub zone : TimeZone
+  pub empty_principals : EmptyPrincipals
+  pub rsa_minimum : ℕ
 
 pub record HostCheck : Type 0 where
   pub offered : List ℕ
@@ -23,6 +26,8 @@ pub record HostCheck : Type 0 where
   pub host : List ℕ
   pub port : ℕ
   pub now : ℕ
+  pub empty_principals : EmptyPrincipals
+  pub rsa_minimum : ℕ
 
 abbrev pub login_of : LoginQuery → Login
 login_of q = record {
@@ -35,6 +40,8 @@ login_of q = record {
   address = q.address.now;
   now = q.now;
   zone = plain_zone q.zone.now;
+  empty_principals = q.empty_principals;
+  rsa_minimum = q.rsa_minimum;
 }
 
 abbrev pub host_check_of : HostQuery → HostCheck
@@ -45,4 +52,6 @@ host_check_of q = record {
   host = q.host.now;
   port = q.port;
   now = q.now;
+  empty_principals = q.empty_principals;
+  rsa_minimum = q.rsa_minimum;
 }

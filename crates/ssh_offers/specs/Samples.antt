@@ -10,6 +10,7 @@ use Rattle.ssh_certs.specs.Certificate.{Certificate}
 use Rattle.ssh_offers.specs.declared.error.AuditError.{AuditError}
 use Rattle.ssh_offers.specs.declared.error.AuditError.TheVariants.{CertSignature, WeakSignature, WrongAlgorithm}
 use Rattle.ssh_offers.specs.Algorithms.{pairing_test, signer_test, wanted_algorithm}
+use Rattle.ssh_offers.specs.declared.query.EmptyPrincipals.TheVariants.{Any}
 use Rattle.ssh_offers.specs.Evidence.{login_bytes}
 use Rattle.ssh_offers.specs.HostClaim.{fitting_test}
 use Rattle.ssh_offers.specs.Offer.{certified, plain}
@@ -226,6 +227,8 @@ login_by signature host address now zone = record {
   address = address;
   now = now;
   zone = zone;
+  empty_principals = Any;
+  rsa_minimum = 0;
 }
 
 -- its 118 bytes: session, 50, user, service, method, true, algorithm and key

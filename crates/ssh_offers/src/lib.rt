@@ -30,5 +30,5 @@ pub use host_claim::HostClaimView;
 pub use items::Items;
 pub use login_claim::LoginClaimView;
 pub use offer::Offer;
-pub use query::{HostQuery, LoginQuery, Signed};
+pub use query::{EmptyPrincipals, HostQuery, LoginQuery, Signed};
 pub use sshsig_claim::SshsigClaimView;

@@ -14,6 +14,16 @@ pub struct Signed {
     pub signature: Bytes,
 }
 
+/// Whether a certificate without principals is for every user, or for every host
+/// (PROTOCOL.certkeys), or for none.
+#[derive(Clone, Copy, Debug, PartialEq, Eq)]
+pub enum EmptyPrincipals {
+    /// It is for all.
+    Any,
+    /// It is for none.
+    Never,
+}
+
 /// A login that is asked for by public key (RFC 4252 section 7).
 #[derive(Clone, Copy, Debug)]
 pub struct LoginQuery<'a> {
@@ -35,6 +45,11 @@ pub struct LoginQuery<'a> {
     pub now: u64,
     /// The zone of expiry times that name none.
     pub zone: &'a TimeZone<'a>,
+    /// Whom a certificate without principals is for.
+    pub empty_principals: EmptyPrincipals,
+    /// How many bits an RSA key has to have, the offered one and a certificate's signer: 0 for any
+    /// number.
+    pub rsa_minimum: u32,
 }
 
 /// A host's key that is to be trusted: a client asks it of the exchange hash that the host signed
@@ -53,4 +68,9 @@ pub struct HostQuery<'a> {
     pub port: u16,
     /// Seconds since 1970-01-01 in UTC.
     pub now: u64,
+    /// Whom a certificate without principals is for.
+    pub empty_principals: EmptyPrincipals,
+    /// How many bits an RSA key has to have, the offered one and a certificate's signer: 0 for any
+    /// number.
+    pub rsa_minimum: u32,
 }

@@ -98,12 +98,14 @@ reason_codes reason.WrongCertKind = codes " G9"
 reason_codes reason.NotYetValid = codes " G10"
 reason_codes reason.NoLongerValid = codes " G11"
 reason_codes reason.PrincipalRefused = codes " G12"
+reason_codes reason.EmptyPrincipals = codes " G19"
 reason_codes (reason.CriticalUnknown name) = codes " G13 " ++ escaped name
 reason_codes reason.CriticalRepeated = codes " G14"
 reason_codes reason.CriticalData = codes " G15"
 reason_codes reason.CertSourceBad = codes " G16"
 reason_codes reason.CertSourceRefused = codes " G17"
 reason_codes reason.CommandConflict = codes " G18"
+reason_codes reason.RsaTooSmall = codes " G20"
 
 abbrev pub cause_codes : Cause → List ℕ
 cause_codes (cause.Revoked n) = codes " N1" ++ spaced (decimal n)

@@ -115,7 +115,7 @@ pub line_codes_shown : LineCodesShown
 unfolding digits
 line_codes_shown = (refl, refl, refl, refl, refl, refl, refl, refl, refl, refl, refl, refl, refl, refl, refl, refl)
 
--- G1 to G18, but for G2 and G5, which are never printed
+-- G1 to G20, but for G2 and G5, which are never printed
 abbrev pub ReasonCodesShown : Type 0
 ReasonCodesShown =
     (reason_codes (reason.Unreadable line_cause.RetiredType) ≡ codes " G1 L9")
@@ -134,9 +134,11 @@ ReasonCodesShown =
     × (reason_codes reason.CertSourceBad ≡ codes " G16")
     × (reason_codes reason.CertSourceRefused ≡ codes " G17")
     × (reason_codes reason.CommandConflict ≡ codes " G18")
+    × (reason_codes reason.EmptyPrincipals ≡ codes " G19")
+    × (reason_codes reason.RsaTooSmall ≡ codes " G20")
 
 pub reason_codes_shown : ReasonCodesShown
-reason_codes_shown = (refl, refl, refl, refl, refl, refl, refl, refl, refl, refl, refl, refl, refl, refl, refl, refl)
+reason_codes_shown = (refl, refl, refl, refl, refl, refl, refl, refl, refl, refl, refl, refl, refl, refl, refl, refl, refl, refl)
 
 -- N1 to N6, some with a line or an index
 abbrev pub CauseCodesShown : Type 0

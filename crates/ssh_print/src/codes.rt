@@ -214,7 +214,7 @@ pub fn push_fault_codes(
     Ok(())
 }
 
-/// The code of a reason, `G1` to `G18`; after `G1` those of the line's cause, after `G13` the name
+/// The code of a reason, `G1` to `G20`; after `G1` those of the line's cause, after `G13` the name
 /// of the option.
 pub fn push_reason_codes(
     alloc: Global,
@@ -237,6 +237,7 @@ pub fn push_reason_codes(
         Reason::NotYetValid => out.extend_from_slice(b" G10")?,
         Reason::NoLongerValid => out.extend_from_slice(b" G11")?,
         Reason::PrincipalRefused => out.extend_from_slice(b" G12")?,
+        Reason::EmptyPrincipals => out.extend_from_slice(b" G19")?,
         Reason::CriticalUnknown(name) => {
             out.extend_from_slice(b" G13 ")?;
             push_escaped(out, name.as_slice())?;
@@ -246,6 +247,7 @@ pub fn push_reason_codes(
         Reason::CertSourceBad => out.extend_from_slice(b" G16")?,
         Reason::CertSourceRefused => out.extend_from_slice(b" G17")?,
         Reason::CommandConflict => out.extend_from_slice(b" G18")?,
+        Reason::RsaTooSmall => out.extend_from_slice(b" G20")?,
     }
     Ok(())
 }

@@ -2,7 +2,8 @@
 
 use crate::sink::{FailsOnce, Page};
 use crate::source::{FailsAt, OneFile, Sips};
-use ssh_command::{WordsError, refuse, run};
+use ssh_command::{refuse, run};
+use ssh_words::WordsError;
 use std::alloc::{AllocError, Global};
 use std::io::ErrorKind;
 

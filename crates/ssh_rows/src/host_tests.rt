@@ -38,6 +38,8 @@ pub(crate) struct Asked<'a> {
     pub(crate) host: &'a str,
     pub(crate) port: &'a str,
     pub(crate) now: &'a str,
+    pub(crate) empty_principals: &'a str,
+    pub(crate) rsa_minimum: &'a str,
 }
 
 pub(crate) const PLAIN: Asked<'static> = Asked {
@@ -46,12 +48,14 @@ pub(crate) const PLAIN: Asked<'static> = Asked {
     host: "h",
     port: "22",
     now: "150",
+    empty_principals: "any",
+    rsa_minimum: "0",
 };
 
 const CERTIFIED: Asked<'static> = Asked { offer: X1, ..PLAIN };
 
 /// The words that ask for it, the vouch file being standard input.
-fn words_of<'a>(asked: &Asked<'a>) -> [&'a str; 17] {
+fn words_of<'a>(asked: &Asked<'a>) -> [&'a str; 21] {
     [
         "host",
         "--file",
@@ -70,6 +74,10 @@ fn words_of<'a>(asked: &Asked<'a>) -> [&'a str; 17] {
         asked.now,
         "--vouch",
         "-",
+        "--empty-principals",
+        asked.empty_principals,
+        "--rsa-minimum",
+        asked.rsa_minimum,
     ]
 }
 
@@ -285,6 +293,26 @@ const CERTIFICATE_ROWS: &[Row] = &[
         "denied N3\nreason 1 G12\n",
     ),
     (AUTHORITY, asked!(PLAIN, offer: ANY_HOST), "denied N6 1\n"),
+    (
+        AUTHORITY,
+        asked!(PLAIN, offer: ANY_HOST, empty_principals: "never"),
+        "denied N3\nreason 1 G19\n",
+    ),
+    (
+        AUTHORITY,
+        asked!(CERTIFIED, empty_principals: "never"),
+        "granted line 1\n",
+    ),
+    (
+        &["h ssh-rsa ", RSA, "\n"],
+        asked!(PLAIN, offer: RSA, signature: RSA_SHA2_SIGNATURE, rsa_minimum: "9"),
+        "denied N3\nreason 1 G20\n",
+    ),
+    (
+        &["h ssh-rsa ", RSA, "\n"],
+        asked!(PLAIN, offer: RSA, signature: RSA_SHA2_SIGNATURE, rsa_minimum: "8"),
+        "granted line 1\n",
+    ),
     (
         AUTHORITY,
         asked!(PLAIN, offer: FORCED),

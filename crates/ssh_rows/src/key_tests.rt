@@ -169,8 +169,33 @@ fn asks_for_what_is_required(rt: HostRuntime) -> Result<(), Fail> {
     compare_files(&rt, rt.alloc(), CERTIFIED_TOUCH_ROWS)
 }
 
+/// How many bits an RSA key has to have: the key of these rows has 8.
+const AT_LEAST_8: &[&str] = &["--rsa-minimum", "8"];
+
+const AT_LEAST_9: &[&str] = &["--rsa-minimum", "9"];
+
 /// RSA keys that are offered, and such keys that signed the certificate.
 const RSA_ROWS: &[FileRow] = &[
+    (
+        &["ssh-rsa ", RSA, "\n"],
+        asked!(PLAIN, offer: RSA, algorithm: "rsa-sha2-256", signature: RSA_SHA2_SIGNATURE, more: AT_LEAST_9),
+        "denied N3\nreason 1 G20\n",
+    ),
+    (
+        &["ssh-rsa ", RSA, "\n"],
+        asked!(PLAIN, offer: RSA, algorithm: "rsa-sha2-256", signature: RSA_SHA2_SIGNATURE, more: AT_LEAST_8),
+        ALL_RIGHTS,
+    ),
+    (
+        &["cert-authority ssh-ed25519 ", K1, "\n"],
+        asked!(PLAIN, offer: RSA_CERTIFICATE, algorithm: "rsa-sha2-256-cert-v01@openssh.com", signature: RSA_SHA2_SIGNATURE, more: AT_LEAST_9),
+        "denied N3\nreason 1 G20\n",
+    ),
+    (
+        &["cert-authority ssh-rsa ", RSA, "\n"],
+        asked!(CERTIFIED, offer: SHA256_SIGNER, more: AT_LEAST_9),
+        "denied N3\nreason 1 G20\n",
+    ),
     (
         &["ssh-rsa ", RSA, "\n"],
         asked!(PLAIN, offer: RSA, algorithm: "rsa-sha2-256", signature: RSA_SHA2_SIGNATURE),

@@ -647,25 +647,47 @@ fn reads_expiry_times_in_a_zone(rt: HostRuntime) -> Result<(), Fail> {
     compare_lines(&rt, rt.alloc(), K0, ZONE_ROWS)
 }
 
-/// Texts that are no zones.
-const NO_ZONES: &[&[&str]] = &[
-    &["--zone", ""],
-    &["--zone", "EST5EDT"],
-    &["--zone", "Europe/Berlin"],
-    &["--zone", "UTC0 "],
+/// Options that may be left out, with texts that are none of their values, and the fault: the first
+/// of them is told, in the order of the options.
+const NO_VALUES: &[(&[&str], &str)] = &[
+    (&["--zone", ""], "fault value zone\n"),
+    (&["--zone", "EST5EDT"], "fault value zone\n"),
+    (&["--zone", "Europe/Berlin"], "fault value zone\n"),
+    (
+        &["--empty-principals", "none", "--zone", "UTC0 "],
+        "fault value zone\n",
+    ),
+    (
+        &["--rsa-minimum", "2k", "--empty-principals", "Never"],
+        "fault value empty-principals\n",
+    ),
+    (
+        &["--empty-principals", ""],
+        "fault value empty-principals\n",
+    ),
+    (
+        &["--rsa-minimum", "4294967296"],
+        "fault value rsa-minimum\n",
+    ),
+    (&["--rsa-minimum", "+1"], "fault value rsa-minimum\n"),
 ];
 
 #[test]
-fn refuses_zones(rt: HostRuntime) -> Result<(), Fail> {
+fn refuses_values_of_options_that_may_be_left_out(rt: HostRuntime) -> Result<(), Fail> {
     let alloc = rt.alloc();
-    for more in NO_ZONES {
+    for (more, fault) in NO_VALUES {
         let words = words_of(alloc, &Asked { more, ..PLAIN })?;
-        compare(&rt, alloc, &words, b"", "", "fault value zone\n")?;
+        compare(&rt, alloc, &words, b"", "", fault)?;
     }
     Ok(())
 }
 
 const AUTHORITY: &str = "cert-authority";
+
+/// A certificate without principals is for all, or for none.
+const ANY: &[&str] = &["--empty-principals", "any"];
+
+const NEVER: &[&str] = &["--empty-principals", "never"];
 
 /// The options of the line of K1, the login, and the lines before the evidence.
 const CERTIFICATE_ROWS: &[(&str, Asked<'static>, &str)] = &[
@@ -702,6 +724,22 @@ const CERTIFICATE_ROWS: &[(&str, Asked<'static>, &str)] = &[
         asked!(CERTIFIED, offer: NO_PRINCIPALS),
         "denied N3\nreason 1 G12\n",
     ),
+    (
+        AUTHORITY,
+        asked!(CERTIFIED, offer: NO_PRINCIPALS, more: NEVER),
+        "denied N3\nreason 1 G19\n",
+    ),
+    (
+        "cert-authority,principals=\"ann\"",
+        asked!(CERTIFIED, offer: NO_PRINCIPALS, more: NEVER),
+        "denied N3\nreason 1 G12\n",
+    ),
+    (
+        AUTHORITY,
+        asked!(CERTIFIED, offer: NO_PRINCIPALS, more: ANY),
+        NO_RIGHTS,
+    ),
+    (AUTHORITY, asked!(CERTIFIED, more: NEVER), NO_RIGHTS),
     (
         "cert-authority,principals=\"bob,,ann\"",
         CERTIFIED,

@@ -7,8 +7,8 @@ pub(crate) mod user_certificates;
 
 use crate::login_tests::{K0_TRIPLE, login_line};
 use keys::{K0, S0};
-use ssh_command::WordsError;
 use ssh_row_files::{printed, printed_failing, printed_refusal, printed_until};
+use ssh_words::WordsError;
 use std::alloc::Global;
 use std::io::ErrorKind;
 use std::process::Abort;

@@ -17,10 +17,11 @@ use Rattle.ssh_offers.specs.LoginClaim.{LoginClaim}
 use Rattle.ssh_certs.specs.CertificateOptions.{forced_by_certificate}
 use Rattle.ssh_rules.specs.CertificateRules.{first_unknown, has_its_form, has_two, is_known, repeats}
 use Rattle.ssh_rules.specs.CertificateForce.{user_certificate}
-use Rattle.ssh_rules.specs.Obstacles.{first_obstacle, unknown_row}
+use Rattle.ssh_rules.specs.Obstacles.{first_obstacle, or_later, size_row, unknown_row}
 use Rattle.ssh_rules.specs.Admission.{AdmitsLogin, AreOnce, CriticalMet, IsUnexpired, IsUserInForce, certificate_obstacle, commands_differ, critical_rows, is_authority, is_expired, is_past, line_rows, login_obstacle, offer_obstacle, user_force_rows}
 use Rattle.ssh_rules.proofs.Tests.{NoneHolds, none_of, of_none, both_none, none_both, key_held, held_key, same_role, role_same, off, when_off, permitted, yes_row, not_off, off_not, each-decides, none-fails, le_z-decides}
 use Rattle.ssh_rules.proofs.ForceLemmas.{in_force, force_none}
+use Rattle.ssh_rules.proofs.SizeLemmas.{all_long, none_short}
 
 -- ---- expiry times
 
@@ -103,7 +104,7 @@ certificate-none : (e : AuthEntry) (claim : LoginClaim) (c : Certificate) → ce
     → IsUserInForce e claim.query c × CriticalMet e claim.address c
 certificate-none e claim c h =
     let both = both_none (first_obstacle (user_force_rows e claim.query c)) (first_obstacle (critical_rows e claim.address c)) h in
-    (in_force user_certificate claim.query.now (setting Principals e.options) claim.query.user c (none_of (user_force_rows e claim.query c) both.0), met e claim.address c (none_of (critical_rows e claim.address c) both.1))
+    (in_force user_certificate claim.query.now claim.query.empty_principals (setting Principals e.options) claim.query.user c (none_of (user_force_rows e claim.query c) both.0), met e claim.address c (none_of (critical_rows e claim.address c) both.1))
 
 offer-none : (e : AuthEntry) (claim : LoginClaim) (o : Offer) → offer_obstacle e claim o ≡ None
     → OfCertificate (IsUserInForce e claim.query) o × OfCertificate (CriticalMet e claim.address) o
@@ -114,16 +115,17 @@ none-offer : (e : AuthEntry) (claim : LoginClaim) (o : Offer) → OfCertificate 
     → offer_obstacle e claim o ≡ None
 none-offer e claim (plain key) f m = refl
 none-offer e claim (certified c) f m =
-    none_both (first_obstacle (user_force_rows e claim.query c)) (first_obstacle (critical_rows e claim.address c)) (of_none (user_force_rows e claim.query c) (force_none user_certificate claim.query.now (setting Principals e.options) claim.query.user c f)) (of_none (critical_rows e claim.address c) (met-none e claim.address c m))
+    none_both (first_obstacle (user_force_rows e claim.query c)) (first_obstacle (critical_rows e claim.address c)) (of_none (user_force_rows e claim.query c) (force_none user_certificate claim.query.now claim.query.empty_principals (setting Principals e.options) claim.query.user c f)) (of_none (critical_rows e claim.address c) (met-none e claim.address c m))
 
 -- ---- a login
 
 pub admits_where_none : (e : AuthEntry) (claim : LoginClaim) → login_obstacle e claim ≡ None → AdmitsLogin e claim
 unfolding login_obstacle
 admits_where_none e claim h =
-    let both = both_none (first_obstacle (line_rows e claim)) (offer_obstacle e claim claim.offer) h in
+    let both = both_none (first_obstacle (line_rows e claim)) (or_later (offer_obstacle e claim claim.offer) (size_row claim.query.rsa_minimum claim.offer)) h in
     let n = none_of (line_rows e claim) both.0 in
-    let offered = offer-none e claim claim.offer both.1 in
+    let later = both_none (offer_obstacle e claim claim.offer) (size_row claim.query.rsa_minimum claim.offer) both.1 in
+    let offered = offer-none e claim claim.offer later.0 in
     record {
       key = (bytes_eq-Decides (key_blob e.key) (key_blob (subject claim.offer))).0 (key_held _ n.0);
       role = same_role (is_authority e) (is_certified claim.offer) n.1.0;
@@ -131,12 +133,13 @@ admits_where_none e claim h =
       source = permitted reason.SourceBad reason.SourceRefused _ n.1.1.1.0;
       in_force = offered.0;
       critical = offered.1;
+      sizes = all_long claim.query.rsa_minimum claim.offer (off _ reason.RsaTooSmall later.1);
     }
 
 pub none_where_admits : (e : AuthEntry) (claim : LoginClaim) → AdmitsLogin e claim → login_obstacle e claim ≡ None
 unfolding login_obstacle
 none_where_admits e claim a =
-    none_both (first_obstacle (line_rows e claim)) (offer_obstacle e claim claim.offer)
+    none_both (first_obstacle (line_rows e claim)) (or_later (offer_obstacle e claim claim.offer) (size_row claim.query.rsa_minimum claim.offer))
     (of_none (line_rows e claim) (
       held_key _ ((bytes_eq-Decides (key_blob e.key) (key_blob (subject claim.offer))).1 a.key),
       (
@@ -150,4 +153,4 @@ none_where_admits e claim a =
         ),
       ),
     ))
-    (none-offer e claim claim.offer a.in_force a.critical)
+    (none_both (offer_obstacle e claim claim.offer) (size_row claim.query.rsa_minimum claim.offer) (none-offer e claim claim.offer a.in_force a.critical) (when_off _ reason.RsaTooSmall (none_short claim.query.rsa_minimum claim.offer a.sizes)))

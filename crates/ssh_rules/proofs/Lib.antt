@@ -1,5 +1,6 @@
 pub mod Tests
 pub mod Principals
 pub mod ForceLemmas
+pub mod SizeLemmas
 pub mod AdmissionLemmas
 pub mod HostAdmissionLemmas

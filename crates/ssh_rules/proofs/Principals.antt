@@ -8,9 +8,11 @@ use Rattle.std.proofs.lemmas.Bool.{ne_eqb}
 use Rattle.std.proofs.lemmas.Bool.Decides.{Decides-eqb, same_from_decides}
 use Rattle.std.proofs.lemmas.Slice.Eq.{bytes_eq-Decides}
 use Rattle.ssh_certs.specs.Certificate.{Certificate}
-use Rattle.ssh_certs.specs.Rules.{HasPrincipal}
+use Rattle.ssh_certs.specs.Rules.{HasPrincipal, no_principals}
+use Rattle.ssh_offers.specs.declared.query.EmptyPrincipals.{EmptyPrincipals}
+use Rattle.ssh_offers.specs.declared.query.EmptyPrincipals.TheVariants.{Any, Never}
 use Rattle.ssh_rules.specs.CertificateRules.{has_principal, is_listed, listed_names, serves}
-use Rattle.ssh_rules.specs.CertificateForce.{Serves}
+use Rattle.ssh_rules.specs.CertificateForce.{IsForAll, Serves, is_for_none}
 
 or-true : (a : Bool) {b : Bool} → b ≡ true → (a || b) ≡ true
 or-true true h = refl
@@ -89,16 +91,42 @@ none-empty (x ∷ xs) h =
     let bad : length (x ∷ xs) ≡ 0 = (Decides-eqb _ 0).0 h in
     absurd (omega arith)
 
-pub serves-decides : (list : Option (List ℕ)) (user : List ℕ) (c : Certificate) → Decides (serves list user c) (Serves list user c)
-serves-decides (Some list) user c = listed-decides c (listed_names list)
-serves-decides None user c = (
-  λ h. go (length c.principals == 0) refl h,
-  λ h. elim h [
-    | inl none ↦ rw none refl
-    | inr has ↦ or-true (length c.principals == 0) ((member-decides user c.principals).1 has)
-  ],
-)
+some-named : (c : Certificate) (name : List ℕ) → HasPrincipal c name → no_principals c ≡ false
+some-named c name h =
+    let below : h.0 < length c.principals = h.1 in
+    ne_eqb (length c.principals) 0 (λ e. omega arith)
+
+for-all : (empty : EmptyPrincipals) (c : Certificate) → no_principals c ≡ true → is_for_none empty c ≡ false → IsForAll empty c
+for-all Any c e h = none-empty c.principals e
+for-all Never c e h =
+    let bad : true ≡ false = sym e ∙ h in
+    cc
+
+all-none : (empty : EmptyPrincipals) (c : Certificate) → IsForAll empty c → no_principals c ≡ true
+all-none Any c h = rw h refl
+all-none Never c h = absurd h
+
+-- it serves where the test says so, and an empty list is not refused
+pub serving : (empty : EmptyPrincipals) (list : Option (List ℕ)) (user : List ℕ) (c : Certificate) → serves list user c ≡ true → is_for_none empty c ≡ false
+    → Serves empty list user c
+serving empty (Some list) user c h some = (listed-decides c (listed_names list)).0 h
+serving empty None user c h some = go (no_principals c) refl h
   where
-    go : (b : Bool) → (length c.principals == 0) ≡ b → (b || has_principal c user) ≡ true → (c.principals ≡ []) ⊎ HasPrincipal c user
-    go true e h = inl (none-empty c.principals e)
+    go : (b : Bool) → no_principals c ≡ b → (b || has_principal c user) ≡ true → IsForAll empty c ⊎ HasPrincipal c user
+    go true e h = inl (for-all empty c e some)
     go false e h = inr ((member-decides user c.principals).0 h)
+
+pub served : (empty : EmptyPrincipals) (list : Option (List ℕ)) (user : List ℕ) (c : Certificate) → Serves empty list user c → serves list user c ≡ true
+served empty (Some list) user c h = (listed-decides c (listed_names list)).1 h
+served empty None user c h = elim h [
+  | inl all ↦ let none : no_principals c ≡ true = all-none empty c all in rw none refl
+  | inr has ↦ or-true (no_principals c) ((member-decides user c.principals).1 has)
+]
+
+pub served_named : (empty : EmptyPrincipals) (list : Option (List ℕ)) (user : List ℕ) (c : Certificate) → Serves empty list user c → is_for_none empty c ≡ false
+served_named Any list user c h = refl
+served_named Never (Some list) user c h = some-named c h.0 h.3
+served_named Never None user c h = elim h [
+  | inl all ↦ absurd all
+  | inr has ↦ some-named c user has
+]

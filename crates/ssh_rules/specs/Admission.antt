@@ -22,7 +22,8 @@ use Rattle.ssh_offers.specs.Offer.{Offer, OfCertificate, certified, is_certified
 use Rattle.ssh_offers.specs.LoginClaim.{LoginClaim}
 use Rattle.ssh_rules.specs.CertificateRules.{certificate_source, first_unknown, has_its_form, has_two, is_known, repeats}
 use Rattle.ssh_rules.specs.CertificateForce.{InForce, force_rows, user_certificate}
-use Rattle.ssh_rules.specs.Obstacles.{first_obstacle, key_row, or_later, permit_row, role_row, unknown_row, when}
+use Rattle.ssh_rules.specs.KeySizes.{AreLongEnough}
+use Rattle.ssh_rules.specs.Obstacles.{first_obstacle, key_row, or_later, permit_row, role_row, size_row, unknown_row, when}
 
 -- the line marks its key as an authority for certificates
 abbrev pub is_authority : AuthEntry → Bool
@@ -48,7 +49,7 @@ IsUnexpired q text = (moment : ℤ) × (moment_of text q.zone ≡ Some moment) �
 
 -- the certificate is a user's and in force, for a principal of the line's list or, without one, for the user
 abbrev pub IsUserInForce : AuthEntry → Login → Certificate → Type 0
-IsUserInForce e q c = InForce user_certificate q.now (setting Principals e.options) q.user c
+IsUserInForce e q c = InForce user_certificate q.now q.empty_principals (setting Principals e.options) q.user c
 
 -- no name stands twice
 abbrev pub AreOnce : List CertOption → Type 0
@@ -76,6 +77,8 @@ pub record AdmitsLogin (e : AuthEntry) (claim : LoginClaim) : Type 0 where
   pub in_force : OfCertificate (IsUserInForce e claim.query) claim.offer
   -- and what it insists on is met.
   pub critical : OfCertificate (CriticalMet e claim.address) claim.offer
+  -- The keys are long enough.
+  pub sizes : AreLongEnough claim.query.rsa_minimum claim.offer
 
 -- ======== why an entry does not admit, the first that holds
 
@@ -107,7 +110,7 @@ line_rows e claim =
 
 -- of a user's certificate that is not in force
 abbrev pub user_force_rows : AuthEntry → Login → Certificate → List (Option Obstacle)
-user_force_rows e q c = force_rows user_certificate q.now (setting Principals e.options) q.user c
+user_force_rows e q c = force_rows user_certificate q.now q.empty_principals (setting Principals e.options) q.user c
 
 -- of a certificate that insists on what is not met
 abbrev pub critical_rows : AuthEntry → Address → Certificate → List (Option Obstacle)
@@ -129,4 +132,4 @@ offer_obstacle e claim (certified c) = certificate_obstacle e claim c
 
 -- why an entry does not admit a login; nothing where it admits
 unfoldable pub login_obstacle : AuthEntry → LoginClaim → Option Obstacle
-login_obstacle e claim = or_later (first_obstacle (line_rows e claim)) (offer_obstacle e claim claim.offer)
+login_obstacle e claim = or_later (first_obstacle (line_rows e claim)) (or_later (offer_obstacle e claim claim.offer) (size_row claim.query.rsa_minimum claim.offer))

@@ -1,7 +1,9 @@
 -- Whether a certificate is in force (PROTOCOL.certkeys).
-use Rattle.std.specs.Prelude.{◌≡◌, ◌≢◌, ◌⊎◌, ◌≤◌, ◌<◌, ℕ, not, ◌==◌, List, [], ◌∷◌, Contains, Option, Some, None}
+use Rattle.std.specs.Prelude.{◌≡◌, ◌≢◌, ◌⊎◌, ◌≤◌, ◌<◌, ℕ, Bool, false, not, ◌==◌, List, [], ◌∷◌, Contains, Option, Some, None}
 use Rattle.ssh_certs.specs.Certificate.{Certificate}
-use Rattle.ssh_certs.specs.Rules.{HasPrincipal, time_of}
+use Rattle.ssh_certs.specs.Rules.{HasPrincipal, no_principals, time_of}
+use Rattle.ssh_offers.specs.declared.query.EmptyPrincipals.{EmptyPrincipals}
+use Rattle.ssh_offers.specs.declared.query.EmptyPrincipals.TheVariants.{Any, Never}
 use Rattle.ssh_rules.specs.declared.reason.Obstacle.{Obstacle}
 use Rattle.ssh_rules.specs.declared.reason.Reason.TheVariants as reason
 use Rattle.ssh_rules.specs.CertificateRules.{listed_names, serves}
@@ -14,23 +16,34 @@ user_certificate = 1
 abbrev pub host_certificate : ℕ
 host_certificate = 2
 
+-- a certificate without principals, where such a one is for all
+abbrev pub IsForAll : EmptyPrincipals → Certificate → Type 0
+IsForAll Any c = c.principals ≡ []
+IsForAll Never c = ⊥
+
 -- With a list on the line one of its names must be a principal, an empty one counts for nothing; without a list the user
--- or the host must be, or there is none.
-abbrev pub Serves : Option (List ℕ) → List ℕ → Certificate → Type 0
-Serves (Some list) name c = (listed : List ℕ) × Contains (listed_names list) listed × (listed ≢ []) × HasPrincipal c listed
-Serves None name c = (c.principals ≡ []) ⊎ HasPrincipal c name
+-- or the host must be, or the certificate is for all.
+abbrev pub Serves : EmptyPrincipals → Option (List ℕ) → List ℕ → Certificate → Type 0
+Serves empty (Some list) name c = (listed : List ℕ) × Contains (listed_names list) listed × (listed ≢ []) × HasPrincipal c listed
+Serves empty None name c = IsForAll empty c ⊎ HasPrincipal c name
 
 -- the certificate is of this kind, from its first moment on and before its last, for a principal that is asked for
-pub record InForce (kind now : ℕ) (list : Option (List ℕ)) (name : List ℕ) (c : Certificate) : Type 0 where
+pub record InForce (kind now : ℕ) (empty : EmptyPrincipals) (list : Option (List ℕ)) (name : List ℕ) (c : Certificate) : Type 0 where
   pub of_kind : c.kind_number ≡ kind
   pub begun : c.after ≤ now
   pub not_over : now < c.before
-  pub principal : Serves list name c
+  pub principal : Serves empty list name c
+
+-- it names no principal, and such a one is for none
+abbrev pub is_for_none : EmptyPrincipals → Certificate → Bool
+is_for_none Any c = false
+is_for_none Never c = no_principals c
 
 -- why one is not in force
-abbrev pub force_rows : ℕ → ℕ → Option (List ℕ) → List ℕ → Certificate → List (Option Obstacle)
-force_rows kind now list name c =
+abbrev pub force_rows : ℕ → ℕ → EmptyPrincipals → Option (List ℕ) → List ℕ → Certificate → List (Option Obstacle)
+force_rows kind now empty list name c =
     when (not (c.kind_number == kind)) reason.WrongCertKind
     ∷ time_row (time_of c now)
     ∷ when (not (serves list name c)) reason.PrincipalRefused
+    ∷ when (is_for_none empty c) reason.EmptyPrincipals
     ∷ []

@@ -11,6 +11,7 @@ use Rattle.ssh_certs.specs.declared.certificate_option.CertificateOption.TheVari
 use Rattle.ssh_certs.specs.Certificate.{Certificate, CertOption}
 use Rattle.ssh_certs.specs.CertificateOptions.{has_option, text_of}
 use Rattle.ssh_certs.specs.OptionTable.{critical_named, fits}
+use Rattle.ssh_certs.specs.Rules.{no_principals}
 
 abbrev pub source_by : Option (List ℕ) → Address → Permit
 source_by None address = Yes
@@ -64,4 +65,4 @@ is_listed c name = not (length name == 0) && has_principal c name
 -- With a list on the line one of its names must be a principal; without one the user must be, or there is none.
 abbrev pub serves : Option (List ℕ) → List ℕ → Certificate → Bool
 serves (Some list) user c = list_any (is_listed c) (listed_names list)
-serves None user c = (length c.principals == 0) || has_principal c user
+serves None user c = no_principals c || has_principal c user

@@ -14,7 +14,8 @@ use Rattle.ssh_offers.specs.HostClaim.{HostClaim}
 use Rattle.ssh_rules.specs.declared.reason.Obstacle.{Obstacle}
 use Rattle.ssh_rules.specs.declared.reason.Obstacle.TheVariants.{OtherHost}
 use Rattle.ssh_rules.specs.CertificateForce.{InForce, force_rows, host_certificate}
-use Rattle.ssh_rules.specs.Obstacles.{first_obstacle, key_row, or_later, role_row, unknown_row}
+use Rattle.ssh_rules.specs.KeySizes.{AreLongEnough}
+use Rattle.ssh_rules.specs.Obstacles.{first_obstacle, key_row, or_later, role_row, size_row, unknown_row}
 
 -- the name that the host is looked up by, with its port
 abbrev pub looked_up : HostCheck → List ℕ
@@ -33,7 +34,7 @@ marks_authority CertAuthority = true
 
 -- the certificate is a host's and in force, for this host or for all
 abbrev pub IsHostInForce : HostCheck → Certificate → Type 0
-IsHostInForce q c = InForce host_certificate q.now None (principal_of q) c
+IsHostInForce q c = InForce host_certificate q.now q.empty_principals None (principal_of q) c
 
 -- No critical option is known of a host's certificate (this project's rule).
 abbrev pub InsistsOnNothing : Certificate → Type 0
@@ -51,6 +52,8 @@ pub record AdmitsHost (e : KnownEntry) (claim : HostClaim) : Type 0 where
   pub in_force : OfCertificate (IsHostInForce claim.query) claim.offer
   -- and insists on nothing.
   pub critical : OfCertificate InsistsOnNothing claim.offer
+  -- The keys are long enough.
+  pub sizes : AreLongEnough claim.query.rsa_minimum claim.offer
 
 -- ======== why an entry does not admit, the first that holds
 
@@ -68,7 +71,7 @@ host_line_rows e claim =
 
 -- of a host's certificate that is not in force
 abbrev pub host_force_rows : HostCheck → Certificate → List (Option Obstacle)
-host_force_rows q c = force_rows host_certificate q.now None (principal_of q) c
+host_force_rows q c = force_rows host_certificate q.now q.empty_principals None (principal_of q) c
 
 -- the name of the first option
 abbrev pub first_name : List CertOption → Option (List ℕ)
@@ -84,4 +87,4 @@ host_offer_obstacle q (certified c) = host_certificate_obstacle q c
 
 -- why an entry does not admit a host's key; nothing where it admits
 unfoldable pub host_obstacle : KnownEntry → HostClaim → Option Obstacle
-host_obstacle e claim = or_later (first_obstacle (host_line_rows e claim)) (host_offer_obstacle claim.query claim.offer)
+host_obstacle e claim = or_later (first_obstacle (host_line_rows e claim)) (or_later (host_offer_obstacle claim.query claim.offer) (size_row claim.query.rsa_minimum claim.offer))

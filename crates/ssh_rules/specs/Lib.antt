@@ -1,4 +1,5 @@
 pub mod CertificateRules
+pub mod KeySizes
 pub mod Obstacles
 pub mod CertificateForce
 pub mod Admission

@@ -4,6 +4,8 @@ use Rattle.ssh_certs.specs.declared.view.Time.{Time}
 use Rattle.ssh_certs.specs.declared.view.Time.TheVariants.{Early, Now, Late}
 use Rattle.ssh_patterns.specs.declared.permit.Permit.{Permit}
 use Rattle.ssh_patterns.specs.declared.permit.Permit.TheVariants.{Yes, No, Bad}
+use Rattle.ssh_offers.specs.Offer.{Offer}
+use Rattle.ssh_rules.specs.KeySizes.{has_short_key}
 use Rattle.ssh_rules.specs.declared.reason.Obstacle.{Obstacle}
 use Rattle.ssh_rules.specs.declared.reason.Obstacle.TheVariants.{OtherKey, Listed}
 use Rattle.ssh_rules.specs.declared.reason.Reason.{Reason}
@@ -48,3 +50,7 @@ time_row Late = Some (Listed reason.NoLongerValid)
 abbrev pub unknown_row : Option (List ℕ) → Option Obstacle
 unknown_row None = None
 unknown_row (Some name) = Some (Listed (reason.CriticalUnknown name))
+
+-- by how long the keys are
+abbrev pub size_row : ℕ → Offer → Option Obstacle
+size_row bits offer = when (has_short_key bits offer) reason.RsaTooSmall

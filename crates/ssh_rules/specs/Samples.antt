@@ -2,21 +2,26 @@
 -- PROTOCOL.certkeys.
 use Rattle.std.specs.Prelude.{◌≡◌, ℕ, Bool, true, false, List, [], ◌∷◌, ◌++◌, codes, replicate, Option, Some, None}
 use Rattle.jiff.specs.Types.{UTC}
-use Rattle.ssh_keys.specs.PublicKey.{ed25519}
+use Rattle.ssh_keys.specs.PublicKey.{PublicKey, ed25519, rsa}
 use Rattle.ssh_certs.specs.Certificate.{Certificate, CertOption}
 use Rattle.ssh_lines.specs.AuthEntry.{AuthEntry}
 use Rattle.ssh_options.specs.AuthOption.{AuthOption, Setting}
 use Rattle.ssh_options.specs.declared.option.ValueName.TheVariants.{Command, Principals}
 use Rattle.ssh_patterns.specs.declared.address.Address.TheVariants.{V4}
-use Rattle.ssh_offers.specs.Offer.{certified}
+use Rattle.ssh_offers.specs.declared.query.EmptyPrincipals.{EmptyPrincipals}
+use Rattle.ssh_offers.specs.declared.query.EmptyPrincipals.TheVariants.{Any, Never}
+use Rattle.ssh_offers.specs.Offer.{certified, plain}
+use Rattle.ssh_offers.specs.Query.{HostCheck}
 use Rattle.ssh_offers.specs.LoginClaim.{LoginClaim}
 use Rattle.ssh_rules.specs.declared.reason.Obstacle.{Obstacle}
 use Rattle.ssh_rules.specs.declared.reason.Obstacle.TheVariants.{Listed}
 use Rattle.ssh_rules.specs.declared.reason.Reason.{Reason}
-use Rattle.ssh_rules.specs.declared.reason.Reason.TheVariants.{WrongCertKind, NotYetValid, NoLongerValid, PrincipalRefused, CriticalUnknown, CriticalRepeated, CriticalData, CertSourceBad, CertSourceRefused, CommandConflict}
+use Rattle.ssh_rules.specs.declared.reason.Reason.TheVariants as reason
+use Rattle.ssh_rules.specs.declared.reason.Reason.TheVariants.{WrongCertKind, NotYetValid, NoLongerValid, PrincipalRefused, CriticalUnknown, CriticalRepeated, CriticalData, CertSourceBad, CertSourceRefused, CommandConflict, RsaTooSmall}
 use Rattle.ssh_rules.specs.Admission.{certificate_obstacle}
 use Rattle.ssh_rules.specs.CertificateRules.{first_unknown, has_its_form, is_known, repeats}
 use Rattle.ssh_rules.specs.HostAdmission.{host_certificate_obstacle}
+use Rattle.ssh_rules.specs.Obstacles.{size_row}
 
 -- an option of a certificate with this name and data
 abbrev option : List ℕ → List ℕ → CertOption
@@ -92,12 +97,13 @@ certificate kind principals critical = record {
   signature = record { algorithm = codes "ssh-ed25519"; bytes = 0xaa ∷ []; sk = None };
 }
 
--- a line of the signer's key with these options, and a login by the certificate, of ann from 10.0.0.1 at this moment
+-- a line of the signer's key with these options, and a login by the certificate, of ann from 10.0.0.1 at this moment,
+-- where a certificate without principals is for such users
 abbrev line : List AuthOption → AuthEntry
 line options = record { options = options; key = ed25519 (replicate 32 1); comment = [] }
 
-abbrev login : ℕ → Certificate → LoginClaim
-login now c = record {
+abbrev login : ℕ → EmptyPrincipals → Certificate → LoginClaim
+login now empty c = record {
   query = record {
     offered = [];
     signature = [];
@@ -108,6 +114,8 @@ login now c = record {
     address = codes "10.0.0.1";
     now = now;
     zone = UTC;
+    empty_principals = empty;
+    rsa_minimum = 0;
   };
   offer = certified c;
   signature = c.signature;
@@ -116,7 +124,11 @@ login now c = record {
 
 -- why the line does not admit the certificate; nothing where it does
 abbrev Obstructs : List AuthOption → ℕ → Certificate → Option Obstacle → Type 0
-Obstructs options now c obstacle = certificate_obstacle (line options) (login now c) c ≡ obstacle
+Obstructs options now c obstacle = certificate_obstacle (line options) (login now Any c) c ≡ obstacle
+
+-- the same where a certificate without principals is for none
+abbrev ObstructsNamed : List AuthOption → Certificate → Option Obstacle → Type 0
+ObstructsNamed options c obstacle = certificate_obstacle (line options) (login 150 Never c) c ≡ obstacle
 
 -- a certificate of ann's, with these critical options, in its time
 abbrev Insists : List AuthOption → List CertOption → Option Obstacle → Type 0
@@ -146,6 +158,17 @@ UsersCertificates =
     × Obstructs [] 99 (certificate 2 (codes "bob" ∷ []) []) (because WrongCertKind)
     × Obstructs [] 99 (certificate 1 (codes "bob" ∷ []) []) (because NotYetValid)
 
+-- A certificate without principals is for none where that is asked, and what it insists on is not looked at then; one
+-- with principals is judged as ever.
+abbrev pub UsersNamed : Type 0
+UsersNamed =
+    ObstructsNamed [] (certificate 1 [] []) (because reason.EmptyPrincipals)
+    × ObstructsNamed [] (certificate 1 (codes "ann" ∷ []) []) None
+    × ObstructsNamed [] (certificate 1 (codes "bob" ∷ []) []) (because PrincipalRefused)
+    × ObstructsNamed (Setting Principals (codes "ann") ∷ []) (certificate 1 [] []) (because PrincipalRefused)
+    × ObstructsNamed [] (certificate 1 [] (option (codes "x") [] ∷ [])) (because reason.EmptyPrincipals)
+    × ObstructsNamed [] (certificate 1 ([] ∷ []) []) (because PrincipalRefused)
+
 -- what a user's certificate insists on
 abbrev pub CriticalOptionsJudged : Type 0
 CriticalOptionsJudged =
@@ -165,9 +188,27 @@ CriticalOptionsJudged =
     × Insists (Setting Command (codes "id") ∷ []) [] None
 
 -- a certificate of a host, to h.example at this moment
+abbrev host_check : ℕ → EmptyPrincipals → HostCheck
+host_check now empty = record {
+  offered = [];
+  signature = [];
+  exchange_hash = [];
+  host = codes "H.example";
+  port = 22;
+  now = now;
+  empty_principals = empty;
+  rsa_minimum = 0;
+}
+
 abbrev ObstructsHost : ℕ → Certificate → Option Obstacle → Type 0
-ObstructsHost now c obstacle =
-    host_certificate_obstacle (record { offered = []; signature = []; exchange_hash = []; host = codes "H.example"; port = 22; now = now }) c ≡ obstacle
+ObstructsHost now c obstacle = host_certificate_obstacle (host_check now Any) c ≡ obstacle
+
+-- the same where a certificate without principals is for none
+abbrev pub HostsNamed : Type 0
+HostsNamed =
+    (host_certificate_obstacle (host_check 150 Never) (certificate 2 [] []) ≡ because reason.EmptyPrincipals)
+    × (host_certificate_obstacle (host_check 150 Never) (certificate 2 (codes "h.example" ∷ []) []) ≡ None)
+    × (host_certificate_obstacle (host_check 150 Never) (certificate 2 [] (option (codes "x") [] ∷ [])) ≡ because reason.EmptyPrincipals)
 
 -- 2 is a host's certificate, and no critical option is known of one
 abbrev pub HostsCertificates : Type 0
@@ -183,3 +224,28 @@ HostsCertificates =
     × ObstructsHost 150 (certificate 2 (codes "*.example" ∷ []) []) (because PrincipalRefused)
     × ObstructsHost 150 (certificate 2 (codes "h.example" ∷ []) (option (codes "verify-required") [] ∷ [])) (because (CriticalUnknown (codes "verify-required")))
     × ObstructsHost 150 (certificate 2 (codes "h.example" ∷ []) (option (codes "force-command") (short 2 (codes "ls")) ∷ [])) (because (CriticalUnknown (codes "force-command")))
+
+-- ---- the sizes of RSA keys
+
+-- a user's certificate of this key by this signer
+abbrev certified_by : PublicKey → PublicKey → Certificate
+certified_by key signer = record (certificate 1 (codes "ann" ∷ []) []) { key = key; signer = signer }
+
+abbrev of_size : Option Obstacle → Type 0
+of_size row = row ≡ because RsaTooSmall
+
+-- by the count of binary digits, of the offered key and of the signer: 128 has eight, 127 seven; no other key is asked
+abbrev pub SizesJudged : Type 0
+SizesJudged =
+    of_size (size_row 9 (plain (rsa 65537 128)))
+    × (size_row 8 (plain (rsa 65537 128)) ≡ None)
+    × of_size (size_row 8 (plain (rsa 65537 127)))
+    × (size_row 7 (plain (rsa 65537 127)) ≡ None)
+    × (size_row 0 (plain (rsa 65537 1)) ≡ None)
+    × (size_row 1 (plain (rsa 65537 1)) ≡ None)
+    × of_size (size_row 2 (plain (rsa 65537 1)))
+    × (size_row 4096 (plain (ed25519 (replicate 32 1))) ≡ None)
+    × of_size (size_row 9 (certified (certified_by (rsa 65537 128) (rsa 65537 256))))
+    × of_size (size_row 9 (certified (certified_by (rsa 65537 256) (rsa 65537 128))))
+    × (size_row 9 (certified (certified_by (rsa 65537 256) (rsa 65537 256))) ≡ None)
+    × of_size (size_row 9 (certified (certified_by (ed25519 (replicate 32 1)) (rsa 65537 128))))

@@ -27,7 +27,8 @@ use crate::certificate::{
     certificate_source, first_unknown, has_listed, has_repeated, have_their_forms, serves,
 };
 use crate::obstacle::{
-    period_obstacle, permit_obstacle, principal_obstacle, role_obstacle, unknown_obstacle,
+    period_obstacle, permit_obstacle, principal_obstacle, role_obstacle, size_obstacle,
+    unknown_obstacle,
 };
 use crate::reason::{Obstacle, Reason};
 use crate::value_text::ValueText;
@@ -158,7 +159,7 @@ fn force_obstacle(
         return Ok(Some(obstacle));
     }
     let serves = has_served_principal(alloc, entry, claim, certificate)?;
-    Ok(principal_obstacle(serves))
+    Ok(principal_obstacle(serves, claim.query.empty_principals, certificate))
 }
 
 /// Both force a command, and these differ.
@@ -241,7 +242,7 @@ fn offer_obstacle(
 }
 
 /// Why the entry does not admit the login: the first reason that holds, in the order of `G2` to
-/// `G18`; nothing where it admits.
+/// `G12`, `G19`, `G13` to `G18`, `G20`; nothing where it admits.
 #[tactic(auto, unfolding(crate::specs::Admission::login_obstacle))]
 pub(crate) fn login_obstacle(
     alloc: Global,
@@ -253,6 +254,8 @@ pub(crate) fn login_obstacle(
     if let Some(obstacle) = line_obstacle(alloc, entry, claim)? {
         return Ok(Some(obstacle));
     }
-    let obstacle = offer_obstacle(alloc, entry, claim)?;
-    Ok(obstacle)
+    if let Some(obstacle) = offer_obstacle(alloc, entry, claim)? {
+        return Ok(Some(obstacle));
+    }
+    Ok(size_obstacle(claim.query.rsa_minimum, &claim.offer))
 }

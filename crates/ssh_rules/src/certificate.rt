@@ -19,7 +19,7 @@ ghost use Rattle.ssh_rules.specs.CertificateRules.{
   serves,
 };
 
-use ssh_certs::{CertOptions, CertView, CertificateOption, has_option};
+use ssh_certs::{CertOptions, CertView, CertificateOption, has_option, no_principals};
 use ssh_patterns::{Address, Permit, cidr_list};
 
 /// What the certificate's own list of sources says of an address.
@@ -125,5 +125,5 @@ pub(crate) fn has_listed(certificate: &CertView<'_>, list: &[u8]) -> bool
 pub(crate) fn serves(certificate: &CertView<'_>, user: &[u8]) -> bool
     ensures { result ≡ serves None user.now (certificate_of certificate.now) }
 {
-    certificate.principals().next().is_none() || has_principal(certificate, user)
+    no_principals(certificate) || has_principal(certificate, user)
 }

@@ -15,7 +15,9 @@ ghost use Rattle.ssh_rules.specs.HostAdmission.{
 };
 
 use crate::certificate::serves;
-use crate::obstacle::{period_obstacle, principal_obstacle, role_obstacle, unknown_obstacle};
+use crate::obstacle::{
+    period_obstacle, principal_obstacle, role_obstacle, size_obstacle, unknown_obstacle,
+};
 use crate::reason::Obstacle;
 use crate::sought::SoughtHost;
 use ssh_certs::{CertOptions, CertView};
@@ -60,10 +62,12 @@ fn force_obstacle(sought: &SoughtHost<'_>, certificate: &CertView<'_>) -> Option
     ensures { result ≡ first_obstacle
         (host_force_rows sought.now.query (certificate_of certificate.now)) }
 {
-    if let Some(obstacle) = period_obstacle(HOST_CERTIFICATE, sought.now(), certificate) {
+    let query = sought.query();
+    if let Some(obstacle) = period_obstacle(HOST_CERTIFICATE, query.now, certificate) {
         return Some(obstacle);
     }
-    principal_obstacle(serves(certificate, sought.principal()))
+    let serves = serves(certificate, sought.principal());
+    principal_obstacle(serves, query.empty_principals, certificate)
 }
 
 /// The name of the first option.
@@ -106,7 +110,7 @@ fn offer_obstacle(alloc: Global, sought: &SoughtHost<'_>) -> Result<Option<Obsta
 }
 
 /// Why the entry does not admit the host's key: the first reason that holds, in the order of `G2`
-/// to `G13`; nothing where it admits.
+/// to `G12`, `G19`, `G13`, `G20`; nothing where it admits.
 #[tactic(auto, unfolding(crate::specs::HostAdmission::host_obstacle))]
 pub(crate) fn host_obstacle(
     alloc: Global,
@@ -118,6 +122,8 @@ pub(crate) fn host_obstacle(
     if let Some(obstacle) = line_obstacle(entry, sought) {
         return Ok(Some(obstacle));
     }
-    let obstacle = offer_obstacle(alloc, sought)?;
-    Ok(obstacle)
+    if let Some(obstacle) = offer_obstacle(alloc, sought)? {
+        return Ok(Some(obstacle));
+    }
+    Ok(size_obstacle(sought.query().rsa_minimum, sought.offer()))
 }

@@ -27,8 +27,8 @@ fn entry_verdict<'a>(
 }
 
 /// What a line is to a host's key: it admits it, or has the first reason in the order of `G1` to
-/// `G13`, or none where it is blank, a comment, a revocation, or about another key or another host.
-/// `Err` is out of memory.
+/// `G12`, `G19`, `G13`, `G20`, or none where it is blank, a comment, a revocation, or about another
+/// key or another host. `Err` is out of memory.
 pub fn host_verdict<'a>(
     alloc: Global,
     line: KnownLineView<'a>,

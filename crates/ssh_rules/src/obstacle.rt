@@ -3,21 +3,28 @@
 ghost use Rattle.std.specs.Prelude.{◌≡◌, ◌==◌, [], ◌∷◌, IfOk, not, option_copied};
 ghost use Rattle.ssh_certs.specs.CertificateOf.{certificate_of};
 ghost use Rattle.ssh_certs.specs.Rules.{time_of};
+ghost use Rattle.ssh_offers.specs.OfferView.{offer_of};
 ghost use Rattle.ssh_rules.specs.declared.reason.Reason.TheVariants.{
   PrincipalRefused,
   WrongCertKind,
 };
+ghost use Rattle.ssh_rules.specs.declared.reason.Reason.TheVariants as reason;
+ghost use Rattle.ssh_rules.specs.CertificateForce.{is_for_none};
+ghost use Rattle.ssh_rules.specs.KeySizes.{has_short_key};
 ghost use Rattle.ssh_rules.specs.Obstacles.{
   first_obstacle,
   permit_row,
   role_row,
+  size_row,
   time_row,
   unknown_row,
   when,
 };
 
 use crate::reason::{Obstacle, Reason};
-use ssh_certs::{CertView, Time};
+use ssh_certs::{CertView, Time, no_principals};
+use ssh_keys::rsa_at_least;
+use ssh_offers::{EmptyPrincipals, Offer};
 use ssh_patterns::Permit;
 use ssh_text::Bytes;
 use std::alloc::{AllocError, Global};
@@ -66,14 +73,56 @@ pub(crate) fn period_obstacle(kind: u32, now: u64, certificate: &CertView<'_>) -
     time_obstacle(certificate.in_time(now))
 }
 
-/// Why the certificate is for no principal that is asked for, by whether it serves one.
-pub(crate) fn principal_obstacle(serves: bool) -> Option<Obstacle>
-    ensures { result ≡ when (not serves) PrincipalRefused }
+/// Whether the certificate names no principal, and such a one is for none.
+fn is_for_none(empty: EmptyPrincipals, certificate: &CertView<'_>) -> bool
+    ensures { result ≡ is_for_none empty (certificate_of certificate.now) }
 {
-    if serves {
-        None
+    match empty {
+        EmptyPrincipals::Any => false,
+        EmptyPrincipals::Never => no_principals(certificate),
+    }
+}
+
+/// Why the certificate is for no principal that is asked for, by whether it serves one, and by whom
+/// one without principals is for.
+pub(crate) fn principal_obstacle(
+    serves: bool,
+    empty: EmptyPrincipals,
+    certificate: &CertView<'_>,
+) -> Option<Obstacle>
+    ensures { result ≡ first_obstacle (when (not serves) PrincipalRefused
+        ∷ when (is_for_none empty (certificate_of certificate.now)) reason.EmptyPrincipals ∷ []) }
+{
+    if !serves {
+        return Some(Obstacle::Listed(Reason::PrincipalRefused));
+    }
+    if is_for_none(empty, certificate) {
+        return Some(Obstacle::Listed(Reason::EmptyPrincipals));
+    }
+    None
+}
+
+/// Whether a key that the offer rests on is RSA's and has fewer bits than this: the offered one, or
+/// the certificate's signer.
+fn has_short_key(bits: u32, offer: &Offer<'_>) -> bool
+    ensures { result ≡ has_short_key bits (offer_of offer.now) }
+{
+    match offer {
+        Offer::Plain(key) => !rsa_at_least(key, bits),
+        Offer::Certified(certificate) => {
+            !rsa_at_least(&certificate.key(), bits) || !rsa_at_least(&certificate.signer(), bits)
+        }
+    }
+}
+
+/// By how long the keys are that the offer rests on.
+pub(crate) fn size_obstacle(bits: u32, offer: &Offer<'_>) -> Option<Obstacle>
+    ensures { result ≡ size_row bits (offer_of offer.now) }
+{
+    if has_short_key(bits, offer) {
+        Some(Obstacle::Listed(Reason::RsaTooSmall))
     } else {
-        Some(Obstacle::Listed(Reason::PrincipalRefused))
+        None
     }
 }
 

@@ -29,6 +29,8 @@ pub enum Reason {
     /// `G12`: the certificate is for none of the principals that the line or the login names, or
     /// not for the host.
     PrincipalRefused,
+    /// `G19`: the certificate names no principal, and such a one is for none.
+    EmptyPrincipals,
     /// `G13`: the certificate has a critical option of this name, which no login knows. For a
     /// host's key none is known (this project's rule).
     CriticalUnknown(Bytes),
@@ -42,6 +44,9 @@ pub enum Reason {
     CertSourceRefused,
     /// `G18`: the line and the certificate force commands, and these differ.
     CommandConflict,
+    /// `G20`: the offered key or the certificate's signer is an RSA key of fewer bits than asked
+    /// for.
+    RsaTooSmall,
 }
 
 impl Reason {
@@ -58,6 +63,7 @@ impl Reason {
             Reason::NotYetValid => "the certificate is not yet valid",
             Reason::NoLongerValid => "the certificate is no longer valid",
             Reason::PrincipalRefused => "the certificate is for no principal that is asked for",
+            Reason::EmptyPrincipals => "the certificate names no principal",
             Reason::CriticalUnknown(_) => "the certificate has an unknown critical option: ",
             Reason::CriticalRepeated => "a critical option stands twice in the certificate",
             Reason::CriticalData => "the data of a critical option has another form",
@@ -65,6 +71,7 @@ impl Reason {
             Reason::CertSourceRefused =>
                 "the certificate's list of sources does not permit the address",
             Reason::CommandConflict => "the line and the certificate force different commands",
+            Reason::RsaTooSmall => "an RSA key has fewer bits than asked for",
         }
     }
 }

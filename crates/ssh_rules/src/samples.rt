@@ -5,9 +5,12 @@ ghost use Rattle.ssh_rules.specs.Samples.{
   CriticalOptionsJudged,
   FormsJudged,
   HostsCertificates,
+  HostsNamed,
   NamesKnown,
   RepetitionsFound,
+  SizesJudged,
   UsersCertificates,
+  UsersNamed,
 };
 
 /// The names and the data of critical options.
@@ -20,6 +23,9 @@ fn critical_options_as_read()
 /// Certificates of users and of hosts, and why one is not admitted.
 fn certificates_as_judged()
     ensures users { UsersCertificates }
+    ensures named { UsersNamed }
     ensures critical { CriticalOptionsJudged }
     ensures hosts { HostsCertificates }
+    ensures hosts_named { HostsNamed }
+    ensures sizes { SizesJudged }
 {}

@@ -5,13 +5,14 @@ ghost use Rattle.ssh_keys.specs.PublicKey.{key_blob};
 ghost use Rattle.ssh_offers.specs.ClaimViews.{host_claim_of};
 ghost use Rattle.ssh_offers.specs.Offer.{is_certified, subject};
 ghost use Rattle.ssh_offers.specs.OfferView.{offer_of};
+ghost use Rattle.ssh_offers.specs.Query.{host_check_of};
 ghost use Rattle.ssh_lines.specs.KnownSeen.{known_seen};
 ghost use Rattle.ssh_rules.specs.HostAdmission.{looked_up, principal_of};
 ghost use Rattle.ssh_rules.specs.Revocation.{is_own, may_revoke, revokes_offer};
 
 use ssh_lines::KnownLineView;
 use ssh_names::lookup_name;
-use ssh_offers::{HostClaimView, Offer, plain_blob};
+use ssh_offers::{HostClaimView, HostQuery, Offer, plain_blob};
 use std::alloc::{AllocError, Global};
 use std::marker::Model;
 
@@ -82,11 +83,11 @@ impl<'a> SoughtHost<'a> {
         &self.principal
     }
 
-    /// Seconds since 1970-01-01 in UTC.
-    pub(crate) fn now(&self) -> u64
-        ensures { result ≡ self.now.query.now }
+    /// What is asked.
+    pub(crate) fn query(&self) -> &HostQuery<'a>
+        ensures { host_check_of result.now ≡ self.now.query }
     {
-        self.claim.query.now
+        &self.claim.query
     }
 
     /// What is offered.

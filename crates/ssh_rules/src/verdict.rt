@@ -44,8 +44,9 @@ fn entry_verdict<'a>(
     }
 }
 
-/// What a line is to a login: it admits it, or has the first reason in the order of `G1` to `G18`,
-/// or none where it is blank, a comment or about another key. `Err` is out of memory.
+/// What a line is to a login: it admits it, or has the first reason in the order of `G1` to `G12`,
+/// `G19`, `G13` to `G18`, `G20`, or none where it is blank, a comment or about another key. `Err` is
+/// out of memory.
 pub fn login_verdict<'a>(
     alloc: Global,
     line: AuthLineView<'a>,

@@ -207,22 +207,6 @@ fn refuses_private_sections(rt: HostRuntime) -> Result<(), Fail> {
 }
 
 #[test]
-fn refuses_cut_bodies(rt: HostRuntime) -> Result<(), Fail> {
-    let alloc = rt.alloc();
-    let body = body_of(alloc, KEY, SECTION, b"\x01\x02")?;
-    for (len, wanted) in [
-        (14, "fault B1\n"),
-        (22, "fault B12 V1 15\n"),
-        (93, "fault B12 V1 39\n"),
-        (233, "fault B12 V1 94\n"),
-    ] {
-        let (_, text) = shown(alloc, "private", body.get(..len).unwrap_or(b""))?;
-        assert_eq!(rt; text.as_slice(), wanted.as_bytes());
-    }
-    Ok(())
-}
-
-#[test]
 fn refuses_other_bodies(rt: HostRuntime) -> Result<(), Fail> {
     let alloc = rt.alloc();
     let mut longer = body_of(alloc, KEY, SECTION, b"\x01\x02")?;

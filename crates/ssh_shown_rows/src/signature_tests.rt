@@ -165,23 +165,6 @@ fn refuses_bodies(rt: HostRuntime) -> Result<(), Fail> {
 }
 
 #[test]
-fn refuses_cut_bodies(rt: HostRuntime) -> Result<(), Fail> {
-    let alloc = rt.alloc();
-    let body = body_of(alloc, SAMPLE)?;
-    for (len, wanted) in [
-        (5, "fault A11 B1\n"),
-        (9, "fault A11 B12 V1 6\n"),
-        (64, "fault A11 B12 V1 10\n"),
-        (110, "fault A11 B12 V1 87\n"),
-    ] {
-        let cut = body.get(..len).unwrap_or(b"");
-        let (_, text) = answer(alloc, cut, "file", TRIPLE)?;
-        assert_eq!(rt; text.as_slice(), wanted.as_bytes());
-    }
-    Ok(())
-}
-
-#[test]
 fn answers_a_signature_of_ssh_keygen(rt: HostRuntime) -> Result<(), Fail> {
     let alloc = rt.alloc();
     let (_, text) = answer(alloc, REAL_SSHSIG, "file", "#")?;

@@ -43,7 +43,9 @@ pub use hosts::{evidence_of_host, host, host_from};
 pub use logins::{evidence_of_login, login, login_from};
 pub use scan::REASON_LIMIT;
 pub use source::{PIECE_SIZE, Source};
-pub use ssh_offers::{AuditError, HostQuery, Items, LoginQuery, OfferError, Signed};
+pub use ssh_offers::{
+    AuditError, EmptyPrincipals, HostQuery, Items, LoginQuery, OfferError, Signed,
+};
 pub use ssh_rights::{Carried, CarriedName, Rights};
 pub use ssh_rules::Reason;
 pub use ssh_text::FILE_LIMIT;

@@ -4,7 +4,7 @@
 ghost use Rattle.std.specs.Prelude.{◌<◌, ◌^◌, length};
 
 use jiff::tz::TimeZone;
-use ssh_offers::{HostQuery, LoginQuery, Signed};
+use ssh_offers::{EmptyPrincipals, HostQuery, LoginQuery, Signed};
 use ssh_trust::{
     Cause, Decision, HostAudit, LoginAudit, evidence_of_host, evidence_of_login, host, login,
 };
@@ -39,6 +39,8 @@ pub(crate) fn query<'a>(zone: &'a TimeZone<'a>) -> LoginQuery<'a>
         address: b"192.0.2.1",
         now: 150,
         zone,
+        empty_principals: EmptyPrincipals::Any,
+        rsa_minimum: 0,
     }
 }
 
@@ -98,6 +100,8 @@ pub(crate) fn host_query() -> HostQuery<'static> {
         host: b"h",
         port: 22,
         now: 150,
+        empty_principals: EmptyPrincipals::Any,
+        rsa_minimum: 0,
     }
 }
 

@@ -1,5 +1,5 @@
 use Rattle.std.proofs.Common.{rules}
-use Rattle.ssh_command.specs.AskedView.{names_of}
+use Rattle.ssh_words.specs.AskedView.{names_of}
 use Rattle.ssh_print.specs.ResponseView.{response}
 use Rattle.ssh_command.proofs.AuditLemmas.{none_responds, vouch_responds, vouch_unread}
 use Rattle.ssh_command.proofs.audit.respond_question.Goals as goal

@@ -1,7 +1,7 @@
 use Rattle.std.proofs.Common.{List, Option, option_map, subst, ℕ}
 use Rattle.jiff.specs.Words.{plain_zone}
 use Rattle.ssh_inputs.specs.Values.{ReadsZone, zone_text}
-use Rattle.ssh_command.specs.WordsView.{rows_in}
+use Rattle.ssh_words.specs.WordsView.{rows_in}
 use Rattle.ssh_command.proofs.LoginLemmas.{zone_responds}
 use Rattle.ssh_command.proofs.login.respond_login.Goals as goal
 

@@ -1,5 +1,5 @@
 use Rattle.ssh_command.specs.Requests.{RespondsBy}
-use Rattle.ssh_command.specs.WordsView.{request_in_memory}
+use Rattle.ssh_words.specs.WordsView.{request_in_memory}
 use Rattle.std.proofs.Common.{Some}
 use Rattle.ssh_command.proofs.ResponseLemmas.{fault_told}
 use Rattle.ssh_command.proofs.respond.respond_request.Goals as goal

@@ -1,7 +1,7 @@
 use Rattle.std.proofs.Common.{None, Some, map, rules}
 use Rattle.ssh_print.specs.ResponseView.{response}
-use Rattle.ssh_command.specs.CommandLine.{request_of}
-use Rattle.ssh_command.specs.WordsView.{request_in_memory}
+use Rattle.ssh_words.specs.CommandLine.{request_of}
+use Rattle.ssh_words.specs.WordsView.{request_in_memory}
 use Rattle.ssh_command.proofs.ResponseLemmas.{nothing_responds, request_responds}
 use Rattle.ssh_command.proofs.respond.respond_words.Goals as goal
 

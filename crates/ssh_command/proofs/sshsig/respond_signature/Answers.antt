@@ -1,6 +1,6 @@
 use Rattle.std.proofs.Common.{rules}
 use Rattle.ssh_print.specs.ResponseView.{response}
-use Rattle.ssh_command.specs.AskedView.{question_of}
+use Rattle.ssh_words.specs.AskedView.{question_of}
 use Rattle.ssh_command.proofs.SshsigLemmas.{vouch_file_responds, vouch_file_unread, words_signed}
 use Rattle.ssh_command.proofs.sshsig.respond_signature.Goals as goal
 

@@ -11,6 +11,9 @@ pub returns : goal.returns
 unfolding string_at whole_string_at critical_named octets_of group_of last_groups_of groups_of filled eight_groups_of address_of net_of permit_of
 returns c = record {
   users = (refl, refl, refl, refl, refl, refl, refl, refl, refl, refl, refl, refl, refl, refl, refl, refl, refl);
+  named = (refl, refl, refl, refl, refl, refl);
   critical = (refl, refl, refl, refl, refl, refl, refl, refl, refl, refl, refl, refl, refl, refl);
   hosts = (refl, refl, refl, refl, refl, refl, refl, refl, refl, refl, refl);
+  hosts_named = (refl, refl, refl);
+  sizes = (refl, refl, refl, refl, refl, refl, refl, refl, refl, refl, refl, refl);
 }

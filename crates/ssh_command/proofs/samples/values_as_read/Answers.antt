@@ -1,0 +1,11 @@
+use Rattle.ssh_command.specs.Samples.{host_values_in_order, login_asks_more, login_is_spelled, login_values_in_order, show_kinds}
+use Rattle.ssh_command.proofs.samples.values_as_read.Goals as goal
+
+pub returns : goal.returns
+returns c = record {
+  shown = show_kinds;
+  login = login_is_spelled;
+  login_more = login_asks_more;
+  login_order = login_values_in_order;
+  host_order = host_values_in_order;
+}

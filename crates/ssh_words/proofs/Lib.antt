@@ -1,0 +1,3 @@
+mod PlainCommand
+pub mod CommandLineLemmas
+mod SubcommandLemmas

@@ -1,0 +1,12 @@
+-- How the names of files in memory are seen.
+use Rattle.std.specs.Prelude.{option_map}
+use Rattle.ssh_words.specs.Asked.{AuditFiles as FileNames, SshsigQuestion as Question}
+use Rattle.ssh_words.specs.declared.asked.AuditFiles.{AuditFiles}
+use Rattle.ssh_words.specs.declared.asked.SshsigQuestion.{SshsigQuestion}
+
+-- the names, without where they lie in memory
+abbrev pub names_of : AuditFiles → FileNames
+names_of f = record { trust = f.trust.now; vouch = option_map (λ s. s.now) f.vouch }
+
+abbrev pub question_of : SshsigQuestion → Question
+question_of q = record { body = q.body.now; message = q.message.now; namespace = q.namespace.now; vouch = option_map (λ s. s.now) q.vouch }

@@ -1,0 +1,49 @@
+-- The command line, as `clap` reads it.
+use Rattle.std.specs.Prelude.{true, List, [], ◌∷◌, Option, Some, None, codes, fold, option_and_then, option_map}
+use Rattle.clap.specs.Words.{App, Row, Rule, Text, new_app, new_rule, subcommand_of, with_rule, with_subcommand}
+use Rattle.clap.specs.Faults.{fault_of}
+use Rattle.clap.specs.declared.error.ErrorKind.{ErrorKind}
+use Rattle.clap.specs.Simple.{on_top}
+use Rattle.ssh_words.specs.declared.options.Needed.{Needed}
+use Rattle.ssh_words.specs.declared.options.OptionName.{OptionName}
+use Rattle.ssh_words.specs.declared.subcommand.Subcommand.{Subcommand}
+use Rattle.ssh_words.specs.Options.{is_required, option_name, options_of, subcommand_name, subcommand_named, subcommands}
+
+-- ---- what clap is given
+
+-- an option with a value, `--name value`, which may be required
+abbrev pub option_rule : OptionName × Needed → Rule
+option_rule row = record (new_rule (option_name row.0)) { long = Some (option_name row.0); required = is_required row.1 }
+
+-- a command of these options
+abbrev pub with_options : App → List (OptionName × Needed) → App
+with_options = fold (λ a row. with_rule a (option_rule row))
+
+unfoldable pub subcommand_app : Subcommand → App
+subcommand_app c = with_options (new_app (subcommand_name c)) (options_of c)
+
+-- a command of these subcommands
+abbrev pub with_subcommands : App → List Subcommand → App
+with_subcommands = fold (λ a c. with_subcommand a (subcommand_app c).top)
+
+-- the program's command line: the words begin with a subcommand, which has to be there
+abbrev pub command_line : App
+command_line = on_top (λ s. record s { no_binary_name = true; subcommand_required = true }) (with_subcommands (new_app (codes "ssh_audit")) subcommands)
+
+-- ---- what the words ask for
+
+-- a subcommand, with the values that the command line gives to its options
+pub record Request : Type 0 where
+  pub subcommand : Subcommand
+  pub rows : List Row
+
+abbrev pub request_in : Text × List Row → Option Request
+request_in p = option_map (λ c. record { subcommand = c; rows = p.1 }) (subcommand_named p.0)
+
+-- the request of words with these faults: none, where there is one
+abbrev pub spelled : List Text → List ErrorKind → Option Request
+spelled words [] = option_and_then request_in (subcommand_of command_line words)
+spelled words (k ∷ ks) = None
+
+abbrev pub request_of : List Text → Option Request
+request_of words = spelled words (fault_of command_line words)

@@ -1,0 +1,7 @@
+pub mod Options
+pub mod CommandLine
+pub mod Asked
+pub mod AskedView
+pub mod Spelling
+pub mod WordsView
+pub mod Samples

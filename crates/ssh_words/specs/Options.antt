@@ -1,0 +1,69 @@
+-- The options and the subcommands of the command line (this project's rules).
+use Rattle.std.specs.Prelude.{Bool, true, false, List, [], ◌∷◌, Option, codes, find}
+use Rattle.std.specs.Str.{bytes_eq}
+use Rattle.clap.specs.Words.{Text}
+use Rattle.ssh_words.specs.declared.options.Needed.{Needed}
+use Rattle.ssh_words.specs.declared.options.Needed.TheVariants.{Required, Optional}
+use Rattle.ssh_words.specs.declared.options.OptionName.{OptionName}
+use Rattle.ssh_words.specs.declared.options.OptionName.TheVariants as option
+use Rattle.ssh_words.specs.declared.subcommand.Subcommand.{Subcommand}
+use Rattle.ssh_words.specs.declared.subcommand.Subcommand.TheVariants.{Show, Login, Host, Sshsig, Rewrite, Hash}
+
+-- ---- options
+
+abbrev pub option_name : OptionName → Text
+option_name option.Kind = codes "kind"
+option_name option.File = codes "file"
+option_name option.Offer = codes "offer"
+option_name option.Signature = codes "signature"
+option_name option.Algorithm = codes "algorithm"
+option_name option.Session = codes "session"
+option_name option.User = codes "user"
+option_name option.Address = codes "address"
+option_name option.Now = codes "now"
+option_name option.Host = codes "host"
+option_name option.Zone = codes "zone"
+option_name option.Vouch = codes "vouch"
+option_name option.EmptyPrincipals = codes "empty-principals"
+option_name option.RsaMinimum = codes "rsa-minimum"
+option_name option.Hash = codes "hash"
+option_name option.Port = codes "port"
+option_name option.Body = codes "body"
+option_name option.Message = codes "message"
+option_name option.Namespace = codes "namespace"
+option_name option.Salts = codes "salts"
+
+abbrev pub is_required : Needed → Bool
+is_required Required = true
+is_required Optional = false
+
+-- ---- subcommands
+
+abbrev pub subcommands : List Subcommand
+subcommands = Show ∷ Login ∷ Host ∷ Sshsig ∷ Rewrite ∷ Hash ∷ []
+
+abbrev pub subcommand_name : Subcommand → Text
+subcommand_name Show = codes "show"
+subcommand_name Login = codes "login"
+subcommand_name Host = codes "host"
+subcommand_name Sshsig = codes "sshsig"
+subcommand_name Rewrite = codes "rewrite"
+subcommand_name Hash = codes "hash"
+
+-- the subcommand of a name, if there is one
+abbrev pub subcommand_named : Text → Option Subcommand
+subcommand_named name = find (λ c. bytes_eq (subcommand_name c) name) subcommands
+
+-- the options of a subcommand, and which of them have to be given
+abbrev pub options_of : Subcommand → List (OptionName × Needed)
+options_of Show = (option.Kind, Required) ∷ (option.File, Required) ∷ []
+options_of Login = (option.File, Required) ∷ (option.Offer, Required) ∷ (option.Signature, Required) ∷ (option.Algorithm, Required)
+    ∷ (option.Session, Required) ∷ (option.User, Required) ∷ (option.Address, Required) ∷ (option.Now, Required)
+    ∷ (option.Host, Optional) ∷ (option.Zone, Optional) ∷ (option.Vouch, Optional)
+    ∷ (option.EmptyPrincipals, Optional) ∷ (option.RsaMinimum, Optional) ∷ []
+options_of Host = (option.File, Required) ∷ (option.Offer, Required) ∷ (option.Signature, Required) ∷ (option.Hash, Required)
+    ∷ (option.Host, Required) ∷ (option.Port, Required) ∷ (option.Now, Required) ∷ (option.Vouch, Optional)
+    ∷ (option.EmptyPrincipals, Optional) ∷ (option.RsaMinimum, Optional) ∷ []
+options_of Sshsig = (option.Body, Required) ∷ (option.Message, Required) ∷ (option.Namespace, Required) ∷ (option.Vouch, Optional) ∷ []
+options_of Rewrite = (option.Kind, Required) ∷ (option.File, Required) ∷ []
+options_of Hash = (option.File, Required) ∷ (option.Salts, Required) ∷ []

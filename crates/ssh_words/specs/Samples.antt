@@ -1,0 +1,84 @@
+-- Worked words, as the definitions read them (this project's rules).
+use Rattle.std.specs.Prelude.{◌≡◌, ◌++◌, List, [], ◌∷◌, codes, Option, Some, None, map, option_map, refl}
+use Rattle.clap.proofs.OnLiterals.{clap_on_literals}
+use Rattle.clap.specs.Words.{Text}
+use Rattle.ssh_words.specs.declared.subcommand.Subcommand.{Subcommand}
+use Rattle.ssh_words.specs.declared.subcommand.Subcommand.TheVariants.{Show, Login, Host, Sshsig, Rewrite, Hash}
+use Rattle.ssh_words.specs.CommandLine.{request_of, subcommand_app}
+use Rattle.ssh_words.specs.Options.{options_of}
+use Rattle.ssh_words.specs.Spelling.{given}
+
+-- the subcommand that words ask for, and what they give to each of its options, in the order of the table
+abbrev asked : List Text → Option (Subcommand × List (Option Text))
+asked words = option_map (λ q. (q.subcommand, map (λ row. given row.0 q.rows) (options_of q.subcommand))) (request_of words)
+
+abbrev login_needed : List Text
+login_needed = codes "login" ∷ codes "--file" ∷ codes "f" ∷ codes "--offer" ∷ codes "o" ∷ codes "--signature" ∷ codes "s" ∷ codes "--algorithm" ∷ codes "a"
+    ∷ codes "--session" ∷ codes "e" ∷ codes "--user" ∷ codes "u" ∷ codes "--address" ∷ codes "d" ∷ codes "--now" ∷ codes "n" ∷ []
+
+abbrev login_more : List Text
+login_more = codes "--rsa-minimum" ∷ codes "r" ∷ codes "--zone" ∷ codes "z" ∷ codes "--vouch" ∷ codes "v" ∷ codes "--empty-principals" ∷ codes "p"
+    ∷ codes "--host" ∷ codes "h" ∷ []
+
+abbrev login_asked : List (Option Text) → Option (Subcommand × List (Option Text))
+login_asked more = Some (
+  Login,
+  Some (codes "f") ∷ Some (codes "o") ∷ Some (codes "s") ∷ Some (codes "a") ∷ Some (codes "e") ∷ Some (codes "u") ∷ Some (codes "d") ∷ Some (codes "n")
+      ∷ more,
+)
+
+-- the options of `login`, of which the last five may be left out
+abbrev pub LoginsAsked : Type 0
+LoginsAsked = (asked login_needed ≡ login_asked (None ∷ None ∷ None ∷ None ∷ None ∷ []))
+    × (asked (login_needed ++ login_more)
+    ≡ login_asked (Some (codes "h") ∷ Some (codes "z") ∷ Some (codes "v") ∷ Some (codes "p") ∷ Some (codes "r") ∷ []))
+
+pub logins_asked : LoginsAsked
+unfolding subcommand_app clap_on_literals
+logins_asked = (refl, refl)
+
+abbrev host_needed : List Text
+host_needed = codes "host" ∷ codes "--port" ∷ codes "p" ∷ codes "--file" ∷ codes "f" ∷ codes "--offer" ∷ codes "o" ∷ codes "--signature" ∷ codes "s"
+    ∷ codes "--hash" ∷ codes "x" ∷ codes "--host" ∷ codes "h" ∷ codes "--now" ∷ codes "n" ∷ []
+
+abbrev host_asked : List (Option Text) → Option (Subcommand × List (Option Text))
+host_asked more = Some (
+  Host,
+  Some (codes "f") ∷ Some (codes "o") ∷ Some (codes "s") ∷ Some (codes "x") ∷ Some (codes "h") ∷ Some (codes "p") ∷ Some (codes "n") ∷ more,
+)
+
+-- those of `host`, in any order
+abbrev pub HostsAsked : Type 0
+HostsAsked = (asked host_needed ≡ host_asked (None ∷ None ∷ None ∷ []))
+    × (asked (host_needed ++ codes "--rsa-minimum" ∷ codes "0" ∷ codes "--vouch" ∷ codes "-" ∷ []) ≡ host_asked (Some (codes "-") ∷ None ∷ Some (codes "0") ∷ []))
+
+pub hosts_asked : HostsAsked
+unfolding subcommand_app clap_on_literals
+hosts_asked = (refl, refl)
+
+-- those of the other commands
+abbrev pub OthersAsked : Type 0
+OthersAsked = (asked (codes "show" ∷ codes "--kind" ∷ codes "key" ∷ codes "--file" ∷ codes "f" ∷ []) ≡ Some (Show, Some (codes "key") ∷ Some (codes "f") ∷ []))
+    × (asked (codes "rewrite" ∷ codes "--file" ∷ codes "-" ∷ codes "--kind" ∷ codes "auth" ∷ []) ≡ Some (Rewrite, Some (codes "auth") ∷ Some (codes "-") ∷ []))
+    × (asked (codes "hash" ∷ codes "--salts" ∷ codes "s" ∷ codes "--file" ∷ codes "f" ∷ []) ≡ Some (Hash, Some (codes "f") ∷ Some (codes "s") ∷ []))
+    × (asked (codes "sshsig" ∷ codes "--body" ∷ codes "b" ∷ codes "--message" ∷ codes "m" ∷ codes "--namespace" ∷ codes "file" ∷ [])
+    ≡ Some (Sshsig, Some (codes "b") ∷ Some (codes "m") ∷ Some (codes "file") ∷ None ∷ []))
+    × (asked (codes "sshsig" ∷ codes "--vouch" ∷ codes "v" ∷ codes "--body" ∷ codes "b" ∷ codes "--message" ∷ codes "m" ∷ codes "--namespace" ∷ codes "file" ∷ [])
+    ≡ Some (Sshsig, Some (codes "b") ∷ Some (codes "m") ∷ Some (codes "file") ∷ Some (codes "v") ∷ []))
+
+pub others_asked : OthersAsked
+unfolding subcommand_app clap_on_literals
+others_asked = (refl, refl, refl, refl, refl)
+
+-- no command, one that is none, an option that is missing, has no value, or is of another command
+abbrev pub WordsRefused : Type 0
+WordsRefused = (request_of [] ≡ None)
+    × (request_of (codes "shows" ∷ []) ≡ None)
+    × (request_of (codes "show" ∷ codes "--kind" ∷ codes "key" ∷ []) ≡ None)
+    × (request_of (codes "show" ∷ codes "--kind" ∷ codes "key" ∷ codes "--file" ∷ []) ≡ None)
+    × (request_of (codes "show" ∷ codes "--kind" ∷ codes "key" ∷ codes "--file" ∷ codes "f" ∷ codes "--vouch" ∷ codes "v" ∷ []) ≡ None)
+    × (request_of (codes "show" ∷ codes "--kind" ∷ codes "key" ∷ codes "--file" ∷ codes "f" ∷ codes "g" ∷ []) ≡ None)
+
+pub words_refused : WordsRefused
+unfolding subcommand_app clap_on_literals
+words_refused = (refl, refl, refl, refl, refl, refl)

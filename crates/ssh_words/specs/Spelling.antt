@@ -1,0 +1,72 @@
+-- What the options of a subcommand spell.
+use Rattle.std.specs.Prelude.{◌≡◌, List, Option, Some, None, Result, Ok, Err}
+use Rattle.std.specs.Option.{ok_or}
+use Rattle.clap.specs.Words.{Row, Text, first_of}
+use Rattle.ssh_wire.specs.Reading.{◌>>=◌}
+use Rattle.ssh_inputs.specs.SourceState.{SourceState}
+use Rattle.ssh_inputs.specs.Loading.{NoReadFailed}
+use Rattle.ssh_print.specs.Responses.{Response, usage_response, value_response}
+use Rattle.ssh_words.specs.declared.error.CommandError.{CommandError}
+use Rattle.ssh_words.specs.declared.error.CommandError.TheVariants.{Usage, Value, Memory}
+use Rattle.ssh_words.specs.declared.options.OptionName.{OptionName}
+use Rattle.ssh_words.specs.declared.options.OptionName.TheVariants.{Body, File, Message, Namespace, Vouch}
+use Rattle.ssh_words.specs.Asked.{AuditFiles, SshsigQuestion}
+use Rattle.ssh_words.specs.Options.{option_name}
+
+-- ---- texts
+
+-- the text of an option, where it is given
+abbrev pub given : OptionName → List Row → Option Text
+given o rows = first_of (option_name o) rows
+
+-- the text of an option that has to be given
+abbrev pub needed : OptionName → List Row → Result Text Response
+needed o rows = ok_or (given o rows) usage_response
+
+-- ---- values
+
+-- a value, or the answer that the option has none
+abbrev pub or_fault : {A : Type 0} → OptionName → Option A → Result A Response
+or_fault o v = ok_or v (value_response (option_name o))
+
+-- the value that the text of an option spells, by this reading
+abbrev pub value : {A : Type 0} → (Text → Option A) → OptionName → List Row → Result A Response
+value spells o rows = do
+  text ← needed o rows
+  or_fault o (spells text)
+
+-- the value of a text, where one is given
+abbrev pub read_or : {A : Type 0} → A → (Text → Option A) → Option Text → Option A
+read_or absent spells None = Some absent
+read_or absent spells (Some text) = spells text
+
+-- what an option that may be left out spells, by this reading; left out, it stands for this value
+abbrev pub value_or : {A : Type 0} → A → (Text → Option A) → OptionName → List Row → Result A Response
+value_or absent spells o rows = or_fault o (read_or absent spells (given o rows))
+
+-- the names of the files of an audit
+abbrev pub audit_files : List Row → Result AuditFiles Response
+audit_files rows = do
+  trust ← needed File rows
+  Ok (record { trust = trust; vouch = given Vouch rows })
+
+-- what is asked of a file signature
+abbrev pub sshsig_question : List Row → Result SshsigQuestion Response
+sshsig_question rows = do
+  body ← needed Body rows
+  message ← needed Message rows
+  namespace ← needed Namespace rows
+  Ok (record { body = body; message = message; namespace = namespace; vouch = given Vouch rows })
+
+-- ---- answers
+
+-- what was spelled is answered so; where it was not, the answer is its fault, and no file is read
+abbrev pub RespondsTo : {Q : Type 0} → (Q → SourceState → Option SourceState → Response → Type 0) → Result Q Response → SourceState → Option SourceState → Response → Type 0
+RespondsTo responds (Err e) s t r = NoReadFailed s t × (r ≡ e)
+RespondsTo responds (Ok q) s t r = responds q s t r
+
+-- the answer to a fault, where memory was not refused
+abbrev pub IsToldAs : CommandError → Response → Type 0
+IsToldAs Usage r = r ≡ usage_response
+IsToldAs (Value o) r = r ≡ value_response (option_name o)
+IsToldAs Memory r = ⊥

@@ -1,0 +1,124 @@
+//! The subcommands, each with its options.
+
+ghost use Rattle.std.specs.Prelude.{◌≡◌};
+ghost use Rattle.ssh_words.specs.Options.{
+  options_of,
+  subcommand_name,
+  subcommand_named,
+  subcommands,
+};
+
+use crate::options::Needed::{Optional, Required};
+use crate::options::{Needed, OptionName};
+
+/// What the program is asked to do.
+#[derive(Clone, Copy, Debug, PartialEq, Eq)]
+pub enum Subcommand {
+    Show,
+    Login,
+    Host,
+    Sshsig,
+    Rewrite,
+    Hash,
+}
+
+/// A row of the options of a subcommand.
+pub type OptionRow = (OptionName, Needed);
+
+const SUBCOMMANDS: [Subcommand; 6] = [
+    Subcommand::Show,
+    Subcommand::Login,
+    Subcommand::Host,
+    Subcommand::Sshsig,
+    Subcommand::Rewrite,
+    Subcommand::Hash,
+];
+
+const SHOW: [OptionRow; 2] = [(OptionName::Kind, Required), (OptionName::File, Required)];
+
+const LOGIN: [OptionRow; 13] = [
+    (OptionName::File, Required),
+    (OptionName::Offer, Required),
+    (OptionName::Signature, Required),
+    (OptionName::Algorithm, Required),
+    (OptionName::Session, Required),
+    (OptionName::User, Required),
+    (OptionName::Address, Required),
+    (OptionName::Now, Required),
+    (OptionName::Host, Optional),
+    (OptionName::Zone, Optional),
+    (OptionName::Vouch, Optional),
+    (OptionName::EmptyPrincipals, Optional),
+    (OptionName::RsaMinimum, Optional),
+];
+
+const HOST: [OptionRow; 10] = [
+    (OptionName::File, Required),
+    (OptionName::Offer, Required),
+    (OptionName::Signature, Required),
+    (OptionName::Hash, Required),
+    (OptionName::Host, Required),
+    (OptionName::Port, Required),
+    (OptionName::Now, Required),
+    (OptionName::Vouch, Optional),
+    (OptionName::EmptyPrincipals, Optional),
+    (OptionName::RsaMinimum, Optional),
+];
+
+const SSHSIG: [OptionRow; 4] = [
+    (OptionName::Body, Required),
+    (OptionName::Message, Required),
+    (OptionName::Namespace, Required),
+    (OptionName::Vouch, Optional),
+];
+
+const REWRITE: [OptionRow; 2] = [(OptionName::Kind, Required), (OptionName::File, Required)];
+
+const HASH: [OptionRow; 2] = [(OptionName::File, Required), (OptionName::Salts, Required)];
+
+impl Subcommand {
+    /// Every subcommand.
+    pub fn all() -> &'static [Subcommand]
+        ensures { result.now ≡ subcommands }
+    {
+        &SUBCOMMANDS
+    }
+
+    /// The name, as the first word gives it.
+    pub fn name(self) -> &'static str
+        ensures { result.now ≡ subcommand_name self }
+    {
+        match self {
+            Subcommand::Show => "show",
+            Subcommand::Login => "login",
+            Subcommand::Host => "host",
+            Subcommand::Sshsig => "sshsig",
+            Subcommand::Rewrite => "rewrite",
+            Subcommand::Hash => "hash",
+        }
+    }
+
+    /// The subcommand of this name, if there is one.
+    pub fn named(name: &str) -> Option<Subcommand>
+        ensures { result ≡ subcommand_named name.now }
+    {
+        Subcommand::all()
+            .iter()
+            .copied()
+            .find(|subcommand| subcommand.name() == name)
+    }
+
+    /// Its options.
+    pub fn options(self) -> &'static [OptionRow]
+        ensures { result.now ≡ options_of self }
+    {
+        match self {
+            Subcommand::Show => &SHOW,
+            Subcommand::Login => &LOGIN,
+            Subcommand::Host => &HOST,
+            Subcommand::Sshsig => &SSHSIG,
+            Subcommand::Rewrite => &REWRITE,
+            Subcommand::Hash => &HASH,
+        }
+    }
+}
