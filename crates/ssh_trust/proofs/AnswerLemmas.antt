@@ -1,6 +1,7 @@
 -- What is answered by an audit, whatever it searches for.
 use Rattle.std.proofs.Common.{◌≡◌, ◌∙◌, ◌+◌, ◌<◌, ◌≤◌, ◌↔◌, ℕ, List, length, nat_lt, Result, Ok, Err, refl, inl, inr, arith}
 use Rattle.std.proofs.lemmas.Bool.{cases_Bool, le-ltb, lt-ltb, ltb-false, ltb-true}
+use Rattle.std.specs.Prelude.{IfOk}
 use Rattle.ssh_text.specs.Text.{file_limit}
 use Rattle.ssh_offers.specs.declared.error.AuditError.{AuditError}
 use Rattle.ssh_offers.specs.declared.error.AuditError.TheVariants.{FileTooLong, Memory}
@@ -18,6 +19,13 @@ err-same e f h = rw h refl
 pub of-claim : {Q : Type 0} (r : Result Q AuditError) (P : Q → Type 0) → ((claim : Q) → r ≡ Ok claim → P claim) → OfClaim r P
 of-claim (Ok claim) P h = h claim refl
 of-claim (Err e) P h = tt
+
+-- what follows from what is said of a decision is said of it too
+pub decided-too : {Q : Type 0} (r : Result Q AuditError) (result : Result Decision AuditError) (P R : Q → Decision → Type 0) → ((claim : Q) (d : Decision) → P claim d → R claim d)
+    → OfClaim r (λ claim. IfOk result (P claim)) → OfClaim r (λ claim. IfOk result (R claim))
+decided-too (Err e) result P R f h = tt
+decided-too (Ok claim) (Err e) P R f h = tt
+decided-too (Ok claim) (Ok d) P R f h = f claim d h
 
 -- where an audit was made, the offer is not refused
 pub made-refused : {Q A B : Type 0} (r : Result Q AuditError) (audit : A) (result : Result B AuditError) → RefusesAs r (Ok audit) → RefusesAs r result

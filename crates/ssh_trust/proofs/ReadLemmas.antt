@@ -12,7 +12,7 @@ use Rattle.ssh_trust.specs.declared.search.Search.{Search}
 use Rattle.ssh_trust.specs.Answer.{Gives, RefusesAs, if_short}
 use Rattle.ssh_text.specs.Text.{file_limit}
 use Rattle.ssh_trust.specs.Audit.{HasRead, HasTaken}
-use Rattle.ssh_trust.specs.Reads.{AnswersReader, IsFedBy, StopsBy, piece_size}
+use Rattle.ssh_trust.specs.Reads.{AnswersReader, HoldsOfRead, IsFedBy, StopsBy, piece_size}
 use Rattle.ssh_trust.proofs.AuditLemmas.{taken-more}
 use Rattle.ssh_trust.proofs.AnswerLemmas.{err-inj}
 use Rattle.ssh_trust.proofs.CandidateLemmas.{AreBytes}
@@ -202,3 +202,12 @@ answers-not file d h = elim (cases_Bool (nat_lt file_limit (length file))) [
   | inl t ↦ let bad : ◌≡◌ {A = Result Decision AuditError} (Err FileTooLong) (Err Read) = rw t at h in cc
   | inr f ↦ let bad : ◌≡◌ {A = Result Decision AuditError} (Ok d) (Err Read) = rw f at h in cc
 ]
+
+-- what follows from what is true of the file that was read is true of it too
+pub read-too : (old new : Option (List ℕ)) (P Q : List ℕ → Type 0) → ((file : List ℕ) → P file → Q file) → HoldsOfRead old new P → HoldsOfRead old new Q
+read-too old new P Q f h = record {
+  given = h.given;
+  consumed = h.consumed;
+  to_end = h.to_end;
+  holds = f h.given h.holds;
+}

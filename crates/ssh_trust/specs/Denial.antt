@@ -24,9 +24,9 @@ use Rattle.ssh_trust.specs.declared.decision.Cause.TheVariants.{NoLine, NotVouch
 use Rattle.ssh_trust.specs.declared.decision.Decision.{Decision}
 use Rattle.ssh_trust.specs.declared.decision.Decision.TheVariants.{Granted, Denied}
 use Rattle.ssh_trust.specs.Candidate.{reason_limit}
-use Rattle.ssh_trust.specs.LoginDecision.{IsCandidate}
+use Rattle.ssh_trust.specs.LoginDecision.{IsCandidate, LoginMeans}
 use Rattle.ssh_trust.specs.FileLines.{IsLineAt}
-use Rattle.ssh_trust.specs.HostDecision.{BlindAt, IsHostCandidate, IsLeast, RevokesAt}
+use Rattle.ssh_trust.specs.HostDecision.{BlindAt, HostMeans, IsHostCandidate, IsLeast, RevokesAt}
 
 -- ---- the reasons
 
@@ -89,6 +89,10 @@ LoginDenialMeans file claim vouched (Granted line rights evidence) = Unit {0}
 LoginDenialMeans file claim vouched (Denied why reasons evidence) =
     LoginCause file claim vouched why × AreReasons (IsPassedOver AuthEntry (IsCandidate file claim) (LoginReason claim) file) reasons
 
+-- what a decision on a login means: granted or denied, and a denial's cause and reasons
+abbrev pub LoginDecides : List ℕ → LoginClaim → List Signed → Decision → Type 0
+LoginDecides file claim vouched decision = LoginMeans file claim vouched decision × LoginDenialMeans file claim vouched decision
+
 -- ---- hosts
 
 abbrev pub HostReason : HostClaim → List ℕ → Reason → Type 0
@@ -113,3 +117,7 @@ abbrev pub HostDenialMeans : List ℕ → HostClaim → List Signed → Decision
 HostDenialMeans file claim vouched (Granted line rights evidence) = Unit {0}
 HostDenialMeans file claim vouched (Denied why reasons evidence) =
     HostCause file claim vouched why × AreReasons (IsPassedOver KnownEntry (IsHostCandidate file claim) (HostReason claim) file) reasons
+
+-- what a decision on a host's key means: granted or denied, and a denial's cause and reasons
+abbrev pub HostDecides : List ℕ → HostClaim → List Signed → Decision → Type 0
+HostDecides file claim vouched decision = HostMeans file claim vouched decision × HostDenialMeans file claim vouched decision

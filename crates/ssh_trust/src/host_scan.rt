@@ -7,7 +7,8 @@ ghost use Rattle.ssh_lines.specs.KnownSeen.{known_seen};
 ghost use Rattle.ssh_offers.specs.HostClaim.{HostClaim, host_claim};
 ghost use Rattle.ssh_offers.specs.Query.{host_check_of};
 ghost use Rattle.ssh_trust.specs.FileLines.{IsText};
-ghost use Rattle.ssh_trust.specs.HostDecision.{HostMeans, host_decision};
+ghost use Rattle.ssh_trust.specs.Denial.{HostDecides};
+ghost use Rattle.ssh_trust.specs.HostDecision.{host_decision};
 ghost use Rattle.ssh_trust.specs.HostScan.{empty_host_scan, first_so_far, host_scan_line};
 
 use crate::decision::Decision;
@@ -79,7 +80,7 @@ impl<'a> Sought for SoughtHost<'a> {
 
     ghost decision = { host_decision };
 
-    ghost means = { HostMeans };
+    ghost means = { HostDecides };
 
     fn read(alloc: Global, query: &HostQuery<'a>) -> Result<SoughtHost<'a>, AuditError> {
         let claim = HostClaimView::read(query)?;

@@ -7,12 +7,8 @@ ghost use Rattle.ssh_lines.specs.LineView.{line_seen};
 ghost use Rattle.ssh_offers.specs.ClaimViews.{claim_of};
 ghost use Rattle.ssh_offers.specs.LoginClaim.{LoginClaim, login_claim};
 ghost use Rattle.ssh_offers.specs.Query.{login_of};
-ghost use Rattle.ssh_trust.specs.LoginDecision.{
-  LoginMeans,
-  candidate_at,
-  login_decision,
-  login_scan_line,
-};
+ghost use Rattle.ssh_trust.specs.Denial.{LoginDecides};
+ghost use Rattle.ssh_trust.specs.LoginDecision.{candidate_at, login_decision, login_scan_line};
 ghost use Rattle.ssh_trust.specs.FileLines.{IsText};
 ghost use Rattle.ssh_trust.specs.Scan.{empty_scan};
 
@@ -90,7 +86,7 @@ impl<'a> Sought for LoginClaimView<'a> {
 
     ghost decision = { login_decision };
 
-    ghost means = { LoginMeans };
+    ghost means = { LoginDecides };
 
     fn read(_alloc: Global, query: &LoginQuery<'a>) -> Result<LoginClaimView<'a>, AuditError> {
         let claim = LoginClaimView::read(query)?;

@@ -1,0 +1,22 @@
+use Rattle.ssh_offers.specs.LoginClaim.{login_claim}
+use Rattle.ssh_offers.specs.Query.{login_of}
+use Rattle.ssh_trust.specs.Denial.{LoginDecides, LoginDenialMeans}
+use Rattle.ssh_trust.specs.LoginDecision.{LoginMeans}
+use Rattle.ssh_trust.specs.Reads.{HoldsOfRead}
+use Rattle.ssh_trust.proofs.AnswerLemmas.{decided-too}
+use Rattle.ssh_trust.proofs.ReadLemmas.{read-too}
+use Rattle.ssh_trust.proofs.logins.login_from.Goals as goal
+
+pub returns-clause-means : goal.returns-clause-means
+returns-clause-means g c =
+    let old = g.S.Source.left c.args.reader.now in
+    let new = g.S.Source.left c.of_reader.new.reader in
+    decided-too (login_claim (login_of c.args.query.now)) c.of_reader.result (λ claim d. HoldsOfRead old new (λ file. LoginDecides file claim c.args.vouched.now d))
+    (λ claim d. HoldsOfRead old new (λ file. LoginMeans file claim c.args.vouched.now d)) (λ claim d h. read-too old new _ _ (λ file k. k.0) h) c.of_reader.ensures.means
+
+pub returns-clause-denial : goal.returns-clause-denial
+returns-clause-denial g c =
+    let old = g.S.Source.left c.args.reader.now in
+    let new = g.S.Source.left c.of_reader.new.reader in
+    decided-too (login_claim (login_of c.args.query.now)) c.of_reader.result (λ claim d. HoldsOfRead old new (λ file. LoginDecides file claim c.args.vouched.now d))
+    (λ claim d. HoldsOfRead old new (λ file. LoginDenialMeans file claim c.args.vouched.now d)) (λ claim d h. read-too old new _ _ (λ file k. k.1) h) c.of_reader.ensures.means
