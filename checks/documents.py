@@ -22,9 +22,9 @@ TOP = HERE.parent
 PROGRAM = pathlib.Path(sys.argv[1] if len(sys.argv) > 1 else TOP / "crates" / "ssh_audit" / "out" / "ssh_audit").resolve()
 DOCUMENTS = ("README.md", "docs/MANUAL.md")
 BLOCK = re.compile(r"^```(\S*)\n(.*?)^```$", re.MULTILINE | re.DOTALL)
-CODE = TOP / "crates" / "ssh_command" / "src"
+CODE = TOP / "crates" / "ssh_words" / "src"
 TABLE = re.compile(r"^\| Option of `(\w+)` \|.*\n\|[-|]*\|\n((?:\|.*\n)*)", re.MULTILINE)
-OPTION = re.compile(r"^\| `--(\w+)` \| (.*) \|$", re.MULTILINE)
+OPTION = re.compile(r"^\| `--([\w-]+)` \| (.*) \|$", re.MULTILINE)
 # Stands after each command's output, with its status.
 MARK = "\x1e"
 
@@ -81,7 +81,7 @@ def rows_of_code():
     """The options of each subcommand, in their order, each with whether it may be left out."""
     options = (CODE / "options.rt").read_text()
     subcommands = (CODE / "subcommand.rt").read_text()
-    names = dict(re.findall(r'OptionName::(\w+) => "(\w+)",', options))
+    names = dict(re.findall(r'OptionName::(\w+) => "([\w-]+)",', options))
     lists = {name: re.findall(r"\(OptionName::(\w+), (\w+)\)", body) for name, body in re.findall(r"^const (\w+): \[OptionRow; \d+\] = \[(.*?)\];$", subcommands, re.MULTILINE | re.DOTALL)}
     places = dict(re.findall(r"Subcommand::(\w+) => &(\w+),", subcommands))
     spelled = dict(re.findall(r'Subcommand::(\w+) => "(\w+)",', subcommands))

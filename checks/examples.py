@@ -93,8 +93,24 @@ def keygen_rows(room):
         check(name + " certificate", would_admit(room, name + "-cert.pub", [authority]), (0, [both.format(1), "rights: port agent pty rc"]))
         wrong = "line 1: the certificate is for none of the principals that are asked for (G12)"
         check(name + " principal", would_admit(room, name + "-cert.pub", [authority], "eve"), (1, [NO_LINE, signer, wrong]))
+        if kind == "rsa":
+            size = int(made(room, "ssh-keygen", "-l", "-f", name + ".pub").split()[0])
+            short = "line 1: an RSA key has fewer bits than asked for (G20)"
+            check(name + " long enough", would_admit(room, name + ".pub", [key], "ann", "192.0.2.1", "--rsa-minimum", size), (0, [good.format(1), every]))
+            check(name + " too short", would_admit(room, name + ".pub", [key], "ann", "192.0.2.1", "--rsa-minimum", size + 1), (1, [NO_LINE, sought, short]))
         plain = "line 1: it is not an authority for certificates (G4)"
         check(name + " no authority", would_admit(room, name + "-cert.pub", [other]), (1, [NO_LINE, signer, plain]))
+
+
+def unnamed_rows(room):
+    """A certificate without principals, which ssh-keygen makes where -n is left out: for all, or for none."""
+    authority = "cert-authority " + public(room, "authority.pub")
+    shutil.copy(room / "ed25519.pub", room / "unnamed.pub")
+    made(room, "ssh-keygen", "-q", "-s", "authority", "-I", "unnamed", "-V", "20250101:20260101", "unnamed.pub")
+    both = "admitted by line 1, if the client's and the signer's signatures are good"
+    signer, unnamed = "looked for the signer " + fingerprint(room, "authority.pub"), "line 1: the certificate names no principal (G19)"
+    check("no principals", would_admit(room, "unnamed-cert.pub", [authority]), (0, [both, "rights: port agent x11 pty rc"]))
+    check("no principals, for none", would_admit(room, "unnamed-cert.pub", [authority], "ann", "192.0.2.1", "--empty-principals", "never"), (1, [NO_LINE, signer, unnamed]))
 
 
 def openssl_key(room, name, kind):
@@ -317,6 +333,7 @@ def main():
     with tempfile.TemporaryDirectory() as folder:
         room = pathlib.Path(folder)
         keygen_rows(room)
+        unnamed_rows(room)
         signed_rows(room)
         certificate_rows(room)
         host_rows(room)

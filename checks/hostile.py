@@ -7,8 +7,11 @@ one of the forms that docs/CODES.md lists, and nothing on standard error.
 usage: hostile.py [PROGRAM] [--seconds N] [--seed N]
 
 Random bytes are tried for N seconds (20 where nothing is said); the same seed gives the same files, as many as the time
-allows. The last line is 'N passed, M failed'; the status is 0 where nothing failed."""
+allows, and how many were tried is printed. Each file is a process of its own, started by run_many.c (gcc makes it), so
+that the processors and not this script set the number. The last line is 'N passed, M failed'; the status is 0 where
+nothing failed."""
 import argparse
+import collections
 import concurrent.futures
 import os
 import pathlib
@@ -26,6 +29,7 @@ import program
 from program import FILES, SSHSIG, SIGNED_MESSAGE, Tally, hash_names, host, login, rewrite, show, sshsig
 from refused_growth import private_body
 
+HERE = pathlib.Path(__file__).resolve().parent
 DEFAULT = pathlib.Path(program.CRATE) / "out" / "ssh_audit"
 CODE = rb"[A-Z]\d+( [ -~]*)?"
 TRIPLE = rb"( ([0-9a-f]{2})+| -){3}"
@@ -187,31 +191,61 @@ def samples():
     yield sshsig("-", "message", "file vouched"), SSHSIG
 
 
-def try_one(path, room, asked, data):
-    try:
-        answer = run(path, room, asked, data)
-    except subprocess.TimeoutExpired:
-        answer = ("no end", b"", b"")
-    return is_defined(asked, answer) or (asked, data, answer)
+def answers(driver, path, room, asked):
+    """What the program answers to each pair of words and standard input."""
+    requests = bytearray()
+    for number, (words, data) in enumerate(asked):
+        texts = [os.fsencode(word) for word in words]
+        requests += b"%d %d %d\n" % (number, len(texts), len(data)) + b"".join(text + b"\0" for text in texts) + data
+    side_by_side = str((os.cpu_count() or 2) + 1)
+    ran = subprocess.run([driver, side_by_side, "10", path], cwd=room, input=requests, capture_output=True, timeout=program.SECONDS, check=True)
+    found, at = [None] * len(asked), 0
+    while at < len(ran.stdout):
+        end = ran.stdout.index(b"\n", at)
+        number, status, out, errors = map(int, ran.stdout[at:end].split())
+        middle = end + 1 + out
+        at = middle + errors
+        found[number] = os.waitstatus_to_exitcode(status), ran.stdout[end + 1 : middle], ran.stdout[middle:at]
+    return found
+
+
+def random_turn(draw, kinds):
+    """A thousand pairs of words and standard input, half of them mutations of files that are read."""
+    for _ in range(1000):
+        asked, sample = draw.choice(kinds)
+        yield asked, mutated(draw, sample) if draw.random() < 0.5 else draw.randbytes(draw.choice((0, 1, 7, 64, 300, 5000)))
+
+
+def turns(draw, kinds, seconds):
+    """Such turns until the time is over."""
+    ends = time.monotonic() + seconds
+    while time.monotonic() < ends:
+        yield list(random_turn(draw, kinds))
+
+
+def wrong_answers(turn, begun):
+    """What was asked of a turn that has been begun, with each answer that has no defined form."""
+    for (asked, data), answer in zip(turn, begun.result()):
+        if answer is None or not is_defined(asked, answer):
+            yield asked, data, answer
 
 
 def random_rows(path, room, tally, seconds, seed):
-    """As many files as the time allows, in turns of a hundred. One check: all have an answer of a defined form."""
-    draw = random.Random(seed)
-    kinds = list(samples())
-    ends = time.monotonic() + seconds
-    tried, wrong = 0, []
-    with concurrent.futures.ThreadPoolExecutor(os.cpu_count() or 2) as pool:
-        while time.monotonic() < ends and not wrong:
-            turn = []
-            for _ in range(100):
-                asked, sample = draw.choice(kinds)
-                data = mutated(draw, sample) if draw.random() < 0.5 else draw.randbytes(draw.choice((0, 1, 7, 64, 300, 5000)))
-                turn.append(pool.submit(try_one, path, room, asked, data))
-            found = [it.result() for it in turn]
-            tried += len(found)
-            wrong += [it for it in found if it is not True]
-    print(f"random files: {tried} by seed {seed}")
+    """As many files as the time allows, one turn being drawn while the one before is answered. One check: all have an
+    answer of a defined form."""
+    driver = room / "run_many"
+    subprocess.run(["gcc", "-O2", "-Wall", "-o", str(driver), str(HERE / "run_many.c")], check=True)
+    begins = time.monotonic()
+    tried, wrong, waiting = 0, [], collections.deque()
+    with concurrent.futures.ThreadPoolExecutor(1) as pool:
+        for turn in turns(random.Random(seed), list(samples()), seconds):
+            waiting.append((turn, pool.submit(answers, driver, path, room, turn)))
+            tried += len(turn)
+            if len(waiting) > 1:
+                wrong += wrong_answers(*waiting.popleft())
+        for turn in waiting:
+            wrong += wrong_answers(*turn)
+    print(f"random files: {tried} by seed {seed}, {tried / (time.monotonic() - begins):.0f} a second")
     tally.check("random files", wrong[:1], [])
 
 

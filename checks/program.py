@@ -5,11 +5,14 @@ usage: program.py [PROGRAM] [--after LOG]
 
 PROGRAM is crates/ssh_audit/out/ssh_audit where it is left out. After its own rows it starts the checks beside it:
 examples.py (keys, certificates and signatures of ssh-keygen and openssl through examples/), documents.py (the commands
-of README.md and docs/MANUAL.md as they stand), codes.py (whether each printed code is in a row), refused_growth.py (each
-growth of memory refused in turn) and hostile.py (input that was made to hurt). With --after, as .ci/run starts it,
-refused_bodies.py and refused_lines.py run too, which need the kit's `rt`, and the counts in the last line of LOG, what
-`rt ci` printed, are added. The last line is 'N passed, M failed' for all of them. The status is 0 where nothing failed.
-What cannot run has failed.
+of README.md and docs/MANUAL.md as they stand), codes.py (whether each printed code is in a row), closure.py (how much a
+reviewer has to read), memory_calls.py (whether each call that takes memory is in the table of docs/PROOFS.md),
+refused_growth.py (each growth of memory refused in turn), cut_vectors.py (worked blobs, cut) and hostile.py (input that
+was made to hurt). With --after, as .ci/run starts it,
+refused_calls.py (each growth of memory of the libraries' calls refused in turn) and sanitized.py (random bytes under
+AddressSanitizer) run too, which need the kit's `rt`, and the counts in the last line of LOG, what `rt ci` printed, are
+added. The last line is 'N passed, M failed' for all of them. The status is 0 where nothing failed. What cannot run has
+failed.
 
 Needs ssh-keygen (Debian: openssh-client), openssl 3, gcc, /dev/full, and the built program. It takes some three minutes,
 without --after.
@@ -281,10 +284,14 @@ def rows():
     yield login("/dev/zero"), "fault A7\n", 2
     yield login("keys", "/dev/zero"), "fault file /dev/zero\n", 2
     yield host("/dev/zero"), "fault A7\n", 2
+    yield host("hosts", "/dev/zero"), "fault file /dev/zero\n", 2
+    yield sshsig("/dev/zero", "message"), "fault file /dev/zero\n", 2
     yield sshsig("body", "/dev/zero"), "fault file /dev/zero\n", 2
+    yield sshsig("body", "message", "/dev/zero"), "fault file /dev/zero\n", 2
     for kind in ("key", "cert", "private", "sshsig"):
         yield show(kind, "/dev/zero"), "fault file /dev/zero\n", 2
     yield rewrite("auth", "/dev/zero"), "fault A7\n", 2
+    yield rewrite("known", "/dev/zero"), "fault A7\n", 2
     yield hash_names("/dev/zero", "salts"), "fault A7\n", 2
     yield hash_names("hosts", "/dev/zero"), "fault file /dev/zero\n", 2
     # words
@@ -492,7 +499,11 @@ def full_pipe():
 
 def writer_rows(program, tally):
     """Writers that fail: the status is 2, whatever the answer's own status is."""
-    asked = (login("keys", "vouched"), login("keys"), host("revoked"), show("key", "keys"), rewrite("auth", "keys"), ["frob"])
+    asked = (
+        *(login("keys", "vouched"), login("keys"), host("revoked"), sshsig("body", "message", "file vouched")),
+        *(show("key", "keys"), show("cert", "certificate"), show("sshsig", "body")),
+        *(rewrite("auth", "keys"), hash_names("loose names", "salts"), ["frob"]),
+    )
     for words_asked in asked:
         name = " ".join(words_asked[:3])
         with open("/dev/full", "wb") as full:
@@ -583,7 +594,7 @@ def try_all(path, tally):
             except (OSError, subprocess.SubprocessError) as error:
                 tally.check(row.__name__, repr(error), "no error")
     print(f"program.py itself: {tally.passed} passed, {tally.failed} failed", flush=True)
-    for name in ("examples.py", "documents.py", "refused_growth.py", "hostile.py"):
+    for name in ("examples.py", "documents.py", "refused_growth.py", "cut_vectors.py", "hostile.py"):
         other_check(name, tally, path)
 
 
@@ -594,10 +605,10 @@ def main():
     asked = parser.parse_args()
     tally = Tally()
     try_all(asked.program.resolve(), tally)
-    if (HERE / "codes.py").exists():
-        other_check("codes.py", tally)
+    for name in ("codes.py", "closure.py", "memory_calls.py"):
+        other_check(name, tally)
     if asked.after is not None:
-        for name in ("refused_bodies.py", "refused_lines.py"):
+        for name in ("refused_calls.py", "sanitized.py"):
             other_check(name, tally)
         passed, failed = counts_of(asked.after.read_text(errors="replace")) or (0, 1)
         tally.passed += passed

@@ -1,20 +1,8 @@
-#!/usr/bin/env python3
-"""Reads each row below by `read_auth_line` or `read_known_line`, and writes files anew by `rewrite_auth` or
-`rewrite_known`, or with their names hidden by `hash_known`, with each growth of memory refused in turn. Each call has
-to tell out of memory or give the row's own answer: a line that has an entry never becomes unreadable, no revocation is
-lost, and nothing is handed back of a file that was written in part. Run it as
+"""Tables of lines that `read_auth_line` and `read_known_line` read, and of files that `rewrite_auth`, `rewrite_known` and
+`hash_known` write anew, as tests that refused_calls.py runs with each growth of memory refused in turn. A line that has
+an entry never becomes unreadable, no revocation is lost, and nothing is handed back of a file that was written in part.
+What is answered before the bytes of a key takes no memory: the name of its row begins with `free_`."""
 
-    python3 checks/refused_lines.py
-
-It needs the kit's `rt`, proves nothing, and takes some minutes: a copy of the repository gets one test for each row in
-place of the tests of ssh_line_rows, and `rt try --test --fail-alloc N` runs them for N = 1, 2, ..
-until no row has an Nth growth. Another repository's folder may be given as an argument."""
-import pathlib
-import sys
-
-from refused import check_rows, told
-
-TOP = pathlib.Path(sys.argv[1] if len(sys.argv) > 1 else pathlib.Path(__file__).parent.parent).resolve()
 KEY = "AAAAC3NzaC1lZDI1NTE5AAAAI" + "A" * 43
 
 # Lines that have an entry, each with how many options it has, and its comment.
@@ -93,7 +81,7 @@ use std::test::Fail;
 
 ROW = """
 #[test]
-fn row_%d(rt: HostRuntime) -> Result<(), Fail> {
+fn %s_%d(rt: HostRuntime) -> Result<(), Fail> {
     let read = %s(rt.alloc(), %s)?;
     match &read {
         %s => Ok(()),
@@ -140,30 +128,39 @@ def literal(text):
     return 'b"' + "".join(escapes.get(char, char) for char in text) + '"'
 
 
-def tests():
+# The faults that are found in a key's bytes, and so need memory.
+OF_BYTES = ("Base64", "KeyBlob(_)", "TypeMismatch")
+
+
+def line_tests():
+    """A test for each line."""
     entries = [
         ("AuthLine", "read_auth_line", line, f"entry.options().count() == {options} && entry.comment() == {literal(comment)}.as_slice()")
         for line, options, comment in ENTRIES
     ]
     entries += [("KnownLine", "read_known_line", line, wanted) for line, wanted in KNOWN_ENTRIES]
-    others = [("read_auth_line", line, f"AuthLine::Unreadable(LineCause::{cause})") for line, cause in FAULTS]
-    others += [("read_known_line", line, f"KnownLine::{answer}") for line, answer in KNOWN]
+    others = [
+        ("row" if cause in OF_BYTES else "free_row", "read_auth_line", line, f"AuthLine::Unreadable(LineCause::{cause})")
+        for line, cause in FAULTS
+    ]
+    others += [
+        ("free_row" if answer in ("Comment", "Blank") else "row", "read_known_line", line, f"KnownLine::{answer}")
+        for line, answer in KNOWN
+    ]
     rows = [
         ENTRY_ROW % (number, kind, call, literal(line), wanted)
         for number, (kind, call, line, wanted) in enumerate(entries, 1)
     ]
-    rows += [ROW % (number, call, literal(line), answer) for number, (call, line, answer) in enumerate(others, len(rows) + 1)]
-    return HEAD + "".join(rows), len(rows)
+    rows += [
+        ROW % (name, number, call, literal(line), answer)
+        for number, (name, call, line, answer) in enumerate(others, len(rows) + 1)
+    ]
+    return HEAD + "".join(rows)
 
 
 def file_tests():
+    """A test for each file."""
     files = [(call, literal(old), new) for call, old, new in FILES]
     files += [("hash_known", f"{literal(old)}, {SALTS}", new) for old, new in HIDDEN_FILES]
     rows = [FILE_ROW % (number, call, arguments, literal(new)) for number, (call, arguments, new) in enumerate(files, 1)]
-    return FILES_HEAD + "".join(rows), len(rows)
-
-
-sys.exit(told(
-    check_rows(TOP, "ssh_line_rows", *file_tests(), told_by="error: Memory"),
-    check_rows(TOP, "ssh_line_rows", *tests()),
-))
+    return FILES_HEAD + "".join(rows)
