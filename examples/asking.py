@@ -43,6 +43,8 @@ REASONS = {
     "G16": "the certificate's source-address cannot be read",
     "G17": "the certificate's source-address does not permit this address",
     "G18": "the line and the certificate force different commands",
+    "G19": "the certificate names no principal",
+    "G20": "an RSA key has fewer bits than asked for",
 }
 
 LINES = {

@@ -59,11 +59,14 @@ def main():
     parser.add_argument("--now", default=str(int(time.time())))
     parser.add_argument("--zone")
     parser.add_argument("--algorithm")
+    parser.add_argument("--empty-principals")
+    parser.add_argument("--rsa-minimum")
     asked = parser.parse_args()
     offer = asking.Offer(asked.key)
     login, signature = names_of(offer, asked.algorithm)
     options = [("signature", asking.stand_in(signature)), ("algorithm", login), ("session", "00"), ("user", asked.user)]
     options += [("address", asked.address), ("now", asked.now), ("host", asked.host), ("zone", asked.zone)]
+    options += [("empty-principals", asked.empty_principals), ("rsa-minimum", asked.rsa_minimum)]
     lines = asking.ask("login", offer, asked.authorized_keys, options)
     first, code, *_ = lines[0].split(" ")
     if first == "granted":

@@ -41,11 +41,14 @@ def main():
     parser.add_argument("--host", required=True)
     parser.add_argument("--port", default="22")
     parser.add_argument("--now", default=str(int(time.time())))
+    parser.add_argument("--empty-principals")
+    parser.add_argument("--rsa-minimum")
     asked = parser.parse_args()
     offer = asking.Offer(asked.key)
     plain = offer.plain_kind()
     options = [("signature", asking.stand_in("rsa-sha2-512" if plain == "ssh-rsa" else plain)), ("hash", "00")]
     options += [("host", asked.host), ("port", asked.port), ("now", asked.now)]
+    options += [("empty-principals", asked.empty_principals), ("rsa-minimum", asked.rsa_minimum)]
     lines = asking.ask("host", offer, asked.known_hosts, options)
     first, code, *rest = lines[0].split(" ")
     if first == "granted":
