@@ -1,6 +1,6 @@
 //! What a login may do.
 
-ghost use Rattle.std.specs.Prelude.{◌≡◌, ◌++◌, IfOk, OnOk, option_copied};
+ghost use Rattle.std.specs.Prelude.{◌≡◌, ◌++◌, [], IfOk, IsOk, None, OnOk, option_copied};
 ghost use Rattle.ssh_options.specs.OptionsInLine.{option_in_line};
 ghost use Rattle.ssh_options.specs.Settings.{setting};
 ghost use Rattle.ssh_options.specs.declared.option.ValueName.TheVariants.{Command};
@@ -77,8 +77,9 @@ fn carry(
     carried: &mut Vec<Carried>,
     option: &OptionView<'_>,
 ) -> Result<(), AllocError>
-    ensures { OnOk result
+    ensures ok { OnOk result
         (carried.new.items ≡ carried.old.items ++ carried_of (option_in_line option.now)) }
+    ensures spare { carried_of (option_in_line option.now) ≡ [] → IsOk result }
 {
     if let OptionView::Setting(name, value) = option
         && let Some(name) = carried_name(*name)
@@ -90,8 +91,10 @@ fn carry(
 }
 
 /// The texts that are carried on, in the order of the line.
+#[tactic(auto, using(crate::proofs::SpareLemmas::none_in_the_middle))]
 fn carried_texts(alloc: Global, options: OptionsView<'_>) -> Result<Items<Carried>, AllocError>
-    ensures { IfOk result (λ texts. texts ≡ carried_texts options.entry) }
+    ensures value { IfOk result (λ texts. texts ≡ carried_texts options.entry) }
+    ensures spare { carried_texts options.entry ≡ [] → IsOk result }
 {
     let mut carried = Vec::new(alloc);
     for option in options {
@@ -109,7 +112,8 @@ fn line_command<'a>(entry: &AuthEntryView<'a>) -> Option<ValueView<'a>>
 
 /// The command that the certificate forces, copied.
 fn certificate_command(alloc: Global, offer: &Offer<'_>) -> Result<Option<Bytes>, AllocError>
-    ensures { IfOk result (λ command. command ≡ forced_by_offer (offer_of offer.now)) }
+    ensures value { IfOk result (λ command. command ≡ forced_by_offer (offer_of offer.now)) }
+    ensures spare { forced_by_offer (offer_of offer.now) ≡ None → IsOk result }
 {
     match offer {
         Offer::Plain(_) => Ok(None),
@@ -122,7 +126,8 @@ fn certificate_command(alloc: Global, offer: &Offer<'_>) -> Result<Option<Bytes>
 }
 
 fn copied(alloc: Global, text: Option<&[u8]>) -> Result<Option<Bytes>, AllocError>
-    ensures { IfOk result (λ copy. copy ≡ option_copied text.entry) }
+    ensures value { IfOk result (λ copy. copy ≡ option_copied text.entry) }
+    ensures spare { option_copied text.entry ≡ None → IsOk result }
 {
     match text {
         None => Ok(None),
@@ -139,7 +144,8 @@ fn command(
     line: Option<ValueView<'_>>,
     offer: &Offer<'_>,
 ) -> Result<Option<Bytes>, AllocError>
-    ensures { IfOk result (λ command. command ≡ command_of line.entry (offer_of offer.now)) }
+    ensures value { IfOk result (λ command. command ≡ command_of line.entry (offer_of offer.now)) }
+    ensures spare { command_of line.entry (offer_of offer.now) ≡ None → IsOk result }
 {
     match line {
         Some(value) => {
@@ -162,7 +168,12 @@ pub fn rights_of(
     entry: &AuthEntryView<'_>,
     offer: &Offer<'_>,
 ) -> Result<Rights, AllocError>
-    ensures { IfOk result (λ rights. rights ≡ rights_of entry.now (offer_of offer.now)) }
+    ensures value { IfOk result (λ rights. rights ≡ rights_of entry.now (offer_of offer.now)) }
+    // Only texts take memory: where no command is forced and nothing is carried on, the rights are
+    // told whatever memory does.
+    ensures spare { carried_texts entry.now.options ≡ []
+        → command_of (setting Command entry.now.options) (offer_of offer.now) ≡ None
+        → IsOk result }
 {
     let carried = carried_texts(alloc, entry.options())?;
     let command = command(alloc, line_command(entry), offer)?;
