@@ -4,3 +4,4 @@ pub mod ForceLemmas
 pub mod SizeLemmas
 pub mod AdmissionLemmas
 pub mod HostAdmissionLemmas
+pub mod SpareLemmas

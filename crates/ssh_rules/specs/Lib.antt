@@ -7,4 +7,5 @@ pub mod HostAdmission
 pub mod Revocation
 pub mod ValueText
 pub mod Verdict
+pub mod Spare
 pub mod Samples

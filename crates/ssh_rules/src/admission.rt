@@ -1,8 +1,14 @@
 //! Whether an entry of an authorized_keys file admits a login.
 
-ghost use Rattle.std.specs.Prelude.{◌≡◌, IfOk, option_copied};
+ghost use Rattle.std.specs.Prelude.{◌≡◌, ◌&&◌, ◌||◌, false, IfOk, IsOk, option_copied};
+ghost use Rattle.std.specs.List.{list_any};
 ghost use Rattle.ssh_certs.specs.CertificateOf.{certificate_of};
-ghost use Rattle.ssh_options.specs.declared.option.ValueName.TheVariants.{ExpiryTime, Principals};
+ghost use Rattle.ssh_options.specs.declared.option.ValueName.TheVariants.{
+  ExpiryTime,
+  From,
+  Principals,
+};
+ghost use Rattle.ssh_options.specs.OptionsInPlace.{has_quote};
 ghost use Rattle.ssh_options.specs.Settings.{setting, settings};
 ghost use Rattle.ssh_rules.specs.CertificateRules.{serves};
 ghost use Rattle.ssh_rules.specs.Obstacles.{first_obstacle};
@@ -19,6 +25,7 @@ ghost use Rattle.ssh_rules.specs.Admission.{
   offer_obstacle,
   user_force_rows,
 };
+ghost use Rattle.ssh_rules.specs.Spare.{has_escaped, is_about, is_escaped, is_named};
 ghost use Rattle.ssh_offers.specs.Query.{login_of};
 ghost use Rattle.ssh_offers.specs.OfferView.{offer_of};
 ghost use Rattle.ssh_offers.specs.ClaimViews.{claim_of};
@@ -62,7 +69,8 @@ fn is_past_time(
     value: &ValueView<'_>,
     claim: &LoginClaimView<'_>,
 ) -> Result<bool, AllocError>
-    ensures { IfOk result (λ past. past ≡ is_past_time (claim_of claim.now).query value.now) }
+    ensures value { IfOk result (λ past. past ≡ is_past_time (claim_of claim.now).query value.now) }
+    ensures spare { has_quote value.now ≡ false → IsOk result }
 {
     let text = ValueText::new(alloc, value)?;
     let moment = expiry(alloc, text.as_slice(), claim.query.zone)?;
@@ -75,8 +83,9 @@ fn is_expired(
     entry: &AuthEntryView<'_>,
     claim: &LoginClaimView<'_>,
 ) -> Result<bool, AllocError>
-    ensures { IfOk result (λ expired.
+    ensures value { IfOk result (λ expired.
         expired ≡ is_expired (claim_of claim.now).query (settings ExpiryTime entry.now.options)) }
+    ensures spare { list_any has_quote (settings ExpiryTime entry.now.options) ≡ false → IsOk result }
 {
     for value in entry.expiry_texts() {
         if is_past_time(alloc, &value, claim)? {
@@ -92,7 +101,8 @@ fn line_source(
     entry: &AuthEntryView<'_>,
     claim: &LoginClaimView<'_>,
 ) -> Result<Permit, AllocError>
-    ensures { IfOk result (λ permit. permit ≡ line_source entry.now (claim_of claim.now).query) }
+    ensures value { IfOk result (λ permit. permit ≡ line_source entry.now (claim_of claim.now).query) }
+    ensures spare { is_escaped (setting From entry.now.options) ≡ false → IsOk result }
 {
     let Some(value) = entry.settings(ValueName::From).next() else {
         return Ok(Permit::Yes);
@@ -107,7 +117,9 @@ fn line_obstacle(
     entry: &AuthEntryView<'_>,
     claim: &LoginClaimView<'_>,
 ) -> Result<Option<Obstacle>, AllocError>
-    ensures { IfOk result (λ o. o ≡ first_obstacle (line_rows entry.now (claim_of claim.now))) }
+    ensures value { IfOk result (λ o. o ≡ first_obstacle (line_rows entry.now (claim_of claim.now))) }
+    ensures spare { (is_about entry.now (claim_of claim.now) && has_escaped entry.now) ≡ false
+        → IsOk result }
 {
     if !entry.has_blob(claim.subject_blob()) {
         return Ok(Some(Obstacle::OtherKey));
@@ -131,9 +143,10 @@ fn has_served_principal(
     claim: &LoginClaimView<'_>,
     certificate: &CertView<'_>,
 ) -> Result<bool, AllocError>
-    ensures { IfOk result (λ served.
+    ensures value { IfOk result (λ served.
         served ≡ serves (setting Principals entry.now.options) (claim_of claim.now).query.user
         (certificate_of certificate.now)) }
+    ensures spare { is_escaped (setting Principals entry.now.options) ≡ false → IsOk result }
 {
     match entry.settings(ValueName::Principals).next() {
         None => Ok(serves(certificate, claim.query.user)),
@@ -151,9 +164,10 @@ fn force_obstacle(
     claim: &LoginClaimView<'_>,
     certificate: &CertView<'_>,
 ) -> Result<Option<Obstacle>, AllocError>
-    ensures { IfOk result (λ o.
+    ensures value { IfOk result (λ o.
         o ≡ first_obstacle (user_force_rows entry.now (claim_of claim.now).query
         (certificate_of certificate.now))) }
+    ensures spare { is_escaped (setting Principals entry.now.options) ≡ false → IsOk result }
 {
     if let Some(obstacle) = period_obstacle(USER_CERTIFICATE, claim.query.now, certificate) {
         return Ok(Some(obstacle));
@@ -179,9 +193,11 @@ fn critical_obstacle(
     claim: &LoginClaimView<'_>,
     certificate: &CertView<'_>,
 ) -> Result<Option<Obstacle>, AllocError>
-    ensures { IfOk result (λ o.
+    ensures value { IfOk result (λ o.
         o ≡ first_obstacle (critical_rows entry.now (claim_of claim.now).address
         (certificate_of certificate.now))) }
+    ensures spare { is_named (first_obstacle (critical_rows entry.now (claim_of claim.now).address
+        (certificate_of certificate.now))) ≡ false → IsOk result }
 {
     if let Some(obstacle) = unknown_obstacle(alloc, first_unknown(certificate.critical()))? {
         return Ok(Some(obstacle));
@@ -214,8 +230,11 @@ fn certificate_obstacle(
     claim: &LoginClaimView<'_>,
     certificate: &CertView<'_>,
 ) -> Result<Option<Obstacle>, AllocError>
-    ensures { IfOk result (λ o.
+    ensures value { IfOk result (λ o.
         o ≡ certificate_obstacle entry.now (claim_of claim.now) (certificate_of certificate.now)) }
+    ensures spare { is_escaped (setting Principals entry.now.options) ≡ false
+        → is_named (certificate_obstacle entry.now (claim_of claim.now) (certificate_of certificate.now)) ≡ false
+        → IsOk result }
 {
     if let Some(obstacle) = force_obstacle(alloc, entry, claim, certificate)? {
         return Ok(Some(obstacle));
@@ -229,8 +248,11 @@ fn offer_obstacle(
     entry: &AuthEntryView<'_>,
     claim: &LoginClaimView<'_>,
 ) -> Result<Option<Obstacle>, AllocError>
-    ensures { IfOk result
+    ensures value { IfOk result
         (λ o. o ≡ offer_obstacle entry.now (claim_of claim.now) (offer_of claim.now.offer)) }
+    ensures spare { is_escaped (setting Principals entry.now.options) ≡ false
+        → is_named (offer_obstacle entry.now (claim_of claim.now) (offer_of claim.now.offer)) ≡ false
+        → IsOk result }
 {
     match &claim.offer {
         Offer::Plain(_) => Ok(None),
@@ -249,7 +271,10 @@ pub(crate) fn login_obstacle(
     entry: &AuthEntryView<'_>,
     claim: &LoginClaimView<'_>,
 ) -> Result<Option<Obstacle>, AllocError>
-    ensures { IfOk result (λ o. o ≡ login_obstacle entry.now (claim_of claim.now)) }
+    ensures value { IfOk result (λ o. o ≡ login_obstacle entry.now (claim_of claim.now)) }
+    ensures spare { (is_about entry.now (claim_of claim.now)
+        && (has_escaped entry.now || is_named (login_obstacle entry.now (claim_of claim.now)))) ≡ false
+        → IsOk result }
 {
     if let Some(obstacle) = line_obstacle(alloc, entry, claim)? {
         return Ok(Some(obstacle));

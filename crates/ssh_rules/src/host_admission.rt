@@ -1,9 +1,10 @@
 //! Whether an entry of a known_hosts file admits a host's key.
 
-ghost use Rattle.std.specs.Prelude.{◌≡◌, IfOk, None, option_copied};
+ghost use Rattle.std.specs.Prelude.{◌≡◌, false, IfOk, IsOk, None, option_copied};
 ghost use Rattle.ssh_certs.specs.CertificateOf.{certificate_of};
 ghost use Rattle.ssh_certs.specs.Left.{options_left};
 ghost use Rattle.ssh_rules.specs.Obstacles.{first_obstacle};
+ghost use Rattle.ssh_rules.specs.Spare.{is_named};
 ghost use Rattle.ssh_rules.specs.HostAdmission.{
   first_name,
   host_certificate_obstacle,
@@ -87,8 +88,10 @@ fn certificate_obstacle(
     sought: &SoughtHost<'_>,
     certificate: &CertView<'_>,
 ) -> Result<Option<Obstacle>, AllocError>
-    ensures { IfOk result
+    ensures value { IfOk result
         (λ o. o ≡ host_certificate_obstacle sought.now.query (certificate_of certificate.now)) }
+    ensures spare { is_named (host_certificate_obstacle sought.now.query (certificate_of certificate.now)) ≡ false
+        → IsOk result }
 {
     if let Some(obstacle) = force_obstacle(sought, certificate) {
         return Ok(Some(obstacle));
@@ -98,7 +101,9 @@ fn certificate_obstacle(
 }
 
 fn offer_obstacle(alloc: Global, sought: &SoughtHost<'_>) -> Result<Option<Obstacle>, AllocError>
-    ensures { IfOk result (λ o. o ≡ host_offer_obstacle sought.now.query sought.now.offer) }
+    ensures value { IfOk result (λ o. o ≡ host_offer_obstacle sought.now.query sought.now.offer) }
+    ensures spare { is_named (host_offer_obstacle sought.now.query sought.now.offer) ≡ false
+        → IsOk result }
 {
     match sought.offer() {
         Offer::Plain(_) => Ok(None),
@@ -117,7 +122,8 @@ pub(crate) fn host_obstacle(
     entry: &KnownEntryView<'_>,
     sought: &SoughtHost<'_>,
 ) -> Result<Option<Obstacle>, AllocError>
-    ensures { IfOk result (λ o. o ≡ host_obstacle entry.now sought.now) }
+    ensures value { IfOk result (λ o. o ≡ host_obstacle entry.now sought.now) }
+    ensures spare { is_named (host_obstacle entry.now sought.now) ≡ false → IsOk result }
 {
     if let Some(obstacle) = line_obstacle(entry, sought) {
         return Ok(Some(obstacle));

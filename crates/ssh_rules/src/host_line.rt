@@ -1,8 +1,9 @@
 //! What a line of a known_hosts file is to a host's key.
 
-ghost use Rattle.std.specs.Prelude.{◌≡◌, IfOk};
+ghost use Rattle.std.specs.Prelude.{◌≡◌, false, IfOk, IsOk};
 ghost use Rattle.ssh_lines.specs.declared.known.KnownLine.{KnownLine};
 ghost use Rattle.ssh_lines.specs.KnownSeen.{known_seen};
+ghost use Rattle.ssh_rules.specs.Spare.{owns_name};
 ghost use Rattle.ssh_rules.specs.Verdict.{host_verdict};
 
 use crate::host_admission::host_obstacle;
@@ -17,8 +18,10 @@ fn entry_verdict<'a>(
     entry: KnownEntryView<'a>,
     sought: &SoughtHost<'_>,
 ) -> Result<LineVerdict<KnownEntryView<'a>>, AllocError>
-    ensures { IfOk result
+    ensures value { IfOk result
         (λ verdict. verdict ≡ host_verdict sought.now (KnownLine.Entry entry.entry)) }
+    ensures spare { owns_name (host_verdict sought.now (KnownLine.Entry entry.entry)) ≡ false
+        → IsOk result }
 {
     match host_obstacle(alloc, &entry, sought)? {
         None => Ok(LineVerdict::Admits(entry)),
@@ -34,7 +37,11 @@ pub fn host_verdict<'a>(
     line: KnownLineView<'a>,
     sought: &SoughtHost<'_>,
 ) -> Result<LineVerdict<KnownEntryView<'a>>, AllocError>
-    ensures { IfOk result (λ verdict. verdict ≡ host_verdict sought.now (known_seen line.entry)) }
+    ensures value { IfOk result (λ verdict. verdict ≡ host_verdict sought.now (known_seen line.entry)) }
+    // Only a reason that owns the name of a critical option takes memory; all else is answered
+    // whatever memory does.
+    ensures spare { owns_name (host_verdict sought.now (known_seen line.entry)) ≡ false
+        → IsOk result }
 {
     match line {
         KnownLineView::Unreadable(why) => Ok(LineVerdict::Skips(Some(Reason::Unreadable(why)))),

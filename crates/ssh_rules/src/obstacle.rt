@@ -1,6 +1,6 @@
 //! What stands against a line, where logins and hosts share it.
 
-ghost use Rattle.std.specs.Prelude.{◌≡◌, ◌==◌, [], ◌∷◌, IfOk, not, option_copied};
+ghost use Rattle.std.specs.Prelude.{◌≡◌, ◌==◌, [], ◌∷◌, IfOk, IsOk, None, not, option_copied};
 ghost use Rattle.ssh_certs.specs.CertificateOf.{certificate_of};
 ghost use Rattle.ssh_certs.specs.Rules.{time_of};
 ghost use Rattle.ssh_offers.specs.OfferView.{offer_of};
@@ -131,7 +131,8 @@ pub(crate) fn unknown_obstacle(
     alloc: Global,
     name: Option<&[u8]>,
 ) -> Result<Option<Obstacle>, AllocError>
-    ensures { IfOk result (λ o. o ≡ unknown_row (option_copied name.entry)) }
+    ensures value { IfOk result (λ o. o ≡ unknown_row (option_copied name.entry)) }
+    ensures spare { option_copied name.entry ≡ None → IsOk result }
 {
     let Some(name) = name else {
         return Ok(None);

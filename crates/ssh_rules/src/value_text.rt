@@ -1,6 +1,7 @@
 //! The text of an option's value, in one piece.
 
-ghost use Rattle.std.specs.Prelude.{◌≡◌, IfOk};
+ghost use Rattle.std.specs.Prelude.{◌≡◌, false, IfOk, IsOk};
+ghost use Rattle.ssh_options.specs.OptionsInPlace.{has_quote};
 ghost use Rattle.ssh_rules.specs.ValueText.{text_of};
 
 use ssh_options::ValueView;
@@ -17,7 +18,8 @@ pub(crate) enum ValueText<'a> {
 impl<'a> ValueText<'a> {
     /// The text of a value.
     pub(crate) fn new(alloc: Global, value: &ValueView<'a>) -> Result<ValueText<'a>, AllocError>
-        ensures { IfOk result (λ text. text_of text ≡ value.now) }
+        ensures value { IfOk result (λ text. text_of text ≡ value.now) }
+        ensures spare { has_quote value.now ≡ false → IsOk result }
     {
         match value.in_place() {
             Some(text) => Ok(ValueText::InPlace(text)),

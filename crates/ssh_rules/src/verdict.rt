@@ -1,9 +1,10 @@
 //! What a line of an authorized_keys file is to a login.
 
-ghost use Rattle.std.specs.Prelude.{◌≡◌, IfOk};
+ghost use Rattle.std.specs.Prelude.{◌≡◌, false, IfOk, IsOk};
 ghost use Rattle.ssh_lines.specs.declared.entry.AuthLine.{AuthLine};
 ghost use Rattle.ssh_lines.specs.LineView.{line_seen};
 ghost use Rattle.ssh_offers.specs.ClaimViews.{claim_of};
+ghost use Rattle.ssh_rules.specs.Spare.{needs_memory};
 ghost use Rattle.ssh_rules.specs.Verdict.{listed_reason, login_verdict};
 
 use crate::admission::login_obstacle;
@@ -35,8 +36,10 @@ fn entry_verdict<'a>(
     entry: AuthEntryView<'a>,
     claim: &LoginClaimView<'_>,
 ) -> Result<LineVerdict<AuthEntryView<'a>>, AllocError>
-    ensures { IfOk result
+    ensures value { IfOk result
         (λ verdict. verdict ≡ login_verdict (claim_of claim.now) (AuthLine.Entry entry.entry)) }
+    ensures spare { needs_memory (claim_of claim.now) (AuthLine.Entry entry.entry) ≡ false
+        → IsOk result }
 {
     match login_obstacle(alloc, &entry, claim)? {
         None => Ok(LineVerdict::Admits(entry)),
@@ -52,8 +55,13 @@ pub fn login_verdict<'a>(
     line: AuthLineView<'a>,
     claim: &LoginClaimView<'_>,
 ) -> Result<LineVerdict<AuthEntryView<'a>>, AllocError>
-    ensures { IfOk result
+    ensures value { IfOk result
         (λ verdict. verdict ≡ login_verdict (claim_of claim.now) (line_seen line.entry)) }
+    // Only a reason that owns the name of a critical option takes memory, and a value of the line
+    // that has a quote; all else is answered whatever memory does, and so is a line about another
+    // key or of another role.
+    ensures spare { needs_memory (claim_of claim.now) (line_seen line.entry) ≡ false
+        → IsOk result }
 {
     match line {
         AuthLineView::Blank | AuthLineView::Comment => Ok(LineVerdict::Skips(None)),
