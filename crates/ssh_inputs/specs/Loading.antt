@@ -1,5 +1,5 @@
 -- What reading a file answers.
-use Rattle.std.specs.Prelude.{◌≡◌, ◌⊎◌, ◌++◌, ◌+◌, ℕ, List, Option, Some, None, Result, Ok, Err, length, nat_lt, if◌then◌else◌, ◌<◌, ⊤}
+use Rattle.std.specs.Prelude.{◌≡◌, ◌⊎◌, ◌++◌, ◌+◌, ℕ, List, Option, Some, None, Result, Ok, Err, length, nat_lt, if◌then◌else◌, ◌<◌}
 use Rattle.ssh_text.specs.Text.{file_limit, line_limit}
 use Rattle.ssh_inputs.specs.SourceState.{SourceState, dash, next_choice}
 use Rattle.ssh_inputs.specs.Parts.{first_line, after_line}
@@ -25,6 +25,11 @@ LineReadFailed s (Some t) = OneReadFailed s (Some t) dash × ((front : List ℕ)
 
 -- ---- files
 
+-- there is a byte to keep: where there is none, no memory is taken
+abbrev pub HoldsBytes : Option (List ℕ) → Type 0
+HoldsBytes None = ⊥
+HoldsBytes (Some bytes) = 0 < length bytes
+
 -- the bytes of a file, where there are no more than it may have
 abbrev pub within_limit : Option (List ℕ) → Option (List ℕ)
 within_limit None = None
@@ -49,14 +54,15 @@ Gathers view name bytes rest s t (Ok v) = IsGathered bytes rest s t (view v)
 Gathers view name bytes rest s t (Err fault.Missing) = (bytes ≡ None) × NoReadFailed s t
 Gathers view name bytes rest s t (Err fault.TooLong) = ⊥
 Gathers view name bytes rest s t (Err fault.Failed) = OneReadFailed s t name
-Gathers view name bytes rest s t (Err fault.Memory) = ⊤
+Gathers view name bytes rest s t (Err fault.Memory) = HoldsBytes bytes
 
--- why a reading of these bytes of the file of this name gives none
+-- why a reading of these bytes of the file of this name gives none; a file that is missing or empty is told whatever memory
+-- does
 abbrev pub FailsLoad : List ℕ → Option (List ℕ) → SourceState → Option SourceState → ReadError → Type 0
 FailsLoad name bytes s t fault.Missing = (bytes ≡ None) × NoReadFailed s t
 FailsLoad name bytes s t fault.TooLong = IsTooLong bytes × NoReadFailed s t
 FailsLoad name bytes s t fault.Failed = OneReadFailed s t name
-FailsLoad name bytes s t fault.Memory = ⊤
+FailsLoad name bytes s t fault.Memory = HoldsBytes bytes
 
 -- what a reading of these bytes of the file of this name answers, where `rest` is left; the bytes that it gives are seen by `view`
 abbrev pub Loads : {V : Type 0} → (V → List ℕ) → List ℕ → Option (List ℕ) → SourceState → SourceState → Option SourceState → Result V ReadError → Type 0
@@ -65,12 +71,12 @@ Loads view name bytes rest s t (Err e) = FailsLoad name bytes s t e
 
 -- ---- the first line of standard input
 
--- why the first line of standard input was not read
+-- why the first line of standard input was not read; an empty one is told whatever memory does
 abbrev pub FailsLine : SourceState → Option SourceState → ReadError → Type 0
 FailsLine s t fault.Missing = ⊥
 FailsLine s t fault.TooLong = (line_limit < length (first_line s)) × NoReadFailed s t
 FailsLine s t fault.Failed = LineReadFailed s t
-FailsLine s t fault.Memory = ⊤
+FailsLine s t fault.Memory = 0 < length (first_line s)
 
 -- what a reading of the first line of standard input answers
 abbrev pub LoadsLine : {V : Type 0} → (V → List ℕ) → SourceState → Option SourceState → Result V ReadError → Type 0

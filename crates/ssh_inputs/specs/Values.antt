@@ -1,5 +1,5 @@
 -- How words spell values.
-use Rattle.std.specs.Prelude.{◌∷◌, [], ◌==◌, ◌&&◌, ◌+◌, ◌*◌, ℕ, Bool, List, Option, Some, None, length, nat_lt, nat_le, option_and_then, if◌then◌else◌, ◌≡◌, ◌^◌, codes}
+use Rattle.std.specs.Prelude.{◌∷◌, [], ◌==◌, ◌&&◌, ◌+◌, ◌*◌, ◌%◌, ℕ, Bool, List, Option, Some, None, length, nat_lt, nat_le, option_and_then, if◌then◌else◌, ◌≡◌, ◌^◌, codes}
 use Rattle.std.specs.List.{list_all}
 use Rattle.std.specs.Str.{bytes_eq}
 use Rattle.std.specs.Str.Parse.{digits_value}
@@ -43,6 +43,10 @@ pair_values (a ∷ b ∷ text) = prepend (pair_value (hex_value a) (hex_value b)
 -- the bytes that the text spells, if it spells any: the empty text spells none
 abbrev pub hex_bytes : List ℕ → Option (List ℕ)
 hex_bytes text = if bytes_eq text (45 ∷ []) then Some [] else if length text == 0 then None else pair_values text
+
+-- whether pairs of digits are decoded, which takes memory
+abbrev pub has_pairs : List ℕ → Bool
+has_pairs text = nat_lt 0 (length text) && (length text % 2 == 0)
 
 -- ---- values of a login
 

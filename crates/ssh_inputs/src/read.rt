@@ -49,6 +49,7 @@ fn gather<F: Files>(alloc: Global, files: &mut F, name: &str) -> Result<Vec<u8>,
 /// The bytes of the file of this name, which may not pass the limit.
 pub fn read_whole<F: Files>(alloc: Global, files: &mut F, name: &str) -> Result<Vec<u8>, ReadError>
     ensures short { IfOk result (λ v. length v.items ≤ file_limit) }
+    // A file that is missing or empty is told whatever memory does.
     ensures bytes { IfTells (F.source_state files.old) (λ s.
         Loads (λ v. v.items) name.now (bytes_at s name.now) (after_whole s name.now) s
         (F.source_state files.new) result) }
@@ -114,6 +115,7 @@ pub fn read_vouch_file<F: Files>(
     name: &str,
 ) -> Result<Vec<u8>, ReadError>
     ensures short { IfOk result (λ v. length v.items ≤ file_limit) }
+    // A file that is missing or empty is told whatever memory does.
     ensures bytes { IfTells (F.source_state files.old) (λ s.
         Loads (λ v. v.items) name.now (part_at s name.now) (after_part s name.now) s
         (F.source_state files.new) result) }
@@ -127,6 +129,7 @@ pub fn read_vouch_file<F: Files>(
 
 /// The first line of standard input, without its LF.
 pub fn read_first_line<F: Files>(alloc: Global, files: &mut F) -> Result<Vec<u8>, ReadError>
+    // An empty line, and the end of the input, are told whatever memory does.
     ensures { IfTells (F.source_state files.old)
         (λ s. LoadsLine (λ v. v.items) s (F.source_state files.new) result) }
 {

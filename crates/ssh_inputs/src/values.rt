@@ -1,9 +1,22 @@
 //! Values that words spell.
 
-ghost use Rattle.std.specs.Prelude.{◌≡◌, ◌<◌, ◌^◌, length, nat_lt, option_map, IfOk, IfSome};
+ghost use Rattle.std.specs.Prelude.{
+  ◌≡◌,
+  ◌%◌,
+  ◌<◌,
+  ◌^◌,
+  false,
+  length,
+  nat_lt,
+  option_map,
+  IfOk,
+  IfSome,
+  IsOk,
+};
 ghost use Rattle.std.specs.List.{list_all};
 ghost use Rattle.ssh_inputs.specs.Values.{
   empty_principals_of,
+  has_pairs,
   hex_bytes,
   pair_values,
   is_digit,
@@ -17,7 +30,8 @@ use std::alloc::{AllocError, Global};
 
 /// The bytes that pairs of digits spell.
 fn read_pairs(alloc: Global, text: &[u8]) -> Result<Option<Vec<u8>>, AllocError>
-    ensures { IfOk result (λ bytes. option_map (λ v. v.items) bytes ≡ pair_values text.now) }
+    ensures value { IfOk result (λ bytes. option_map (λ v. v.items) bytes ≡ pair_values text.now) }
+    ensures spare { length text.now % 2 ≡ 1 → IsOk result }
 {
     match hex::decode(alloc, text) {
         Ok(bytes) => Ok(Some(bytes)),
@@ -29,7 +43,10 @@ fn read_pairs(alloc: Global, text: &[u8]) -> Result<Option<Vec<u8>>, AllocError>
 /// The bytes that a hexadecimal text spells: two digits for each byte, in either case, or `-` for
 /// no bytes. The empty text spells none.
 pub fn read_hex(alloc: Global, text: &[u8]) -> Result<Option<Vec<u8>>, AllocError>
-    ensures { IfOk result (λ bytes. option_map (λ v. v.items) bytes ≡ hex_bytes text.now) }
+    ensures value { IfOk result (λ bytes. option_map (λ v. v.items) bytes ≡ hex_bytes text.now) }
+    // Only pairs of digits take memory: a dash and a text of no or odd length are answered whatever
+    // memory does.
+    ensures spare { has_pairs text.now ≡ false → IsOk result }
 {
     if text == b"-".as_slice() {
         return Ok(Some(Vec::new(alloc)));
@@ -53,6 +70,7 @@ pub fn is_short(bytes: &[u8]) -> bool
 pub fn read_short_hex(alloc: Global, text: &[u8]) -> Result<Option<Vec<u8>>, AllocError>
     ensures value { IfOk result (λ bytes. option_map (λ v. v.items) bytes ≡ short_hex text.now) }
     ensures short { IfOk result (λ bytes. IfSome bytes (λ v. length v.items < 2 ^ 32)) }
+    ensures spare { has_pairs text.now ≡ false → IsOk result }
 {
     match read_hex(alloc, text)? {
         Some(bytes) if is_short(&bytes) => Ok(Some(bytes)),

@@ -1,11 +1,27 @@
 //! Vouch files: the signatures that someone vouches for.
 
-ghost use Rattle.std.specs.Prelude.{◌≡◌, ◌≤◌, ◌++◌, ◌∷◌, [], length, option_map, IfOk, OnOk};
+ghost use Rattle.std.specs.Prelude.{
+  ◌≡◌,
+  ◌≢◌,
+  ◌≤◌,
+  ◌++◌,
+  ◌∷◌,
+  [],
+  false,
+  length,
+  option_map,
+  IfOk,
+  IsOk,
+  None,
+  OnOk,
+};
 ghost use Rattle.std.specs.List.{position};
+ghost use Rattle.ssh_text.specs.Text.{lines_of};
 ghost use Rattle.ssh_inputs.specs.VouchFile.{
   cut_at_space,
   has_space,
   is_skipped,
+  reads_fields,
   signed_of,
   three_fields,
   triple_of,
@@ -99,7 +115,8 @@ fn read_signed(
 
 /// The signature that a line spells: three hexadecimal fields, parted by one space.
 fn read_triple(alloc: Global, line: &[u8]) -> Result<Option<Signed>, AllocError>
-    ensures { IfOk result (λ signed. signed ≡ triple_of line.now) }
+    ensures value { IfOk result (λ signed. signed ≡ triple_of line.now) }
+    ensures spare { three_fields line.now ≡ None → IsOk result }
 {
     match split_fields(line) {
         None => Ok(None),
@@ -129,7 +146,10 @@ fn keep(vouched: &mut Vec<Signed>, signed: Signed) -> Result<(), AllocError>
 
 /// The signatures of a vouch file, or the first line that spells none.
 pub fn read_vouched(alloc: Global, bytes: &[u8]) -> Result<Vec<Signed>, VouchError>
-    ensures { Vouches (λ v. v.items) result (vouched_of bytes.now) }
+    ensures value { Vouches (λ v. v.items) result (vouched_of bytes.now) }
+    // Only a line of three fields takes memory: lines that are skipped, and the first without three
+    // fields, are answered whatever memory does.
+    ensures spare { reads_fields (lines_of bytes.now) ≡ false → result ≢ Err Memory }
 {
     let mut vouched = Vec::new(alloc);
     for (number, line) in Lines::new(bytes) {

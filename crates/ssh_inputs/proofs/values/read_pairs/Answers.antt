@@ -3,8 +3,8 @@ use Rattle.std.specs.Result.{result_ok}
 use Rattle.ssh_inputs.proofs.ValueLemmas.{decoded-same, undecoded}
 use Rattle.ssh_inputs.proofs.values.read_pairs.Goals as goal
 
-pub returns-in-Ok : goal.returns-in-Ok
-returns-in-Ok c = ap result_ok (sym c.in-Ok.ensures.ok) ∙ decoded-same c.args.text.now
+pub returns-in-Ok-clause-value : goal.returns-in-Ok-clause-value
+returns-in-Ok-clause-value c = ap result_ok (sym c.in-Ok.ensures.ok) ∙ decoded-same c.args.text.now
 
-pub returns-in-Err : goal.returns-in-Err
-returns-in-Err c = undecoded c.args.text.now c.in-Err.field-0 (search rules) c.in-Err.ensures.err
+pub returns-in-Err-clause-value : goal.returns-in-Err-clause-value
+returns-in-Err-clause-value c = undecoded c.args.text.now c.in-Err.field-0 (search rules) c.in-Err.ensures.err
