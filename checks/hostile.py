@@ -4,12 +4,12 @@ space, a file that shrinks while it is read, names of files that are no plain wo
 mutations of files that are read. Whatever it is given, the program has to end with a status of 0 to 2 and a text of
 one of the forms that docs/CODES.md lists, and nothing on standard error.
 
-usage: hostile.py [PROGRAM] [--seconds N] [--seed N]
+usage: hostile.py [PROGRAM] [--files N] [--seconds N] [--seed N]
 
-Random bytes are tried for N seconds (20 where nothing is said); the same seed gives the same files, as many as the time
-allows, and how many were tried is printed. Each file is a process of its own, started by run_many.c (gcc makes it), so
-that the processors and not this script set the number. The last line is 'N passed, M failed'; the status is 0 where
-nothing failed."""
+A million random files are tried, or as many as 60 seconds allow; the same seed gives the same files, and how many were
+tried is printed. run_again.c, which is loaded before the program, has its `main` answer them one after the other in one
+process; the first thousands are answered by a process each too, which run_many.c starts, and both answers have to be the
+same. gcc makes both. The last line is 'N passed, M failed'; the status is 0 where nothing failed."""
 import argparse
 import collections
 import concurrent.futures
@@ -42,6 +42,8 @@ DECISION = re.compile(
 SIGNATURE = re.compile(rb"denied namespace\n|(vouched|denied N6 0)\n" + EVIDENCE)
 SHOWN = re.compile(rb"type [ -~]*\n([a-z-]+ [ -~]*\n)*")
 NEW = re.compile(rb"(.*\n)?", re.DOTALL)
+# An answer that takes more seconds of processor time is stopped.
+LONGEST = 10
 
 
 def form_of(asked):
@@ -191,22 +193,51 @@ def samples():
     yield sshsig("-", "message", "file vouched"), SSHSIG
 
 
-def answers(driver, path, room, asked):
-    """What the program answers to each pair of words and standard input."""
-    requests = bytearray()
+def made(room, name, *flags):
+    """The program, or the library, of the C file of this name."""
+    subprocess.run(["gcc", "-O2", "-Wall", *flags, "-o", str(room / name), str(HERE / f"{name}.c")], check=True)
+    return str(room / name)
+
+
+def requests(asked):
+    """The pairs of words and standard input, as run_many.c and run_again.c read them."""
+    written = bytearray()
     for number, (words, data) in enumerate(asked):
         texts = [os.fsencode(word) for word in words]
-        requests += b"%d %d %d\n" % (number, len(texts), len(data)) + b"".join(text + b"\0" for text in texts) + data
-    side_by_side = str((os.cpu_count() or 2) + 1)
-    ran = subprocess.run([driver, side_by_side, "10", path], cwd=room, input=requests, capture_output=True, timeout=program.SECONDS, check=True)
-    found, at = [None] * len(asked), 0
-    while at < len(ran.stdout):
-        end = ran.stdout.index(b"\n", at)
-        number, status, out, errors = map(int, ran.stdout[at:end].split())
+        written += b"%d %d %d\n" % (number, len(texts), len(data)) + b"".join(text + b"\0" for text in texts) + data
+    return written
+
+
+def told(written):
+    """The number, the status and the texts of each answer that they write."""
+    at = 0
+    while at < len(written):
+        end = written.index(b"\n", at)
+        number, status, out, errors = map(int, written[at:end].split())
         middle = end + 1 + out
         at = middle + errors
-        found[number] = os.waitstatus_to_exitcode(status), ran.stdout[end + 1 : middle], ran.stdout[middle:at]
-    return found
+        yield number, (os.waitstatus_to_exitcode(status), written[end + 1 : middle], written[middle:at])
+
+
+def answers(driver, path, room, asked):
+    """What the program answers to each pair of words and standard input, by a process each."""
+    side_by_side = str((os.cpu_count() or 2) + 1)
+    command = [driver, side_by_side, str(LONGEST), path]
+    ran = subprocess.run(command, cwd=room, input=requests(asked), capture_output=True, timeout=program.SECONDS, check=True)
+    return [answer for _, answer in sorted(told(ran.stdout))]
+
+
+def answers_again(library, path, room, asked):
+    """The same, by one process for all; the words that it is started with make room for theirs. Where it ends early, its
+    end stands in the place of the next answer, and there are none after that."""
+    command = [path, *max((words for words, _ in asked), key=len)]
+    ran = subprocess.run(
+        command, cwd=room, input=requests(asked), capture_output=True, timeout=program.SECONDS, check=False,
+        env=os.environ | {"LD_PRELOAD": library},
+    )
+    found = [answer for _, answer in told(ran.stdout)]
+    ended = (ran.returncode, b"", b"the process ended\n" + ran.stderr)
+    return [*found, ended, *[None] * len(asked)][: len(asked)]
 
 
 def random_turn(draw, kinds):
@@ -216,32 +247,39 @@ def random_turn(draw, kinds):
         yield asked, mutated(draw, sample) if draw.random() < 0.5 else draw.randbytes(draw.choice((0, 1, 7, 64, 300, 5000)))
 
 
-def turns(draw, kinds, seconds):
-    """Such turns until the time is over."""
+def turns(draw, kinds, count, seconds):
+    """Such turns until there are so many, or the time is over."""
     ends = time.monotonic() + seconds
-    while time.monotonic() < ends:
+    while count > 0 and time.monotonic() < ends:
         yield list(random_turn(draw, kinds))
+        count -= 1
 
 
 def wrong_answers(turn, begun):
     """What was asked of a turn that has been begun, with each answer that has no defined form."""
-    for (asked, data), answer in zip(turn, begun.result()):
+    for (asked, data), answer in zip(turn, begun.result(), strict=True):
         if answer is None or not is_defined(asked, answer):
             yield asked, data, answer
 
 
-def random_rows(path, room, tally, seconds, seed):
-    """As many files as the time allows, one turn being drawn while the one before is answered. One check: all have an
-    answer of a defined form."""
-    driver = room / "run_many"
-    subprocess.run(["gcc", "-O2", "-Wall", "-o", str(driver), str(HERE / "run_many.c")], check=True)
-    begins = time.monotonic()
+def same_rows(path, room, tally, library, seed):
+    """What answers in one process say, the program says in a process of its own."""
+    driver, draw, kinds = made(room, "run_many"), random.Random(seed), list(samples())
+    for turn in turns(draw, kinds, 3, program.SECONDS):
+        found = zip(turn, answers_again(library, path, room, turn), answers(driver, path, room, turn), strict=True)
+        tally.check("random files, in one process and in one each", [row for row in found if row[1] != row[2]][:1], [])
+
+
+def random_rows(path, room, tally, library, seed, count, seconds):
+    """As many files as are wanted, or as the time allows; other turns are drawn and looked at while some are answered. One
+    check: all have an answer of a defined form."""
+    begins, workers = time.monotonic(), os.cpu_count() or 2
     tried, wrong, waiting = 0, [], collections.deque()
-    with concurrent.futures.ThreadPoolExecutor(1) as pool:
-        for turn in turns(random.Random(seed), list(samples()), seconds):
-            waiting.append((turn, pool.submit(answers, driver, path, room, turn)))
+    with concurrent.futures.ThreadPoolExecutor(workers) as pool:
+        for turn in turns(random.Random(seed), list(samples()), count // 1000, seconds):
+            waiting.append((turn, pool.submit(answers_again, library, path, room, turn)))
             tried += len(turn)
-            if len(waiting) > 1:
+            if len(waiting) > 2 * workers:
                 wrong += wrong_answers(*waiting.popleft())
         for turn in waiting:
             wrong += wrong_answers(*turn)
@@ -252,7 +290,8 @@ def random_rows(path, room, tally, seconds, seed):
 def main():
     parser = argparse.ArgumentParser(description=__doc__, formatter_class=argparse.RawDescriptionHelpFormatter)
     parser.add_argument("program", nargs="?", default=str(DEFAULT))
-    parser.add_argument("--seconds", type=float, default=20)
+    parser.add_argument("--files", type=int, default=1_000_000)
+    parser.add_argument("--seconds", type=float, default=60)
     parser.add_argument("--seed", type=int, default=1)
     args = parser.parse_args()
     path, tally = os.path.abspath(args.program), Tally()
@@ -268,7 +307,9 @@ def main():
         (room / "many salts").write_bytes(bytes(20 * 1000))
         for row in (fifo_rows, memory_rows, shrinking_rows, name_rows):
             row(path, room, tally)
-        random_rows(path, room, tally, args.seconds, args.seed)
+        library = made(room, "run_again", "-shared", "-fPIC")
+        same_rows(path, room, tally, library, args.seed)
+        random_rows(path, room, tally, library, args.seed, args.files, args.seconds)
     print(f"{tally.passed} passed, {tally.failed} failed")
     return 1 if tally.failed else 0
 
