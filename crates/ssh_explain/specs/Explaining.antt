@@ -1,0 +1,22 @@
+-- The lines that explain codes (this project's rules).
+use Rattle.std.specs.Prelude.{◌++◌, ℕ, Bool, List, [], codes, is_none, Option, Some, None, position}
+use Rattle.ssh_explain.specs.Table.{Told, row_of}
+
+-- the line of a row: the code, the sentence, and what to do
+unfoldable pub row_text : Told → List ℕ
+row_text row = row.code ++ codes ": " ++ row.sentence ++ codes " - " ++ row.remedy ++ codes "\n"
+
+abbrev pub text_if : Option Told → List ℕ
+text_if None = []
+text_if (Some row) = row_text row
+
+-- the line of a code, if it has a row
+abbrev pub code_text : List ℕ → List ℕ
+code_text code = text_if (row_of code)
+
+abbrev pub is_unknown : List ℕ → Bool
+is_unknown code = is_none (row_of code)
+
+-- the place of the first code that has no row
+abbrev pub first_unknown : List (List ℕ) → Option ℕ
+first_unknown names = position is_unknown names
