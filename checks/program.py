@@ -6,13 +6,13 @@ usage: program.py [PROGRAM] [--after LOG]
 PROGRAM is crates/ssh_audit/out/ssh_audit where it is left out. After its own rows it starts the checks beside it:
 examples.py (keys, certificates and signatures of ssh-keygen and openssl through examples/), documents.py (the commands
 of README.md and docs/MANUAL.md as they stand), codes.py (whether each printed code is in a row), explained.py (whether
-that page says what the source's table says), closure.py (how much a reviewer has to read), memory_calls.py (whether
-each call that takes memory is in the table of docs/PROOFS.md), refused_growth.py (each growth of memory refused in
-turn), cut_vectors.py (worked blobs, cut) and hostile.py (input that was made to hurt). With --after, as .ci/run starts
-it, refused_calls.py (each growth of memory of the libraries' calls refused in turn) and sanitized.py (random bytes
-under AddressSanitizer) run too, which need the kit's `rt`, and the counts in the last line of LOG, what `rt ci`
-printed, are added. The last line is 'N passed, M failed' for all of them. The status is 0 where nothing failed. What
-cannot run has failed.
+that page says what the source's table says), manual_page.py (the same of docs/ssh_audit.1, with its options),
+closure.py (how much a reviewer has to read), memory_calls.py (whether each call that takes memory is in the table of
+docs/PROOFS.md), refused_growth.py (each growth of memory refused in turn), cut_vectors.py (worked blobs, cut) and
+hostile.py (input that was made to hurt). With --after, as .ci/run starts it, refused_calls.py (each growth of memory of
+the libraries' calls refused in turn) and sanitized.py (random bytes under AddressSanitizer) run too, which need the
+kit's `rt`, and the counts in the last line of LOG, what `rt ci` printed, are added. The last line is 'N passed, M
+failed' for all of them. The status is 0 where nothing failed. What cannot run has failed.
 
 Needs ssh-keygen (Debian: openssh-client), openssl 3, gcc, /dev/full, and the built program. It takes some three minutes,
 without --after.
@@ -605,7 +605,7 @@ def main():
     asked = parser.parse_args()
     tally = Tally()
     try_all(asked.program.resolve(), tally)
-    for name in ("codes.py", "explained.py", "closure.py", "memory_calls.py"):
+    for name in ("codes.py", "explained.py", "manual_page.py", "closure.py", "memory_calls.py"):
         other_check(name, tally)
     if asked.after is not None:
         for name in ("refused_calls.py", "sanitized.py"):
