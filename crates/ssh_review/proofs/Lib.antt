@@ -1,0 +1,5 @@
+pub mod Appended
+pub mod SizeLemmas
+pub mod DateLemmas
+pub mod ListLemmas
+pub mod LineLemmas

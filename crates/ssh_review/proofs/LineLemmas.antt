@@ -1,0 +1,131 @@
+-- The loop over the lines of a file: what is written and counted so far, and what is left.
+use Rattle.std.proofs.Common.{◌≡◌, ◌∙◌, ℕ, suc, ◌+◌, ◌*◌, ◌<◌, ◌≤◌, ◌^◌, ◌==◌, Bool, true, false, not, ◌&&◌, cond, List, [], ◌∷◌, ◌++◌, length, sym, ap, length-append, arith}
+use Rattle.std.specs.List.{onto_first}
+use Rattle.std.specs.Prelude.{Option, Some, None}
+use Rattle.ssh_lines.specs.declared.entry.AuthLine.{AuthLine}
+use Rattle.ssh_lines.specs.declared.entry.AuthLine.TheVariants.{Blank, Comment, Entry, Unreadable}
+use Rattle.ssh_lines.specs.AuthGrammar.{auth_line}
+use Rattle.ssh_text.specs.Text.{file_limit, lines_of, numbered}
+use Rattle.ssh_review.specs.declared.counts.Counts.{Counts}
+use Rattle.ssh_review.specs.declared.facts.Facts.{Facts}
+use Rattle.ssh_review.specs.declared.finding.Finding.{Finding}
+use Rattle.ssh_review.specs.declared.finding.Finding.TheVariants as finding
+use Rattle.ssh_review.specs.Asking.{Asking, is_told}
+use Rattle.ssh_review.specs.Counting.{plus}
+use Rattle.ssh_review.specs.EntryFindings.{condition_findings, entry_findings, forces_but_forwards, policy_findings, reading_findings, short_findings, told_if}
+use Rattle.ssh_review.specs.Facts.{facts_of}
+use Rattle.ssh_review.specs.Findings.{code_of}
+use Rattle.ssh_review.specs.Lines.{counts_of, line_counts}
+
+-- ---- how much is counted at most
+
+pub record Within (counts : Counts) (n : ℕ) : Type 0 where
+  pub lines : counts.lines ≤ n
+  pub keys : counts.keys ≤ n
+  pub unreadable : counts.unreadable ≤ n
+  pub findings : counts.findings ≤ 16 * n
+
+told-short : (asking : Asking) (holds : Bool) (f : Finding) → length (told_if asking holds f) ≤ 1
+unfolding told_if
+told-short asking holds f = go (holds && is_told asking (code_of f))
+  where
+    go : (b : Bool) → length (cond b (f ∷ []) []) ≤ 1
+    go true = omega arith
+    go false = omega arith
+
+short-short : (asking : Asking) (bits : Option ℕ) → length (short_findings asking bits) ≤ 1
+short-short asking None = omega arith
+short-short asking (Some bits) = told-short asking _ _
+
+-- four and one and more lists of at most one
+four : (a b c d : List Finding) → length a ≤ 1 → length b ≤ 1 → length c ≤ 1 → length d ≤ 1 → length (a ++ b ++ c ++ d) ≤ 4
+four a b c d e f g h = omega (arith, length-append (a ++ b ++ c) d, length-append (a ++ b) c, length-append a b)
+
+conditions-short : (asking : Asking) (f : Facts) → length (condition_findings asking f) ≤ 4
+conditions-short asking f = four _ _ _ _ (short-short asking f.bits) (told-short asking _ _) (told-short asking _ _) (told-short asking _ _)
+
+readings-short : (asking : Asking) (f : Facts) → length (reading_findings asking f) ≤ 4
+readings-short asking f = four _ _ _ _ (told-short asking _ _) (told-short asking _ _) (told-short asking _ _) (told-short asking _ _)
+
+one-more : (a b : List Finding) → length a ≤ 4 → length b ≤ 1 → length (a ++ b) ≤ 5
+one-more a b e f = omega (arith, length-append a b)
+
+policy-short : (asking : Asking) (f : Facts) → length (policy_findings asking f) ≤ 5
+policy-short asking f =
+    one-more _ _ (four _ _ _ _ (told-short asking _ _) (told-short asking _ _) (told-short asking _ _) (told-short asking _ _)) (told-short asking _ _)
+
+entry-short : (asking : Asking) (f : Facts) → length (entry_findings asking f) ≤ 16
+unfolding entry_findings
+entry-short asking f =
+    let a = conditions-short asking f in
+    let b = readings-short asking f in
+    let d = policy-short asking f in
+    omega (
+      arith,
+      length-append (condition_findings asking f ++ reading_findings asking f ++ told_if asking (not f.is_authority && forces_but_forwards f.rights) finding.ForcedButForwards) (policy_findings asking f),
+      length-append (condition_findings asking f ++ reading_findings asking f) (told_if asking (not f.is_authority && forces_but_forwards f.rights) finding.ForcedButForwards),
+      length-append (condition_findings asking f) (reading_findings asking f),
+      told-short asking (not f.is_authority && forces_but_forwards f.rights) finding.ForcedButForwards,
+    )
+
+line-within : (asking : Asking) (line : AuthLine) → Within (line_counts asking line) 1
+line-within asking Blank = record { lines = omega arith; keys = omega arith; unreadable = omega arith; findings = omega arith }
+line-within asking Comment = record { lines = omega arith; keys = omega arith; unreadable = omega arith; findings = omega arith }
+line-within asking (Entry entry) =
+    record { lines = omega arith; keys = omega arith; unreadable = omega arith; findings = omega (arith, entry-short asking (facts_of asking.zone entry)) }
+line-within asking (Unreadable cause) =
+    record { lines = omega arith; keys = omega arith; unreadable = omega arith; findings = omega (arith, told-short asking true (finding.Unreadable cause)) }
+
+both-within : (a b : Counts) (n : ℕ) → Within a 1 → Within b n → Within (plus a b) (suc n)
+both-within a b n v w = record {
+  lines = omega (arith, v.lines, w.lines);
+  keys = omega (arith, v.keys, w.keys);
+  unreadable = omega (arith, v.unreadable, w.unreadable);
+  findings = omega (arith, v.findings, w.findings);
+}
+
+all-within : (asking : Asking) (n : ℕ) (lines : List (List ℕ)) → Within (counts_of asking (numbered n lines)) (length lines)
+all-within asking n [] = record { lines = omega arith; keys = omega arith; unreadable = omega arith; findings = omega arith }
+all-within asking n (line ∷ lines) =
+    both-within (line_counts asking (auth_line line)) (counts_of asking (numbered (n + 1) lines)) (length lines)
+    (line-within asking (auth_line line)) (all-within asking (n + 1) lines)
+
+onto-long : (c : ℕ) (lines : List (List ℕ)) (n : ℕ) → length lines ≤ n → length (onto_first c lines) ≤ n + 1
+onto-long c [] n h = omega arith
+onto-long c (line ∷ lines) n h = omega arith
+
+pub lines-few : (file : List ℕ) → length (lines_of file) ≤ length file
+lines-few [] = omega arith
+lines-few (c ∷ cs) = go (c == 10) (lines-few cs)
+  where
+    go : (b : Bool) → length (lines_of cs) ≤ length cs → length (cond b ([] ∷ lines_of cs) (onto_first c (lines_of cs))) ≤ length (c ∷ cs)
+    go true few = omega arith
+    go false few = omega (arith, onto-long c (lines_of cs) (length cs) few)
+
+-- a sum that is a part of what a file within the limit counts
+pub record Fits (a b : Counts) : Type 0 where
+  pub lines : a.lines + b.lines < 2 ^ 64
+  pub keys : a.keys + b.keys < 2 ^ 64
+  pub unreadable : a.unreadable + b.unreadable < 2 ^ 64
+  pub findings : a.findings + b.findings < 2 ^ 64
+
+fit : (before told rest all : Counts) (n : ℕ) → Within all n → n ≤ file_limit → plus before (plus told rest) ≡ all → Fits before told
+fit before told rest all n w h e =
+    let lines : before.lines + (told.lines + rest.lines) ≡ all.lines = ap (λ (c : Counts). c.lines) e in
+    let keys : before.keys + (told.keys + rest.keys) ≡ all.keys = ap (λ (c : Counts). c.keys) e in
+    let unreadable : before.unreadable + (told.unreadable + rest.unreadable) ≡ all.unreadable = ap (λ (c : Counts). c.unreadable) e in
+    let findings : before.findings + (told.findings + rest.findings) ≡ all.findings = ap (λ (c : Counts). c.findings) e in
+    record {
+      lines = omega (arith, lines, w.lines);
+      keys = omega (arith, keys, w.keys);
+      unreadable = omega (arith, unreadable, w.unreadable);
+      findings = omega (arith, findings, w.findings);
+    }
+
+pub told_fits : (asking : Asking) (file : List ℕ) (before told : Counts) (n : ℕ) (line : List ℕ) (said : AuthLine) (now next : List (ℕ × List ℕ))
+    → length file ≤ file_limit → now ≡ (n, line) ∷ next → said ≡ auth_line line → told ≡ line_counts asking said
+    → plus before (counts_of asking now) ≡ counts_of asking (numbered 1 (lines_of file)) → Fits before told
+told_fits asking file before told n line said now next h e k f g =
+    fit before told (counts_of asking next) (counts_of asking (numbered 1 (lines_of file))) (length (lines_of file))
+    (all-within asking 1 (lines_of file)) (omega (arith, lines-few file, h))
+    (ap (λ c. plus before (plus c (counts_of asking next))) (f ∙ ap (line_counts asking) k) ∙ ap (λ left. plus before (counts_of asking left)) (sym e) ∙ g)

@@ -1,0 +1,7 @@
+use Rattle.std.proofs.Common.{◌≡◌, ◌++◌, drop}
+use Rattle.std.specs.List.{flat_map}
+use Rattle.ssh_review.specs.Records.{carried_inset}
+use Rattle.ssh_review.proofs.record.push_each_carried.Given as goal
+
+abbrev pub invariant-loop-text : goal.invariant-loop-text
+invariant-loop-text l = l.out.items ++ flat_map carried_inset (drop l.text-index l.carried) ≡ l.initial.out.items ++ flat_map carried_inset l.carried

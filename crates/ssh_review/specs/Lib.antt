@@ -1,0 +1,13 @@
+pub mod Codes
+pub mod Asking
+pub mod Lists
+pub mod Moments
+pub mod Facts
+pub mod Findings
+pub mod Sentences
+pub mod EntryFindings
+pub mod Dates
+pub mod Counting
+pub mod Records
+pub mod Lines
+pub mod Reviews

@@ -1,0 +1,82 @@
+-- The record of a line, as text (this project's rule). Each line ends with an LF; all but the first begin with four spaces.
+use Rattle.std.specs.Prelude.{◌++◌, ◌∷◌, [], ℕ, ℤ, Bool, List, Option, Some, None, codes, if◌then◌else◌}
+use Rattle.std.specs.List.{flat_map}
+use Rattle.std.specs.Fmt.{decimal}
+use Rattle.ssh_keys.specs.Names.{name_of}
+use Rattle.ssh_rights.specs.declared.rights.Carried.{Carried}
+use Rattle.ssh_rights.specs.declared.rights.Rights.{Rights}
+use Rattle.ssh_print.specs.DecisionText.{carried_word, has_no_right, right_words}
+use Rattle.ssh_print.specs.Texts.{escaped, text_line, word_line}
+use Rattle.ssh_review.specs.declared.facts.Facts.{Facts}
+use Rattle.ssh_review.specs.declared.finding.Finding.{Finding}
+use Rattle.ssh_review.specs.Dates.{moment_text}
+use Rattle.ssh_review.specs.Sentences.{finding_line}
+
+-- the name of the file and the number of the line
+abbrev pub place_text : List ℕ → ℕ → List ℕ
+place_text name number = escaped name ++ codes ":" ++ decimal number ++ codes ": "
+
+abbrev pub role_word : Bool → List ℕ
+role_word is_authority = if is_authority then codes "authority " else codes "key "
+
+-- the size of an RSA key
+abbrev pub bits_text : Option ℕ → List ℕ
+bits_text None = []
+bits_text (Some bits) = codes " " ++ decimal bits
+
+-- a comment, if it has bytes
+abbrev pub comment_text : List ℕ → List ℕ
+comment_text [] = []
+comment_text (c ∷ cs) = codes " " ++ escaped (c ∷ cs)
+
+-- as `ssh-keygen -l` prints it
+unfoldable pub fingerprint_word : List ℕ → List ℕ
+fingerprint_word fingerprint = codes " SHA256:" ++ fingerprint
+
+-- whose key, of which type, with its fingerprint and its comment
+unfoldable pub entry_head : Facts → List ℕ
+entry_head f =
+    role_word f.is_authority ++ name_of f.kind ++ bits_text f.bits ++ fingerprint_word f.fingerprint
+    ++ comment_text f.comment ++ codes "\n"
+
+-- the rights that are on
+unfoldable pub rights_inset : Rights → List ℕ
+rights_inset r = codes "    rights" ++ (if has_no_right r then codes " none" else right_words r) ++ codes "\n"
+
+-- the value of an option, if there is one
+unfoldable pub setting_line : List ℕ → Option (List ℕ) → List ℕ
+setting_line word None = []
+setting_line word (Some text) = text_line word text
+
+-- a text that is carried on
+abbrev pub carried_inset : Carried → List ℕ
+carried_inset c = codes "    carry " ++ carried_word c.name ++ codes " " ++ escaped c.text ++ codes "\n"
+
+-- what the line leaves to the key: the rights, the command that is forced, the texts that are carried on
+unfoldable pub right_lines : Rights → List ℕ
+right_lines r = rights_inset r ++ setting_line (codes "    command ") r.command ++ flat_map carried_inset r.carried
+
+unfoldable pub flag_line : Bool → List ℕ → List ℕ
+flag_line stands line = if stands then line else []
+
+-- up to when it is good, as a moment and as a date
+unfoldable pub until_line : Option ℤ → List ℕ
+until_line None = []
+until_line (Some moment) = word_line (codes "    expires ") (moment_text moment)
+
+-- what limits the key: flags of security keys, sources, principals, time
+unfoldable pub limit_lines : Facts → List ℕ
+limit_lines f =
+    flag_line f.no_touch_required (codes "    no-touch-required\n")
+    ++ flag_line f.verify_required (codes "    verify-required\n")
+    ++ setting_line (codes "    from ") f.from
+    ++ setting_line (codes "    principals ") f.principals
+    ++ until_line f.until
+
+-- an entry with its findings
+unfoldable pub entry_record : Facts → List Finding → List ℕ
+entry_record f found = entry_head f ++ right_lines f.rights ++ limit_lines f ++ flat_map finding_line found
+
+-- a line that cannot be read, with its findings
+unfoldable pub unreadable_record : List Finding → List ℕ
+unreadable_record found = codes "unreadable\n" ++ flat_map finding_line found

@@ -1,0 +1,36 @@
+//! Reviews of authorized_keys files: who gets in, by which line, with which rights, and what has to
+//! be mended.
+//!
+//! A review of a file is a record for each entry and each line that cannot be read, and an end with
+//! counts and the SHA-256 of the bytes. It needs no clock, no network, no signature and no other
+//! file. A caller that reviews a file and tells whether something has to be mended:
+//!
+//! ```
+//! let asked = Asked { now, zone, rsa_minimum: 2048, told: &Code::BY_DEFAULT };
+//! let reviewed = review_auth(alloc, &asked, name, file)?;
+//! out.extend_from_slice(&reviewed.text)?;
+//! Ok(reviewed.counts.findings > 0)
+//! ```
+#![tactic(auto)]
+
+mod asked;
+mod code;
+mod counts;
+mod date;
+mod entry_findings;
+mod facts;
+mod finding;
+mod lines;
+mod list;
+mod moments;
+mod record;
+mod review;
+mod sentence;
+mod told;
+
+pub use asked::Asked;
+pub use code::Code;
+pub use counts::{Counts, FileFault, Reviewed, Total};
+pub use finding::Finding;
+pub use review::{push_total, review_auth, review_fault};
+pub use told::parse_codes;

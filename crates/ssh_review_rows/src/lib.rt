@@ -1,0 +1,5 @@
+//! Nothing but tests: worked reviews, byte for byte.
+#![tactic(auto)]
+
+#[cfg(test)]
+mod auth_rows;
