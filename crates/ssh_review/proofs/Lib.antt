@@ -3,3 +3,4 @@ pub mod SizeLemmas
 pub mod DateLemmas
 pub mod ListLemmas
 pub mod LineLemmas
+pub mod ShadowLemmas

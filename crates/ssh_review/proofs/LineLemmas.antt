@@ -12,10 +12,13 @@ use Rattle.ssh_review.specs.declared.finding.Finding.{Finding}
 use Rattle.ssh_review.specs.declared.finding.Finding.TheVariants as finding
 use Rattle.ssh_review.specs.Asking.{Asking, is_told}
 use Rattle.ssh_review.specs.Counting.{plus}
-use Rattle.ssh_review.specs.EntryFindings.{condition_findings, entry_findings, forces_but_forwards, policy_findings, reading_findings, short_findings, told_if}
+use Rattle.ssh_review.specs.EntryFindings.{condition_findings, entry_findings, forces_but_forwards, policy_findings, reading_findings, repeat_findings, short_findings, told_if}
+use Rattle.ssh_keys.specs.PublicKey.{key_blob}
+use Rattle.ssh_review.specs.declared.held.Held.{Held}
+use Rattle.ssh_review.specs.Earlier.{repeat_after}
 use Rattle.ssh_review.specs.Facts.{facts_of}
 use Rattle.ssh_review.specs.Findings.{code_of}
-use Rattle.ssh_review.specs.Lines.{counts_of, line_counts}
+use Rattle.ssh_review.specs.Lines.{counts_of, held_of, line_counts}
 
 -- ---- how much is counted at most
 
@@ -54,26 +57,32 @@ policy-short : (asking : Asking) (f : Facts) → length (policy_findings asking 
 policy-short asking f =
     one-more _ _ (four _ _ _ _ (told-short asking _ _) (told-short asking _ _) (told-short asking _ _) (told-short asking _ _)) (told-short asking _ _)
 
-entry-short : (asking : Asking) (f : Facts) → length (entry_findings asking f) ≤ 16
+repeat-short : (asking : Asking) (repeat : Option Finding) → length (repeat_findings asking repeat) ≤ 1
+repeat-short asking None = omega arith
+repeat-short asking (Some f) = told-short asking true f
+
+entry-short : (asking : Asking) (earlier : List Held) (blob : List ℕ) (f : Facts) → length (entry_findings asking earlier blob f) ≤ 16
 unfolding entry_findings
-entry-short asking f =
+entry-short asking earlier blob f =
+    let r = repeat-short asking (repeat_after earlier blob f) in
     let a = conditions-short asking f in
     let b = readings-short asking f in
     let d = policy-short asking f in
     omega (
       arith,
-      length-append (condition_findings asking f ++ reading_findings asking f ++ told_if asking (not f.is_authority && forces_but_forwards f.rights) finding.ForcedButForwards) (policy_findings asking f),
-      length-append (condition_findings asking f ++ reading_findings asking f) (told_if asking (not f.is_authority && forces_but_forwards f.rights) finding.ForcedButForwards),
-      length-append (condition_findings asking f) (reading_findings asking f),
+      length-append (repeat_findings asking (repeat_after earlier blob f) ++ condition_findings asking f ++ reading_findings asking f ++ told_if asking (not f.is_authority && forces_but_forwards f.rights) finding.ForcedButForwards) (policy_findings asking f),
+      length-append (repeat_findings asking (repeat_after earlier blob f) ++ condition_findings asking f ++ reading_findings asking f) (told_if asking (not f.is_authority && forces_but_forwards f.rights) finding.ForcedButForwards),
+      length-append (repeat_findings asking (repeat_after earlier blob f) ++ condition_findings asking f) (reading_findings asking f),
+      length-append (repeat_findings asking (repeat_after earlier blob f)) (condition_findings asking f),
       told-short asking (not f.is_authority && forces_but_forwards f.rights) finding.ForcedButForwards,
     )
 
-line-within : (asking : Asking) (line : AuthLine) → Within (line_counts asking line) 1
-line-within asking Blank = record { lines = omega arith; keys = omega arith; unreadable = omega arith; findings = omega arith }
-line-within asking Comment = record { lines = omega arith; keys = omega arith; unreadable = omega arith; findings = omega arith }
-line-within asking (Entry entry) =
-    record { lines = omega arith; keys = omega arith; unreadable = omega arith; findings = omega (arith, entry-short asking (facts_of asking.zone entry)) }
-line-within asking (Unreadable cause) =
+line-within : (asking : Asking) (earlier : List Held) (line : AuthLine) → Within (line_counts asking earlier line) 1
+line-within asking earlier Blank = record { lines = omega arith; keys = omega arith; unreadable = omega arith; findings = omega arith }
+line-within asking earlier Comment = record { lines = omega arith; keys = omega arith; unreadable = omega arith; findings = omega arith }
+line-within asking earlier (Entry entry) =
+    record { lines = omega arith; keys = omega arith; unreadable = omega arith; findings = omega (arith, entry-short asking earlier (key_blob entry.key) (facts_of asking.zone entry)) }
+line-within asking earlier (Unreadable cause) =
     record { lines = omega arith; keys = omega arith; unreadable = omega arith; findings = omega (arith, told-short asking true (finding.Unreadable cause)) }
 
 both-within : (a b : Counts) (n : ℕ) → Within a 1 → Within b n → Within (plus a b) (suc n)
@@ -84,11 +93,12 @@ both-within a b n v w = record {
   findings = omega (arith, v.findings, w.findings);
 }
 
-all-within : (asking : Asking) (n : ℕ) (lines : List (List ℕ)) → Within (counts_of asking (numbered n lines)) (length lines)
-all-within asking n [] = record { lines = omega arith; keys = omega arith; unreadable = omega arith; findings = omega arith }
-all-within asking n (line ∷ lines) =
-    both-within (line_counts asking (auth_line line)) (counts_of asking (numbered (n + 1) lines)) (length lines)
-    (line-within asking (auth_line line)) (all-within asking (n + 1) lines)
+all-within : (asking : Asking) (earlier : List Held) (n : ℕ) (lines : List (List ℕ)) → Within (counts_of asking earlier (numbered n lines)) (length lines)
+all-within asking earlier n [] = record { lines = omega arith; keys = omega arith; unreadable = omega arith; findings = omega arith }
+all-within asking earlier n (line ∷ lines) =
+    let after = earlier ++ held_of asking (n, auth_line line) in
+    both-within (line_counts asking earlier (auth_line line)) (counts_of asking after (numbered (n + 1) lines)) (length lines)
+    (line-within asking earlier (auth_line line)) (all-within asking after (n + 1) lines)
 
 onto-long : (c : ℕ) (lines : List (List ℕ)) (n : ℕ) → length lines ≤ n → length (onto_first c lines) ≤ n + 1
 onto-long c [] n h = omega arith
@@ -122,10 +132,11 @@ fit before told rest all n w h e =
       findings = omega (arith, findings, w.findings);
     }
 
-pub told_fits : (asking : Asking) (file : List ℕ) (before told : Counts) (n : ℕ) (line : List ℕ) (said : AuthLine) (now next : List (ℕ × List ℕ))
-    → length file ≤ file_limit → now ≡ (n, line) ∷ next → said ≡ auth_line line → told ≡ line_counts asking said
-    → plus before (counts_of asking now) ≡ counts_of asking (numbered 1 (lines_of file)) → Fits before told
-told_fits asking file before told n line said now next h e k f g =
-    fit before told (counts_of asking next) (counts_of asking (numbered 1 (lines_of file))) (length (lines_of file))
-    (all-within asking 1 (lines_of file)) (omega (arith, lines-few file, h))
-    (ap (λ c. plus before (plus c (counts_of asking next))) (f ∙ ap (line_counts asking) k) ∙ ap (λ left. plus before (counts_of asking left)) (sym e) ∙ g)
+pub told_fits : (asking : Asking) (earlier : List Held) (file : List ℕ) (before told : Counts) (n : ℕ) (line : List ℕ) (said : AuthLine) (now next : List (ℕ × List ℕ))
+    → length file ≤ file_limit → now ≡ (n, line) ∷ next → said ≡ auth_line line → told ≡ line_counts asking earlier said
+    → plus before (counts_of asking earlier now) ≡ counts_of asking [] (numbered 1 (lines_of file)) → Fits before told
+told_fits asking earlier file before told n line said now next h e k f g =
+    let after = earlier ++ held_of asking (n, auth_line line) in
+    fit before told (counts_of asking after next) (counts_of asking [] (numbered 1 (lines_of file))) (length (lines_of file))
+    (all-within asking [] 1 (lines_of file)) (omega (arith, lines-few file, h))
+    (ap (λ c. plus before (plus c (counts_of asking after next))) (f ∙ ap (line_counts asking earlier) k) ∙ ap (λ left. plus before (counts_of asking earlier left)) (sym e) ∙ g)

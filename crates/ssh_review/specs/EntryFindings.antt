@@ -7,6 +7,8 @@ use Rattle.ssh_review.specs.declared.facts.Facts.{Facts}
 use Rattle.ssh_review.specs.declared.finding.Finding.{Finding}
 use Rattle.ssh_review.specs.declared.finding.Finding.TheVariants as finding
 use Rattle.ssh_review.specs.Asking.{Asking, is_told}
+use Rattle.ssh_review.specs.declared.held.Held.{Held}
+use Rattle.ssh_review.specs.Earlier.{repeat_after}
 use Rattle.ssh_review.specs.Findings.{code_of}
 use Rattle.ssh_review.specs.Lists.{has_empty_name, has_name, is_bad_list, is_for_any_address}
 use Rattle.ssh_review.specs.Moments.{is_past}
@@ -34,13 +36,17 @@ abbrev pub has_empty_in : Option (List ℕ) → Bool
 has_empty_in None = false
 has_empty_in (Some list) = has_empty_name list
 
+-- an authority with a `principals` list that permits nobody
+abbrev pub names_nobody : Facts → Bool
+names_nobody f = f.is_authority && is_some f.principals && not (has_name_in f.principals)
+
 -- F5 to F7: a short key; an expiry time that is past; a list that permits nobody
 abbrev pub condition_findings : Asking → Facts → List Finding
 condition_findings asking f =
     short_findings asking f.bits
     ++ told_if asking (is_past asking.now f.until) finding.Expired
     ++ told_if asking (permits_bad f.from) finding.BadSources
-    ++ told_if asking (f.is_authority && is_some f.principals && not (has_name_in f.principals)) finding.NoPrincipal
+    ++ told_if asking (names_nobody f) finding.NoPrincipal
 
 abbrev pub is_security_key : KeyKind → Bool
 is_security_key kind.Rsa = false
@@ -73,14 +79,20 @@ abbrev pub policy_findings : Asking → Facts → List Finding
 policy_findings asking f =
     told_if asking (not f.is_authority && permits_any f.from) finding.AnyAddress
     ++ told_if asking (not f.is_authority && not (is_some f.rights.command)) finding.AnyCommand
-    ++ told_if asking (not f.is_authority && not (is_some f.until)) finding.NoExpiry
+    ++ told_if asking (not f.is_authority && not f.has_expiry) finding.NoExpiry
     ++ told_if asking (f.is_authority && not (is_some f.principals)) finding.AnyPrincipal
     ++ told_if asking (length f.comment == 0) finding.NoComment
 
--- what is found of an entry and told
-unfoldable pub entry_findings : Asking → Facts → List Finding
-entry_findings asking f =
-    condition_findings asking f
+-- a finding of what stands on earlier lines, if there is one
+abbrev pub repeat_findings : Asking → Option Finding → List Finding
+repeat_findings asking None = []
+repeat_findings asking (Some f) = told_if asking true f
+
+-- what is found of an entry with this blob, after these entries, and told
+unfoldable pub entry_findings : Asking → List Held → List ℕ → Facts → List Finding
+entry_findings asking earlier blob f =
+    repeat_findings asking (repeat_after earlier blob f)
+    ++ condition_findings asking f
     ++ reading_findings asking f
     ++ told_if asking (not f.is_authority && forces_but_forwards f.rights) finding.ForcedButForwards
     ++ policy_findings asking f

@@ -1,5 +1,5 @@
 -- What an entry of an authorized_keys file says (sshd(8), AUTHORIZED_KEYS FILE FORMAT).
-use Rattle.std.specs.Prelude.{ℕ, zero, suc, ◌+◌, ◌^◌, nat_lt, true, false, Option, Some, None}
+use Rattle.std.specs.Prelude.{ℕ, zero, suc, ◌+◌, ◌^◌, nat_lt, true, false, Option, Some, None, is_some}
 use Rattle.jiff.specs.Types.{TimeZone}
 use Rattle.ssh_keys.specs.PublicKey.{PublicKey, rsa, kind_of}
 use Rattle.ssh_keys.specs.Fingerprint.{fingerprint_of}
@@ -45,6 +45,7 @@ facts_of zone e = record {
   verify_required = has_flag VerifyRequired e.options;
   from = setting From e.options;
   principals = setting Principals e.options;
+  has_expiry = is_some (setting ExpiryTime e.options);
   until = until zone (settings ExpiryTime e.options);
   has_local_time = has_local_time (settings ExpiryTime e.options);
 }

@@ -5,6 +5,8 @@ pub mod Moments
 pub mod Facts
 pub mod Findings
 pub mod Sentences
+pub mod Shadows
+pub mod Earlier
 pub mod EntryFindings
 pub mod Dates
 pub mod Counting

@@ -1,5 +1,5 @@
 -- The review of a file: what its lines say, and its end (this project's rule).
-use Rattle.std.specs.Prelude.{◌++◌, ℕ, nat_lt, List, length, Option, Some, None, codes, if◌then◌else◌}
+use Rattle.std.specs.Prelude.{◌++◌, ℕ, nat_lt, List, [], length, Option, Some, None, codes, if◌then◌else◌}
 use Rattle.std.specs.Fmt.{decimal}
 use Rattle.sha2.specs.Sha256.{sha256}
 use Rattle.ssh_text.specs.Text.{file_limit, lines_of, numbered}
@@ -38,9 +38,9 @@ end_line name counts digest = escaped name ++ codes ": " ++ counts_text counts +
 -- the records of the lines of a file, and its end
 unfoldable pub whole_review : Asking → List ℕ → List ℕ → Review
 whole_review asking name file = record {
-  text = records_of asking name (numbered 1 (lines_of file))
-      ++ end_line name (counts_of asking (numbered 1 (lines_of file))) (sha256 file);
-  counts = counts_of asking (numbered 1 (lines_of file));
+  text = records_of asking name [] (numbered 1 (lines_of file))
+      ++ end_line name (counts_of asking [] (numbered 1 (lines_of file))) (sha256 file);
+  counts = counts_of asking [] (numbered 1 (lines_of file));
   fault = None;
 }
 

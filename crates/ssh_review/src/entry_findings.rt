@@ -13,6 +13,7 @@ ghost use Rattle.ssh_review.specs.EntryFindings.{
   permits_any,
   policy_findings,
   reading_findings,
+  repeat_findings,
   short_findings,
   told_if,
 };
@@ -20,6 +21,7 @@ ghost use Rattle.ssh_review.specs.EntryFindings.{
 use crate::asked::Asked;
 use crate::facts::Facts;
 use crate::finding::Finding;
+use crate::held::{Held, repeat_after};
 use crate::list::{Pieces, is_bad_list};
 use crate::moments::is_past;
 use ssh_keys::KeyKind;
@@ -42,6 +44,21 @@ pub(crate) fn tell(
         found.push(finding)?;
     }
     Ok(())
+}
+
+/// F2 to F4.
+fn tell_repeat(
+    found: &mut Vec<Finding>,
+    asked: &Asked<'_>,
+    repeat: Option<Finding>,
+) -> Result<(), AllocError>
+    ensures { OnOk result
+        (found.new.items ≡ found.old.items ++ repeat_findings (asking_of asked.entry.now) repeat) }
+{
+    match repeat {
+        Some(finding) => tell(found, asked, true, finding),
+        None => Ok(()),
+    }
 }
 
 /// F5.
@@ -172,12 +189,7 @@ fn tell_policy(found: &mut Vec<Finding>, asked: &Asked<'_>, facts: &Facts) -> Re
         Finding::AnyAddress,
     )?;
     tell(found, asked, any_command, Finding::AnyCommand)?;
-    tell(
-        found,
-        asked,
-        plain && facts.until.is_none(),
-        Finding::NoExpiry,
-    )?;
+    tell(found, asked, plain && !facts.has_expiry, Finding::NoExpiry)?;
     tell(found, asked, any_principal, Finding::AnyPrincipal)?;
     tell(
         found,
@@ -188,18 +200,22 @@ fn tell_policy(found: &mut Vec<Finding>, asked: &Asked<'_>, facts: &Facts) -> Re
     Ok(())
 }
 
-/// What is found of an entry and told, in the order of the codes.
+/// What is found of an entry with this blob, after these entries, and told, in the order of the
+/// codes.
 #[tactic(auto, unfolding(crate::specs::EntryFindings::entry_findings))]
 pub(crate) fn entry_findings(
     alloc: Global,
     asked: &Asked<'_>,
+    earlier: &[Held],
+    blob: &[u8],
     facts: &Facts,
 ) -> Result<Vec<Finding>, AllocError>
     ensures { IfOk result
-        (λ found. found.items ≡ entry_findings (asking_of asked.entry.now) facts.now) }
+        (λ found. found.items ≡ entry_findings (asking_of asked.entry.now) earlier.now blob.now facts.now) }
 {
     let mut found = Vec::new(alloc);
     let forces = !facts.is_authority && forces_but_forwards(&facts.rights);
+    tell_repeat(&mut found, asked, repeat_after(earlier, blob, facts))?;
     tell_conditions(&mut found, asked, facts)?;
     tell_readings(&mut found, asked, facts)?;
     tell(&mut found, asked, forces, Finding::ForcedButForwards)?;

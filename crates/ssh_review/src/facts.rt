@@ -33,6 +33,8 @@ pub(crate) struct Facts {
     pub verify_required: bool,
     pub from: Option<Bytes>,
     pub principals: Option<Bytes>,
+    /// It has an expiry time.
+    pub has_expiry: bool,
     /// The least moment of its expiry times.
     pub until: Option<i64>,
     /// One of its expiry times is in local time.
@@ -109,6 +111,7 @@ impl Facts {
             verify_required: entry.has_flag(Flag::VerifyRequired),
             from,
             principals,
+            has_expiry: entry.expiry_texts().next().is_some(),
             until,
             has_local_time,
         })

@@ -20,6 +20,8 @@ mod date;
 mod entry_findings;
 mod facts;
 mod finding;
+mod held;
+mod laws;
 mod lines;
 mod list;
 mod moments;

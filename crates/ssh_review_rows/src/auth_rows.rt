@@ -28,6 +28,7 @@ web1/ann:4: key ecdsa-sha2-nistp256 SHA256:nhLvnwTE6QRz1UfV65d6yv9hpeLkeOwkaw7Ql
 \x20   F9: its command is forced, but it may still forward: add restrict\n\
 web1/ann:5: key ssh-ed25519 SHA256:gXMk5B5PxTYWe+Q7kQzHGRTNDb0nrzC3BLT7EPMvKSg laptop again\n\
 \x20   rights none\n\
+\x20   F4 2: never decides: line 2 has the same key, lets it in first and gives more\n\
 web1/ann:6: key ssh-rsa 1024 SHA256:FM0qtkq6jK/AsMX000mmtkcGXYbwWv4bIewiR7lIzIo old@example\n\
 \x20   rights port agent x11 pty rc\n\
 \x20   F5 1024: an RSA key of 1024 bits is too short\n\
@@ -43,7 +44,7 @@ web1/ann:10: key ssh-rsa 2048 SHA256:Bfvk8D9yagody1EbQdzAz5byw0A51qzcCWURIjCLnN4
 \x20   rights port agent x11 pty rc\n\
 \x20   verify-required\n\
 \x20   F8 verify-required: OpenSSH lets this key in: it ignores verify-required of a key that is no security key\n\
-web1/ann: 10 lines, 8 keys, 1 unreadable, 5 findings, sha256 a3b51c142bcda45a43c1dd1d736f45ea9554b013929818c32d1e1950dbd33041\n";
+web1/ann: 10 lines, 8 keys, 1 unreadable, 6 findings, sha256 a3b51c142bcda45a43c1dd1d736f45ea9554b013929818c32d1e1950dbd33041\n";
 
 #[test]
 fn file_as_reviewed(rt: HostRuntime) -> Result<(), Fail> {
@@ -56,6 +57,6 @@ fn file_as_reviewed(rt: HostRuntime) -> Result<(), Fail> {
     };
     let reviewed = review_auth(rt.alloc(), &asked, b"web1/ann", FILE)?;
     assert_eq!(rt; reviewed.text.as_slice(), REVIEW);
-    assert_eq!(rt; reviewed.counts.findings, 5);
+    assert_eq!(rt; reviewed.counts.findings, 6);
     Ok(())
 }

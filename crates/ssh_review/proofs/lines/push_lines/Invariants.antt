@@ -1,4 +1,4 @@
-use Rattle.std.proofs.Common.{◌≡◌, ◌++◌}
+use Rattle.std.proofs.Common.{◌≡◌, ◌++◌, []}
 use Rattle.ssh_text.specs.Text.{lines_of, numbered}
 use Rattle.ssh_review.specs.Asking.{asking_of}
 use Rattle.ssh_review.specs.Counting.{plus}
@@ -8,7 +8,7 @@ use Rattle.ssh_review.proofs.lines.push_lines.Given as goal
 abbrev pub invariant-loop-number : goal.invariant-loop-number
 invariant-loop-number l =
     (goal.iterator-loop-number).can_next l.number-iterator × (goal.iterator-loop-number).is_finite l.number-iterator
-    × (l.out.items ++ records_of (asking_of l.asked) l.name (numbered (l.number-iterator).0 (lines_of (l.number-iterator).1))
-    ≡ l.initial.out.items ++ records_of (asking_of l.asked) l.name (numbered 1 (lines_of l.file)))
-    × (plus l.counts (counts_of (asking_of l.asked) (numbered (l.number-iterator).0 (lines_of (l.number-iterator).1)))
-    ≡ counts_of (asking_of l.asked) (numbered 1 (lines_of l.file)))
+    × (l.out.items ++ records_of (asking_of l.asked) l.name l.earlier.items (numbered (l.number-iterator).0 (lines_of (l.number-iterator).1))
+    ≡ l.initial.out.items ++ records_of (asking_of l.asked) l.name [] (numbered 1 (lines_of l.file)))
+    × (plus l.counts (counts_of (asking_of l.asked) l.earlier.items (numbered (l.number-iterator).0 (lines_of (l.number-iterator).1)))
+    ≡ counts_of (asking_of l.asked) [] (numbered 1 (lines_of l.file)))
