@@ -7,17 +7,17 @@ use Rattle.ssh_lines.specs.declared.entry.AuthLine.TheVariants.{Blank, Comment, 
 use Rattle.ssh_lines.specs.AuthGrammar.{auth_line}
 use Rattle.ssh_text.specs.Text.{file_limit, lines_of, numbered}
 use Rattle.ssh_review.specs.declared.counts.Counts.{Counts}
-use Rattle.ssh_review.specs.declared.facts.Facts.{Facts}
-use Rattle.ssh_review.specs.declared.finding.Finding.{Finding}
-use Rattle.ssh_review.specs.declared.finding.Finding.TheVariants as finding
-use Rattle.ssh_review.specs.Asking.{Asking, is_told}
+use Rattle.ssh_findings.specs.declared.facts.Facts.{Facts}
+use Rattle.ssh_findings.specs.declared.finding.Finding.{Finding}
+use Rattle.ssh_findings.specs.declared.finding.Finding.TheVariants as finding
+use Rattle.ssh_findings.specs.Asking.{Asking, is_told}
 use Rattle.ssh_review.specs.Counting.{plus}
-use Rattle.ssh_review.specs.EntryFindings.{condition_findings, entry_findings, forces_but_forwards, policy_findings, reading_findings, repeat_findings, short_findings, told_if}
+use Rattle.ssh_findings.specs.EntryFindings.{condition_findings, entry_findings, forces_but_forwards, policy_findings, reading_findings, repeat_findings, short_findings, told_if}
 use Rattle.ssh_keys.specs.PublicKey.{key_blob}
-use Rattle.ssh_review.specs.declared.held.Held.{Held}
-use Rattle.ssh_review.specs.Earlier.{repeat_after}
-use Rattle.ssh_review.specs.Facts.{facts_of}
-use Rattle.ssh_review.specs.Findings.{code_of}
+use Rattle.ssh_findings.specs.declared.held.Held.{Held}
+use Rattle.ssh_findings.specs.Earlier.{repeat_after}
+use Rattle.ssh_findings.specs.Facts.{facts_of}
+use Rattle.ssh_findings.specs.Findings.{code_of}
 use Rattle.ssh_review.specs.Lines.{counts_of, held_of, line_counts}
 
 -- ---- how much is counted at most

@@ -1,13 +1,4 @@
-pub mod Codes
-pub mod Asking
-pub mod Lists
-pub mod Moments
-pub mod Facts
-pub mod Findings
 pub mod Sentences
-pub mod Shadows
-pub mod Earlier
-pub mod EntryFindings
 pub mod Dates
 pub mod Counting
 pub mod Records

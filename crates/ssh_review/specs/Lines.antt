@@ -1,17 +1,16 @@
 -- The records of a file's lines, and what they count.
-use Rattle.std.specs.Prelude.{◌++◌, ◌∷◌, [], ℕ, true, List, length}
+use Rattle.std.specs.Prelude.{◌++◌, ◌∷◌, [], ℕ, List, length}
 use Rattle.ssh_lines.specs.declared.entry.AuthLine.{AuthLine}
 use Rattle.ssh_lines.specs.declared.entry.AuthLine.TheVariants.{Blank, Comment, Entry, Unreadable}
 use Rattle.ssh_lines.specs.AuthGrammar.{auth_line}
 use Rattle.ssh_review.specs.declared.counts.Counts.{Counts}
-use Rattle.ssh_review.specs.declared.finding.Finding.{Finding}
-use Rattle.ssh_review.specs.declared.finding.Finding.TheVariants as finding
+use Rattle.ssh_findings.specs.declared.finding.Finding.{Finding}
 use Rattle.ssh_keys.specs.PublicKey.{key_blob}
-use Rattle.ssh_review.specs.declared.held.Held.{Held}
-use Rattle.ssh_review.specs.Asking.{Asking}
+use Rattle.ssh_findings.specs.declared.held.Held.{Held}
+use Rattle.ssh_findings.specs.Asking.{Asking}
 use Rattle.ssh_review.specs.Counting.{counts_with, no_counts, plus}
-use Rattle.ssh_review.specs.EntryFindings.{entry_findings, told_if}
-use Rattle.ssh_review.specs.Facts.{facts_of}
+use Rattle.ssh_findings.specs.EntryFindings.{entry_findings, unreadable_findings}
+use Rattle.ssh_findings.specs.Facts.{facts_of}
 use Rattle.ssh_review.specs.Records.{entry_record, place_text, unreadable_record}
 
 -- what is found of a line after these entries, and told
@@ -19,7 +18,7 @@ abbrev pub line_findings : Asking → List Held → AuthLine → List Finding
 line_findings asking earlier Blank = []
 line_findings asking earlier Comment = []
 line_findings asking earlier (Entry entry) = entry_findings asking earlier (key_blob entry.key) (facts_of asking.zone entry)
-line_findings asking earlier (Unreadable cause) = told_if asking true (finding.Unreadable cause)
+line_findings asking earlier (Unreadable cause) = unreadable_findings asking cause
 
 -- The record of a line, with its number: of an entry, or of a line that cannot be read. Blank lines and comments have none.
 abbrev pub line_record : Asking → List ℕ → List Held → ℕ × AuthLine → List ℕ

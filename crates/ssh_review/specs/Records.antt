@@ -7,8 +7,8 @@ use Rattle.ssh_rights.specs.declared.rights.Carried.{Carried}
 use Rattle.ssh_rights.specs.declared.rights.Rights.{Rights}
 use Rattle.ssh_print.specs.DecisionText.{carried_word, has_no_right, right_words}
 use Rattle.ssh_print.specs.Texts.{escaped, text_line, word_line}
-use Rattle.ssh_review.specs.declared.facts.Facts.{Facts}
-use Rattle.ssh_review.specs.declared.finding.Finding.{Finding}
+use Rattle.ssh_findings.specs.declared.facts.Facts.{Facts}
+use Rattle.ssh_findings.specs.declared.finding.Finding.{Finding}
 use Rattle.ssh_review.specs.Dates.{moment_text}
 use Rattle.ssh_review.specs.Sentences.{finding_line}
 

@@ -9,7 +9,7 @@ use Rattle.ssh_review.specs.declared.counts.FileFault.{FileFault}
 use Rattle.ssh_review.specs.declared.counts.FileFault.TheVariants.{Unread, TooLong}
 use Rattle.ssh_review.specs.declared.counts.Reviewed.{Reviewed}
 use Rattle.ssh_review.specs.declared.counts.Total.{Total}
-use Rattle.ssh_review.specs.Asking.{Asking}
+use Rattle.ssh_findings.specs.Asking.{Asking}
 use Rattle.ssh_review.specs.Counting.{no_counts}
 use Rattle.ssh_review.specs.Lines.{counts_of, records_of}
 

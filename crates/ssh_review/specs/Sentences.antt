@@ -4,10 +4,10 @@ use Rattle.std.specs.Fmt.{decimal}
 use Rattle.ssh_options.specs.declared.cause.LineCause.{LineCause}
 use Rattle.ssh_options.specs.declared.cause.LineCause.TheVariants as cause
 use Rattle.ssh_print.specs.Codes.{line_codes}
-use Rattle.ssh_review.specs.declared.finding.Finding.{Finding}
-use Rattle.ssh_review.specs.declared.finding.Finding.TheVariants as finding
-use Rattle.ssh_review.specs.Codes.{code_text}
-use Rattle.ssh_review.specs.Findings.{code_of}
+use Rattle.ssh_findings.specs.declared.finding.Finding.{Finding}
+use Rattle.ssh_findings.specs.declared.finding.Finding.TheVariants as finding
+use Rattle.ssh_findings.specs.Codes.{code_text}
+use Rattle.ssh_findings.specs.Findings.{code_of}
 
 -- why a line cannot be read
 abbrev pub cause_text : LineCause → List ℕ

@@ -13,26 +13,12 @@
 //! ```
 #![tactic(auto)]
 
-mod asked;
-mod code;
 mod counts;
 mod date;
-mod entry_findings;
-mod facts;
-mod finding;
-mod held;
-mod laws;
 mod lines;
-mod list;
-mod moments;
 mod record;
 mod review;
 mod sentence;
-mod told;
 
-pub use asked::Asked;
-pub use code::Code;
 pub use counts::{Counts, FileFault, Reviewed, Total};
-pub use finding::Finding;
 pub use review::{push_total, review_auth, review_fault};
-pub use told::parse_codes;

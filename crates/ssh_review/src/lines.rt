@@ -5,7 +5,7 @@ ghost use Rattle.ssh_lines.specs.declared.entry.AuthLine.{AuthLine};
 ghost use Rattle.ssh_lines.specs.LineView.{line_seen};
 ghost use Rattle.ssh_text.specs.Text.{file_limit, lines_of, numbered};
 ghost use Rattle.ssh_keys.specs.PublicKey.{key_blob};
-ghost use Rattle.ssh_review.specs.Asking.{asking_of};
+ghost use Rattle.ssh_findings.specs.Asking.{asking_of};
 ghost use Rattle.ssh_review.specs.Lines.{
   counts_of,
   held_of,
@@ -15,13 +15,9 @@ ghost use Rattle.ssh_review.specs.Lines.{
   records_of,
 };
 
-use crate::asked::Asked;
 use crate::counts::Counts;
-use crate::entry_findings::{entry_findings, tell};
-use crate::facts::Facts;
-use crate::finding::Finding;
-use crate::held::Held;
 use crate::record::{push_entry, push_place, push_unreadable};
+use ssh_findings::{Asked, Facts, Finding, Held, entry_findings, unreadable_findings};
 use ssh_lines::{AuthEntryView, AuthLineView, KeyBuffer, read_auth_view};
 use ssh_options::LineCause;
 use ssh_text::{Bytes, Lines};
@@ -79,20 +75,6 @@ fn push_entry_line(
         unreadable: 0,
         findings,
     })
-}
-
-/// What is found of a line that cannot be read.
-fn unreadable_findings(
-    alloc: Global,
-    asked: &Asked<'_>,
-    cause: LineCause,
-) -> Result<Vec<Finding>, AllocError>
-    ensures { IfOk result (λ found.
-        found.items ≡ line_findings (asking_of asked.entry.now) [] (AuthLine.Unreadable cause)) }
-{
-    let mut found = Vec::new(alloc);
-    tell(&mut found, asked, true, Finding::Unreadable(cause))?;
-    Ok(found)
 }
 
 /// The record of a line that cannot be read, and how many findings it has.

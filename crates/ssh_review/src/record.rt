@@ -23,9 +23,8 @@ ghost use Rattle.ssh_review.specs.Records.{
 ghost use Rattle.ssh_review.specs.Sentences.{finding_line};
 
 use crate::date::moment_text;
-use crate::facts::Facts;
-use crate::finding::Finding;
 use crate::sentence::push_finding;
+use ssh_findings::{Facts, Finding};
 use ssh_print::{push_escaped, push_number, push_text_line, push_word_line};
 use ssh_rights::{Carried, CarriedName, Rights};
 use ssh_text::Bytes;

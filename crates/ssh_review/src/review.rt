@@ -3,7 +3,7 @@
 ghost use Rattle.std.specs.Prelude.{◌≡◌, ◌++◌, ◌≤◌, IfOk, OnOk, length};
 ghost use Rattle.std.specs.Fmt.{decimal};
 ghost use Rattle.ssh_text.specs.Text.{file_limit};
-ghost use Rattle.ssh_review.specs.Asking.{asking_of};
+ghost use Rattle.ssh_findings.specs.Asking.{asking_of};
 ghost use Rattle.ssh_review.specs.Reviews.{
   auth_review,
   count_text,
@@ -16,10 +16,10 @@ ghost use Rattle.ssh_review.specs.Reviews.{
   whole_review,
 };
 
-use crate::asked::Asked;
 use crate::counts::{Counts, FileFault, Reviewed, Total};
 use crate::lines::push_lines;
 use sha2::{Digest, Sha256};
+use ssh_findings::Asked;
 use ssh_print::{push_escaped, push_hex, push_number};
 use ssh_text::FILE_LIMIT;
 use std::alloc::{AllocError, Global};

@@ -11,7 +11,7 @@ ghost use Rattle.ssh_review.specs.Sentences.{
   sentence_of,
 };
 
-use crate::finding::Finding;
+use ssh_findings::Finding;
 use ssh_options::LineCause;
 use ssh_print::{push_line_codes, push_number};
 use std::alloc::{AllocError, Global};

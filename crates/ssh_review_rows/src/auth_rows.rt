@@ -1,7 +1,8 @@
 //! A worked review, byte for byte.
 
 use jiff::tz::TimeZone;
-use ssh_review::{Asked, Code, review_auth};
+use ssh_findings::{Asked, Code};
+use ssh_review::review_auth;
 use std::test::Fail;
 
 const FILE: &[u8] = b"# web1, account ann\n\

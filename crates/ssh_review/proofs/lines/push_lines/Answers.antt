@@ -1,5 +1,5 @@
 use Rattle.ssh_text.specs.Text.{lines_of, numbered}
-use Rattle.ssh_review.specs.Asking.{asking_of}
+use Rattle.ssh_findings.specs.Asking.{asking_of}
 use Rattle.ssh_review.proofs.LineLemmas.{Fits, told_fits}
 use Rattle.ssh_review.proofs.lines.push_lines.Goals as goal
 

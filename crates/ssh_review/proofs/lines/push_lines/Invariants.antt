@@ -1,6 +1,6 @@
 use Rattle.std.proofs.Common.{◌≡◌, ◌++◌, []}
 use Rattle.ssh_text.specs.Text.{lines_of, numbered}
-use Rattle.ssh_review.specs.Asking.{asking_of}
+use Rattle.ssh_findings.specs.Asking.{asking_of}
 use Rattle.ssh_review.specs.Counting.{plus}
 use Rattle.ssh_review.specs.Lines.{counts_of, records_of}
 use Rattle.ssh_review.proofs.lines.push_lines.Given as goal

@@ -1,0 +1,145 @@
+-- Who is let in by a line is let in by an earlier one of the same key that is free; and a bad list lets nobody in.
+use Rattle.std.proofs.Common.{◌≡◌, ◌∙◌, ◌==◌, ◌||◌, ◌&&◌, ◌<◌, ℕ, zero, suc, Bool, true, false, not, List, [], ◌∷◌, Option, Some, None, length, ap, sym, refl, subst, arith}
+use Rattle.std.specs.Prelude.{is_some}
+use Rattle.std.specs.List.{AllByRecursion, list_any, slice_index_or}
+use Rattle.std.proofs.lemmas.Bool.{and_parts, ne_eqb}
+use Rattle.jiff.specs.Types.{TimeZone}
+use Rattle.ssh_keys.specs.PublicKey.{PublicKey}
+use Rattle.ssh_certs.specs.Certificate.{Certificate}
+use Rattle.ssh_options.specs.declared.option.ValueName.TheVariants.{Command, ExpiryTime, From, Principals}
+use Rattle.ssh_options.specs.Settings.{first_of, setting, settings}
+use Rattle.ssh_lines.specs.AuthEntry.{AuthEntry}
+use Rattle.ssh_offers.specs.Offer.{Offer, OfCertificate, certified, is_certified, plain}
+use Rattle.ssh_offers.specs.Query.{Login}
+use Rattle.ssh_offers.specs.LoginClaim.{LoginClaim}
+use Rattle.ssh_patterns.specs.Lists.{pieces}
+use Rattle.ssh_patterns.specs.declared.permit.Permit.TheVariants.{Yes}
+use Rattle.ssh_patterns.specs.declared.address.Address.{Address}
+use Rattle.ssh_rights.specs.Rights.{command_of, rights_of}
+use Rattle.ssh_rules.specs.Admission.{AdmitsLogin, CriticalMet, IsUnexpired, IsUserInForce, is_authority, source_by}
+use Rattle.ssh_rules.specs.CertificateForce.{InForce, Serves, user_certificate}
+use Rattle.ssh_findings.specs.Earlier.{is_free}
+use Rattle.ssh_findings.specs.EntryFindings.{has_name_in, names_nobody, permits_bad}
+use Rattle.ssh_findings.specs.Facts.{facts_of}
+use Rattle.ssh_findings.specs.Lists.{says_name}
+use Rattle.ssh_findings.specs.Shadows.{IsFree, IsSame}
+use Rattle.ssh_findings.proofs.ListLemmas.{bad_always}
+
+-- ---- what a later line admits, an earlier one that is free admits
+
+force : (e d : AuthEntry) (q : Login) (offer : Offer) → IsSame e d → IsFree d
+    → (is_authority e ≡ true → setting Principals e.options ≡ None) → is_authority d ≡ is_certified offer
+    → OfCertificate (IsUserInForce e q) offer → OfCertificate (IsUserInForce d q) offer
+force e d q (plain key) same free none role f = tt
+force e d q (certified c) same free none role f =
+    let P : Option (List ℕ) → Type 0 = λ list. InForce user_certificate q.now q.empty_principals list q.user c in
+    subst P (none (same.authority ∙ role) ∙ sym (free.principals role)) f
+
+met : (e d : AuthEntry) (address : Address) (offer : Offer) → IsFree d → is_authority d ≡ is_certified offer
+    → OfCertificate (CriticalMet e address) offer → OfCertificate (CriticalMet d address) offer
+met e d address (plain key) free role m = tt
+met e d address (certified c) free role m = record {
+  known = m.known;
+  once = m.once;
+  formed = m.formed;
+  source = m.source;
+  command = λ line own h k. let bad : None ≡ Some line = sym (free.command role) ∙ h in cc;
+}
+
+pub shadowed : (e d : AuthEntry) (claim : LoginClaim) → IsSame e d → IsFree d
+    → (is_authority e ≡ true → setting Principals e.options ≡ None) → AdmitsLogin e claim → AdmitsLogin d claim
+shadowed e d claim same free none a =
+    let P : List (List ℕ) → Type 0 = λ texts. AllByRecursion (IsUnexpired claim.query) texts in
+    let role : is_authority d ≡ is_certified claim.offer = sym same.authority ∙ a.role in
+    record {
+      key = sym same.key ∙ a.key;
+      role = role;
+      unexpired = subst P (sym free.time) tt;
+      source = ap (λ list. source_by list claim.query) free.source;
+      in_force = force e d claim.query claim.offer same free none role a.in_force;
+      critical = met e d claim.address claim.offer free role a.critical;
+      sizes = a.sizes;
+    }
+
+-- ---- what is tested of a line is that it is free
+
+not-on : (b : Bool) → not b ≡ true → b ≡ false
+not-on true h = cc
+not-on false h = refl
+
+or-off : (a b : Bool) → (a || b) ≡ false → (a ≡ false) × (b ≡ false)
+or-off true b h = cc
+or-off false b h = (refl, h)
+
+and-off : (a b : Bool) → (a && b) ≡ false → a ≡ true → b ≡ false
+and-off true b h e = h
+and-off false b h e = cc
+
+none-some : (o : Option (List ℕ)) → is_some o ≡ false → o ≡ None
+none-some None h = refl
+none-some (Some text) h = cc
+
+no-texts : (texts : List (List ℕ)) → is_some (first_of texts) ≡ false → texts ≡ []
+no-texts [] h = refl
+no-texts (text ∷ texts) h = cc
+
+own-command : (o : Option (List ℕ)) (key : PublicKey) → command_of o (plain key) ≡ o
+own-command None key = refl
+own-command (Some text) key = refl
+
+pub free : (zone : TimeZone) (d : AuthEntry) → is_free (facts_of zone d) ≡ true → IsFree d
+unfolding facts_of rights_of
+free zone d h =
+    let command = command_of (setting Command d.options) (plain d.key) in
+    let first = and_parts (not (is_some (setting From d.options)) && not (is_some (setting ExpiryTime d.options)))
+    (not (is_authority d && (is_some command || is_some (setting Principals d.options)))) h in
+    let second = and_parts (not (is_some (setting From d.options))) (not (is_some (setting ExpiryTime d.options))) first.0 in
+    let rest : is_authority d ≡ true → (is_some command || is_some (setting Principals d.options)) ≡ false =
+    λ e. and-off (is_authority d) _ (not-on _ first.1) e in
+    record {
+      source = none-some (setting From d.options) (not-on _ second.0);
+      time = no-texts (settings ExpiryTime d.options) (not-on _ second.1);
+      command = λ e. sym (own-command (setting Command d.options) d.key) ∙ none-some command (or-off _ _ (rest e)).0;
+      principals = λ e. none-some (setting Principals d.options) (or-off (is_some command) _ (rest e)).1;
+    }
+
+-- ---- a bad list lets nobody in
+
+bad-source : (list : Option (List ℕ)) (q : Login) → permits_bad list ≡ true → source_by list q ≡ Yes → ⊥
+bad-source None q h e = cc
+bad-source (Some list) q h e = let bad : true ≡ false = bad_always list q.host q.address h e in cc
+
+pub no_sources : (zone : TimeZone) (e : AuthEntry) (claim : LoginClaim) → permits_bad (facts_of zone e).from ≡ true → AdmitsLogin e claim → ⊥
+unfolding facts_of
+no_sources zone e claim h a = bad-source (setting From e.options) claim.query h a.source
+
+empty-name : (name : List ℕ) → says_name name ≡ false → name ≡ []
+empty-name [] h = refl
+empty-name (c ∷ cs) h =
+    let off : (length (c ∷ cs) == 0) ≡ false = ne_eqb _ _ (λ e. omega arith) in
+    let bad : not false ≡ false = rw off at h in
+    cc
+
+none-named : (names : List (List ℕ)) (name : List ℕ) (k : ℕ) → list_any says_name names ≡ false → k < length names
+    → slice_index_or names k name ≡ name → name ≡ []
+none-named [] name k h below same = absurd (omega arith)
+none-named (first ∷ names) name zero h below same = sym same ∙ empty-name first (or-off _ _ h).0
+none-named (first ∷ names) name (suc k) h below same = none-named names name k (or-off (says_name first) _ h).1 (omega arith) same
+
+serves-nobody : (list : Option (List ℕ)) (q : Login) (c : Certificate) → is_some list ≡ true → has_name_in list ≡ false
+    → Serves q.empty_principals list q.user c → ⊥
+serves-nobody None q c some h s = cc
+serves-nobody (Some list) q c some h s = s.2 (none-named (pieces list) s.0 (s.1).0 h (s.1).1 (s.1).2)
+
+offers-nobody : (e : AuthEntry) (q : Login) (offer : Offer) → is_authority e ≡ true → is_some (setting Principals e.options) ≡ true
+    → has_name_in (setting Principals e.options) ≡ false → is_authority e ≡ is_certified offer
+    → OfCertificate (IsUserInForce e q) offer → ⊥
+offers-nobody e q (plain key) on some h role f = let bad : true ≡ false = sym on ∙ role in cc
+offers-nobody e q (certified c) on some h role f = serves-nobody (setting Principals e.options) q c some h f.principal
+
+pub no_principals : (zone : TimeZone) (e : AuthEntry) (claim : LoginClaim) → names_nobody (facts_of zone e) ≡ true → AdmitsLogin e claim → ⊥
+unfolding facts_of
+no_principals zone e claim h a =
+    let first = and_parts (is_authority e && is_some (setting Principals e.options)) (not (has_name_in (setting Principals e.options))) h in
+    let second = and_parts (is_authority e) (is_some (setting Principals e.options)) first.0 in
+    offers-nobody e claim.query claim.offer second.0 second.1 (not-on _ first.1) a.role a.in_force

@@ -1,0 +1,34 @@
+-- The size of an RSA key is the least count of binary digits that its modulus fits in.
+use Rattle.std.proofs.Common.{◌≡◌, ℕ, zero, suc, ◌+◌, ◌^◌, ◌<◌, ◌≤◌, nat_lt, Bool, true, false, Option, Some, None, refl, sym, ap, arith, inl, inr, lit<}
+use Rattle.std.proofs.lemmas.Bool.{ltb-true, ltb-false}
+use Rattle.std.proofs.Math.Nat.{eq-or-lt_of_le, pow-suc}
+use Rattle.ssh_keys.specs.PublicKey.{PublicKey, rsa, p256, p384, p521, ed25519, sk_p256, sk_ed25519}
+use Rattle.ssh_keys.specs.Fingerprint.{IsBitCount, IsRsaSize}
+use Rattle.ssh_findings.specs.Facts.{count_from, rsa_size}
+
+below-power : (n : ℕ) → n < 2 ^ n
+below-power zero = lit< tt
+below-power (suc n) = omega (arith, below-power n, pow-suc 2 n)
+
+-- where the number does not fit in so many digits, the least count is larger
+above : (n bits b : ℕ) → bits ≤ b → 2 ^ bits ≤ n → n < 2 ^ b → bits + 1 ≤ b
+above n bits b low few fits = elim (eq-or-lt_of_le low) [ inl same ↦ absurd (omega (arith, rw same at few)) | inr less ↦ omega (arith, less) ]
+
+count-is : (tries bits n b : ℕ) → IsBitCount n b → bits ≤ b → b ≤ bits + tries → count_from tries bits n ≡ b
+unfolding count_from
+count-is zero bits n b is low high = omega arith
+count-is (suc tries) bits n b is low high = go (nat_lt n (2 ^ bits)) refl (λ next. count-is tries (bits + 1) n b is next (omega arith))
+  where
+    go : (t : Bool) → nat_lt n (2 ^ bits) ≡ t → (bits + 1 ≤ b → count_from tries (bits + 1) n ≡ b) → elim t [ true ↦ bits | false ↦ count_from tries (bits + 1) n ] ≡ b
+    go true e rest = let least : b ≤ bits = is.least bits (ltb-true n (2 ^ bits) e) in omega arith
+    go false e rest = rest (above n bits b low (ltb-false n (2 ^ bits) e) is.fits)
+
+pub size_is : (key : PublicKey) (size : Option ℕ) → IsRsaSize key size → size ≡ rsa_size key
+size_is (rsa e n) (Some bits) is = ap (λ b. Some b) (sym (count-is n 0 n bits is (omega arith) (omega (arith, is.least n (below-power n)))))
+size_is (rsa e n) None is = absurd is
+size_is (p256 point) size is = is
+size_is (p384 point) size is = is
+size_is (p521 point) size is = is
+size_is (ed25519 public) size is = is
+size_is (sk_p256 point application) size is = is
+size_is (sk_ed25519 public application) size is = is

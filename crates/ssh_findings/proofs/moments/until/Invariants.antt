@@ -1,0 +1,11 @@
+use Rattle.std.proofs.Common.{◌≡◌}
+use Rattle.jiff.specs.Words.{plain_zone}
+use Rattle.ssh_options.specs.declared.option.ValueName.TheVariants.{ExpiryTime}
+use Rattle.ssh_options.specs.Settings.{settings}
+use Rattle.ssh_findings.specs.Moments.{least_of, until}
+use Rattle.ssh_findings.proofs.moments.until.Given as goal
+
+abbrev pub invariant-loop-value : goal.invariant-loop-value
+invariant-loop-value l =
+    (goal.iterator-loop-value).can_next l.value-iterator × (goal.iterator-loop-value).is_finite l.value-iterator
+    × (least_of (plain_zone l.zone) l.least l.value-iterator ≡ until (plain_zone l.zone) (settings ExpiryTime l.entry.options))

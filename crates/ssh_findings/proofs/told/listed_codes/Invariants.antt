@@ -1,0 +1,10 @@
+use Rattle.std.proofs.Common.{◌≡◌, option_copied}
+use Rattle.ssh_patterns.specs.Lists.{length_left, pieces_left}
+use Rattle.ssh_findings.specs.Codes.{codes_from, listed_codes}
+use Rattle.ssh_findings.proofs.told.listed_codes.Given as goal
+
+abbrev pub invariant-loop-rest : goal.invariant-loop-rest
+invariant-loop-rest l = codes_from l.found.items (pieces_left (option_copied l.rest)) ≡ listed_codes l.text
+
+abbrev pub decreases-loop-rest : goal.decreases-loop-rest
+decreases-loop-rest l = length_left (option_copied l.rest)

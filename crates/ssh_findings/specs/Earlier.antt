@@ -1,0 +1,84 @@
+-- What the entries of earlier lines make of a later one (sshd(8): the first line that admits decides).
+use Rattle.std.specs.Prelude.{ℕ, Bool, true, false, not, ◌&&◌, ◌||◌, if◌then◌else◌, List, bytes_eq, find, Option, Some, None, is_some}
+use Rattle.std.specs.List.{list_any}
+use Rattle.ssh_rights.specs.declared.rights.Carried.{Carried}
+use Rattle.ssh_rights.specs.declared.rights.CarriedName.{CarriedName}
+use Rattle.ssh_rights.specs.declared.rights.CarriedName.TheVariants as carried
+use Rattle.ssh_rights.specs.declared.rights.Rights.{Rights}
+use Rattle.ssh_findings.specs.declared.facts.Facts.{Facts}
+use Rattle.ssh_findings.specs.declared.finding.Finding.{Finding}
+use Rattle.ssh_findings.specs.declared.finding.Finding.TheVariants as finding
+use Rattle.ssh_findings.specs.declared.held.Held.{Held}
+
+-- an entry of the same key, and an authority where that is asked
+abbrev pub is_same : List ℕ → Bool → Held → Bool
+is_same blob is_authority d =
+    bytes_eq d.blob blob && (if is_authority then d.facts.is_authority else not d.facts.is_authority)
+
+-- an entry lets its key in whenever, from wherever, and an authority for whatever command and for whomever it may be
+abbrev pub is_free : Facts → Bool
+is_free f =
+    not (is_some f.from) && not f.has_expiry && not (f.is_authority && (is_some f.rights.command || is_some f.principals))
+
+-- The first earlier entry that lets the key in, whatever this line says. A list of principals may let in others.
+unfoldable pub shadow : List Held → List ℕ → Facts → Option Held
+shadow earlier blob f =
+    if f.is_authority && is_some f.principals then None
+    else find (λ d. is_same blob f.is_authority d && is_free d.facts) earlier
+
+-- a command is forced, and another line forces none or another
+abbrev pub has_other_command : Option (List ℕ) → Option (List ℕ) → Bool
+has_other_command None other = false
+has_other_command (Some command) None = true
+has_other_command (Some command) (Some other) = not (bytes_eq command other)
+
+-- some right is off that is on in the other
+abbrev pub loses_right : Rights → Rights → Bool
+loses_right r other =
+    (other.port && not r.port) || ((other.agent && not r.agent) || ((other.x11 && not r.x11)
+    || ((other.pty && not r.pty) || (other.user_rc && not r.user_rc))))
+
+abbrev pub is_open_name : CarriedName → Bool
+is_open_name carried.Environment = false
+is_open_name carried.PermitListen = false
+is_open_name carried.PermitOpen = true
+is_open_name carried.Tunnel = false
+
+abbrev pub is_listen_name : CarriedName → Bool
+is_listen_name carried.Environment = false
+is_listen_name carried.PermitListen = true
+is_listen_name carried.PermitOpen = false
+is_listen_name carried.Tunnel = false
+
+abbrev pub is_open : Carried → Bool
+is_open c = is_open_name c.name
+
+abbrev pub is_listen : Carried → Bool
+is_listen c = is_listen_name c.name
+
+-- `permitopen`, and `permitlisten`, stand on a line
+abbrev pub has_open : List Carried → Bool
+has_open texts = list_any is_open texts
+
+abbrev pub has_listen : List Carried → Bool
+has_listen texts = list_any is_listen texts
+
+-- an entry gives less than another of the same key
+unfoldable pub is_narrower : Facts → Facts → Bool
+is_narrower f other =
+    is_some f.from || (f.has_expiry || (has_other_command f.rights.command other.rights.command
+    || (loses_right f.rights other.rights || ((f.verify_required && not other.verify_required)
+    || ((other.no_touch_required && not f.no_touch_required)
+    || ((has_open f.rights.carried && not (has_open other.rights.carried))
+    || (has_listen f.rights.carried && not (has_listen other.rights.carried))))))))
+
+-- what the first entry of the same key, and the one that lets it in first, make of an entry
+abbrev pub repeat_of : Option Held → Option Held → Facts → Option Finding
+repeat_of None free f = None
+repeat_of (Some first) None f = Some (finding.SameKey first.line)
+repeat_of (Some first) (Some free) f =
+    if is_narrower f free.facts then Some (finding.GivesMore free.line) else Some (finding.NeverDecides free.line)
+
+-- F2 to F4: what earlier entries make of an entry with this blob
+unfoldable pub repeat_after : List Held → List ℕ → Facts → Option Finding
+repeat_after earlier blob f = repeat_of (find (λ d. is_same blob f.is_authority d) earlier) (shadow earlier blob f) f

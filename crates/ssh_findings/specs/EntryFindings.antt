@@ -1,0 +1,103 @@
+-- What is found of an entry, in the order of the codes (this project's rule; F8 by what OpenSSH was seen to do).
+use Rattle.std.specs.Prelude.{ℕ, Bool, true, false, not, ◌&&◌, ◌||◌, ◌==◌, nat_lt, if◌then◌else◌, List, [], ◌∷◌, ◌++◌, length, Option, Some, None, is_some}
+use Rattle.ssh_keys.specs.declared.kind.KeyKind.{KeyKind}
+use Rattle.ssh_keys.specs.declared.kind.KeyKind.TheVariants as kind
+use Rattle.ssh_options.specs.declared.cause.LineCause.{LineCause}
+use Rattle.ssh_rights.specs.declared.rights.Rights.{Rights}
+use Rattle.ssh_findings.specs.declared.facts.Facts.{Facts}
+use Rattle.ssh_findings.specs.declared.finding.Finding.{Finding}
+use Rattle.ssh_findings.specs.declared.finding.Finding.TheVariants as finding
+use Rattle.ssh_findings.specs.Asking.{Asking, is_told}
+use Rattle.ssh_findings.specs.declared.held.Held.{Held}
+use Rattle.ssh_findings.specs.Earlier.{repeat_after}
+use Rattle.ssh_findings.specs.Findings.{code_of}
+use Rattle.ssh_findings.specs.Lists.{has_empty_name, has_name, is_bad_list, is_for_any_address}
+use Rattle.ssh_findings.specs.Moments.{is_past}
+
+-- a finding, where it holds and its code is told
+unfoldable pub told_if : Asking → Bool → Finding → List Finding
+told_if asking holds f = if holds && is_told asking (code_of f) then f ∷ [] else []
+
+-- F5: an RSA key with fewer bits than are asked for
+abbrev pub short_findings : Asking → Option ℕ → List Finding
+short_findings asking None = []
+short_findings asking (Some bits) = told_if asking (nat_lt bits asking.rsa_minimum) (finding.ShortKey bits)
+
+-- a `from` list that permits nobody
+abbrev pub permits_bad : Option (List ℕ) → Bool
+permits_bad None = false
+permits_bad (Some list) = is_bad_list list
+
+-- a `principals` list with a name, and with an empty one
+abbrev pub has_name_in : Option (List ℕ) → Bool
+has_name_in None = false
+has_name_in (Some list) = has_name list
+
+abbrev pub has_empty_in : Option (List ℕ) → Bool
+has_empty_in None = false
+has_empty_in (Some list) = has_empty_name list
+
+-- an authority with a `principals` list that permits nobody
+abbrev pub names_nobody : Facts → Bool
+names_nobody f = f.is_authority && is_some f.principals && not (has_name_in f.principals)
+
+-- F5 to F7: a short key; an expiry time that is past; a list that permits nobody
+abbrev pub condition_findings : Asking → Facts → List Finding
+condition_findings asking f =
+    short_findings asking f.bits
+    ++ told_if asking (is_past asking.now f.until) finding.Expired
+    ++ told_if asking (permits_bad f.from) finding.BadSources
+    ++ told_if asking (names_nobody f) finding.NoPrincipal
+
+abbrev pub is_security_key : KeyKind → Bool
+is_security_key kind.Rsa = false
+is_security_key kind.P256 = false
+is_security_key kind.P384 = false
+is_security_key kind.P521 = false
+is_security_key kind.Ed25519 = false
+is_security_key kind.SkP256 = true
+is_security_key kind.SkEd25519 = true
+
+-- F8: `principals` of a plain key; an empty name among others; `verify-required` of a key that cannot; a time without `Z`
+abbrev pub reading_findings : Asking → Facts → List Finding
+reading_findings asking f =
+    told_if asking (not f.is_authority && is_some f.principals) finding.PlainPrincipals
+    ++ told_if asking (f.is_authority && has_empty_in f.principals && has_name_in f.principals) finding.EmptyPrincipal
+    ++ told_if asking (not f.is_authority && f.verify_required && not (is_security_key f.kind)) finding.VerifyIgnored
+    ++ told_if asking f.has_local_time finding.LocalTime
+
+-- F9: a command is forced, and TCP, the agent or X11 may be forwarded
+abbrev pub forces_but_forwards : Rights → Bool
+forces_but_forwards r = is_some r.command && (r.port || (r.agent || r.x11))
+
+-- no `from` list, or one that permits any address
+abbrev pub permits_any : Option (List ℕ) → Bool
+permits_any None = true
+permits_any (Some list) = is_for_any_address list
+
+-- F15 to F19: from any address; any command; for ever; for any principal; no comment
+abbrev pub policy_findings : Asking → Facts → List Finding
+policy_findings asking f =
+    told_if asking (not f.is_authority && permits_any f.from) finding.AnyAddress
+    ++ told_if asking (not f.is_authority && not (is_some f.rights.command)) finding.AnyCommand
+    ++ told_if asking (not f.is_authority && not f.has_expiry) finding.NoExpiry
+    ++ told_if asking (f.is_authority && not (is_some f.principals)) finding.AnyPrincipal
+    ++ told_if asking (length f.comment == 0) finding.NoComment
+
+-- a finding of what stands on earlier lines, if there is one
+abbrev pub repeat_findings : Asking → Option Finding → List Finding
+repeat_findings asking None = []
+repeat_findings asking (Some f) = told_if asking true f
+
+-- what is found of an entry with this blob, after these entries, and told
+unfoldable pub entry_findings : Asking → List Held → List ℕ → Facts → List Finding
+entry_findings asking earlier blob f =
+    repeat_findings asking (repeat_after earlier blob f)
+    ++ condition_findings asking f
+    ++ reading_findings asking f
+    ++ told_if asking (not f.is_authority && forces_but_forwards f.rights) finding.ForcedButForwards
+    ++ policy_findings asking f
+
+-- what is found of a line that cannot be read and told: F1
+abbrev pub unreadable_findings : Asking → LineCause → List Finding
+unreadable_findings asking cause = told_if asking true (finding.Unreadable cause)

@@ -1,0 +1,9 @@
+pub mod Codes
+pub mod Asking
+pub mod Lists
+pub mod Moments
+pub mod Facts
+pub mod Findings
+pub mod Shadows
+pub mod Earlier
+pub mod EntryFindings

@@ -1,0 +1,240 @@
+//! What is found of an entry, each in its place.
+
+ghost use Rattle.std.specs.Prelude.{◌≡◌, ◌++◌, IfOk, OnOk};
+ghost use Rattle.ssh_findings.specs.Asking.{asking_of};
+ghost use Rattle.ssh_findings.specs.EntryFindings.{
+  condition_findings,
+  entry_findings,
+  forces_but_forwards,
+  has_empty_in,
+  has_name_in,
+  is_security_key,
+  permits_bad,
+  permits_any,
+  policy_findings,
+  reading_findings,
+  repeat_findings,
+  short_findings,
+  told_if,
+  unreadable_findings,
+};
+
+use crate::asked::Asked;
+use crate::facts::Facts;
+use crate::finding::Finding;
+use crate::held::{Held, repeat_after};
+use crate::list::{Pieces, is_bad_list};
+use crate::moments::is_past;
+use ssh_keys::KeyKind;
+use ssh_options::LineCause;
+use ssh_rights::Rights;
+use ssh_text::Bytes;
+use std::alloc::{AllocError, Global};
+
+/// Adds a finding, where it holds and is to be told.
+#[tactic(auto, unfolding(crate::specs::EntryFindings::told_if))]
+fn tell(
+    found: &mut Vec<Finding>,
+    asked: &Asked<'_>,
+    holds: bool,
+    finding: Finding,
+) -> Result<(), AllocError>
+    ensures { OnOk result
+        (found.new.items ≡ found.old.items ++ told_if (asking_of asked.entry.now) holds finding) }
+{
+    if holds && asked.tells(finding.code()) {
+        found.push(finding)?;
+    }
+    Ok(())
+}
+
+/// F2 to F4.
+fn tell_repeat(
+    found: &mut Vec<Finding>,
+    asked: &Asked<'_>,
+    repeat: Option<Finding>,
+) -> Result<(), AllocError>
+    ensures { OnOk result
+        (found.new.items ≡ found.old.items ++ repeat_findings (asking_of asked.entry.now) repeat) }
+{
+    match repeat {
+        Some(finding) => tell(found, asked, true, finding),
+        None => Ok(()),
+    }
+}
+
+/// F5.
+fn tell_short(
+    found: &mut Vec<Finding>,
+    asked: &Asked<'_>,
+    bits: Option<u32>,
+) -> Result<(), AllocError>
+    ensures { OnOk result
+        (found.new.items ≡ found.old.items ++ short_findings (asking_of asked.entry.now) bits) }
+{
+    match bits {
+        Some(bits) => tell(
+            found,
+            asked,
+            bits < asked.rsa_minimum,
+            Finding::ShortKey(bits),
+        ),
+        None => Ok(()),
+    }
+}
+
+/// Whether a `from` list permits nobody.
+fn permits_bad(list: &Option<Bytes>) -> bool
+    ensures { result ≡ permits_bad list.now }
+{
+    match list {
+        Some(list) => is_bad_list(list.as_slice()),
+        None => false,
+    }
+}
+
+/// Whether a `principals` list has a name, and whether it has an empty one.
+fn names_of(list: &Option<Bytes>) -> (bool, bool)
+    ensures name { result.0 ≡ has_name_in list.now }
+    ensures empty { result.1 ≡ has_empty_in list.now }
+{
+    match list {
+        Some(list) => {
+            let pieces = Pieces::of(list.as_slice());
+            (pieces.has_name, pieces.has_empty)
+        }
+        None => (false, false),
+    }
+}
+
+/// F5 to F7: what keeps the key out, or should.
+fn tell_conditions(
+    found: &mut Vec<Finding>,
+    asked: &Asked<'_>,
+    facts: &Facts,
+) -> Result<(), AllocError>
+    ensures { OnOk result (found.new.items ≡ found.old.items
+        ++ condition_findings (asking_of asked.entry.now) facts.now) }
+{
+    let (has_name, _) = names_of(&facts.principals);
+    let nobody = facts.is_authority && facts.principals.is_some() && !has_name;
+    tell_short(found, asked, facts.bits)?;
+    tell(
+        found,
+        asked,
+        is_past(asked.now, facts.until),
+        Finding::Expired,
+    )?;
+    tell(found, asked, permits_bad(&facts.from), Finding::BadSources)?;
+    tell(found, asked, nobody, Finding::NoPrincipal)?;
+    Ok(())
+}
+
+fn is_security_key(kind: KeyKind) -> bool
+    ensures { result ≡ is_security_key kind }
+{
+    matches!(kind, KeyKind::SkP256 | KeyKind::SkEd25519)
+}
+
+/// F8: what OpenSSH reads otherwise.
+fn tell_readings(
+    found: &mut Vec<Finding>,
+    asked: &Asked<'_>,
+    facts: &Facts,
+) -> Result<(), AllocError>
+    ensures { OnOk result (found.new.items ≡ found.old.items
+        ++ reading_findings (asking_of asked.entry.now) facts.now) }
+{
+    let (has_name, has_empty) = names_of(&facts.principals);
+    let plain = !facts.is_authority && facts.principals.is_some();
+    let empty = facts.is_authority && has_empty && has_name;
+    let ignored = !facts.is_authority && facts.verify_required && !is_security_key(facts.kind);
+    tell(found, asked, plain, Finding::PlainPrincipals)?;
+    tell(found, asked, empty, Finding::EmptyPrincipal)?;
+    tell(found, asked, ignored, Finding::VerifyIgnored)?;
+    tell(found, asked, facts.has_local_time, Finding::LocalTime)?;
+    Ok(())
+}
+
+/// Whether a command is forced, and the line may still forward.
+fn forces_but_forwards(rights: &Rights) -> bool
+    ensures { result ≡ forces_but_forwards rights.now }
+{
+    rights.command.is_some() && (rights.port || rights.agent || rights.x11)
+}
+
+/// Whether a login may come from any address: no list, or one that permits any.
+fn permits_any(list: &Option<Bytes>) -> bool
+    ensures { result ≡ permits_any list.now }
+{
+    match list {
+        Some(list) => {
+            let pieces = Pieces::of(list.as_slice());
+            pieces.has_stars && !pieces.has_bang
+        }
+        None => true,
+    }
+}
+
+/// F15 to F19: policy.
+fn tell_policy(found: &mut Vec<Finding>, asked: &Asked<'_>, facts: &Facts) -> Result<(), AllocError>
+    ensures { OnOk result (found.new.items ≡ found.old.items
+        ++ policy_findings (asking_of asked.entry.now) facts.now) }
+{
+    let plain = !facts.is_authority;
+    let any_command = plain && facts.rights.command.is_none();
+    let any_principal = facts.is_authority && facts.principals.is_none();
+    tell(
+        found,
+        asked,
+        plain && permits_any(&facts.from),
+        Finding::AnyAddress,
+    )?;
+    tell(found, asked, any_command, Finding::AnyCommand)?;
+    tell(found, asked, plain && !facts.has_expiry, Finding::NoExpiry)?;
+    tell(found, asked, any_principal, Finding::AnyPrincipal)?;
+    tell(
+        found,
+        asked,
+        facts.comment.as_slice().is_empty(),
+        Finding::NoComment,
+    )?;
+    Ok(())
+}
+
+/// What is found of an entry with this blob, after these entries of earlier lines, and told, in the
+/// order of the codes. `Err` is out of memory.
+#[tactic(auto, unfolding(crate::specs::EntryFindings::entry_findings))]
+pub fn entry_findings(
+    alloc: Global,
+    asked: &Asked<'_>,
+    earlier: &[Held],
+    blob: &[u8],
+    facts: &Facts,
+) -> Result<Vec<Finding>, AllocError>
+    ensures { IfOk result
+        (λ found. found.items ≡ entry_findings (asking_of asked.entry.now) earlier.now blob.now facts.now) }
+{
+    let mut found = Vec::new(alloc);
+    let forces = !facts.is_authority && forces_but_forwards(&facts.rights);
+    tell_repeat(&mut found, asked, repeat_after(earlier, blob, facts))?;
+    tell_conditions(&mut found, asked, facts)?;
+    tell_readings(&mut found, asked, facts)?;
+    tell(&mut found, asked, forces, Finding::ForcedButForwards)?;
+    tell_policy(&mut found, asked, facts)?;
+    Ok(found)
+}
+
+/// What is found of a line that cannot be read, and told: F1. `Err` is out of memory.
+pub fn unreadable_findings(
+    alloc: Global,
+    asked: &Asked<'_>,
+    cause: LineCause,
+) -> Result<Vec<Finding>, AllocError>
+    ensures { IfOk result
+        (λ found. found.items ≡ unreadable_findings (asking_of asked.entry.now) cause) }
+{
+    let mut found = Vec::new(alloc);
+    tell(&mut found, asked, true, Finding::Unreadable(cause))?;
+    Ok(found)
+}

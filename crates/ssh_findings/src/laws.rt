@@ -1,0 +1,40 @@
+//! Laws of the definitions, each proved on a function without a body.
+
+ghost use Rattle.std.specs.Prelude.{◌≡◌, true, None};
+ghost use Rattle.jiff.specs.Types.{TimeZone};
+ghost use Rattle.ssh_options.specs.declared.option.ValueName.TheVariants.{Principals};
+ghost use Rattle.ssh_options.specs.Settings.{setting};
+ghost use Rattle.ssh_lines.specs.AuthEntry.{AuthEntry};
+ghost use Rattle.ssh_offers.specs.LoginClaim.{LoginClaim};
+ghost use Rattle.ssh_rules.specs.Admission.{AdmitsLogin, is_authority};
+ghost use Rattle.ssh_findings.specs.Earlier.{is_free};
+ghost use Rattle.ssh_findings.specs.EntryFindings.{names_nobody, permits_bad};
+ghost use Rattle.ssh_findings.specs.Facts.{facts_of};
+ghost use Rattle.ssh_findings.specs.Shadows.{IsFree, IsSame};
+
+/// A line that an earlier one of the same key lets in first never decides a login: whatever it
+/// admits, the earlier one admits.
+fn shadowed_rule()
+    // An earlier line that is free lets in all that a later one of the same key lets in, unless
+    // that one is an authority's with principals of its own.
+    ensures shadowed { (e d : AuthEntry) (claim : LoginClaim)
+        → IsSame e d
+        → IsFree d
+        → (is_authority e ≡ true → setting Principals e.options ≡ None)
+        → AdmitsLogin e claim
+        → AdmitsLogin d claim }
+    // What is tested of a line is that it is free.
+    ensures free { (zone : TimeZone) (d : AuthEntry)
+        → is_free (facts_of zone d) ≡ true
+        → IsFree d }
+{}
+
+/// A line of which F7 is found admits nobody.
+fn nobody_rule()
+    ensures sources { (zone : TimeZone) (e : AuthEntry) (claim : LoginClaim)
+        → permits_bad (facts_of zone e).from ≡ true
+        → ¬ AdmitsLogin e claim }
+    ensures principals { (zone : TimeZone) (e : AuthEntry) (claim : LoginClaim)
+        → names_nobody (facts_of zone e) ≡ true
+        → ¬ AdmitsLogin e claim }
+{}

@@ -1,0 +1,50 @@
+//! Lists of the codes of findings that are to be told.
+
+ghost use Rattle.std.specs.Prelude.{◌≡◌, [], IfOk, OnOk, ◌++◌, ◌∷◌, option_map};
+ghost use Rattle.ssh_findings.specs.Codes.{codes_in, listed_codes};
+
+use crate::code::Code;
+use ssh_patterns::first_piece;
+use std::alloc::{AllocError, Global};
+
+/// Adds a code.
+fn keep(found: &mut Vec<Code>, code: Code) -> Result<(), AllocError>
+    ensures { OnOk result (found.new.items ≡ found.old.items ++ code ∷ []) }
+{
+    found.push(code)?;
+    Ok(())
+}
+
+/// The codes between commas, if each piece is one.
+fn listed_codes(alloc: Global, text: &[u8]) -> Result<Option<Vec<Code>>, AllocError>
+    ensures { IfOk result (λ found. option_map (λ v. v.items) found ≡ listed_codes text.now) }
+{
+    let mut found = Vec::new(alloc);
+    let mut rest = Some(text);
+    while let Some(pieces) = rest {
+        let (piece, left) = first_piece(pieces);
+        match Code::named(piece) {
+            Some(code) => keep(&mut found, code)?,
+            None => return Ok(None),
+        }
+        rest = left;
+    }
+    Ok(Some(found))
+}
+
+/// The codes that a list of findings names: `all`, `none`, or codes joined by commas, in any order
+/// and repeated or not. Any other text, an empty one too, is no such list. `Err` is out of memory.
+#[tactic(auto, unfolding(crate::specs::Codes::codes_in))]
+pub fn parse_codes(alloc: Global, text: &[u8]) -> Result<Option<Vec<Code>>, AllocError>
+    ensures { IfOk result (λ found. option_map (λ v. v.items) found ≡ codes_in text.now) }
+{
+    if text == b"all".as_slice() {
+        let found = Vec::from_slice(alloc, &Code::ALL)?;
+        return Ok(Some(found));
+    }
+    if text == b"none".as_slice() {
+        return Ok(Some(Vec::new(alloc)));
+    }
+    let found = listed_codes(alloc, text)?;
+    Ok(found)
+}

@@ -1,6 +1,0 @@
-use Rattle.std.proofs.Common.{◌≡◌, drop}
-use Rattle.ssh_review.specs.Codes.{named_in}
-use Rattle.ssh_review.proofs.code.named_in.Given as goal
-
-abbrev pub invariant-loop-code : goal.invariant-loop-code
-invariant-loop-code l = named_in (drop l.code-index l.codes) l.text ≡ named_in l.codes l.text

@@ -1,6 +1,0 @@
-use Rattle.std.proofs.Common.{◌≡◌, drop}
-use Rattle.ssh_review.specs.Earlier.{has_open}
-use Rattle.ssh_review.proofs.held.has_open.Given as goal
-
-abbrev pub invariant-loop-text : goal.invariant-loop-text
-invariant-loop-text l = has_open (drop l.text-index l.carried) ≡ has_open l.carried

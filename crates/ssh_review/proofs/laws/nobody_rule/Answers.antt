@@ -1,5 +1,0 @@
-use Rattle.ssh_review.proofs.ShadowLemmas.{no_principals, no_sources}
-use Rattle.ssh_review.proofs.laws.nobody_rule.Goals as goal
-
-pub returns : goal.returns
-returns c = record { sources = no_sources; principals = no_principals }
