@@ -1,6 +1,6 @@
 -- Who is let in by a line is let in by an earlier one of the same key that is free; and a bad list lets nobody in.
-use Rattle.std.proofs.Common.{◌≡◌, ◌∙◌, ◌==◌, ◌||◌, ◌&&◌, ◌<◌, ℕ, zero, suc, Bool, true, false, not, List, [], ◌∷◌, Option, Some, None, length, ap, sym, refl, subst, arith}
-use Rattle.std.specs.Prelude.{is_some}
+use Rattle.std.proofs.Common.{◌≡◌, ◌∙◌, ◌==◌, ◌||◌, ◌&&◌, ◌<◌, ℕ, zero, suc, Bool, true, false, not, cond, List, [], ◌∷◌, Option, Some, None, length, ap, sym, refl, subst, arith}
+use Rattle.std.specs.Prelude.{bytes_eq, find, is_some}
 use Rattle.std.specs.List.{AllByRecursion, list_any, slice_index_or}
 use Rattle.std.proofs.lemmas.Bool.{and_parts, ne_eqb}
 use Rattle.jiff.specs.Types.{TimeZone}
@@ -18,7 +18,11 @@ use Rattle.ssh_patterns.specs.declared.address.Address.{Address}
 use Rattle.ssh_rights.specs.Rights.{command_of, rights_of}
 use Rattle.ssh_rules.specs.Admission.{AdmitsLogin, CriticalMet, IsUnexpired, IsUserInForce, is_authority, source_by}
 use Rattle.ssh_rules.specs.CertificateForce.{InForce, Serves, user_certificate}
-use Rattle.ssh_findings.specs.Earlier.{is_free}
+use Rattle.ssh_keys.specs.PublicKey.{key_blob}
+use Rattle.ssh_keys.proofs.KeyLaws.{find_some}
+use Rattle.std.proofs.lemmas.Slice.Eq.{bytes_eq-Decides}
+use Rattle.ssh_findings.specs.declared.held.Held.{Held}
+use Rattle.ssh_findings.specs.Earlier.{held_entry, is_free, is_same, shadow}
 use Rattle.ssh_findings.specs.EntryFindings.{has_name_in, names_nobody, permits_bad}
 use Rattle.ssh_findings.specs.Facts.{facts_of}
 use Rattle.ssh_findings.specs.Lists.{says_name}
@@ -102,6 +106,40 @@ free zone d h =
       command = λ e. sym (own-command (setting Command d.options) d.key) ∙ none-some command (or-off _ _ (rest e)).0;
       principals = λ e. none-some (setting Principals d.options) (or-off (is_some command) _ (rest e)).1;
     }
+
+-- ---- the line that is named
+
+same-bool : (a b : Bool) → cond a b (not b) ≡ true → a ≡ b
+same-bool true b h = sym h
+same-bool false b h = sym (not-on b h)
+
+unlisted : (b : Bool) (found : Option Held) (d : Held) → cond b None found ≡ Some d → (b ≡ false) × (found ≡ Some d)
+unlisted true found d h = cc
+unlisted false found d h = (refl, h)
+
+-- by the tests
+tested : (zone : TimeZone) (e d : AuthEntry) (n : ℕ) (claim : LoginClaim)
+    → is_same (key_blob e.key) (is_authority e) (held_entry zone n d) ≡ true → is_free (facts_of zone d) ≡ true
+    → (is_authority e && is_some (setting Principals e.options)) ≡ false → AdmitsLogin e claim → AdmitsLogin d claim
+unfolding facts_of
+tested zone e d n claim same unlimited alone a =
+    let parts = and_parts (bytes_eq (key_blob d.key) (key_blob e.key)) (cond (is_authority e) (is_authority d) (not (is_authority d))) same in
+    let both : IsSame e d = record {
+      key = sym ((bytes_eq-Decides (key_blob d.key) (key_blob e.key)).0 parts.0);
+      authority = same-bool (is_authority e) (is_authority d) parts.1;
+    } in
+    shadowed e d claim both (free zone d unlimited)
+    (λ on. none-some (setting Principals e.options) (and-off (is_authority e) _ alone on)) a
+
+pub named : (zone : TimeZone) (earlier : List Held) (e d : AuthEntry) (n : ℕ) (claim : LoginClaim)
+    → shadow earlier (key_blob e.key) (facts_of zone e) ≡ Some (held_entry zone n d) → AdmitsLogin e claim → AdmitsLogin d claim
+unfolding shadow facts_of
+named zone earlier e d n claim h a =
+    let test : Held → Bool = λ x. is_same (key_blob e.key) (is_authority e) x && is_free x.facts in
+    let found = unlisted (is_authority e && is_some (setting Principals e.options)) (find test earlier) (held_entry zone n d) h in
+    let passed = and_parts (is_same (key_blob e.key) (is_authority e) (held_entry zone n d)) (is_free (facts_of zone d))
+    (find_some test earlier (held_entry zone n d) found.1) in
+    tested zone e d n claim passed.0 passed.1 found.0 a
 
 -- ---- a bad list lets nobody in
 

@@ -1,6 +1,9 @@
 -- What the entries of earlier lines make of a later one (sshd(8): the first line that admits decides).
 use Rattle.std.specs.Prelude.{ℕ, Bool, true, false, not, ◌&&◌, ◌||◌, if◌then◌else◌, List, bytes_eq, find, Option, Some, None, is_some}
 use Rattle.std.specs.List.{list_any}
+use Rattle.jiff.specs.Types.{TimeZone}
+use Rattle.ssh_keys.specs.PublicKey.{key_blob}
+use Rattle.ssh_lines.specs.AuthEntry.{AuthEntry}
 use Rattle.ssh_rights.specs.declared.rights.Carried.{Carried}
 use Rattle.ssh_rights.specs.declared.rights.CarriedName.{CarriedName}
 use Rattle.ssh_rights.specs.declared.rights.CarriedName.TheVariants as carried
@@ -9,6 +12,11 @@ use Rattle.ssh_findings.specs.declared.facts.Facts.{Facts}
 use Rattle.ssh_findings.specs.declared.finding.Finding.{Finding}
 use Rattle.ssh_findings.specs.declared.finding.Finding.TheVariants as finding
 use Rattle.ssh_findings.specs.declared.held.Held.{Held}
+use Rattle.ssh_findings.specs.Facts.{facts_of}
+
+-- the entry of a line of this number, with its expiry times in a zone
+abbrev pub held_entry : TimeZone → ℕ → AuthEntry → Held
+held_entry zone n e = record { line = n; blob = key_blob e.key; facts = facts_of zone e }
 
 -- an entry of the same key, and an authority where that is asked
 abbrev pub is_same : List ℕ → Bool → Held → Bool

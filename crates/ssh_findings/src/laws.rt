@@ -1,13 +1,15 @@
 //! Laws of the definitions, each proved on a function without a body.
 
-ghost use Rattle.std.specs.Prelude.{◌≡◌, true, None};
+ghost use Rattle.std.specs.Prelude.{◌≡◌, ℕ, true, List, None, Some};
 ghost use Rattle.jiff.specs.Types.{TimeZone};
 ghost use Rattle.ssh_options.specs.declared.option.ValueName.TheVariants.{Principals};
 ghost use Rattle.ssh_options.specs.Settings.{setting};
 ghost use Rattle.ssh_lines.specs.AuthEntry.{AuthEntry};
 ghost use Rattle.ssh_offers.specs.LoginClaim.{LoginClaim};
 ghost use Rattle.ssh_rules.specs.Admission.{AdmitsLogin, is_authority};
-ghost use Rattle.ssh_findings.specs.Earlier.{is_free};
+ghost use Rattle.ssh_keys.specs.PublicKey.{key_blob};
+ghost use Rattle.ssh_findings.specs.declared.held.Held.{Held};
+ghost use Rattle.ssh_findings.specs.Earlier.{held_entry, is_free, shadow};
 ghost use Rattle.ssh_findings.specs.EntryFindings.{names_nobody, permits_bad};
 ghost use Rattle.ssh_findings.specs.Facts.{facts_of};
 ghost use Rattle.ssh_findings.specs.Shadows.{IsFree, IsSame};
@@ -27,6 +29,11 @@ fn shadowed_rule()
     ensures free { (zone : TimeZone) (d : AuthEntry)
         → is_free (facts_of zone d) ≡ true
         → IsFree d }
+    // So the line that F3 and F4 name of another lets in all that the other lets in.
+    ensures named { (zone : TimeZone) (earlier : List Held) (e d : AuthEntry) (n : ℕ) (claim : LoginClaim)
+        → shadow earlier (key_blob e.key) (facts_of zone e) ≡ Some (held_entry zone n d)
+        → AdmitsLogin e claim
+        → AdmitsLogin d claim }
 {}
 
 /// A line of which F7 is found admits nobody.

@@ -8,6 +8,7 @@ use Rattle.ssh_findings.specs.declared.finding.Finding.{Finding}
 use Rattle.ssh_keys.specs.PublicKey.{key_blob}
 use Rattle.ssh_findings.specs.declared.held.Held.{Held}
 use Rattle.ssh_findings.specs.Asking.{Asking}
+use Rattle.ssh_findings.specs.Earlier.{held_entry}
 use Rattle.ssh_review.specs.Counting.{counts_with, no_counts, plus}
 use Rattle.ssh_findings.specs.EntryFindings.{entry_findings, unreadable_findings}
 use Rattle.ssh_findings.specs.Facts.{facts_of}
@@ -36,8 +37,7 @@ line_counts asking earlier line = counts_with line (length (line_findings asking
 abbrev pub held_of : Asking → ℕ × AuthLine → List Held
 held_of asking (n, Blank) = []
 held_of asking (n, Comment) = []
-held_of asking (n, Entry entry) =
-    record { line = n; blob = key_blob entry.key; facts = facts_of asking.zone entry } ∷ []
+held_of asking (n, Entry entry) = held_entry asking.zone n entry ∷ []
 held_of asking (n, Unreadable cause) = []
 
 -- the records of lines, each with its number, after the lines of these entries

@@ -1,5 +1,5 @@
-use Rattle.ssh_findings.proofs.ShadowLemmas.{free, shadowed}
+use Rattle.ssh_findings.proofs.ShadowLemmas.{free, named, shadowed}
 use Rattle.ssh_findings.proofs.laws.shadowed_rule.Goals as goal
 
 pub returns : goal.returns
-returns c = record { shadowed = shadowed; free = free }
+returns c = record { shadowed = shadowed; free = free; named = named }
