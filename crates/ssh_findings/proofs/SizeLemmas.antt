@@ -4,7 +4,7 @@ use Rattle.std.proofs.lemmas.Bool.{ltb-true, ltb-false}
 use Rattle.std.proofs.Math.Nat.{eq-or-lt_of_le, pow-suc}
 use Rattle.ssh_keys.specs.PublicKey.{PublicKey, rsa, p256, p384, p521, ed25519, sk_p256, sk_ed25519}
 use Rattle.ssh_keys.specs.Fingerprint.{IsBitCount, IsRsaSize}
-use Rattle.ssh_findings.specs.Facts.{count_from, rsa_size}
+use Rattle.ssh_findings.specs.Facts.{bit_count, count_from, rsa_size}
 
 below-power : (n : ℕ) → n < 2 ^ n
 below-power zero = lit< tt
@@ -32,3 +32,41 @@ size_is (p521 point) size is = is
 size_is (ed25519 public) size is = is
 size_is (sk_p256 point application) size is = is
 size_is (sk_ed25519 public application) size is = is
+
+-- ---- and the definition gives it
+
+count-fits : (tries bits n : ℕ) → n < 2 ^ (bits + tries) → n < 2 ^ count_from tries bits n
+unfolding count_from
+count-fits zero bits n h = let e : bits + zero ≡ bits = omega arith in rw e at h
+count-fits (suc tries) bits n h =
+    let e : bits + suc tries ≡ bits + 1 + tries = omega arith in
+    go (nat_lt n (2 ^ bits)) refl (count-fits tries (bits + 1) n (rw e at h))
+  where
+    go : (t : Bool) → nat_lt n (2 ^ bits) ≡ t → n < 2 ^ count_from tries (bits + 1) n
+        → n < 2 ^ (elim t [ true ↦ bits | false ↦ count_from tries (bits + 1) n ])
+    go true e rest = ltb-true n (2 ^ bits) e
+    go false e rest = rest
+
+count-least : (tries bits n k : ℕ) → bits ≤ k → n < 2 ^ k → count_from tries bits n ≤ k
+unfolding count_from
+count-least zero bits n k low h = low
+count-least (suc tries) bits n k low h = go (nat_lt n (2 ^ bits)) refl (λ next. count-least tries (bits + 1) n k next h)
+  where
+    go : (t : Bool) → nat_lt n (2 ^ bits) ≡ t → (bits + 1 ≤ k → count_from tries (bits + 1) n ≤ k)
+        → elim t [ true ↦ bits | false ↦ count_from tries (bits + 1) n ] ≤ k
+    go true e rest = low
+    go false e rest = rest (above n bits k low (ltb-false n (2 ^ bits) e) h)
+
+counted : (n : ℕ) → IsBitCount n (bit_count n)
+counted n =
+    let e : 0 + n ≡ n = omega arith in
+    record { fits = count-fits n 0 n (rw e (below-power n)); least = λ k h. count-least n 0 n k (omega arith) h }
+
+pub sized : (key : PublicKey) → IsRsaSize key (rsa_size key)
+sized (rsa e n) = counted n
+sized (p256 point) = refl
+sized (p384 point) = refl
+sized (p521 point) = refl
+sized (ed25519 public) = refl
+sized (sk_p256 point application) = refl
+sized (sk_ed25519 public application) = refl

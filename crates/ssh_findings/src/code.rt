@@ -1,7 +1,7 @@
 //! The codes of findings, and lists of them.
 
 ghost use Rattle.std.specs.Prelude.{◌≡◌};
-ghost use Rattle.ssh_findings.specs.Codes.{code_named, code_text, named_in};
+ghost use Rattle.ssh_findings.specs.Codes.{code_named, code_text, default_codes, named_in};
 
 /// What a finding says of a line, by its printed code. A number once given keeps its meaning.
 #[derive(Clone, Copy, Debug, PartialEq, Eq)]
@@ -93,6 +93,13 @@ impl Code {
         Code::PatternHosts,
         Code::EveryHost,
     ];
+
+    /// The codes that are told where nothing else is asked for: F1 to F14.
+    pub fn by_default() -> &'static [Code]
+        ensures { result.now ≡ default_codes }
+    {
+        &Code::BY_DEFAULT
+    }
 
     /// The code as it is printed.
     pub fn text(self) -> &'static [u8]

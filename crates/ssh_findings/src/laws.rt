@@ -7,11 +7,12 @@ ghost use Rattle.ssh_options.specs.Settings.{setting};
 ghost use Rattle.ssh_lines.specs.AuthEntry.{AuthEntry};
 ghost use Rattle.ssh_offers.specs.LoginClaim.{LoginClaim};
 ghost use Rattle.ssh_rules.specs.Admission.{AdmitsLogin, is_authority};
-ghost use Rattle.ssh_keys.specs.PublicKey.{key_blob};
+ghost use Rattle.ssh_keys.specs.Fingerprint.{IsRsaSize};
+ghost use Rattle.ssh_keys.specs.PublicKey.{PublicKey, key_blob};
 ghost use Rattle.ssh_findings.specs.declared.held.Held.{Held};
 ghost use Rattle.ssh_findings.specs.Earlier.{held_entry, is_free, shadow};
 ghost use Rattle.ssh_findings.specs.EntryFindings.{names_nobody, permits_bad};
-ghost use Rattle.ssh_findings.specs.Facts.{facts_of};
+ghost use Rattle.ssh_findings.specs.Facts.{facts_of, rsa_size};
 ghost use Rattle.ssh_findings.specs.Shadows.{IsFree, IsSame};
 
 /// A line that an earlier one of the same key lets in first never decides a login: whatever it
@@ -44,4 +45,9 @@ fn nobody_rule()
     ensures principals { (zone : TimeZone) (e : AuthEntry) (claim : LoginClaim)
         → names_nobody (facts_of zone e) ≡ true
         → ¬ AdmitsLogin e claim }
+{}
+
+/// The size that a review tells of an RSA key is the least count of binary digits of its modulus.
+fn size_rule()
+    ensures { (key : PublicKey) → IsRsaSize key (rsa_size key) }
 {}

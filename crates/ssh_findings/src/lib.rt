@@ -7,7 +7,7 @@
 //! let AuthLineView::Entry(entry) = read_auth_view(line, &mut buffer) else {
 //!     return Ok(None);
 //! };
-//! let asked = Asked { now, zone, rsa_minimum: 2048, told: &Code::BY_DEFAULT };
+//! let asked = Asked { now, zone, rsa_minimum: 2048, told: Code::by_default() };
 //! let facts = Facts::read(alloc, zone, &entry)?;
 //! Ok(Some(entry_findings(alloc, &asked, &[], entry.blob(), &facts)?))
 //! ```

@@ -6,7 +6,7 @@
 //! file. A caller that reviews a file and tells whether something has to be mended:
 //!
 //! ```
-//! let asked = Asked { now, zone, rsa_minimum: 2048, told: &Code::BY_DEFAULT };
+//! let asked = Asked { now, zone, rsa_minimum: 2048, told: Code::by_default() };
 //! let reviewed = review_auth(alloc, &asked, name, file)?;
 //! out.extend_from_slice(&reviewed.text)?;
 //! Ok(reviewed.counts.findings > 0)

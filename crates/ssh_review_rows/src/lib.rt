@@ -3,3 +3,5 @@
 
 #[cfg(test)]
 mod auth_rows;
+#[cfg(test)]
+mod end_rows;
