@@ -111,7 +111,8 @@ pub fn review_fault(alloc: Global, name: &[u8], fault: FileFault) -> Result<Revi
 
 /// The review of an authorized_keys file of this name and these bytes: a record for each entry and
 /// each line that cannot be read, in their order, and an end with counts and the SHA-256. A file of
-/// more than 67,108,864 bytes has the fault A7. `Err` is out of memory.
+/// more than 67,108,864 bytes has the fault A7. Each entry is kept, and looked for among those before
+/// it one by one. `Err` is out of memory.
 pub fn review_auth(
     alloc: Global,
     asked: &Asked<'_>,
