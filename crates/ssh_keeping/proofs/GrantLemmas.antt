@@ -72,16 +72,16 @@ record Clear (revokes blind admitted unvouched : Bool) : Type 0 where
   some : admitted ≡ true
   vouched : unvouched ≡ false
 
-granted-clear : (r b c u : Option ℕ) (reasons : List (ℕ × Reason)) (evidence : List Signed) (line : ℕ)
-    → host_decision_by (revocation_cause r b) c u reasons evidence ≡ Granted line None evidence → Clear (is_some r) (is_some b) (is_some c) (is_some u)
-granted-clear (Some n) b c u reasons evidence line h = cc
-granted-clear None (Some n) c u reasons evidence line h = cc
-granted-clear None None None u reasons evidence line h = cc
-granted-clear None None (Some at) (Some index) reasons evidence line h = cc
-granted-clear None None (Some at) None reasons evidence line h = record { unrevoked = refl; sighted = refl; some = refl; vouched = refl }
+granted-clear : (r b c u : Option ℕ) (reasons told : List (ℕ × Reason)) (evidence : List Signed) (line : ℕ)
+    → host_decision_by (revocation_cause r b) c u reasons evidence ≡ Granted line None told evidence → Clear (is_some r) (is_some b) (is_some c) (is_some u)
+granted-clear (Some n) b c u reasons told evidence line h = cc
+granted-clear None (Some n) c u reasons told evidence line h = cc
+granted-clear None None None u reasons told evidence line h = cc
+granted-clear None None (Some at) (Some index) reasons told evidence line h = cc
+granted-clear None None (Some at) None reasons told evidence line h = record { unrevoked = refl; sighted = refl; some = refl; vouched = refl }
 
 clear-granted : (r b c u : Option ℕ) (reasons : List (ℕ × Reason)) (evidence : List Signed) → Clear (is_some r) (is_some b) (is_some c) (is_some u)
-    → (line : ℕ) × (host_decision_by (revocation_cause r b) c u reasons evidence ≡ Granted line None evidence)
+    → (line : ℕ) × (host_decision_by (revocation_cause r b) c u reasons evidence ≡ Granted line None reasons evidence)
 clear-granted (Some n) b c u reasons evidence h = (let bad = h.unrevoked in cc)
 clear-granted None (Some n) c u reasons evidence h = (let bad = h.sighted in cc)
 clear-granted None None None u reasons evidence h = (let bad = h.some in cc)
@@ -147,9 +147,9 @@ ClearFacts facts claim vouched =
 
 grants-clear : (file : List ℕ) (claim : HostClaim) (vouched : List Signed) → Grants file claim vouched → ClearFacts (known_facts file) claim vouched
 unfolding ClearFacts host_decision host_scan_of
-grants-clear file claim vouched (line, h) =
+grants-clear file claim vouched (line, told, h) =
     let clear = granted-clear (first_revoked claim file) (first_blind file) (candidate claim file)
-    (first_unvouched vouched (host_evidence claim)) (reasons claim file) (host_evidence claim) line h in
+    (first_unvouched vouched (host_evidence claim)) (reasons claim file) told (host_evidence claim) line h in
     record {
       unrevoked = sym (revokes-some claim file) ∙ clear.unrevoked;
       sighted = sym (blind-some file) ∙ clear.sighted;
@@ -160,13 +160,14 @@ grants-clear file claim vouched (line, h) =
 clear-grants : (file : List ℕ) (claim : HostClaim) (vouched : List Signed) → ClearFacts (known_facts file) claim vouched → Grants file claim vouched
 unfolding ClearFacts host_decision host_scan_of
 clear-grants file claim vouched clear =
-    clear-granted (first_revoked claim file) (first_blind file) (candidate claim file)
+    let granted = clear-granted (first_revoked claim file) (first_blind file) (candidate claim file)
     (first_unvouched vouched (host_evidence claim)) (reasons claim file) (host_evidence claim) (record {
       unrevoked = revokes-some claim file ∙ clear.unrevoked;
       sighted = blind-some file ∙ clear.sighted;
       some = admits-some claim file ∙ clear.some;
       vouched = clear.vouched;
-    })
+    }) in
+    (granted.0, reasons claim file, granted.1)
 
 revokes-fact : (file : List ℕ) (claim : HostClaim) (vouched : List Signed) → IsRevoked (host_decision file claim vouched) ↔ (list_any (revokes_offer claim.offer) (known_facts file) ≡ true)
 unfolding host_decision host_scan_of

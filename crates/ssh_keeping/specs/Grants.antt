@@ -14,7 +14,7 @@ use Rattle.ssh_trust.specs.HostDecision.{host_decision}
 
 -- The file grants what is claimed, at some line.
 abbrev pub Grants : List ℕ → HostClaim → List Signed → Type 0
-Grants file claim vouched = (line : ℕ) × (host_decision file claim vouched ≡ Granted line None (host_evidence claim))
+Grants file claim vouched = (line : ℕ) × (reasons : List (ℕ × Reason)) × (host_decision file claim vouched ≡ Granted line None reasons (host_evidence claim))
 
 -- Some line revokes the key or its signer.
 abbrev pub IsRevoked : Decision → Type 0

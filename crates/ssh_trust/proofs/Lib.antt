@@ -7,7 +7,7 @@ pub mod AnswerLemmas
 pub mod SearchLemmas
 pub mod MeaningLemmas
 pub mod HostMeaningLemmas
-pub mod DenialLemmas
+pub mod TellingLemmas
 pub mod SshsigLemmas
 pub mod ReadLemmas
 pub mod RefusalLemmas

@@ -65,7 +65,7 @@ HostCauseMeans file claim (NotVouched index) = Unit {0}
 
 -- Granted names the candidate and the evidence, and no rights. Denied means that no line is one to grant at.
 abbrev pub HostMeans : List ℕ → HostClaim → List Signed → Decision → Type 0
-HostMeans file claim vouched (Granted line rights evidence) =
+HostMeans file claim vouched (Granted line rights reasons evidence) =
     (e : KnownEntry) × IsHostGrant file claim vouched line e × (rights ≡ None) × (evidence ≡ host_evidence claim)
 HostMeans file claim vouched (Denied why reasons evidence) =
     ((i : ℕ) (e : KnownEntry) → IsHostGrant file claim vouched i e → ⊥) × HostCauseMeans file claim why × (evidence ≡ host_evidence claim)
@@ -82,7 +82,7 @@ revocation_cause None None = None
 abbrev pub trust_by : Option ℕ → Option ℕ → List (ℕ × Reason) → List Signed → Decision
 trust_by None unvouched reasons evidence = Denied NoLine reasons evidence
 trust_by (Some line) (Some index) reasons evidence = Denied (NotVouched index) reasons evidence
-trust_by (Some line) None reasons evidence = Granted line None evidence
+trust_by (Some line) None reasons evidence = Granted line None reasons evidence
 
 -- a revocation comes first
 abbrev pub host_decision_by : Option Cause → Option ℕ → Option ℕ → List (ℕ × Reason) → List Signed → Decision

@@ -4,7 +4,7 @@ pub mod Scan
 pub mod LoginDecision
 pub mod HostScan
 pub mod HostDecision
-pub mod Denial
+pub mod Telling
 pub mod Answer
 pub mod Findings
 pub mod Audit

@@ -37,7 +37,7 @@ pub record IsGrant (file : List ℕ) (claim : LoginClaim) (vouched : List Signed
 
 -- Granted names the candidate, with its rights and the evidence. Denied means that no line is one to grant at.
 abbrev pub LoginMeans : List ℕ → LoginClaim → List Signed → Decision → Type 0
-LoginMeans file claim vouched (Granted line rights evidence) =
+LoginMeans file claim vouched (Granted line rights reasons evidence) =
     (e : AuthEntry) × IsGrant file claim vouched line e × (rights ≡ Some (rights_of e claim.offer)) × (evidence ≡ login_evidence claim)
 LoginMeans file claim vouched (Denied why reasons evidence) =
     ((i : ℕ) (e : AuthEntry) → IsGrant file claim vouched i e → ⊥) × (evidence ≡ login_evidence claim)
@@ -78,7 +78,7 @@ cause_by true false unvouched = Some VerifyMissing
 cause_by true true unvouched = vouching_cause unvouched
 
 abbrev pub decision_by : List Signed → Candidate → Option Cause → List (ℕ × Reason) → Decision
-decision_by evidence c None reasons = Granted c.line (Some c.rights) evidence
+decision_by evidence c None reasons = Granted c.line (Some c.rights) reasons evidence
 decision_by evidence c (Some why) reasons = Denied why reasons evidence
 
 abbrev pub decision_at : List Signed → List Signed → Candidate → List (ℕ × Reason) → Decision

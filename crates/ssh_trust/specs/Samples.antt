@@ -64,8 +64,8 @@ LoginCausesInOrder =
     × (decision_of both but_key (seventh true true) [] ≡ Denied (NotVouched 1) [] both)
     × (decision_of both but_message (seventh true true) [] ≡ Denied (NotVouched 1) [] both)
     × (decision_of both but_signature (seventh true true) [] ≡ Denied (NotVouched 1) [] both)
-    × (decision_of both both (seventh true true) [] ≡ Granted 7 (Some no_rights) both)
-    × (decision_of both (by_signer ∷ by_key ∷ []) (seventh true true) [] ≡ Granted 7 (Some no_rights) both)
+    × (decision_of both both (seventh true true) [] ≡ Granted 7 (Some no_rights) [] both)
+    × (decision_of both (by_signer ∷ by_key ∷ []) (seventh true true) [] ≡ Granted 7 (Some no_rights) [] both)
 
 pub login_causes_in_order : LoginCausesInOrder
 login_causes_in_order = (refl, refl, refl, refl, refl, refl, refl, refl, refl, refl, refl, refl, refl, refl)
@@ -87,7 +87,7 @@ HostCausesInOrder =
     × (host_decision_of (said None None None) both both ≡ Denied NoLine [] both)
     × (host_decision_of (said (Some 2) None None) [] both ≡ Denied (NotVouched 0) [] both)
     × (host_decision_of (said (Some 2) None None) (by_key ∷ []) both ≡ Denied (NotVouched 1) [] both)
-    × (host_decision_of (said (Some 2) None None) both both ≡ Granted 2 None both)
+    × (host_decision_of (said (Some 2) None None) both both ≡ Granted 2 None [] both)
 
 pub host_causes_in_order : HostCausesInOrder
 host_causes_in_order = (refl, refl, refl, refl, refl, refl, refl, refl, refl)

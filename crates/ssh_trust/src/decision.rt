@@ -40,6 +40,8 @@ pub enum Decision {
         line: u64,
         /// What the login may do; nothing for a host's key.
         rights: Option<Rights>,
+        /// Why lines before that one do not admit the offer, as of a denial.
+        reasons: Items<(u64, Reason)>,
         evidence: Items<Signed>,
     },
     Denied {

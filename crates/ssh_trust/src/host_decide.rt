@@ -36,6 +36,7 @@ fn trust_by(
             return Decision::Granted {
                 line,
                 rights: None,
+                reasons,
                 evidence,
             };
         }

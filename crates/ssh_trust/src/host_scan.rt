@@ -7,7 +7,7 @@ ghost use Rattle.ssh_lines.specs.KnownSeen.{known_seen};
 ghost use Rattle.ssh_offers.specs.HostClaim.{HostClaim, host_claim};
 ghost use Rattle.ssh_offers.specs.Query.{host_check_of};
 ghost use Rattle.ssh_trust.specs.FileLines.{IsText};
-ghost use Rattle.ssh_trust.specs.Denial.{HostDecides};
+ghost use Rattle.ssh_trust.specs.Telling.{HostDecides};
 ghost use Rattle.ssh_trust.specs.HostDecision.{host_decision};
 ghost use Rattle.ssh_trust.specs.HostScan.{empty_host_scan, first_so_far, host_scan_line};
 

@@ -5,7 +5,7 @@ ghost use Rattle.ssh_offers.specs.declared.error.AuditError.TheVariants.{Read};
 ghost use Rattle.ssh_offers.specs.Query.{host_check_of};
 ghost use Rattle.ssh_offers.specs.HostClaim.{host_claim};
 ghost use Rattle.ssh_offers.specs.Evidence.{host_evidence};
-ghost use Rattle.ssh_trust.specs.Denial.{HostDenialMeans};
+ghost use Rattle.ssh_trust.specs.Telling.{HostTells};
 ghost use Rattle.ssh_trust.specs.HostDecision.{HostMeans};
 ghost use Rattle.ssh_trust.specs.Answer.{Gives, OfClaim, RefusesAs, host_answer};
 ghost use Rattle.ssh_trust.specs.Reads.{AnswersReader, HoldsOfRead};
@@ -33,10 +33,10 @@ pub fn host(
     // this is false.
     ensures means { OfClaim (host_claim (host_check_of query.entry.now))
         (λ claim. IfOk result (HostMeans file.now claim vouched.now)) }
-    // A denial's cause is the first that holds, and its reasons are those of the lines that were
-    // passed over.
-    ensures denial { OfClaim (host_claim (host_check_of query.entry.now))
-        (λ claim. IfOk result (HostDenialMeans file.now claim vouched.now)) }
+    // The reasons are those of the lines that were passed over, and a denial's cause is the first
+    // that holds.
+    ensures tells { OfClaim (host_claim (host_check_of query.entry.now))
+        (λ claim. IfOk result (HostTells file.now claim vouched.now)) }
     // The whole answer, with cause, reasons and evidence, unless memory was refused.
     ensures answer { OfClaim (host_claim (host_check_of query.entry.now))
         (λ claim. Gives (host_answer file.now claim vouched.now) result) }
@@ -69,11 +69,11 @@ pub fn host_from<S: Source>(
         (λ claim. IfOk result (λ decision.
         HoldsOfRead (S.left reader.old) (S.left reader.new)
         (λ file. HostMeans file claim vouched.now decision))) }
-    // So do a denial's cause and its reasons.
-    ensures denial { OfClaim (host_claim (host_check_of query.entry.now))
+    // So do its reasons, and a denial's cause.
+    ensures tells { OfClaim (host_claim (host_check_of query.entry.now))
         (λ claim. IfOk result (λ decision.
         HoldsOfRead (S.left reader.old) (S.left reader.new)
-        (λ file. HostDenialMeans file claim vouched.now decision))) }
+        (λ file. HostTells file claim vouched.now decision))) }
     // The whole answer on the bytes that the reader gave, unless memory or a read was refused.
     ensures answer { OfClaim (host_claim (host_check_of query.entry.now))
         (λ claim. AnswersReader (S.left reader.old) (S.left reader.new)

@@ -6,7 +6,7 @@ ghost use Rattle.ssh_offers.specs.declared.query.Signed.{Signed as SignedValue};
 ghost use Rattle.ssh_offers.specs.HostClaim.{HostClaim};
 ghost use Rattle.ssh_offers.specs.LoginClaim.{LoginClaim};
 ghost use Rattle.ssh_trust.specs.LoginDecision.{LoginMeans, login_decision};
-ghost use Rattle.ssh_trust.specs.Denial.{HostDenialMeans, LoginDenialMeans};
+ghost use Rattle.ssh_trust.specs.Telling.{HostTells, LoginTells};
 ghost use Rattle.ssh_trust.specs.HostDecision.{HostMeans, host_decision};
 
 /// The decision is what is said of granted and denied logins, both ways.
@@ -21,15 +21,15 @@ fn host_decision_rule()
         HostMeans file claim vouched (host_decision file claim vouched) }
 {}
 
-/// The cause and the reasons of a denied login are what is said of them: the first cause that holds,
-/// and the first reason of each line that is passed over.
-fn denial_rule()
+/// The reasons of a decision and a denial's cause are what is said of them: the first reason of each
+/// line that is passed over, and the first cause that holds.
+fn telling_rule()
     ensures { (file : List ℕ) (claim : LoginClaim) (vouched : List SignedValue) → AllByRecursion (λ c. c < 256) file →
-        LoginDenialMeans file claim vouched (login_decision file claim vouched) }
+        LoginTells file claim vouched (login_decision file claim vouched) }
 {}
 
 /// The same of a host's key.
-fn host_denial_rule()
+fn host_telling_rule()
     ensures { (file : List ℕ) (claim : HostClaim) (vouched : List SignedValue) → AllByRecursion (λ c. c < 256) file →
-        HostDenialMeans file claim vouched (host_decision file claim vouched) }
+        HostTells file claim vouched (host_decision file claim vouched) }
 {}

@@ -41,6 +41,7 @@ fn decide_at(
         None => Decision::Granted {
             line: candidate.line,
             rights: Some(candidate.rights),
+            reasons,
             evidence,
         },
     }

@@ -7,7 +7,7 @@ ghost use Rattle.ssh_lines.specs.LineView.{line_seen};
 ghost use Rattle.ssh_offers.specs.ClaimViews.{claim_of};
 ghost use Rattle.ssh_offers.specs.LoginClaim.{LoginClaim, login_claim};
 ghost use Rattle.ssh_offers.specs.Query.{login_of};
-ghost use Rattle.ssh_trust.specs.Denial.{LoginDecides};
+ghost use Rattle.ssh_trust.specs.Telling.{LoginDecides};
 ghost use Rattle.ssh_trust.specs.LoginDecision.{candidate_at, login_decision, login_scan_line};
 ghost use Rattle.ssh_trust.specs.FileLines.{IsText};
 ghost use Rattle.ssh_trust.specs.Scan.{empty_scan};

@@ -6,7 +6,7 @@ ghost use Rattle.ssh_offers.specs.Query.{login_of};
 ghost use Rattle.ssh_offers.specs.LoginClaim.{login_claim};
 ghost use Rattle.ssh_offers.specs.Evidence.{login_evidence};
 ghost use Rattle.ssh_trust.specs.LoginDecision.{LoginMeans};
-ghost use Rattle.ssh_trust.specs.Denial.{LoginDenialMeans};
+ghost use Rattle.ssh_trust.specs.Telling.{LoginTells};
 ghost use Rattle.ssh_trust.specs.Answer.{Gives, OfClaim, RefusesAs, login_answer};
 ghost use Rattle.ssh_trust.specs.Reads.{AnswersReader, HoldsOfRead};
 
@@ -36,10 +36,10 @@ pub fn login(
     // that this is false.
     ensures means { OfClaim (login_claim (login_of query.entry.now))
         (λ claim. IfOk result (LoginMeans file.now claim vouched.now)) }
-    // A denial's cause is the first that holds, and its reasons are those of the lines that were
-    // passed over.
-    ensures denial { OfClaim (login_claim (login_of query.entry.now))
-        (λ claim. IfOk result (LoginDenialMeans file.now claim vouched.now)) }
+    // The reasons are those of the lines that were passed over, and a denial's cause is the first
+    // that holds.
+    ensures tells { OfClaim (login_claim (login_of query.entry.now))
+        (λ claim. IfOk result (LoginTells file.now claim vouched.now)) }
     // The whole answer, with cause, reasons and evidence, unless memory was refused.
     ensures answer { OfClaim (login_claim (login_of query.entry.now))
         (λ claim. Gives (login_answer file.now claim vouched.now) result) }
@@ -74,11 +74,11 @@ pub fn login_from<S: Source>(
         (λ claim. IfOk result (λ decision.
         HoldsOfRead (S.left reader.old) (S.left reader.new)
         (λ file. LoginMeans file claim vouched.now decision))) }
-    // So do a denial's cause and its reasons.
-    ensures denial { OfClaim (login_claim (login_of query.entry.now))
+    // So do its reasons, and a denial's cause.
+    ensures tells { OfClaim (login_claim (login_of query.entry.now))
         (λ claim. IfOk result (λ decision.
         HoldsOfRead (S.left reader.old) (S.left reader.new)
-        (λ file. LoginDenialMeans file claim vouched.now decision))) }
+        (λ file. LoginTells file claim vouched.now decision))) }
     // The whole answer on the bytes that the reader gave, unless memory or a read was refused.
     ensures answer { OfClaim (login_claim (login_of query.entry.now))
         (λ claim. AnswersReader (S.left reader.old) (S.left reader.new)

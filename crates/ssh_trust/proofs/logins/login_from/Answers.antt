@@ -1,6 +1,6 @@
 use Rattle.ssh_offers.specs.LoginClaim.{login_claim}
 use Rattle.ssh_offers.specs.Query.{login_of}
-use Rattle.ssh_trust.specs.Denial.{LoginDecides, LoginDenialMeans}
+use Rattle.ssh_trust.specs.Telling.{LoginDecides, LoginTells}
 use Rattle.ssh_trust.specs.LoginDecision.{LoginMeans}
 use Rattle.ssh_trust.specs.Reads.{HoldsOfRead}
 use Rattle.ssh_trust.proofs.AnswerLemmas.{decided-too}
@@ -14,9 +14,9 @@ returns-clause-means g c =
     decided-too (login_claim (login_of c.args.query.now)) c.of_reader.result (λ claim d. HoldsOfRead old new (λ file. LoginDecides file claim c.args.vouched.now d))
     (λ claim d. HoldsOfRead old new (λ file. LoginMeans file claim c.args.vouched.now d)) (λ claim d h. read-too old new _ _ (λ file k. k.0) h) c.of_reader.ensures.means
 
-pub returns-clause-denial : goal.returns-clause-denial
-returns-clause-denial g c =
+pub returns-clause-tells : goal.returns-clause-tells
+returns-clause-tells g c =
     let old = g.S.Source.left c.args.reader.now in
     let new = g.S.Source.left c.of_reader.new.reader in
     decided-too (login_claim (login_of c.args.query.now)) c.of_reader.result (λ claim d. HoldsOfRead old new (λ file. LoginDecides file claim c.args.vouched.now d))
-    (λ claim d. HoldsOfRead old new (λ file. LoginDenialMeans file claim c.args.vouched.now d)) (λ claim d h. read-too old new _ _ (λ file k. k.1) h) c.of_reader.ensures.means
+    (λ claim d. HoldsOfRead old new (λ file. LoginTells file claim c.args.vouched.now d)) (λ claim d h. read-too old new _ _ (λ file k. k.1) h) c.of_reader.ensures.means

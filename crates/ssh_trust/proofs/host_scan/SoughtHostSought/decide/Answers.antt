@@ -2,9 +2,9 @@ use Rattle.std.proofs.Common.{◌∙◌, List, ap, sym, subst}
 use Rattle.ssh_offers.specs.declared.query.Signed.{Signed}
 use Rattle.ssh_offers.specs.Evidence.{host_evidence}
 use Rattle.ssh_offers.specs.HostClaim.{HostClaim}
-use Rattle.ssh_trust.specs.Denial.{HostDecides}
+use Rattle.ssh_trust.specs.Telling.{HostDecides}
 use Rattle.ssh_trust.specs.HostDecision.{host_decision_of}
-use Rattle.ssh_trust.proofs.DenialLemmas.{host_denial}
+use Rattle.ssh_trust.proofs.TellingLemmas.{host_told}
 use Rattle.ssh_trust.proofs.HostMeaningLemmas.{host_means}
 use Rattle.ssh_trust.proofs.SearchLemmas.{host-decided}
 use Rattle.ssh_trust.proofs.host_scan.SoughtHostSought.decide.Goals as goal
@@ -20,4 +20,4 @@ returns-clause-decided c file h =
 pub returns-clause-means : goal.returns-clause-means
 returns-clause-means c file h are =
     subst (λ d. HostDecides file c.args.self.now c.args.vouched.now d) (sym (returns-clause-decided c file h))
-    (host_means file c.args.self.now c.args.vouched.now are, host_denial file c.args.self.now c.args.vouched.now are)
+    (host_means file c.args.self.now c.args.vouched.now are, host_told file c.args.self.now c.args.vouched.now are)

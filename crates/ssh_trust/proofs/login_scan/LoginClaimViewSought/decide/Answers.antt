@@ -1,9 +1,9 @@
 use Rattle.std.proofs.Common.{◌∙◌, List, ap, sym, subst}
 use Rattle.ssh_offers.specs.declared.query.Signed.{Signed}
 use Rattle.ssh_offers.specs.ClaimViews.{claim_of}
-use Rattle.ssh_trust.specs.Denial.{LoginDecides}
+use Rattle.ssh_trust.specs.Telling.{LoginDecides}
 use Rattle.ssh_trust.specs.LoginDecision.{decision_of}
-use Rattle.ssh_trust.proofs.DenialLemmas.{login_denial}
+use Rattle.ssh_trust.proofs.TellingLemmas.{login_told}
 use Rattle.ssh_trust.proofs.MeaningLemmas.{login_means}
 use Rattle.ssh_trust.proofs.SearchLemmas.{login-decided}
 use Rattle.ssh_trust.proofs.login_scan.LoginClaimViewSought.decide.Goals as goal
@@ -17,4 +17,4 @@ returns-clause-decided c file h =
 pub returns-clause-means : goal.returns-clause-means
 returns-clause-means c file h are =
     subst (λ d. LoginDecides file (claim_of c.args.self.now) c.args.vouched.now d) (sym (returns-clause-decided c file h))
-    (login_means file (claim_of c.args.self.now) c.args.vouched.now are, login_denial file (claim_of c.args.self.now) c.args.vouched.now are)
+    (login_means file (claim_of c.args.self.now) c.args.vouched.now are, login_told file (claim_of c.args.self.now) c.args.vouched.now are)

@@ -33,7 +33,7 @@ use Rattle.ssh_rules.specs.HostAdmission.{host_obstacle}
 use Rattle.ssh_rules.specs.Verdict.{host_verdict, login_verdict, verdict_by}
 use Rattle.ssh_trust.specs.Candidate.{IsFirstAdmitted, admits, before_candidate, candidate_of, first_admitted, reasons_from, reasons_of, with_reason}
 use Rattle.ssh_trust.specs.LoginDecision.{IsCandidate, candidate_at, cause_by, decision_by, decision_of, line_verdict, login_decision, verdicts}
-use Rattle.ssh_trust.specs.Denial.{AreReasons, HostDenialMeans, HostReason, IsPassedOver, IsFirstUnvouched, LoginDenialMeans, LoginReason, RisesFrom}
+use Rattle.ssh_trust.specs.Telling.{AreReasons, HostTells, HostReason, IsPassedOver, IsFirstUnvouched, LoginTells, LoginReason, RisesFrom}
 use Rattle.ssh_trust.specs.HostDecision.{IsHostCandidate, RevokesOwn, host_decision, host_decision_by, revocation_cause}
 use Rattle.ssh_trust.specs.HostScan.{first_number, host_line_verdict, host_scan_of, is_blind, number_at, revokes_by}
 use Rattle.ssh_trust.proofs.CandidateLemmas.{AreBytes, Judges, at-place, candidate-is, line-bytes, line-of, map-at, map-from, no-candidate, some-same, stands-admits}
@@ -289,27 +289,27 @@ login-reasons : (file : List ℕ) (claim : LoginClaim) → AreBytes file
     → AreReasons (IsPassedOver AuthEntry (IsCandidate file claim) (LoginReason claim) file) (reasons_of (verdicts claim file))
 login-reasons file claim bytes = are-reasons (line_verdict claim) (login-judges claim) (login-tells claim) file bytes
 
-login-denial-at : (file : List ℕ) (claim : LoginClaim) (vouched : List Signed) (i : ℕ) (e : AuthEntry) → AreBytes file → IsCandidate file claim i e
+login-told-at : (file : List ℕ) (claim : LoginClaim) (vouched : List Signed) (i : ℕ) (e : AuthEntry) → AreBytes file → IsCandidate file claim i e
     → (touched : Bool) → touched_by claim e ≡ touched → (verified : Bool) → verified_by claim e ≡ verified
     → (unvouched : Option ℕ) → first_unvouched vouched (login_evidence claim) ≡ unvouched
-    → LoginDenialMeans file claim vouched (decision_by (login_evidence claim) (candidate_at claim (i, e)) (cause_by touched verified unvouched) (reasons_of (verdicts claim file)))
-login-denial-at file claim vouched i e bytes c false t verified v unvouched u = ((i, e, c, t), login-reasons file claim bytes)
-login-denial-at file claim vouched i e bytes c true t false v unvouched u = ((i, e, c, t, v), login-reasons file claim bytes)
-login-denial-at file claim vouched i e bytes c true t true v (Some k) u =
+    → LoginTells file claim vouched (decision_by (login_evidence claim) (candidate_at claim (i, e)) (cause_by touched verified unvouched) (reasons_of (verdicts claim file)))
+login-told-at file claim vouched i e bytes c false t verified v unvouched u = ((i, e, c, t), login-reasons file claim bytes)
+login-told-at file claim vouched i e bytes c true t false v unvouched u = ((i, e, c, t, v), login-reasons file claim bytes)
+login-told-at file claim vouched i e bytes c true t true v (Some k) u =
     ((i, e, c, t, v, first-unvouched vouched (login_evidence claim) k u), login-reasons file claim bytes)
-login-denial-at file claim vouched i e bytes c true t true v None u = tt
+login-told-at file claim vouched i e bytes c true t true v None u = login-reasons file claim bytes
 
-login-denial-by : (file : List ℕ) (claim : LoginClaim) (vouched : List Signed) → AreBytes file
+login-told-by : (file : List ℕ) (claim : LoginClaim) (vouched : List Signed) → AreBytes file
     → (c : Option (ℕ × AuthEntry)) → candidate_of (verdicts claim file) ≡ c
-    → LoginDenialMeans file claim vouched (decision_of (login_evidence claim) vouched (option_map (candidate_at claim) c) (reasons_of (verdicts claim file)))
-login-denial-by file claim vouched bytes None none =
+    → LoginTells file claim vouched (decision_of (login_evidence claim) vouched (option_map (candidate_at claim) c) (reasons_of (verdicts claim file)))
+login-told-by file claim vouched bytes None none =
     (no-candidate (line_verdict claim) (login-judges claim) file none, login-reasons file claim bytes)
-login-denial-by file claim vouched bytes (Some c) some =
-    login-denial-at file claim vouched c.0 c.1 bytes (candidate-is (line_verdict claim) (login-judges claim) file c.0 c.1 bytes some) _ refl _ refl _ refl
+login-told-by file claim vouched bytes (Some c) some =
+    login-told-at file claim vouched c.0 c.1 bytes (candidate-is (line_verdict claim) (login-judges claim) file c.0 c.1 bytes some) _ refl _ refl _ refl
 
-pub login_denial : (file : List ℕ) (claim : LoginClaim) (vouched : List Signed) → AreBytes file → LoginDenialMeans file claim vouched (login_decision file claim vouched)
+pub login_told : (file : List ℕ) (claim : LoginClaim) (vouched : List Signed) → AreBytes file → LoginTells file claim vouched (login_decision file claim vouched)
 unfolding login_decision
-login_denial file claim vouched bytes = login-denial-by file claim vouched bytes _ refl
+login_told file claim vouched bytes = login-told-by file claim vouched bytes _ refl
 
 -- ---- hosts
 
@@ -340,7 +340,7 @@ host-trust-by : (file : List ℕ) (claim : HostClaim) (vouched : List Signed) �
     → first_number (revokes_by claim) 1 (lines_of file) ≡ None → first_number is_blind 1 (lines_of file) ≡ None
     → (c : Option (ℕ × KnownEntry)) → candidate_of (host_verdicts claim file) ≡ c
     → (u : Option ℕ) → first_unvouched vouched (host_evidence claim) ≡ u
-    → HostDenialMeans file claim vouched (host_decision_by None (option_map number_at c) u (reasons_of (host_verdicts claim file)) (host_evidence claim))
+    → HostTells file claim vouched (host_decision_by None (option_map number_at c) u (reasons_of (host_verdicts claim file)) (host_evidence claim))
 host-trust-by file claim vouched bytes r b None c u v =
     let unrevoked = none-at (revokes_by claim) (RevokesOwn claim.offer) (revokes-decides claim) file bytes r in
     let sighted = none-at is_blind Blind blind-decides file bytes b in
@@ -350,21 +350,21 @@ host-trust-by file claim vouched bytes r b (Some found) c (Some k) v =
     let sighted = none-at is_blind Blind blind-decides file bytes b in
     let candidate = candidate-is (host_line_verdict claim) (host-judges claim) file found.0 found.1 bytes c in
     (((unrevoked, sighted), (found.0, found.1, candidate, first-unvouched vouched (host_evidence claim) k v)), host-reasons file claim bytes)
-host-trust-by file claim vouched bytes r b (Some found) c None v = tt
+host-trust-by file claim vouched bytes r b (Some found) c None v = host-reasons file claim bytes
 
-host-denial-by : (file : List ℕ) (claim : HostClaim) (vouched : List Signed) → AreBytes file
+host-told-by : (file : List ℕ) (claim : HostClaim) (vouched : List Signed) → AreBytes file
     → (revoked : Option ℕ) → first_number (revokes_by claim) 1 (lines_of file) ≡ revoked
     → (blind : Option ℕ) → first_number is_blind 1 (lines_of file) ≡ blind
-    → HostDenialMeans file claim vouched (host_decision_by (revocation_cause revoked blind)
+    → HostTells file claim vouched (host_decision_by (revocation_cause revoked blind)
     (option_map number_at (candidate_of (host_verdicts claim file))) (first_unvouched vouched (host_evidence claim))
     (reasons_of (host_verdicts claim file)) (host_evidence claim))
-host-denial-by file claim vouched bytes (Some n) r blind b =
+host-told-by file claim vouched bytes (Some n) r blind b =
     (least-at (revokes_by claim) (RevokesOwn claim.offer) (revokes-decides claim) file bytes n r, host-reasons file claim bytes)
-host-denial-by file claim vouched bytes None r (Some n) b =
+host-told-by file claim vouched bytes None r (Some n) b =
     let unrevoked = none-at (revokes_by claim) (RevokesOwn claim.offer) (revokes-decides claim) file bytes r in
     ((unrevoked, least-at is_blind Blind blind-decides file bytes n b), host-reasons file claim bytes)
-host-denial-by file claim vouched bytes None r None b = host-trust-by file claim vouched bytes r b _ refl _ refl
+host-told-by file claim vouched bytes None r None b = host-trust-by file claim vouched bytes r b _ refl _ refl
 
-pub host_denial : (file : List ℕ) (claim : HostClaim) (vouched : List Signed) → AreBytes file → HostDenialMeans file claim vouched (host_decision file claim vouched)
+pub host_told : (file : List ℕ) (claim : HostClaim) (vouched : List Signed) → AreBytes file → HostTells file claim vouched (host_decision file claim vouched)
 unfolding host_decision host_scan_of
-host_denial file claim vouched bytes = host-denial-by file claim vouched bytes _ refl _ refl
+host_told file claim vouched bytes = host-told-by file claim vouched bytes _ refl _ refl

@@ -1,4 +1,4 @@
--- Why a login and a host's key are denied, in the subject's words (this project's rule).
+-- Why lines are passed over, and why a login and a host's key are denied, in the subject's words (this project's rule).
 use Rattle.std.specs.Prelude.{◌≡◌, ◌↔◌, ◌⊎◌, ◌≤◌, ◌<◌, ◌+◌, ℕ, true, false, List, [], ◌∷◌, Contains, Option, Some, slice_get, take}
 use Rattle.ssh_lines.specs.AuthEntry.{AuthEntry}
 use Rattle.ssh_lines.specs.declared.entry.AuthLine.TheVariants as auth
@@ -83,15 +83,16 @@ LoginCause file claim vouched (NotVouched index) =
 LoginCause file claim vouched (Revoked n) = ⊥
 LoginCause file claim vouched (RevocationUnreadable n) = ⊥
 
--- what a denied login's cause and reasons mean
-abbrev pub LoginDenialMeans : List ℕ → LoginClaim → List Signed → Decision → Type 0
-LoginDenialMeans file claim vouched (Granted line rights evidence) = Unit {0}
-LoginDenialMeans file claim vouched (Denied why reasons evidence) =
+-- what is told of the lines: by both answers the reasons of those that were passed over, by a denial its cause too
+abbrev pub LoginTells : List ℕ → LoginClaim → List Signed → Decision → Type 0
+LoginTells file claim vouched (Granted line rights reasons evidence) =
+    AreReasons (IsPassedOver AuthEntry (IsCandidate file claim) (LoginReason claim) file) reasons
+LoginTells file claim vouched (Denied why reasons evidence) =
     LoginCause file claim vouched why × AreReasons (IsPassedOver AuthEntry (IsCandidate file claim) (LoginReason claim) file) reasons
 
--- what a decision on a login means: granted or denied, and a denial's cause and reasons
+-- what a decision on a login means: granted or denied, its reasons, and a denial's cause
 abbrev pub LoginDecides : List ℕ → LoginClaim → List Signed → Decision → Type 0
-LoginDecides file claim vouched decision = LoginMeans file claim vouched decision × LoginDenialMeans file claim vouched decision
+LoginDecides file claim vouched decision = LoginMeans file claim vouched decision × LoginTells file claim vouched decision
 
 -- ---- hosts
 
@@ -112,12 +113,13 @@ HostCause file claim vouched (NotVouched index) =
 HostCause file claim vouched TouchMissing = ⊥
 HostCause file claim vouched VerifyMissing = ⊥
 
--- what the cause and the reasons of a refused host's key mean
-abbrev pub HostDenialMeans : List ℕ → HostClaim → List Signed → Decision → Type 0
-HostDenialMeans file claim vouched (Granted line rights evidence) = Unit {0}
-HostDenialMeans file claim vouched (Denied why reasons evidence) =
+-- the same of a host's key
+abbrev pub HostTells : List ℕ → HostClaim → List Signed → Decision → Type 0
+HostTells file claim vouched (Granted line rights reasons evidence) =
+    AreReasons (IsPassedOver KnownEntry (IsHostCandidate file claim) (HostReason claim) file) reasons
+HostTells file claim vouched (Denied why reasons evidence) =
     HostCause file claim vouched why × AreReasons (IsPassedOver KnownEntry (IsHostCandidate file claim) (HostReason claim) file) reasons
 
--- what a decision on a host's key means: granted or denied, and a denial's cause and reasons
+-- what a decision on a host's key means: granted or denied, its reasons, and a denial's cause
 abbrev pub HostDecides : List ℕ → HostClaim → List Signed → Decision → Type 0
-HostDecides file claim vouched decision = HostMeans file claim vouched decision × HostDenialMeans file claim vouched decision
+HostDecides file claim vouched decision = HostMeans file claim vouched decision × HostTells file claim vouched decision
