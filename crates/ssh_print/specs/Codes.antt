@@ -1,5 +1,5 @@
 -- The codes of faults, reasons and causes: the outer ones first, then a place. A space stands before each.
-use Rattle.std.specs.Prelude.{◌++◌, ℕ, List, codes}
+use Rattle.std.specs.Prelude.{◌++◌, ℕ, List, [], codes}
 use Rattle.std.specs.Fmt.{decimal}
 use Rattle.ssh_wire.specs.declared.error.WireCause.{WireCause}
 use Rattle.ssh_wire.specs.declared.error.WireCause.TheVariants as wire
@@ -69,51 +69,78 @@ body_codes (body.Wire e) = codes " B12" ++ wire_codes e
 body_codes body.Trailing = codes " B13"
 body_codes body.TooLong = codes " B14"
 
+abbrev pub line_code : LineCause → List ℕ
+line_code line_cause.TooLong = codes "L1"
+line_code line_cause.OptionSyntax = codes "L2"
+line_code line_cause.UnknownOption = codes "L3"
+line_code line_cause.OptionValue = codes "L4"
+line_code line_cause.RepeatedOption = codes "L5"
+line_code line_cause.ExpiryText = codes "L6"
+line_code line_cause.NoKey = codes "L7"
+line_code line_cause.KeyType = codes "L8"
+line_code line_cause.RetiredType = codes "L9"
+line_code line_cause.Base64 = codes "L10"
+line_code (line_cause.KeyBlob e) = codes "L11"
+line_code line_cause.TypeMismatch = codes "L12"
+line_code line_cause.CertificateOnLine = codes "L13"
+line_code line_cause.Marker = codes "L14"
+line_code line_cause.HashedName = codes "L15"
+line_code line_cause.Names = codes "L16"
+
+-- what stands after it
+abbrev pub line_rest : LineCause → List ℕ
+line_rest (line_cause.KeyBlob e) = key_codes e
+line_rest _ = []
+
 abbrev pub line_codes : LineCause → List ℕ
-line_codes line_cause.TooLong = codes " L1"
-line_codes line_cause.OptionSyntax = codes " L2"
-line_codes line_cause.UnknownOption = codes " L3"
-line_codes line_cause.OptionValue = codes " L4"
-line_codes line_cause.RepeatedOption = codes " L5"
-line_codes line_cause.ExpiryText = codes " L6"
-line_codes line_cause.NoKey = codes " L7"
-line_codes line_cause.KeyType = codes " L8"
-line_codes line_cause.RetiredType = codes " L9"
-line_codes line_cause.Base64 = codes " L10"
-line_codes (line_cause.KeyBlob e) = codes " L11" ++ key_codes e
-line_codes line_cause.TypeMismatch = codes " L12"
-line_codes line_cause.CertificateOnLine = codes " L13"
-line_codes line_cause.Marker = codes " L14"
-line_codes line_cause.HashedName = codes " L15"
-line_codes line_cause.Names = codes " L16"
+line_codes e = spaced (line_code e) ++ line_rest e
+
+abbrev pub reason_code : Reason → List ℕ
+reason_code (reason.Unreadable e) = codes "G1"
+reason_code reason.AuthorityOnly = codes "G3"
+reason_code reason.NotAuthority = codes "G4"
+reason_code reason.Expired = codes "G6"
+reason_code reason.SourceBad = codes "G7"
+reason_code reason.SourceRefused = codes "G8"
+reason_code reason.WrongCertKind = codes "G9"
+reason_code reason.NotYetValid = codes "G10"
+reason_code reason.NoLongerValid = codes "G11"
+reason_code reason.PrincipalRefused = codes "G12"
+reason_code reason.EmptyPrincipals = codes "G19"
+reason_code (reason.CriticalUnknown name) = codes "G13"
+reason_code reason.CriticalRepeated = codes "G14"
+reason_code reason.CriticalData = codes "G15"
+reason_code reason.CertSourceBad = codes "G16"
+reason_code reason.CertSourceRefused = codes "G17"
+reason_code reason.CommandConflict = codes "G18"
+reason_code reason.RsaTooSmall = codes "G20"
+
+-- what stands after it
+abbrev pub reason_rest : Reason → List ℕ
+reason_rest (reason.Unreadable e) = line_codes e
+reason_rest (reason.CriticalUnknown name) = spaced (escaped name)
+reason_rest _ = []
 
 abbrev pub reason_codes : Reason → List ℕ
-reason_codes (reason.Unreadable e) = codes " G1" ++ line_codes e
-reason_codes reason.AuthorityOnly = codes " G3"
-reason_codes reason.NotAuthority = codes " G4"
-reason_codes reason.Expired = codes " G6"
-reason_codes reason.SourceBad = codes " G7"
-reason_codes reason.SourceRefused = codes " G8"
-reason_codes reason.WrongCertKind = codes " G9"
-reason_codes reason.NotYetValid = codes " G10"
-reason_codes reason.NoLongerValid = codes " G11"
-reason_codes reason.PrincipalRefused = codes " G12"
-reason_codes reason.EmptyPrincipals = codes " G19"
-reason_codes (reason.CriticalUnknown name) = codes " G13 " ++ escaped name
-reason_codes reason.CriticalRepeated = codes " G14"
-reason_codes reason.CriticalData = codes " G15"
-reason_codes reason.CertSourceBad = codes " G16"
-reason_codes reason.CertSourceRefused = codes " G17"
-reason_codes reason.CommandConflict = codes " G18"
-reason_codes reason.RsaTooSmall = codes " G20"
+reason_codes e = spaced (reason_code e) ++ reason_rest e
+
+abbrev pub cause_code : Cause → List ℕ
+cause_code (cause.Revoked n) = codes "N1"
+cause_code (cause.RevocationUnreadable n) = codes "N2"
+cause_code cause.NoLine = codes "N3"
+cause_code cause.TouchMissing = codes "N4"
+cause_code cause.VerifyMissing = codes "N5"
+cause_code (cause.NotVouched k) = codes "N6"
+
+-- what stands after it
+abbrev pub cause_rest : Cause → List ℕ
+cause_rest (cause.Revoked n) = spaced (decimal n)
+cause_rest (cause.RevocationUnreadable n) = spaced (decimal n)
+cause_rest (cause.NotVouched k) = spaced (decimal k)
+cause_rest _ = []
 
 abbrev pub cause_codes : Cause → List ℕ
-cause_codes (cause.Revoked n) = codes " N1" ++ spaced (decimal n)
-cause_codes (cause.RevocationUnreadable n) = codes " N2" ++ spaced (decimal n)
-cause_codes cause.NoLine = codes " N3"
-cause_codes cause.TouchMissing = codes " N4"
-cause_codes cause.VerifyMissing = codes " N5"
-cause_codes (cause.NotVouched k) = codes " N6" ++ spaced (decimal k)
+cause_codes e = spaced (cause_code e) ++ cause_rest e
 
 abbrev pub offer_codes : OfferError → List ℕ
 offer_codes (offer.Key e) = key_codes e

@@ -38,10 +38,10 @@ has_no_right r = not (r.port || (r.agent || (r.x11 || (r.pty || r.user_rc))))
 abbrev pub rights_line : Rights → List ℕ
 rights_line r = codes "rights" ++ (if has_no_right r then codes " none" else right_words r) ++ codes "\n"
 
--- a command of no bytes is printed too
-abbrev pub command_line : Option (List ℕ) → List ℕ
-command_line None = []
-command_line (Some text) = text_line (codes "command ") text
+-- a command of no bytes is printed too; what stands before the line is given
+abbrev pub command_line : List ℕ → Option (List ℕ) → List ℕ
+command_line indent None = []
+command_line indent (Some text) = indent ++ text_line (codes "command ") text
 
 abbrev pub carried_word : CarriedName → List ℕ
 carried_word carried.Environment = codes "environment"
@@ -49,12 +49,13 @@ carried_word carried.PermitListen = codes "permitlisten"
 carried_word carried.PermitOpen = codes "permitopen"
 carried_word carried.Tunnel = codes "tunnel"
 
-abbrev pub carried_line : Carried → List ℕ
-carried_line c = codes "carry " ++ carried_word c.name ++ codes " " ++ escaped c.text ++ codes "\n"
+abbrev pub carried_line : List ℕ → Carried → List ℕ
+carried_line indent c = indent ++ codes "carry " ++ carried_word c.name ++ codes " " ++ escaped c.text ++ codes "\n"
 
-abbrev pub rights_lines : Option Rights → List ℕ
-rights_lines None = []
-rights_lines (Some r) = rights_line r ++ command_line r.command ++ flat_map carried_line r.carried
+-- the lines of what a login may do, each after this indent; for a host's key none
+abbrev pub rights_lines : List ℕ → Option Rights → List ℕ
+rights_lines indent None = []
+rights_lines indent (Some r) = indent ++ rights_line r ++ command_line indent r.command ++ flat_map (carried_line indent) r.carried
 
 abbrev pub cause_line : Cause → List ℕ
 cause_line why = codes "denied" ++ cause_codes why ++ codes "\n"
@@ -63,8 +64,9 @@ abbrev pub reason_line : ℕ × Reason → List ℕ
 reason_line r = codes "reason " ++ decimal r.0 ++ reason_codes r.1 ++ codes "\n"
 
 abbrev pub granted_lines : ℕ → Option Rights → List ℕ
-granted_lines n rights = codes "granted line " ++ decimal n ++ codes "\n" ++ rights_lines rights
+granted_lines n rights = codes "granted line " ++ decimal n ++ codes "\n" ++ rights_lines [] rights
 
+-- what a grant passed over is not printed
 abbrev pub decision_text : Decision → List ℕ
-decision_text (Granted n rights evidence) = granted_lines n rights ++ evidence_lines evidence
+decision_text (Granted n rights reasons evidence) = granted_lines n rights ++ evidence_lines evidence
 decision_text (Denied why reasons evidence) = cause_line why ++ flat_map reason_line reasons ++ evidence_lines evidence

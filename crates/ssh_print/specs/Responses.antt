@@ -15,7 +15,7 @@ pub record Response : Type 0 where
   pub text : List ℕ
 
 abbrev pub decision_status : Decision → ℕ
-decision_status (Granted n rights evidence) = 0
+decision_status (Granted n rights reasons evidence) = 0
 decision_status (Denied why reasons evidence) = 1
 
 abbrev pub fault_response : List ℕ → Response

@@ -220,10 +220,10 @@ no_rights = record { port = false; agent = false; x11 = false; pty = false; user
 -- rights, the forced command, and what is carried
 abbrev pub RightsShown : Type 0
 RightsShown =
-    (rights_lines None ≡ [])
-    × (rights_lines (Some all_rights) ≡ codes "rights port agent x11 pty rc\n")
-    × (rights_lines (Some no_rights) ≡ codes "rights none\ncommand \n")
-    × (rights_lines (Some some_rights) ≡ codes "rights agent pty\ncommand a \"b\" c\ncarry environment LANG=C\ncarry permitlisten 8080\ncarry permitopen 192.0.2.1:80\ncarry tunnel 0\n")
+    (rights_lines [] None ≡ [])
+    × (rights_lines [] (Some all_rights) ≡ codes "rights port agent x11 pty rc\n")
+    × (rights_lines [] (Some no_rights) ≡ codes "rights none\ncommand \n")
+    × (rights_lines (codes "  ") (Some some_rights) ≡ codes "  rights agent pty\n  command a \"b\" c\n  carry environment LANG=C\n  carry permitlisten 8080\n  carry permitopen 192.0.2.1:80\n  carry tunnel 0\n")
 
 pub rights_shown : RightsShown
 unfolding word_line
@@ -232,9 +232,9 @@ rights_shown = (refl, refl, refl, refl)
 -- decisions, with their status
 abbrev pub DecisionsShown : Type 0
 DecisionsShown =
-    (decision_response (Ok (Granted 1 (Some all_rights) (one_signed ∷ [])))
+    (decision_response (Ok (Granted 1 (Some all_rights) [] (one_signed ∷ [])))
     ≡ record { status = 0; text = codes "granted line 1\nrights port agent x11 pty rc\nevidence 0 000b - aa\n" })
-    × (decision_response (Ok (Granted 12 None (one_signed ∷ one_signed ∷ [])))
+    × (decision_response (Ok (Granted 12 None ((3, reason.Expired) ∷ []) (one_signed ∷ one_signed ∷ [])))
     ≡ record { status = 0; text = codes "granted line 12\nevidence 0 000b - aa\nevidence 1 000b - aa\n" })
     × (decision_response (Ok (Denied (cause.RevocationUnreadable 4) [] []))
     ≡ record { status = 1; text = codes "denied N2 4\n" })

@@ -13,7 +13,7 @@ ghost use Rattle.ssh_print.specs.Responses.{
 };
 ghost use Rattle.ssh_print.specs.ResponseView.{response};
 
-use crate::codes::push_fault_codes;
+use crate::codes::fault_codes;
 use crate::decision_text::push_decision;
 use crate::response::{FAULT, Response};
 use crate::text::{push_escaped, push_number};
@@ -76,8 +76,7 @@ pub fn vouch_fault(alloc: Global, line: u64) -> Result<Response, AllocError>
 pub fn audit_fault(alloc: Global, error: AuditError) -> Result<Response, AllocError>
     ensures { IfOk result (λ r. response r ≡ refused_response error) }
 {
-    let mut codes = Vec::new(alloc);
-    push_fault_codes(alloc, &mut codes, error)?;
+    let codes = fault_codes(alloc, error)?;
     fault_response(alloc, &codes)
 }
 

@@ -1,17 +1,20 @@
 //! The codes of faults, reasons and causes: the outer ones first, then a place.
 
-ghost use Rattle.std.specs.Prelude.{◌≡◌, ◌++◌, OnOk};
+ghost use Rattle.std.specs.Prelude.{◌≡◌, ◌++◌, IfOk, OnOk};
 ghost use Rattle.std.specs.Fmt.{decimal};
 ghost use Rattle.ssh_print.specs.Codes.{
   body_codes,
+  cause_code,
   cause_codes,
   cert_codes,
   fault_codes,
   key_codes,
+  line_code,
   line_codes,
   offer_codes,
   wire_code,
   wire_codes,
+  reason_code,
   reason_codes,
 };
 ghost use Rattle.ssh_print.specs.Texts.{spaced};
@@ -69,32 +72,40 @@ fn push_key_codes(alloc: Global, out: &mut Vec<u8>, error: KeyError) -> Result<(
     Ok(())
 }
 
-/// The codes of a line's cause, `L1` to `L16`; after `L11` those of its key fault.
-pub fn push_line_codes(alloc: Global, out: &mut Vec<u8>, cause: LineCause) -> Result<(), AllocError>
-    ensures { OnOk result (out.new.items ≡ out.old.items ++ line_codes cause) }
+/// The code of a line's cause, `L1` to `L16`.
+pub fn line_code(cause: LineCause) -> &'static str
+    ensures { result.now ≡ line_code cause }
 {
     match cause {
-        LineCause::TooLong => out.extend_from_slice(b" L1")?,
-        LineCause::OptionSyntax => out.extend_from_slice(b" L2")?,
-        LineCause::UnknownOption => out.extend_from_slice(b" L3")?,
-        LineCause::OptionValue => out.extend_from_slice(b" L4")?,
-        LineCause::RepeatedOption => out.extend_from_slice(b" L5")?,
-        LineCause::ExpiryText => out.extend_from_slice(b" L6")?,
-        LineCause::NoKey => out.extend_from_slice(b" L7")?,
-        LineCause::KeyType => out.extend_from_slice(b" L8")?,
-        LineCause::RetiredType => out.extend_from_slice(b" L9")?,
-        LineCause::Base64 => out.extend_from_slice(b" L10")?,
-        LineCause::KeyBlob(e) => {
-            out.extend_from_slice(b" L11")?;
-            push_key_codes(alloc, out, e)?;
-        }
-        LineCause::TypeMismatch => out.extend_from_slice(b" L12")?,
-        LineCause::CertificateOnLine => out.extend_from_slice(b" L13")?,
-        LineCause::Marker => out.extend_from_slice(b" L14")?,
-        LineCause::HashedName => out.extend_from_slice(b" L15")?,
-        LineCause::Names => out.extend_from_slice(b" L16")?,
+        LineCause::TooLong => "L1",
+        LineCause::OptionSyntax => "L2",
+        LineCause::UnknownOption => "L3",
+        LineCause::OptionValue => "L4",
+        LineCause::RepeatedOption => "L5",
+        LineCause::ExpiryText => "L6",
+        LineCause::NoKey => "L7",
+        LineCause::KeyType => "L8",
+        LineCause::RetiredType => "L9",
+        LineCause::Base64 => "L10",
+        LineCause::KeyBlob(_) => "L11",
+        LineCause::TypeMismatch => "L12",
+        LineCause::CertificateOnLine => "L13",
+        LineCause::Marker => "L14",
+        LineCause::HashedName => "L15",
+        LineCause::Names => "L16",
     }
-    Ok(())
+}
+
+/// The codes of a line's cause: its own, after `L11` those of its key fault.
+fn push_line_codes(alloc: Global, out: &mut Vec<u8>, cause: LineCause) -> Result<(), AllocError>
+    ensures { OnOk result (out.new.items ≡ out.old.items ++ line_codes cause) }
+{
+    out.push(b' ')?;
+    out.extend_from_slice(line_code(cause).as_bytes())?;
+    match cause {
+        LineCause::KeyBlob(e) => push_key_codes(alloc, out, e),
+        _ => Ok(()),
+    }
 }
 
 fn push_place(alloc: Global, out: &mut Vec<u8>, place: usize) -> Result<(), AllocError>
@@ -106,7 +117,7 @@ fn push_place(alloc: Global, out: &mut Vec<u8>, place: usize) -> Result<(), Allo
 }
 
 /// The codes of a certificate's fault, `C1` to `C9`; after some those of an inner fault or a place.
-pub fn push_cert_codes(alloc: Global, out: &mut Vec<u8>, error: CertError) -> Result<(), AllocError>
+fn push_cert_codes(alloc: Global, out: &mut Vec<u8>, error: CertError) -> Result<(), AllocError>
     ensures { OnOk result (out.new.items ≡ out.old.items ++ cert_codes error) }
 {
     match error {
@@ -142,7 +153,7 @@ pub fn push_cert_codes(alloc: Global, out: &mut Vec<u8>, error: CertError) -> Re
 }
 
 /// The codes of a body's fault, `B1` to `B14`; after `B11` and `B12` those of an inner fault.
-pub fn push_body_codes(alloc: Global, out: &mut Vec<u8>, error: BodyError) -> Result<(), AllocError>
+fn push_body_codes(alloc: Global, out: &mut Vec<u8>, error: BodyError) -> Result<(), AllocError>
     ensures { OnOk result (out.new.items ≡ out.old.items ++ body_codes error) }
 {
     match error {
@@ -170,6 +181,33 @@ pub fn push_body_codes(alloc: Global, out: &mut Vec<u8>, error: BodyError) -> Re
     Ok(())
 }
 
+/// The codes of a line's cause, `L1` to `L16`, each after a space.
+pub fn line_codes(alloc: Global, cause: LineCause) -> Result<Vec<u8>, AllocError>
+    ensures { IfOk result (λ v. v.items ≡ line_codes cause) }
+{
+    let mut codes = Vec::new(alloc);
+    push_line_codes(alloc, &mut codes, cause)?;
+    Ok(codes)
+}
+
+/// The codes of a certificate's fault, `C1` to `C9`, each after a space.
+pub fn cert_codes(alloc: Global, error: CertError) -> Result<Vec<u8>, AllocError>
+    ensures { IfOk result (λ v. v.items ≡ cert_codes error) }
+{
+    let mut codes = Vec::new(alloc);
+    push_cert_codes(alloc, &mut codes, error)?;
+    Ok(codes)
+}
+
+/// The codes of a body's fault, `B1` to `B14`, each after a space.
+pub fn body_codes(alloc: Global, error: BodyError) -> Result<Vec<u8>, AllocError>
+    ensures { IfOk result (λ v. v.items ≡ body_codes error) }
+{
+    let mut codes = Vec::new(alloc);
+    push_body_codes(alloc, &mut codes, error)?;
+    Ok(codes)
+}
+
 /// The codes of what a blob's offer is refused for.
 fn push_offer_codes(alloc: Global, out: &mut Vec<u8>, error: OfferError) -> Result<(), AllocError>
     ensures { OnOk result (out.new.items ≡ out.old.items ++ offer_codes error) }
@@ -181,7 +219,7 @@ fn push_offer_codes(alloc: Global, out: &mut Vec<u8>, error: OfferError) -> Resu
 }
 
 /// The codes of a fault.
-pub fn push_fault_codes(
+pub(crate) fn push_fault_codes(
     alloc: Global,
     out: &mut Vec<u8>,
     error: AuditError,
@@ -214,65 +252,111 @@ pub fn push_fault_codes(
     Ok(())
 }
 
-/// The code of a reason, `G1` to `G20`; after `G1` those of the line's cause, after `G13` the name
-/// of the option.
-pub fn push_reason_codes(
+/// The codes of a fault, each after a space.
+pub fn fault_codes(alloc: Global, error: AuditError) -> Result<Vec<u8>, AllocError>
+    ensures { IfOk result (λ v. v.items ≡ fault_codes error) }
+{
+    let mut codes = Vec::new(alloc);
+    push_fault_codes(alloc, &mut codes, error)?;
+    Ok(codes)
+}
+
+/// The code of a reason, `G1` to `G20`.
+pub fn reason_code(reason: &Reason) -> &'static str
+    ensures { result.now ≡ reason_code reason.now }
+{
+    match reason {
+        Reason::Unreadable(_) => "G1",
+        Reason::AuthorityOnly => "G3",
+        Reason::NotAuthority => "G4",
+        Reason::Expired => "G6",
+        Reason::SourceBad => "G7",
+        Reason::SourceRefused => "G8",
+        Reason::WrongCertKind => "G9",
+        Reason::NotYetValid => "G10",
+        Reason::NoLongerValid => "G11",
+        Reason::PrincipalRefused => "G12",
+        Reason::EmptyPrincipals => "G19",
+        Reason::CriticalUnknown(_) => "G13",
+        Reason::CriticalRepeated => "G14",
+        Reason::CriticalData => "G15",
+        Reason::CertSourceBad => "G16",
+        Reason::CertSourceRefused => "G17",
+        Reason::CommandConflict => "G18",
+        Reason::RsaTooSmall => "G20",
+    }
+}
+
+/// The codes of a reason: its own, after `G1` those of the line's cause, after `G13` the name of the
+/// option.
+pub(crate) fn push_reason_codes(
     alloc: Global,
     out: &mut Vec<u8>,
     reason: &Reason,
 ) -> Result<(), AllocError>
     ensures { OnOk result (out.new.items ≡ out.old.items ++ reason_codes reason.now) }
 {
+    out.push(b' ')?;
+    out.extend_from_slice(reason_code(reason).as_bytes())?;
     match reason {
-        Reason::Unreadable(cause) => {
-            out.extend_from_slice(b" G1")?;
-            push_line_codes(alloc, out, *cause)?;
-        }
-        Reason::AuthorityOnly => out.extend_from_slice(b" G3")?,
-        Reason::NotAuthority => out.extend_from_slice(b" G4")?,
-        Reason::Expired => out.extend_from_slice(b" G6")?,
-        Reason::SourceBad => out.extend_from_slice(b" G7")?,
-        Reason::SourceRefused => out.extend_from_slice(b" G8")?,
-        Reason::WrongCertKind => out.extend_from_slice(b" G9")?,
-        Reason::NotYetValid => out.extend_from_slice(b" G10")?,
-        Reason::NoLongerValid => out.extend_from_slice(b" G11")?,
-        Reason::PrincipalRefused => out.extend_from_slice(b" G12")?,
-        Reason::EmptyPrincipals => out.extend_from_slice(b" G19")?,
+        Reason::Unreadable(cause) => push_line_codes(alloc, out, *cause),
         Reason::CriticalUnknown(name) => {
-            out.extend_from_slice(b" G13 ")?;
-            push_escaped(out, name.as_slice())?;
+            out.push(b' ')?;
+            push_escaped(out, name.as_slice())
         }
-        Reason::CriticalRepeated => out.extend_from_slice(b" G14")?,
-        Reason::CriticalData => out.extend_from_slice(b" G15")?,
-        Reason::CertSourceBad => out.extend_from_slice(b" G16")?,
-        Reason::CertSourceRefused => out.extend_from_slice(b" G17")?,
-        Reason::CommandConflict => out.extend_from_slice(b" G18")?,
-        Reason::RsaTooSmall => out.extend_from_slice(b" G20")?,
+        _ => Ok(()),
     }
-    Ok(())
 }
 
-/// The code of why an offer is denied, `N1` to `N6`; after `N1` and `N2` the number of the line,
-/// after `N6` the index of what nobody vouches for.
-pub fn push_cause_codes(alloc: Global, out: &mut Vec<u8>, cause: Cause) -> Result<(), AllocError>
-    ensures { OnOk result (out.new.items ≡ out.old.items ++ cause_codes cause) }
+/// The codes of a reason, each after a space.
+pub fn reason_codes(alloc: Global, reason: &Reason) -> Result<Vec<u8>, AllocError>
+    ensures { IfOk result (λ v. v.items ≡ reason_codes reason.now) }
+{
+    let mut codes = Vec::new(alloc);
+    push_reason_codes(alloc, &mut codes, reason)?;
+    Ok(codes)
+}
+
+/// The code of why an offer is denied, `N1` to `N6`.
+pub fn cause_code(cause: Cause) -> &'static str
+    ensures { result.now ≡ cause_code cause }
 {
     match cause {
-        Cause::Revoked(line) => {
-            out.extend_from_slice(b" N1 ")?;
-            push_number(alloc, out, line)?;
-        }
-        Cause::RevocationUnreadable(line) => {
-            out.extend_from_slice(b" N2 ")?;
-            push_number(alloc, out, line)?;
-        }
-        Cause::NoLine => out.extend_from_slice(b" N3")?,
-        Cause::TouchMissing => out.extend_from_slice(b" N4")?,
-        Cause::VerifyMissing => out.extend_from_slice(b" N5")?,
-        Cause::NotVouched(index) => {
-            out.extend_from_slice(b" N6 ")?;
-            push_number(alloc, out, index)?;
-        }
+        Cause::Revoked(_) => "N1",
+        Cause::RevocationUnreadable(_) => "N2",
+        Cause::NoLine => "N3",
+        Cause::TouchMissing => "N4",
+        Cause::VerifyMissing => "N5",
+        Cause::NotVouched(_) => "N6",
     }
-    Ok(())
+}
+
+/// The codes of why an offer is denied: its own, after `N1` and `N2` the number of the line, after
+/// `N6` the index of what nobody vouches for.
+pub(crate) fn push_cause_codes(
+    alloc: Global,
+    out: &mut Vec<u8>,
+    cause: Cause,
+) -> Result<(), AllocError>
+    ensures { OnOk result (out.new.items ≡ out.old.items ++ cause_codes cause) }
+{
+    out.push(b' ')?;
+    out.extend_from_slice(cause_code(cause).as_bytes())?;
+    match cause {
+        Cause::Revoked(number) | Cause::RevocationUnreadable(number) | Cause::NotVouched(number) =>
+            {
+                out.push(b' ')?;
+                push_number(alloc, out, number)
+            }
+        _ => Ok(()),
+    }
+}
+
+/// The codes of why an offer is denied, each after a space.
+pub fn cause_codes(alloc: Global, cause: Cause) -> Result<Vec<u8>, AllocError>
+    ensures { IfOk result (λ v. v.items ≡ cause_codes cause) }
+{
+    let mut codes = Vec::new(alloc);
+    push_cause_codes(alloc, &mut codes, cause)?;
+    Ok(codes)
 }

@@ -1,6 +1,6 @@
 //! The lines of a decision.
 
-ghost use Rattle.std.specs.Prelude.{◌≡◌, ◌++◌, OnOk};
+ghost use Rattle.std.specs.Prelude.{◌≡◌, ◌++◌, IfOk, OnOk};
 ghost use Rattle.std.specs.List.{flat_map};
 ghost use Rattle.ssh_print.specs.DecisionText.{
   carried_line,
@@ -101,13 +101,18 @@ fn push_rights_line(out: &mut Vec<u8>, rights: &Rights) -> Result<(), AllocError
     Ok(())
 }
 
-fn push_command_line(out: &mut Vec<u8>, command: &Option<Bytes>) -> Result<(), AllocError>
-    ensures { OnOk result (out.new.items ≡ out.old.items ++ command_line command.now) }
+fn push_command_line(
+    out: &mut Vec<u8>,
+    indent: &[u8],
+    command: &Option<Bytes>,
+) -> Result<(), AllocError>
+    ensures { OnOk result (out.new.items ≡ out.old.items ++ command_line indent.now command.now) }
 {
-    match command {
-        Some(text) => push_text_line(out, b"command ", text.as_slice()),
-        None => Ok(()),
+    if let Some(text) = command {
+        out.extend_from_slice(indent)?;
+        push_text_line(out, b"command ", text.as_slice())?;
     }
+    Ok(())
 }
 
 /// The name of an option, as sshd(8) spells it.
@@ -122,9 +127,10 @@ fn carried_word(name: CarriedName) -> &'static [u8]
     }
 }
 
-fn push_carried_line(out: &mut Vec<u8>, carried: &Carried) -> Result<(), AllocError>
-    ensures { OnOk result (out.new.items ≡ out.old.items ++ carried_line carried.now) }
+fn push_carried_line(out: &mut Vec<u8>, indent: &[u8], carried: &Carried) -> Result<(), AllocError>
+    ensures { OnOk result (out.new.items ≡ out.old.items ++ carried_line indent.now carried.now) }
 {
+    out.extend_from_slice(indent)?;
     out.extend_from_slice(b"carry ")?;
     out.extend_from_slice(carried_word(carried.name))?;
     out.push(b' ')?;
@@ -133,28 +139,41 @@ fn push_carried_line(out: &mut Vec<u8>, carried: &Carried) -> Result<(), AllocEr
     Ok(())
 }
 
-fn push_carried(out: &mut Vec<u8>, carried: &[Carried]) -> Result<(), AllocError>
-    ensures { OnOk result (out.new.items ≡ out.old.items ++ flat_map carried_line carried.now) }
+fn push_carried(out: &mut Vec<u8>, indent: &[u8], carried: &[Carried]) -> Result<(), AllocError>
+    ensures { OnOk result (out.new.items ≡ out.old.items
+        ++ flat_map (carried_line indent.now) carried.now) }
 {
     for text in carried {
-        push_carried_line(out, text)?;
+        push_carried_line(out, indent, text)?;
     }
     Ok(())
 }
 
 /// What a login may do: its rights, the command that is forced, and the texts that are carried on;
 /// for a host's key nothing.
-fn push_rights(out: &mut Vec<u8>, rights: &Option<Rights>) -> Result<(), AllocError>
-    ensures { OnOk result (out.new.items ≡ out.old.items ++ rights_lines rights.now) }
+fn push_rights(out: &mut Vec<u8>, indent: &[u8], rights: &Option<Rights>) -> Result<(), AllocError>
+    ensures { OnOk result (out.new.items ≡ out.old.items ++ rights_lines indent.now rights.now) }
 {
-    match rights {
-        Some(rights) => {
-            push_rights_line(out, rights)?;
-            push_command_line(out, &rights.command)?;
-            push_carried(out, rights.carried.as_slice())
-        }
-        None => Ok(()),
+    if let Some(rights) = rights {
+        out.extend_from_slice(indent)?;
+        push_rights_line(out, rights)?;
+        push_command_line(out, indent, &rights.command)?;
+        push_carried(out, indent, rights.carried.as_slice())?;
     }
+    Ok(())
+}
+
+/// The lines of what a login may do, each after this indent; for a host's key none.
+pub fn rights_lines(
+    alloc: Global,
+    indent: &[u8],
+    rights: &Option<Rights>,
+) -> Result<Vec<u8>, AllocError>
+    ensures { IfOk result (λ v. v.items ≡ rights_lines indent.now rights.now) }
+{
+    let mut lines = Vec::new(alloc);
+    push_rights(&mut lines, indent, rights)?;
+    Ok(lines)
 }
 
 /// The first line of what is denied.
@@ -210,7 +229,7 @@ fn push_granted(
     out.extend_from_slice(b"granted line ")?;
     push_number(alloc, out, line)?;
     out.push(b'\n')?;
-    push_rights(out, rights)?;
+    push_rights(out, b"", rights)?;
     Ok(())
 }
 
@@ -227,6 +246,7 @@ pub fn push_decision(
             line,
             rights,
             evidence,
+            ..
         } => {
             push_granted(alloc, out, *line, rights)?;
             push_evidence(alloc, out, evidence.as_slice())?;

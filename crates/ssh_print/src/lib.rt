@@ -15,7 +15,11 @@ pub use answer::{
     audit_fault, decision_response, fault_response, file_fault, usage_fault, value_fault,
     vouch_fault,
 };
-pub use codes::{push_body_codes, push_cert_codes, push_line_codes};
+pub use codes::{
+    body_codes, cause_code, cause_codes, cert_codes, fault_codes, line_code, line_codes,
+    reason_code, reason_codes,
+};
+pub use decision_text::rights_lines;
 pub use line::{push_number_line, push_text_line, push_word_line};
 pub use response::{DONE, FAULT, Response};
 pub use sshsig_text::sshsig_response;
