@@ -1,5 +1,6 @@
 -- What reading a file answers.
-use Rattle.std.specs.Prelude.{◌≡◌, ◌⊎◌, ◌++◌, ◌+◌, ℕ, List, Option, Some, None, Result, Ok, Err, length, nat_lt, if◌then◌else◌, ◌<◌}
+use Rattle.std.specs.Prelude.{◌≡◌, ◌⊎◌, ◌++◌, ◌+◌, ℕ, false, List, Option, Some, None, Result, Ok, Err, length, nat_lt, if◌then◌else◌, ◌<◌}
+use Rattle.std.specs.Str.{bytes_eq}
 use Rattle.ssh_text.specs.Text.{file_limit, line_limit}
 use Rattle.ssh_inputs.specs.SourceState.{SourceState, dash, next_choice}
 use Rattle.ssh_inputs.specs.Parts.{first_line, after_line}
@@ -68,6 +69,11 @@ FailsLoad name bytes s t fault.Memory = HoldsBytes bytes
 abbrev pub Loads : {V : Type 0} → (V → List ℕ) → List ℕ → Option (List ℕ) → SourceState → SourceState → Option SourceState → Result V ReadError → Type 0
 Loads view name bytes rest s t (Ok v) = (within_limit bytes ≡ Some (view v)) × IsLeft s rest t
 Loads view name bytes rest s t (Err e) = FailsLoad name bytes s t e
+
+-- what a reading of the file of this name leaves of all other files: the named ones, and of another than standard input that too
+abbrev pub KeepsOthers : List ℕ → SourceState → Option SourceState → Type 0
+KeepsOthers name s None = ⊥
+KeepsOthers name s (Some t) = (t.named ≡ s.named) × (bytes_eq name dash ≡ false → t.input ≡ s.input)
 
 -- ---- the first line of standard input
 

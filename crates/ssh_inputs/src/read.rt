@@ -4,7 +4,7 @@ ghost use Rattle.std.specs.Prelude.{◌≡◌, ◌==◌, ◌&&◌, ◌≤◌, le
 ghost use Rattle.ssh_text.specs.Text.{file_limit};
 ghost use Rattle.ssh_inputs.specs.SourceState.{bytes_at, dash, IfTells};
 ghost use Rattle.ssh_inputs.specs.Parts.{after_part, after_reading, after_whole, cut_at_empty, part_at};
-ghost use Rattle.ssh_inputs.specs.Loading.{Gathers, Loads, LoadsLine};
+ghost use Rattle.ssh_inputs.specs.Loading.{Gathers, KeepsOthers, Loads, LoadsLine};
 
 use crate::files::Files;
 use ssh_text::{FILE_LIMIT, LINE_LIMIT};
@@ -24,9 +24,11 @@ const PIECE: usize = 4096;
 
 /// The bytes of the file of this name; of a file that passes the limit, as many as pass it.
 fn gather<F: Files>(alloc: Global, files: &mut F, name: &str) -> Result<Vec<u8>, ReadError>
-    ensures { IfTells (F.source_state files.old) (λ s.
+    ensures bytes { IfTells (F.source_state files.old) (λ s.
         Gathers (λ v. v.items) name.now (bytes_at s name.now) (after_whole s name.now) s
         (F.source_state files.new) result) }
+    ensures others { IfTells (F.source_state files.old)
+        (λ s. KeepsOthers name.now s (F.source_state files.new)) }
 {
     if !files.choose(name) {
         return Err(ReadError::Missing);
@@ -53,6 +55,9 @@ pub fn read_whole<F: Files>(alloc: Global, files: &mut F, name: &str) -> Result<
     ensures bytes { IfTells (F.source_state files.old) (λ s.
         Loads (λ v. v.items) name.now (bytes_at s name.now) (after_whole s name.now) s
         (F.source_state files.new) result) }
+    // Whatever comes of it, the other files stay.
+    ensures others { IfTells (F.source_state files.old)
+        (λ s. KeepsOthers name.now s (F.source_state files.new)) }
 {
     match gather(alloc, files, name) {
         Ok(bytes) => {
