@@ -129,6 +129,11 @@ show_fault_response (Cert e) = fault_response (cert_codes e)
 show_fault_response (Body e) = fault_response (body_codes e)
 show_fault_response Memory = out_of_memory
 
+-- the same, which memory refused has none of
+abbrev pub IsFaultOfShow : ShowError → Response → Type 0
+IsFaultOfShow Memory r = ⊥
+IsFaultOfShow e r = r ≡ show_fault_response e
+
 -- the text of what was read with status 0, or its fault
 abbrev pub IsAnswerTo : {A : Type 0} → (A → List ℕ → Type 0) → Result A ShowError → Response → Type 0
 IsAnswerTo IsTextOf (Ok x) r = (r.status ≡ 0) × IsTextOf x r.text

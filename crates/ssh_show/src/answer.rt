@@ -7,7 +7,7 @@ ghost use Rattle.ssh_show.specs.ShownLines.{PrintsFile};
 
 use crate::body::{show_private, show_sshsig};
 use crate::cert::show_cert;
-use crate::error::{ShowError, body_fault, cert_fault, line_fault};
+use crate::error::{ShowError, show_fault};
 use crate::key::show_key;
 use crate::kind::ShowKind;
 use crate::line::first_line;
@@ -33,9 +33,6 @@ pub fn show(alloc: Global, kind: ShowKind, file: &[u8]) -> Result<Response, Allo
 {
     match shown(alloc, kind, file) {
         Ok(text) => Ok(Response { status: DONE, text }),
-        Err(ShowError::Line(cause)) => line_fault(alloc, cause),
-        Err(ShowError::Cert(error)) => cert_fault(alloc, error),
-        Err(ShowError::Body(error)) => body_fault(alloc, error),
-        Err(ShowError::Memory) => Err(AllocError),
+        Err(error) => show_fault(alloc, error),
     }
 }

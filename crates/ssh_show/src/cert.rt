@@ -36,7 +36,7 @@ use ssh_print::{
 use std::alloc::{AllocError, Global};
 
 /// The fault of a type that is no certificate's.
-fn cert_type_fault(class: NameClass) -> Option<LineCause>
+pub(crate) fn cert_type_fault(class: NameClass) -> Option<LineCause>
     ensures { result ≡ cert_type_fault class }
 {
     match class {
@@ -46,7 +46,10 @@ fn cert_type_fault(class: NameClass) -> Option<LineCause>
 }
 
 /// The certificate in its blob, where its type is the line's.
-fn read_typed_cert<'a>(type_name: &[u8], blob: &'a [u8]) -> Result<CertView<'a>, ShowError>
+pub(crate) fn read_typed_cert<'a>(
+    type_name: &[u8],
+    blob: &'a [u8],
+) -> Result<CertView<'a>, ShowError>
     ensures { Finds certificate_of (cert_of_type type_name.now (certificate_in blob.now)) result }
 {
     match read_cert(blob) {

@@ -19,7 +19,7 @@ use ssh_print::{push_number_line, push_text_line, push_word_line};
 use std::alloc::{AllocError, Global};
 
 /// The fault of a type that is no plain key's.
-fn key_type_fault(class: NameClass) -> Option<LineCause>
+pub(crate) fn key_type_fault(class: NameClass) -> Option<LineCause>
     ensures { result ≡ key_type_fault class }
 {
     match class {
@@ -31,7 +31,7 @@ fn key_type_fault(class: NameClass) -> Option<LineCause>
 }
 
 /// The key in its blob, where its type is the line's.
-fn read_typed_key<'a>(type_name: &[u8], blob: &'a [u8]) -> Result<KeyView<'a>, ShowError>
+pub(crate) fn read_typed_key<'a>(type_name: &[u8], blob: &'a [u8]) -> Result<KeyView<'a>, ShowError>
     ensures { Finds key_of (key_of_type type_name.now (key_in blob.now)) result }
 {
     match read_key(blob) {

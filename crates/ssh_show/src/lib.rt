@@ -11,9 +11,12 @@ mod key;
 mod kind;
 mod laws;
 mod line;
+mod offer;
 mod samples;
 mod text;
 
 pub use answer::show;
 pub use date::date_text;
+pub use error::{ShowError, show_fault};
 pub use kind::{ShowKind, show_kind};
+pub use offer::{Offer, read_offer};
