@@ -1,0 +1,34 @@
+-- What stands in for the signature of a key that is asked about (this project's rule).
+use Rattle.std.specs.Prelude.{Bool, true, false, ℕ, List, [], ◌∷◌, codes, Option, Some, None}
+use Rattle.ssh_keys.specs.declared.kind.KeyKind.{KeyKind}
+use Rattle.ssh_keys.specs.declared.kind.KeyKind.TheVariants.{Rsa, SkP256, SkEd25519}
+use Rattle.ssh_keys.specs.Names.{certificate_name_of, name_of}
+use Rattle.ssh_keys.specs.Signature.{Signature, signature_blob, signature_with}
+
+-- the algorithm of a signature by a key: its type, but of RSA the name with SHA-512 (RFC 8332 section 3)
+abbrev pub signature_algorithm : KeyKind → List ℕ
+signature_algorithm Rsa = codes "rsa-sha2-512"
+signature_algorithm kind = name_of kind
+
+-- the name by which a certificate of a key is offered
+abbrev pub certificate_algorithm : KeyKind → List ℕ
+certificate_algorithm Rsa = codes "rsa-sha2-512-cert-v01@openssh.com"
+certificate_algorithm kind = certificate_name_of kind
+
+-- the name by which a login offers the key, or a certificate of it
+abbrev pub login_algorithm : KeyKind → Bool → List ℕ
+login_algorithm kind true = certificate_algorithm kind
+login_algorithm kind false = signature_algorithm kind
+
+-- a security key was touched (01) and verified its user (04), and counts 1 (PROTOCOL.u2f)
+abbrev pub security_key : KeyKind → Option (ℕ × ℕ)
+security_key SkP256 = Some (5, 1)
+security_key SkEd25519 = Some (5, 1)
+security_key kind = None
+
+-- the signature: one byte, which nobody looks into
+abbrev pub stand_in_signature : KeyKind → Signature
+stand_in_signature kind = signature_with (signature_algorithm kind) (0 ∷ []) (security_key kind)
+
+abbrev pub stand_in : KeyKind → List ℕ
+stand_in kind = signature_blob (stand_in_signature kind)
