@@ -7,6 +7,7 @@ use Rattle.ssh_offers.specs.HostClaim.{host_claim}
 use Rattle.ssh_offers.specs.LoginClaim.{login_claim}
 use Rattle.ssh_offers.specs.Query.{HostCheck, Login}
 use Rattle.ssh_rights.specs.declared.rights.Rights.{Rights}
+use Rattle.ssh_rules.specs.declared.reason.Reason.{Reason}
 use Rattle.ssh_trust.specs.declared.decision.Decision.{Decision}
 use Rattle.ssh_trust.specs.declared.decision.Decision.TheVariants.{Granted, Denied}
 use Rattle.ssh_text.specs.Text.{file_limit}
@@ -45,11 +46,12 @@ fault-in (Some name) s r h = fault-over name (within_limit (part_at s name)) r h
 record IsGranted (d : Decision) : Type 0 where
   line : ℕ
   rights : Option Rights
+  reasons : List (ℕ × Reason)
   evidence : List Signed
-  is : d ≡ Granted line rights evidence
+  is : d ≡ Granted line rights reasons evidence
 
 granted-by : (d : Decision) → decision_status d ≡ 0 → IsGranted d
-granted-by (Granted line rights evidence) h = record { line = line; rights = rights; evidence = evidence; is = refl }
+granted-by (Granted line rights reasons evidence) h = record { line = line; rights = rights; reasons = reasons; evidence = evidence; is = refl }
 granted-by (Denied why reasons evidence) h = absurd (omega (arith, h))
 
 short-by : (long : Bool) (d : Decision) → (decision_response (cond long (Err FileTooLong) (Ok d))).status ≡ 0 → (long ≡ false) × (decision_status d ≡ 0)
@@ -70,7 +72,7 @@ record Answered {C : Type 0} (claimed : Result C AuditError) (decision : List �
   file : List ℕ
   trusted : bytes_at (after_vouching f.vouch s) f.trust ≡ Some file
   granted : IsGranted (decision file claim vouched)
-  printed : r ≡ decision_response (Ok (Granted granted.line granted.rights granted.evidence))
+  printed : r ≡ decision_response (Ok (Granted granted.line granted.rights granted.reasons granted.evidence))
 
 answered-file : {C : Type 0} (claimed : Result C AuditError) (decision : List ℕ → C → List Signed → Decision) (f : AuditFiles) (s : SourceState) (vouched : List Signed)
     → vouched_in f.vouch s ≡ Ok vouched → (o : Option (List ℕ)) → bytes_at (after_vouching f.vouch s) f.trust ≡ o
@@ -109,11 +111,11 @@ answered claimed decision f s h = answered-vouched claimed decision f s (vouched
 
 -- ---- logins and hosts
 
-printed-as : (line : ℕ) (r t : Option Rights) (e g : List Signed) → r ≡ t → e ≡ g
-    → decision_response (Ok (Granted line r e)) ≡ decision_response (Ok (Granted line t g))
-printed-as line r t e g same_rights same_evidence =
-    ap (λ (x : Option Rights). decision_response (Ok (Granted line x e))) same_rights
-    ∙ ap (λ (x : List Signed). decision_response (Ok (Granted line t x))) same_evidence
+printed-as : (line : ℕ) (reasons : List (ℕ × Reason)) (r t : Option Rights) (e g : List Signed) → r ≡ t → e ≡ g
+    → decision_response (Ok (Granted line r reasons e)) ≡ decision_response (Ok (Granted line t reasons g))
+printed-as line reasons r t e g same_rights same_evidence =
+    ap (λ (x : Option Rights). decision_response (Ok (Granted line x reasons e))) same_rights
+    ∙ ap (λ (x : List Signed). decision_response (Ok (Granted line t reasons x))) same_evidence
 
 pub login_granted : (q : Login) (f : AuditFiles) (s : SourceState) → IsOfBytes f s → (audit_response (login_by q) f s).status ≡ 0 → LoginGranted q f s (audit_response (login_by q) f s)
 login_granted q f s bytes h =
@@ -129,7 +131,8 @@ login_granted q f s bytes h =
       line = a.granted.line;
       entry = means.0;
       grant = means.1;
-      printed = a.printed ∙ printed-as a.granted.line _ _ _ _ means.2 means.3;
+      reasons = a.granted.reasons;
+      printed = a.printed ∙ printed-as a.granted.line a.granted.reasons _ _ _ _ means.2 means.3;
     }
 
 pub host_granted : (q : HostCheck) (f : AuditFiles) (s : SourceState) → IsOfBytes f s → (audit_response (host_by q) f s).status ≡ 0 → HostGranted q f s (audit_response (host_by q) f s)
@@ -146,5 +149,6 @@ host_granted q f s bytes h =
       line = a.granted.line;
       entry = means.0;
       grant = means.1;
-      printed = a.printed ∙ printed-as a.granted.line _ _ _ _ means.2 means.3;
+      reasons = a.granted.reasons;
+      printed = a.printed ∙ printed-as a.granted.line a.granted.reasons _ _ _ _ means.2 means.3;
     }

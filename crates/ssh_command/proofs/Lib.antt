@@ -5,6 +5,10 @@ mod AuditLemmas
 mod EvidenceLemmas
 mod GrantingLemmas
 mod ChosenLemmas
+mod QuestionLemmas
+mod AdmissionLemmas
+mod KeyLemmas
+mod ExplainLemmas
 mod RewritingLemmas
 mod HashingLemmas
 mod ShowLemmas

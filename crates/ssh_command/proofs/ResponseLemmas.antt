@@ -18,11 +18,13 @@ use Rattle.ssh_words.specs.declared.error.CommandError.{CommandError}
 use Rattle.ssh_words.specs.declared.error.CommandError.TheVariants.{Usage, Value, Memory}
 use Rattle.ssh_words.specs.declared.options.OptionName.TheVariants as option
 use Rattle.ssh_words.specs.declared.subcommand.Subcommand.{Subcommand}
-use Rattle.ssh_words.specs.declared.subcommand.Subcommand.TheVariants.{Show, Login, Host, Sshsig, Rewrite, Hash}
+use Rattle.ssh_words.specs.declared.subcommand.Subcommand.TheVariants.{Show, Login, Host, Sshsig, Rewrite, Hash, Admits, Trusts, Explain}
 use Rattle.ssh_command.specs.Audits.{Audits, host_by, login_by}
 use Rattle.ssh_words.specs.CommandLine.{Request, request_of}
+use Rattle.ssh_command.specs.Admissions.{AsksKey}
 use Rattle.ssh_command.specs.Hashings.{Hashes}
 use Rattle.ssh_command.specs.Hosts.{host_spelled}
+use Rattle.ssh_command.specs.Keys.{admits_spelled, trusts_spelled}
 use Rattle.ssh_command.specs.Logins.{login_spelled}
 use Rattle.ssh_command.specs.Requests.{Responds, RespondsBy, RespondsIn}
 use Rattle.ssh_command.specs.Responding.{IsUsageOf}
@@ -31,6 +33,7 @@ use Rattle.ssh_command.specs.Shows.{ShowsFile}
 use Rattle.ssh_command.specs.Sshsigs.{Signs}
 use Rattle.ssh_words.specs.Spelling.{IsToldAs, RespondsTo, audit_files, needed, sshsig_question, value}
 use Rattle.ssh_words.specs.WordsView.{IfAnswered}
+use Rattle.ssh_command.proofs.AdmissionLemmas.{key-same}
 use Rattle.ssh_command.proofs.AuditLemmas.{audits-same}
 use Rattle.ssh_words.proofs.CommandLineLemmas.{no_request}
 use Rattle.ssh_command.proofs.HashingLemmas.{hashes-same}
@@ -66,6 +69,11 @@ subcommand-same Rewrite rows a b u r e h =
 subcommand-same Hash rows a b u r e h =
     spelled-same (λ trust. RespondsTo (Hashes trust) (needed option.Salts rows)) (needed option.File rows) a b u r e
     (λ trust. spelled-same (Hashes trust) (needed option.Salts rows) a b u r e (λ salts. hashes-same trust salts a b u r e)) h
+subcommand-same Admits rows a b u r e (zone, read, h) =
+    (zone, read, spelled-same (λ q. AsksKey q.asks q.key q.names) (admits_spelled rows zone) a b u r e (λ q. key-same q.asks q.key q.names a b u r e) h)
+subcommand-same Trusts rows a b u r e h =
+    spelled-same (λ q. AsksKey q.asks q.key q.names) (trusts_spelled rows) a b u r e (λ q. key-same q.asks q.key q.names a b u r e) h
+subcommand-same Explain rows a b u r e h = (none-failed b a u e.failures h.0, h.1)
 
 shifted : (q : Option Request) (a b : SourceState) (u : Option SourceState) (r : Shown) → Alike a b → RespondsBy q a u r → RespondsBy q b u r
 shifted None a b u r e h = (none-failed b a u e.failures h.0, h.1)

@@ -5,6 +5,7 @@ use Rattle.ssh_offers.specs.declared.error.AuditError.{AuditError}
 use Rattle.ssh_offers.specs.declared.error.AuditError.TheVariants.{Read}
 use Rattle.ssh_offers.specs.declared.query.Signed.{Signed}
 use Rattle.ssh_offers.specs.Query.{HostCheck, Login}
+use Rattle.ssh_offers.specs.Evidence.{host_evidence, login_evidence}
 use Rattle.ssh_offers.specs.HostClaim.{host_claim}
 use Rattle.ssh_offers.specs.LoginClaim.{login_claim}
 use Rattle.ssh_trust.specs.Answer.{if_short}
@@ -58,6 +59,17 @@ DecidesReader (Ok decision) vouched old new result = AnswersReader old new (λ f
 
 abbrev pub decided_response : Deciding → List Signed → Option (List ℕ) → Response
 decided_response by vouched file = decision_response (answer_over by vouched file)
+
+-- what the decision on an offer rests on, or the refusal of the offer
+abbrev pub evidence_by : {C : Type 0} → (C → List Signed) → Result C AuditError → Result (List Signed) AuditError
+evidence_by evidence (Err e) = Err e
+evidence_by evidence (Ok claim) = Ok (evidence claim)
+
+abbrev pub login_rests : Login → Result (List Signed) AuditError
+login_rests q = evidence_by login_evidence (login_claim q)
+
+abbrev pub host_rests : HostCheck → Result (List Signed) AuditError
+host_rests q = evidence_by host_evidence (host_claim q)
 
 -- ---- vouch files
 

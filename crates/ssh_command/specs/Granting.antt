@@ -9,6 +9,7 @@ use Rattle.ssh_offers.specs.HostClaim.{HostClaim, host_claim}
 use Rattle.ssh_offers.specs.LoginClaim.{LoginClaim, login_claim}
 use Rattle.ssh_offers.specs.Query.{HostCheck, Login}
 use Rattle.ssh_rights.specs.Rights.{rights_of}
+use Rattle.ssh_rules.specs.declared.reason.Reason.{Reason}
 use Rattle.ssh_trust.specs.declared.decision.Decision.TheVariants.{Granted}
 use Rattle.ssh_trust.specs.LoginDecision.{IsGrant}
 use Rattle.ssh_trust.specs.HostDecision.{IsHostGrant}
@@ -32,7 +33,8 @@ pub record LoginGranted (q : Login) (f : AuditFiles) (s : SourceState) (r : Resp
   pub line : ℕ
   pub entry : AuthEntry
   pub grant : IsGrant file claim vouched line entry
-  pub printed : r ≡ decision_response (Ok (Granted line (Some (rights_of entry claim.offer)) (login_evidence claim)))
+  pub reasons : List (ℕ × Reason)
+  pub printed : r ≡ decision_response (Ok (Granted line (Some (rights_of entry claim.offer)) reasons (login_evidence claim)))
 
 -- the same of a host's key, for which no rights are printed
 pub record HostGranted (q : HostCheck) (f : AuditFiles) (s : SourceState) (r : Response) : Type 0 where
@@ -45,4 +47,5 @@ pub record HostGranted (q : HostCheck) (f : AuditFiles) (s : SourceState) (r : R
   pub line : ℕ
   pub entry : KnownEntry
   pub grant : IsHostGrant file claim vouched line entry
-  pub printed : r ≡ decision_response (Ok (Granted line None (host_evidence claim)))
+  pub reasons : List (ℕ × Reason)
+  pub printed : r ≡ decision_response (Ok (Granted line None reasons (host_evidence claim)))

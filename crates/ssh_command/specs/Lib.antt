@@ -5,6 +5,10 @@ pub mod Shows
 pub mod Sshsigs
 pub mod Rewritings
 pub mod Hashings
+pub mod Admissions
+pub mod AdmissionsView
+pub mod Keys
+pub mod Explanations
 pub mod Requests
 pub mod Responding
 pub mod VouchLines

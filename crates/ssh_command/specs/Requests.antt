@@ -9,10 +9,12 @@ use Rattle.ssh_print.specs.Responses.{Response, out_of_memory, usage_response}
 use Rattle.ssh_words.specs.declared.request.WordsError.{WordsError}
 use Rattle.ssh_words.specs.declared.request.WordsError.TheVariants.{Usage, Memory}
 use Rattle.ssh_words.specs.declared.subcommand.Subcommand.{Subcommand}
-use Rattle.ssh_words.specs.declared.subcommand.Subcommand.TheVariants.{Show, Login, Host, Sshsig, Rewrite, Hash}
+use Rattle.ssh_words.specs.declared.subcommand.Subcommand.TheVariants.{Show, Login, Host, Sshsig, Rewrite, Hash, Admits, Trusts, Explain}
 use Rattle.ssh_words.specs.CommandLine.{Request, request_of}
+use Rattle.ssh_command.specs.Explanations.{RespondsToExplain}
 use Rattle.ssh_command.specs.Hashings.{RespondsToHash}
 use Rattle.ssh_command.specs.Hosts.{RespondsToHost}
+use Rattle.ssh_command.specs.Keys.{RespondsToAdmits, RespondsToTrusts}
 use Rattle.ssh_command.specs.Logins.{RespondsToLogin}
 use Rattle.ssh_command.specs.Rewritings.{RespondsToRewrite}
 use Rattle.ssh_command.specs.Shows.{RespondsToShow}
@@ -29,6 +31,9 @@ RespondsIn Host = RespondsToHost
 RespondsIn Sshsig = RespondsToSshsig
 RespondsIn Rewrite = RespondsToRewrite
 RespondsIn Hash = RespondsToHash
+RespondsIn Admits = RespondsToAdmits
+RespondsIn Trusts = RespondsToTrusts
+RespondsIn Explain = RespondsToExplain
 
 abbrev pub RespondsBy : Option Request → SourceState → Option SourceState → Response → Type 0
 RespondsBy None s t r = NoReadFailed s t × (r ≡ usage_response)

@@ -13,6 +13,7 @@ ghost use Rattle.ssh_command.specs.Responding.{
 };
 ghost use Rattle.ssh_words.specs.AskedView.{names_of};
 ghost use Rattle.ssh_print.specs.ResponseView.{response};
+ghost use Rattle.ssh_inputs.specs.Loading.{KeepsOthers};
 ghost use Rattle.ssh_inputs.specs.SourceState.{IfTells, bytes_at, left_of};
 ghost use Rattle.ssh_inputs.specs.VouchFile.{vouched_of};
 
@@ -47,16 +48,19 @@ fn decide_chosen<Q: Question, F: Files>(
 }
 
 /// The decision by the trust file of this name. One that is not there is not read.
-fn decide_by_file<Q: Question, F: Files>(
+pub fn decide_by_file<Q: Question, F: Files>(
     alloc: Global,
     name: &str,
     question: &Q,
     vouched: &[Signed],
     files: &mut F,
 ) -> Result<Decision, AuditError>
-    ensures { IfTells (F.source_state files.old) (λ s.
+    ensures answer { IfTells (F.source_state files.old) (λ s.
         AnswersFile (Q.decides question.entry.now) vouched.now name.now (bytes_at s name.now) s
         (F.source_state files.new) result) }
+    // Whatever comes of it, the other files stay.
+    ensures others { IfTells (F.source_state files.old)
+        (λ s. KeepsOthers name.now s (F.source_state files.new)) }
 {
     if !files.choose(name) {
         return Err(question.refusal().unwrap_or(AuditError::Read));

@@ -8,12 +8,15 @@ ghost use Rattle.ssh_words.specs.WordsView.{IfAnswered, request_in_memory};
 ghost use Rattle.ssh_print.specs.ResponseView.{response};
 ghost use Rattle.ssh_inputs.specs.SourceState.{IfTells};
 
+use crate::admits::respond_admits;
+use crate::explain::respond_explain;
 use crate::hashing::respond_hash;
 use crate::host::respond_host;
 use crate::login::respond_login;
 use crate::rewriting::respond_rewrite;
 use crate::show::respond_show;
 use crate::sshsig::respond_sshsig;
+use crate::trusts::respond_trusts;
 use ssh_inputs::{Files, ReadError, read_first_line, read_words};
 use ssh_print::{Response, usage_fault};
 use ssh_words::{CommandError, Request, Subcommand, WordsError, parse, respond_fault};
@@ -36,6 +39,9 @@ fn respond_subcommand<F: Files>(
         Subcommand::Sshsig => respond_sshsig(alloc, &request.words, files),
         Subcommand::Rewrite => respond_rewrite(alloc, &request.words, files),
         Subcommand::Hash => respond_hash(alloc, &request.words, files),
+        Subcommand::Admits => respond_admits(alloc, &request.words, files),
+        Subcommand::Trusts => respond_trusts(alloc, &request.words, files),
+        Subcommand::Explain => Ok(respond_explain(alloc, &request.words)?),
     }
 }
 

@@ -2,12 +2,13 @@
 use Rattle.std.specs.Prelude.{true, List, [], ◌∷◌, Option, Some, None, codes, fold, option_and_then, option_map}
 use Rattle.clap.specs.Words.{App, Row, Rule, Text, new_app, new_rule, subcommand_of, with_rule, with_subcommand}
 use Rattle.clap.specs.Faults.{fault_of}
+use Rattle.clap.specs.declared.builder.action.ArgAction.TheVariants.{Append}
 use Rattle.clap.specs.declared.error.ErrorKind.{ErrorKind}
 use Rattle.clap.specs.Simple.{on_top}
 use Rattle.ssh_words.specs.declared.options.Needed.{Needed}
 use Rattle.ssh_words.specs.declared.options.OptionName.{OptionName}
 use Rattle.ssh_words.specs.declared.subcommand.Subcommand.{Subcommand}
-use Rattle.ssh_words.specs.Options.{is_required, option_name, options_of, subcommand_name, subcommand_named, subcommands}
+use Rattle.ssh_words.specs.Options.{is_required, names_id, names_of, option_name, options_of, subcommand_name, subcommand_named, subcommands}
 
 -- ---- what clap is given
 
@@ -19,8 +20,17 @@ option_rule row = record (new_rule (option_name row.0)) { long = Some (option_na
 abbrev pub with_options : App → List (OptionName × Needed) → App
 with_options = fold (λ a row. with_rule a (option_rule row))
 
+-- names: each word without a dash is one more
+abbrev pub names_rule : Needed → Rule
+names_rule needed = record (new_rule names_id) { action = Some Append; required = is_required needed }
+
+-- a command that takes names, or none
+abbrev pub with_names : App → Option Needed → App
+with_names a None = a
+with_names a (Some needed) = with_rule a (names_rule needed)
+
 unfoldable pub subcommand_app : Subcommand → App
-subcommand_app c = with_options (new_app (subcommand_name c)) (options_of c)
+subcommand_app c = with_names (with_options (new_app (subcommand_name c)) (options_of c)) (names_of c)
 
 -- a command of these subcommands
 abbrev pub with_subcommands : App → List Subcommand → App

@@ -1,5 +1,5 @@
 -- The options and the subcommands of the command line (this project's rules).
-use Rattle.std.specs.Prelude.{Bool, true, false, List, [], ◌∷◌, Option, codes, find}
+use Rattle.std.specs.Prelude.{Bool, true, false, List, [], ◌∷◌, Option, Some, None, codes, find}
 use Rattle.std.specs.Str.{bytes_eq}
 use Rattle.clap.specs.Words.{Text}
 use Rattle.ssh_words.specs.declared.options.Needed.{Needed}
@@ -7,7 +7,7 @@ use Rattle.ssh_words.specs.declared.options.Needed.TheVariants.{Required, Option
 use Rattle.ssh_words.specs.declared.options.OptionName.{OptionName}
 use Rattle.ssh_words.specs.declared.options.OptionName.TheVariants as option
 use Rattle.ssh_words.specs.declared.subcommand.Subcommand.{Subcommand}
-use Rattle.ssh_words.specs.declared.subcommand.Subcommand.TheVariants.{Show, Login, Host, Sshsig, Rewrite, Hash}
+use Rattle.ssh_words.specs.declared.subcommand.Subcommand.TheVariants.{Show, Login, Host, Sshsig, Rewrite, Hash, Admits, Trusts, Explain}
 
 -- ---- options
 
@@ -32,6 +32,7 @@ option_name option.Body = codes "body"
 option_name option.Message = codes "message"
 option_name option.Namespace = codes "namespace"
 option_name option.Salts = codes "salts"
+option_name option.Key = codes "key"
 
 abbrev pub is_required : Needed → Bool
 is_required Required = true
@@ -40,7 +41,7 @@ is_required Optional = false
 -- ---- subcommands
 
 abbrev pub subcommands : List Subcommand
-subcommands = Show ∷ Login ∷ Host ∷ Sshsig ∷ Rewrite ∷ Hash ∷ []
+subcommands = Show ∷ Login ∷ Host ∷ Sshsig ∷ Rewrite ∷ Hash ∷ Admits ∷ Trusts ∷ Explain ∷ []
 
 abbrev pub subcommand_name : Subcommand → Text
 subcommand_name Show = codes "show"
@@ -49,6 +50,9 @@ subcommand_name Host = codes "host"
 subcommand_name Sshsig = codes "sshsig"
 subcommand_name Rewrite = codes "rewrite"
 subcommand_name Hash = codes "hash"
+subcommand_name Admits = codes "admits"
+subcommand_name Trusts = codes "trusts"
+subcommand_name Explain = codes "explain"
 
 -- the subcommand of a name, if there is one
 abbrev pub subcommand_named : Text → Option Subcommand
@@ -67,3 +71,19 @@ options_of Host = (option.File, Required) ∷ (option.Offer, Required) ∷ (opti
 options_of Sshsig = (option.Body, Required) ∷ (option.Message, Required) ∷ (option.Namespace, Required) ∷ (option.Vouch, Optional) ∷ []
 options_of Rewrite = (option.Kind, Required) ∷ (option.File, Required) ∷ []
 options_of Hash = (option.File, Required) ∷ (option.Salts, Required) ∷ []
+options_of Admits = (option.Key, Required) ∷ (option.User, Required) ∷ (option.Address, Required) ∷ (option.Now, Required)
+    ∷ (option.Host, Optional) ∷ (option.Zone, Optional) ∷ (option.EmptyPrincipals, Optional) ∷ (option.RsaMinimum, Optional) ∷ []
+options_of Trusts = (option.Key, Required) ∷ (option.Host, Required) ∷ (option.Now, Required) ∷ (option.Port, Optional)
+    ∷ (option.EmptyPrincipals, Optional) ∷ (option.RsaMinimum, Optional) ∷ []
+options_of Explain = []
+
+-- whether words without a dash are names, of files or of codes, and whether one has to be there at least
+abbrev pub names_of : Subcommand → Option Needed
+names_of Admits = Some Required
+names_of Trusts = Some Required
+names_of Explain = Some Optional
+names_of c = None
+
+-- what such words are called
+abbrev pub names_id : Text
+names_id = codes "NAME"

@@ -1,12 +1,12 @@
 -- Worked words, as the definitions read them (this project's rules).
-use Rattle.std.specs.Prelude.{◌≡◌, ◌++◌, List, [], ◌∷◌, codes, Option, Some, None, map, option_map, refl}
+use Rattle.std.specs.Prelude.{◌≡◌, ◌++◌, List, [], ◌∷◌, codes, Option, Some, None, map, option_and_then, option_map, refl}
 use Rattle.clap.proofs.OnLiterals.{clap_on_literals}
 use Rattle.clap.specs.Words.{Text}
 use Rattle.ssh_words.specs.declared.subcommand.Subcommand.{Subcommand}
-use Rattle.ssh_words.specs.declared.subcommand.Subcommand.TheVariants.{Show, Login, Host, Sshsig, Rewrite, Hash}
+use Rattle.ssh_words.specs.declared.subcommand.Subcommand.TheVariants.{Show, Login, Host, Sshsig, Rewrite, Hash, Admits, Trusts, Explain}
 use Rattle.ssh_words.specs.CommandLine.{request_of, subcommand_app}
 use Rattle.ssh_words.specs.Options.{options_of}
-use Rattle.ssh_words.specs.Spelling.{given}
+use Rattle.ssh_words.specs.Spelling.{given, names_given}
 
 -- the subcommand that words ask for, and what they give to each of its options, in the order of the table
 abbrev asked : List Text → Option (Subcommand × List (Option Text))
@@ -69,6 +69,27 @@ OthersAsked = (asked (codes "show" ∷ codes "--kind" ∷ codes "key" ∷ codes 
 pub others_asked : OthersAsked
 unfolding subcommand_app clap_on_literals
 others_asked = (refl, refl, refl, refl, refl)
+
+-- a key is asked about over any number of files, which stand anywhere among the options
+abbrev names_asked : List Text → Option (List Text)
+names_asked words = option_and_then (λ q. names_given q.rows) (request_of words)
+
+abbrev admits_needed : List Text
+admits_needed = codes "admits" ∷ codes "--key" ∷ codes "k" ∷ codes "--user" ∷ codes "u" ∷ codes "a" ∷ codes "--address" ∷ codes "d" ∷ codes "--now" ∷ codes "n" ∷ []
+
+abbrev pub KeysAsked : Type 0
+KeysAsked = (asked admits_needed
+    ≡ Some (Admits, Some (codes "k") ∷ Some (codes "u") ∷ Some (codes "d") ∷ Some (codes "n") ∷ None ∷ None ∷ None ∷ None ∷ []))
+    × (names_asked (admits_needed ++ codes "b" ∷ codes "-" ∷ []) ≡ Some (codes "a" ∷ codes "b" ∷ codes "-" ∷ []))
+    × (asked (codes "trusts" ∷ codes "f" ∷ codes "--key" ∷ codes "k" ∷ codes "--host" ∷ codes "h" ∷ codes "--now" ∷ codes "n" ∷ codes "--port" ∷ codes "22" ∷ [])
+    ≡ Some (Trusts, Some (codes "k") ∷ Some (codes "h") ∷ Some (codes "n") ∷ Some (codes "22") ∷ None ∷ None ∷ []))
+    × (names_asked (codes "trusts" ∷ codes "--key" ∷ codes "k" ∷ codes "--host" ∷ codes "h" ∷ codes "--now" ∷ codes "n" ∷ []) ≡ None)
+    × (names_asked (codes "explain" ∷ codes "G8" ∷ codes "N3" ∷ []) ≡ Some (codes "G8" ∷ codes "N3" ∷ []))
+    × (asked (codes "explain" ∷ []) ≡ Some (Explain, []))
+
+pub keys_asked : KeysAsked
+unfolding subcommand_app clap_on_literals
+keys_asked = (refl, refl, refl, refl, refl, refl)
 
 -- no command, one that is none, an option that is missing, has no value, or is of another command
 abbrev pub WordsRefused : Type 0

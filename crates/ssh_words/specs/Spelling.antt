@@ -1,7 +1,7 @@
 -- What the options of a subcommand spell.
-use Rattle.std.specs.Prelude.{◌≡◌, List, Option, Some, None, Result, Ok, Err}
+use Rattle.std.specs.Prelude.{◌≡◌, ℕ, List, Option, Some, None, Result, Ok, Err}
 use Rattle.std.specs.Option.{ok_or}
-use Rattle.clap.specs.Words.{Row, Text, first_of}
+use Rattle.clap.specs.Words.{Row, Text, all_of, first_of}
 use Rattle.ssh_wire.specs.Reading.{◌>>=◌}
 use Rattle.ssh_inputs.specs.SourceState.{SourceState}
 use Rattle.ssh_inputs.specs.Loading.{NoReadFailed}
@@ -11,7 +11,7 @@ use Rattle.ssh_words.specs.declared.error.CommandError.TheVariants.{Usage, Value
 use Rattle.ssh_words.specs.declared.options.OptionName.{OptionName}
 use Rattle.ssh_words.specs.declared.options.OptionName.TheVariants.{Body, File, Message, Namespace, Vouch}
 use Rattle.ssh_words.specs.Asked.{AuditFiles, SshsigQuestion}
-use Rattle.ssh_words.specs.Options.{option_name}
+use Rattle.ssh_words.specs.Options.{names_id, option_name}
 
 -- ---- texts
 
@@ -22,6 +22,13 @@ given o rows = first_of (option_name o) rows
 -- the text of an option that has to be given
 abbrev pub needed : OptionName → List Row → Result Text Response
 needed o rows = ok_or (given o rows) usage_response
+
+-- the names of files, in their order, where any is given
+abbrev pub names_given : List Row → Option (List Text)
+names_given rows = all_of names_id rows
+
+abbrev pub names_needed : List Row → Result (List Text) Response
+names_needed rows = ok_or (names_given rows) usage_response
 
 -- ---- values
 
@@ -43,6 +50,10 @@ read_or absent spells (Some text) = spells text
 -- what an option that may be left out spells, by this reading; left out, it stands for this value
 abbrev pub value_or : {A : Type 0} → A → (Text → Option A) → OptionName → List Row → Result A Response
 value_or absent spells o rows = or_fault o (read_or absent spells (given o rows))
+
+-- the port of ssh(1)
+abbrev pub usual_port : ℕ
+usual_port = 22
 
 -- the names of the files of an audit
 abbrev pub audit_files : List Row → Result AuditFiles Response

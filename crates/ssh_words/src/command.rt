@@ -4,14 +4,18 @@ ghost use Rattle.std.specs.Prelude.{◌≡◌, IfOk};
 ghost use Rattle.clap.specs.Words.{app_of, with_rule, with_subcommand};
 ghost use Rattle.ssh_words.specs.CommandLine.{
   command_line,
+  names_rule,
   option_rule,
   subcommand_app,
+  with_names,
   with_options,
   with_subcommands,
 };
 
+use crate::options::Needed;
 use crate::subcommand::{OptionRow, Subcommand};
-use clap::{Arg, Command};
+use crate::words::NAMES;
+use clap::{Arg, ArgAction, Command};
 use std::alloc::{AllocError, Global};
 
 /// The command with one more option.
@@ -43,6 +47,25 @@ fn with_options<'a>(
     Ok(command)
 }
 
+/// The command with names, if it takes them.
+fn with_names<'a>(
+    alloc: Global,
+    command: Command<'a>,
+    names: Option<Needed>,
+) -> Result<Command<'a>, AllocError>
+    ensures { IfOk result (λ c. app_of c ≡ with_names (app_of command.entry) names) }
+{
+    match names {
+        None => Ok(command),
+        Some(needed) => {
+            let arg = Arg::new(alloc, NAMES)
+                .action(ArgAction::Append)
+                .required(needed.is_required());
+            command.arg(arg)
+        }
+    }
+}
+
 /// The command of a subcommand.
 #[tactic(auto, unfolding(crate::specs::CommandLine::subcommand_app))]
 fn subcommand_command<'a>(alloc: Global, subcommand: Subcommand) -> Result<Command<'a>, AllocError>
@@ -50,7 +73,8 @@ fn subcommand_command<'a>(alloc: Global, subcommand: Subcommand) -> Result<Comma
 {
     let name: &'a str = subcommand.name();
     let command = Command::new(alloc, name);
-    with_options(alloc, command, subcommand.options())
+    let command = with_options(alloc, command, subcommand.options())?;
+    with_names(alloc, command, subcommand.names())
 }
 
 /// The command with one more subcommand.

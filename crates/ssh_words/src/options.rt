@@ -30,6 +30,7 @@ pub enum OptionName {
     Message,
     Namespace,
     Salts,
+    Key,
 }
 
 impl OptionName {
@@ -58,6 +59,7 @@ impl OptionName {
             OptionName::Message => "message",
             OptionName::Namespace => "namespace",
             OptionName::Salts => "salts",
+            OptionName::Key => "key",
         }
     }
 

@@ -2,6 +2,7 @@
 
 ghost use Rattle.std.specs.Prelude.{◌≡◌};
 ghost use Rattle.ssh_words.specs.Options.{
+  names_of,
   options_of,
   subcommand_name,
   subcommand_named,
@@ -20,18 +21,24 @@ pub enum Subcommand {
     Sshsig,
     Rewrite,
     Hash,
+    Admits,
+    Trusts,
+    Explain,
 }
 
 /// A row of the options of a subcommand.
 pub type OptionRow = (OptionName, Needed);
 
-const SUBCOMMANDS: [Subcommand; 6] = [
+const SUBCOMMANDS: [Subcommand; 9] = [
     Subcommand::Show,
     Subcommand::Login,
     Subcommand::Host,
     Subcommand::Sshsig,
     Subcommand::Rewrite,
     Subcommand::Hash,
+    Subcommand::Admits,
+    Subcommand::Trusts,
+    Subcommand::Explain,
 ];
 
 const SHOW: [OptionRow; 2] = [(OptionName::Kind, Required), (OptionName::File, Required)];
@@ -76,6 +83,26 @@ const REWRITE: [OptionRow; 2] = [(OptionName::Kind, Required), (OptionName::File
 
 const HASH: [OptionRow; 2] = [(OptionName::File, Required), (OptionName::Salts, Required)];
 
+const ADMITS: [OptionRow; 8] = [
+    (OptionName::Key, Required),
+    (OptionName::User, Required),
+    (OptionName::Address, Required),
+    (OptionName::Now, Required),
+    (OptionName::Host, Optional),
+    (OptionName::Zone, Optional),
+    (OptionName::EmptyPrincipals, Optional),
+    (OptionName::RsaMinimum, Optional),
+];
+
+const TRUSTS: [OptionRow; 6] = [
+    (OptionName::Key, Required),
+    (OptionName::Host, Required),
+    (OptionName::Now, Required),
+    (OptionName::Port, Optional),
+    (OptionName::EmptyPrincipals, Optional),
+    (OptionName::RsaMinimum, Optional),
+];
+
 impl Subcommand {
     /// Every subcommand.
     pub fn all() -> &'static [Subcommand]
@@ -95,6 +122,9 @@ impl Subcommand {
             Subcommand::Sshsig => "sshsig",
             Subcommand::Rewrite => "rewrite",
             Subcommand::Hash => "hash",
+            Subcommand::Admits => "admits",
+            Subcommand::Trusts => "trusts",
+            Subcommand::Explain => "explain",
         }
     }
 
@@ -119,6 +149,21 @@ impl Subcommand {
             Subcommand::Sshsig => &SSHSIG,
             Subcommand::Rewrite => &REWRITE,
             Subcommand::Hash => &HASH,
+            Subcommand::Admits => &ADMITS,
+            Subcommand::Trusts => &TRUSTS,
+            Subcommand::Explain => &[],
+        }
+    }
+
+    /// Whether its words without a dash are names, of files or of codes, and whether one has to be
+    /// there at least.
+    pub fn names(self) -> Option<Needed>
+        ensures { result ≡ names_of self }
+    {
+        match self {
+            Subcommand::Admits | Subcommand::Trusts => Some(Required),
+            Subcommand::Explain => Some(Optional),
+            _ => None,
         }
     }
 }

@@ -1,14 +1,17 @@
 //! The values that words give to the options of a subcommand.
 
-ghost use Rattle.std.specs.Prelude.{◌≡◌, ◌<◌, ◌^◌, length, option_map, IfOk};
+ghost use Rattle.std.specs.Prelude.{◌≡◌, ◌<◌, ◌^◌, length, map, option_map, IfOk};
 ghost use Rattle.base64.specs.Engines.{standard};
 ghost use Rattle.base64.specs.GeneralPurpose.{decoded_of};
 ghost use Rattle.ssh_words.specs.AskedView.{names_of, question_of};
 ghost use Rattle.ssh_words.specs.Spelling.{
   audit_files,
   given,
+  names_given,
+  names_needed,
   needed,
   sshsig_question,
+  usual_port,
   value,
   value_or,
 };
@@ -34,6 +37,12 @@ use ssh_inputs::{
 use ssh_offers::EmptyPrincipals;
 use std::alloc::Global;
 
+/// The port of ssh(1).
+const USUAL_PORT: u16 = 22;
+
+/// What the names of files are called.
+pub const NAMES: &str = "NAME";
+
 /// The values that words give to the options of a subcommand. Each is read by a method that says
 /// what it spells; where it spells none, the fault names the option.
 #[derive(Drop)]
@@ -47,6 +56,22 @@ impl<'a> Words<'a> {
         ensures { option_map (λ s. s.now) result ≡ given option (rows_in self.now) }
     {
         self.matches.get_str(option.name())
+    }
+
+    /// The names of files, in their order, if any is given.
+    pub fn names(&self) -> Option<&[&'a str]>
+        ensures { option_map (λ s. map (λ name. name.now) s.now) result
+            ≡ names_given (rows_in self.now) }
+    {
+        self.matches.get_strs(NAMES)
+    }
+
+    /// The names of files, of which one has to be given at least.
+    pub fn needed_names(&self) -> Result<&[&'a str], CommandError>
+        ensures { Spells (λ s. map (λ name. name.now) s.now) (names_needed (rows_in self.now))
+            result }
+    {
+        self.names().ok_or(CommandError::Usage)
     }
 
     /// The text of an option that has to be given.
@@ -115,6 +140,18 @@ impl<'a> Words<'a> {
     {
         let text = self.needed(option)?;
         option.or_fault(read_port(text))
+    }
+
+    /// The port that a host is looked up by: that of ssh(1), where nothing is said.
+    pub fn usual_port(&self) -> Result<u16, CommandError>
+        ensures { Spells (λ n. n) (value_or usual_port (number_below (2 ^ 16)) option.Port
+            (rows_in self.now)) result }
+    {
+        let read = match self.given(OptionName::Port) {
+            None => Some(USUAL_PORT),
+            Some(text) => read_port(text),
+        };
+        OptionName::Port.or_fault(read)
     }
 
     /// Whom a certificate without principals is for: anybody, where nothing is said.

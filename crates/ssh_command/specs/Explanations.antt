@@ -1,0 +1,24 @@
+-- What is answered to `explain` (this project's rule).
+use Rattle.std.specs.Prelude.{◌≡◌, ℕ, List, Option, Some, None, codes}
+use Rattle.std.specs.List.{flat_map}
+use Rattle.clap.specs.Words.{Row}
+use Rattle.ssh_explain.specs.Table.{table}
+use Rattle.ssh_explain.specs.Explaining.{code_text, first_unknown, row_text}
+use Rattle.ssh_inputs.specs.SourceState.{SourceState}
+use Rattle.ssh_inputs.specs.Loading.{NoReadFailed}
+use Rattle.ssh_print.specs.Responses.{Response, value_response}
+use Rattle.ssh_words.specs.Spelling.{names_given}
+
+-- the lines of these codes, in their order; or the fault of a code that is unknown
+abbrev pub explained_by : Option ℕ → List (List ℕ) → Response
+explained_by None names = record { status = 0; text = flat_map code_text names }
+explained_by (Some place) names = value_response (codes "code")
+
+-- without a code, the lines of all
+abbrev pub explained : Option (List (List ℕ)) → Response
+explained None = record { status = 0; text = flat_map row_text table }
+explained (Some names) = explained_by (first_unknown names) names
+
+-- no file is read
+abbrev pub RespondsToExplain : List Row → SourceState → Option SourceState → Response → Type 0
+RespondsToExplain rows s t r = NoReadFailed s t × (r ≡ explained (names_given rows))
