@@ -13,7 +13,7 @@ ghost use Rattle.ssh_review.specs.Sentences.{
 
 use ssh_findings::Finding;
 use ssh_options::LineCause;
-use ssh_print::{push_line_codes, push_number};
+use ssh_print::{line_codes, push_number};
 use std::alloc::{AllocError, Global};
 
 /// Why a line cannot be read.
@@ -173,7 +173,10 @@ fn push_detail(alloc: Global, out: &mut Vec<u8>, finding: Finding) -> Result<(),
     ensures { OnOk result (out.new.items ≡ out.old.items ++ detail_of finding) }
 {
     match finding {
-        Finding::Unreadable(cause) => push_line_codes(alloc, out, cause)?,
+        Finding::Unreadable(cause) => {
+            let codes = line_codes(alloc, cause)?;
+            out.extend_from_slice(&codes)?;
+        }
         Finding::SameKey(line) | Finding::NeverDecides(line) | Finding::GivesMore(line) => {
             push_between(alloc, out, b" ", line, b"")?;
         }
