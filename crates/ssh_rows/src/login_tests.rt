@@ -750,6 +750,11 @@ const CERTIFICATE_ROWS: &[(&str, Asked<'static>, &str)] = &[
         CERTIFIED,
         "denied N3\nreason 1 G12\n",
     ),
+];
+
+/// The options before the line with its signer's key, what is asked of a certificate with options, and the
+/// lines of the answer that stand before the evidence.
+const CERTIFICATE_OPTION_ROWS: &[(&str, Asked<'static>, &str)] = &[
     (
         AUTHORITY,
         asked!(CERTIFIED, offer: UNKNOWN),
@@ -842,6 +847,11 @@ const CERTIFICATE_ROWS: &[(&str, Asked<'static>, &str)] = &[
 #[test]
 fn answers_certificates(rt: HostRuntime) -> Result<(), Fail> {
     compare_lines(&rt, rt.alloc(), K1, CERTIFICATE_ROWS)
+}
+
+#[test]
+fn answers_options_of_certificates(rt: HostRuntime) -> Result<(), Fail> {
+    compare_lines(&rt, rt.alloc(), K1, CERTIFICATE_OPTION_ROWS)
 }
 
 /// What is vouched for, and the line before the evidence.
