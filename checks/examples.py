@@ -1,10 +1,11 @@
 #!/usr/bin/env python3
 """Puts keys, certificates and signatures that ssh-keygen and openssl make through the built program, by the scripts of
-examples/. Needs ssh-keygen (Debian: openssh-client), openssl 3 and the built program, which may be given as an argument."""
+examples/ and by the program's own commands. Needs ssh-keygen (Debian: openssh-client), openssl 3 and the built program, which may be given as an argument."""
 import base64
 import hashlib
 import os
 import pathlib
+import re
 import shutil
 import struct
 import subprocess
@@ -46,16 +47,35 @@ def made(room, *words):
     return out
 
 
+# What `admits` and `trusts` say, and what the scripts say, which ask `login` and `host`: the line or the cause, and the
+# lines that were passed over, with their codes.
+ANSWERS = (re.compile(r": (?:admits|trusts) by line (\d+)|: does not (?:admit|trust): (N\d)"), re.compile(r"^(?:admitted|trusted) by line (\d+)|\((N\d)\)$"))
+PASSED = (re.compile(r"^    (\d+) ([A-Z]\d+(?: [A-Z]?\d+)*): "), re.compile(r"^line (\d+): .* \(([A-Z]\d+(?: [A-Z]?\d+)*)\)$"))
+
+
+def told(way, lines):
+    """The line or the cause of an answer, and the lines that were passed over."""
+    first = ANSWERS[way].search(lines[0] if lines else "")
+    return first and first.groups(), [found.groups() for found in map(PASSED[way].match, lines[1:]) if found]
+
+
+def asked_twice(room, script, command, key, file, *options):
+    """What the script answers. The program's own command has to answer the same."""
+    status, out = run(room, EXAMPLES / script, key, file, *options)
+    lines = out.decode().split("\n")[:-1]
+    ended, said = run(room, PROGRAM, command, "--key", key, *options, file)
+    check(f"{command} {key} {options}", (ended, *told(0, said.decode().split("\n")[:-1])), (status, *told(1, lines)))
+    return status, lines
+
+
 def would_admit(room, key, lines, user="ann", address="192.0.2.1", *more):
     (room / "authorized_keys").write_text("".join(line + "\n" for line in lines))
-    status, out = run(room, EXAMPLES / "would_admit.py", key, "authorized_keys", "--user", user, "--address", address, "--now", NOW, *more)
-    return status, out.decode().split("\n")[:-1]
+    return asked_twice(room, "would_admit.py", "admits", key, "authorized_keys", "--user", user, "--address", address, "--now", NOW, *more)
 
 
 def would_trust(room, key, lines, name="h.example", *more):
     (room / "known_hosts").write_text("".join(line + "\n" for line in lines))
-    status, out = run(room, EXAMPLES / "would_trust.py", key, "known_hosts", "--host", name, "--now", NOW, *more)
-    return status, out.decode().split("\n")[:-1]
+    return asked_twice(room, "would_trust.py", "trusts", key, "known_hosts", "--host", name, "--now", NOW, *more)
 
 
 def fingerprint(room, name):

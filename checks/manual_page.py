@@ -72,7 +72,7 @@ def options_compared(sections):
     for where, read in (("COMMANDS", options_of_commands), ("SYNOPSIS", options_of_synopsis)):
         found = read(sections[where])
         for name in sorted({*wanted, *found}):
-            same = wanted.get(name) and wanted.get(name) == found.get(name)
+            same = name in found and wanted.get(name, []) == found[name]
             yield None if same else f"{where}: the options of {name}\n  code {wanted.get(name)}\n  page {found.get(name)}"
 
 
