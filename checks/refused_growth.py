@@ -155,9 +155,30 @@ def hash_rows(key):
         yield "too few salts", [*words, salts.name], 2 * (line + b"\n")
 
 
+def key_rows(key):
+    """A key and a certificate asked about over a trust file on standard input and one that is not there; a key's file that
+    holds none; codes that are explained, and one that is unknown."""
+    with tempfile.TemporaryDirectory() as folder:
+        plain, certified = pathlib.Path(folder) / "key", pathlib.Path(folder) / "certificate"
+        plain.write_bytes(key)
+        certified.write_bytes(b"ssh-ed25519-cert-v01@openssh.com " + PLAIN_CERTIFICATE.encode())
+        words = ["admits", "--user", "ann", "--address", "192.0.2.1", "--now", "150", "--key"]
+        yield "admits", [*words, str(plain), "-", "missing"], b'from="10.0.0.0/8" ' + key + b'\nrestrict,command="a" ' + key
+        yield "admits by nothing", [*words, str(plain), "-"], b"ssh-dss AAAA\n"
+        yield "admits a certificate", [*words, str(certified), "-"], b"cert-authority " + SIGNER
+        yield "admits no key", [*words, "-", "missing"], b"ssh-rsa AAAA\n"
+        yield "admits another address", [*changed(words, address="x"), str(plain), "-"], key
+        words = ["trusts", "--host", "H", "--now", "150", "--key", str(plain)]
+        yield "trusts", [*words, "-"], b"h " + key
+        yield "trusts at another port", [*words, "--port", "2222", "-"], b"h " + key + b"\n@revoked x " + key
+    yield "explain", ["explain", "G8", "N3"], b""
+    yield "explain all", ["explain"], b""
+    yield "explain nothing", ["explain", "G2"], b""
+
+
 def rows():
     """The stored run, the same login over files and vouch files that give reasons, a denial and faults; `show`; `host`;
-    `sshsig`; `rewrite`; `hash`."""
+    `sshsig`; `rewrite`; `hash`; `admits`, `trusts` and `explain`."""
     stored = (CRATE / "stdin").read_bytes()
     words, vouched, rest = stored.split(b"\n", 2)
     key = next(line for line in rest.split(b"\n") if line.startswith(b"ssh-"))
@@ -177,6 +198,7 @@ def rows():
     yield from body_rows()
     yield from rewrite_rows(key)
     yield from hash_rows(key)
+    yield from key_rows(key)
 
 
 def check(preload, name, words, stdin):
