@@ -21,4 +21,4 @@ mod review;
 mod sentence;
 
 pub use counts::{Counts, FileFault, Reviewed, Total};
-pub use review::{push_total, review_auth, review_fault};
+pub use review::{review_auth, review_fault, total_line};

@@ -129,9 +129,8 @@ pub fn review_auth(
     }
 }
 
-/// The line of what all files come to. After an `Err`, which is want of memory, a part of it may
-/// stand there.
-pub fn push_total(alloc: Global, out: &mut Vec<u8>, total: &Total) -> Result<(), AllocError>
+/// The line of what all files come to, at the end. After an `Err` a part of it may stand there.
+fn push_total(alloc: Global, out: &mut Vec<u8>, total: &Total) -> Result<(), AllocError>
     ensures { OnOk result (out.new.items ≡ out.old.items ++ total_line total.now) }
 {
     out.extend_from_slice(b"total: ")?;
@@ -140,4 +139,13 @@ pub fn push_total(alloc: Global, out: &mut Vec<u8>, total: &Total) -> Result<(),
     push_counts(alloc, out, total.counts)?;
     out.push(b'\n')?;
     Ok(())
+}
+
+/// The line of what all files come to. An `Err` is want of memory.
+pub fn total_line(alloc: Global, total: &Total) -> Result<Vec<u8>, AllocError>
+    ensures { IfOk result (λ line. line.items ≡ total_line total.now) }
+{
+    let mut line = Vec::new(alloc);
+    push_total(alloc, &mut line, total)?;
+    Ok(line)
 }

@@ -2,7 +2,7 @@
 
 use jiff::tz::TimeZone;
 use ssh_findings::{Asked, Code, parse_codes};
-use ssh_review::{Counts, FileFault, Total, push_total, review_auth, review_fault};
+use ssh_review::{Counts, FileFault, Total, review_auth, review_fault, total_line};
 use std::test::Fail;
 
 const FILE: &[u8] =
@@ -56,8 +56,7 @@ fn ends_as_printed(rt: HostRuntime) -> Result<(), Fail> {
         faults: 1,
         counts,
     };
-    let mut text = Vec::new(rt.alloc());
-    push_total(rt.alloc(), &mut text, &total)?;
+    let text = total_line(rt.alloc(), &total)?;
     let want = b"total: 3 files, 1 faults, 12 lines, 10 keys, 1 unreadable, 6 findings\n";
     assert_eq!(rt; text.as_slice(), want.as_slice());
     Ok(())
