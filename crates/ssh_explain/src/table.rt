@@ -32,12 +32,12 @@ pub(crate) static ANSWERS: [Texts; 13] = [
     ),
     (
         "N1",
-        "line N of the known_hosts file revokes the key, or the certificate's signer, whichever host it names; N is the first such line",
+        "the first line that revokes the key, or the certificate's signer, whichever host it names",
         "the key is not to be trusted",
     ),
     (
         "N2",
-        "line N of the known_hosts file may revoke any key: it begins with @revoked and has no base64 that can be read, or it is longer than 65,536 bytes; N is the first such line",
+        "the first line that may revoke any key: it begins with @revoked and has no base64 that can be read, or it is longer than 65,536 bytes",
         "mend or remove that line",
     ),
     ("N3", "no line admits the offer", "read the reasons"),
