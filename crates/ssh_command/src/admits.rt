@@ -15,7 +15,7 @@ use ssh_admission::{Party, login_algorithm, stand_in};
 use ssh_inputs::{Files, zone_of};
 use ssh_offers::{EmptyPrincipals, LoginQuery};
 use ssh_print::Response;
-use ssh_show::Offer;
+use ssh_show::OfferedKey;
 use ssh_words::{CommandError, OptionName, Words};
 use std::alloc::{AllocError, Global};
 
@@ -50,7 +50,7 @@ impl KeyQuestion for Client<'_> {
     fn ask<F: Files>(
         &self,
         alloc: Global,
-        offer: &Offer,
+        offer: &OfferedKey,
         names: &[&str],
         files: &mut F,
     ) -> Result<Response, AllocError> {

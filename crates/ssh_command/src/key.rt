@@ -15,7 +15,7 @@ ghost use Rattle.ssh_show.specs.Offering.{Offered, offer_in, offer_seen};
 use crate::audit::unread;
 use ssh_inputs::{Files, read_whole};
 use ssh_print::Response;
-use ssh_show::{Offer, read_offer, show_fault};
+use ssh_show::{OfferedKey, read_offer, show_fault};
 use std::alloc::{AllocError, Global};
 
 /// What is asked about a key, but for the key.
@@ -27,7 +27,7 @@ pub trait KeyQuestion {
     fn ask<F: Files>(
         &self,
         alloc: Global,
-        offer: &Offer,
+        offer: &OfferedKey,
         names: &[&str],
         files: &mut F,
     ) -> Result<Response, AllocError>

@@ -12,7 +12,7 @@ use ssh_admission::{Party, stand_in};
 use ssh_inputs::Files;
 use ssh_offers::{EmptyPrincipals, HostQuery};
 use ssh_print::Response;
-use ssh_show::Offer;
+use ssh_show::OfferedKey;
 use ssh_words::{CommandError, OptionName, Words};
 use std::alloc::{AllocError, Global};
 
@@ -41,7 +41,7 @@ impl KeyQuestion for Host<'_> {
     fn ask<F: Files>(
         &self,
         alloc: Global,
-        offer: &Offer,
+        offer: &OfferedKey,
         names: &[&str],
         files: &mut F,
     ) -> Result<Response, AllocError> {

@@ -11,7 +11,7 @@ use Rattle.ssh_options.specs.declared.cause.LineCause.{LineCause}
 use Rattle.ssh_options.specs.declared.cause.LineCause.TheVariants.{NoKey, KeyType, RetiredType}
 use Rattle.ssh_show.specs.declared.error.ShowError.{ShowError}
 use Rattle.ssh_show.specs.declared.error.ShowError.TheVariants.{Line}
-use Rattle.ssh_show.specs.declared.offer.Offer.{Offer}
+use Rattle.ssh_show.specs.declared.offer.OfferedKey.{OfferedKey}
 use Rattle.ssh_show.specs.Showing.{blob_spelled, cert_on, key_on, shown_line}
 
 -- a key, or a certificate of one, in its blob
@@ -46,5 +46,5 @@ unfoldable pub offer_in : List ℕ → Result Offered ShowError
 offer_in file = offer_by (class_of (type_field (shown_line file))) (shown_line file)
 
 -- an offer, without where its bytes lie in memory
-abbrev pub offer_seen : Offer → Offered
+abbrev pub offer_seen : OfferedKey → Offered
 offer_seen o = record { kind = o.kind; is_certificate = o.is_certificate; blob = o.blob.items }

@@ -19,4 +19,4 @@ pub use answer::show;
 pub use date::date_text;
 pub use error::{ShowError, show_fault};
 pub use kind::{ShowKind, show_kind};
-pub use offer::{Offer, read_offer};
+pub use offer::{OfferedKey, read_offer};

@@ -17,7 +17,7 @@ use std::alloc::Global;
 
 /// A key, or a certificate of one, in its blob.
 #[derive(Debug, Drop)]
-pub struct Offer {
+pub struct OfferedKey {
     /// The kind of the key, or of the certified key.
     pub kind: KeyKind,
     pub is_certificate: bool,
@@ -64,18 +64,18 @@ fn missing_or(base64: &[u8], cause: LineCause) -> ShowError
 /// The key, or the certificate, on the first line of a file: its type, base64 and comment, as
 /// `ssh-keygen` writes a `.pub` and a `-cert.pub` file. The faults are those of `show`.
 #[tactic(auto, unfolding(crate::specs::Offering::offer_in))]
-pub fn read_offer(alloc: Global, file: &[u8]) -> Result<Offer, ShowError>
+pub fn read_offer(alloc: Global, file: &[u8]) -> Result<OfferedKey, ShowError>
     ensures { Finds offer_seen (offer_in file.now) result }
 {
     let line = first_line(file);
     let text = key_text(line);
     match name_class(text.type_name) {
-        NameClass::Plain(kind) => Ok(Offer {
+        NameClass::Plain(kind) => Ok(OfferedKey {
             kind,
             is_certificate: false,
             blob: key_blob_on(alloc, line)?,
         }),
-        NameClass::Certificate(kind) => Ok(Offer {
+        NameClass::Certificate(kind) => Ok(OfferedKey {
             kind,
             is_certificate: true,
             blob: cert_blob_on(alloc, line)?,
