@@ -5,3 +5,5 @@ mod LineReading
 mod ValueLemmas
 pub mod PieceLemmas
 mod VouchedLemmas
+pub mod SourceLemmas
+pub mod TurnLemmas

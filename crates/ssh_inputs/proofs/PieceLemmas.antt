@@ -6,7 +6,7 @@ use Rattle.std.specs.Str.Lossy.{utf8_valid_len}
 use Rattle.std.proofs.lemmas.Bool.{cases_Bool, eq-eqb, ne_eqb, le-leb, lt-ltb}
 use Rattle.std.proofs.lemmas.List.{append_assoc, append-nil}
 use Rattle.std.proofs.lemmas.Str.{utf8_valid_len-IsUtf8}
-use Rattle.ssh_inputs.specs.Words.{is_space, is_filled, is_text, pieces_of, words_in}
+use Rattle.ssh_inputs.specs.Words.{begins_with_text, is_space, is_filled, is_text, keeps_words, pieces_of, words_in}
 
 abbrev word_end : List ℕ → ℕ
 word_end text = position_or_len is_space text
@@ -108,6 +108,18 @@ words_broken line words rest n e some filled text h =
     let pieces : pieces_of line ≡ words ++ take n rest ∷ pieces_of (drop n rest) = h.pieces ∙ ap (λ ws. words ++ ws) (pieces_word rest n e some filled) in
     let broken : list_all is_text (pieces_of line) ≡ false = ap (list_all is_text) pieces ∙ none-text words (take n rest) (pieces_of (drop n rest)) text in
     rw (broken, and-false (nat_le (length line) 65536)) refl
+
+begins-kept : (words : List (List ℕ)) (word : List ℕ) (more : List (List ℕ)) → list_all is_text words ≡ true → is_text word ≡ true
+    → begins_with_text (words ++ word ∷ more) ≡ true
+begins-kept [] word more h k = k
+begins-kept (w ∷ words) word more h k = elim (cases_Bool (is_text w)) [ inl e ↦ e | inr e ↦ cc (rw e at h) ]
+
+-- a word that is text, after such words: one is kept
+pub words_kept : (line : List ℕ) (words : List (List ℕ)) (rest : List ℕ) (n : ℕ) → length line ≤ 65536 → n ≡ word_end rest → 0 < n → 0 < length rest
+    → is_text (take n rest) ≡ true → AreWords line words rest → keeps_words line ≡ true
+words_kept line words rest n short e some filled text h =
+    let pieces : pieces_of line ≡ words ++ take n rest ∷ pieces_of (drop n rest) = h.pieces ∙ ap (λ ws. words ++ ws) (pieces_word rest n e some filled) in
+    rw (le-leb (length line) 65536 short, pieces) (begins-kept words (take n rest) (pieces_of (drop n rest)) h.texts text)
 
 pieces-nil : pieces_of [] ≡ []
 unfolding pieces_of

@@ -5,4 +5,5 @@ pub mod Salts
 pub mod Words
 pub mod VouchFile
 pub mod Loading
+pub mod FilesInTurn
 pub mod Samples

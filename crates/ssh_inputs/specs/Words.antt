@@ -1,5 +1,5 @@
 -- The words of a line, parted by spaces.
-use Rattle.std.specs.Prelude.{[], ◌==◌, ◌&&◌, ℕ, Bool, List, length, nat_lt, nat_le, filter, if◌then◌else◌}
+use Rattle.std.specs.Prelude.{[], ◌∷◌, false, ◌==◌, ◌&&◌, ℕ, Bool, List, length, nat_lt, nat_le, filter, if◌then◌else◌}
 use Rattle.std.specs.List.{list_all, slice_split}
 use Rattle.std.specs.Str.Lossy.{utf8_valid_len}
 use Rattle.ssh_text.specs.Text.{line_limit}
@@ -21,3 +21,13 @@ pieces_of line = filter is_filled (slice_split is_space line)
 -- is in UTF-8 where its words are.)
 abbrev pub words_in : List ℕ → List (List ℕ)
 words_in line = if nat_le (length line) line_limit && list_all is_text (pieces_of line) then pieces_of line else []
+
+-- the first of these pieces, if there is one, is in UTF-8
+abbrev pub begins_with_text : List (List ℕ) → Bool
+begins_with_text [] = false
+begins_with_text (word ∷ words) = is_text word
+
+-- Whether a word is kept, which takes memory: a line past the limit, one of spaces alone and one whose first word is not
+-- in UTF-8 take none.
+abbrev pub keeps_words : List ℕ → Bool
+keeps_words line = nat_le (length line) line_limit && begins_with_text (pieces_of line)

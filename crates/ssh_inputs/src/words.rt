@@ -6,13 +6,15 @@ ghost use Rattle.std.specs.Prelude.{
   map,
   option_map,
   IfOk,
+  IsOk,
+  false,
   length,
   Some,
   None,
   if◌then◌else◌,
 };
 ghost use Rattle.std.specs.List.{position, position_or_len};
-ghost use Rattle.ssh_inputs.specs.Words.{is_space, is_text, words_in};
+ghost use Rattle.ssh_inputs.specs.Words.{is_space, is_text, keeps_words, words_in};
 
 use ssh_text::LINE_LIMIT;
 use std::alloc::{AllocError, Global};
@@ -45,7 +47,9 @@ fn read_word(word: &[u8]) -> Option<&str>
 /// The words of a line, parted by one or more spaces; none where it passes the line limit or is not
 /// in UTF-8.
 pub fn read_words<'a>(alloc: Global, line: &'a [u8]) -> Result<Vec<&'a str>, AllocError>
-    ensures { IfOk result (λ words. map (λ w. w.now) words.items ≡ words_in line.entry.now) }
+    ensures value { IfOk result (λ words. map (λ w. w.now) words.items ≡ words_in line.entry.now) }
+    // Only a word that is kept takes memory.
+    ensures spare { keeps_words line.entry.now ≡ false → IsOk result }
 {
     let mut words = Vec::new(alloc);
     if line.len() > LINE_LIMIT {

@@ -1,6 +1,6 @@
-use Rattle.std.proofs.Common.{ℕ, List, arith, map, ap, rules, sym, ◌∙◌, ◌≡◌, ◌<◌, length}
-use Rattle.ssh_inputs.proofs.PieceLemmas.{words_skip, words_more, words_broken, words_done, words_pushed, text_is, no_text}
-use Rattle.ssh_inputs.specs.Words.{is_text}
+use Rattle.std.proofs.Common.{ℕ, List, true, arith, map, ap, rules, sym, ◌∙◌, ◌≡◌, ◌<◌, length}
+use Rattle.ssh_inputs.proofs.PieceLemmas.{words_skip, words_more, words_broken, words_done, words_kept, words_pushed, text_is, no_text}
+use Rattle.ssh_inputs.specs.Words.{is_text, keeps_words}
 use Rattle.std.specs.Borrow.{Bor}
 use Rattle.ssh_inputs.proofs.words.read_words.Goals as goal
 
@@ -10,8 +10,8 @@ loop-rest-preserved-then-end-eq0 c =
     rw c.split_at.ensures.back
     (words_skip c.args.line.now (map (λ w. w.now) c.loop-rest.words.items) c.loop-rest.rest.now c.word_len-end.result c.word_len-end.ensures.value c.if-end-eq0.true filled c.loop-rest.invariant)
 
-pub returns-in_default : goal.returns-in_default
-returns-in_default c =
+pub returns-in_default-clause-value : goal.returns-in_default-clause-value
+returns-in_default-clause-value c =
     let filled : 0 < length c.loop-rest.rest.now = search rules in
     let some : 0 < c.word_len-end.result = omega arith in
     rw c.new.ensures.items
@@ -31,7 +31,18 @@ loop-rest-preserved c =
     (words_more c.args.line.now (map (λ w. w.now) c.loop-rest.words.items) c.loop-rest.rest.now c.word_len-end.result c.word_len-end.ensures.value some filled
     (ap is_text (sym front) ∙ text.0) c.loop-rest.invariant)
 
-pub returns : goal.returns
-returns c =
+pub returns-clause-value : goal.returns-clause-value
+returns-clause-value c =
     let none : length c.loop-rest.rest.now ≡ 0 = search rules in
     words_done c.args.line.now (map (λ w. w.now) c.loop-rest.words.items) c.loop-rest.rest.now (omega arith) none c.loop-rest.invariant
+
+pub returns-in_err-push-clause-spare : goal.returns-in_err-push-clause-spare
+returns-in_err-push-clause-spare c none =
+    let filled : 0 < length c.loop-rest.rest.now = search rules in
+    let some : 0 < c.word_len-end.result = omega arith in
+    let text = text_is c.split_at-in-loop-rest.result.0.now c.in-Some.word.now c.in-Some.ensures in
+    let front = c.split_at-in-loop-rest.ensures.front in
+    let kept : keeps_words c.args.line.now ≡ true =
+    words_kept c.args.line.now (map (λ w. w.now) c.loop-rest.words.items) c.loop-rest.rest.now c.word_len-end.result (omega arith) c.word_len-end.ensures.value some filled
+    (ap is_text (sym front) ∙ text.0) c.loop-rest.invariant in
+    cc
