@@ -1,6 +1,6 @@
 //! The lines of a decision.
 
-ghost use Rattle.std.specs.Prelude.{◌≡◌, ◌++◌, IfOk, OnOk};
+ghost use Rattle.std.specs.Prelude.{◌≡◌, ◌++◌, IfOk, IsOk, None, OnOk};
 ghost use Rattle.std.specs.List.{flat_map};
 ghost use Rattle.ssh_print.specs.DecisionText.{
   carried_line,
@@ -152,7 +152,8 @@ fn push_carried(out: &mut Vec<u8>, indent: &[u8], carried: &[Carried]) -> Result
 /// What a login may do: its rights, the command that is forced, and the texts that are carried on;
 /// for a host's key nothing.
 fn push_rights(out: &mut Vec<u8>, indent: &[u8], rights: &Option<Rights>) -> Result<(), AllocError>
-    ensures { OnOk result (out.new.items ≡ out.old.items ++ rights_lines indent.now rights.now) }
+    ensures ok { OnOk result (out.new.items ≡ out.old.items ++ rights_lines indent.now rights.now) }
+    ensures spare { rights.now ≡ None → IsOk result }
 {
     if let Some(rights) = rights {
         out.extend_from_slice(indent)?;
@@ -169,7 +170,8 @@ pub fn rights_lines(
     indent: &[u8],
     rights: &Option<Rights>,
 ) -> Result<Vec<u8>, AllocError>
-    ensures { IfOk result (λ v. v.items ≡ rights_lines indent.now rights.now) }
+    ensures value { IfOk result (λ v. v.items ≡ rights_lines indent.now rights.now) }
+    ensures spare { rights.now ≡ None → IsOk result }
 {
     let mut lines = Vec::new(alloc);
     push_rights(&mut lines, indent, rights)?;

@@ -1,6 +1,6 @@
 //! Small texts that are printed.
 
-ghost use Rattle.std.specs.Prelude.{◌≡◌, ◌<◌, ◌++◌, take, OnOk, OnErr};
+ghost use Rattle.std.specs.Prelude.{◌≡◌, ◌<◌, ◌++◌, length, take, IsOk, OnOk, OnErr};
 ghost use Rattle.std.specs.List.{flat_map};
 ghost use Rattle.std.specs.Fmt.{decimal};
 ghost use Rattle.ssh_certs.specs.Writing.{Keeps};
@@ -78,6 +78,7 @@ fn push_escaped_byte(out: &mut Vec<u8>, byte: u8) -> Result<(), AllocError>
 fn push_escaped_bytes(out: &mut Vec<u8>, text: &[u8]) -> Result<(), AllocError>
     ensures ok { OnOk result (out.new.items ≡ out.old.items ++ escaped text.now) }
     ensures err { OnErr result (Keeps out.old.items out.new.items) }
+    ensures spare { length text.now ≡ 0 → IsOk result }
 {
     for byte in text {
         push_escaped_byte(out, *byte)?;
@@ -90,6 +91,8 @@ fn push_escaped_bytes(out: &mut Vec<u8>, text: &[u8]) -> Result<(), AllocError>
 pub fn push_escaped(out: &mut Vec<u8>, text: &[u8]) -> Result<(), AllocError>
     ensures ok { OnOk result (out.new.items ≡ out.old.items ++ escaped text.now) }
     ensures err { OnErr result (out.new.items ≡ out.old.items) }
+    // No bytes take no memory.
+    ensures spare { length text.now ≡ 0 → IsOk result }
 {
     let len = out.len();
     let outcome = push_escaped_bytes(out, text);
