@@ -1,5 +1,5 @@
 -- What the first line of a public key's file offers (this project's rule, for the files that ssh-keygen(1) writes).
-use Rattle.std.specs.Prelude.{Bool, true, false, ℕ, List, [], ◌∷◌, Result, Ok, Err}
+use Rattle.std.specs.Prelude.{◌≡◌, ⊤, Bool, true, false, ℕ, List, [], ◌∷◌, Result, Ok, Err}
 use Rattle.base64.specs.Engines.{standard}
 use Rattle.base64.specs.GeneralPurpose.{decoded_of}
 use Rattle.ssh_keys.specs.declared.kind.KeyKind.{KeyKind}
@@ -44,6 +44,18 @@ offer_by Other line = Err (missing_or (base64_field line) KeyType)
 -- what the first line of a file offers, or the first fault
 unfoldable pub offer_in : List ℕ → Result Offered ShowError
 offer_in file = offer_by (class_of (type_field (shown_line file))) (shown_line file)
+
+-- by the class of the type and the base64: there is no blob to read
+abbrev pub HasNoBlob : NameClass → List ℕ → Type 0
+HasNoBlob (Plain kind) field = field ≡ []
+HasNoBlob (Certificate kind) field = field ≡ []
+HasNoBlob Retired field = ⊤
+HasNoBlob Other field = ⊤
+
+-- Only a blob takes memory: a file whose first line has no base64, or another type than that of a key or a certificate, is
+-- answered whatever memory does.
+abbrev pub TakesNoMemory : List ℕ → Type 0
+TakesNoMemory file = HasNoBlob (class_of (type_field (shown_line file))) (base64_field (shown_line file))
 
 -- an offer, without where its bytes lie in memory
 abbrev pub offer_seen : OfferedKey → Offered

@@ -1,9 +1,10 @@
 //! The first line of a file that is shown, and its blob.
 
-ghost use Rattle.std.specs.Prelude.{◌≡◌};
+ghost use Rattle.std.specs.Prelude.{◌≡◌, ◌≢◌, None};
 ghost use Rattle.ssh_text.specs.Text.{lines_of};
 ghost use Rattle.ssh_show.specs.Showing.{blob_of_field, blob_spelled, field_fault, first_of_lines};
 ghost use Rattle.ssh_show.specs.ShownLines.{Finds};
+ghost use Rattle.ssh_show.specs.declared.error.ShowError.TheVariants.{Memory};
 
 use crate::error::ShowError;
 use ssh_inputs::decode;
@@ -39,8 +40,9 @@ pub fn read_blob(
     base64: &[u8],
     type_fault: Option<LineCause>,
 ) -> Result<Vec<u8>, ShowError>
-    ensures { Finds (λ blob. blob.items)
+    ensures value { Finds (λ blob. blob.items)
         (blob_of_field (field_fault base64.now type_fault) base64.now) result }
+    ensures spare { field_fault base64.now type_fault ≢ None → result ≢ Err Memory }
 {
     if let Some(cause) = field_fault(base64, type_fault) {
         return Err(ShowError::Line(cause));

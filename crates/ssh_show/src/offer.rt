@@ -1,8 +1,15 @@
 //! What the file of a public key, or of a certificate, offers.
 
-ghost use Rattle.std.specs.Prelude.{◌≡◌};
+ghost use Rattle.std.specs.Prelude.{◌≡◌, ◌≢◌, []};
 ghost use Rattle.ssh_lines.specs.KeyText.{base64_field};
-ghost use Rattle.ssh_show.specs.Offering.{blob_where, missing_or, offer_in, offer_seen};
+ghost use Rattle.ssh_show.specs.Offering.{
+  TakesNoMemory,
+  blob_where,
+  missing_or,
+  offer_in,
+  offer_seen,
+};
+ghost use Rattle.ssh_show.specs.declared.error.ShowError.TheVariants.{Memory};
 ghost use Rattle.ssh_show.specs.Showing.{cert_on, key_on};
 ghost use Rattle.ssh_show.specs.ShownLines.{Finds};
 
@@ -27,8 +34,9 @@ pub struct OfferedKey {
 /// The blob of the plain key on a line.
 #[tactic(auto, unfolding(crate::specs::Showing::key_on))]
 fn key_blob_on(alloc: Global, line: &[u8]) -> Result<Vec<u8>, ShowError>
-    ensures { Finds (λ blob. blob.items) (blob_where (key_on line.now) (base64_field line.now))
+    ensures value { Finds (λ blob. blob.items) (blob_where (key_on line.now) (base64_field line.now))
         result }
+    ensures spare { base64_field line.now ≡ [] → result ≢ Err Memory }
 {
     let text = key_text(line);
     let type_fault = key_type_fault(name_class(text.type_name));
@@ -40,8 +48,9 @@ fn key_blob_on(alloc: Global, line: &[u8]) -> Result<Vec<u8>, ShowError>
 /// The blob of the certificate on a line.
 #[tactic(auto, unfolding(crate::specs::Showing::cert_on))]
 fn cert_blob_on(alloc: Global, line: &[u8]) -> Result<Vec<u8>, ShowError>
-    ensures { Finds (λ blob. blob.items) (blob_where (cert_on line.now) (base64_field line.now))
+    ensures value { Finds (λ blob. blob.items) (blob_where (cert_on line.now) (base64_field line.now))
         result }
+    ensures spare { base64_field line.now ≡ [] → result ≢ Err Memory }
 {
     let text = key_text(line);
     let type_fault = cert_type_fault(name_class(text.type_name));
@@ -52,7 +61,8 @@ fn cert_blob_on(alloc: Global, line: &[u8]) -> Result<Vec<u8>, ShowError>
 
 /// The fault of a type that is of no key, where a missing base64 is told first.
 fn missing_or(base64: &[u8], cause: LineCause) -> ShowError
-    ensures { result ≡ missing_or base64.now cause }
+    ensures value { result ≡ missing_or base64.now cause }
+    ensures spare { result ≢ Memory }
 {
     if base64.is_empty() {
         ShowError::Line(LineCause::NoKey)
@@ -65,7 +75,9 @@ fn missing_or(base64: &[u8], cause: LineCause) -> ShowError
 /// `ssh-keygen` writes a `.pub` and a `-cert.pub` file. The faults are those of `show`.
 #[tactic(auto, unfolding(crate::specs::Offering::offer_in))]
 pub fn read_offer(alloc: Global, file: &[u8]) -> Result<OfferedKey, ShowError>
-    ensures { Finds offer_seen (offer_in file.now) result }
+    ensures value { Finds offer_seen (offer_in file.now) result }
+    // Only the blob takes memory: what is told before it is read is told whatever memory does.
+    ensures spare { TakesNoMemory file.now → result ≢ Err Memory }
 {
     let line = first_line(file);
     let text = key_text(line);
