@@ -45,10 +45,10 @@ pub search_begins : (code : List ℕ) (found : List Section) → map view found 
 unfolding row_of
 search_begins code found e = sym (ap (find (is_of code)) (all_rows found e))
 
-counted : (found : List Section) → map view found ≡ sections → length found ≡ 8
+counted : (found : List Section) → map view found ≡ sections → length found ≡ 9
 counted found e = sym (length-map found view) ∙ ap length e
 
-next : (test : Told → Bool) (found : List Section) (i : ℕ) (d : Section) → map view found ≡ sections → i < 8
+next : (test : Told → Bool) (found : List Section) (i : ℕ) (d : Section) → map view found ≡ sections → i < 9
     → find test (flat_map view (drop i found)) ≡ option_or (find test (view (get_or found i d))) (find test (flat_map view (drop (i + 1) found)))
 next test found i d e lt =
     at_drop_more (λ rest. find test (flat_map view rest)) found i d (subst (λ n. i < n) (sym (counted found e)) lt)
@@ -56,14 +56,14 @@ next test found i d e lt =
     ∙ find-append test (view (get_or found i d)) (flat_map view (drop (i + 1) found))
 
 -- a row of this section is the first, where there is none before it
-pub row_here : (code : List ℕ) (found : List Section) (i : ℕ) (d : Section) (row : Told) → map view found ≡ sections → i < 8
+pub row_here : (code : List ℕ) (found : List Section) (i : ℕ) (d : Section) (row : Told) → map view found ≡ sections → i < 9
     → row_of code ≡ find (is_of code) (flat_map view (drop i found)) → Some row ≡ find (is_of code) (view (get_or found i d)) → Some row ≡ row_of code
 row_here code found i d row e lt before here =
     ap (λ o. option_or o (find (is_of code) (flat_map view (drop (i + 1) found)))) here
     ∙ sym (next (is_of code) found i d e lt) ∙ sym before
 
 -- none in this section: the search goes on after it
-pub not_here : (code : List ℕ) (found : List Section) (i : ℕ) (d : Section) → map view found ≡ sections → i < 8
+pub not_here : (code : List ℕ) (found : List Section) (i : ℕ) (d : Section) → map view found ≡ sections → i < 9
     → row_of code ≡ find (is_of code) (flat_map view (drop i found)) → None ≡ find (is_of code) (view (get_or found i d))
     → row_of code ≡ find (is_of code) (flat_map view (drop (i + 1) found))
 not_here code found i d e lt before none =

@@ -1,6 +1,6 @@
 -- Worked examples of the definitions: lines of codes, and that each row of the table is the row of its own code.
 use Rattle.std.specs.Prelude.{◌≡◌, [], ◌∷◌, codes, map, Some, refl}
-use Rattle.ssh_explain.specs.Table.{answers, bodies, certificates, faults, fields, keys, lines, reasons, row_of, table}
+use Rattle.ssh_explain.specs.Table.{answers, bodies, certificates, faults, fields, findings, keys, lines, reasons, row_of, table}
 use Rattle.ssh_explain.specs.Explaining.{code_text, first_unknown, row_text}
 
 abbrev pub LinesShown : Type 0
@@ -9,7 +9,7 @@ LinesShown =
     × (code_text (codes "K4") ≡ codes "K4: the type is a certificate's - a plain key is wanted here\n")
 
 pub lines_shown : LinesShown
-unfolding row_of table answers reasons lines faults keys row_text
+unfolding row_of table answers reasons lines findings faults keys row_text
 lines_shown = (refl, refl)
 
 -- the first of two codes that no row has
@@ -18,7 +18,7 @@ UnknownShown =
     first_unknown (codes "N3" ∷ codes "n3" ∷ codes "G2" ∷ []) ≡ Some 1
 
 pub unknown_shown : UnknownShown
-unfolding row_of table answers reasons lines faults keys certificates fields bodies
+unfolding row_of table answers reasons lines findings faults keys certificates fields bodies
 unknown_shown = refl
 
 -- no two rows have one code
@@ -26,5 +26,5 @@ abbrev pub RowsAreFound : Type 0
 RowsAreFound = map (λ row. row_of row.code) table ≡ map Some table
 
 pub rows_are_found : RowsAreFound
-unfolding row_of table answers reasons lines faults keys certificates fields bodies
+unfolding row_of table answers reasons lines findings faults keys certificates fields bodies
 rows_are_found = refl

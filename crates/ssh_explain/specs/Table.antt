@@ -3,7 +3,7 @@ use Rattle.std.specs.Prelude.{ℕ, Bool, List, [], ◌∷◌, bytes_eq, find, ma
 use Rattle.std.specs.List.{flat_map}
 use Rattle.std.specs.Borrow.{Bor}
 use Rattle.ssh_explain.specs.declared.row.Row.{Row}
-use Rattle.ssh_explain.specs.declared.table.TheConstants.{ANSWERS, REASONS, LINES, FAULTS, KEYS, CERTIFICATES, FIELDS, BODIES}
+use Rattle.ssh_explain.specs.declared.table.TheConstants.{ANSWERS, REASONS, LINES, FINDINGS, FAULTS, KEYS, CERTIFICATES, FIELDS, BODIES}
 
 -- what is said of a code: the code, the sentence that says what it means, and what to do about it
 pub record Told : Type 0 where
@@ -30,6 +30,9 @@ reasons = map (λ row. record { code = row.0.now; sentence = row.1.now; remedy =
 unfoldable pub lines : List Told
 lines = map (λ row. record { code = row.0.now; sentence = row.1.now; remedy = row.2.now }) LINES
 
+unfoldable pub findings : List Told
+findings = map (λ row. record { code = row.0.now; sentence = row.1.now; remedy = row.2.now }) FINDINGS
+
 unfoldable pub faults : List Told
 faults = map (λ row. record { code = row.0.now; sentence = row.1.now; remedy = row.2.now }) FAULTS
 
@@ -47,7 +50,7 @@ bodies = map (λ row. record { code = row.0.now; sentence = row.1.now; remedy = 
 
 -- the sections of docs/CODES.md, in their order
 abbrev pub sections : List (List Told)
-sections = answers ∷ reasons ∷ lines ∷ faults ∷ keys ∷ certificates ∷ fields ∷ bodies ∷ []
+sections = answers ∷ reasons ∷ lines ∷ findings ∷ faults ∷ keys ∷ certificates ∷ fields ∷ bodies ∷ []
 
 unfoldable pub table : List Told
 table = flat_map (λ section. section) sections

@@ -4,7 +4,9 @@ ghost use Rattle.std.specs.Prelude.{◌≡◌, map};
 ghost use Rattle.ssh_explain.specs.Table as table;
 ghost use Rattle.ssh_explain.specs.Table.{sections, told};
 
-use crate::table::{ANSWERS, BODIES, CERTIFICATES, FAULTS, FIELDS, KEYS, LINES, REASONS, Texts};
+use crate::table::{
+    ANSWERS, BODIES, CERTIFICATES, FAULTS, FIELDS, FINDINGS, KEYS, LINES, REASONS, Texts,
+};
 
 #[tactic(auto, unfolding(crate::specs::Table::answers))]
 fn answers() -> &'static [Texts]
@@ -25,6 +27,13 @@ fn lines() -> &'static [Texts]
     ensures { map told result.now ≡ table.lines }
 {
     &LINES
+}
+
+#[tactic(auto, unfolding(crate::specs::Table::findings))]
+fn findings() -> &'static [Texts]
+    ensures { map told result.now ≡ table.findings }
+{
+    &FINDINGS
 }
 
 #[tactic(auto, unfolding(crate::specs::Table::faults))]
@@ -63,13 +72,14 @@ fn bodies() -> &'static [Texts]
 }
 
 /// The sections of the table, in the order of docs/CODES.md.
-pub(crate) fn sections() -> [&'static [Texts]; 8]
+pub(crate) fn sections() -> [&'static [Texts]; 9]
     ensures { map (λ section. map told section.now) result ≡ sections }
 {
     [
         answers(),
         reasons(),
         lines(),
+        findings(),
         faults(),
         keys(),
         certificates(),

@@ -242,6 +242,115 @@ pub(crate) static LINES: [Texts; 16] = [
     ),
 ];
 
+/// What a review finds of a line.
+pub(crate) static FINDINGS: [Texts; 21] = [
+    (
+        "F1",
+        "the line cannot be read here, and OpenSSH may read it; the L code follows",
+        "count it as access until it is mended: mend or delete the line",
+    ),
+    (
+        "F2",
+        "line K has the same key: where that line does not let it in, this one may",
+        "two lines speak for one key, and which one counts hangs on the client: keep one",
+    ),
+    (
+        "F3",
+        "the line never decides: line K has the same key and lets it in first",
+        "delete it",
+    ),
+    (
+        "F4",
+        "the line never decides: line K has the same key, lets it in first and gives more",
+        "the restriction on this line is not in force: delete line K, or this one if line K is meant",
+    ),
+    (
+        "F5",
+        "an RSA key of B bits is too short: they are fewer than --rsa-minimum",
+        "ask the owner for a new key (Ed25519), then delete this line",
+    ),
+    (
+        "F6",
+        "the line has expired",
+        "it lets nobody in any more: delete it",
+    ),
+    (
+        "F7",
+        "the line lets nobody in: its from= or principals= list, whichever is named, permits nobody",
+        "somebody believes that this key works, and it does not; OpenSSH reads some such lists: mend the list",
+    ),
+    (
+        "F8",
+        "OpenSSH reads the line otherwise: principals= without cert-authority, empty-principal in the list, verify-required of a key that is no security key, local-time of an expiry time without Z, tab after a marker",
+        "write what is meant: both programs then say the same",
+    ),
+    (
+        "F9",
+        "the line's command is forced, but it may still forward: add restrict",
+        "the command is fixed, and the host is a tunnel all the same: write restrict,command=..",
+    ),
+    (
+        "F10",
+        "the line may revoke any key and cannot be read: here it denies every host, OpenSSH may pass over it",
+        "a revocation that OpenSSH does not see: mend it at once",
+    ),
+    (
+        "F11",
+        "another key of this type for a name of line K",
+        "an old host key that was left, or one that somebody slipped in: ask the host, delete one",
+    ),
+    (
+        "F12",
+        "the line's key is both trusted and revoked: see line K",
+        "it is denied wherever it stands (N1): delete the trusting line",
+    ),
+    (
+        "F13",
+        "one key for all hosts that a pattern names",
+        "one stolen host key is good for all of them: use a host authority",
+    ),
+    (
+        "F14",
+        "an authority for every host",
+        "whoever holds that key can be any host of the world: name your domain",
+    ),
+    (
+        "F15",
+        "the key is good from any address: no from=, or from=\"*\"",
+        "restrict the source of keys that machines use (NIST IR 7966)",
+    ),
+    (
+        "F16",
+        "any command may be run: no command=",
+        "restrict the command of keys that machines use (NIST IR 7966)",
+    ),
+    (
+        "F17",
+        "the key is good for ever: no expiry-time=",
+        "set one: keys are to be rotated",
+    ),
+    (
+        "F18",
+        "whoever the authority certifies for the user's name is let in: no principals=",
+        "name the principals, or know that the authority decides alone",
+    ),
+    (
+        "F19",
+        "nothing says whose key this is: no comment",
+        "find the owner, or delete the line",
+    ),
+    (
+        "F20",
+        "the names of the line are in clear",
+        "whoever reads the file learns where this account goes: ssh_audit hash hides them",
+    ),
+    (
+        "F21",
+        "the same host key stands on line K",
+        "another name of one host, or two hosts that share a key (cloned machines)",
+    ),
+];
+
 /// Faults.
 pub(crate) static FAULTS: [Texts; 16] = [
     (
