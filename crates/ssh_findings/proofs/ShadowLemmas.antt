@@ -21,8 +21,7 @@ use Rattle.ssh_rules.specs.CertificateForce.{InForce, Serves, user_certificate}
 use Rattle.ssh_keys.specs.PublicKey.{key_blob}
 use Rattle.ssh_keys.proofs.KeyLaws.{find_some}
 use Rattle.std.proofs.lemmas.Slice.Eq.{bytes_eq-Decides}
-use Rattle.ssh_findings.specs.declared.held.Held.{Held}
-use Rattle.ssh_findings.specs.Earlier.{held_entry, is_free, is_same, shadow}
+use Rattle.ssh_findings.specs.Earlier.{Held, held_entry, is_free, is_same, shadow}
 use Rattle.ssh_findings.specs.EntryFindings.{has_name_in, names_nobody, permits_bad}
 use Rattle.ssh_findings.specs.Facts.{facts_of}
 use Rattle.ssh_findings.specs.Lists.{says_name}

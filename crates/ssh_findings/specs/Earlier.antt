@@ -11,8 +11,13 @@ use Rattle.ssh_rights.specs.declared.rights.Rights.{Rights}
 use Rattle.ssh_findings.specs.declared.facts.Facts.{Facts}
 use Rattle.ssh_findings.specs.declared.finding.Finding.{Finding}
 use Rattle.ssh_findings.specs.declared.finding.Finding.TheVariants as finding
-use Rattle.ssh_findings.specs.declared.held.Held.{Held}
 use Rattle.ssh_findings.specs.Facts.{facts_of}
+
+-- the entry of an earlier line: its number, the blob of its key, and what it says
+pub record Held : Type 0 where
+  pub line : ℕ
+  pub blob : List ℕ
+  pub facts : Facts
 
 -- the entry of a line of this number, with its expiry times in a zone
 abbrev pub held_entry : TimeZone → ℕ → AuthEntry → Held

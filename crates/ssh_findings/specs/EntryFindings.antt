@@ -8,8 +8,7 @@ use Rattle.ssh_findings.specs.declared.facts.Facts.{Facts}
 use Rattle.ssh_findings.specs.declared.finding.Finding.{Finding}
 use Rattle.ssh_findings.specs.declared.finding.Finding.TheVariants as finding
 use Rattle.ssh_findings.specs.Asking.{Asking, is_told}
-use Rattle.ssh_findings.specs.declared.held.Held.{Held}
-use Rattle.ssh_findings.specs.Earlier.{repeat_after}
+use Rattle.ssh_findings.specs.Earlier.{Held, repeat_after}
 use Rattle.ssh_findings.specs.Findings.{code_of}
 use Rattle.ssh_findings.specs.Lists.{has_empty_name, has_name, is_bad_list, is_for_any_address}
 use Rattle.ssh_findings.specs.Moments.{is_past}

@@ -6,4 +6,6 @@ pub mod Facts
 pub mod Findings
 pub mod Shadows
 pub mod Earlier
+pub mod Keeping
 pub mod EntryFindings
+pub mod Spare

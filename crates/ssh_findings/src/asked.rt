@@ -21,7 +21,7 @@ pub struct Asked<'a> {
 
 impl Asked<'_> {
     /// Whether findings of this code are told.
-    pub(crate) fn tells(&self, code: Code) -> bool
+    pub fn tells(&self, code: Code) -> bool
         ensures { result ≡ is_told (asking_of self.entry.now) code }
     {
         self.told.contains(&code)

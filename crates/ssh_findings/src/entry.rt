@@ -1,7 +1,9 @@
 //! What is found of an entry, each in its place.
 
-ghost use Rattle.std.specs.Prelude.{◌≡◌, ◌++◌, IfOk, OnOk};
+ghost use Rattle.std.specs.Prelude.{◌≡◌, ◌++◌, [], List, IfOk, IsOk, OnOk};
 ghost use Rattle.ssh_findings.specs.Asking.{asking_of};
+ghost use Rattle.ssh_findings.specs.Earlier.{Held};
+ghost use Rattle.ssh_findings.specs.Keeping.{StandsFor};
 ghost use Rattle.ssh_findings.specs.EntryFindings.{
   condition_findings,
   entry_findings,
@@ -20,9 +22,9 @@ ghost use Rattle.ssh_findings.specs.EntryFindings.{
 };
 
 use crate::asked::Asked;
+use crate::earlier::Earlier;
 use crate::facts::Facts;
 use crate::finding::Finding;
-use crate::held::{Held, repeat_after};
 use crate::list::{Pieces, is_bad_list};
 use crate::moments::is_past;
 use ssh_keys::KeyKind;
@@ -39,8 +41,9 @@ fn tell(
     holds: bool,
     finding: Finding,
 ) -> Result<(), AllocError>
-    ensures { OnOk result
+    ensures value { OnOk result
         (found.new.items ≡ found.old.items ++ told_if (asking_of asked.entry.now) holds finding) }
+    ensures spare { told_if (asking_of asked.entry.now) holds finding ≡ [] → IsOk result }
 {
     if holds && asked.tells(finding.code()) {
         found.push(finding)?;
@@ -54,8 +57,9 @@ fn tell_repeat(
     asked: &Asked<'_>,
     repeat: Option<Finding>,
 ) -> Result<(), AllocError>
-    ensures { OnOk result
+    ensures value { OnOk result
         (found.new.items ≡ found.old.items ++ repeat_findings (asking_of asked.entry.now) repeat) }
+    ensures spare { repeat_findings (asking_of asked.entry.now) repeat ≡ [] → IsOk result }
 {
     match repeat {
         Some(finding) => tell(found, asked, true, finding),
@@ -69,8 +73,9 @@ fn tell_short(
     asked: &Asked<'_>,
     bits: Option<u32>,
 ) -> Result<(), AllocError>
-    ensures { OnOk result
+    ensures value { OnOk result
         (found.new.items ≡ found.old.items ++ short_findings (asking_of asked.entry.now) bits) }
+    ensures spare { short_findings (asking_of asked.entry.now) bits ≡ [] → IsOk result }
 {
     match bits {
         Some(bits) => tell(
@@ -108,13 +113,15 @@ fn names_of(list: &Option<Bytes>) -> (bool, bool)
 }
 
 /// F5 to F7: what keeps the key out, or should.
+#[tactic(auto, using(crate::proofs::SpareLemmas::none_in_front, crate::proofs::SpareLemmas::none_behind))]
 fn tell_conditions(
     found: &mut Vec<Finding>,
     asked: &Asked<'_>,
     facts: &Facts,
 ) -> Result<(), AllocError>
-    ensures { OnOk result (found.new.items ≡ found.old.items
+    ensures value { OnOk result (found.new.items ≡ found.old.items
         ++ condition_findings (asking_of asked.entry.now) facts.now) }
+    ensures spare { condition_findings (asking_of asked.entry.now) facts.now ≡ [] → IsOk result }
 {
     let (has_name, _) = names_of(&facts.principals);
     let nobody = facts.is_authority && facts.principals.is_some() && !has_name;
@@ -137,13 +144,15 @@ fn is_security_key(kind: KeyKind) -> bool
 }
 
 /// F8: what OpenSSH reads otherwise.
+#[tactic(auto, using(crate::proofs::SpareLemmas::none_in_front, crate::proofs::SpareLemmas::none_behind))]
 fn tell_readings(
     found: &mut Vec<Finding>,
     asked: &Asked<'_>,
     facts: &Facts,
 ) -> Result<(), AllocError>
-    ensures { OnOk result (found.new.items ≡ found.old.items
+    ensures value { OnOk result (found.new.items ≡ found.old.items
         ++ reading_findings (asking_of asked.entry.now) facts.now) }
+    ensures spare { reading_findings (asking_of asked.entry.now) facts.now ≡ [] → IsOk result }
 {
     let (has_name, has_empty) = names_of(&facts.principals);
     let plain = !facts.is_authority && facts.principals.is_some();
@@ -177,9 +186,11 @@ fn permits_any(list: &Option<Bytes>) -> bool
 }
 
 /// F15 to F19: policy.
+#[tactic(auto, using(crate::proofs::SpareLemmas::none_in_front, crate::proofs::SpareLemmas::none_behind))]
 fn tell_policy(found: &mut Vec<Finding>, asked: &Asked<'_>, facts: &Facts) -> Result<(), AllocError>
-    ensures { OnOk result (found.new.items ≡ found.old.items
+    ensures value { OnOk result (found.new.items ≡ found.old.items
         ++ policy_findings (asking_of asked.entry.now) facts.now) }
+    ensures spare { policy_findings (asking_of asked.entry.now) facts.now ≡ [] → IsOk result }
 {
     let plain = !facts.is_authority;
     let any_command = plain && facts.rights.command.is_none();
@@ -202,22 +213,28 @@ fn tell_policy(found: &mut Vec<Finding>, asked: &Asked<'_>, facts: &Facts) -> Re
     Ok(())
 }
 
-/// What is found of an entry with this blob, after these entries of earlier lines, and told, in the
+/// What is found of an entry with this blob, after the entries of earlier lines, and told, in the
 /// order of the codes. `Err` is out of memory.
 #[tactic(auto, unfolding(crate::specs::EntryFindings::entry_findings))]
 pub fn entry_findings(
     alloc: Global,
     asked: &Asked<'_>,
-    earlier: &[Held],
+    earlier: &Earlier,
     blob: &[u8],
     facts: &Facts,
 ) -> Result<Vec<Finding>, AllocError>
-    ensures { IfOk result
-        (λ found. found.items ≡ entry_findings (asking_of asked.entry.now) earlier.now blob.now facts.now) }
+    ensures value { IfOk result (λ found. (held : List Held)
+        → StandsFor earlier.now held
+        → found.items ≡ entry_findings (asking_of asked.entry.now) held blob.now facts.now) }
+    // Only what is told takes memory: where nothing is, that is answered whatever memory does.
+    ensures spare { (held : List Held)
+        → StandsFor earlier.now held
+        → entry_findings (asking_of asked.entry.now) held blob.now facts.now ≡ []
+        → IsOk result }
 {
     let mut found = Vec::new(alloc);
     let forces = !facts.is_authority && forces_but_forwards(&facts.rights);
-    tell_repeat(&mut found, asked, repeat_after(earlier, blob, facts))?;
+    tell_repeat(&mut found, asked, earlier.repeat(blob, facts))?;
     tell_conditions(&mut found, asked, facts)?;
     tell_readings(&mut found, asked, facts)?;
     tell(&mut found, asked, forces, Finding::ForcedButForwards)?;
@@ -231,8 +248,10 @@ pub fn unreadable_findings(
     asked: &Asked<'_>,
     cause: LineCause,
 ) -> Result<Vec<Finding>, AllocError>
-    ensures { IfOk result
+    ensures value { IfOk result
         (λ found. found.items ≡ unreadable_findings (asking_of asked.entry.now) cause) }
+    // Where F1 is not told, that is answered whatever memory does.
+    ensures spare { unreadable_findings (asking_of asked.entry.now) cause ≡ [] → IsOk result }
 {
     let mut found = Vec::new(alloc);
     tell(&mut found, asked, true, Finding::Unreadable(cause))?;

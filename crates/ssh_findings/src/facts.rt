@@ -47,9 +47,9 @@ pub struct Facts {
     pub has_local_time: bool,
 }
 
-/// The size of an RSA key.
+/// The size of an RSA key, and none of any other. No memory is taken.
 #[tactic(auto, using(crate::proofs::SizeLemmas::size_is))]
-fn rsa_size(key: &KeyView<'_>) -> Option<u32>
+pub fn rsa_size(key: &KeyView<'_>) -> Option<u32>
     ensures { result ≡ rsa_size (key_of key.now) }
 {
     rsa_bits(key)

@@ -9,25 +9,28 @@
 //! };
 //! let asked = Asked { now, zone, rsa_minimum: 2048, told: Code::by_default() };
 //! let facts = Facts::read(alloc, zone, &entry)?;
-//! Ok(Some(entry_findings(alloc, &asked, &[], entry.blob(), &facts)?))
+//! let earlier = Earlier::new(alloc);
+//! Ok(Some(entry_findings(alloc, &asked, &earlier, entry.blob(), &facts)?))
 //! ```
 #![tactic(auto)]
 
 mod asked;
 mod code;
+mod earlier;
 mod entry;
 mod facts;
 mod finding;
-mod held;
 mod laws;
 mod list;
 mod moments;
+mod narrower;
 mod told;
 
 pub use asked::Asked;
 pub use code::Code;
+pub use earlier::Earlier;
 pub use entry::{entry_findings, unreadable_findings};
-pub use facts::Facts;
+pub use facts::{Facts, rsa_size};
 pub use finding::Finding;
-pub use held::Held;
+pub use list::Pieces;
 pub use told::parse_codes;

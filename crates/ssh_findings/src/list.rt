@@ -31,8 +31,8 @@ pub(crate) fn is_bad_list(list: &[u8]) -> bool
 }
 
 /// Which pieces stand between the commas of a list.
-#[derive(Clone, Copy)]
-pub(crate) struct Pieces {
+#[derive(Clone, Copy, Debug)]
+pub struct Pieces {
     /// One that is not empty.
     pub has_name: bool,
     /// An empty one.
@@ -88,8 +88,8 @@ impl Pieces {
         }
     }
 
-    /// The pieces of a list.
-    pub(crate) fn of(list: &[u8]) -> Pieces
+    /// The pieces of a list. No memory is taken.
+    pub fn of(list: &[u8]) -> Pieces
         ensures name { result.has_name ≡ has_name list.now }
         ensures empty { result.has_empty ≡ has_empty_name list.now }
         ensures stars { result.has_stars ≡ has_stars list.now }

@@ -1,7 +1,9 @@
 //! Lists of the codes of findings that are to be told.
 
-ghost use Rattle.std.specs.Prelude.{◌≡◌, [], IfOk, OnOk, ◌++◌, ◌∷◌, option_map};
+ghost use Rattle.std.specs.Prelude.{◌≡◌, [], false, IfOk, IsOk, OnOk, ◌++◌, ◌∷◌, option_map};
+ghost use Rattle.ssh_patterns.specs.Lists.{pieces};
 ghost use Rattle.ssh_findings.specs.Codes.{codes_in, listed_codes};
+ghost use Rattle.ssh_findings.specs.Spare.{is_code_first, takes_codes};
 
 use crate::code::Code;
 use ssh_patterns::first_piece;
@@ -17,7 +19,9 @@ fn keep(found: &mut Vec<Code>, code: Code) -> Result<(), AllocError>
 
 /// The codes between commas, if each piece is one.
 fn listed_codes(alloc: Global, text: &[u8]) -> Result<Option<Vec<Code>>, AllocError>
-    ensures { IfOk result (λ found. option_map (λ v. v.items) found ≡ listed_codes text.now) }
+    ensures value { IfOk result
+        (λ found. option_map (λ v. v.items) found ≡ listed_codes text.now) }
+    ensures spare { is_code_first (pieces text.now) ≡ false → IsOk result }
 {
     let mut found = Vec::new(alloc);
     let mut rest = Some(text);
@@ -36,7 +40,10 @@ fn listed_codes(alloc: Global, text: &[u8]) -> Result<Option<Vec<Code>>, AllocEr
 /// and repeated or not. Any other text, an empty one too, is no such list. `Err` is out of memory.
 #[tactic(auto, unfolding(crate::specs::Codes::codes_in))]
 pub fn parse_codes(alloc: Global, text: &[u8]) -> Result<Option<Vec<Code>>, AllocError>
-    ensures { IfOk result (λ found. option_map (λ v. v.items) found ≡ codes_in text.now) }
+    ensures value { IfOk result (λ found. option_map (λ v. v.items) found ≡ codes_in text.now) }
+    // Only codes take memory: `none`, and a text whose first piece is no code, are answered
+    // whatever memory does.
+    ensures spare { takes_codes text.now ≡ false → IsOk result }
 {
     if text == b"all".as_slice() {
         let found = Vec::from_slice(alloc, &Code::ALL)?;

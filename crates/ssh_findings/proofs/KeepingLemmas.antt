@@ -1,0 +1,228 @@
+-- What is kept of entries stands for their list: it answers as the list does, and one more entry is kept as the list grows.
+use Rattle.std.proofs.Common.{◌≡◌, ◌∙◌, ℕ, Bool, true, false, not, ◌&&◌, cond, List, [], ◌∷◌, ◌++◌, Option, Some, None, BTreeMap, IsSome, ap, sym, refl, subst, nat_cmp, option_and_then, option_map}
+use Rattle.std.specs.Prelude.{bytes_eq, find, is_some}
+use Rattle.std.specs.BTreeMap.{UpdatesBy, get_by, is_at}
+use Rattle.std.specs.Cmp.{eq_by_cmp_equiv}
+use Rattle.std.specs.Cmp.Lexicographic.{nat_list_cmp_total, slice_cmp}
+use Rattle.std.specs.Global.{Vec}
+use Rattle.std.specs.Map.{KeepsOthers, lookup}
+use Rattle.std.specs.Option.{option_or}
+use Rattle.std.specs.Ordering.{eq_by_cmp}
+use Rattle.std.proofs.lemmas.List.Folds.{find-append}
+use Rattle.std.proofs.lemmas.Map.Text.{is_eq-slice_cmp}
+use Rattle.std.proofs.lemmas.Slice.Eq.{bytes_eq-Decides}
+use Rattle.ssh_findings.specs.declared.earlier.Earlier.{Earlier}
+use Rattle.ssh_findings.specs.declared.earlier.Free.{Free}
+use Rattle.ssh_findings.specs.declared.earlier.Kept.{Kept}
+use Rattle.ssh_findings.specs.declared.facts.Facts.{Facts}
+use Rattle.ssh_findings.specs.Earlier.{Held, is_free, is_same, repeat_after, repeat_of, shadow}
+use Rattle.ssh_findings.specs.Keeping.{StandsFor, free_of, kept_after, kept_at, kept_in, kept_of, repeat_by, shadow_at}
+
+-- ---- a map by the bytes of its keys
+
+apart : (bs cs ks : List ℕ) → bytes_eq bs cs ≡ false → bytes_eq bs ks ≡ true → bytes_eq cs ks ≡ false
+apart bs cs ks n y = go (bytes_eq cs ks) refl
+  where
+    go : (b : Bool) → bytes_eq cs ks ≡ b → b ≡ false
+    go false e = refl
+    go true e =
+        let same : bs ≡ cs = (bytes_eq-Decides bs ks).0 y ∙ sym ((bytes_eq-Decides cs ks).0 e) in
+        let bad : true ≡ false = sym ((bytes_eq-Decides bs cs).1 same) ∙ n in
+        cc
+
+others : {X : Type 0} (bs cs : List ℕ) (m n : BTreeMap (Vec ℕ) X) → bytes_eq bs cs ≡ false
+    → KeepsOthers (eq_by_cmp (λ x y. slice_cmp nat_cmp x.items y.items)) (is_at (λ key. slice_cmp nat_cmp bs key.items)) m.entries n.entries
+    → get_by (λ key. slice_cmp nat_cmp cs key.items) n ≡ get_by (λ key. slice_cmp nat_cmp cs key.items) m
+unfolding KeepsOthers
+others bs cs m n differ h =
+    h (is_at (λ key. slice_cmp nat_cmp cs key.items))
+    (λ x y. (eq_by_cmp_equiv nat_list_cmp_total).congr cs x.items y.items)
+    (λ key e. is_eq-slice_cmp cs key.items ∙ apart bs cs key.items differ (sym (is_eq-slice_cmp bs key.items) ∙ e))
+
+-- what a change at the bytes bs leaves at any bytes cs
+pub updated : {X : Type 0} (bs cs : List ℕ) (m n : BTreeMap (Vec ℕ) X) (w : Option X)
+    → UpdatesBy (λ x y. slice_cmp nat_cmp x.items y.items) (λ key. slice_cmp nat_cmp bs key.items) m n w
+    → get_by (λ key. slice_cmp nat_cmp cs key.items) n ≡ cond (bytes_eq bs cs) w (get_by (λ key. slice_cmp nat_cmp cs key.items) m)
+updated bs cs m n w h = go (bytes_eq bs cs) refl
+  where
+    go : (b : Bool) → bytes_eq bs cs ≡ b → get_by (λ key. slice_cmp nat_cmp cs key.items) n ≡ cond b w (get_by (λ key. slice_cmp nat_cmp cs key.items) m)
+    go true e = subst (λ ds. get_by (λ key. slice_cmp nat_cmp ds key.items) n ≡ w) ((bytes_eq-Decides bs cs).0 e) h.1
+    go false e = others bs cs m n e h.3
+
+-- ---- what is kept answers as the list does
+
+none-found : (p q : Held → Bool) (held : List Held) → find p held ≡ None → find (λ d. p d && q d) held ≡ None
+none-found p q [] h = refl
+none-found p q (d ∷ held) h = go (p d) h (none-found p q held)
+  where
+    go : (b : Bool) → cond b (Some d) (find p held) ≡ None → (find p held ≡ None → find (λ d. p d && q d) held ≡ None)
+        → cond (b && q d) (Some d) (find (λ d. p d && q d) held) ≡ None
+    go true h rest = cc
+    go false h rest = rest h
+
+free-kept : (blob : List ℕ) (is_authority : Bool) (held : List Held)
+    → option_and_then (λ kept. kept.free) (kept_of blob is_authority held)
+    ≡ option_map free_of (find (λ d. is_same blob is_authority d && is_free d.facts) held)
+free-kept blob is_authority held = go (find (is_same blob is_authority) held) refl
+  where
+    free : Option Held
+    free = find (λ d. is_same blob is_authority d && is_free d.facts) held
+
+    made : Held → Kept
+    made first = record { first = first.line; free = option_map free_of free }
+
+    go : (first : Option Held) → find (is_same blob is_authority) held ≡ first
+        → option_and_then (λ kept. kept.free) (option_map made first) ≡ option_map free_of free
+    go None e = ap (option_map free_of) (sym (none-found (is_same blob is_authority) (λ d. is_free d.facts) held e))
+    go (Some d) e = refl
+
+kept : (earlier : Earlier) (held : List Held) (blob : List ℕ) (is_authority : Bool) → StandsFor earlier held
+    → kept_at earlier blob is_authority ≡ kept_of blob is_authority held
+kept earlier held blob true s = s.authorities blob
+kept earlier held blob false s = s.plain blob
+
+pub shadowed_at : (earlier : Earlier) (held : List Held) (blob : List ℕ) (f : Facts) → StandsFor earlier held
+    → shadow_at earlier blob f ≡ option_map free_of (shadow held blob f)
+unfolding shadow
+shadowed_at earlier held blob f s = go (f.is_authority && is_some f.principals)
+  where
+    go : (b : Bool) → cond b None (option_and_then (λ kept. kept.free) (kept_at earlier blob f.is_authority))
+        ≡ option_map free_of (cond b None (find (λ d. is_same blob f.is_authority d && is_free d.facts) held))
+    go true = refl
+    go false = ap (option_and_then (λ kept. kept.free)) (kept earlier held blob f.is_authority s) ∙ free-kept blob f.is_authority held
+
+free-line : (d : Option Held) → option_map (λ free. free.line) (option_map free_of d) ≡ option_map (λ d. d.line) d
+free-line None = refl
+free-line (Some d) = refl
+
+pub shadow_line_at : (earlier : Earlier) (held : List Held) (blob : List ℕ) (f : Facts) → StandsFor earlier held
+    → option_map (λ free. free.line) (shadow_at earlier blob f) ≡ option_map (λ d. d.line) (shadow held blob f)
+shadow_line_at earlier held blob f s =
+    ap (option_map (λ free. free.line)) (shadowed_at earlier held blob f s) ∙ free-line (shadow held blob f)
+
+same-repeat : (first free : Option Held) (kept : Option Free) (f : Facts)
+    → repeat_by (option_map (λ d. record { first = d.line; free = kept }) first) (option_map free_of free) f ≡ repeat_of first free f
+same-repeat None free kept f = refl
+same-repeat (Some first) None kept f = refl
+same-repeat (Some first) (Some free) kept f = refl
+
+pub repeat_at : (earlier : Earlier) (held : List Held) (blob : List ℕ) (f : Facts) → StandsFor earlier held
+    → repeat_by (kept_at earlier blob f.is_authority) (shadow_at earlier blob f) f ≡ repeat_after held blob f
+unfolding repeat_after
+repeat_at earlier held blob f s =
+    ap (λ k. repeat_by k (shadow_at earlier blob f) f) (kept earlier held blob f.is_authority s)
+    ∙ ap (λ k. repeat_by (kept_of blob f.is_authority held) k f) (shadowed_at earlier held blob f s)
+    ∙ same-repeat (find (is_same blob f.is_authority) held) (shadow held blob f) _ f
+
+-- ---- one more entry
+
+-- what is kept of a first and a first free entry
+abbrev made : Option Held → Option Held → Option Kept
+made first free = option_map (λ d. record { first = d.line; free = option_map free_of free }) first
+
+abbrev if-one : Bool → Held → Option Held
+if-one b d = cond b (Some d) None
+
+one-more : (first free : Option Held) (d : Held) (b : Bool) → (first ≡ None → free ≡ None)
+    → made (option_or first (if-one b d)) (option_or free (if-one (b && is_free d.facts) d))
+    ≡ cond b (Some (kept_after (made first free) d.line d.facts)) (made first free)
+one-more None None d b h = go b (is_free d.facts)
+  where
+    go : (b c : Bool) → made (if-one b d) (if-one (b && c) d) ≡ cond b (Some (record { first = d.line; free = cond c (Some (free_of d)) None })) None
+    go true true = refl
+    go true false = refl
+    go false c = refl
+one-more None (Some free) d b h = let bad : Some free ≡ None = h refl in cc
+one-more (Some first) None d b h = go b (is_free d.facts)
+  where
+    go : (b c : Bool) → made (Some first) (if-one (b && c) d)
+        ≡ cond b (Some (record { first = first.line; free = cond c (Some (free_of d)) None })) (made (Some first) None)
+    go true true = refl
+    go true false = refl
+    go false c = refl
+one-more (Some first) (Some free) d true h = refl
+one-more (Some first) (Some free) d false h = refl
+
+kept-more : (blob : List ℕ) (is_authority : Bool) (held : List Held) (d : Held)
+    → kept_of blob is_authority (held ++ d ∷ [])
+    ≡ cond (is_same blob is_authority d) (Some (kept_after (kept_of blob is_authority held) d.line d.facts)) (kept_of blob is_authority held)
+kept-more blob is_authority held d =
+    let p : Held → Bool = is_same blob is_authority in
+    let q : Held → Bool = λ d. p d && is_free d.facts in
+    ap (λ first. made first (find q (held ++ d ∷ []))) (find-append p held (d ∷ []))
+    ∙ ap (λ free. made (option_or (find p held) (find p (d ∷ []))) free) (find-append q held (d ∷ []))
+    ∙ one-more (find p held) (find q held) d (p d) (none-found p (λ d. is_free d.facts) held)
+
+-- the entry is of the other kind
+kept-still : (blob : List ℕ) (is_authority : Bool) (held : List Held) (d : Held) → cond is_authority d.facts.is_authority (not d.facts.is_authority) ≡ false
+    → kept_of blob is_authority (held ++ d ∷ []) ≡ kept_of blob is_authority held
+kept-still blob is_authority held d other = kept-more blob is_authority held d ∙ go (bytes_eq d.blob blob) _ other
+  where
+    go : (b c : Bool) → c ≡ false → cond (b && c) (Some (kept_after (kept_of blob is_authority held) d.line d.facts)) (kept_of blob is_authority held) ≡ kept_of blob is_authority held
+    go true true e = cc
+    go true false e = refl
+    go false c e = refl
+
+-- the entry is of the kind that the map is for
+kept-new : (old new : BTreeMap (Vec ℕ) Kept) (is_authority : Bool) (held : List Held) (d : Held)
+    → cond is_authority d.facts.is_authority (not d.facts.is_authority) ≡ true
+    → ((blob : List ℕ) → kept_in old blob ≡ kept_of blob is_authority held)
+    → ((other : List ℕ) → kept_in new other ≡ cond (bytes_eq d.blob other) (Some (kept_after (kept_in old d.blob) d.line d.facts)) (kept_in old other))
+    → (other : List ℕ) → kept_in new other ≡ kept_of other is_authority (held ++ d ∷ [])
+kept-new old new is_authority held d own s h other =
+    h other ∙ go (bytes_eq d.blob other) refl _ own ∙ sym (kept-more other is_authority held d)
+  where
+    go : (b : Bool) → bytes_eq d.blob other ≡ b → (c : Bool) → c ≡ true
+        → cond b (Some (kept_after (kept_in old d.blob) d.line d.facts)) (kept_in old other)
+        ≡ cond (b && c) (Some (kept_after (kept_of other is_authority held) d.line d.facts)) (kept_of other is_authority held)
+    go true e true k =
+        ap (λ o. Some (kept_after o d.line d.facts)) (s d.blob ∙ ap (λ blob. kept_of blob is_authority held) ((bytes_eq-Decides d.blob other).0 e))
+    go true e false k = cc
+    go false e c k = s other
+
+-- the new map at the one kind, and the old one at the other
+pub kept_authority : (old new : Earlier) (held : List Held) (d : Held) → d.facts.is_authority ≡ true → StandsFor old held → new.plain ≡ old.plain
+    → ((other : List ℕ) → kept_in new.authorities other ≡ cond (bytes_eq d.blob other) (Some (kept_after (kept_in old.authorities d.blob) d.line d.facts)) (kept_in old.authorities other))
+    → StandsFor new (held ++ d ∷ [])
+kept_authority old new held d role s same h = record {
+  plain = λ blob. ap (λ m. kept_in m blob) same ∙ s.plain blob ∙ sym (kept-still blob false held d (ap not role));
+  authorities = kept-new old.authorities new.authorities true held d role s.authorities h;
+}
+
+pub kept_plain : (old new : Earlier) (held : List Held) (d : Held) → d.facts.is_authority ≡ false → StandsFor old held → new.authorities ≡ old.authorities
+    → ((other : List ℕ) → kept_in new.plain other ≡ cond (bytes_eq d.blob other) (Some (kept_after (kept_in old.plain d.blob) d.line d.facts)) (kept_in old.plain other))
+    → StandsFor new (held ++ d ∷ [])
+kept_plain old new held d role s same h = record {
+  plain = kept-new old.plain new.plain false held d (ap not role) s.plain h;
+  authorities = λ blob. ap (λ m. kept_in m blob) same ∙ s.authorities blob ∙ sym (kept-still blob true held d role);
+}
+
+-- what stands for a list, by the same entries
+pub stands_still : (old new : Earlier) (held : List Held) → new.plain.entries ≡ old.plain.entries → new.authorities.entries ≡ old.authorities.entries
+    → StandsFor old held → StandsFor new held
+stands_still old new held e f s = record {
+  plain = λ blob. ap (lookup (is_at (λ key. slice_cmp nat_cmp blob key.items))) e ∙ s.plain blob;
+  authorities = λ blob. ap (lookup (is_at (λ key. slice_cmp nat_cmp blob key.items))) f ∙ s.authorities blob;
+}
+
+-- ---- an entry of a key that is kept
+
+some-kept : (blob : List ℕ) (is_authority : Bool) (held : List Held) → IsSome (find (is_same blob is_authority) held) → IsSome (kept_of blob is_authority held)
+some-kept blob is_authority held = go (find (is_same blob is_authority) held)
+  where
+    free : Option Held
+    free = find (λ d. is_same blob is_authority d && is_free d.facts) held
+
+    go : (first : Option Held) → IsSome first → IsSome (made first free)
+    go None h = h
+    go (Some d) h = refl
+
+pub authority_there : (earlier : Earlier) (held : List Held) (blob : List ℕ) (is_authority : Bool) → is_authority ≡ true → StandsFor earlier held
+    → IsSome (find (λ d. is_same blob is_authority d) held) → IsSome (kept_in earlier.authorities blob)
+authority_there earlier held blob true e s h = subst IsSome (sym (s.authorities blob)) (some-kept blob true held h)
+authority_there earlier held blob false e s h = cc
+
+pub plain_there : (earlier : Earlier) (held : List Held) (blob : List ℕ) (is_authority : Bool) → is_authority ≡ false → StandsFor earlier held
+    → IsSome (find (λ d. is_same blob is_authority d) held) → IsSome (kept_in earlier.plain blob)
+plain_there earlier held blob true e s h = cc
+plain_there earlier held blob false e s h = subst IsSome (sym (s.plain blob)) (some-kept blob false held h)

@@ -1,0 +1,100 @@
+//! What of two entries of one key lets more in.
+
+ghost use Rattle.std.specs.Prelude.{◌≡◌};
+ghost use Rattle.ssh_findings.specs.Earlier.{
+  has_listen,
+  has_open,
+  has_other_command,
+  is_free,
+  is_listen,
+  is_narrower,
+  is_open,
+  loses_right,
+};
+
+use crate::facts::Facts;
+use ssh_rights::{Carried, CarriedName, Rights};
+use ssh_text::Bytes;
+
+/// Whether an entry lets its key in whenever, from wherever and for whomever it may be.
+pub(crate) fn is_free(facts: &Facts) -> bool
+    ensures { result ≡ is_free facts.now }
+{
+    let limited = facts.rights.command.is_some() || facts.principals.is_some();
+    facts.from.is_none() && !facts.has_expiry && !(facts.is_authority && limited)
+}
+
+/// Whether a command is forced, and another line forces none or another.
+fn has_other_command(command: &Option<Bytes>, other: &Option<Bytes>) -> bool
+    ensures { result ≡ has_other_command command.now other.now }
+{
+    match (command, other) {
+        (None, _) => false,
+        (Some(_), None) => true,
+        (Some(command), Some(other)) => command.as_slice() != other.as_slice(),
+    }
+}
+
+/// Whether some right is off that is on in the other.
+fn loses_right(rights: &Rights, other: &Rights) -> bool
+    ensures { result ≡ loses_right rights.now other.now }
+{
+    (other.port && !rights.port)
+        || (other.agent && !rights.agent)
+        || (other.x11 && !rights.x11)
+        || (other.pty && !rights.pty)
+        || (other.user_rc && !rights.user_rc)
+}
+
+fn is_open(carried: &Carried) -> bool
+    ensures { result ≡ is_open carried.now }
+{
+    matches!(carried.name, CarriedName::PermitOpen)
+}
+
+fn is_listen(carried: &Carried) -> bool
+    ensures { result ≡ is_listen carried.now }
+{
+    matches!(carried.name, CarriedName::PermitListen)
+}
+
+/// Whether `permitopen` stands on a line.
+fn has_open(carried: &[Carried]) -> bool
+    ensures { result ≡ has_open carried.now }
+{
+    for text in carried {
+        if is_open(text) {
+            return true;
+        }
+    }
+    false
+}
+
+/// Whether `permitlisten` stands on a line.
+fn has_listen(carried: &[Carried]) -> bool
+    ensures { result ≡ has_listen carried.now }
+{
+    for text in carried {
+        if is_listen(text) {
+            return true;
+        }
+    }
+    false
+}
+
+/// Whether an entry gives less than another of the same key.
+#[tactic(auto, unfolding(crate::specs::Earlier::is_narrower))]
+pub(crate) fn is_narrower(facts: &Facts, other: &Facts) -> bool
+    ensures { result ≡ is_narrower facts.now other.now }
+{
+    let carried = facts.rights.carried.as_slice();
+    let others = other.rights.carried.as_slice();
+    facts.from.is_some()
+        || facts.has_expiry
+        || has_other_command(&facts.rights.command, &other.rights.command)
+        || loses_right(&facts.rights, &other.rights)
+        || (facts.verify_required && !other.verify_required)
+        || (other.no_touch_required && !facts.no_touch_required)
+        || (has_open(carried) && !has_open(others))
+        || (has_listen(carried) && !has_listen(others))
+}
