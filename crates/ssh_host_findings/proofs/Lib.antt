@@ -1,0 +1,5 @@
+pub mod TextKeys
+pub mod LeastLemmas
+pub mod EarlierLemmas
+pub mod SpareLemmas
+pub mod LawLemmas

@@ -1,0 +1,13 @@
+use Rattle.std.proofs.Common.{◌≡◌, option_copied}
+use Rattle.ssh_patterns.specs.Lists.{length_left, pieces_left}
+use Rattle.ssh_host_findings.specs.Least.{lesser}
+use Rattle.ssh_host_findings.specs.Maps.{least_other}
+use Rattle.ssh_host_findings.proofs.earlier.EarlierHosts.least_other.Given as goal
+
+abbrev pub invariant-loop-rest : goal.invariant-loop-rest
+invariant-loop-rest l =
+    lesser l.least (least_other l.self.named l.kind l.blob (pieces_left (option_copied l.rest)))
+    ≡ least_other l.self.named l.kind l.blob (pieces_left (option_copied l.list))
+
+abbrev pub decreases-loop-rest : goal.decreases-loop-rest
+decreases-loop-rest l = length_left (option_copied l.rest)

@@ -1,0 +1,18 @@
+-- What is found of a known_hosts line, by its code (this project's rule).
+use Rattle.ssh_findings.specs.declared.code.Code.{Code}
+use Rattle.ssh_findings.specs.declared.code.Code.TheVariants as code
+use Rattle.ssh_host_findings.specs.declared.finding.HostFinding.{HostFinding}
+use Rattle.ssh_host_findings.specs.declared.finding.HostFinding.TheVariants as finding
+
+-- the code by which it is told
+abbrev pub code_of : HostFinding → Code
+code_of (finding.Unreadable cause) = code.Unreadable
+code_of (finding.ShortKey bits) = code.ShortKey
+code_of finding.MarkerTab = code.ReadOtherwise
+code_of finding.BlindRevocation = code.BlindRevocation
+code_of (finding.OtherKey line) = code.OtherKey
+code_of (finding.TrustedAndRevoked line) = code.TrustedAndRevoked
+code_of finding.PatternHosts = code.PatternHosts
+code_of finding.EveryHost = code.EveryHost
+code_of finding.NamesInClear = code.NamesInClear
+code_of (finding.SameHostKey line) = code.SameHostKey

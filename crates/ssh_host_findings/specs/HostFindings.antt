@@ -1,0 +1,84 @@
+-- What is found of a known_hosts line, in the order of the codes (this project's rule; F8 by what OpenSSH was seen to do).
+use Rattle.std.specs.Prelude.{ℕ, Bool, true, not, ◌&&◌, nat_lt, if◌then◌else◌, List, [], ◌∷◌, ◌++◌, Option, Some, None, is_some}
+use Rattle.ssh_options.specs.declared.cause.LineCause.{LineCause}
+use Rattle.ssh_findings.specs.Asking.{Asking, is_told}
+use Rattle.ssh_host_findings.specs.declared.facts.HostFacts.{HostFacts}
+use Rattle.ssh_host_findings.specs.declared.finding.HostFinding.{HostFinding}
+use Rattle.ssh_host_findings.specs.declared.finding.HostFinding.TheVariants as finding
+use Rattle.ssh_host_findings.specs.Earlier.{other_line, revoking_line, same_line, trusting_line}
+use Rattle.ssh_host_findings.specs.Findings.{code_of}
+use Rattle.ssh_host_findings.specs.Items.{has_pattern, names_all}
+use Rattle.ssh_host_findings.specs.HostLines.{HostLine}
+
+-- a finding, where it holds and its code is told
+unfoldable pub told_if : Asking → Bool → HostFinding → List HostFinding
+told_if asking holds f = if holds && is_told asking (code_of f) then f ∷ [] else []
+
+-- F5: an RSA key with fewer bits than are asked for
+abbrev pub short_findings : Asking → Option ℕ → List HostFinding
+short_findings asking None = []
+short_findings asking (Some bits) = told_if asking (nat_lt bits asking.rsa_minimum) (finding.ShortKey bits)
+
+-- F11, F12 and F21: of a line that is named, if one is
+abbrev pub other_findings : Asking → Option ℕ → List HostFinding
+other_findings asking None = []
+other_findings asking (Some line) = told_if asking true (finding.OtherKey line)
+
+abbrev pub revoked_findings : Asking → Option ℕ → List HostFinding
+revoked_findings asking None = []
+revoked_findings asking (Some line) = told_if asking true (finding.TrustedAndRevoked line)
+
+abbrev pub same_findings : Asking → Option ℕ → List HostFinding
+same_findings asking None = []
+same_findings asking (Some line) = told_if asking true (finding.SameHostKey line)
+
+-- F5 and F8: a short key; a tab after the marker
+abbrev pub reading_findings : Asking → HostFacts → List HostFinding
+reading_findings asking f =
+    short_findings asking f.bits
+    ++ told_if asking f.has_marker_tab finding.MarkerTab
+
+-- one key for all hosts that a pattern names
+abbrev pub is_for_pattern : HostFacts → Bool
+is_for_pattern f = not f.is_authority && has_pattern f.list
+
+-- an authority for every host
+abbrev pub is_for_all : HostFacts → Bool
+is_for_all f = f.is_authority && names_all f.list
+
+-- a host's key whose names are not hashed
+abbrev pub is_in_clear : HostFacts → Bool
+is_in_clear f = not f.is_authority && is_some f.list
+
+-- F13, F14 and F20: by the names
+abbrev pub name_findings : Asking → HostFacts → List HostFinding
+name_findings asking f =
+    told_if asking (is_for_pattern f) finding.PatternHosts
+    ++ told_if asking (is_for_all f) finding.EveryHost
+    ++ told_if asking (is_in_clear f) finding.NamesInClear
+
+-- what is found of an entry that says this, by the lines of F11, F12 and F21, and told
+unfoldable pub findings_by : Asking → HostFacts → Option ℕ → Option ℕ → Option ℕ → List HostFinding
+findings_by asking f other revoked same =
+    reading_findings asking f
+    ++ other_findings asking other
+    ++ revoked_findings asking revoked
+    ++ name_findings asking f
+    ++ same_findings asking same
+
+-- what is found of an entry with this blob, after these lines, and told
+unfoldable pub host_entry_findings : Asking → List HostLine → List ℕ → HostFacts → List HostFinding
+host_entry_findings asking earlier blob f =
+    findings_by asking f (other_line earlier blob f) (revoking_line earlier blob) (same_line earlier blob f)
+
+-- what is found of a revocation of these bytes, after these lines, and told: F12
+unfoldable pub revocation_findings : Asking → List HostLine → List ℕ → List HostFinding
+revocation_findings asking earlier bytes = revoked_findings asking (trusting_line earlier bytes)
+
+-- what is found of a revocation that cannot be read, and told: F10
+abbrev pub blind_findings : Asking → List HostFinding
+blind_findings asking = told_if asking true finding.BlindRevocation
+
+-- what is found of a line that cannot be read, and told: F1
+abbrev pub unreadable_host_findings : Asking → LineCause → List HostFinding
+unreadable_host_findings asking cause = told_if asking true (finding.Unreadable cause)

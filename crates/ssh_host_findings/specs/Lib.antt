@@ -1,0 +1,11 @@
+pub mod HostFacts
+pub mod Findings
+pub mod Items
+pub mod HostLines
+pub mod Least
+pub mod Earlier
+pub mod Maps
+pub mod StandsFor
+pub mod HostFindings
+pub mod Revoked
+pub mod Samples

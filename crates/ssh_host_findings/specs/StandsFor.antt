@@ -1,0 +1,24 @@
+-- Which lines the maps of earlier lines stand for (this project's rule): each look-up finds the least line.
+use Rattle.std.specs.Prelude.{◌≡◌, ℕ, Bool, true, false, not, ◌&&◌, List, bytes_eq}
+use Rattle.ssh_keys.specs.declared.kind.KeyKind.{KeyKind}
+use Rattle.ssh_host_findings.specs.declared.earlier.EarlierHosts.{EarlierHosts}
+use Rattle.ssh_host_findings.specs.HostLines.{HostLine, Saying, Trusts, Revokes}
+use Rattle.ssh_host_findings.specs.Earlier.{revokes_blob, same_kind, trusts_blob}
+use Rattle.ssh_host_findings.specs.Items.{has_item}
+use Rattle.ssh_host_findings.specs.Least.{least_line}
+use Rattle.ssh_host_findings.specs.Maps.{line_at, other_of_kind}
+
+-- the line trusts a host's key of this kind, for a host with this plain item
+abbrev pub says_named : KeyKind → List ℕ → Saying → Bool
+says_named kind item (Trusts other is_authority list) = not is_authority && (same_kind other kind && has_item item list)
+says_named kind item Revokes = false
+
+-- and the key has another blob
+abbrev pub names_other : KeyKind → List ℕ → List ℕ → HostLine → Bool
+names_other kind item blob d = says_named kind item d.says && not (bytes_eq d.blob blob)
+
+pub record StandsFor (m : EarlierHosts) (lines : List HostLine) : Type 0 where
+  pub hosts : (blob : List ℕ) → line_at m.hosts blob ≡ least_line (trusts_blob false blob) lines
+  pub authorities : (blob : List ℕ) → line_at m.authorities blob ≡ least_line (trusts_blob true blob) lines
+  pub revoked : (blob : List ℕ) → line_at m.revoked blob ≡ least_line (revokes_blob blob) lines
+  pub named : (kind : KeyKind) (item blob : List ℕ) → other_of_kind m.named kind item blob ≡ least_line (names_other kind item blob) lines

@@ -1,0 +1,144 @@
+//! What earlier lines say of keys and of names, kept so that a later line finds its own.
+
+ghost use Rattle.std.specs.Prelude.{◌≡◌, ◌++◌, ◌∷◌, [], List, OnOk, option_copied};
+ghost use Rattle.ssh_patterns.specs.Lists.{pieces_left};
+ghost use Rattle.ssh_host_findings.specs.HostLines.{HostLine};
+ghost use Rattle.ssh_host_findings.specs.Earlier.{
+  other_line,
+  revoking,
+  revoking_line,
+  same_line,
+  trusting,
+  trusting_line,
+};
+ghost use Rattle.ssh_host_findings.specs.Maps.{least_other};
+ghost use Rattle.ssh_host_findings.specs.StandsFor.{StandsFor};
+
+use crate::facts::HostFacts;
+use crate::least::{LeastLines, lesser};
+use crate::named::KindKeys;
+use ssh_keys::KeyKind;
+use ssh_patterns::first_piece;
+use std::alloc::{AllocError, Global};
+
+/// What the earlier lines of a file say of keys and of names. Contracts say which lines it stands
+/// for. Of each key it keeps the least line, and of each name the least two lines with two keys of
+/// a kind.
+#[derive(Debug, Drop)]
+pub struct EarlierHosts {
+    hosts: LeastLines,
+    authorities: LeastLines,
+    revoked: LeastLines,
+    named: KindKeys,
+}
+
+impl EarlierHosts {
+    /// No lines. No memory is taken.
+    pub fn new(alloc: Global) -> EarlierHosts
+        ensures { StandsFor result [] }
+    {
+        EarlierHosts {
+            hosts: LeastLines::new(alloc),
+            authorities: LeastLines::new(alloc),
+            revoked: LeastLines::new(alloc),
+            named: KindKeys::new(alloc),
+        }
+    }
+
+    /// Keeps the entry of a line. `Err` is out of memory: then it stands for no lines any more.
+    pub fn keep_entry(
+        &mut self,
+        alloc: Global,
+        line: u64,
+        blob: &[u8],
+        facts: &HostFacts,
+    ) -> Result<(), AllocError>
+        ensures { OnOk result ((lines : List HostLine) → StandsFor self.old lines
+            → StandsFor self.new (lines ++ trusting line blob.now facts.now ∷ [])) }
+    {
+        if facts.is_authority {
+            self.authorities.keep(alloc, blob, line)?;
+            return Ok(());
+        }
+        self.hosts.keep(alloc, blob, line)?;
+        match &facts.list {
+            None => Ok(()),
+            Some(list) => {
+                self.named
+                    .keep_list(alloc, facts.kind, list.as_slice(), line, blob)?;
+                Ok(())
+            }
+        }
+    }
+
+    /// Keeps a line that revokes these bytes. `Err` is out of memory: then it stands for no lines
+    /// any more.
+    pub fn keep_revocation(
+        &mut self,
+        alloc: Global,
+        line: u64,
+        bytes: &[u8],
+    ) -> Result<(), AllocError>
+        ensures { OnOk result ((lines : List HostLine) → StandsFor self.old lines
+            → StandsFor self.new (lines ++ revoking line bytes.now ∷ [])) }
+    {
+        self.revoked.keep(alloc, bytes, line)?;
+        Ok(())
+    }
+
+    /// The least line that revokes this blob.
+    pub(crate) fn revoking_line(&self, blob: &[u8]) -> Option<u64>
+        ensures { (lines : List HostLine) → StandsFor self.now lines
+            → result ≡ revoking_line lines blob.now }
+    {
+        self.revoked.line(blob)
+    }
+
+    /// The least line that trusts the key with these bytes.
+    pub(crate) fn trusting_line(&self, bytes: &[u8]) -> Option<u64>
+        ensures { (lines : List HostLine) → StandsFor self.now lines
+            → result ≡ trusting_line lines bytes.now }
+    {
+        lesser(self.hosts.line(bytes), self.authorities.line(bytes))
+    }
+
+    /// The least line with the same key as an entry.
+    pub(crate) fn same_line(&self, blob: &[u8], facts: &HostFacts) -> Option<u64>
+        ensures { (lines : List HostLine) → StandsFor self.now lines
+            → result ≡ same_line lines blob.now facts.now }
+    {
+        if facts.is_authority {
+            self.authorities.line(blob)
+        } else {
+            self.hosts.line(blob)
+        }
+    }
+
+    /// The least line with another key of a kind for a piece of a list.
+    fn least_other(&self, kind: KeyKind, list: Option<&[u8]>, blob: &[u8]) -> Option<u64>
+        ensures { result ≡ least_other self.now.named kind blob.now (pieces_left (option_copied list.entry)) }
+    {
+        let mut least = None;
+        let mut rest = list;
+        while let Some(pieces) = rest {
+            let (piece, left) = first_piece(pieces);
+            least = lesser(least, self.named.other(kind, piece, blob));
+            rest = left;
+        }
+        least
+    }
+
+    /// The least line with another key of its kind for a name of an entry.
+    pub(crate) fn other_line(&self, blob: &[u8], facts: &HostFacts) -> Option<u64>
+        ensures { (lines : List HostLine) → StandsFor self.now lines
+            → result ≡ other_line lines blob.now facts.now }
+    {
+        if facts.is_authority {
+            return None;
+        }
+        match &facts.list {
+            None => None,
+            Some(list) => self.least_other(facts.kind, Some(list.as_slice()), blob),
+        }
+    }
+}

@@ -1,0 +1,64 @@
+//! The least line that says something of a byte text.
+
+ghost use Rattle.std.specs.Prelude.{◌≡◌, ℕ, List, OnOk, None, Some, bytes_eq, if◌then◌else◌};
+ghost use Rattle.ssh_host_findings.specs.Least.{lesser};
+ghost use Rattle.ssh_host_findings.specs.Maps.{line_at};
+
+use crate::copy::copied;
+use std::alloc::{AllocError, Global};
+use std::collections::BTreeMap;
+
+/// The lesser of two lines, where there are two.
+pub(crate) fn lesser(one: Option<u64>, other: Option<u64>) -> Option<u64>
+    ensures { result ≡ lesser one other }
+{
+    match (one, other) {
+        (None, other) => other,
+        (Some(one), None) => Some(one),
+        (Some(one), Some(other)) => Some(one.min(other)),
+    }
+}
+
+/// The lesser of a line, where there is one, and another.
+fn least(kept: Option<u64>, line: u64) -> u64
+    ensures { Some result ≡ lesser kept (Some line) }
+{
+    match kept {
+        None => line,
+        Some(kept) => kept.min(line),
+    }
+}
+
+/// For each of some byte texts, a line.
+#[derive(Debug, Drop)]
+pub(crate) struct LeastLines {
+    lines: BTreeMap<Vec<u8>, u64>,
+}
+
+impl LeastLines {
+    pub(crate) fn new(alloc: Global) -> LeastLines
+        ensures { (bytes : List ℕ) → line_at result bytes ≡ None }
+    {
+        LeastLines {
+            lines: BTreeMap::new(alloc),
+        }
+    }
+
+    /// The line of a text.
+    pub(crate) fn line(&self, bytes: &[u8]) -> Option<u64>
+        ensures { result ≡ line_at self.now bytes.now }
+    {
+        self.lines.get(bytes).copied()
+    }
+
+    /// Keeps a line for a text, where it has no lesser one.
+    pub(crate) fn keep(&mut self, alloc: Global, bytes: &[u8], line: u64) -> Result<(), AllocError>
+        ensures { OnOk result ((other : List ℕ) → line_at self.new other
+            ≡ if bytes_eq bytes.now other then lesser (line_at self.old other) (Some line) else line_at self.old other) }
+    {
+        let least = least(self.line(bytes), line);
+        let key = copied(alloc, bytes)?;
+        self.lines.insert(key, least)?;
+        Ok(())
+    }
+}

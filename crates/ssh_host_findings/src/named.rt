@@ -1,0 +1,150 @@
+//! The keys that stand for names, of each kind.
+
+ghost use Rattle.std.specs.Prelude.{◌≡◌, ◌&&◌, ℕ, List, OnOk, None, Some, bytes_eq, if◌then◌else◌, not};
+ghost use Rattle.ssh_keys.specs.declared.kind.KeyKind.{KeyKind as Kind};
+ghost use Rattle.ssh_host_findings.specs.Items.{has_item};
+ghost use Rattle.ssh_host_findings.specs.Earlier.{same_kind};
+ghost use Rattle.ssh_host_findings.specs.Least.{lesser, line_if};
+ghost use Rattle.ssh_host_findings.specs.Maps.{other_at, other_of_kind};
+
+use crate::copy::copied;
+use crate::first_key::FirstKey;
+use crate::item::is_plain;
+use ssh_keys::KeyKind;
+use ssh_patterns::first_piece;
+use std::alloc::{AllocError, Global};
+use std::collections::BTreeMap;
+
+/// The keys of one kind that stand for names.
+#[derive(Debug, Drop)]
+pub(crate) struct NamedKeys {
+    keys: BTreeMap<Vec<u8>, FirstKey>,
+}
+
+impl NamedKeys {
+    fn new(alloc: Global) -> NamedKeys
+        ensures { (item blob : List ℕ) → other_at result item blob ≡ None }
+    {
+        NamedKeys {
+            keys: BTreeMap::new(alloc),
+        }
+    }
+
+    /// The least line that has another key than this for a name.
+    fn other(&self, item: &[u8], blob: &[u8]) -> Option<u64>
+        ensures { result ≡ other_at self.now item.now blob.now }
+    {
+        match self.keys.get(item) {
+            None => None,
+            Some(first) => first.other(blob),
+        }
+    }
+
+    /// Keeps a key for a name.
+    fn keep(&mut self, alloc: Global, item: &[u8], line: u64, blob: &[u8]) -> Result<(), AllocError>
+        ensures { OnOk result ((q b : List ℕ) → other_at self.new q b
+            ≡ if bytes_eq item.now q then lesser (other_at self.old q b) (line_if (not (bytes_eq blob.now b)) line)
+            else other_at self.old q b) }
+    {
+        if let Some(first) = self.keys.get_mut(item) {
+            first.add(alloc, line, blob)?;
+            return Ok(());
+        }
+        let key = copied(alloc, item)?;
+        let first = FirstKey::new(alloc, line, blob)?;
+        self.keys.insert(key, first)?;
+        Ok(())
+    }
+}
+
+/// The keys of each kind that stand for names.
+#[derive(Debug, Drop)]
+pub(crate) struct KindKeys {
+    rsa: NamedKeys,
+    p256: NamedKeys,
+    p384: NamedKeys,
+    p521: NamedKeys,
+    ed25519: NamedKeys,
+    sk_p256: NamedKeys,
+    sk_ed25519: NamedKeys,
+}
+
+impl KindKeys {
+    pub(crate) fn new(alloc: Global) -> KindKeys
+        ensures { (kind : Kind) (item blob : List ℕ) → other_of_kind result kind item blob ≡ None }
+    {
+        KindKeys {
+            rsa: NamedKeys::new(alloc),
+            p256: NamedKeys::new(alloc),
+            p384: NamedKeys::new(alloc),
+            p521: NamedKeys::new(alloc),
+            ed25519: NamedKeys::new(alloc),
+            sk_p256: NamedKeys::new(alloc),
+            sk_ed25519: NamedKeys::new(alloc),
+        }
+    }
+
+    /// The least line that has another key of a kind than this for a name.
+    pub(crate) fn other(&self, kind: KeyKind, item: &[u8], blob: &[u8]) -> Option<u64>
+        ensures { result ≡ other_of_kind self.now kind item.now blob.now }
+    {
+        match kind {
+            KeyKind::Rsa => self.rsa.other(item, blob),
+            KeyKind::P256 => self.p256.other(item, blob),
+            KeyKind::P384 => self.p384.other(item, blob),
+            KeyKind::P521 => self.p521.other(item, blob),
+            KeyKind::Ed25519 => self.ed25519.other(item, blob),
+            KeyKind::SkP256 => self.sk_p256.other(item, blob),
+            KeyKind::SkEd25519 => self.sk_ed25519.other(item, blob),
+        }
+    }
+
+    /// Keeps a key of a kind for a name.
+    fn keep(
+        &mut self,
+        alloc: Global,
+        kind: KeyKind,
+        item: &[u8],
+        line: u64,
+        blob: &[u8],
+    ) -> Result<(), AllocError>
+        ensures { OnOk result ((k : Kind) (q b : List ℕ) → other_of_kind self.new k q b
+            ≡ if same_kind kind k && bytes_eq item.now q
+            then lesser (other_of_kind self.old k q b) (line_if (not (bytes_eq blob.now b)) line)
+            else other_of_kind self.old k q b) }
+    {
+        match kind {
+            KeyKind::Rsa => self.rsa.keep(alloc, item, line, blob),
+            KeyKind::P256 => self.p256.keep(alloc, item, line, blob),
+            KeyKind::P384 => self.p384.keep(alloc, item, line, blob),
+            KeyKind::P521 => self.p521.keep(alloc, item, line, blob),
+            KeyKind::Ed25519 => self.ed25519.keep(alloc, item, line, blob),
+            KeyKind::SkP256 => self.sk_p256.keep(alloc, item, line, blob),
+            KeyKind::SkEd25519 => self.sk_ed25519.keep(alloc, item, line, blob),
+        }
+    }
+
+    /// Keeps a key of a kind for each plain item of a list.
+    pub(crate) fn keep_list(
+        &mut self,
+        alloc: Global,
+        kind: KeyKind,
+        list: &[u8],
+        line: u64,
+        blob: &[u8],
+    ) -> Result<(), AllocError>
+        ensures { OnOk result ((k : Kind) (q b : List ℕ) → other_of_kind self.new k q b
+            ≡ lesser (other_of_kind self.old k q b)
+            (line_if ((same_kind kind k && has_item q (Some list.now)) && not (bytes_eq blob.now b)) line)) }
+    {
+        let mut rest = Some(list);
+        while let Some(pieces) = rest {
+            let (piece, left) = first_piece(pieces);
+            if is_plain(piece) {
+                self.keep(alloc, kind, piece, line, blob)?;
+            }
+            rest = left;
+        }
+        Ok(())
+    }
+}
