@@ -1,0 +1,4 @@
+pub mod PrintableLemmas
+pub mod ReadingLemmas
+pub mod WordLemmas
+pub mod ObjectLemmas

@@ -1,0 +1,8 @@
+pub mod Strings
+pub mod Fields
+pub mod Details
+pub mod Findings
+pub mod OptionsText
+pub mod RightsWords
+pub mod Objects
+pub mod OneLine

@@ -1,0 +1,32 @@
+-- JSON strings of any bytes (RFC 8259, section 7, over the texts that are printed).
+use Rattle.std.specs.Prelude.{◌++◌, ◌∷◌, [], ◌==◌, ◌||◌, ℕ, List, Option, Some, None, codes, if◌then◌else◌}
+use Rattle.std.specs.List.{flat_map}
+use Rattle.ssh_print.specs.Texts.{escaped}
+
+-- a byte of a string: a backslash (92) stands before a quote (34) and before a backslash
+abbrev pub quoted_byte : ℕ → List ℕ
+quoted_byte c = (if c == 34 || c == 92 then 92 ∷ [] else []) ++ c ∷ []
+
+-- the text that is printed of the bytes, as a string
+unfoldable pub json_text : List ℕ → List ℕ
+json_text text = codes "\"" ++ flat_map quoted_byte (escaped text) ++ codes "\""
+
+-- ---- reading
+
+abbrev pub with_byte : ℕ → Option (List ℕ × List ℕ) → Option (List ℕ × List ℕ)
+with_byte c None = None
+with_byte c (Some read) = Some (c ∷ read.0, read.1)
+
+-- What a reader takes for the rest of a string, and what it leaves: a quote ends it, and a backslash stands before a quote or a backslash that is meant.
+abbrev pub read_rest : List ℕ → Option (List ℕ × List ℕ)
+read_rest [] = None
+read_rest (c ∷ []) = if c == 34 then Some ([], []) else None
+read_rest (c ∷ d ∷ text) =
+    if c == 34 then Some ([], d ∷ text)
+    else if c == 92 then (if d == 34 || d == 92 then with_byte d (read_rest text) else None)
+    else with_byte c (read_rest (d ∷ text))
+
+-- what a reader takes for a string, which begins with a quote, and what it leaves
+abbrev pub read_string : List ℕ → Option (List ℕ × List ℕ)
+read_string [] = None
+read_string (c ∷ text) = if c == 34 then read_rest text else None
