@@ -1,3 +1,11 @@
 pub mod Appended
 pub mod DateLemmas
 pub mod LineLemmas
+pub mod ByteLemmas
+pub mod DigestLemmas
+pub mod DateTextLemmas
+pub mod ShownLemmas
+pub mod TextLemmas
+pub mod EndLemmas
+pub mod RecordLemmas
+pub mod ReviewLemmas

@@ -14,8 +14,7 @@ use Rattle.ssh_findings.specs.Asking.{Asking, is_told}
 use Rattle.ssh_review.specs.Counting.{plus}
 use Rattle.ssh_findings.specs.EntryFindings.{condition_findings, entry_findings, forces_but_forwards, policy_findings, reading_findings, repeat_findings, short_findings, told_if}
 use Rattle.ssh_keys.specs.PublicKey.{key_blob}
-use Rattle.ssh_findings.specs.declared.held.Held.{Held}
-use Rattle.ssh_findings.specs.Earlier.{repeat_after}
+use Rattle.ssh_findings.specs.Earlier.{Held, repeat_after}
 use Rattle.ssh_findings.specs.Facts.{facts_of}
 use Rattle.ssh_findings.specs.Findings.{code_of}
 use Rattle.ssh_review.specs.Lines.{counts_of, held_of, line_counts}
@@ -85,7 +84,7 @@ line-within asking earlier (Entry entry) =
 line-within asking earlier (Unreadable cause) =
     record { lines = omega arith; keys = omega arith; unreadable = omega arith; findings = omega (arith, told-short asking true (finding.Unreadable cause)) }
 
-both-within : (a b : Counts) (n : ℕ) → Within a 1 → Within b n → Within (plus a b) (suc n)
+pub both-within : (a b : Counts) (n : ℕ) → Within a 1 → Within b n → Within (plus a b) (suc n)
 both-within a b n v w = record {
   lines = omega (arith, v.lines, w.lines);
   keys = omega (arith, v.keys, w.keys);
@@ -119,7 +118,7 @@ pub record Fits (a b : Counts) : Type 0 where
   pub unreadable : a.unreadable + b.unreadable < 2 ^ 64
   pub findings : a.findings + b.findings < 2 ^ 64
 
-fit : (before told rest all : Counts) (n : ℕ) → Within all n → n ≤ file_limit → plus before (plus told rest) ≡ all → Fits before told
+pub fit : (before told rest all : Counts) (n : ℕ) → Within all n → n ≤ file_limit → plus before (plus told rest) ≡ all → Fits before told
 fit before told rest all n w h e =
     let lines : before.lines + (told.lines + rest.lines) ≡ all.lines = ap (λ (c : Counts). c.lines) e in
     let keys : before.keys + (told.keys + rest.keys) ≡ all.keys = ap (λ (c : Counts). c.keys) e in

@@ -122,6 +122,11 @@ clock_at moment h =
     } in
     record { shown = shown; is = civil_nanos-parts shown ∙ omega (arith, signed_arith, day.is) }
 
+-- no clock shows a part of a second
+pub clock_at-whole : (moment : ℕ) (h : moment ≤ last_second) → (clock_at moment h).shown.time.subsec_nanosecond ≡ 0
+unfolding clock_at
+clock_at-whole moment h = refl
+
 -- ---- texts
 
 abbrev pub date_by : (moment : ℕ) (b : Bool) → nat_le moment last_second ≡ b → List ℕ

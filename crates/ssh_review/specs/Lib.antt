@@ -2,5 +2,9 @@ pub mod Sentences
 pub mod Dates
 pub mod Counting
 pub mod Records
+pub mod Ends
+pub mod EndObjects
+pub mod Forms
 pub mod Lines
 pub mod Reviews
+pub mod Shown

@@ -1,18 +1,21 @@
 -- The records of a file's lines, and what they count.
-use Rattle.std.specs.Prelude.{◌++◌, ◌∷◌, [], ℕ, List, length}
+use Rattle.std.specs.Prelude.{◌++◌, ◌∷◌, [], ℕ, List, Option, option_map, length}
 use Rattle.ssh_lines.specs.declared.entry.AuthLine.{AuthLine}
 use Rattle.ssh_lines.specs.declared.entry.AuthLine.TheVariants.{Blank, Comment, Entry, Unreadable}
+use Rattle.ssh_lines.specs.AuthEntry.{AuthEntry}
 use Rattle.ssh_lines.specs.AuthGrammar.{auth_line}
 use Rattle.ssh_review.specs.declared.counts.Counts.{Counts}
+use Rattle.ssh_review.specs.declared.form.Form.{Form}
 use Rattle.ssh_findings.specs.declared.finding.Finding.{Finding}
 use Rattle.ssh_keys.specs.PublicKey.{key_blob}
-use Rattle.ssh_findings.specs.declared.held.Held.{Held}
 use Rattle.ssh_findings.specs.Asking.{Asking}
-use Rattle.ssh_findings.specs.Earlier.{held_entry}
+use Rattle.ssh_findings.specs.Earlier.{Held, held_entry, shadow}
 use Rattle.ssh_review.specs.Counting.{counts_with, no_counts, plus}
 use Rattle.ssh_findings.specs.EntryFindings.{entry_findings, unreadable_findings}
 use Rattle.ssh_findings.specs.Facts.{facts_of}
-use Rattle.ssh_review.specs.Records.{entry_record, place_text, unreadable_record}
+use Rattle.ssh_held_keys.specs.declared.held.HeldKey.{HeldKey}
+use Rattle.ssh_held_keys.specs.HeldKey.{held_key, held_of as told_of}
+use Rattle.ssh_review.specs.Forms.{entry_record, unreadable_record}
 
 -- what is found of a line after these entries, and told
 abbrev pub line_findings : Asking → List Held → AuthLine → List Finding
@@ -21,14 +24,23 @@ line_findings asking earlier Comment = []
 line_findings asking earlier (Entry entry) = entry_findings asking earlier (key_blob entry.key) (facts_of asking.zone entry)
 line_findings asking earlier (Unreadable cause) = unreadable_findings asking cause
 
--- The record of a line, with its number: of an entry, or of a line that cannot be read. Blank lines and comments have none.
-abbrev pub line_record : Asking → List ℕ → List Held → ℕ × AuthLine → List ℕ
-line_record asking name earlier (n, Blank) = []
-line_record asking name earlier (n, Comment) = []
-line_record asking name earlier (n, Entry entry) =
-    place_text name n ++ entry_record (facts_of asking.zone entry) (line_findings asking earlier (Entry entry))
-line_record asking name earlier (n, Unreadable cause) =
-    place_text name n ++ unreadable_record (line_findings asking earlier (Unreadable cause))
+-- the number of the first earlier line that lets the key of an entry in, whatever its own line says
+abbrev pub shadow_line : Asking → List Held → AuthEntry → Option ℕ
+shadow_line asking earlier entry = option_map (λ d. d.line) (shadow earlier (key_blob entry.key) (facts_of asking.zone entry))
+
+-- what is told of the key on a line that cannot be read, if there is one
+abbrev pub key_told : List ℕ → Option HeldKey
+key_told line = option_map told_of (held_key line)
+
+-- The record of a line, with its number, that says this: of an entry, or of a line that cannot be read. Blank lines and comments have none.
+abbrev pub line_record : Form → Asking → List ℕ → List Held → ℕ × List ℕ → AuthLine → List ℕ
+line_record form asking name earlier (n, line) Blank = []
+line_record form asking name earlier (n, line) Comment = []
+line_record form asking name earlier (n, line) (Entry entry) =
+    entry_record form name n (facts_of asking.zone entry) entry.options (shadow_line asking earlier entry)
+    (line_findings asking earlier (Entry entry))
+line_record form asking name earlier (n, line) (Unreadable cause) =
+    unreadable_record form name n (key_told line) (line_findings asking earlier (Unreadable cause))
 
 abbrev pub line_counts : Asking → List Held → AuthLine → Counts
 line_counts asking earlier line = counts_with line (length (line_findings asking earlier line))
@@ -41,11 +53,11 @@ held_of asking (n, Entry entry) = held_entry asking.zone n entry ∷ []
 held_of asking (n, Unreadable cause) = []
 
 -- the records of lines, each with its number, after the lines of these entries
-abbrev pub records_of : Asking → List ℕ → List Held → List (ℕ × List ℕ) → List ℕ
-records_of asking name earlier [] = []
-records_of asking name earlier (line ∷ lines) =
-    line_record asking name earlier (line.0, auth_line line.1)
-    ++ records_of asking name (earlier ++ held_of asking (line.0, auth_line line.1)) lines
+abbrev pub records_of : Form → Asking → List ℕ → List Held → List (ℕ × List ℕ) → List ℕ
+records_of form asking name earlier [] = []
+records_of form asking name earlier (line ∷ lines) =
+    line_record form asking name earlier line (auth_line line.1)
+    ++ records_of form asking name (earlier ++ held_of asking (line.0, auth_line line.1)) lines
 
 -- what lines count
 abbrev pub counts_of : Asking → List Held → List (ℕ × List ℕ) → Counts

@@ -2,13 +2,16 @@
 use Rattle.std.specs.Prelude.{◌++◌, ◌∷◌, [], ℕ, ℤ, Bool, List, Option, Some, None, codes, if◌then◌else◌}
 use Rattle.std.specs.List.{flat_map}
 use Rattle.std.specs.Fmt.{decimal}
+use Rattle.ssh_keys.specs.declared.kind.KeyKind.{KeyKind}
 use Rattle.ssh_keys.specs.Names.{name_of}
 use Rattle.ssh_rights.specs.declared.rights.Carried.{Carried}
 use Rattle.ssh_rights.specs.declared.rights.Rights.{Rights}
-use Rattle.ssh_print.specs.DecisionText.{carried_word, has_no_right, right_words}
+use Rattle.ssh_print.specs.DecisionText.{carried_word}
 use Rattle.ssh_print.specs.Texts.{escaped, text_line, word_line}
 use Rattle.ssh_findings.specs.declared.facts.Facts.{Facts}
 use Rattle.ssh_findings.specs.declared.finding.Finding.{Finding}
+use Rattle.ssh_held_keys.specs.declared.held.HeldKey.{HeldKey}
+use Rattle.ssh_review_json.specs.RightsWords.{rights_words}
 use Rattle.ssh_review.specs.Dates.{moment_text}
 use Rattle.ssh_review.specs.Sentences.{finding_line}
 
@@ -33,15 +36,18 @@ comment_text (c ∷ cs) = codes " " ++ escaped (c ∷ cs)
 unfoldable pub fingerprint_word : List ℕ → List ℕ
 fingerprint_word fingerprint = codes " SHA256:" ++ fingerprint
 
--- whose key, of which type, with its fingerprint and its comment
+-- the type of a key, the size of an RSA key, and the fingerprint
+unfoldable pub key_words : KeyKind → Option ℕ → List ℕ → List ℕ
+key_words kind bits fingerprint = name_of kind ++ bits_text bits ++ fingerprint_word fingerprint
+
+-- which key, and whose
 unfoldable pub entry_head : Facts → List ℕ
 entry_head f =
-    role_word f.is_authority ++ name_of f.kind ++ bits_text f.bits ++ fingerprint_word f.fingerprint
-    ++ comment_text f.comment ++ codes "\n"
+    role_word f.is_authority ++ key_words f.kind f.bits f.fingerprint ++ comment_text f.comment ++ codes "\n"
 
 -- the rights that are on
 unfoldable pub rights_inset : Rights → List ℕ
-rights_inset r = codes "    rights" ++ (if has_no_right r then codes " none" else right_words r) ++ codes "\n"
+rights_inset r = codes "    rights " ++ rights_words r ++ codes "\n"
 
 -- the value of an option, if there is one
 unfoldable pub setting_line : List ℕ → Option (List ℕ) → List ℕ
@@ -73,10 +79,17 @@ limit_lines f =
     ++ setting_line (codes "    principals ") f.principals
     ++ until_line f.until
 
--- an entry with its findings
-unfoldable pub entry_record : Facts → List Finding → List ℕ
-entry_record f found = entry_head f ++ right_lines f.rights ++ limit_lines f ++ flat_map finding_line found
+-- the record of an entry with what is found and told
+unfoldable pub entry_text : List ℕ → ℕ → Facts → List Finding → List ℕ
+entry_text name n f found =
+    place_text name n ++ entry_head f ++ right_lines f.rights ++ limit_lines f ++ flat_map finding_line found
 
--- a line that cannot be read, with its findings
-unfoldable pub unreadable_record : List Finding → List ℕ
-unreadable_record found = codes "unreadable\n" ++ flat_map finding_line found
+-- the key on a line that cannot be read, if there is one
+abbrev pub held_words : Option HeldKey → List ℕ
+held_words None = []
+held_words (Some held) = codes " " ++ key_words held.kind held.bits held.fingerprint
+
+-- the record of a line that cannot be read, with the key that stands on it, if there is one, and what is found and told
+unfoldable pub unreadable_text : List ℕ → ℕ → Option HeldKey → List Finding → List ℕ
+unreadable_text name n held found =
+    place_text name n ++ codes "unreadable" ++ held_words held ++ codes "\n" ++ flat_map finding_line found

@@ -1,32 +1,22 @@
--- The words of findings: each sentence, each detail and each text of a line's fault stands here (this project's rule).
-use Rattle.std.specs.Prelude.{◌++◌, ℕ, List, [], codes}
+-- The words of findings: each sentence stands here (this project's rule).
+use Rattle.std.specs.Prelude.{◌++◌, ◌∷◌, ℕ, List, [], Option, Some, None, codes}
 use Rattle.std.specs.Fmt.{decimal}
 use Rattle.ssh_options.specs.declared.cause.LineCause.{LineCause}
-use Rattle.ssh_options.specs.declared.cause.LineCause.TheVariants as cause
-use Rattle.ssh_print.specs.Codes.{line_codes}
+use Rattle.ssh_print.specs.Codes.{line_code}
+use Rattle.ssh_explain.specs.Table.{Told, row_of}
 use Rattle.ssh_findings.specs.declared.finding.Finding.{Finding}
 use Rattle.ssh_findings.specs.declared.finding.Finding.TheVariants as finding
 use Rattle.ssh_findings.specs.Codes.{code_text}
 use Rattle.ssh_findings.specs.Findings.{code_of}
+use Rattle.ssh_review_json.specs.Details.{detail_of}
 
--- why a line cannot be read
+abbrev pub sentence_in : Option Told → List ℕ
+sentence_in None = []
+sentence_in (Some row) = row.sentence
+
+-- why a line cannot be read: what the table of codes says of the code
 abbrev pub cause_text : LineCause → List ℕ
-cause_text cause.TooLong = codes "it is longer than 65,536 bytes"
-cause_text cause.OptionSyntax = codes "its options have not the form that sshd(8) gives"
-cause_text cause.UnknownOption = codes "an option or a key type is unknown"
-cause_text cause.OptionValue = codes "an option has a value that it may not have, or lacks one"
-cause_text cause.RepeatedOption = codes "an option stands twice that may stand once"
-cause_text cause.ExpiryText = codes "an expiry time is no date or time of day"
-cause_text cause.NoKey = codes "the key is missing"
-cause_text cause.KeyType = codes "the type is no key's"
-cause_text cause.RetiredType = codes "ssh-dss is retired"
-cause_text cause.Base64 = codes "the base64 cannot be decoded"
-cause_text (cause.KeyBlob e) = codes "the bytes are no key"
-cause_text cause.TypeMismatch = codes "the key is of another type than the line says"
-cause_text cause.CertificateOnLine = codes "the type is a certificate's"
-cause_text cause.Marker = codes "its marker is unknown"
-cause_text cause.HashedName = codes "its hashed name is none"
-cause_text cause.Names = codes "an item of its names is empty"
+cause_text why = sentence_in (row_of (line_code why))
 
 -- the sentence of a finding that names no number and no fault
 abbrev pub plain_sentence : Finding → List ℕ
@@ -49,34 +39,21 @@ plain_sentence finding.NoExpiry = codes "good for ever: no expiry-time="
 plain_sentence finding.AnyPrincipal = codes "whoever it certifies for the user's name is let in: no principals="
 plain_sentence finding.NoComment = codes "nothing says whose key this is: no comment"
 
--- what of the line a finding speaks of, after a space, where its code speaks of several things
-abbrev pub plain_detail : Finding → List ℕ
-plain_detail (finding.Unreadable why) = []
-plain_detail (finding.SameKey line) = []
-plain_detail (finding.NeverDecides line) = []
-plain_detail (finding.GivesMore line) = []
-plain_detail (finding.ShortKey bits) = []
-plain_detail finding.Expired = []
-plain_detail finding.BadSources = codes " from"
-plain_detail finding.NoPrincipal = codes " principals"
-plain_detail finding.PlainPrincipals = codes " principals"
-plain_detail finding.EmptyPrincipal = codes " empty-principal"
-plain_detail finding.VerifyIgnored = codes " verify-required"
-plain_detail finding.LocalTime = codes " local-time"
-plain_detail finding.ForcedButForwards = []
-plain_detail finding.AnyAddress = []
-plain_detail finding.AnyCommand = []
-plain_detail finding.NoExpiry = []
-plain_detail finding.AnyPrincipal = []
-plain_detail finding.NoComment = []
+-- of a line that cannot be read
+abbrev pub unreadable_sentence : LineCause → List ℕ
+unreadable_sentence why = codes "cannot be read here, and OpenSSH may read it: " ++ cause_text why
+
+-- of an RSA key with too few bits
+abbrev pub short_sentence : ℕ → List ℕ
+short_sentence bits = codes "an RSA key of " ++ decimal bits ++ codes " bits is too short"
 
 -- the sentence of a finding
 abbrev pub sentence_of : Finding → List ℕ
-sentence_of (finding.Unreadable why) = codes "cannot be read here, and OpenSSH may read it: " ++ cause_text why
+sentence_of (finding.Unreadable why) = unreadable_sentence why
 sentence_of (finding.SameKey line) = codes "line " ++ decimal line ++ codes " has the same key: where that line does not let it in, this one may"
 sentence_of (finding.NeverDecides line) = codes "never decides: line " ++ decimal line ++ codes " has the same key and lets it in first"
 sentence_of (finding.GivesMore line) = codes "never decides: line " ++ decimal line ++ codes " has the same key, lets it in first and gives more"
-sentence_of (finding.ShortKey bits) = codes "an RSA key of " ++ decimal bits ++ codes " bits is too short"
+sentence_of (finding.ShortKey bits) = short_sentence bits
 sentence_of finding.Expired = plain_sentence finding.Expired
 sentence_of finding.BadSources = plain_sentence finding.BadSources
 sentence_of finding.NoPrincipal = plain_sentence finding.NoPrincipal
@@ -91,27 +68,15 @@ sentence_of finding.NoExpiry = plain_sentence finding.NoExpiry
 sentence_of finding.AnyPrincipal = plain_sentence finding.AnyPrincipal
 sentence_of finding.NoComment = plain_sentence finding.NoComment
 
--- what stands after the code: a line's fault, the number of another line, the bits of a key, or what of the line it is
-abbrev pub detail_of : Finding → List ℕ
-detail_of (finding.Unreadable why) = line_codes why
-detail_of (finding.SameKey line) = codes " " ++ decimal line ++ []
-detail_of (finding.NeverDecides line) = codes " " ++ decimal line ++ []
-detail_of (finding.GivesMore line) = codes " " ++ decimal line ++ []
-detail_of (finding.ShortKey bits) = codes " " ++ decimal bits ++ []
-detail_of finding.Expired = plain_detail finding.Expired
-detail_of finding.BadSources = plain_detail finding.BadSources
-detail_of finding.NoPrincipal = plain_detail finding.NoPrincipal
-detail_of finding.PlainPrincipals = plain_detail finding.PlainPrincipals
-detail_of finding.EmptyPrincipal = plain_detail finding.EmptyPrincipal
-detail_of finding.VerifyIgnored = plain_detail finding.VerifyIgnored
-detail_of finding.LocalTime = plain_detail finding.LocalTime
-detail_of finding.ForcedButForwards = plain_detail finding.ForcedButForwards
-detail_of finding.AnyAddress = plain_detail finding.AnyAddress
-detail_of finding.AnyCommand = plain_detail finding.AnyCommand
-detail_of finding.NoExpiry = plain_detail finding.NoExpiry
-detail_of finding.AnyPrincipal = plain_detail finding.AnyPrincipal
-detail_of finding.NoComment = plain_detail finding.NoComment
+-- what stands after the code, after a space, if it is any
+abbrev pub detail_part : List ℕ → List ℕ
+detail_part [] = []
+detail_part (c ∷ cs) = codes " " ++ c ∷ cs
+
+-- the front of the line of a finding: its code, and what stands after it
+abbrev pub finding_head : List ℕ → List ℕ → List ℕ
+finding_head code said = codes "    " ++ code ++ detail_part said ++ codes ": "
 
 -- the line of a finding
 abbrev pub finding_line : Finding → List ℕ
-finding_line f = codes "    " ++ code_text (code_of f) ++ detail_of f ++ codes ": " ++ sentence_of f ++ codes "\n"
+finding_line f = finding_head (code_text (code_of f)) (detail_of f) ++ sentence_of f ++ codes "\n"

@@ -1,11 +1,12 @@
 //! The records of a file's lines.
 
-ghost use Rattle.std.specs.Prelude.{◌≡◌, ◌++◌, ◌∷◌, [], ◌≤◌, IfOk, OnOk, length};
+ghost use Rattle.std.specs.Prelude.{◌≡◌, ◌++◌, [], ◌≤◌, List, IfOk, OnOk, length};
 ghost use Rattle.ssh_lines.specs.declared.entry.AuthLine.{AuthLine};
 ghost use Rattle.ssh_lines.specs.LineView.{line_seen};
 ghost use Rattle.ssh_text.specs.Text.{file_limit, lines_of, numbered};
-ghost use Rattle.ssh_keys.specs.PublicKey.{key_blob};
 ghost use Rattle.ssh_findings.specs.Asking.{asking_of};
+ghost use Rattle.ssh_findings.specs.Earlier.{Held};
+ghost use Rattle.ssh_findings.specs.Keeping.{StandsFor};
 ghost use Rattle.ssh_review.specs.Lines.{
   counts_of,
   held_of,
@@ -16,59 +17,46 @@ ghost use Rattle.ssh_review.specs.Lines.{
 };
 
 use crate::counts::Counts;
-use crate::record::{push_entry, push_place, push_unreadable};
-use ssh_findings::{Asked, Facts, Finding, Held, entry_findings, unreadable_findings};
+use crate::form::Form;
+use crate::record::{push_entry_text, push_unreadable_text};
+use ssh_findings::{Asked, Earlier, Facts, entry_findings, unreadable_findings};
+use ssh_held_keys::held_key;
 use ssh_lines::{AuthEntryView, AuthLineView, KeyBuffer, read_auth_view};
 use ssh_options::LineCause;
-use ssh_text::{Bytes, Lines};
+use ssh_review_json::{Place, push_entry_object, push_unreadable_object};
+use ssh_text::Lines;
 use std::alloc::{AllocError, Global};
-
-/// Where a line stands: the name of its file, and its number.
-#[derive(Clone, Copy)]
-pub(crate) struct Place<'a> {
-    name: &'a [u8],
-    number: u64,
-}
-
-/// Keeps an entry for the lines after it.
-fn keep(
-    alloc: Global,
-    earlier: &mut Vec<Held>,
-    line: u64,
-    entry: &AuthEntryView<'_>,
-    facts: Facts,
-) -> Result<(), AllocError>
-    ensures { OnOk result (earlier.new.items ≡ earlier.old.items
-        ++ record { line = line; blob = key_blob entry.now.key; facts = facts } ∷ []) }
-{
-    let copy = entry.blob().to_vec(alloc)?;
-    let blob = Bytes::new(copy);
-    earlier.push(Held { line, blob, facts })?;
-    Ok(())
-}
 
 /// The record of an entry, and how many findings it has. The entry is kept.
 fn push_entry_line(
     alloc: Global,
+    form: Form,
     asked: &Asked<'_>,
     place: &Place<'_>,
     entry: &AuthEntryView<'_>,
-    earlier: &mut Vec<Held>,
+    earlier: &mut Earlier,
     out: &mut Vec<u8>,
 ) -> Result<Counts, AllocError>
-    ensures text { OnOk result (out.new.items ≡ out.old.items ++ line_record (asking_of asked.entry.now)
-        place.entry.now.name.now earlier.old.items (place.entry.now.number, AuthLine.Entry entry.now)) }
-    ensures counts { IfOk result (λ counts. counts ≡ line_counts (asking_of asked.entry.now)
-        earlier.old.items (AuthLine.Entry entry.now)) }
-    ensures kept { OnOk result (earlier.new.items ≡ earlier.old.items ++ held_of
-        (asking_of asked.entry.now) (place.entry.now.number, AuthLine.Entry entry.now)) }
+    ensures text { OnOk result ((held : List Held) → StandsFor earlier.old held
+        → out.new.items ≡ out.old.items ++ line_record form (asking_of asked.entry.now)
+        place.entry.now.name.now held (place.entry.now.number, []) (AuthLine.Entry entry.now)) }
+    ensures counts { IfOk result (λ counts. (held : List Held) → StandsFor earlier.old held
+        → counts ≡ line_counts (asking_of asked.entry.now) held (AuthLine.Entry entry.now)) }
+    ensures kept { OnOk result ((held : List Held) → StandsFor earlier.old held
+        → StandsFor earlier.new (held ++ held_of
+        (asking_of asked.entry.now) (place.entry.now.number, AuthLine.Entry entry.now))) }
 {
     let facts = Facts::read(alloc, asked.zone, entry)?;
     let found = entry_findings(alloc, asked, earlier, entry.blob(), &facts)?;
     let findings = found.len() as u64;
-    push_place(alloc, out, place.name, place.number)?;
-    push_entry(alloc, out, &facts, &found)?;
-    keep(alloc, earlier, place.number, entry, facts)?;
+    match form {
+        Form::Text => push_entry_text(alloc, out, place, &facts, &found)?,
+        Form::Json => {
+            let shadow = earlier.shadow_line(entry.blob(), &facts);
+            push_entry_object(alloc, out, place, &facts, entry.options(), shadow, &found)?;
+        }
+    }
+    earlier.keep(alloc, place.number, entry.blob(), facts)?;
     Ok(Counts {
         lines: 1,
         keys: 1,
@@ -80,19 +68,24 @@ fn push_entry_line(
 /// The record of a line that cannot be read, and how many findings it has.
 fn push_unreadable_line(
     alloc: Global,
+    form: Form,
     asked: &Asked<'_>,
     place: &Place<'_>,
+    line: &[u8],
     cause: LineCause,
     out: &mut Vec<u8>,
 ) -> Result<Counts, AllocError>
-    ensures text { OnOk result (out.new.items ≡ out.old.items ++ line_record (asking_of asked.entry.now)
-        place.entry.now.name.now [] (place.entry.now.number, AuthLine.Unreadable cause)) }
+    ensures text { OnOk result (out.new.items ≡ out.old.items ++ line_record form (asking_of asked.entry.now)
+        place.entry.now.name.now [] (place.entry.now.number, line.now) (AuthLine.Unreadable cause)) }
     ensures counts { IfOk result (λ counts. counts ≡ line_counts (asking_of asked.entry.now)
         [] (AuthLine.Unreadable cause)) }
 {
+    let held = held_key(alloc, line)?;
     let found = unreadable_findings(alloc, asked, cause)?;
-    push_place(alloc, out, place.name, place.number)?;
-    push_unreadable(alloc, out, &found)?;
+    match form {
+        Form::Text => push_unreadable_text(alloc, out, place, held, &found)?,
+        Form::Json => push_unreadable_object(alloc, out, place, held, &found)?,
+    }
     Ok(Counts {
         lines: 1,
         keys: 0,
@@ -104,29 +97,35 @@ fn push_unreadable_line(
 /// The record of a line, if it has one, and what it counts.
 fn push_line(
     alloc: Global,
+    form: Form,
     asked: &Asked<'_>,
     place: &Place<'_>,
-    line: &AuthLineView<'_>,
-    earlier: &mut Vec<Held>,
+    line: &[u8],
+    view: &AuthLineView<'_>,
+    earlier: &mut Earlier,
     out: &mut Vec<u8>,
 ) -> Result<Counts, AllocError>
-    ensures text { OnOk result (out.new.items ≡ out.old.items ++ line_record (asking_of asked.entry.now)
-        place.entry.now.name.now earlier.old.items (place.entry.now.number, line_seen line.now)) }
-    ensures counts { IfOk result (λ counts. counts ≡ line_counts (asking_of asked.entry.now)
-        earlier.old.items (line_seen line.now)) }
-    ensures kept { OnOk result (earlier.new.items ≡ earlier.old.items ++ held_of
-        (asking_of asked.entry.now) (place.entry.now.number, line_seen line.now)) }
+    ensures text { OnOk result ((held : List Held) → StandsFor earlier.old held
+        → out.new.items ≡ out.old.items ++ line_record form (asking_of asked.entry.now)
+        place.entry.now.name.now held (place.entry.now.number, line.now) (line_seen view.now)) }
+    ensures counts { IfOk result (λ counts. (held : List Held) → StandsFor earlier.old held
+        → counts ≡ line_counts (asking_of asked.entry.now) held (line_seen view.now)) }
+    ensures kept { OnOk result ((held : List Held) → StandsFor earlier.old held
+        → StandsFor earlier.new (held ++ held_of
+        (asking_of asked.entry.now) (place.entry.now.number, line_seen view.now))) }
 {
-    match line {
+    match view {
         AuthLineView::Blank | AuthLineView::Comment => Ok(Counts {
             lines: 1,
             keys: 0,
             unreadable: 0,
             findings: 0,
         }),
-        AuthLineView::Entry(entry) => push_entry_line(alloc, asked, place, entry, earlier, out),
+        AuthLineView::Entry(entry) => push_entry_line(
+            alloc, form, asked, place, entry, earlier, out,
+        ),
         AuthLineView::Unreadable(cause) => {
-            push_unreadable_line(alloc, asked, place, *cause, out)
+            push_unreadable_line(alloc, form, asked, place, line, *cause, out)
         }
     }
 }
@@ -134,6 +133,7 @@ fn push_line(
 /// The records of a file's lines, and what they count.
 pub(crate) fn push_lines(
     alloc: Global,
+    form: Form,
     asked: &Asked<'_>,
     name: &[u8],
     file: &[u8],
@@ -141,17 +141,17 @@ pub(crate) fn push_lines(
 ) -> Result<Counts, AllocError>
     requires { length file.now ≤ file_limit }
     ensures text { OnOk result (out.new.items ≡ out.old.items
-        ++ records_of (asking_of asked.entry.now) name.now [] (numbered 1 (lines_of file.now))) }
+        ++ records_of form (asking_of asked.entry.now) name.now [] (numbered 1 (lines_of file.now))) }
     ensures counts { IfOk result (λ counts. counts
         ≡ counts_of (asking_of asked.entry.now) [] (numbered 1 (lines_of file.now))) }
 {
     let mut buffer = KeyBuffer::new(alloc)?;
     let mut counts = Counts::NONE;
-    let mut earlier = Vec::new(alloc);
+    let mut earlier = Earlier::new(alloc);
     for (number, line) in Lines::new(file) {
         let place = Place { name, number };
         let view = read_auth_view(line, &mut buffer);
-        let told = push_line(alloc, asked, &place, &view, &mut earlier, out)?;
+        let told = push_line(alloc, form, asked, &place, line, &view, &mut earlier, out)?;
         counts = counts.plus(told);
     }
     Ok(counts)

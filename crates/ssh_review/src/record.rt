@@ -2,22 +2,24 @@
 
 ghost use Rattle.std.specs.Prelude.{◌≡◌, ◌++◌, OnOk};
 ghost use Rattle.std.specs.List.{flat_map};
-ghost use Rattle.ssh_print.specs.DecisionText.{carried_word, has_no_right, right_word, right_words};
+ghost use Rattle.ssh_print.specs.DecisionText.{carried_word};
 ghost use Rattle.ssh_review.specs.Records.{
   bits_text,
   carried_inset,
   comment_text,
   entry_head,
-  entry_record,
+  entry_text,
   fingerprint_word,
   flag_line,
+  held_words,
+  key_words,
   limit_lines,
   place_text,
   right_lines,
   rights_inset,
   role_word,
   setting_line,
-  unreadable_record,
+  unreadable_text,
   until_line,
 };
 ghost use Rattle.ssh_review.specs.Sentences.{finding_line};
@@ -25,28 +27,29 @@ ghost use Rattle.ssh_review.specs.Sentences.{finding_line};
 use crate::date::moment_text;
 use crate::sentence::push_finding;
 use ssh_findings::{Facts, Finding};
+use ssh_held_keys::HeldKey;
+use ssh_keys::KeyKind;
 use ssh_print::{push_escaped, push_number, push_text_line, push_word_line};
+use ssh_review_json::{Place, push_rights_words};
 use ssh_rights::{Carried, CarriedName, Rights};
 use ssh_text::Bytes;
 use std::alloc::{AllocError, Global};
 
-/// The place of a line: its file's name and its number.
-pub(crate) fn push_place(
-    alloc: Global,
-    out: &mut Vec<u8>,
-    name: &[u8],
-    number: u64,
-) -> Result<(), AllocError>
-    ensures { OnOk result (out.new.items ≡ out.old.items ++ place_text name.now number) }
+/// The place of a line, at the end: its file's name and its number. After an `Err`, which is want of
+/// memory, a part of it may stand there.
+pub fn push_place(alloc: Global, out: &mut Vec<u8>, place: &Place<'_>) -> Result<(), AllocError>
+    ensures { OnOk result (out.new.items
+        ≡ out.old.items ++ place_text place.entry.now.name.now place.entry.now.number) }
 {
-    push_escaped(out, name)?;
+    push_escaped(out, place.name)?;
     out.push(b':')?;
-    push_number(alloc, out, number)?;
+    push_number(alloc, out, place.number)?;
     out.extend_from_slice(b": ")?;
     Ok(())
 }
 
-fn role_word(is_authority: bool) -> &'static [u8]
+/// What the key of an entry is, before its type: an authority, or a key.
+pub fn role_word(is_authority: bool) -> &'static [u8]
     ensures { result.now ≡ role_word is_authority }
 {
     if is_authority { b"authority " } else { b"key " }
@@ -63,8 +66,9 @@ fn push_bits(alloc: Global, out: &mut Vec<u8>, bits: Option<u32>) -> Result<(), 
     Ok(())
 }
 
-/// A comment, after a space, if it has bytes.
-fn push_comment(out: &mut Vec<u8>, comment: &[u8]) -> Result<(), AllocError>
+/// A comment, after a space, if it has bytes, at the end. After an `Err`, which is want of memory, a
+/// part of it may stand there.
+pub fn push_comment(out: &mut Vec<u8>, comment: &[u8]) -> Result<(), AllocError>
     ensures { OnOk result (out.new.items ≡ out.old.items ++ comment_text comment.now) }
 {
     if !comment.is_empty() {
@@ -74,13 +78,32 @@ fn push_comment(out: &mut Vec<u8>, comment: &[u8]) -> Result<(), AllocError>
     Ok(())
 }
 
-/// A fingerprint, after a space.
+/// A fingerprint as `ssh-keygen -l` prints it, after a space, at the end. After an `Err`, which is
+/// want of memory, a part of it may stand there.
 #[tactic(auto, unfolding(crate::specs::Records::fingerprint_word))]
-fn push_fingerprint(out: &mut Vec<u8>, fingerprint: &[u8]) -> Result<(), AllocError>
+pub fn push_fingerprint(out: &mut Vec<u8>, fingerprint: &[u8]) -> Result<(), AllocError>
     ensures { OnOk result (out.new.items ≡ out.old.items ++ fingerprint_word fingerprint.now) }
 {
     out.extend_from_slice(b" SHA256:")?;
     out.extend_from_slice(fingerprint)?;
+    Ok(())
+}
+
+/// The type of a key, the size of an RSA key, and the fingerprint, at the end. After an `Err`, which
+/// is want of memory, a part of it may stand there.
+#[tactic(auto, unfolding(crate::specs::Records::key_words))]
+pub fn push_key(
+    alloc: Global,
+    out: &mut Vec<u8>,
+    kind: KeyKind,
+    bits: Option<u32>,
+    fingerprint: &[u8],
+) -> Result<(), AllocError>
+    ensures { OnOk result (out.new.items ≡ out.old.items ++ key_words kind bits fingerprint.now) }
+{
+    out.extend_from_slice(kind.name())?;
+    push_bits(alloc, out, bits)?;
+    push_fingerprint(out, fingerprint)?;
     Ok(())
 }
 
@@ -90,47 +113,18 @@ fn push_head(alloc: Global, out: &mut Vec<u8>, facts: &Facts) -> Result<(), Allo
     ensures { OnOk result (out.new.items ≡ out.old.items ++ entry_head facts.now) }
 {
     out.extend_from_slice(role_word(facts.is_authority))?;
-    out.extend_from_slice(facts.kind.name())?;
-    push_bits(alloc, out, facts.bits)?;
-    push_fingerprint(out, &facts.fingerprint)?;
+    push_key(alloc, out, facts.kind, facts.bits, &facts.fingerprint)?;
     push_comment(out, facts.comment.as_slice())?;
     out.push(b'\n')?;
     Ok(())
 }
 
-fn right_word(is_on: bool, word: &'static [u8]) -> &'static [u8]
-    ensures { result.now ≡ right_word is_on word.entry.now }
-{
-    if is_on { word } else { b"" }
-}
-
-fn push_right_words(out: &mut Vec<u8>, rights: &Rights) -> Result<(), AllocError>
-    ensures { OnOk result (out.new.items ≡ out.old.items ++ right_words rights.now) }
-{
-    out.extend_from_slice(right_word(rights.port, b" port"))?;
-    out.extend_from_slice(right_word(rights.agent, b" agent"))?;
-    out.extend_from_slice(right_word(rights.x11, b" x11"))?;
-    out.extend_from_slice(right_word(rights.pty, b" pty"))?;
-    out.extend_from_slice(right_word(rights.user_rc, b" rc"))?;
-    Ok(())
-}
-
-fn has_no_right(rights: &Rights) -> bool
-    ensures { result ≡ has_no_right rights.now }
-{
-    !(rights.port || rights.agent || rights.x11 || rights.pty || rights.user_rc)
-}
-
 #[tactic(auto, unfolding(crate::specs::Records::rights_inset))]
-fn push_rights(out: &mut Vec<u8>, rights: &Rights) -> Result<(), AllocError>
+fn push_rights(alloc: Global, out: &mut Vec<u8>, rights: &Rights) -> Result<(), AllocError>
     ensures { OnOk result (out.new.items ≡ out.old.items ++ rights_inset rights.now) }
 {
-    out.extend_from_slice(b"    rights")?;
-    if has_no_right(rights) {
-        out.extend_from_slice(b" none")?;
-    } else {
-        push_right_words(out, rights)?;
-    }
+    out.extend_from_slice(b"    rights ")?;
+    push_rights_words(alloc, out, rights)?;
     out.push(b'\n')?;
     Ok(())
 }
@@ -179,10 +173,10 @@ fn push_each_carried(out: &mut Vec<u8>, carried: &[Carried]) -> Result<(), Alloc
 }
 
 /// What the line leaves to the key.
-fn push_right_lines(out: &mut Vec<u8>, rights: &Rights) -> Result<(), AllocError>
+fn push_right_lines(alloc: Global, out: &mut Vec<u8>, rights: &Rights) -> Result<(), AllocError>
     ensures { OnOk result (out.new.items ≡ out.old.items ++ right_lines rights.now) }
 {
-    push_rights(out, rights)?;
+    push_rights(alloc, out, rights)?;
     push_setting(out, b"    command ", &rights.command)?;
     push_each_carried(out, rights.carried.as_slice())?;
     Ok(())
@@ -234,32 +228,54 @@ fn push_findings(alloc: Global, out: &mut Vec<u8>, found: &[Finding]) -> Result<
     Ok(())
 }
 
-/// The record of an entry, after its place.
-#[tactic(auto, unfolding(crate::specs::Records::entry_record))]
-pub(crate) fn push_entry(
+/// The record of an entry.
+#[tactic(auto, unfolding(crate::specs::Records::entry_text))]
+pub(crate) fn push_entry_text(
     alloc: Global,
     out: &mut Vec<u8>,
+    place: &Place<'_>,
     facts: &Facts,
     found: &[Finding],
 ) -> Result<(), AllocError>
-    ensures { OnOk result (out.new.items ≡ out.old.items ++ entry_record facts.now found.now) }
+    ensures { OnOk result (out.new.items ≡ out.old.items
+        ++ entry_text place.entry.now.name.now place.entry.now.number facts.now found.now) }
 {
+    push_place(alloc, out, place)?;
     push_head(alloc, out, facts)?;
-    push_right_lines(out, &facts.rights)?;
+    push_right_lines(alloc, out, &facts.rights)?;
     push_limits(alloc, out, facts)?;
     push_findings(alloc, out, found)?;
     Ok(())
 }
 
-/// The record of a line that cannot be read, after its place.
-pub(crate) fn push_unreadable(
+/// The key on a line that cannot be read, after a space, if there is one, at the end. After an `Err`,
+/// which is want of memory, a part of it may stand there.
+pub fn push_held(alloc: Global, out: &mut Vec<u8>, held: Option<HeldKey>) -> Result<(), AllocError>
+    ensures { OnOk result (out.new.items ≡ out.old.items ++ held_words held) }
+{
+    if let Some(held) = held {
+        out.push(b' ')?;
+        push_key(alloc, out, held.kind, held.bits, &held.fingerprint)?;
+    }
+    Ok(())
+}
+
+/// The record of a line that cannot be read.
+#[tactic(auto, unfolding(crate::specs::Records::unreadable_text))]
+pub(crate) fn push_unreadable_text(
     alloc: Global,
     out: &mut Vec<u8>,
+    place: &Place<'_>,
+    held: Option<HeldKey>,
     found: &[Finding],
 ) -> Result<(), AllocError>
-    ensures { OnOk result (out.new.items ≡ out.old.items ++ unreadable_record found.now) }
+    ensures { OnOk result (out.new.items ≡ out.old.items
+        ++ unreadable_text place.entry.now.name.now place.entry.now.number held found.now) }
 {
-    out.extend_from_slice(b"unreadable\n")?;
+    push_place(alloc, out, place)?;
+    out.extend_from_slice(b"unreadable")?;
+    push_held(alloc, out, held)?;
+    out.push(b'\n')?;
     push_findings(alloc, out, found)?;
     Ok(())
 }

@@ -1,42 +1,32 @@
-//! The words of findings: each sentence, each detail and each text of a line's fault stands here.
+//! The words of findings: each sentence stands here.
 
 ghost use Rattle.std.specs.Prelude.{◌≡◌, ◌++◌, OnOk, codes};
 ghost use Rattle.std.specs.Fmt.{decimal};
 ghost use Rattle.ssh_review.specs.Sentences.{
   cause_text,
-  detail_of,
+  detail_part,
+  finding_head,
   finding_line,
-  plain_detail,
   plain_sentence,
   sentence_of,
+  short_sentence,
+  unreadable_sentence,
 };
 
+use ssh_explain::row_of;
 use ssh_findings::Finding;
 use ssh_options::LineCause;
-use ssh_print::{line_codes, push_number};
+use ssh_print::{line_code, push_number};
+use ssh_review_json::detail;
 use std::alloc::{AllocError, Global};
 
-/// Why a line cannot be read.
+/// Why a line cannot be read, by the table of codes.
 fn cause_text(cause: LineCause) -> &'static [u8]
     ensures { result.now ≡ cause_text cause }
 {
-    match cause {
-        LineCause::TooLong => b"it is longer than 65,536 bytes",
-        LineCause::OptionSyntax => b"its options have not the form that sshd(8) gives",
-        LineCause::UnknownOption => b"an option or a key type is unknown",
-        LineCause::OptionValue => b"an option has a value that it may not have, or lacks one",
-        LineCause::RepeatedOption => b"an option stands twice that may stand once",
-        LineCause::ExpiryText => b"an expiry time is no date or time of day",
-        LineCause::NoKey => b"the key is missing",
-        LineCause::KeyType => b"the type is no key's",
-        LineCause::RetiredType => b"ssh-dss is retired",
-        LineCause::Base64 => b"the base64 cannot be decoded",
-        LineCause::KeyBlob(_) => b"the bytes are no key",
-        LineCause::TypeMismatch => b"the key is of another type than the line says",
-        LineCause::CertificateOnLine => b"the type is a certificate's",
-        LineCause::Marker => b"its marker is unknown",
-        LineCause::HashedName => b"its hashed name is none",
-        LineCause::Names => b"an item of its names is empty",
+    match row_of(line_code(cause)) {
+        Some(row) => row.sentence.as_bytes(),
+        None => b"",
     }
 }
 
@@ -76,21 +66,6 @@ fn plain_sentence(finding: Finding) -> &'static [u8]
     }
 }
 
-/// What of the line a finding speaks of, after a space, where its code speaks of several things.
-fn plain_detail(finding: Finding) -> &'static [u8]
-    ensures { result.now ≡ plain_detail finding }
-{
-    match finding {
-        Finding::BadSources => b" from",
-        Finding::NoPrincipal => b" principals",
-        Finding::PlainPrincipals => b" principals",
-        Finding::EmptyPrincipal => b" empty-principal",
-        Finding::VerifyIgnored => b" verify-required",
-        Finding::LocalTime => b" local-time",
-        _ => b"",
-    }
-}
-
 /// A number between words.
 fn push_between(
     alloc: Global,
@@ -117,16 +92,38 @@ fn push_both(out: &mut Vec<u8>, before: &[u8], after: &[u8]) -> Result<(), Alloc
     Ok(())
 }
 
+/// The sentence of a line that cannot be read for this cause, at the end. After an `Err`, which is
+/// want of memory, a part of it may stand there.
+pub fn push_unreadable_sentence(out: &mut Vec<u8>, cause: LineCause) -> Result<(), AllocError>
+    ensures { OnOk result (out.new.items ≡ out.old.items ++ unreadable_sentence cause) }
+{
+    push_both(
+        out,
+        b"cannot be read here, and OpenSSH may read it: ",
+        cause_text(cause),
+    )
+}
+
+/// The sentence of an RSA key of so many bits, which are too few, at the end. After an `Err`, which
+/// is want of memory, a part of it may stand there.
+pub fn push_short_sentence(alloc: Global, out: &mut Vec<u8>, bits: u32) -> Result<(), AllocError>
+    ensures { OnOk result (out.new.items ≡ out.old.items ++ short_sentence bits) }
+{
+    push_between(
+        alloc,
+        out,
+        b"an RSA key of ",
+        bits as u64,
+        b" bits is too short",
+    )
+}
+
 fn push_sentence(alloc: Global, out: &mut Vec<u8>, finding: Finding) -> Result<(), AllocError>
     ensures { OnOk result (out.new.items ≡ out.old.items ++ sentence_of finding) }
 {
     match finding {
         Finding::Unreadable(cause) => {
-            push_both(
-                out,
-                b"cannot be read here, and OpenSSH may read it: ",
-                cause_text(cause),
-            )?;
+            push_unreadable_sentence(out, cause)?;
         }
         Finding::SameKey(line) => {
             push_between(
@@ -156,33 +153,33 @@ fn push_sentence(alloc: Global, out: &mut Vec<u8>, finding: Finding) -> Result<(
             )?;
         }
         Finding::ShortKey(bits) => {
-            push_between(
-                alloc,
-                out,
-                b"an RSA key of ",
-                bits as u64,
-                b" bits is too short",
-            )?;
+            push_short_sentence(alloc, out, bits)?;
         }
         _ => out.extend_from_slice(plain_sentence(finding))?,
     }
     Ok(())
 }
 
-fn push_detail(alloc: Global, out: &mut Vec<u8>, finding: Finding) -> Result<(), AllocError>
-    ensures { OnOk result (out.new.items ≡ out.old.items ++ detail_of finding) }
+/// What stands after the code of a finding, after a space, if it is any.
+fn push_detail(out: &mut Vec<u8>, said: &[u8]) -> Result<(), AllocError>
+    ensures { OnOk result (out.new.items ≡ out.old.items ++ detail_part said.now) }
 {
-    match finding {
-        Finding::Unreadable(cause) => {
-            let codes = line_codes(alloc, cause)?;
-            out.extend_from_slice(&codes)?;
-        }
-        Finding::SameKey(line) | Finding::NeverDecides(line) | Finding::GivesMore(line) => {
-            push_between(alloc, out, b" ", line, b"")?;
-        }
-        Finding::ShortKey(bits) => push_between(alloc, out, b" ", bits as u64, b"")?,
-        _ => out.extend_from_slice(plain_detail(finding))?,
+    if !said.is_empty() {
+        out.push(b' ')?;
+        out.extend_from_slice(said)?;
     }
+    Ok(())
+}
+
+/// The front of the line of a finding with this code and what stands after it, at the end. After an
+/// `Err`, which is want of memory, a part of it may stand there.
+pub fn push_finding_head(out: &mut Vec<u8>, code: &[u8], said: &[u8]) -> Result<(), AllocError>
+    ensures { OnOk result (out.new.items ≡ out.old.items ++ finding_head code.now said.now) }
+{
+    out.extend_from_slice(b"    ")?;
+    out.extend_from_slice(code)?;
+    push_detail(out, said)?;
+    out.extend_from_slice(b": ")?;
     Ok(())
 }
 
@@ -194,10 +191,8 @@ pub(crate) fn push_finding(
 ) -> Result<(), AllocError>
     ensures { OnOk result (out.new.items ≡ out.old.items ++ finding_line finding) }
 {
-    out.extend_from_slice(b"    ")?;
-    out.extend_from_slice(finding.code().text())?;
-    push_detail(alloc, out, finding)?;
-    out.extend_from_slice(b": ")?;
+    let said = detail(alloc, finding)?;
+    push_finding_head(out, finding.code().text(), &said)?;
     push_sentence(alloc, out, finding)?;
     out.push(b'\n')?;
     Ok(())

@@ -1,6 +1,8 @@
-use Rattle.std.proofs.Common.{◌≡◌, ◌++◌, []}
+use Rattle.std.proofs.Common.{◌≡◌, ◌++◌, [], List}
 use Rattle.ssh_text.specs.Text.{lines_of, numbered}
 use Rattle.ssh_findings.specs.Asking.{asking_of}
+use Rattle.ssh_findings.specs.Earlier.{Held}
+use Rattle.ssh_findings.specs.Keeping.{StandsFor}
 use Rattle.ssh_review.specs.Counting.{plus}
 use Rattle.ssh_review.specs.Lines.{counts_of, records_of}
 use Rattle.ssh_review.proofs.lines.push_lines.Given as goal
@@ -8,7 +10,8 @@ use Rattle.ssh_review.proofs.lines.push_lines.Given as goal
 abbrev pub invariant-loop-number : goal.invariant-loop-number
 invariant-loop-number l =
     (goal.iterator-loop-number).can_next l.number-iterator × (goal.iterator-loop-number).is_finite l.number-iterator
-    × (l.out.items ++ records_of (asking_of l.asked) l.name l.earlier.items (numbered (l.number-iterator).0 (lines_of (l.number-iterator).1))
-    ≡ l.initial.out.items ++ records_of (asking_of l.asked) l.name [] (numbered 1 (lines_of l.file)))
-    × (plus l.counts (counts_of (asking_of l.asked) l.earlier.items (numbered (l.number-iterator).0 (lines_of (l.number-iterator).1)))
-    ≡ counts_of (asking_of l.asked) [] (numbered 1 (lines_of l.file)))
+    × ((held : List Held) × StandsFor l.earlier held
+    × (l.out.items ++ records_of l.form (asking_of l.asked) l.name held (numbered (l.number-iterator).0 (lines_of (l.number-iterator).1))
+    ≡ l.initial.out.items ++ records_of l.form (asking_of l.asked) l.name [] (numbered 1 (lines_of l.file)))
+    × (plus l.counts (counts_of (asking_of l.asked) held (numbered (l.number-iterator).0 (lines_of (l.number-iterator).1)))
+    ≡ counts_of (asking_of l.asked) [] (numbered 1 (lines_of l.file))))

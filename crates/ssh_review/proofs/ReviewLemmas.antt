@@ -1,0 +1,116 @@
+-- A review is of printable bytes and LFs, in each form.
+use Rattle.std.proofs.Common.{◌≡◌, ◌+◌, ℕ, nat_lt, Bool, true, false, cond, List, [], ◌∷◌, ◌++◌, length, refl}
+use Rattle.std.specs.Prelude.{Option, Some, None, codes, option_map}
+use Rattle.std.specs.List.{AllByRecursion}
+use Rattle.jiff.specs.Types.{TimeZone}
+use Rattle.sha2.specs.Sha256.{sha256}
+use Rattle.ssh_text.specs.Text.{file_limit, lines_of, numbered}
+use Rattle.ssh_keys.specs.Fingerprint.{digest_text_of, fingerprint_of}
+use Rattle.ssh_keys.specs.PublicKey.{PublicKey, key_blob}
+use Rattle.ssh_lines.specs.declared.entry.AuthLine.{AuthLine}
+use Rattle.ssh_lines.specs.declared.entry.AuthLine.TheVariants.{Blank, Comment, Entry, Unreadable}
+use Rattle.ssh_lines.specs.AuthEntry.{AuthEntry}
+use Rattle.ssh_lines.specs.AuthGrammar.{auth_line}
+use Rattle.ssh_findings.specs.Asking.{Asking}
+use Rattle.ssh_findings.specs.Earlier.{Held}
+use Rattle.ssh_findings.specs.Facts.{facts_of}
+use Rattle.ssh_held_keys.specs.HeldKey.{held_key, held_of as told_of}
+use Rattle.ssh_review_json.specs.OneLine.{AreBytes, are_printable}
+use Rattle.ssh_review_json.proofs.ObjectLemmas.{entry-line, unreadable-line}
+use Rattle.ssh_review_json.proofs.PrintableLemmas.{ArePrintable, decimal-printable, escaped-printable, hex-printable, join, word}
+use Rattle.ssh_review.specs.declared.counts.Counts.{Counts}
+use Rattle.ssh_review.specs.declared.counts.FileFault.{FileFault}
+use Rattle.ssh_review.specs.declared.counts.FileFault.TheVariants.{TooLong}
+use Rattle.ssh_review.specs.declared.counts.Total.{Total}
+use Rattle.ssh_review.specs.declared.form.Form.{Form}
+use Rattle.ssh_review.specs.declared.form.Form.TheVariants.{Text, Json}
+use Rattle.ssh_review.specs.Ends.{count_text, counts_text}
+use Rattle.ssh_review.specs.Forms.{end_line, fault_line, total_line}
+use Rattle.ssh_review.specs.Lines.{counts_of, held_of, key_told, line_findings, line_record, records_of, shadow_line}
+use Rattle.ssh_review.specs.Reviews.{auth_review, fault_review, whole_review}
+use Rattle.ssh_review.proofs.ByteLemmas.{entry-facts, held-bytes, lines-bytes}
+use Rattle.ssh_review.proofs.DigestLemmas.{base64-printable, digest-bytes}
+use Rattle.ssh_review.proofs.EndLemmas.{code-printable, end-line, fault-line, total-line}
+use Rattle.ssh_review.proofs.ShownLemmas.{AreShown, add, from-line, seen, show}
+use Rattle.ssh_review.proofs.TextLemmas.{IsHeldPrintable, entry-shown, unreadable-shown}
+
+-- ---- records
+
+pub fingerprint-printable : (key : PublicKey) → ArePrintable (fingerprint_of key)
+unfolding fingerprint_of digest_text_of
+fingerprint-printable key = base64-printable 43 (sha256 (key_blob key)) (digest-bytes (key_blob key))
+
+entry-printable : (zone : TimeZone) (e : AuthEntry) → ArePrintable (facts_of zone e).fingerprint
+unfolding facts_of
+entry-printable zone e = fingerprint-printable e.key
+
+pub held-printable : (key : Option PublicKey) → IsHeldPrintable (option_map told_of key)
+held-printable None = tt
+held-printable (Some key) = fingerprint-printable key
+
+record-by : (form : Form) (asking : Asking) (name : List ℕ) (earlier : List Held) (n : ℕ) (line : List ℕ) (said : AuthLine)
+    → AreBytes name → AreBytes line → auth_line line ≡ said → AreShown (line_record form asking name earlier (n, line) said)
+record-by form asking name earlier n line Blank h k is = show [] refl
+record-by form asking name earlier n line Comment h k is = show [] refl
+record-by Text asking name earlier n line (Entry e) h k is =
+    entry-shown name n (facts_of asking.zone e) (line_findings asking earlier (Entry e)) h (entry-facts asking.zone line e k is).0 (entry-printable asking.zone e)
+record-by Json asking name earlier n line (Entry e) h k is =
+    let bytes = entry-facts asking.zone line e k is in
+    from-line (entry-line name n (facts_of asking.zone e) e.options (shadow_line asking earlier e) (line_findings asking earlier (Entry e)) h bytes.0 bytes.1)
+record-by Text asking name earlier n line (Unreadable cause) h k is =
+    unreadable-shown name n (key_told line) (line_findings asking earlier (Unreadable cause)) h (held-printable (held_key line))
+record-by Json asking name earlier n line (Unreadable cause) h k is =
+    from-line (unreadable-line name n (key_told line) (line_findings asking earlier (Unreadable cause)) h (held-bytes (held_key line)))
+
+records-shown : (form : Form) (asking : Asking) (name : List ℕ) (earlier : List Held) (n : ℕ) (lines : List (List ℕ))
+    → AreBytes name → AllByRecursion AreBytes lines → AreShown (records_of form asking name earlier (numbered n lines))
+records-shown form asking name earlier n [] h k = show [] refl
+records-shown form asking name earlier n (line ∷ lines) h k =
+    add (record-by form asking name earlier n line (auth_line line) h k.0 refl)
+    (records-shown form asking name (earlier ++ held_of asking (n, auth_line line)) (n + 1) lines h k.1)
+
+-- ---- ends
+
+count-printable : (n : ℕ) (what : List ℕ) → are_printable what ≡ true → ArePrintable (count_text n what)
+count-printable n what h = join (decimal-printable n) (word what h)
+
+counts-printable : (c : Counts) → ArePrintable (counts_text c)
+counts-printable c =
+    let lines = count-printable c.lines (codes " lines, ") refl in
+    let keys = count-printable c.keys (codes " keys, ") refl in
+    let unreadable = count-printable c.unreadable (codes " unreadable, ") refl in
+    join (join (join lines keys) unreadable) (count-printable c.findings (codes " findings") refl)
+
+pub end-shown : (form : Form) (name : List ℕ) (counts : Counts) (digest : List ℕ) → AreBytes name → AreBytes digest → AreShown (end_line form name counts digest)
+end-shown Text name counts digest h k =
+    let named = join (escaped-printable name h) (word (codes ": ") refl) in
+    let counted = join (join named (counts-printable counts)) (word (codes ", sha256 ") refl) in
+    add (seen (join counted (hex-printable digest k))) (show (codes "\n") refl)
+end-shown Json name counts digest h k = from-line (end-line name counts digest h k)
+
+pub fault-shown : (form : Form) (name : List ℕ) (fault : FileFault) → AreBytes name → AreShown (fault_line form name fault)
+fault-shown Text name fault h =
+    add (seen (join (join (escaped-printable name h) (word (codes ": fault ") refl)) (code-printable fault))) (show (codes "\n") refl)
+fault-shown Json name fault h = from-line (fault-line name fault h)
+
+pub total-shown : (form : Form) (t : Total) → AreShown (total_line form t)
+total-shown Text t =
+    let files = join (word (codes "total: ") refl) (count-printable t.files (codes " files, ") refl) in
+    let faults = join files (count-printable t.faults (codes " faults, ") refl) in
+    add (seen (join faults (counts-printable t.counts))) (show (codes "\n") refl)
+total-shown Json t = from-line (total-line t)
+
+-- ---- reviews
+
+whole-shown : (form : Form) (asking : Asking) (name file : List ℕ) → AreBytes name → AreBytes file → AreShown (whole_review form asking name file).text
+unfolding whole_review
+whole-shown form asking name file h k =
+    add (records-shown form asking name [] 1 (lines_of file) h (lines-bytes file k))
+    (end-shown form name (counts_of asking [] (numbered 1 (lines_of file))) (sha256 file) h (digest-bytes file))
+
+pub review-shown : (form : Form) (asking : Asking) (name file : List ℕ) → AreBytes name → AreBytes file → AreShown (auth_review form asking name file).text
+review-shown form asking name file h k = go (nat_lt file_limit (length file))
+  where
+    go : (b : Bool) → AreShown (cond b (fault_review form name TooLong) (whole_review form asking name file)).text
+    go true = fault-shown form name TooLong h
+    go false = whole-shown form asking name file h k

@@ -1,0 +1,44 @@
+-- Texts of printable bytes and LFs, one after the other.
+use Rattle.std.proofs.Common.{◌≡◌, ◌∙◌, ℕ, ◌==◌, Bool, true, false, ◌&&◌, ◌||◌, cond, List, [], ◌∷◌, ◌++◌, length, refl, ap, arith}
+use Rattle.std.proofs.lemmas.Bool.{eqb-true}
+use Rattle.std.proofs.lemmas.List.Folds.{list_all-append}
+use Rattle.ssh_review_json.specs.OneLine.{are_printable, is_line, is_printable}
+use Rattle.ssh_review_json.proofs.PrintableLemmas.{ArePrintable}
+use Rattle.ssh_review.specs.Shown.{are_shown, is_shown}
+
+-- A text is of printable bytes and LFs. As a record, so that a proof finds the text.
+pub record AreShown (text : List ℕ) : Type 0 where
+  pub all : are_shown text ≡ true
+
+pub show : (text : List ℕ) → are_shown text ≡ true → AreShown text
+show text h = record { all = h }
+
+pub add : {a b : List ℕ} → AreShown a → AreShown b → AreShown (a ++ b)
+add {a} {b} h k = record { all = list_all-append is_shown a b ∙ ap (λ t. t && are_shown b) h.all ∙ k.all }
+
+from-printable-by : (text : List ℕ) → are_printable text ≡ true → are_shown text ≡ true
+from-printable-by [] h = refl
+from-printable-by (c ∷ cs) h = go (is_printable c) (from-printable-by cs) h
+  where
+    go : (p : Bool) → (are_printable cs ≡ true → are_shown cs ≡ true) → (p && are_printable cs) ≡ true → ((p || c == 10) && are_shown cs) ≡ true
+    go true next h = next h
+    go false next h = absurd (let no : false ≡ true = h in cc)
+
+pub seen : {text : List ℕ} → ArePrintable text → AreShown text
+seen {text} h = record { all = from-printable-by text h.all }
+
+from-line-by : (text : List ℕ) → is_line text ≡ true → are_shown text ≡ true
+from-line-by [] h = refl
+from-line-by (c ∷ cs) h = go (is_printable c) (c == 10) (from-line-by cs) h
+  where
+    empty : (ds : List ℕ) → (length ds == 0) ≡ true → are_shown ds ≡ true
+    empty [] h = refl
+    empty (d ∷ ds) h = absurd (let none : length (d ∷ ds) ≡ 0 = eqb-true (length (d ∷ ds)) 0 h in let no : ⊥ = omega (arith, none) in no)
+
+    go : (p n : Bool) → (is_line cs ≡ true → are_shown cs ≡ true) → cond p (is_line cs) (n && (length cs == 0)) ≡ true → ((p || n) && are_shown cs) ≡ true
+    go true n next h = next h
+    go false true next h = empty cs h
+    go false false next h = h
+
+pub from-line : {text : List ℕ} → is_line text ≡ true → AreShown text
+from-line {text} h = record { all = from-line-by text h }

@@ -1,0 +1,196 @@
+-- The records of lines, as text, are of printable bytes and LFs.
+use Rattle.std.proofs.Common.{◌≡◌, ℕ, Bool, true, false, List, [], ◌∷◌, ◌++◌, refl}
+use Rattle.std.specs.Prelude.{ℤ, Option, Some, None, codes}
+use Rattle.std.specs.Fmt.{decimal}
+use Rattle.std.specs.List.{AllByRecursion, flat_map}
+use Rattle.ssh_keys.specs.declared.kind.KeyKind.{KeyKind}
+use Rattle.ssh_options.specs.declared.cause.LineCause.{LineCause}
+use Rattle.ssh_options.specs.declared.cause.LineCause.TheVariants as cause
+use Rattle.ssh_rights.specs.declared.rights.Carried.{Carried}
+use Rattle.ssh_rights.specs.declared.rights.CarriedName.{CarriedName}
+use Rattle.ssh_rights.specs.declared.rights.CarriedName.TheVariants as carried
+use Rattle.ssh_rights.specs.declared.rights.Rights.{Rights}
+use Rattle.ssh_print.specs.DecisionText.{carried_word}
+use Rattle.ssh_print.specs.Texts.{word_line}
+use Rattle.ssh_explain.specs.Table.{answers, lines, reasons, row_of, table}
+use Rattle.ssh_findings.specs.declared.facts.Facts.{Facts}
+use Rattle.ssh_findings.specs.declared.finding.Finding.{Finding}
+use Rattle.ssh_findings.specs.declared.finding.Finding.TheVariants as finding
+use Rattle.ssh_held_keys.specs.declared.held.HeldKey.{HeldKey}
+use Rattle.ssh_findings.specs.Codes.{code_text}
+use Rattle.ssh_findings.specs.Findings.{code_of}
+use Rattle.ssh_review_json.specs.Details.{detail_of}
+use Rattle.ssh_review_json.specs.OneLine.{AreBytes, AreBytesIfAny, IsOfBytes, are_printable}
+use Rattle.ssh_review_json.proofs.PrintableLemmas.{ArePrintable, decimal-printable, escaped-printable, join, word}
+use Rattle.ssh_review_json.proofs.WordLemmas.{code-printable, detail-printable, kind-printable, rights-printable}
+use Rattle.ssh_review.specs.Records.{bits_text, carried_inset, comment_text, entry_head, entry_text, fingerprint_word, flag_line, held_words, key_words, limit_lines, place_text, right_lines, rights_inset, role_word, setting_line, unreadable_text, until_line}
+use Rattle.ssh_review.specs.Sentences.{cause_text, detail_part, finding_head, finding_line, sentence_of, short_sentence, unreadable_sentence}
+use Rattle.ssh_review.specs.Shown.{are_shown}
+use Rattle.ssh_review.proofs.DateTextLemmas.{moment-printable}
+use Rattle.ssh_review.proofs.ShownLemmas.{AreShown, add, seen, show}
+
+-- ---- findings
+
+cause-printable : (why : LineCause) → ArePrintable (cause_text why)
+unfolding row_of table answers reasons lines
+cause-printable cause.TooLong = record { all = refl }
+cause-printable cause.OptionSyntax = record { all = refl }
+cause-printable cause.UnknownOption = record { all = refl }
+cause-printable cause.OptionValue = record { all = refl }
+cause-printable cause.RepeatedOption = record { all = refl }
+cause-printable cause.ExpiryText = record { all = refl }
+cause-printable cause.NoKey = record { all = refl }
+cause-printable cause.KeyType = record { all = refl }
+cause-printable cause.RetiredType = record { all = refl }
+cause-printable cause.Base64 = record { all = refl }
+cause-printable (cause.KeyBlob e) = record { all = refl }
+cause-printable cause.TypeMismatch = record { all = refl }
+cause-printable cause.CertificateOnLine = record { all = refl }
+cause-printable cause.Marker = record { all = refl }
+cause-printable cause.HashedName = record { all = refl }
+cause-printable cause.Names = record { all = refl }
+
+-- a number between two texts
+between : (before after : List ℕ) (n : ℕ) → are_printable before ≡ true → are_printable after ≡ true → ArePrintable (before ++ decimal n ++ after)
+between before after n h k = join (join (word before h) (decimal-printable n)) (word after k)
+
+pub unreadable-printable : (why : LineCause) → ArePrintable (unreadable_sentence why)
+unreadable-printable why = join (word (codes "cannot be read here, and OpenSSH may read it: ") refl) (cause-printable why)
+
+pub short-printable : (bits : ℕ) → ArePrintable (short_sentence bits)
+short-printable bits = between (codes "an RSA key of ") (codes " bits is too short") bits refl refl
+
+sentence-printable : (f : Finding) → ArePrintable (sentence_of f)
+sentence-printable (finding.Unreadable why) = unreadable-printable why
+sentence-printable (finding.SameKey line) = between (codes "line ") (codes " has the same key: where that line does not let it in, this one may") line refl refl
+sentence-printable (finding.NeverDecides line) = between (codes "never decides: line ") (codes " has the same key and lets it in first") line refl refl
+sentence-printable (finding.GivesMore line) = between (codes "never decides: line ") (codes " has the same key, lets it in first and gives more") line refl refl
+sentence-printable (finding.ShortKey bits) = short-printable bits
+sentence-printable finding.Expired = record { all = refl }
+sentence-printable finding.BadSources = record { all = refl }
+sentence-printable finding.NoPrincipal = record { all = refl }
+sentence-printable finding.PlainPrincipals = record { all = refl }
+sentence-printable finding.EmptyPrincipal = record { all = refl }
+sentence-printable finding.VerifyIgnored = record { all = refl }
+sentence-printable finding.LocalTime = record { all = refl }
+sentence-printable finding.ForcedButForwards = record { all = refl }
+sentence-printable finding.AnyAddress = record { all = refl }
+sentence-printable finding.AnyCommand = record { all = refl }
+sentence-printable finding.NoExpiry = record { all = refl }
+sentence-printable finding.AnyPrincipal = record { all = refl }
+sentence-printable finding.NoComment = record { all = refl }
+
+part-printable : (said : List ℕ) → ArePrintable said → ArePrintable (detail_part said)
+part-printable [] h = record { all = refl }
+part-printable (c ∷ cs) h = join (word (codes " ") refl) h
+
+pub finding-head-printable : (code said : List ℕ) → ArePrintable code → ArePrintable said → ArePrintable (finding_head code said)
+finding-head-printable code said h k =
+    join (join (join (word (codes "    ") refl) h) (part-printable said k)) (word (codes ": ") refl)
+
+finding-shown : (f : Finding) → AreShown (finding_line f)
+finding-shown f =
+    let head = finding-head-printable (code_text (code_of f)) (detail_of f) (code-printable (code_of f)) (detail-printable f) in
+    add (seen (join head (sentence-printable f))) (show (codes "\n") refl)
+
+findings-shown : (found : List Finding) → AreShown (flat_map finding_line found)
+findings-shown [] = show [] refl
+findings-shown (f ∷ found) = add (finding-shown f) (findings-shown found)
+
+-- ---- parts of a record
+
+pub place-printable : (name : List ℕ) (n : ℕ) → AreBytes name → ArePrintable (place_text name n)
+place-printable name n h =
+    join (join (join (escaped-printable name h) (word (codes ":") refl)) (decimal-printable n)) (word (codes ": ") refl)
+
+pub role-printable : (b : Bool) → ArePrintable (role_word b)
+role-printable true = word (codes "authority ") refl
+role-printable false = word (codes "key ") refl
+
+bits-printable : (bits : Option ℕ) → ArePrintable (bits_text bits)
+bits-printable None = word [] refl
+bits-printable (Some bits) = join (word (codes " ") refl) (decimal-printable bits)
+
+pub comment-printable : (comment : List ℕ) → AreBytes comment → ArePrintable (comment_text comment)
+comment-printable [] h = word [] refl
+comment-printable (c ∷ cs) h = join (word (codes " ") refl) (escaped-printable (c ∷ cs) h)
+
+pub key-printable : (kind : KeyKind) (bits : Option ℕ) (fingerprint : List ℕ) → ArePrintable fingerprint → ArePrintable (key_words kind bits fingerprint)
+unfolding key_words fingerprint_word
+key-printable kind bits fingerprint h =
+    join (join (kind-printable kind) (bits-printable bits)) (join (word (codes " SHA256:") refl) h)
+
+head-shown : (f : Facts) → ArePrintable f.fingerprint → AreBytes f.comment → AreShown (entry_head f)
+unfolding entry_head
+head-shown f h k =
+    let key = join (role-printable f.is_authority) (key-printable f.kind f.bits f.fingerprint h) in
+    add (seen (join key (comment-printable f.comment k))) (show (codes "\n") refl)
+
+setting-shown : (said : List ℕ) (text : Option (List ℕ)) → are_printable said ≡ true → AreBytesIfAny text → AreShown (setting_line said text)
+unfolding setting_line word_line
+setting-shown said None h k = show [] refl
+setting-shown said (Some text) h k = add (seen (join (word said h) (escaped-printable text k))) (show (codes "\n") refl)
+
+rights-shown : (r : Rights) → AreShown (rights_inset r)
+unfolding rights_inset
+rights-shown r = add (seen (join (word (codes "    rights ") refl) (rights-printable r))) (show (codes "\n") refl)
+
+carried-name-printable : (name : CarriedName) → ArePrintable (carried_word name)
+carried-name-printable carried.Environment = record { all = refl }
+carried-name-printable carried.PermitListen = record { all = refl }
+carried-name-printable carried.PermitOpen = record { all = refl }
+carried-name-printable carried.Tunnel = record { all = refl }
+
+carried-shown : (texts : List Carried) → AllByRecursion (λ (c : Carried). AreBytes c.text) texts → AreShown (flat_map carried_inset texts)
+carried-shown [] h = show [] refl
+carried-shown (c ∷ texts) h =
+    let name = join (join (word (codes "    carry ") refl) (carried-name-printable c.name)) (word (codes " ") refl) in
+    add (add (seen (join name (escaped-printable c.text h.0))) (show (codes "\n") refl)) (carried-shown texts h.1)
+
+right-lines-shown : (f : Facts) → IsOfBytes f → AreShown (right_lines f.rights)
+unfolding right_lines
+right-lines-shown f h =
+    add (add (rights-shown f.rights) (setting-shown (codes "    command ") f.rights.command refl h.command)) (carried-shown f.rights.carried h.carried)
+
+flag-shown : (stands : Bool) (line : List ℕ) → are_shown line ≡ true → AreShown (flag_line stands line)
+unfolding flag_line
+flag-shown true line h = show line h
+flag-shown false line h = show [] refl
+
+until-shown : (until : Option ℤ) → AreShown (until_line until)
+unfolding until_line word_line
+until-shown None = show [] refl
+until-shown (Some moment) = add (seen (join (word (codes "    expires ") refl) (moment-printable moment))) (show (codes "\n") refl)
+
+limits-shown : (f : Facts) → IsOfBytes f → AreShown (limit_lines f)
+unfolding limit_lines
+limits-shown f h =
+    let touch = flag-shown f.no_touch_required (codes "    no-touch-required\n") refl in
+    let verify = flag-shown f.verify_required (codes "    verify-required\n") refl in
+    let from = setting-shown (codes "    from ") f.from refl h.from in
+    let principals = setting-shown (codes "    principals ") f.principals refl h.principals in
+    add (add (add (add touch verify) from) principals) (until-shown f.until)
+
+-- ---- records
+
+pub entry-shown : (name : List ℕ) (n : ℕ) (f : Facts) (found : List Finding) → AreBytes name → IsOfBytes f → ArePrintable f.fingerprint → AreShown (entry_text name n f found)
+unfolding entry_text
+entry-shown name n f found h k p =
+    let head = add (seen (place-printable name n h)) (head-shown f p k.comment) in
+    add (add (add head (right-lines-shown f k)) (limits-shown f k)) (findings-shown found)
+
+-- the fingerprint of a key, if there is one, is printable
+abbrev pub IsHeldPrintable : Option HeldKey → Type 0
+IsHeldPrintable None = Unit {0}
+IsHeldPrintable (Some held) = ArePrintable held.fingerprint
+
+pub held-printable : (held : Option HeldKey) → IsHeldPrintable held → ArePrintable (held_words held)
+held-printable None h = word [] refl
+held-printable (Some held) h = join (word (codes " ") refl) (key-printable held.kind held.bits held.fingerprint h)
+
+pub unreadable-shown : (name : List ℕ) (n : ℕ) (held : Option HeldKey) (found : List Finding) → AreBytes name → IsHeldPrintable held
+    → AreShown (unreadable_text name n held found)
+unfolding unreadable_text
+unreadable-shown name n held found h k =
+    let key = join (join (place-printable name n h) (word (codes "unreadable") refl)) (held-printable held k) in
+    add (add (seen key) (show (codes "\n") refl)) (findings-shown found)

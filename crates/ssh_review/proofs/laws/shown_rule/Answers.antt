@@ -1,0 +1,9 @@
+use Rattle.ssh_review.proofs.ReviewLemmas.{fault-shown, review-shown, total-shown}
+use Rattle.ssh_review.proofs.laws.shown_rule.Goals as goal
+
+pub returns : goal.returns
+returns c = record {
+  review = λ form asking name file h k. (review-shown form asking name file h k).all;
+  fault = λ form name fault h. (fault-shown form name fault h).all;
+  total = λ form t. (total-shown form t).all;
+}

@@ -1,0 +1,35 @@
+-- The end of a file and the total, as text (this project's rule).
+use Rattle.std.specs.Prelude.{◌++◌, ℕ, List, codes}
+use Rattle.std.specs.Fmt.{decimal}
+use Rattle.ssh_print.specs.Texts.{escaped, hex_text}
+use Rattle.ssh_review.specs.declared.counts.Counts.{Counts}
+use Rattle.ssh_review.specs.declared.counts.FileFault.{FileFault}
+use Rattle.ssh_review.specs.declared.counts.FileFault.TheVariants.{Unread, TooLong}
+use Rattle.ssh_review.specs.declared.counts.Total.{Total}
+
+-- a number and what it counts
+abbrev pub count_text : ℕ → List ℕ → List ℕ
+count_text number what = decimal number ++ what
+
+abbrev pub counts_text : Counts → List ℕ
+counts_text c =
+    count_text c.lines (codes " lines, ") ++ count_text c.keys (codes " keys, ")
+    ++ count_text c.unreadable (codes " unreadable, ") ++ count_text c.findings (codes " findings")
+
+-- the end of a file, with the SHA-256 of its bytes
+abbrev pub end_text : List ℕ → Counts → List ℕ → List ℕ
+end_text name counts digest = escaped name ++ codes ": " ++ counts_text counts ++ codes ", sha256 " ++ hex_text digest ++ codes "\n"
+
+abbrev pub fault_code : FileFault → List ℕ
+fault_code Unread = codes "A9"
+fault_code TooLong = codes "A7"
+
+-- the end of a file with a fault
+abbrev pub fault_text : List ℕ → FileFault → List ℕ
+fault_text name fault = escaped name ++ codes ": fault " ++ fault_code fault ++ codes "\n"
+
+-- what all files come to
+abbrev pub total_text : Total → List ℕ
+total_text t =
+    codes "total: " ++ count_text t.files (codes " files, ") ++ count_text t.faults (codes " faults, ")
+    ++ counts_text t.counts ++ codes "\n"
