@@ -1,0 +1,70 @@
+-- The records of lines are one line each as JSON objects.
+use Rattle.std.proofs.Common.{◌≡◌, ℕ, true, List, [], ◌∷◌, ◌++◌, refl, append_assoc}
+use Rattle.std.specs.Prelude.{Option, codes}
+use Rattle.std.specs.List.{flat_map}
+use Rattle.ssh_held_keys.specs.declared.held.HeldKey.{HeldKey}
+use Rattle.ssh_host_findings.specs.declared.facts.HostFacts.{HostFacts}
+use Rattle.ssh_host_findings.specs.declared.finding.HostFinding.{HostFinding}
+use Rattle.ssh_host_findings.specs.Findings.{code_of}
+use Rattle.ssh_review_json.specs.OneLine.{AreBytes, IsHeldOfBytes, are_printable, is_line}
+use Rattle.ssh_review_json.proofs.ObjectLemmas.{head-printable, held-printable, is-printable, key-printable, null-printable, object-printable, said-printable, text-printable}
+use Rattle.ssh_review_json.proofs.PrintableLemmas.{ArePrintable, bytes-from_printable, join, line-from, word}
+use Rattle.ssh_review_json.proofs.WordLemmas.{code-printable}
+use Rattle.ssh_host_review.specs.Findings.{after_comma, finding_object, findings_end, findings_list}
+use Rattle.ssh_host_review.specs.Objects.{bare_object, empty_fields, entry_fields, entry_object, revoked_fields, revoked_object}
+use Rattle.ssh_host_review.proofs.ByteLemmas.{IsOfBytes, print-printable}
+use Rattle.ssh_host_review.proofs.TextLemmas.{detail-printable}
+
+-- ---- findings
+
+finding-printable : (f : HostFinding) → ArePrintable (finding_object f)
+finding-printable f = object-printable (code-printable (code_of f)) (detail-printable f)
+
+others-printable : (found : List HostFinding) → ArePrintable (flat_map after_comma found)
+others-printable [] = word [] refl
+others-printable (f ∷ found) = join (join (word (codes ",") refl) (finding-printable f)) (others-printable found)
+
+list-printable : (found : List HostFinding) → ArePrintable (findings_list found)
+list-printable [] = word [] refl
+list-printable (f ∷ found) = join (finding-printable f) (others-printable found)
+
+end-line : {a : List ℕ} (found : List HostFinding) → ArePrintable a → is_line (a ++ findings_end found) ≡ true
+end-line {a} found h =
+    let listed = join (word (codes ",\"findings\":[") refl) (list-printable found) in
+    rw (← append_assoc a (codes ",\"findings\":[" ++ findings_list found) (codes "]}\n")) (line-from (codes "]}\n") (join h listed) refl)
+
+-- ---- records
+
+fields-printable : (f : HostFacts) → IsOfBytes f → ArePrintable (entry_fields f)
+unfolding entry_fields
+fields-printable f h =
+    let key = key-printable f.kind f.bits f.fingerprint (bytes-from_printable h.fingerprint) in
+    join (join key (text-printable (codes "comment") f.comment refl h.comment)) (text-printable (codes "names") f.names refl h.names)
+
+pub entry-line : (name : List ℕ) (n : ℕ) (f : HostFacts) (found : List HostFinding) → AreBytes name → IsOfBytes f → is_line (entry_object name n f found) ≡ true
+unfolding entry_object
+entry-line name n f found h k =
+    end-line found (join (head-printable name n h (is-printable f.is_authority)) (fields-printable f k))
+
+empty-printable : ArePrintable empty_fields
+unfolding empty_fields
+empty-printable = record { all = refl }
+
+revoked-printable : (bytes : List ℕ) → ArePrintable (revoked_fields bytes)
+unfolding revoked_fields
+revoked-printable bytes =
+    let print = join (word (codes "SHA256:") refl) (print-printable bytes) in
+    join (join (null-printable (codes "type") refl) (null-printable (codes "bits") refl)) (said-printable (codes "key") refl print)
+
+pub revoked-line : (name : List ℕ) (n : ℕ) (bytes : List ℕ) (found : List HostFinding) → AreBytes name → is_line (revoked_object name n bytes found) ≡ true
+unfolding revoked_object
+revoked-line name n bytes found h =
+    let head = head-printable name n h (word (codes "revoked") refl) in
+    end-line found (join (join head (revoked-printable bytes)) empty-printable)
+
+pub bare-line : (name : List ℕ) (n : ℕ) (is : List ℕ) (held : Option HeldKey) (found : List HostFinding) → AreBytes name → are_printable is ≡ true → IsHeldOfBytes held
+    → is_line (bare_object name n is held found) ≡ true
+unfolding bare_object
+bare-line name n is held found h k p =
+    let head = head-printable name n h (word is k) in
+    end-line found (join (join head (held-printable held p)) empty-printable)

@@ -1,0 +1,84 @@
+-- The records of lines, as text, are of printable bytes and LFs.
+use Rattle.std.proofs.Common.{◌≡◌, ℕ, true, List, [], ◌∷◌, refl}
+use Rattle.std.specs.Prelude.{Option, codes}
+use Rattle.std.specs.List.{flat_map}
+use Rattle.ssh_print.specs.Texts.{word_line}
+use Rattle.ssh_findings.specs.Codes.{code_text}
+use Rattle.ssh_held_keys.specs.declared.held.HeldKey.{HeldKey}
+use Rattle.ssh_host_findings.specs.declared.facts.HostFacts.{HostFacts}
+use Rattle.ssh_host_findings.specs.declared.finding.HostFinding.{HostFinding}
+use Rattle.ssh_host_findings.specs.declared.finding.HostFinding.TheVariants as finding
+use Rattle.ssh_host_findings.specs.Findings.{code_of}
+use Rattle.ssh_review_json.specs.OneLine.{AreBytes, are_printable}
+use Rattle.ssh_review_json.proofs.PrintableLemmas.{ArePrintable, decimal-printable, escaped-printable, join, word}
+use Rattle.ssh_review_json.proofs.WordLemmas.{cause-printable, code-printable}
+use Rattle.ssh_review.specs.Records.{fingerprint_word}
+use Rattle.ssh_review.proofs.ShownLemmas.{AreShown, add, seen, show}
+use Rattle.ssh_review.proofs.TextLemmas.{IsHeldPrintable, comment-printable, finding-head-printable, held-printable, key-printable, place-printable, role-printable, short-printable, unreadable-printable}
+use Rattle.ssh_host_review.specs.Details.{detail_of}
+use Rattle.ssh_host_review.specs.Records.{bare_text, entry_head, entry_text, revoked_text}
+use Rattle.ssh_host_review.specs.Sentences.{finding_line, sentence_of}
+use Rattle.ssh_host_review.proofs.ByteLemmas.{IsOfBytes, print-printable}
+
+-- ---- findings
+
+pub detail-printable : (f : HostFinding) → ArePrintable (detail_of f)
+detail-printable (finding.Unreadable why) = cause-printable why
+detail-printable (finding.ShortKey bits) = decimal-printable bits
+detail-printable finding.MarkerTab = record { all = refl }
+detail-printable finding.BlindRevocation = record { all = refl }
+detail-printable (finding.OtherKey line) = decimal-printable line
+detail-printable (finding.TrustedAndRevoked line) = decimal-printable line
+detail-printable finding.PatternHosts = record { all = refl }
+detail-printable finding.EveryHost = record { all = refl }
+detail-printable finding.NamesInClear = record { all = refl }
+detail-printable (finding.SameHostKey line) = decimal-printable line
+
+sentence-printable : (f : HostFinding) → ArePrintable (sentence_of f)
+sentence-printable (finding.Unreadable why) = unreadable-printable why
+sentence-printable (finding.ShortKey bits) = short-printable bits
+sentence-printable finding.MarkerTab = record { all = refl }
+sentence-printable finding.BlindRevocation = record { all = refl }
+sentence-printable (finding.OtherKey line) = join (word (codes "another key of this type for a name of line ") refl) (decimal-printable line)
+sentence-printable (finding.TrustedAndRevoked line) = join (word (codes "its key is both trusted and revoked: see line ") refl) (decimal-printable line)
+sentence-printable finding.PatternHosts = record { all = refl }
+sentence-printable finding.EveryHost = record { all = refl }
+sentence-printable finding.NamesInClear = record { all = refl }
+sentence-printable (finding.SameHostKey line) = join (word (codes "the same host key stands on line ") refl) (decimal-printable line)
+
+finding-shown : (f : HostFinding) → AreShown (finding_line f)
+finding-shown f =
+    let head = finding-head-printable (code_text (code_of f)) (detail_of f) (code-printable (code_of f)) (detail-printable f) in
+    add (seen (join head (sentence-printable f))) (show (codes "\n") refl)
+
+findings-shown : (found : List HostFinding) → AreShown (flat_map finding_line found)
+findings-shown [] = show [] refl
+findings-shown (f ∷ found) = add (finding-shown f) (findings-shown found)
+
+-- ---- records
+
+head-shown : (f : HostFacts) → IsOfBytes f → AreShown (entry_head f)
+unfolding entry_head
+head-shown f h =
+    let key = join (role-printable f.is_authority) (key-printable f.kind f.bits f.fingerprint h.fingerprint) in
+    add (seen (join key (comment-printable f.comment h.comment))) (show (codes "\n") refl)
+
+pub entry-shown : (name : List ℕ) (n : ℕ) (f : HostFacts) (found : List HostFinding) → AreBytes name → IsOfBytes f → AreShown (entry_text name n f found)
+unfolding entry_text word_line
+entry-shown name n f found h k =
+    let names = add (seen (join (word (codes "    names ") refl) (escaped-printable f.names k.names))) (show (codes "\n") refl) in
+    add (add (add (seen (place-printable name n h)) (head-shown f k)) names) (findings-shown found)
+
+pub revoked-shown : (name : List ℕ) (n : ℕ) (bytes : List ℕ) (found : List HostFinding) → AreBytes name → AreShown (revoked_text name n bytes found)
+unfolding revoked_text fingerprint_word
+revoked-shown name n bytes found h =
+    let print = join (word (codes " SHA256:") refl) (print-printable bytes) in
+    let first = join (join (place-printable name n h) (word (codes "revoked") refl)) print in
+    add (add (seen first) (show (codes "\n") refl)) (findings-shown found)
+
+pub bare-shown : (name : List ℕ) (n : ℕ) (is : List ℕ) (held : Option HeldKey) (found : List HostFinding) → AreBytes name → are_printable is ≡ true → IsHeldPrintable held
+    → AreShown (bare_text name n is held found)
+unfolding bare_text
+bare-shown name n is held found h k p =
+    let key = join (join (place-printable name n h) (word is k)) (held-printable held p) in
+    add (add (seen key) (show (codes "\n") refl)) (findings-shown found)

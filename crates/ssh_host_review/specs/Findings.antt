@@ -1,0 +1,23 @@
+-- What is found of a known_hosts line, as JSON objects (this project's rule).
+use Rattle.std.specs.Prelude.{◌++◌, ◌∷◌, [], ℕ, List, codes}
+use Rattle.std.specs.List.{flat_map}
+use Rattle.ssh_findings.specs.Codes.{code_text}
+use Rattle.ssh_host_findings.specs.declared.finding.HostFinding.{HostFinding}
+use Rattle.ssh_host_findings.specs.Findings.{code_of}
+use Rattle.ssh_review_json.specs.Findings.{code_object}
+use Rattle.ssh_host_review.specs.Details.{detail_of}
+
+abbrev pub finding_object : HostFinding → List ℕ
+finding_object f = code_object (code_text (code_of f)) (detail_of f)
+
+abbrev pub after_comma : HostFinding → List ℕ
+after_comma f = 44 ∷ finding_object f
+
+-- the objects with commas between them
+abbrev pub findings_list : List HostFinding → List ℕ
+findings_list [] = []
+findings_list (f ∷ others) = finding_object f ++ flat_map after_comma others
+
+-- the last field of a record, and the end of its line
+abbrev pub findings_end : List HostFinding → List ℕ
+findings_end found = codes ",\"findings\":[" ++ findings_list found ++ codes "]}\n"

@@ -1,0 +1,29 @@
+-- The records of known_hosts lines in each form (this project's rule).
+use Rattle.std.specs.Prelude.{ℕ, List, Option, None, codes}
+use Rattle.ssh_host_findings.specs.declared.facts.HostFacts.{HostFacts}
+use Rattle.ssh_host_findings.specs.declared.finding.HostFinding.{HostFinding}
+use Rattle.ssh_held_keys.specs.declared.held.HeldKey.{HeldKey}
+use Rattle.ssh_review.specs.declared.form.Form.{Form}
+use Rattle.ssh_review.specs.declared.form.Form.TheVariants.{Text, Json}
+use Rattle.ssh_host_review.specs.Objects.{bare_object, entry_object, revoked_object}
+use Rattle.ssh_host_review.specs.Records.{bare_text, entry_text, revoked_text}
+
+-- the record of an entry
+abbrev pub entry_record : Form → List ℕ → ℕ → HostFacts → List HostFinding → List ℕ
+entry_record Text name n f found = entry_text name n f found
+entry_record Json name n f found = entry_object name n f found
+
+-- the record of a line that revokes these bytes
+abbrev pub revoked_record : Form → List ℕ → ℕ → List ℕ → List HostFinding → List ℕ
+revoked_record Text name n bytes found = revoked_text name n bytes found
+revoked_record Json name n bytes found = revoked_object name n bytes found
+
+-- the record of a line that may revoke any key and cannot be read
+abbrev pub blind_record : Form → List ℕ → ℕ → List HostFinding → List ℕ
+blind_record Text name n found = bare_text name n (codes "revocation-unreadable") None found
+blind_record Json name n found = bare_object name n (codes "revocation-unreadable") None found
+
+-- the record of a line that cannot be read, with the key that stands on it, if there is one
+abbrev pub unreadable_record : Form → List ℕ → ℕ → Option HeldKey → List HostFinding → List ℕ
+unreadable_record Text name n held found = bare_text name n (codes "unreadable") held found
+unreadable_record Json name n held found = bare_object name n (codes "unreadable") held found

@@ -1,0 +1,9 @@
+pub mod Details
+pub mod Sentences
+pub mod Findings
+pub mod Records
+pub mod Objects
+pub mod Forms
+pub mod Counting
+pub mod Lines
+pub mod Reviews

@@ -1,0 +1,66 @@
+-- The records of a known_hosts file's lines, and what they count.
+use Rattle.std.specs.Prelude.{◌++◌, ◌∷◌, [], ℕ, List, length}
+use Rattle.ssh_keys.specs.PublicKey.{key_blob}
+use Rattle.ssh_lines.specs.declared.known.KnownLine.{KnownLine}
+use Rattle.ssh_lines.specs.declared.known.KnownLine.TheVariants.{Blank, Comment, Entry, Revoked, RevokedUnreadable, Unreadable}
+use Rattle.ssh_lines.specs.KnownGrammar.{known_line}
+use Rattle.ssh_findings.specs.Asking.{Asking}
+use Rattle.ssh_host_findings.specs.declared.finding.HostFinding.{HostFinding}
+use Rattle.ssh_host_findings.specs.Earlier.{revoking, trusting}
+use Rattle.ssh_host_findings.specs.HostFacts.{host_facts_of}
+use Rattle.ssh_host_findings.specs.HostFindings.{blind_findings, host_entry_findings, revocation_findings, unreadable_host_findings}
+use Rattle.ssh_host_findings.specs.HostLines.{HostLine}
+use Rattle.ssh_review.specs.declared.counts.Counts.{Counts}
+use Rattle.ssh_review.specs.declared.form.Form.{Form}
+use Rattle.ssh_review.specs.Counting.{no_counts, plus}
+use Rattle.ssh_review.specs.Lines.{key_told}
+use Rattle.ssh_host_review.specs.Counting.{counts_with}
+use Rattle.ssh_host_review.specs.Forms.{blind_record, entry_record, revoked_record, unreadable_record}
+
+-- what is found of a line after these lines, and told
+abbrev pub line_findings : Asking → List HostLine → List ℕ → KnownLine → List HostFinding
+line_findings asking earlier line Blank = []
+line_findings asking earlier line Comment = []
+line_findings asking earlier line (Entry entry) = host_entry_findings asking earlier (key_blob entry.key) (host_facts_of line entry)
+line_findings asking earlier line (Revoked bytes) = revocation_findings asking earlier bytes
+line_findings asking earlier line RevokedUnreadable = blind_findings asking
+line_findings asking earlier line (Unreadable cause) = unreadable_host_findings asking cause
+
+-- The record of a line that says this, with its number. Blank lines and comments have none.
+abbrev pub line_record : Form → Asking → List ℕ → List HostLine → ℕ → List ℕ → KnownLine → List ℕ
+line_record form asking name earlier n line Blank = []
+line_record form asking name earlier n line Comment = []
+line_record form asking name earlier n line (Entry entry) =
+    entry_record form name n (host_facts_of line entry) (line_findings asking earlier line (Entry entry))
+line_record form asking name earlier n line (Revoked bytes) =
+    revoked_record form name n bytes (line_findings asking earlier line (Revoked bytes))
+line_record form asking name earlier n line RevokedUnreadable =
+    blind_record form name n (line_findings asking earlier line RevokedUnreadable)
+line_record form asking name earlier n line (Unreadable cause) =
+    unreadable_record form name n (key_told line) (line_findings asking earlier line (Unreadable cause))
+
+abbrev pub line_counts : Asking → List HostLine → List ℕ → KnownLine → Counts
+line_counts asking earlier line said = counts_with said (length (line_findings asking earlier line said))
+
+-- what later lines are told of a line
+abbrev pub kept_of : ℕ → List ℕ → KnownLine → List HostLine
+kept_of n line Blank = []
+kept_of n line Comment = []
+kept_of n line (Entry entry) = trusting n (key_blob entry.key) (host_facts_of line entry) ∷ []
+kept_of n line (Revoked bytes) = revoking n bytes ∷ []
+kept_of n line RevokedUnreadable = []
+kept_of n line (Unreadable cause) = []
+
+-- the records of lines, each with its number, after these lines
+abbrev pub records_of : Form → Asking → List ℕ → List HostLine → List (ℕ × List ℕ) → List ℕ
+records_of form asking name earlier [] = []
+records_of form asking name earlier (line ∷ lines) =
+    line_record form asking name earlier line.0 line.1 (known_line line.1)
+    ++ records_of form asking name (earlier ++ kept_of line.0 line.1 (known_line line.1)) lines
+
+-- what lines count
+abbrev pub counts_of : Asking → List HostLine → List (ℕ × List ℕ) → Counts
+counts_of asking earlier [] = no_counts
+counts_of asking earlier (line ∷ lines) =
+    plus (line_counts asking earlier line.1 (known_line line.1))
+    (counts_of asking (earlier ++ kept_of line.0 line.1 (known_line line.1)) lines)

@@ -1,0 +1,24 @@
+-- The review of a known_hosts file: what its lines say, and its end (this project's rule).
+use Rattle.std.specs.Prelude.{◌++◌, ℕ, nat_lt, List, [], length, None, if◌then◌else◌}
+use Rattle.sha2.specs.Sha256.{sha256}
+use Rattle.ssh_text.specs.Text.{file_limit, lines_of, numbered}
+use Rattle.ssh_findings.specs.Asking.{Asking}
+use Rattle.ssh_review.specs.declared.counts.FileFault.TheVariants.{TooLong}
+use Rattle.ssh_review.specs.declared.form.Form.{Form}
+use Rattle.ssh_review.specs.Forms.{end_line}
+use Rattle.ssh_review.specs.Reviews.{Review, fault_review}
+use Rattle.ssh_host_review.specs.Lines.{counts_of, records_of}
+
+-- the records of the lines of a file, and its end
+unfoldable pub whole_review : Form → Asking → List ℕ → List ℕ → Review
+whole_review form asking name file = record {
+  text = records_of form asking name [] (numbered 1 (lines_of file))
+      ++ end_line form name (counts_of asking [] (numbered 1 (lines_of file))) (sha256 file);
+  counts = counts_of asking [] (numbered 1 (lines_of file));
+  fault = None;
+}
+
+-- Of a file past the limit nothing but its end is told.
+abbrev pub known_review : Form → Asking → List ℕ → List ℕ → Review
+known_review form asking name file =
+    if nat_lt file_limit (length file) then fault_review form name TooLong else whole_review form asking name file

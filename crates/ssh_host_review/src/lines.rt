@@ -1,0 +1,222 @@
+//! The records of a file's lines.
+
+ghost use Rattle.std.specs.Prelude.{◌≡◌, ◌++◌, [], ◌≤◌, List, IfOk, OnOk, length};
+ghost use Rattle.ssh_lines.specs.declared.known.KnownLine.{KnownLine};
+ghost use Rattle.ssh_lines.specs.KnownSeen.{known_seen};
+ghost use Rattle.ssh_text.specs.Text.{file_limit, lines_of, numbered};
+ghost use Rattle.ssh_findings.specs.Asking.{asking_of};
+ghost use Rattle.ssh_host_findings.specs.HostLines.{HostLine};
+ghost use Rattle.ssh_host_findings.specs.StandsFor.{StandsFor};
+ghost use Rattle.ssh_host_review.specs.Lines.{
+  counts_of,
+  kept_of,
+  line_counts,
+  line_findings,
+  line_record,
+  records_of,
+};
+
+use crate::object::{push_bare_object, push_entry_object, push_revoked_object};
+use crate::record::{push_bare_text, push_entry_text, push_revoked_text};
+use ssh_findings::Asked;
+use ssh_held_keys::held_key;
+use ssh_host_findings::{
+    EarlierHosts, HostFacts, blind_findings, host_entry_findings, revocation_findings,
+    unreadable_host_findings,
+};
+use ssh_lines::{KeyBuffer, KnownEntryView, KnownLineView, read_known_view};
+use ssh_options::LineCause;
+use ssh_review::{Counts, Form};
+use ssh_review_json::Place;
+use ssh_text::Lines;
+use std::alloc::{AllocError, Global};
+
+/// The record of an entry, and what it counts. The entry is kept.
+fn push_entry_line(
+    alloc: Global,
+    form: Form,
+    asked: &Asked<'_>,
+    place: &Place<'_>,
+    line: &[u8],
+    entry: &KnownEntryView<'_>,
+    earlier: &mut EarlierHosts,
+    out: &mut Vec<u8>,
+) -> Result<Counts, AllocError>
+    ensures text { OnOk result ((lines : List HostLine) → StandsFor earlier.old lines
+        → out.new.items ≡ out.old.items ++ line_record form (asking_of asked.entry.now)
+        place.entry.now.name.now lines place.entry.now.number line.now (KnownLine.Entry entry.now)) }
+    ensures counts { IfOk result (λ counts. (lines : List HostLine) → StandsFor earlier.old lines
+        → counts ≡ line_counts (asking_of asked.entry.now) lines line.now (KnownLine.Entry entry.now)) }
+    ensures kept { OnOk result ((lines : List HostLine) → StandsFor earlier.old lines
+        → StandsFor earlier.new (lines ++ kept_of
+        place.entry.now.number line.now (KnownLine.Entry entry.now))) }
+{
+    let facts = HostFacts::read(alloc, line, entry)?;
+    let found = host_entry_findings(alloc, asked, earlier, entry.blob(), &facts)?;
+    match form {
+        Form::Text => push_entry_text(alloc, out, place, &facts, &found)?,
+        Form::Json => push_entry_object(alloc, out, place, &facts, &found)?,
+    }
+    earlier.keep_entry(alloc, place.number, entry.blob(), &facts)?;
+    Ok(Counts {
+        lines: 1,
+        keys: 1,
+        unreadable: 0,
+        findings: found.len() as u64,
+    })
+}
+
+/// The record of a line that revokes these bytes, and what it counts. The revocation is kept.
+fn push_revoked_line(
+    alloc: Global,
+    form: Form,
+    asked: &Asked<'_>,
+    place: &Place<'_>,
+    bytes: &[u8],
+    earlier: &mut EarlierHosts,
+    out: &mut Vec<u8>,
+) -> Result<Counts, AllocError>
+    ensures text { OnOk result ((lines : List HostLine) → StandsFor earlier.old lines
+        → out.new.items ≡ out.old.items ++ line_record form (asking_of asked.entry.now)
+        place.entry.now.name.now lines place.entry.now.number [] (KnownLine.Revoked bytes.now)) }
+    ensures counts { IfOk result (λ counts. (lines : List HostLine) → StandsFor earlier.old lines
+        → counts ≡ line_counts (asking_of asked.entry.now) lines [] (KnownLine.Revoked bytes.now)) }
+    ensures kept { OnOk result ((lines : List HostLine) → StandsFor earlier.old lines
+        → StandsFor earlier.new (lines ++ kept_of
+        place.entry.now.number [] (KnownLine.Revoked bytes.now))) }
+{
+    let found = revocation_findings(alloc, asked, earlier, bytes)?;
+    match form {
+        Form::Text => push_revoked_text(alloc, out, place, bytes, &found)?,
+        Form::Json => push_revoked_object(alloc, out, place, bytes, &found)?,
+    }
+    earlier.keep_revocation(alloc, place.number, bytes)?;
+    Ok(Counts {
+        lines: 1,
+        keys: 0,
+        unreadable: 0,
+        findings: found.len() as u64,
+    })
+}
+
+/// The record of a line that may revoke any key and cannot be read, and what it counts.
+fn push_blind_line(
+    alloc: Global,
+    form: Form,
+    asked: &Asked<'_>,
+    place: &Place<'_>,
+    out: &mut Vec<u8>,
+) -> Result<Counts, AllocError>
+    ensures text { OnOk result (out.new.items ≡ out.old.items ++ line_record form (asking_of asked.entry.now)
+        place.entry.now.name.now [] place.entry.now.number [] KnownLine.RevokedUnreadable) }
+    ensures counts { IfOk result (λ counts. counts ≡ line_counts (asking_of asked.entry.now)
+        [] [] KnownLine.RevokedUnreadable) }
+{
+    let found = blind_findings(alloc, asked)?;
+    match form {
+        Form::Text => push_bare_text(alloc, out, place, b"revocation-unreadable", None, &found)?,
+        Form::Json => push_bare_object(alloc, out, place, b"revocation-unreadable", None, &found)?,
+    }
+    Ok(Counts {
+        lines: 1,
+        keys: 0,
+        unreadable: 1,
+        findings: found.len() as u64,
+    })
+}
+
+/// The record of a line that cannot be read, and what it counts.
+fn push_unreadable_line(
+    alloc: Global,
+    form: Form,
+    asked: &Asked<'_>,
+    place: &Place<'_>,
+    line: &[u8],
+    cause: LineCause,
+    out: &mut Vec<u8>,
+) -> Result<Counts, AllocError>
+    ensures text { OnOk result (out.new.items ≡ out.old.items ++ line_record form (asking_of asked.entry.now)
+        place.entry.now.name.now [] place.entry.now.number line.now (KnownLine.Unreadable cause)) }
+    ensures counts { IfOk result (λ counts. counts ≡ line_counts (asking_of asked.entry.now)
+        [] line.now (KnownLine.Unreadable cause)) }
+{
+    let held = held_key(alloc, line)?;
+    let found = unreadable_host_findings(alloc, asked, cause)?;
+    match form {
+        Form::Text => push_bare_text(alloc, out, place, b"unreadable", held, &found)?,
+        Form::Json => push_bare_object(alloc, out, place, b"unreadable", held, &found)?,
+    }
+    Ok(Counts {
+        lines: 1,
+        keys: 0,
+        unreadable: 1,
+        findings: found.len() as u64,
+    })
+}
+
+/// The record of a line, if it has one, and what it counts.
+fn push_line(
+    alloc: Global,
+    form: Form,
+    asked: &Asked<'_>,
+    place: &Place<'_>,
+    line: &[u8],
+    view: &KnownLineView<'_>,
+    earlier: &mut EarlierHosts,
+    out: &mut Vec<u8>,
+) -> Result<Counts, AllocError>
+    ensures text { OnOk result ((lines : List HostLine) → StandsFor earlier.old lines
+        → out.new.items ≡ out.old.items ++ line_record form (asking_of asked.entry.now)
+        place.entry.now.name.now lines place.entry.now.number line.now (known_seen view.now)) }
+    ensures counts { IfOk result (λ counts. (lines : List HostLine) → StandsFor earlier.old lines
+        → counts ≡ line_counts (asking_of asked.entry.now) lines line.now (known_seen view.now)) }
+    ensures kept { OnOk result ((lines : List HostLine) → StandsFor earlier.old lines
+        → StandsFor earlier.new (lines ++ kept_of
+        place.entry.now.number line.now (known_seen view.now))) }
+{
+    match view {
+        KnownLineView::Blank | KnownLineView::Comment => Ok(Counts {
+            lines: 1,
+            keys: 0,
+            unreadable: 0,
+            findings: 0,
+        }),
+        KnownLineView::Entry(entry) => push_entry_line(
+            alloc, form, asked, place, line, entry, earlier, out,
+        ),
+        KnownLineView::Revoked(bytes) => {
+            push_revoked_line(alloc, form, asked, place, bytes, earlier, out)
+        }
+        KnownLineView::RevokedUnreadable => push_blind_line(alloc, form, asked, place, out),
+        KnownLineView::Unreadable(cause) => {
+            push_unreadable_line(alloc, form, asked, place, line, *cause, out)
+        }
+    }
+}
+
+/// The records of a file's lines, and what they count.
+pub(crate) fn push_lines(
+    alloc: Global,
+    form: Form,
+    asked: &Asked<'_>,
+    name: &[u8],
+    file: &[u8],
+    out: &mut Vec<u8>,
+) -> Result<Counts, AllocError>
+    requires { length file.now ≤ file_limit }
+    ensures text { OnOk result (out.new.items ≡ out.old.items
+        ++ records_of form (asking_of asked.entry.now) name.now [] (numbered 1 (lines_of file.now))) }
+    ensures counts { IfOk result (λ counts. counts
+        ≡ counts_of (asking_of asked.entry.now) [] (numbered 1 (lines_of file.now))) }
+{
+    let mut buffer = KeyBuffer::new(alloc)?;
+    let mut counts = Counts::NONE;
+    let mut earlier = EarlierHosts::new(alloc);
+    for (number, line) in Lines::new(file) {
+        let place = Place { name, number };
+        let view = read_known_view(line, &mut buffer);
+        let told = push_line(alloc, form, asked, &place, line, &view, &mut earlier, out)?;
+        counts = counts.plus(told);
+    }
+    Ok(counts)
+}

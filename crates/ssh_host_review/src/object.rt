@@ -1,0 +1,113 @@
+//! The record of a line, as a JSON object.
+
+ghost use Rattle.std.specs.Prelude.{◌≡◌, ◌++◌, OnOk};
+ghost use Rattle.ssh_host_review.specs.Objects.{
+  bare_object,
+  empty_fields,
+  entry_fields,
+  entry_object,
+  revoked_fields,
+  revoked_object,
+};
+
+use crate::finding::push_findings_end;
+use crate::print::print_of;
+use ssh_held_keys::HeldKey;
+use ssh_host_findings::{HostFacts, HostFinding};
+use ssh_review_json::{
+    Place, fingerprint_text, is_word, push_held_fields, push_key_fields, push_null_field,
+    push_object_head, push_text_field,
+};
+use std::alloc::{AllocError, Global};
+
+/// Which key, the comment, and the names as they stand.
+#[tactic(auto, unfolding(crate::specs::Objects::entry_fields))]
+fn push_entry_fields(alloc: Global, out: &mut Vec<u8>, facts: &HostFacts) -> Result<(), AllocError>
+    ensures { OnOk result (out.new.items ≡ out.old.items ++ entry_fields facts.now) }
+{
+    push_key_fields(alloc, out, facts.kind, facts.bits, &facts.fingerprint)?;
+    push_text_field(alloc, out, b"comment", facts.comment.as_slice())?;
+    push_text_field(alloc, out, b"names", facts.names.as_slice())?;
+    Ok(())
+}
+
+/// The record of an entry.
+#[tactic(auto, unfolding(crate::specs::Objects::entry_object))]
+pub(crate) fn push_entry_object(
+    alloc: Global,
+    out: &mut Vec<u8>,
+    place: &Place<'_>,
+    facts: &HostFacts,
+    found: &[HostFinding],
+) -> Result<(), AllocError>
+    ensures { OnOk result (out.new.items ≡ out.old.items
+        ++ entry_object place.entry.now.name.now place.entry.now.number facts.now found.now) }
+{
+    push_object_head(alloc, out, place, is_word(facts.is_authority))?;
+    push_entry_fields(alloc, out, facts)?;
+    push_findings_end(alloc, out, found)?;
+    Ok(())
+}
+
+/// The fields of an entry, where there is none.
+#[tactic(auto, unfolding(crate::specs::Objects::empty_fields))]
+fn push_empty_fields(out: &mut Vec<u8>) -> Result<(), AllocError>
+    ensures { OnOk result (out.new.items ≡ out.old.items ++ empty_fields) }
+{
+    push_null_field(out, b"comment")?;
+    push_null_field(out, b"names")?;
+    Ok(())
+}
+
+/// The fingerprint of what is revoked, and no type.
+#[tactic(auto, unfolding(crate::specs::Objects::revoked_fields))]
+fn push_revoked_fields(alloc: Global, out: &mut Vec<u8>, bytes: &[u8]) -> Result<(), AllocError>
+    ensures { OnOk result (out.new.items ≡ out.old.items ++ revoked_fields bytes.now) }
+{
+    let print = print_of(alloc, bytes)?;
+    let text = fingerprint_text(alloc, &print)?;
+    push_null_field(out, b"type")?;
+    push_null_field(out, b"bits")?;
+    push_text_field(alloc, out, b"key", &text)?;
+    Ok(())
+}
+
+/// The record of a line that revokes these bytes.
+#[tactic(auto, unfolding(crate::specs::Objects::revoked_object))]
+pub(crate) fn push_revoked_object(
+    alloc: Global,
+    out: &mut Vec<u8>,
+    place: &Place<'_>,
+    bytes: &[u8],
+    found: &[HostFinding],
+) -> Result<(), AllocError>
+    ensures { OnOk result (out.new.items ≡ out.old.items
+        ++ revoked_object place.entry.now.name.now place.entry.now.number bytes.now found.now) }
+{
+    push_object_head(alloc, out, place, b"revoked")?;
+    push_revoked_fields(alloc, out, bytes)?;
+    push_empty_fields(out)?;
+    push_findings_end(alloc, out, found)?;
+    Ok(())
+}
+
+/// The record of a line of which no more can be told than what it is and the key that stands on it,
+/// if there is one.
+#[tactic(auto, unfolding(crate::specs::Objects::bare_object))]
+pub(crate) fn push_bare_object(
+    alloc: Global,
+    out: &mut Vec<u8>,
+    place: &Place<'_>,
+    is: &[u8],
+    held: Option<HeldKey>,
+    found: &[HostFinding],
+) -> Result<(), AllocError>
+    ensures { OnOk result (out.new.items ≡ out.old.items
+        ++ bare_object place.entry.now.name.now place.entry.now.number is.now held found.now) }
+{
+    push_object_head(alloc, out, place, is)?;
+    push_held_fields(alloc, out, held)?;
+    push_empty_fields(out)?;
+    push_findings_end(alloc, out, found)?;
+    Ok(())
+}
