@@ -1,0 +1,5 @@
+mod ListLemmas
+mod RecordLemmas
+mod ListingLemmas
+mod SpelledLemmas
+mod HostListingLemmas

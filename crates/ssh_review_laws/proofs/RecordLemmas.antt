@@ -1,0 +1,58 @@
+-- The records of lines are those of the first lines and then those of the others; and a held entry is that of a line.
+use Rattle.std.proofs.Common.{◌≡◌, ◌∙◌, ◌++◌, ℕ, zero, suc, Bool, true, false, cond, List, [], ◌∷◌, Option, Some, None, ap, sym, refl}
+use Rattle.std.specs.Prelude.{find}
+use Rattle.std.specs.List.{flat_map, slice_get}
+use Rattle.std.proofs.lemmas.List.{append-nil, append_assoc}
+use Rattle.ssh_lines.specs.AuthEntry.{AuthEntry}
+use Rattle.ssh_lines.specs.AuthGrammar.{auth_line}
+use Rattle.ssh_lines.specs.declared.entry.AuthLine.{AuthLine}
+use Rattle.ssh_lines.specs.declared.entry.AuthLine.TheVariants.{Blank, Comment, Entry, Unreadable}
+use Rattle.ssh_findings.specs.Asking.{Asking}
+use Rattle.ssh_findings.specs.Earlier.{Held, held_entry}
+use Rattle.ssh_review.specs.declared.form.Form.{Form}
+use Rattle.ssh_review.specs.Lines.{held_of, line_record, records_of}
+use Rattle.ssh_review_laws.specs.Listing.{entries_of}
+
+pub records_after : (form : Form) (asking : Asking) (name : List ℕ) (earlier : List Held) (first rest : List (ℕ × List ℕ))
+    → records_of form asking name earlier (first ++ rest)
+    ≡ records_of form asking name earlier first ++ records_of form asking name (earlier ++ entries_of asking first) rest
+records_after form asking name earlier [] rest = ap (λ e. records_of form asking name e rest) (sym (append-nil earlier))
+records_after form asking name earlier (line ∷ first) rest =
+    let held = held_of asking (line.0, auth_line line.1) in
+    let told = line_record form asking name earlier line (auth_line line.1) in
+    ap (λ more. told ++ more) (records_after form asking name (earlier ++ held) first rest
+    ∙ ap (λ e. records_of form asking name (earlier ++ held) first ++ records_of form asking name e rest) (append_assoc earlier held (entries_of asking first)))
+    ∙ sym (append_assoc told (records_of form asking name (earlier ++ held) first) (records_of form asking name (earlier ++ (held ++ entries_of asking first)) rest))
+
+-- the entry of a line, which stands at this place among them
+pub record IsOfLine (asking : Asking) (lines : List (ℕ × List ℕ)) (d : Held) : Type 0 where
+  pub place : ℕ
+  pub line : ℕ × List ℕ
+  pub entry : AuthEntry
+  pub stands : slice_get lines place ≡ Some line
+  pub spells : auth_line line.1 ≡ Entry entry
+  pub is : d ≡ held_entry asking.zone line.0 entry
+
+later : (asking : Asking) (x : ℕ × List ℕ) (lines : List (ℕ × List ℕ)) (d : Held) → IsOfLine asking lines d → IsOfLine asking (x ∷ lines) d
+later asking x lines d h = record { place = suc h.place; line = h.line; entry = h.entry; stands = h.stands; spells = h.spells; is = h.is }
+
+here-or-later : (asking : Asking) (test : Held → Bool) (x : ℕ × List ℕ) (lines : List (ℕ × List ℕ)) (e : AuthEntry) (d : Held) (b : Bool)
+    → auth_line x.1 ≡ Entry e → cond b (Some (held_entry asking.zone x.0 e)) (find test (entries_of asking lines)) ≡ Some d
+    → (find test (entries_of asking lines) ≡ Some d → IsOfLine asking lines d) → IsOfLine asking (x ∷ lines) d
+here-or-later asking test x lines e d true spells h rest =
+    let same : held_entry asking.zone x.0 e ≡ d = cc in
+    record { place = zero; line = x; entry = e; stands = refl; spells = spells; is = sym same }
+here-or-later asking test x lines e d false spells h rest = later asking x lines d (rest h)
+
+by-line : (asking : Asking) (test : Held → Bool) (x : ℕ × List ℕ) (lines : List (ℕ × List ℕ)) (d : Held) (l : AuthLine) → auth_line x.1 ≡ l
+    → find test (held_of asking (x.0, l) ++ entries_of asking lines) ≡ Some d
+    → (find test (entries_of asking lines) ≡ Some d → IsOfLine asking lines d) → IsOfLine asking (x ∷ lines) d
+by-line asking test x lines d Blank is h rest = later asking x lines d (rest h)
+by-line asking test x lines d Comment is h rest = later asking x lines d (rest h)
+by-line asking test x lines d (Unreadable why) is h rest = later asking x lines d (rest h)
+by-line asking test x lines d (Entry e) is h rest = here-or-later asking test x lines e d (test (held_entry asking.zone x.0 e)) is h rest
+
+-- what is found among the entries of lines is the entry of one of them
+pub found_held : (asking : Asking) (test : Held → Bool) (lines : List (ℕ × List ℕ)) (d : Held) → find test (entries_of asking lines) ≡ Some d → IsOfLine asking lines d
+found_held asking test [] d h = cc
+found_held asking test (x ∷ lines) d h = by-line asking test x lines d (auth_line x.1) refl h (found_held asking test lines d)
