@@ -10,7 +10,7 @@ use Rattle.ssh_words.specs.WordsView.{FaultIs, Parses, request_in_memory}
 use Rattle.ssh_words.specs.declared.request.Request.{Request}
 use Rattle.ssh_words.specs.declared.request.WordsError.{WordsError}
 use Rattle.ssh_words.specs.declared.subcommand.Subcommand.{Subcommand}
-use Rattle.ssh_words.specs.declared.subcommand.Subcommand.TheVariants.{Show, Login, Host, Sshsig, Rewrite, Hash, Admits, Trusts, Explain}
+use Rattle.ssh_words.specs.declared.subcommand.Subcommand.TheVariants.{Show, Login, Host, Sshsig, Rewrite, Hash, Admits, Trusts, Review, Explain}
 use Rattle.ssh_words.specs.declared.request.WordsError.TheVariants.{Usage, Memory}
 use Rattle.clap.specs.Faults.{fault_of, is_simple_and_free}
 use Rattle.clap.specs.declared.error.ErrorKind.{ErrorKind}
@@ -28,6 +28,7 @@ plain_subcommand Rewrite = refl
 plain_subcommand Hash = refl
 plain_subcommand Admits = refl
 plain_subcommand Trusts = refl
+plain_subcommand Review = refl
 plain_subcommand Explain = refl
 
 pub is_plain : is_simple_and_free command_line ≡ true

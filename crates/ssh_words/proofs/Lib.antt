@@ -1,3 +1,4 @@
 mod PlainCommand
 pub mod CommandLineLemmas
 mod SubcommandLemmas
+pub mod AnsweredLemmas

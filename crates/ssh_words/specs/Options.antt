@@ -7,7 +7,7 @@ use Rattle.ssh_words.specs.declared.options.Needed.TheVariants.{Required, Option
 use Rattle.ssh_words.specs.declared.options.OptionName.{OptionName}
 use Rattle.ssh_words.specs.declared.options.OptionName.TheVariants as option
 use Rattle.ssh_words.specs.declared.subcommand.Subcommand.{Subcommand}
-use Rattle.ssh_words.specs.declared.subcommand.Subcommand.TheVariants.{Show, Login, Host, Sshsig, Rewrite, Hash, Admits, Trusts, Explain}
+use Rattle.ssh_words.specs.declared.subcommand.Subcommand.TheVariants.{Show, Login, Host, Sshsig, Rewrite, Hash, Admits, Trusts, Review, Explain}
 
 -- ---- options
 
@@ -33,6 +33,8 @@ option_name option.Message = codes "message"
 option_name option.Namespace = codes "namespace"
 option_name option.Salts = codes "salts"
 option_name option.Key = codes "key"
+option_name option.Findings = codes "findings"
+option_name option.Form = codes "form"
 
 abbrev pub is_required : Needed → Bool
 is_required Required = true
@@ -41,7 +43,7 @@ is_required Optional = false
 -- ---- subcommands
 
 abbrev pub subcommands : List Subcommand
-subcommands = Show ∷ Login ∷ Host ∷ Sshsig ∷ Rewrite ∷ Hash ∷ Admits ∷ Trusts ∷ Explain ∷ []
+subcommands = Show ∷ Login ∷ Host ∷ Sshsig ∷ Rewrite ∷ Hash ∷ Admits ∷ Trusts ∷ Review ∷ Explain ∷ []
 
 abbrev pub subcommand_name : Subcommand → Text
 subcommand_name Show = codes "show"
@@ -52,6 +54,7 @@ subcommand_name Rewrite = codes "rewrite"
 subcommand_name Hash = codes "hash"
 subcommand_name Admits = codes "admits"
 subcommand_name Trusts = codes "trusts"
+subcommand_name Review = codes "review"
 subcommand_name Explain = codes "explain"
 
 -- the subcommand of a name, if there is one
@@ -75,12 +78,15 @@ options_of Admits = (option.Key, Required) ∷ (option.User, Required) ∷ (opti
     ∷ (option.Host, Optional) ∷ (option.Zone, Optional) ∷ (option.EmptyPrincipals, Optional) ∷ (option.RsaMinimum, Optional) ∷ []
 options_of Trusts = (option.Key, Required) ∷ (option.Host, Required) ∷ (option.Now, Required) ∷ (option.Port, Optional)
     ∷ (option.EmptyPrincipals, Optional) ∷ (option.RsaMinimum, Optional) ∷ []
+options_of Review = (option.Kind, Required) ∷ (option.Now, Required) ∷ (option.Zone, Optional) ∷ (option.RsaMinimum, Optional)
+    ∷ (option.Findings, Optional) ∷ (option.Form, Optional) ∷ []
 options_of Explain = []
 
 -- whether words without a dash are names, of files or of codes, and whether one has to be there at least
 abbrev pub names_of : Subcommand → Option Needed
 names_of Admits = Some Required
 names_of Trusts = Some Required
+names_of Review = Some Required
 names_of Explain = Some Optional
 names_of c = None
 

@@ -1,12 +1,13 @@
 -- Worked words, as the definitions read them (this project's rules).
-use Rattle.std.specs.Prelude.{◌≡◌, ◌++◌, List, [], ◌∷◌, codes, Option, Some, None, map, option_and_then, option_map, refl}
+use Rattle.std.specs.Prelude.{◌≡◌, ◌++◌, true, false, List, [], ◌∷◌, codes, Option, Some, None, map, option_and_then, option_map, refl}
 use Rattle.clap.proofs.OnLiterals.{clap_on_literals}
 use Rattle.clap.specs.Words.{Text}
 use Rattle.ssh_words.specs.declared.subcommand.Subcommand.{Subcommand}
-use Rattle.ssh_words.specs.declared.subcommand.Subcommand.TheVariants.{Show, Login, Host, Sshsig, Rewrite, Hash, Admits, Trusts, Explain}
+use Rattle.ssh_words.specs.declared.subcommand.Subcommand.TheVariants.{Show, Login, Host, Sshsig, Rewrite, Hash, Admits, Trusts, Review, Explain}
 use Rattle.ssh_words.specs.CommandLine.{request_of, subcommand_app}
 use Rattle.ssh_words.specs.Options.{options_of}
 use Rattle.ssh_words.specs.Spelling.{given, names_given}
+use Rattle.ssh_words.specs.Usage.{asks_usage, usage_line}
 
 -- the subcommand that words ask for, and what they give to each of its options, in the order of the table
 abbrev asked : List Text → Option (Subcommand × List (Option Text))
@@ -91,6 +92,18 @@ pub keys_asked : KeysAsked
 unfolding subcommand_app clap_on_literals
 keys_asked = (refl, refl, refl, refl, refl, refl)
 
+-- files are reviewed, of which one has to be there
+abbrev pub ReviewsAsked : Type 0
+ReviewsAsked = (asked (codes "review" ∷ codes "--kind" ∷ codes "auth" ∷ codes "a" ∷ codes "--now" ∷ codes "n" ∷ codes "--form" ∷ codes "json" ∷ [])
+    ≡ Some (Review, Some (codes "auth") ∷ Some (codes "n") ∷ None ∷ None ∷ None ∷ Some (codes "json") ∷ []))
+    × (names_asked (codes "review" ∷ codes "--kind" ∷ codes "auth" ∷ codes "--now" ∷ codes "n" ∷ codes "a" ∷ codes "--findings" ∷ codes "F1" ∷ codes "b" ∷ [])
+    ≡ Some (codes "a" ∷ codes "b" ∷ []))
+    × (request_of (codes "review" ∷ codes "--kind" ∷ codes "auth" ∷ codes "--now" ∷ codes "n" ∷ []) ≡ None)
+
+pub reviews_asked : ReviewsAsked
+unfolding subcommand_app clap_on_literals
+reviews_asked = (refl, refl, refl)
+
 -- no command, one that is none, an option that is missing, has no value, or is of another command
 abbrev pub WordsRefused : Type 0
 WordsRefused = (request_of [] ≡ None)
@@ -103,3 +116,16 @@ WordsRefused = (request_of [] ≡ None)
 pub words_refused : WordsRefused
 unfolding subcommand_app clap_on_literals
 words_refused = (refl, refl, refl, refl, refl, refl)
+
+-- how the program is called: options that have to be given, some that may be left out, and names of both kinds
+abbrev pub UsageTold : Type 0
+UsageTold = (usage_line Show ≡ codes "ssh_audit show --kind VALUE --file VALUE\n")
+    × (usage_line Trusts
+    ≡ codes "ssh_audit trusts --key VALUE --host VALUE --now VALUE [--port VALUE] [--empty-principals VALUE] [--rsa-minimum VALUE] NAME..\n")
+    × (usage_line Explain ≡ codes "ssh_audit explain [NAME..]\n")
+    × (asks_usage (codes "G8" ∷ codes "usage" ∷ []) ≡ true)
+    × (asks_usage (codes "usages" ∷ codes "USAGE" ∷ []) ≡ false)
+
+pub usage_told : UsageTold
+unfolding usage_line
+usage_told = (refl, refl, refl, refl, refl)

@@ -1,10 +1,11 @@
 -- What the options of a subcommand spell.
-use Rattle.std.specs.Prelude.{◌≡◌, ℕ, List, Option, Some, None, Result, Ok, Err}
+use Rattle.std.specs.Prelude.{◌≡◌, ℕ, Bool, false, List, Option, Some, None, Result, Ok, Err}
 use Rattle.std.specs.Option.{ok_or}
 use Rattle.clap.specs.Words.{Row, Text, all_of, first_of}
 use Rattle.ssh_wire.specs.Reading.{◌>>=◌}
 use Rattle.ssh_inputs.specs.SourceState.{SourceState}
 use Rattle.ssh_inputs.specs.Loading.{NoReadFailed}
+use Rattle.ssh_inputs.specs.Values.{has_pairs}
 use Rattle.ssh_print.specs.Responses.{Response, usage_response, value_response}
 use Rattle.ssh_words.specs.declared.error.CommandError.{CommandError}
 use Rattle.ssh_words.specs.declared.error.CommandError.TheVariants.{Usage, Value, Memory}
@@ -29,6 +30,11 @@ names_given rows = all_of names_id rows
 
 abbrev pub names_needed : List Row → Result (List Text) Response
 names_needed rows = ok_or (names_given rows) usage_response
+
+-- whether the text of an option, where it is given, has pairs of digits
+abbrev pub pairs_given : Option Text → Bool
+pairs_given None = false
+pairs_given (Some text) = has_pairs text
 
 -- ---- values
 

@@ -1,5 +1,6 @@
 //! What words ask for: the table of subcommands and options, the command line that is made of it, the
-//! request that words spell, the values of its options, and the faults of these.
+//! request that words spell, the values of its options, the faults of these, and how the program is
+//! called.
 #![tactic(auto)]
 
 mod asked;
@@ -10,6 +11,7 @@ mod parsing;
 mod request;
 mod samples;
 mod subcommand;
+mod usage;
 mod words;
 
 pub use asked::{AuditFiles, SshsigQuestion};
@@ -18,4 +20,5 @@ pub use options::{Needed, OptionName};
 pub use parsing::parse;
 pub use request::{Request, WordsError};
 pub use subcommand::{OptionRow, Subcommand};
+pub use usage::{asks_usage, usage_lines};
 pub use words::Words;

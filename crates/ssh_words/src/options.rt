@@ -31,6 +31,8 @@ pub enum OptionName {
     Namespace,
     Salts,
     Key,
+    Findings,
+    Form,
 }
 
 impl OptionName {
@@ -60,6 +62,8 @@ impl OptionName {
             OptionName::Namespace => "namespace",
             OptionName::Salts => "salts",
             OptionName::Key => "key",
+            OptionName::Findings => "findings",
+            OptionName::Form => "form",
         }
     }
 

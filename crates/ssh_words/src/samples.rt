@@ -5,14 +5,18 @@ ghost use Rattle.ssh_words.specs.Samples.{
   KeysAsked,
   LoginsAsked,
   OthersAsked,
+  ReviewsAsked,
+  UsageTold,
   WordsRefused,
 };
 
-/// What words ask for: a subcommand with its options, or nothing.
+/// What words ask for: a subcommand with its options, or nothing; and how the program is called.
 fn words_as_asked()
     ensures logins { LoginsAsked }
     ensures hosts { HostsAsked }
     ensures keys { KeysAsked }
     ensures others { OthersAsked }
+    ensures reviews { ReviewsAsked }
     ensures refused { WordsRefused }
+    ensures usage { UsageTold }
 {}

@@ -23,13 +23,14 @@ pub enum Subcommand {
     Hash,
     Admits,
     Trusts,
+    Review,
     Explain,
 }
 
 /// A row of the options of a subcommand.
 pub type OptionRow = (OptionName, Needed);
 
-const SUBCOMMANDS: [Subcommand; 9] = [
+const SUBCOMMANDS: [Subcommand; 10] = [
     Subcommand::Show,
     Subcommand::Login,
     Subcommand::Host,
@@ -38,6 +39,7 @@ const SUBCOMMANDS: [Subcommand; 9] = [
     Subcommand::Hash,
     Subcommand::Admits,
     Subcommand::Trusts,
+    Subcommand::Review,
     Subcommand::Explain,
 ];
 
@@ -103,6 +105,15 @@ const TRUSTS: [OptionRow; 6] = [
     (OptionName::RsaMinimum, Optional),
 ];
 
+const REVIEW: [OptionRow; 6] = [
+    (OptionName::Kind, Required),
+    (OptionName::Now, Required),
+    (OptionName::Zone, Optional),
+    (OptionName::RsaMinimum, Optional),
+    (OptionName::Findings, Optional),
+    (OptionName::Form, Optional),
+];
+
 impl Subcommand {
     /// Every subcommand.
     pub fn all() -> &'static [Subcommand]
@@ -124,6 +135,7 @@ impl Subcommand {
             Subcommand::Hash => "hash",
             Subcommand::Admits => "admits",
             Subcommand::Trusts => "trusts",
+            Subcommand::Review => "review",
             Subcommand::Explain => "explain",
         }
     }
@@ -151,6 +163,7 @@ impl Subcommand {
             Subcommand::Hash => &HASH,
             Subcommand::Admits => &ADMITS,
             Subcommand::Trusts => &TRUSTS,
+            Subcommand::Review => &REVIEW,
             Subcommand::Explain => &[],
         }
     }
@@ -161,7 +174,7 @@ impl Subcommand {
         ensures { result ≡ names_of self }
     {
         match self {
-            Subcommand::Admits | Subcommand::Trusts => Some(Required),
+            Subcommand::Admits | Subcommand::Trusts | Subcommand::Review => Some(Required),
             Subcommand::Explain => Some(Optional),
             _ => None,
         }

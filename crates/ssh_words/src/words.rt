@@ -1,6 +1,17 @@
 //! The values that words give to the options of a subcommand.
 
-ghost use Rattle.std.specs.Prelude.{◌≡◌, ◌<◌, ◌^◌, length, map, option_map, IfOk};
+ghost use Rattle.std.specs.Prelude.{
+  ◌≡◌,
+  ◌≢◌,
+  ◌<◌,
+  ◌^◌,
+  false,
+  length,
+  map,
+  option_map,
+  IfOk,
+  None,
+};
 ghost use Rattle.base64.specs.Engines.{standard};
 ghost use Rattle.base64.specs.GeneralPurpose.{decoded_of};
 ghost use Rattle.ssh_words.specs.AskedView.{names_of, question_of};
@@ -10,6 +21,7 @@ ghost use Rattle.ssh_words.specs.Spelling.{
   names_given,
   names_needed,
   needed,
+  pairs_given,
   sshsig_question,
   usual_port,
   value,
@@ -24,6 +36,7 @@ ghost use Rattle.ssh_inputs.specs.Values.{
   short_hex,
 };
 ghost use Rattle.ssh_offers.specs.declared.query.EmptyPrincipals.TheVariants.{Any};
+ghost use Rattle.ssh_words.specs.declared.error.CommandError.TheVariants.{Memory};
 ghost use Rattle.ssh_words.specs.declared.options.OptionName.TheVariants as option;
 
 use crate::asked::{AuditFiles, SshsigQuestion};
@@ -83,19 +96,24 @@ impl<'a> Words<'a> {
 
     /// The bytes that the text is the base64 of.
     pub fn base64(&self, alloc: Global, option: OptionName) -> Result<Vec<u8>, CommandError>
-        ensures { Spells (λ v. v.items) (value (decoded_of standard) option (rows_in self.now))
-            result }
+        ensures value { Spells (λ v. v.items) (value (decoded_of standard) option
+            (rows_in self.now)) result }
+        // An option that is not given takes no memory.
+        ensures spare { given option (rows_in self.now) ≡ None → result ≢ Err Memory }
     {
-        let text = self.needed(option)?;
+        let text = self.given(option).ok_or(CommandError::Usage)?;
         let bytes = decode(alloc, text.as_bytes())?;
         option.or_fault(bytes)
     }
 
     /// The bytes that the text spells in hexadecimal.
     pub fn hex(&self, alloc: Global, option: OptionName) -> Result<Vec<u8>, CommandError>
-        ensures { Spells (λ v. v.items) (value hex_bytes option (rows_in self.now)) result }
+        ensures value { Spells (λ v. v.items) (value hex_bytes option (rows_in self.now)) result }
+        // Only pairs of digits take memory.
+        ensures spare { pairs_given (given option (rows_in self.now)) ≡ false
+            → result ≢ Err Memory }
     {
-        let text = self.needed(option)?;
+        let text = self.given(option).ok_or(CommandError::Usage)?;
         let bytes = read_hex(alloc, text.as_bytes())?;
         option.or_fault(bytes)
     }
@@ -105,8 +123,10 @@ impl<'a> Words<'a> {
     pub fn short_hex(&self, alloc: Global, option: OptionName) -> Result<Vec<u8>, CommandError>
         ensures value { Spells (λ v. v.items) (value short_hex option (rows_in self.now)) result }
         ensures short { IfOk result (λ v. length v.items < 2 ^ 32) }
+        ensures spare { pairs_given (given option (rows_in self.now)) ≡ false
+            → result ≢ Err Memory }
     {
-        let text = self.needed(option)?;
+        let text = self.given(option).ok_or(CommandError::Usage)?;
         let bytes = read_short_hex(alloc, text.as_bytes())?;
         option.or_fault(bytes)
     }

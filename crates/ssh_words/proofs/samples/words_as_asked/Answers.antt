@@ -1,4 +1,4 @@
-use Rattle.ssh_words.specs.Samples.{hosts_asked, keys_asked, logins_asked, others_asked, words_refused}
+use Rattle.ssh_words.specs.Samples.{hosts_asked, keys_asked, logins_asked, others_asked, reviews_asked, usage_told, words_refused}
 use Rattle.ssh_words.proofs.samples.words_as_asked.Goals as goal
 
 pub returns : goal.returns
@@ -7,5 +7,7 @@ returns c = record {
   hosts = hosts_asked;
   keys = keys_asked;
   others = others_asked;
+  reviews = reviews_asked;
   refused = words_refused;
+  usage = usage_told;
 }
