@@ -1,0 +1,62 @@
+-- The reviews of files, one after the other (this project's rule).
+use Rattle.std.specs.Prelude.{◌≡◌, ◌++◌, ℕ, List, [], Option, Some, None}
+use Rattle.ssh_findings.specs.Asking.{Asking}
+use Rattle.ssh_inputs.specs.FilesInTurn.{Telling, TellsFiles}
+use Rattle.ssh_inputs.specs.SourceState.{SourceState}
+use Rattle.ssh_inputs.specs.declared.read.ReadError.{ReadError}
+use Rattle.ssh_inputs.specs.declared.read.ReadError.TheVariants as read
+use Rattle.ssh_print.specs.Responses.{Response}
+use Rattle.ssh_review.specs.declared.counts.FileFault.TheVariants.{TooLong, Unread}
+use Rattle.ssh_review.specs.declared.counts.Total.{Total}
+use Rattle.ssh_review.specs.declared.form.Form.{Form}
+use Rattle.ssh_review.specs.Forms.{total_line}
+use Rattle.ssh_review.specs.Reviews.{Review, auth_review, fault_review}
+use Rattle.ssh_host_review.specs.Reviews.{known_review}
+use Rattle.ssh_review_files.specs.declared.asking.ReviewKind.{ReviewKind}
+use Rattle.ssh_review_files.specs.declared.asking.ReviewKind.TheVariants.{Auth, Known}
+use Rattle.ssh_review_files.specs.declared.files.Told.{Told}
+use Rattle.ssh_review_files.specs.Totals.{nothing, status_of, with_review}
+
+-- lines, and what the files that they tell of come to
+pub record Lines : Type 0 where
+  pub total : Total
+  pub text : List ℕ
+
+abbrev pub told_seen : Told → Lines
+told_seen t = record { total = t.total; text = t.text.items }
+
+abbrev pub nothing_told : Lines
+nothing_told = record { total = nothing; text = [] }
+
+-- what is told so far, with the review of one more file
+abbrev pub with_file : Lines → Review → Lines
+with_file sofar r = record { total = with_review sofar.total r; text = sofar.text ++ r.text }
+
+-- the review of a file of this kind, name and bytes
+abbrev pub review_of : ReviewKind → Form → Asking → List ℕ → List ℕ → Review
+review_of Auth form asking name file = auth_review form asking name file
+review_of Known form asking name file = known_review form asking name file
+
+-- the same of the file of this name; one that is not there has the fault A9
+abbrev pub review_over : ReviewKind → Form → Asking → List ℕ → Option (List ℕ) → Review
+review_over kind form asking name None = fault_review form name Unread
+review_over kind form asking name (Some file) = review_of kind form asking name file
+
+-- the review of a file of this name that gives no bytes, where memory was not refused
+abbrev pub IsUnread : Form → List ℕ → ReadError → Review → Type 0
+IsUnread form name read.Memory r = ⊥
+IsUnread form name read.TooLong r = r ≡ fault_review form name TooLong
+IsUnread form name read.Missing r = r ≡ fault_review form name Unread
+IsUnread form name read.Failed r = r ≡ fault_review form name Unread
+
+-- one of which a read fails has the fault A9 too
+abbrev pub telling : ReviewKind → Form → Asking → Telling Review
+telling kind form asking = record { of_bytes = review_over kind form asking; of_fault = λ name. fault_review form name Unread }
+
+-- the reviews, and the line of what all come to
+abbrev pub told_response : Form → Lines → Response
+told_response form told = record { status = status_of told.total; text = told.text ++ total_line form told.total }
+
+abbrev pub ReviewsFiles : ReviewKind → Form → Asking → List (List ℕ) → SourceState → Option SourceState → Response → Type 0
+ReviewsFiles kind form asking names s t r =
+    (told : Lines) × TellsFiles with_file (telling kind form asking) nothing_told names s t told × (r ≡ told_response form told)

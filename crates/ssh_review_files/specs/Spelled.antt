@@ -1,0 +1,66 @@
+-- What is answered to the options of `review` (this project's rule).
+use Rattle.std.specs.Prelude.{◌^◌, ℕ, List, Option, Some, None, Result, Ok, codes, if◌then◌else◌}
+use Rattle.std.specs.Str.{bytes_eq}
+use Rattle.clap.specs.Words.{Row}
+use Rattle.jiff.specs.Types.{TimeZone}
+use Rattle.ssh_findings.specs.Asking.{Asking}
+use Rattle.ssh_findings.specs.Codes.{codes_in, default_codes}
+use Rattle.ssh_inputs.specs.SourceState.{SourceState}
+use Rattle.ssh_inputs.specs.Values.{ReadsZone, number_below, zone_text}
+use Rattle.ssh_print.specs.Responses.{Response}
+use Rattle.ssh_review.specs.declared.form.Form.{Form}
+use Rattle.ssh_review.specs.declared.form.Form.TheVariants.{Json, Text}
+use Rattle.ssh_review_files.specs.declared.asking.ReviewKind.{ReviewKind}
+use Rattle.ssh_review_files.specs.declared.asking.ReviewKind.TheVariants.{Auth, Known}
+use Rattle.ssh_review_files.specs.FileReviews.{ReviewsFiles}
+use Rattle.ssh_wire.specs.Reading.{◌>>=◌}
+use Rattle.ssh_words.specs.declared.options.OptionName.TheVariants as option
+use Rattle.ssh_words.specs.Spelling.{RespondsTo, given, names_needed, or_fault, value, value_or}
+
+-- the kind of trust files that a word names
+abbrev pub kind_of : List ℕ → Option ReviewKind
+kind_of word =
+    if bytes_eq word (codes "auth") then Some Auth
+    else if bytes_eq word (codes "known") then Some Known
+    else None
+
+-- how many bits an RSA key has to have, where nothing is said (NIST SP 800-131A)
+abbrev pub usual_minimum : ℕ
+usual_minimum = 2048
+
+-- the form that a word names
+abbrev pub form_of : List ℕ → Option Form
+form_of word =
+    if bytes_eq word (codes "text") then Some Text
+    else if bytes_eq word (codes "json") then Some Json
+    else None
+
+-- the kind of the files, what a review is asked for, its form, and the names
+pub record ReviewAsked : Type 0 where
+  pub kind : ReviewKind
+  pub form : Form
+  pub asking : Asking
+  pub names : List (List ℕ)
+
+unfoldable pub review_spelled : List Row → Option TimeZone → Result ReviewAsked Response
+review_spelled rows zone = do
+  kind ← value kind_of option.Kind rows
+  now ← value (number_below (2 ^ 64)) option.Now rows
+  zone ← or_fault option.Zone zone
+  rsa_minimum ← value_or usual_minimum (number_below (2 ^ 32)) option.RsaMinimum rows
+  told ← value_or default_codes codes_in option.Findings rows
+  form ← value_or Text form_of option.Form rows
+  names ← names_needed rows
+  Ok (record {
+    kind = kind;
+    form = form;
+    asking = record { now = now; zone = zone; rsa_minimum = rsa_minimum; told = told };
+    names = names;
+  })
+
+abbrev pub ReviewsInZone : List Row → Option TimeZone → SourceState → Option SourceState → Response → Type 0
+ReviewsInZone rows zone = RespondsTo (λ q. ReviewsFiles q.kind q.form q.asking q.names) (review_spelled rows zone)
+
+-- the same in the zone of the option's text
+abbrev pub RespondsToReview : List Row → SourceState → Option SourceState → Response → Type 0
+RespondsToReview rows s t r = (zone : Option TimeZone) × ReadsZone (zone_text (given option.Zone rows)) zone × ReviewsInZone rows zone s t r
