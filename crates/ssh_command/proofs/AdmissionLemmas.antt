@@ -1,7 +1,6 @@
 -- From what a trust file decides to what a list of them tells, and from that to what is answered about a key.
 use Rattle.std.proofs.Common.{◌≡◌, ◌∙◌, ◌<◌, ℕ, Bool, true, false, List, [], ◌∷◌, Option, Some, None, Result, Ok, Err, refl, sym, ap, subst, inl, inr}
 use Rattle.std.specs.Prelude.{IfOk}
-use Rattle.std.proofs.lemmas.List.{append-nil, append_assoc}
 use Rattle.ssh_inputs.specs.SourceState.{Chosen, ChoosesKnown, IfTells, SourceState, bytes_at, choosing, dash, left_of, left_with, most_failures, named_file, nothing, open_file, standard_input}
 use Rattle.std.specs.Str.{bytes_eq}
 use Rattle.ssh_inputs.specs.Parts.{after_whole}
@@ -20,14 +19,13 @@ use Rattle.ssh_show.specs.Offering.{Offered, offer_in}
 use Rattle.ssh_show.specs.Showing.{IsFaultOfShow, show_fault_response}
 use Rattle.ssh_show.specs.ShownLines.{Finds}
 use Rattle.ssh_admission.specs.declared.text.Party.{Party}
-use Rattle.ssh_command.specs.Admissions.{Asking, AsksBy, AsksFiles, AsksKey, AsksOffer, TellsFile, TellsFiles, Told, and_then, both, nothing_told, offer_or_fault, or_shown_fault, told_of, told_response}
-use Rattle.ssh_command.specs.declared.admission.Outcome.{Outcome}
-use Rattle.ssh_command.specs.declared.admission.Outcome.TheVariants.{Denies, Grants, Faulty}
+use Rattle.ssh_inputs.specs.FilesInTurn.{TellsFile, TellsFiles}
+use Rattle.ssh_command.specs.Admissions.{Asking, AsksBy, AsksFiles, AsksKey, AsksOffer, Told, both, nothing_told, offer_or_fault, or_shown_fault, telling, told_of, told_response}
 use Rattle.ssh_command.specs.Audits.{Deciding}
 use Rattle.ssh_command.specs.ChosenReads.{FailsOn, ReadsOn}
 use Rattle.ssh_command.specs.Responding.{AnswersFile, IsFaultOf, is_memory}
 use Rattle.ssh_command.proofs.ChosenLemmas.{either_way}
-use Rattle.ssh_command.proofs.SourceLemmas.{Alike, file-alike, left-none, none-failed, one-failed, over_limit}
+use Rattle.ssh_inputs.proofs.SourceLemmas.{Alike, file-alike, keeps-same, left-none, none-failed, one-failed, over_limit}
 
 -- ---- what reads of one file leave of the others
 
@@ -86,77 +84,16 @@ others_kept name (Some s) p q t result chosen same failed unfailed = λ counts.
 
 tells-by : (who : Party) (by : Deciding) (evidence : List Signed) (name : List ℕ) (s : SourceState) (t : Option SourceState) (answer : Result Decision AuditError) (told : Told)
     → is_memory answer ≡ false → told ≡ told_of who name answer → KeepsOthers name s t → AnswersFile by evidence name (bytes_at s name) s t answer
-    → TellsFile who by evidence name s t told
+    → TellsFile (telling who by evidence) name s t told
 tells-by who by evidence name s t answer told spared is keeps (inl e) = (let bad : true ≡ false = ap is_memory (sym e) ∙ spared in cc)
 tells-by who by evidence name s t answer told spared is keeps (inr (inl (offered, failed, e))) = (keeps, inl (failed, is ∙ ap (told_of who name) e))
 tells-by who by evidence name s t answer told spared is keeps (inr (inr (none, e))) = (keeps, inr (none, is ∙ ap (told_of who name) e))
 
 pub file_told : (who : Party) (by : Deciding) (evidence : List Signed) (name : List ℕ) (o t : Option SourceState) (answer : Result Decision AuditError) (told : Told)
     → is_memory answer ≡ false → told ≡ told_of who name answer → IfTells o (λ s. KeepsOthers name s t)
-    → IfTells o (λ s. AnswersFile by evidence name (bytes_at s name) s t answer) → IfTells o (λ s. TellsFile who by evidence name s t told)
+    → IfTells o (λ s. AnswersFile by evidence name (bytes_at s name) s t answer) → IfTells o (λ s. TellsFile (telling who by evidence) name s t told)
 file_told who by evidence name None t answer told spared is keeps h = tt
 file_told who by evidence name (Some s) t answer told spared is keeps h = λ counts. tells-by who by evidence name s t answer told spared is (keeps counts) (h counts)
-
--- ---- a list of files
-
--- what the rest of the files tells from now on, all of them tell with what is told so far
-abbrev pub Leads : Party → Deciding → List Signed → List (List ℕ) → SourceState → List (List ℕ) → Option SourceState → Told → Type 0
-Leads who by evidence names s rest now sofar =
-    (t : Option SourceState) (more : Told) → IfTells now (λ m. TellsFiles who by evidence rest m t more) → TellsFiles who by evidence names s t (both sofar more)
-
-and-assoc : (a b c : Outcome) → and_then a (and_then b c) ≡ and_then (and_then a b) c
-and-assoc Denies b c = refl
-and-assoc Faulty b c = refl
-and-assoc Grants Denies c = refl
-and-assoc Grants Grants Denies = refl
-and-assoc Grants Grants Grants = refl
-and-assoc Grants Grants Faulty = refl
-and-assoc Grants Faulty c = refl
-
-and-none : (a : Outcome) → and_then a Denies ≡ a
-and-none Denies = refl
-and-none Grants = refl
-and-none Faulty = refl
-
-told-same : (a b : Outcome) (x y : List ℕ) → a ≡ b → x ≡ y → ◌≡◌ {A = Told} (record { outcome = a; text = x }) (record { outcome = b; text = y })
-told-same a b x y e h = rw (e, h) refl
-
-both-assoc : (a b c : Told) → both a (both b c) ≡ both (both a b) c
-both-assoc a b c = told-same _ _ _ _ (and-assoc a.outcome b.outcome c.outcome) (sym (append_assoc a.text b.text c.text))
-
-both-none : (a : Told) → both a nothing_told ≡ a
-both-none a = told-same _ _ _ _ (and-none a.outcome) (append-nil a.text)
-
-pub leads_begin : (who : Party) (by : Deciding) (evidence : List Signed) (names : List (List ℕ)) (o : Option SourceState)
-    → IfTells o (λ s. Leads who by evidence names s names o nothing_told)
-leads_begin who by evidence names None = tt
-leads_begin who by evidence names (Some s) = λ counts t more h. h counts
-
-pub leads_next : (who : Party) (by : Deciding) (evidence : List Signed) (names : List (List ℕ)) (name : List ℕ) (left rest : List (List ℕ)) (o now next : Option SourceState) (sofar told new : Told)
-    → left ≡ name ∷ rest → new ≡ both sofar told
-    → IfTells o (λ s. Leads who by evidence names s left now sofar) → IfTells now (λ m. TellsFile who by evidence name m next told)
-    → IfTells o (λ s. Leads who by evidence names s rest next new)
-leads_next who by evidence names name left rest None now next sofar told new is made lead h = tt
-leads_next who by evidence names name left rest (Some s) now next sofar told new is made lead h = λ counts t more tells.
-    rw made (subst (TellsFiles who by evidence names s t) (both-assoc sofar told more)
-    (lead counts t (both told more) (subst (λ (l : List (List ℕ)). IfTells now (λ m. TellsFiles who by evidence l m t (both told more))) (sym is) (inner now next t more h tells))))
-  where
-    inner : (now next t : Option SourceState) (more : Told) → IfTells now (λ m. TellsFile who by evidence name m next told) → IfTells next (λ n. TellsFiles who by evidence rest n t more)
-        → IfTells now (λ m. TellsFiles who by evidence (name ∷ rest) m t (both told more))
-    inner None next t more one tells = tt
-    inner (Some m) None t more one tells = λ c. absurd ((one c).0)
-    inner (Some m) (Some n) t more one tells = λ c. (n, told, more, one c, refl, tells)
-
-ends : (who : Party) (by : Deciding) (evidence : List Signed) (now : Option SourceState) → IfTells now (λ m. TellsFiles who by evidence [] m now nothing_told)
-ends who by evidence None = tt
-ends who by evidence (Some m) = λ counts. (refl, refl)
-
-pub leads_end : (who : Party) (by : Deciding) (evidence : List Signed) (names left : List (List ℕ)) (o now : Option SourceState) (sofar : Told) → left ≡ []
-    → IfTells o (λ s. Leads who by evidence names s left now sofar) → IfTells o (λ s. TellsFiles who by evidence names s now sofar)
-leads_end who by evidence names left None now sofar is lead = tt
-leads_end who by evidence names left (Some s) now sofar is lead = λ counts.
-    subst (TellsFiles who by evidence names s now) (both-none sofar)
-    (lead counts now nothing_told (subst (λ (l : List (List ℕ)). IfTells now (λ m. TellsFiles who by evidence l m now nothing_told)) (sym is) (ends who by evidence now)))
 
 -- ---- what is asked of the files
 
@@ -165,14 +102,14 @@ given-same e given h = (let same : Ok e ≡ Ok given = h in cc)
 
 asks-told : (who : Party) (by : Deciding) (rests : Result (List Signed) AuditError) (evidence : List Signed) (names : List (List ℕ)) (s : SourceState) (t : Option SourceState) (told : Told) (r : Shown)
     → RefusesAs rests (Ok evidence) → OfClaim rests (λ e. Gives (Ok e) (Ok evidence)) → r ≡ told_response told
-    → TellsFiles who by evidence names s t told → AsksBy who by rests names s t r
+    → TellsFiles both (telling who by evidence) nothing_told names s t told → AsksBy who by rests names s t r
 asks-told who by (Err e) evidence names s t told r refused given is h = cc
 asks-told who by (Ok e) evidence names s t told r refused given is h =
-    (told, subst (λ (x : List Signed). TellsFiles who by x names s t told) (given-same e evidence given) h, is)
+    (told, subst (λ (x : List Signed). TellsFiles both (telling who by x) nothing_told names s t told) (given-same e evidence given) h, is)
 
 pub asks_told : {R : Type 0} (view : R → Shown) (who : Party) (by : Deciding) (rests : Result (List Signed) AuditError) (evidence : List Signed) (names : List (List ℕ)) (o t : Option SourceState)
     (told : Told) (r : R) → RefusesAs rests (Ok evidence) → OfClaim rests (λ e. Gives (Ok e) (Ok evidence)) → view r ≡ told_response told
-    → IfTells o (λ s. TellsFiles who by evidence names s t told) → IfTells o (λ s. AsksBy who by rests names s t (view r))
+    → IfTells o (λ s. TellsFiles both (telling who by evidence) nothing_told names s t told) → IfTells o (λ s. AsksBy who by rests names s t (view r))
 asks_told view who by rests evidence names None t told r refused given is h = tt
 asks_told view who by rests evidence names (Some s) t told r refused given is h = λ counts. asks-told who by rests evidence names s t told (view r) refused given is (h counts)
 
@@ -272,10 +209,6 @@ key_unasked view asks key names (Some s) t e (Err x) fails keeps is = λ counts.
 key_unasked view asks key names (Some s) t e (Ok r) fails keeps is = λ counts. unkeyed asks key names s t e (view r) (fails counts) (keeps counts) is
 
 -- ---- sources that are alike have the same answers
-
-keeps-same : (name : List ℕ) (a b : SourceState) (u : Option SourceState) → Alike a b → KeepsOthers name a u → KeepsOthers name b u
-keeps-same name a b None e h = h
-keeps-same name a b (Some u) e h = (h.0 ∙ e.named, λ d. h.1 d ∙ e.input)
 
 pub key-same : (asks : Offered → Asking) (key : List ℕ) (names : List (List ℕ)) (a b : SourceState) (u : Option SourceState) (r : Shown) → Alike a b
     → AsksKey asks key names a u r → AsksKey asks key names b u r

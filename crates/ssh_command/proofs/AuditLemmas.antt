@@ -12,7 +12,8 @@ use Rattle.ssh_print.specs.Responses.{Response as Shown, no_file_response}
 use Rattle.ssh_words.specs.Asked.{AuditFiles}
 use Rattle.ssh_command.specs.Audits.{Audits, Deciding, IsAuditFault, IsTrustReadFault, IsVouchReadFault, after_vouching, audit_response, decided_response, or_vouch_fault, vouched_in, vouched_or_fault, vouched_response}
 use Rattle.ssh_command.specs.Responding.{AuditsFile, AuditsVouched, IsFaultOf}
-use Rattle.ssh_command.proofs.SourceLemmas.{Alike, alike-same, file-alike, left-alike, none-failed, one-failed, over_limit, vouched-same, vouching-alike}
+use Rattle.ssh_inputs.proofs.SourceLemmas.{Alike, alike-same, file-alike, left-alike, none-failed, one-failed, over_limit}
+use Rattle.ssh_command.proofs.SourceLemmas.{vouched-same, vouching-alike}
 
 -- ---- sources that are alike have the same answers
 

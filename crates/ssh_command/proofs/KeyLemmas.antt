@@ -1,23 +1,17 @@
 -- From the values of a key's question and what the files answer to it, to what is answered to its options.
-use Rattle.std.proofs.Common.{◌≡◌, ℕ, [], List, Option, Some, None, Result, Ok, Err, refl, subst, sym}
-use Rattle.std.specs.Prelude.{◌^◌, IfOk}
+use Rattle.std.proofs.Common.{◌≡◌, ℕ, [], List, Option, Ok, refl}
+use Rattle.std.specs.Prelude.{◌^◌}
 use Rattle.clap.specs.Words.{Row}
 use Rattle.jiff.specs.Types.{TimeZone}
 use Rattle.ssh_offers.specs.declared.query.EmptyPrincipals.{EmptyPrincipals}
 use Rattle.ssh_offers.specs.declared.query.EmptyPrincipals.TheVariants.{Any}
-use Rattle.ssh_inputs.specs.SourceState.{IfTells, SourceState}
-use Rattle.ssh_inputs.specs.Values.{ReadsZone, empty_principals_of, number_below, short_bytes, zone_text}
-use Rattle.ssh_print.specs.declared.response.Response.{Response as Printed}
-use Rattle.ssh_print.specs.Responses.{Response as Shown}
+use Rattle.ssh_inputs.specs.Values.{empty_principals_of, number_below, short_bytes}
 use Rattle.ssh_show.specs.Offering.{Offered}
 use Rattle.ssh_admission.specs.StandIn.{login_algorithm, stand_in}
-use Rattle.ssh_words.specs.declared.error.CommandError.{CommandError}
-use Rattle.ssh_words.specs.declared.error.CommandError.TheVariants.{Usage, Value, Memory}
 use Rattle.ssh_words.specs.declared.options.OptionName.TheVariants as option
-use Rattle.ssh_words.specs.Spelling.{RespondsTo, given, names_needed, needed, or_fault, usual_port, value, value_or}
-use Rattle.ssh_words.specs.WordsView.{IfAnswered}
-use Rattle.ssh_command.specs.Admissions.{Asking, AsksKey}
-use Rattle.ssh_command.specs.Keys.{AdmitsInZone, KeyAsked, RespondsToAdmits, admits_spelled, host_asking, login_asking, trusts_spelled}
+use Rattle.ssh_words.specs.Spelling.{given, names_needed, needed, or_fault, usual_port, value, value_or}
+use Rattle.ssh_command.specs.Admissions.{Asking}
+use Rattle.ssh_command.specs.Keys.{admits_spelled, host_asking, login_asking, trusts_spelled}
 
 -- the login that is asked about what is offered
 abbrev pub client_asks : (user : List ℕ) (host : Option (List ℕ)) (address : List ℕ) (now : ℕ) (zone : TimeZone) (empty : EmptyPrincipals) (bits : ℕ) → Offered → Asking
@@ -72,21 +66,3 @@ pub trusts_is_spelled : (rows : List Row) (key : List ℕ) (now port : ℕ) (emp
     → trusts_spelled rows ≡ Ok (record { key = key; names = names; asks = host_asks host port now empty bits })
 unfolding trusts_spelled
 trusts_is_spelled rows key now port empty bits host names a b c d e f g = rw (a, b, c, d, e, f, g) refl
-
--- what is answered to the question that the options spell is answered to the options
-pub question_responds : {R E : Type 0} (view : R → Shown) (spelled : Result KeyAsked Shown) (key : List ℕ) (names : List (List ℕ)) (asks : Offered → Asking) (o t : Option SourceState) (res : Result R E)
-    → spelled ≡ Ok (record { key = key; names = names; asks = asks })
-    → IfTells o (λ s. IfOk res (λ r. AsksKey asks key names s t (view r)))
-    → IfTells o (λ s. IfOk res (λ r. RespondsTo (λ q. AsksKey q.asks q.key q.names) spelled s t (view r)))
-question_responds view spelled key names asks o t res is h =
-    subst (λ (x : Result KeyAsked Shown). IfTells o (λ s. IfOk res (λ r. RespondsTo (λ q. AsksKey q.asks q.key q.names) x s t (view r)))) (sym is) h
-
--- and where the zone is that of the option's text
-pub admits_in : (rows : List Row) (told : Option TimeZone) (o t : Option SourceState) (res : Result Printed CommandError) → ReadsZone (zone_text (given option.Zone rows)) told
-    → IfTells o (λ s. IfAnswered res (λ r. AdmitsInZone rows told s t r))
-    → IfTells o (λ s. IfAnswered res (λ r. RespondsToAdmits rows s t r))
-admits_in rows told None t res read h = tt
-admits_in rows told (Some s) t (Ok r) read h = λ counts. (told, read, h counts)
-admits_in rows told (Some s) t (Err Usage) read h = λ counts. (told, read, h counts)
-admits_in rows told (Some s) t (Err (Value x)) read h = λ counts. (told, read, h counts)
-admits_in rows told (Some s) t (Err Memory) read h = λ counts. tt

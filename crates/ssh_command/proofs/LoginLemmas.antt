@@ -1,6 +1,5 @@
 -- From the values of a login and what the files answer to it, to what is answered to its options.
-use Rattle.std.proofs.Common.{◌≡◌, ℕ, List, Option, Some, None, Result, Ok, Err, option_map, refl, subst, sym}
-use Rattle.std.specs.Option.{ok_or}
+use Rattle.std.proofs.Common.{◌≡◌, ℕ, List, Option, Some, None, Result, Ok, Err, refl, subst}
 use Rattle.std.specs.Prelude.{◌^◌, IfOk}
 use Rattle.base64.specs.Engines.{standard}
 use Rattle.base64.specs.GeneralPurpose.{decoded_of}
@@ -10,25 +9,16 @@ use Rattle.ssh_offers.specs.declared.query.EmptyPrincipals.{EmptyPrincipals}
 use Rattle.ssh_offers.specs.declared.query.EmptyPrincipals.TheVariants.{Any}
 use Rattle.ssh_offers.specs.Query.{Login}
 use Rattle.ssh_inputs.specs.SourceState.{IfTells, SourceState}
-use Rattle.ssh_inputs.specs.Values.{ReadsZone, empty_principals_of, hex_bytes, number_below, short_bytes, short_hex, zone_text}
-use Rattle.ssh_print.specs.declared.response.Response.{Response as Printed}
+use Rattle.ssh_inputs.specs.Values.{empty_principals_of, hex_bytes, number_below, short_bytes, short_hex}
 use Rattle.ssh_print.specs.Responses.{Response as Shown}
-use Rattle.ssh_words.specs.declared.error.CommandError.{CommandError}
-use Rattle.ssh_words.specs.declared.error.CommandError.TheVariants.{Usage, Value, Memory}
-use Rattle.ssh_words.specs.declared.options.OptionName.{OptionName}
 use Rattle.ssh_words.specs.declared.options.OptionName.TheVariants as option
 use Rattle.ssh_words.specs.Asked.{AuditFiles}
 use Rattle.ssh_command.specs.Audits.{Audits, login_by}
-use Rattle.ssh_command.specs.Logins.{RespondsInZone, RespondsToLogin, login_spelled}
+use Rattle.ssh_command.specs.Logins.{RespondsInZone, login_spelled}
 use Rattle.ssh_words.specs.Spelling.{RespondsTo, audit_files, given, needed, or_fault, value, value_or}
-use Rattle.ssh_words.specs.WordsView.{IfAnswered}
+use Rattle.ssh_words.proofs.AnsweredLemmas.{spelled_so}
 
 -- ---- values
-
--- a value that was read is the option's, as view sees it
-pub given_value : {V A : Type 0} (view : V → A) (o : OptionName) (read : Option V) (v : V) → Ok v ≡ ok_or read (Value o) → or_fault o (option_map view read) ≡ Ok (view v)
-given_value view o None v h = cc
-given_value view o (Some x) v h = cc
 
 -- the login of these values
 pub login_is_spelled : (rows : List Row) (told : Option TimeZone) (offered signature session user : List ℕ) (now : ℕ) (zone : TimeZone) (empty : EmptyPrincipals) (bits : ℕ) (algorithm address : List ℕ)
@@ -60,15 +50,11 @@ login_is_spelled rows told offered signature session user now zone empty bits al
 
 -- ---- answers
 
-spelled-so : {Q : Type 0} (responds : Q → SourceState → Option SourceState → Shown → Type 0) (spelled : Result Q Shown) (q : Q) (s : SourceState) (t : Option SourceState) (r : Shown)
-    → spelled ≡ Ok q → responds q s t r → RespondsTo responds spelled s t r
-spelled-so {Q = Q} responds spelled q s t r e h = subst (λ (x : Result Q Shown). RespondsTo responds x s t r) (sym e) h
-
 login-by : (rows : List Row) (told : Option TimeZone) (f : AuditFiles) (p q : Login) (s : SourceState) (t : Option SourceState) (r : Shown) → audit_files rows ≡ Ok f
     → login_spelled rows told ≡ Ok q → p ≡ q → Audits (login_by p) f s t r → RespondsInZone rows told s t r
 login-by rows told f p q s t r files spelled same h =
-    spelled-so (λ names. RespondsTo (λ login. Audits (login_by login) names) (login_spelled rows told)) (audit_files rows) f s t r files
-    (spelled-so (λ login. Audits (login_by login) f) (login_spelled rows told) q s t r spelled (subst (λ (x : Login). Audits (login_by x) f s t r) same h))
+    spelled_so (λ names. RespondsTo (λ login. Audits (login_by login) names) (login_spelled rows told)) (audit_files rows) f s t r files
+    (spelled_so (λ login. Audits (login_by login) f) (login_spelled rows told) q s t r spelled (subst (λ (x : Login). Audits (login_by x) f s t r) same h))
 
 -- what is answered to the login that the options spell is answered to the options
 pub login_responds : {R E : Type 0} (view : R → Shown) (rows : List Row) (told : Option TimeZone) (f : AuditFiles) (p q : Login) (o t : Option SourceState) (res : Result R E)
@@ -78,13 +64,3 @@ pub login_responds : {R E : Type 0} (view : R → Shown) (rows : List Row) (told
 login_responds view rows told f p q None t res files spelled same h = tt
 login_responds view rows told f p q (Some s) t (Err x) files spelled same h = λ counts. tt
 login_responds view rows told f p q (Some s) t (Ok r) files spelled same h = λ counts. login-by rows told f p q s t (view r) files spelled same (h counts)
-
--- and where the zone is that of the option's text
-pub zone_responds : (rows : List Row) (told : Option TimeZone) (o t : Option SourceState) (res : Result Printed CommandError) → ReadsZone (zone_text (given option.Zone rows)) told
-    → IfTells o (λ s. IfAnswered res (λ r. RespondsInZone rows told s t r))
-    → IfTells o (λ s. IfAnswered res (λ r. RespondsToLogin rows s t r))
-zone_responds rows told None t res read h = tt
-zone_responds rows told (Some s) t (Ok r) read h = λ counts. (told, read, h counts)
-zone_responds rows told (Some s) t (Err Usage) read h = λ counts. (told, read, h counts)
-zone_responds rows told (Some s) t (Err (Value x)) read h = λ counts. (told, read, h counts)
-zone_responds rows told (Some s) t (Err Memory) read h = λ counts. tt

@@ -18,7 +18,7 @@ use Rattle.ssh_words.specs.declared.error.CommandError.{CommandError}
 use Rattle.ssh_words.specs.declared.error.CommandError.TheVariants.{Usage, Value, Memory}
 use Rattle.ssh_words.specs.declared.options.OptionName.TheVariants as option
 use Rattle.ssh_words.specs.declared.subcommand.Subcommand.{Subcommand}
-use Rattle.ssh_words.specs.declared.subcommand.Subcommand.TheVariants.{Show, Login, Host, Sshsig, Rewrite, Hash, Admits, Trusts, Explain}
+use Rattle.ssh_words.specs.declared.subcommand.Subcommand.TheVariants.{Show, Login, Host, Sshsig, Rewrite, Hash, Admits, Trusts, Review, Explain}
 use Rattle.ssh_command.specs.Audits.{Audits, host_by, login_by}
 use Rattle.ssh_words.specs.CommandLine.{Request, request_of}
 use Rattle.ssh_command.specs.Admissions.{AsksKey}
@@ -35,44 +35,42 @@ use Rattle.ssh_words.specs.Spelling.{IsToldAs, RespondsTo, audit_files, needed, 
 use Rattle.ssh_words.specs.WordsView.{IfAnswered}
 use Rattle.ssh_command.proofs.AdmissionLemmas.{key-same}
 use Rattle.ssh_command.proofs.AuditLemmas.{audits-same}
+use Rattle.ssh_review_files.proofs.SpelledLemmas.{reviews_same}
+use Rattle.ssh_words.proofs.AnsweredLemmas.{spelled_same}
 use Rattle.ssh_words.proofs.CommandLineLemmas.{no_request}
 use Rattle.ssh_command.proofs.HashingLemmas.{hashes-same}
 use Rattle.ssh_command.proofs.RewritingLemmas.{rewrites-same}
 use Rattle.ssh_command.proofs.ShowLemmas.{shows-same}
 use Rattle.ssh_command.proofs.SshsigLemmas.{signs-same}
-use Rattle.ssh_command.proofs.SourceLemmas.{Alike, left-alike, none-failed}
+use Rattle.ssh_inputs.proofs.SourceLemmas.{Alike, left-alike, none-failed}
 
 -- ---- sources that are alike have the same answers
 
-spelled-same : {Q : Type 0} (responds : Q → SourceState → Option SourceState → Shown → Type 0) (spelled : Result Q Shown) (a b : SourceState) (u : Option SourceState) (r : Shown)
-    → Alike a b → ((q : Q) → responds q a u r → responds q b u r) → RespondsTo responds spelled a u r → RespondsTo responds spelled b u r
-spelled-same responds (Err x) a b u r e same h = (none-failed b a u e.failures h.0, h.1)
-spelled-same responds (Ok q) a b u r e same h = same q h
-
 subcommand-same : (c : Subcommand) (rows : List Row) (a b : SourceState) (u : Option SourceState) (r : Shown) → Alike a b → RespondsIn c rows a u r → RespondsIn c rows b u r
 subcommand-same Show rows a b u r e h =
-    spelled-same (λ kind. RespondsTo (ShowsFile kind) (needed option.File rows)) (value show_kind option.Kind rows) a b u r e
-    (λ kind. spelled-same (ShowsFile kind) (needed option.File rows) a b u r e (λ name. shows-same kind name a b u r e)) h
+    spelled_same (λ kind. RespondsTo (ShowsFile kind) (needed option.File rows)) (value show_kind option.Kind rows) a b u r e
+    (λ kind. spelled_same (ShowsFile kind) (needed option.File rows) a b u r e (λ name. shows-same kind name a b u r e)) h
 subcommand-same Login rows a b u r e (zone, read, h) = (
   zone,
   read,
-  spelled-same (λ f. RespondsTo (λ q. Audits (login_by q) f) (login_spelled rows zone)) (audit_files rows) a b u r e
-      (λ f. spelled-same (λ q. Audits (login_by q) f) (login_spelled rows zone) a b u r e (λ q. audits-same (login_by q) f a b u r e)) h,
+  spelled_same (λ f. RespondsTo (λ q. Audits (login_by q) f) (login_spelled rows zone)) (audit_files rows) a b u r e
+      (λ f. spelled_same (λ q. Audits (login_by q) f) (login_spelled rows zone) a b u r e (λ q. audits-same (login_by q) f a b u r e)) h,
 )
 subcommand-same Host rows a b u r e h =
-    spelled-same (λ f. RespondsTo (λ q. Audits (host_by q) f) (host_spelled rows)) (audit_files rows) a b u r e
-    (λ f. spelled-same (λ q. Audits (host_by q) f) (host_spelled rows) a b u r e (λ q. audits-same (host_by q) f a b u r e)) h
-subcommand-same Sshsig rows a b u r e h = spelled-same Signs (sshsig_question rows) a b u r e (λ q. signs-same q a b u r e) h
+    spelled_same (λ f. RespondsTo (λ q. Audits (host_by q) f) (host_spelled rows)) (audit_files rows) a b u r e
+    (λ f. spelled_same (λ q. Audits (host_by q) f) (host_spelled rows) a b u r e (λ q. audits-same (host_by q) f a b u r e)) h
+subcommand-same Sshsig rows a b u r e h = spelled_same Signs (sshsig_question rows) a b u r e (λ q. signs-same q a b u r e) h
 subcommand-same Rewrite rows a b u r e h =
-    spelled-same (λ kind. RespondsTo (RewritesFile (new_file kind)) (needed option.File rows)) (value rewrite_kind option.Kind rows) a b u r e
-    (λ kind. spelled-same (RewritesFile (new_file kind)) (needed option.File rows) a b u r e (λ name. rewrites-same (new_file kind) name a b u r e)) h
+    spelled_same (λ kind. RespondsTo (RewritesFile (new_file kind)) (needed option.File rows)) (value rewrite_kind option.Kind rows) a b u r e
+    (λ kind. spelled_same (RewritesFile (new_file kind)) (needed option.File rows) a b u r e (λ name. rewrites-same (new_file kind) name a b u r e)) h
 subcommand-same Hash rows a b u r e h =
-    spelled-same (λ trust. RespondsTo (Hashes trust) (needed option.Salts rows)) (needed option.File rows) a b u r e
-    (λ trust. spelled-same (Hashes trust) (needed option.Salts rows) a b u r e (λ salts. hashes-same trust salts a b u r e)) h
+    spelled_same (λ trust. RespondsTo (Hashes trust) (needed option.Salts rows)) (needed option.File rows) a b u r e
+    (λ trust. spelled_same (Hashes trust) (needed option.Salts rows) a b u r e (λ salts. hashes-same trust salts a b u r e)) h
 subcommand-same Admits rows a b u r e (zone, read, h) =
-    (zone, read, spelled-same (λ q. AsksKey q.asks q.key q.names) (admits_spelled rows zone) a b u r e (λ q. key-same q.asks q.key q.names a b u r e) h)
+    (zone, read, spelled_same (λ q. AsksKey q.asks q.key q.names) (admits_spelled rows zone) a b u r e (λ q. key-same q.asks q.key q.names a b u r e) h)
 subcommand-same Trusts rows a b u r e h =
-    spelled-same (λ q. AsksKey q.asks q.key q.names) (trusts_spelled rows) a b u r e (λ q. key-same q.asks q.key q.names a b u r e) h
+    spelled_same (λ q. AsksKey q.asks q.key q.names) (trusts_spelled rows) a b u r e (λ q. key-same q.asks q.key q.names a b u r e) h
+subcommand-same Review rows a b u r e h = reviews_same rows a b u r e h
 subcommand-same Explain rows a b u r e h = (none-failed b a u e.failures h.0, h.1)
 
 shifted : (q : Option Request) (a b : SourceState) (u : Option SourceState) (r : Shown) → Alike a b → RespondsBy q a u r → RespondsBy q b u r

@@ -15,7 +15,7 @@ use Rattle.ssh_rewriting.specs.declared.hash_error.HashError.TheVariants.{TooLon
 use Rattle.ssh_command.specs.declared.rewriting.NewFile.{NewFile}
 use Rattle.ssh_command.specs.declared.rewriting.NewFile.TheVariants.{CanonicalAuth, CanonicalKnown, HashedKnown}
 use Rattle.ssh_command.specs.Rewritings.{IsTrustFault, Rewrites, RewritesFile, new_file, new_response, rewrite_over}
-use Rattle.ssh_command.proofs.SourceLemmas.{Alike, file-alike, left-none, none-failed, one-failed}
+use Rattle.ssh_inputs.proofs.SourceLemmas.{Alike, file-alike, left-none, none-failed, one-failed, read-all}
 
 abbrev pub Making : Type 0
 Making = List ℕ → Result (List ℕ) HashError
@@ -24,15 +24,6 @@ pub rewrites-same : (made : Making) (name : List ℕ) (a b : SourceState) (u : O
     → RewritesFile made name a u r → RewritesFile made name b u r
 rewrites-same made name a b u r e (inl h) = inl (none-failed b a u e.failures h.0, h.1 ∙ ap (rewrite_over made) (file-alike a b name e))
 rewrites-same made name a b u r e (inr h) = inr (one-failed a b u name e h.0, h.1)
-
-short-by : (b : Bool) (bytes file : List ℕ) → cond b None (Some bytes) ≡ Some file → bytes ≡ file
-short-by true bytes file h = cc
-short-by false bytes file h = cc
-
--- the bytes that were read are the file's
-read-all : (bytes : Option (List ℕ)) (file : List ℕ) → within_limit bytes ≡ Some file → bytes ≡ Some file
-read-all None file h = cc
-read-all (Some bytes) file h = ap (λ b. Some b) (short-by (nat_lt file_limit (length bytes)) bytes file h)
 
 -- a file that was read
 pub file_rewritten : {R E : Type 0} (view : R → Shown) (made : Making) (name file read : List ℕ) (o t : Option SourceState) (res : Result R E) → read ≡ file

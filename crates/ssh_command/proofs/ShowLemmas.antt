@@ -11,7 +11,7 @@ use Rattle.ssh_show.specs.declared.kind.ShowKind.{ShowKind}
 use Rattle.ssh_show.specs.Showing.{Shows}
 use Rattle.ssh_command.specs.Responding.{IsFaultOf}
 use Rattle.ssh_command.specs.Shows.{ShowsBytes, ShowsFile}
-use Rattle.ssh_command.proofs.SourceLemmas.{Alike, file-alike, left-none, none-failed, one-failed, over_limit}
+use Rattle.ssh_inputs.proofs.SourceLemmas.{Alike, file-alike, left-none, none-failed, one-failed, over_limit}
 
 pub shows-same : (kind : ShowKind) (name : List ℕ) (a b : SourceState) (u : Option SourceState) (r : Shown) → Alike a b → ShowsFile kind name a u r → ShowsFile kind name b u r
 shows-same kind name a b u r e (inl h) = inl (

@@ -1,34 +1,10 @@
--- Sources with the same files, the same input and the same counts tell the same, and what reads that did not fail leave.
-use Rattle.std.proofs.Common.{◌≡◌, ◌∙◌, ◌+◌, ℕ, true, cond, List, [], length, Option, Some, None, refl, sym, ap}
+-- Sources that are alike have the same vouch file, and after it they are alike.
+use Rattle.std.proofs.Common.{◌≡◌, ℕ, true, cond, List, Option, Some, None, refl, ap}
 use Rattle.std.specs.Str.{bytes_eq}
-use Rattle.std.proofs.lemmas.Bool.{lt-ltb}
-use Rattle.ssh_inputs.specs.SourceState.{SourceState, bytes_at, dash, next_choice}
-use Rattle.ssh_inputs.specs.Parts.{after_whole, cut_at_empty}
-use Rattle.ssh_inputs.specs.Loading.{NoReadFailed, OneReadFailed, IsLeft, IsTooLong, within_limit}
-use Rattle.ssh_text.specs.Text.{file_limit}
+use Rattle.ssh_inputs.specs.SourceState.{SourceState, dash, next_choice}
+use Rattle.ssh_inputs.specs.Parts.{cut_at_empty}
+use Rattle.ssh_inputs.proofs.SourceLemmas.{Alike}
 use Rattle.ssh_command.specs.Audits.{after_vouching, vouched_in}
-
--- ---- the same but for what is chosen
-
-pub record Alike (a b : SourceState) : Type 0 where
-  pub named : a.named ≡ b.named
-  pub input : a.input ≡ b.input
-  pub failures : a.failures ≡ b.failures
-  pub choices : a.choices ≡ b.choices
-
-pub alike-same : (s : SourceState) → Alike s s
-alike-same s = record { named = refl; input = refl; failures = refl; choices = refl }
-
-pub file-alike : (a b : SourceState) (name : List ℕ) → Alike a b → bytes_at a name ≡ bytes_at b name
-file-alike a b name h = rw (h.named, h.input) refl
-
-pub whole-alike : (a b : SourceState) (name : List ℕ) → Alike a b → Alike (after_whole a name) (after_whole b name)
-whole-alike a b name h = record {
-  named = h.named;
-  input = ap (λ i. cond (bytes_eq name dash) [] i) h.input;
-  failures = h.failures;
-  choices = ap next_choice h.choices;
-}
 
 pub vouching-alike : (vouch : Option (List ℕ)) (a b : SourceState) → Alike a b → Alike (after_vouching vouch a) (after_vouching vouch b)
 vouching-alike None a b h = h
@@ -42,26 +18,3 @@ vouching-alike (Some v) a b h = record {
 pub vouched-same : (vouch : Option (List ℕ)) (a b : SourceState) → Alike a b → vouched_in vouch a ≡ vouched_in vouch b
 vouched-same None a b h = refl
 vouched-same (Some v) a b h = rw (h.named, h.input) refl
-
--- ---- failed reads, and those that did not fail
-
-pub none-failed : (s t : SourceState) (u : Option SourceState) → t.failures ≡ s.failures → NoReadFailed t u → NoReadFailed s u
-none-failed s t None e h = h
-none-failed s t (Some x) e h = h ∙ e
-
-pub one-failed : (a b : SourceState) (u : Option SourceState) (name : List ℕ) → Alike a b → OneReadFailed a u name → OneReadFailed b u name
-one-failed a b None name e h = h
-one-failed a b (Some x) name e h = (h.0 ∙ ap (λ n. n + 1) e.failures, h.1, h.2 ∙ ap next_choice e.choices)
-
--- what was left is the source after the reading, but for what is chosen
-pub left-alike : (s rest t : SourceState) → rest.failures ≡ s.failures → IsLeft s rest (Some t) → Alike t rest
-left-alike s rest t e h = record { named = h.0; input = h.1; failures = h.2 ∙ sym e; choices = h.3 }
-
-pub left-none : (s rest : SourceState) (t : Option SourceState) → IsLeft s rest t → NoReadFailed s t
-left-none s rest None h = h
-left-none s rest (Some t) h = h.2
-
--- a file past the limit gives no bytes
-pub over_limit : (bytes : Option (List ℕ)) → IsTooLong bytes → within_limit bytes ≡ None
-over_limit None h = absurd h
-over_limit (Some bytes) h = rw (lt-ltb file_limit (length bytes) h) refl

@@ -15,7 +15,8 @@ use Rattle.ssh_words.specs.Asked.{SshsigQuestion}
 use Rattle.ssh_command.specs.Responding.{IsFaultOf, SignsBody, SignsMessage, SignsVouched}
 use Rattle.ssh_command.specs.Sshsigs.{IsContentFault, IsSignatureFault, Signs, body_over, body_response, bytes_answer, message_over, message_response, signature_response, vouched_over}
 use Rattle.ssh_command.proofs.AuditLemmas.{left_by, told_by, vouch_fault-same, vouch_read_failed}
-use Rattle.ssh_command.proofs.SourceLemmas.{Alike, alike-same, file-alike, left-alike, left-none, none-failed, one-failed, over_limit, vouched-same, vouching-alike, whole-alike}
+use Rattle.ssh_inputs.proofs.SourceLemmas.{Alike, alike-same, file-alike, left-alike, left-none, none-failed, one-failed, over_limit, whole-alike}
+use Rattle.ssh_command.proofs.SourceLemmas.{vouched-same, vouching-alike}
 
 -- ---- sources that are alike have the same answers
 

@@ -1,12 +1,13 @@
 -- What trust files answer to a key that is asked about, one after the other (this project's rule).
-use Rattle.std.specs.Prelude.{◌≡◌, ◌⊎◌, ◌++◌, ◌<◌, ℕ, List, [], ◌∷◌, Option, Some, None, Result, Ok, Err}
+use Rattle.std.specs.Prelude.{◌≡◌, ◌⊎◌, ◌++◌, ℕ, List, [], Option, Some, None, Result, Ok, Err}
 use Rattle.ssh_offers.specs.declared.error.AuditError.{AuditError}
 use Rattle.ssh_offers.specs.declared.error.AuditError.TheVariants.{Read}
 use Rattle.ssh_offers.specs.declared.query.Signed.{Signed}
 use Rattle.ssh_trust.specs.declared.decision.Decision.{Decision}
 use Rattle.ssh_trust.specs.declared.decision.Decision.TheVariants.{Granted, Denied}
-use Rattle.ssh_inputs.specs.SourceState.{SourceState, bytes_at, most_failures}
-use Rattle.ssh_inputs.specs.Loading.{KeepsOthers, NoReadFailed, OneReadFailed, within_limit}
+use Rattle.ssh_inputs.specs.SourceState.{SourceState, bytes_at}
+use Rattle.ssh_inputs.specs.Loading.{KeepsOthers, NoReadFailed, within_limit}
+use Rattle.ssh_inputs.specs.FilesInTurn.{Telling, TellsFiles}
 use Rattle.ssh_print.specs.Responses.{Response, no_file_response, refused_response}
 use Rattle.ssh_show.specs.Offering.{Offered, offer_in}
 use Rattle.ssh_show.specs.declared.error.ShowError.{ShowError}
@@ -44,6 +45,7 @@ pub record Told : Type 0 where
 abbrev pub nothing_told : Told
 nothing_told = record { outcome = Denies; text = [] }
 
+-- what is told so far, with what one more file tells
 abbrev pub both : Told → Told → Told
 both a b = record { outcome = and_then a.outcome b.outcome; text = a.text ++ b.text }
 
@@ -61,22 +63,18 @@ pub record Asking : Type 0 where
   pub by : Deciding
   pub rests_on : Result (List Signed) AuditError
 
--- The trust file of this name is answered by, where all evidence is vouched for; or its read failed, which is told as A9. No other file is read.
-abbrev pub TellsFile : Party → Deciding → List Signed → List ℕ → SourceState → Option SourceState → Told → Type 0
-TellsFile who by evidence name s t told = KeepsOthers name s t
-    × ((OneReadFailed s t name × (told ≡ told_of who name (Err Read))) ⊎ (NoReadFailed s t × (told ≡ told_of who name (answer_over by evidence (bytes_at s name)))))
-
--- one after the other, each whatever came of those before it
-abbrev pub TellsFiles : Party → Deciding → List Signed → List (List ℕ) → SourceState → Option SourceState → Told → Type 0
-TellsFiles who by evidence [] s t told = NoReadFailed s t × (told ≡ nothing_told)
-TellsFiles who by evidence (name ∷ names) s t told =
-    (m : SourceState) × (first : Told) × (more : Told) × TellsFile who by evidence name s (Some m) first × (told ≡ both first more)
-    × (m.failures < most_failures → TellsFiles who by evidence names m t more)
+-- what a trust file answers where all evidence is vouched for; a failed read of it is told as A9
+abbrev pub telling : Party → Deciding → List Signed → Telling Told
+telling who by evidence = record {
+  of_bytes = λ name bytes. told_of who name (answer_over by evidence bytes);
+  of_fault = λ name. told_of who name (Err Read);
+}
 
 -- an offer that is refused is told before any file is read
 abbrev pub AsksBy : Party → Deciding → Result (List Signed) AuditError → List (List ℕ) → SourceState → Option SourceState → Response → Type 0
 AsksBy who by (Err e) names s t r = NoReadFailed s t × (r ≡ refused_response e)
-AsksBy who by (Ok evidence) names s t r = (told : Told) × TellsFiles who by evidence names s t told × (r ≡ told_response told)
+AsksBy who by (Ok evidence) names s t r =
+    (told : Told) × TellsFiles both (telling who by evidence) nothing_told names s t told × (r ≡ told_response told)
 
 abbrev pub AsksFiles : Asking → List (List ℕ) → SourceState → Option SourceState → Response → Type 0
 AsksFiles a names s t r = AsksBy a.who a.by a.rests_on names s t r

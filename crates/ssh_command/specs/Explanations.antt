@@ -1,5 +1,5 @@
 -- What is answered to `explain` (this project's rule).
-use Rattle.std.specs.Prelude.{◌≡◌, ℕ, List, Option, Some, None, codes}
+use Rattle.std.specs.Prelude.{◌≡◌, ◌++◌, ℕ, List, [], Option, Some, None, codes, if◌then◌else◌}
 use Rattle.std.specs.List.{flat_map}
 use Rattle.clap.specs.Words.{Row}
 use Rattle.ssh_explain.specs.Table.{table}
@@ -8,10 +8,15 @@ use Rattle.ssh_inputs.specs.SourceState.{SourceState}
 use Rattle.ssh_inputs.specs.Loading.{NoReadFailed}
 use Rattle.ssh_print.specs.Responses.{Response, value_response}
 use Rattle.ssh_words.specs.Spelling.{names_given}
+use Rattle.ssh_words.specs.Usage.{asks_usage, usage_lines}
 
--- the lines of these codes, in their order; or the fault of a code that is unknown
+-- the commands with their options, where `usage` is among the codes
+abbrev pub usage_after : List (List ℕ) → List ℕ
+usage_after names = if asks_usage names then usage_lines else []
+
+-- the lines of these codes, in their order, and after them those of `usage`; or the fault of a code that is unknown
 abbrev pub explained_by : Option ℕ → List (List ℕ) → Response
-explained_by None names = record { status = 0; text = flat_map code_text names }
+explained_by None names = record { status = 0; text = flat_map code_text names ++ usage_after names }
 explained_by (Some place) names = value_response (codes "code")
 
 -- without a code, the lines of all

@@ -9,8 +9,9 @@ use Rattle.ssh_print.specs.Responses.{Response, out_of_memory, usage_response}
 use Rattle.ssh_words.specs.declared.request.WordsError.{WordsError}
 use Rattle.ssh_words.specs.declared.request.WordsError.TheVariants.{Usage, Memory}
 use Rattle.ssh_words.specs.declared.subcommand.Subcommand.{Subcommand}
-use Rattle.ssh_words.specs.declared.subcommand.Subcommand.TheVariants.{Show, Login, Host, Sshsig, Rewrite, Hash, Admits, Trusts, Explain}
+use Rattle.ssh_words.specs.declared.subcommand.Subcommand.TheVariants.{Show, Login, Host, Sshsig, Rewrite, Hash, Admits, Trusts, Review, Explain}
 use Rattle.ssh_words.specs.CommandLine.{Request, request_of}
+use Rattle.ssh_review_files.specs.Spelled.{RespondsToReview}
 use Rattle.ssh_command.specs.Explanations.{RespondsToExplain}
 use Rattle.ssh_command.specs.Hashings.{RespondsToHash}
 use Rattle.ssh_command.specs.Hosts.{RespondsToHost}
@@ -33,6 +34,7 @@ RespondsIn Rewrite = RespondsToRewrite
 RespondsIn Hash = RespondsToHash
 RespondsIn Admits = RespondsToAdmits
 RespondsIn Trusts = RespondsToTrusts
+RespondsIn Review = RespondsToReview
 RespondsIn Explain = RespondsToExplain
 
 abbrev pub RespondsBy : Option Request → SourceState → Option SourceState → Response → Type 0

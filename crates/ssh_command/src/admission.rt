@@ -3,13 +3,15 @@
 ghost use Rattle.std.specs.Prelude.{◌≡◌, IfOk, map};
 ghost use Rattle.ssh_command.specs.Admissions.{
   AsksBy,
-  TellsFile,
-  TellsFiles,
   and_then,
+  both,
+  nothing_told,
   outcome_of,
   status_of,
+  telling,
 };
 ghost use Rattle.ssh_command.specs.AdmissionsView.{told_seen};
+ghost use Rattle.ssh_inputs.specs.FilesInTurn.{TellsFile, TellsFiles};
 ghost use Rattle.ssh_inputs.specs.SourceState.{IfTells};
 ghost use Rattle.ssh_print.specs.ResponseView.{response};
 
@@ -87,7 +89,7 @@ fn tell_file<Q: Question, F: Files>(
     files: &mut F,
 ) -> Result<Told, AllocError>
     ensures { IfTells (F.source_state files.old) (λ s. IfOk result (λ told.
-        TellsFile who (Q.decides question.entry.now) evidence.now name.now s
+        TellsFile (telling who (Q.decides question.entry.now) evidence.now) name.now s
         (F.source_state files.new) (told_seen told))) }
 {
     let answer = decide_by_file(alloc, name, question, evidence, files);
@@ -111,7 +113,7 @@ fn tell_files<Q: Question, F: Files>(
     files: &mut F,
 ) -> Result<Told, AllocError>
     ensures { IfTells (F.source_state files.old) (λ s. IfOk result (λ told.
-        TellsFiles who (Q.decides question.entry.now) evidence.now
+        TellsFiles both (telling who (Q.decides question.entry.now) evidence.now) nothing_told
         (map (λ name. name.now) names.now) s (F.source_state files.new) (told_seen told))) }
 {
     let mut outcome = Outcome::Denies;

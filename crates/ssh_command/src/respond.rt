@@ -19,6 +19,7 @@ use crate::sshsig::respond_sshsig;
 use crate::trusts::respond_trusts;
 use ssh_inputs::{Files, ReadError, read_first_line, read_words};
 use ssh_print::{Response, usage_fault};
+use ssh_review_files::respond_review;
 use ssh_words::{CommandError, Request, Subcommand, WordsError, parse, respond_fault};
 use std::alloc::{AllocError, Global};
 use std::convert::AsStr;
@@ -41,6 +42,7 @@ fn respond_subcommand<F: Files>(
         Subcommand::Hash => respond_hash(alloc, &request.words, files),
         Subcommand::Admits => respond_admits(alloc, &request.words, files),
         Subcommand::Trusts => respond_trusts(alloc, &request.words, files),
+        Subcommand::Review => respond_review(alloc, &request.words, files),
         Subcommand::Explain => Ok(respond_explain(alloc, &request.words)?),
     }
 }

@@ -4,8 +4,9 @@ use Rattle.ssh_words.specs.declared.options.OptionName.TheVariants.{Zone}
 use Rattle.ssh_words.specs.WordsView.{rows_in}
 use Rattle.ssh_print.specs.ResponseView.{response}
 use Rattle.ssh_command.specs.Keys.{admits_spelled}
-use Rattle.ssh_command.proofs.KeyLemmas.{admits_is_spelled, question_responds}
-use Rattle.ssh_command.proofs.LoginLemmas.{given_value}
+use Rattle.ssh_words.proofs.AnsweredLemmas.{given_value, spelled_responds}
+use Rattle.ssh_command.specs.Admissions.{AsksKey}
+use Rattle.ssh_command.proofs.KeyLemmas.{admits_is_spelled}
 use Rattle.ssh_command.proofs.admits.admits_in_zone.Goals as goal
 
 pub returns : goal.returns
@@ -17,6 +18,6 @@ returns g c =
     c.in_ok-key.ensures (c.in_ok-user.ensures.value ∙ ap (λ user. Ok user) (sym c.as_bytes.ensures.value)) c.in_ok-now.ensures (given_value plain_zone Zone c.args.zone c.in_ok-zone.zone c.in_ok-zone.ensures)
     c.in_ok-empty_principals.ensures c.in_ok-rsa_minimum.ensures
     (c.in_ok-address.ensures ∙ ap (λ address. Ok address) (sym c.as_bytes-2.ensures.value)) c.in_ok-names.ensures (search rules) in
-    question_responds {E = ℕ} response (admits_spelled rows told) c.in_ok-key.key.now (map (λ name. name.now) c.in_ok-names.names.now) _
+    spelled_responds {E = ℕ} (λ q. AsksKey q.asks q.key q.names) response (admits_spelled rows told) _
     (g.F.Files.source_state c.args.files.now) (g.F.Files.source_state c.ask_key.new.files) (Ok c.in_ok-response.response)
     spelled c.in_ok-response.ensures

@@ -6,8 +6,8 @@ use Rattle.ssh_command.proofs.explain.explain_codes.Goals as goal
 
 pub returns-in-Ok : goal.returns-in-Ok
 returns-in-Ok c =
-    known (first_unknown (map (λ code. code.now) c.args.codes.now)) c.in-Ok.text (map (λ code. code.now) c.args.codes.now) (response (record { status = 0; text = c.in-Ok.text }))
-    c.in-Ok.ensures.unknown (search rules)
+    known response (first_unknown (map (λ code. code.now) c.args.codes.now)) c.in-Ok.lines c.in-Ok.lines.items (map (λ code. code.now) c.args.codes.now) c.explain_usage.result
+    c.in-Ok.ensures.unknown c.in-Ok.ensures.text c.explain_usage.ensures
 
 pub returns-in-Err-Unknown : goal.returns-in-Err-Unknown
 returns-in-Err-Unknown c =

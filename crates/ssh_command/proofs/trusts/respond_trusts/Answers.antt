@@ -2,13 +2,15 @@ use Rattle.std.proofs.Common.{◌∙◌, ℕ, Ok, ap, map, sym}
 use Rattle.ssh_words.specs.WordsView.{rows_in}
 use Rattle.ssh_print.specs.ResponseView.{response}
 use Rattle.ssh_command.specs.Keys.{trusts_spelled}
-use Rattle.ssh_command.proofs.KeyLemmas.{question_responds, trusts_is_spelled}
+use Rattle.ssh_words.proofs.AnsweredLemmas.{spelled_responds}
+use Rattle.ssh_command.specs.Admissions.{AsksKey}
+use Rattle.ssh_command.proofs.KeyLemmas.{trusts_is_spelled}
 use Rattle.ssh_command.proofs.trusts.respond_trusts.Goals as goal
 
 pub returns : goal.returns
 returns g c =
     let rows = rows_in c.args.words.now in
-    question_responds {E = ℕ} response (trusts_spelled rows) c.in_ok-key.key.now (map (λ name. name.now) c.in_ok-names.names.now) _
+    spelled_responds {E = ℕ} (λ q. AsksKey q.asks q.key q.names) response (trusts_spelled rows) _
     (g.F.Files.source_state c.args.files.now) (g.F.Files.source_state c.ask_key.new.files) (Ok c.in_ok-response.response)
     (trusts_is_spelled rows c.in_ok-key.key.now c.in_ok-now.now c.in_ok-port.port c.in_ok-empty_principals.empty_principals c.in_ok-rsa_minimum.rsa_minimum
     c.as_bytes.result.now (map (λ name. name.now) c.in_ok-names.names.now)
