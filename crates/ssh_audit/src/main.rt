@@ -5,6 +5,7 @@
 #![tactic(auto)]
 
 mod system;
+mod watched;
 
 use ssh_command::{refuse, run};
 use ssh_words::WordsError;
@@ -13,6 +14,7 @@ use std::io::{ErrorKind, Result};
 use std::process::ExitCode;
 use std::{env, io};
 use system::SystemFiles;
+use watched::Watched;
 
 /// The program's words after its own name.
 fn read_words(rt: &HostRuntime) -> Result<Vec<String<Global>>> {
@@ -23,9 +25,16 @@ fn read_words(rt: &HostRuntime) -> Result<Vec<String<Global>>> {
     Ok(words)
 }
 
+/// Says on standard error where the commands are listed. A write that fails there changes nothing.
+fn tell_usage(rt: &HostRuntime) {
+    let _told = eprintln!(rt;
+        "ssh_audit: see 'ssh_audit explain usage', or the manual page ssh_audit(1)"
+    );
+}
+
 fn main(rt: HostRuntime) -> ExitCode {
     let mut files = SystemFiles::new(&rt);
-    let mut writer = io::writer(&rt);
+    let mut writer = Watched::new(io::writer(&rt));
     let status = match read_words(&rt) {
         Ok(words) => run(rt.alloc(), words.as_slice(), &mut files, &mut writer),
         Err(error) if error.kind() == ErrorKind::OutOfMemory => {
@@ -33,5 +42,8 @@ fn main(rt: HostRuntime) -> ExitCode {
         }
         Err(_) => refuse(WordsError::Usage, &mut writer),
     };
+    if writer.is_usage() {
+        tell_usage(&rt);
+    }
     ExitCode::from(status)
 }
