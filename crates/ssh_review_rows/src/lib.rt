@@ -5,3 +5,13 @@
 mod auth_rows;
 #[cfg(test)]
 mod end_rows;
+#[cfg(test)]
+mod held_rows;
+#[cfg(test)]
+mod host_rows;
+#[cfg(test)]
+mod known_rows;
+#[cfg(test)]
+mod told_rows;
+#[cfg(test)]
+mod worked;
