@@ -1,7 +1,8 @@
 #!/usr/bin/env python3
 """Counts for each code of docs/CODES.md whether a text that is expected of the program prints it, and for each code of
-such a text whether docs/CODES.md lists it. Texts are the string literals of crates/ssh_rows and crates/ssh_shown_rows,
-of the checks beside this one, and the stored run's stdout; in them, the lines that begin as an answer or a fault does.
+such a text whether docs/CODES.md lists it. Texts are the string literals of crates/ssh_rows, crates/ssh_shown_rows and
+crates/ssh_review_rows, of the checks beside this one, and the stored run's stdout; in them, the lines that begin as an
+answer or a fault does, and those of a review's findings.
 It runs nothing: that the program prints the texts is what the rows and checks say that hold them.
 
 usage: codes.py
@@ -15,13 +16,15 @@ import sys
 HERE = pathlib.Path(__file__).resolve().parent
 TOP = HERE.parent
 CODES = TOP / "docs" / "CODES.md"
-ROWS = [TOP / "crates" / name / "src" for name in ("ssh_rows", "ssh_shown_rows")]
+ROWS = [TOP / "crates" / name / "src" for name in ("ssh_rows", "ssh_shown_rows", "ssh_review_rows")]
 STORED = TOP / "crates" / "ssh_audit" / "stdout"
 # A10 is what an audit answers that had a piece refused before. The program ends at the first refusal and never asks such
 # an audit; the contracts of LoginAudit and HostAudit say when they answer it.
 UNPRINTED = {"A10"}
 CODE = re.compile(r"[A-Z][0-9]+")
 BEGINNINGS = {"granted", "rights", "command", "carry", "evidence", "denied", "reason", "vouched", "fault"}
+# What a review finds of a line: four spaces, the code, its detail, a colon.
+FINDING = re.compile(r" {4}(F[0-9]+)( [^:]*)?: ")
 RUST_LITERAL = re.compile(r'"((?:[^"\\]|\\.)*)"', re.DOTALL)
 
 
@@ -78,8 +81,11 @@ def printed():
     for text in texts:
         for line in text.split("\n"):
             words = tuple(line.split())
+            found = FINDING.match(line)
             if words and words[0] in BEGINNINGS:
                 lines.add(words)
+            elif found:
+                lines.add(("finding", *found[0].replace(":", "").split()))
     return lines
 
 
@@ -100,7 +106,7 @@ def main():
             failed += 1
             print(f"FAILED {name}: " + ("a text prints it, and it is one of UNPRINTED" if found else "no expected text prints it"))
     known = {word for words in codes for word in words}
-    told = {word for line in lines if line[0] in ("denied", "reason", "fault") for word in line if CODE.fullmatch(word)}
+    told = {word for line in lines if line[0] in ("denied", "reason", "fault", "finding") for word in line if CODE.fullmatch(word)}
     for word in sorted(told - known):
         failed += 1
         print(f"FAILED {word}: a text prints it, and docs/CODES.md does not list it")

@@ -2,7 +2,7 @@
 """Runs the built program on input that was made to hurt: pipes without an end as each kind of file, little address
 space, a file that shrinks while it is read, names of files that are no plain words, and random bytes, half of them
 mutations of files that are read. Whatever it is given, the program has to end with a status of 0 to 2 and a text of
-one of the forms that docs/CODES.md lists, and nothing on standard error.
+one of the forms that docs/CODES.md lists, and nothing on standard error, but for the line after a usage fault.
 
 usage: hostile.py [PROGRAM] [--files N] [--seconds N] [--seed N]
 
@@ -26,7 +26,7 @@ import time
 
 sys.dont_write_bytecode = True
 import program
-from program import FILES, SSHSIG, SIGNED_MESSAGE, Tally, hash_names, host, login, rewrite, show, sshsig
+from program import FILES, SSHSIG, SIGNED_MESSAGE, Tally, hash_names, host, login, review, rewrite, show, sshsig
 from refused_growth import private_body
 
 HERE = pathlib.Path(__file__).resolve().parent
@@ -42,13 +42,17 @@ DECISION = re.compile(
 SIGNATURE = re.compile(rb"denied namespace\n|(vouched|denied N6 0)\n" + EVIDENCE)
 SHOWN = re.compile(rb"type [ -~]*\n([a-z-]+ [ -~]*\n)*")
 NEW = re.compile(rb"(.*\n)?", re.DOTALL)
+REVIEWED = re.compile(
+    rb"(-:\d+: [ -~]+\n( {4}[ -~]+\n)*)*-: \d+ lines[ -~]+\ntotal: 1 files, 0 faults[ -~]+\n"
+    rb"|(\{\"file\":\"-\",[ -~]+\}\n)+\{\"is\":\"total\",[ -~]+\}\n"
+)
 # An answer that takes more seconds of processor time is stopped.
 LONGEST = 10
 
 
 def form_of(asked):
     """The form of an answer to these words that is no fault."""
-    forms = {"login": DECISION, "host": DECISION, "sshsig": SIGNATURE, "show": SHOWN, "rewrite": NEW, "hash": NEW}
+    forms = {"login": DECISION, "host": DECISION, "sshsig": SIGNATURE, "show": SHOWN, "rewrite": NEW, "hash": NEW, "review": REVIEWED}
     return forms[asked[0]]
 
 
@@ -89,6 +93,7 @@ def fifo_rows(path, room, tally):
         (rewrite("known", "fifo"), "fault A7\n"),
         (hash_names("fifo", "salts"), "fault A7\n"),
         (hash_names("hosts", "fifo"), "fault file fifo\n"),
+        (review("fifo"), "fifo: fault A7\ntotal: 1 files, 1 faults, 0 lines, 0 keys, 0 unreadable, 0 findings\n"),
         *((show(kind, "fifo"), "fault file fifo\n") for kind in ("key", "cert", "private", "sshsig")),
     ):
         writer = fed(room / "fifo")
@@ -106,7 +111,7 @@ def fifo_rows(path, room, tally):
 
 def memory_rows(path, room, tally):
     """With little address space the answer is the own one, or out of memory, or the system starts no program at all."""
-    for asked in (login("keys", "vouched"), host("hosts", "host vouched"), rewrite("auth", "keys"), hash_names("hosts", "salts"), show("key", "keys"), sshsig("body", "message", "file vouched")):
+    for asked in (login("keys", "vouched"), host("hosts", "host vouched"), rewrite("auth", "keys"), hash_names("hosts", "salts"), review("keys"), show("key", "keys"), sshsig("body", "message", "file vouched")):
         own = run(path, room, asked)
         answers = [run(path, room, asked, memory=mebibytes << 20) for mebibytes in range(1, 40)]
         started = [answer for answer in answers if answer[0] >= 0 and answer[0] != 127]
@@ -141,7 +146,7 @@ def name_rows(path, room, tally):
     (room / "real").mkdir()
     with open(os.fsencode(room / "real") + b"/\xff", "wb") as other:
         other.write(FILES["keys"].encode())
-    tally.check("a name that is no UTF-8", run(path, room, login(b"real/\xff", "vouched")), (2, b"fault usage\n", b""))
+    tally.check("a name that is no UTF-8", run(path, room, login(b"real/\xff", "vouched")), (2, b"fault usage\n", program.HINT))
     for length in (255, 256, 4095, 4096, 100_000):
         name = "n" * length
         tally.check(f"a name of {length} bytes", run(path, room, login("keys", name)), (2, f"fault file {name}\n".encode(), b""))
@@ -185,6 +190,8 @@ def samples():
     yield rewrite("auth", "-"), lines
     yield rewrite("known", "-"), known
     yield hash_names("-", "many salts"), known
+    yield review("-", findings="all"), lines
+    yield review("-", findings="all", form="json"), lines
     yield login("keys", "-"), (FILES["vouched"] + "# c\n" + FILES["file vouched"]).encode()
     yield show("key", "-"), FILES["keys"].encode()
     yield show("cert", "-"), FILES["certificate"].encode()

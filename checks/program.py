@@ -5,7 +5,8 @@ usage: program.py [PROGRAM] [--after LOG]
 
 PROGRAM is crates/ssh_audit/out/ssh_audit where it is left out. After its own rows it starts the checks beside it:
 examples.py (keys, certificates and signatures of ssh-keygen and openssl through examples/), documents.py (the commands
-of README.md and docs/MANUAL.md as they stand), codes.py (whether each printed code is in a row), explained.py (whether
+of README.md and docs/MANUAL.md as they stand), review.py (reviews of random files), recipes.py (the commands of
+docs/RECIPES.md), codes.py (whether each printed code is in a row), explained.py (whether
 that page says what the source's table says), manual_page.py (the same of docs/ssh_audit.1, with its options),
 closure.py (how much a reviewer has to read), memory_calls.py (whether each call that takes memory is in the table of
 docs/PROOFS.md), refused_growth.py (each growth of memory refused in turn), cut_vectors.py (worked blobs, cut) and
@@ -14,8 +15,8 @@ the libraries' calls refused in turn) and sanitized.py (random bytes under Addre
 kit's `rt`, and the counts in the last line of LOG, what `rt ci` printed, are added. The last line is 'N passed, M
 failed' for all of them. The status is 0 where nothing failed. What cannot run has failed.
 
-Needs ssh-keygen (Debian: openssh-client), openssl 3, gcc, /dev/full, and the built program. It takes some three minutes,
-without --after.
+Needs ssh-keygen (Debian: openssh-client), openssl 3, gcc, jq, git, /dev/full, and the built program. It takes some five
+minutes, without --after.
 """
 import argparse
 import base64
@@ -37,7 +38,7 @@ import inputs
 from rewrite import kind_of, loosened
 
 CRATE = HERE.parent / "crates" / "ssh_audit"
-NEEDS = {"ssh-keygen": "openssh-client", "openssl": "openssl", "gcc": "gcc"}
+NEEDS = {"ssh-keygen": "openssh-client", "openssl": "openssl", "gcc": "gcc", "jq": "jq"}
 COUNTS = re.compile(r"(\d+) passed, (\d+) failed")
 SECONDS = 60
 FILE_LIMIT = inputs.FILE_LIMIT
@@ -58,6 +59,8 @@ UNVOUCHED = f"denied N6 0\nevidence 0 {LOGIN_TRIPLE}"
 NO_LINE = f"denied N3\nevidence 0 {LOGIN_TRIPLE}"
 TRUSTED = f"granted line 1\nevidence 0 {HOST_TRIPLE}"
 REVOKED = f"denied N1 2\nevidence 0 {HOST_TRIPLE}"
+# What goes to standard error after a usage fault, and nothing else does.
+HINT = b"ssh_audit: see 'ssh_audit explain usage', or the manual page ssh_audit(1)\n"
 SHOWN_KEY = "type ssh-ed25519\nfingerprint SHA256:kmYcvdi2GkPeWxB6XLjrZB8JHsy2Hm8luHMFp9GMvqk\n"
 SHOWN = f"{SHOWN_KEY}comment me\n"
 # A file signature by this key for the namespace `file`, the signature of its message `abc`, and what is shown of it.
@@ -193,6 +196,13 @@ def hash_names(file, salts):
     return ["hash", "--file", file, "--salts", salts]
 
 
+def review(*names, kind="auth", now=150, **other):
+    """The words of a review; a value that is None is left out."""
+    given = {"kind": kind, "now": now, **other}
+    options = [word for name, value in given.items() if value is not None for word in ("--" + name.replace("_", "-"), str(value))]
+    return ["review", *options, *names]
+
+
 # ---- rows
 
 
@@ -306,10 +316,15 @@ def rows():
     yield [], (CRATE / "stdout").read_text(), 0, (CRATE / "stdin").read_bytes()
 
 
+def hint_of(wanted):
+    """What goes to standard error where the answer is this one."""
+    return HINT if wanted == "fault usage\n" else b""
+
+
 def answer_rows(program, tally):
     for asked, wanted, status, *stdin in rows():
         name = " ".join(word if isinstance(word, str) else repr(word) for word in asked) or repr(stdin)
-        tally.check(name, program.run(asked, *stdin), (status, wanted.encode(), b""))
+        tally.check(name, program.run(asked, *stdin), (status, wanted.encode(), hint_of(wanted)))
 
 
 def size_rows(program, tally):
@@ -333,7 +348,7 @@ def input_rows(program, tally):
         (rewrite("auth", "-"), "fault A9\n"),
     ):
         folder = os.open(program.room, os.O_RDONLY)
-        tally.check(f"a folder as input: {asked[:1]}", program.run(asked, folder), (2, wanted.encode(), b""))
+        tally.check(f"a folder as input: {asked[:1]}", program.run(asked, folder), (2, wanted.encode(), hint_of(wanted)))
         os.close(folder)
 
 
@@ -505,18 +520,18 @@ def writer_rows(program, tally):
         *(rewrite("auth", "keys"), hash_names("loose names", "salts"), ["frob"]),
     )
     for words_asked in asked:
-        name = " ".join(words_asked[:3])
+        name, wanted = " ".join(words_asked[:3]), (2, HINT if words_asked == ["frob"] else b"")
         with open("/dev/full", "wb") as full:
-            tally.check(f"a full device: {name}", program.status(words_asked, full), (2, b""))
+            tally.check(f"a full device: {name}", program.status(words_asked, full), wanted)
         write = closed_pipe()
-        tally.check(f"a closed pipe: {name}", program.status(words_asked, write), (2, b""))
+        tally.check(f"a closed pipe: {name}", program.status(words_asked, write), wanted)
         os.close(write)
         read, write = full_pipe()
-        tally.check(f"a full pipe: {name}", program.status(words_asked, write), (2, b""))
+        tally.check(f"a full pipe: {name}", program.status(words_asked, write), wanted)
         os.close(read)
         os.close(write)
         closed = subprocess.run(["sh", "-c", 'exec "$@" >&-', "", program.path, *words_asked], cwd=program.room, stdin=subprocess.DEVNULL, stderr=subprocess.PIPE, check=False)
-        tally.check(f"no output: {name}", (closed.returncode, closed.stderr), (2, b""))
+        tally.check(f"no output: {name}", (closed.returncode, closed.stderr), wanted)
 
 
 def long_text_rows(program, tally):
@@ -594,7 +609,7 @@ def try_all(path, tally):
             except (OSError, subprocess.SubprocessError) as error:
                 tally.check(row.__name__, repr(error), "no error")
     print(f"program.py itself: {tally.passed} passed, {tally.failed} failed", flush=True)
-    for name in ("examples.py", "documents.py", "refused_growth.py", "cut_vectors.py", "hostile.py"):
+    for name in ("examples.py", "documents.py", "review.py", "recipes.py", "refused_growth.py", "cut_vectors.py", "hostile.py"):
         other_check(name, tally, path)
 
 

@@ -8,7 +8,7 @@ take no memory give their rows whatever growth is refused. docs/PROOFS.md lists 
 It needs the kit's `rt`, proves nothing, and takes a minute of one processor for each growth, three side by side where
 there are processors: a copy of the repository gets a crate of the rows of growths/ and of the tables in refused_lines.py,
 and `rt try --test --fail-alloc N` runs them. With --every N is 1, 2, .. until no row has an Nth growth, some twenty; else
-it is one of nine numbers up to there, as the gate runs it. The last line is 'N passed, M failed'."""
+it is one of eleven numbers, of which the last two are past them all, as the gate runs it. The last line is 'N passed, M failed'."""
 import pathlib
 import sys
 
@@ -21,7 +21,7 @@ GIVEN = [word for word in sys.argv[1:] if word != "--every"]
 TOP = pathlib.Path(GIVEN[0]).resolve() if GIVEN else HERE.parent
 
 # What no library is: the program and its words, which refused_growth.py runs, and tests.
-NO_LIBRARIES = ("ssh_keeping", "ssh_words", "ssh_command", "ssh_audit")
+NO_LIBRARIES = ("ssh_keeping", "ssh_review_laws", "ssh_words", "ssh_review_files", "ssh_command", "ssh_audit")
 
 
 def libraries():

@@ -157,7 +157,7 @@ def hash_rows(key):
 
 def key_rows(key):
     """A key and a certificate asked about over a trust file on standard input and one that is not there; a key's file that
-    holds none; codes that are explained, and one that is unknown."""
+    holds none; codes that are explained, one that is unknown, and `usage`."""
     with tempfile.TemporaryDirectory() as folder:
         plain, certified = pathlib.Path(folder) / "key", pathlib.Path(folder) / "certificate"
         plain.write_bytes(key)
@@ -174,11 +174,29 @@ def key_rows(key):
     yield "explain", ["explain", "G8", "N3"], b""
     yield "explain all", ["explain"], b""
     yield "explain nothing", ["explain", "G2"], b""
+    yield "explain usage", ["explain", "usage"], b""
+
+
+def review_rows(key):
+    """Reviews in both forms: entries with all that a record may tell, one shadowed, unreadable lines, a missing file; a long
+    file; findings that are all, none and no list."""
+    line = b'from="10.0.0.0/8",restrict,command="a \\"b\\"",permitopen="h:1",expiry-time="20240229" ' + key + b"\xff"
+    authority = b'cert-authority,principals="ann," ' + SIGNER
+    lines = b"\n".join([b"# c", line, key, b"no-touch-required,verify-required " + key, authority, b"no-ptty " + key, b"ssh-dss AAAA"])
+    words = ["review", "--kind", "auth", "--now", "1800000000"]
+    for form in ("text", "json"):
+        formed = [*words, "--form", form]
+        yield f"review as {form}", [*formed, "-", "missing", "-"], lines
+        yield f"review as {form}, all findings", [*formed, "--findings", "all", "--zone", "CET-1", "-"], lines
+        yield f"review as {form}, no findings", [*formed, "--findings", "none", "-"], lines
+        yield f"a long review as {form}", [*formed, "-"], b"\n".join(40 * [b"restrict " + key])
+    yield "review with no list", [*words, "--findings", "F1,,F2", "-"], lines
+    yield "review of hosts", ["review", "--kind", "known", "--now", "1", "-"], b"H,*.x " + key + b"\n@revoked h " + key + b"\n@revoked x\n" + HASHED + b" " + key
 
 
 def rows():
     """The stored run, the same login over files and vouch files that give reasons, a denial and faults; `show`; `host`;
-    `sshsig`; `rewrite`; `hash`; `admits`, `trusts` and `explain`."""
+    `sshsig`; `rewrite`; `hash`; `admits`, `trusts` and `explain`; `review`."""
     stored = (CRATE / "stdin").read_bytes()
     words, vouched, rest = stored.split(b"\n", 2)
     key = next(line for line in rest.split(b"\n") if line.startswith(b"ssh-"))
@@ -199,6 +217,7 @@ def rows():
     yield from rewrite_rows(key)
     yield from hash_rows(key)
     yield from key_rows(key)
+    yield from review_rows(key)
 
 
 def check(preload, name, words, stdin):

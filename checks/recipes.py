@@ -1,0 +1,251 @@
+#!/usr/bin/env python3
+"""Runs the commands of docs/RECIPES.md on files that are made here, and compares what they print with what was worked out
+by hand from those files.
+
+usage: recipes.py [PROGRAM]
+
+Each section of the page has one block marked `sh`; all of them run in one shell, in their order, in a folder with the files
+of two quarters. The gate is tried on a git repository. Needs bash, jq, git, ssh-keygen and the built program. The last
+line is 'N passed, M failed'; the status is 0 where nothing failed."""
+import os
+import pathlib
+import re
+import shutil
+import subprocess
+import sys
+import tempfile
+
+sys.dont_write_bytecode = True
+import program
+from program import Tally
+
+HERE = pathlib.Path(__file__).resolve().parent
+PAGE = HERE.parent / "docs" / "RECIPES.md"
+SECTION = re.compile(r"^## (.*)\n((?:(?!^## ).*\n)*)", re.MULTILINE)
+BLOCK = re.compile(r"^```sh\n(.*?)^```$", re.MULTILINE | re.DOTALL)
+MARK = "\x1e"
+WEB, DB = "fleet/web1/ann/authorized_keys", "fleet/db1/root/authorized_keys"
+EVERY = "port agent x11 pty rc"
+NAMES = ("laptop", "backup", "build", "bob", "ca", "carol", "ci", "work", "old")
+# 2026-02-02 and 2026-04-24, in UTC.
+FIRST, SECOND = "1770000000", "1777000000"
+
+# The lines of both quarters: {KEY} is the key of that name, its type in front and its comment behind.
+QUARTERS = (
+    {
+        WEB: """# web1
+{laptop}
+from="10.0.0.0/8",restrict,command="/usr/bin/backup" {backup}
+command="/usr/bin/deploy" {build}
+restrict {laptop} again
+{old}
+expiry-time="20260101Z" {bob}
+cert-authority {ca}
+ssh-dss AAAA retired
+""",
+        DB: """from="10.0.0.0/8",restrict,command="/usr/bin/backup" {backup}
+{work}
+""",
+    },
+    {
+        WEB: """# web1
+{laptop}
+from="10.0.0.0/8",restrict,command="/usr/bin/backup" {backup}
+restrict,command="/usr/bin/deploy" {build}
+expiry-time="20260510Z" {bob}
+cert-authority {ca}
+no-pty {carol}
+""",
+        DB: """restrict,command="/usr/bin/backup" {backup}
+{ci}
+{work}
+""",
+    },
+)
+# What the second quarter's lines give, worked out from them: the file, the line, the key, and what stands there.
+ACCESS = [
+    (WEB, 2, "laptop", "key", EVERY, None, None),
+    (WEB, 3, "backup", "key", "none", "/usr/bin/backup", "10.0.0.0/8"),
+    (WEB, 4, "build", "key", "none", "/usr/bin/deploy", None),
+    (WEB, 5, "bob", "key", EVERY, None, None),
+    (WEB, 6, "ca", "authority", EVERY, None, None),
+    (WEB, 7, "carol", "key", "port agent x11 rc", None, None),
+    (DB, 1, "backup", "key", "none", "/usr/bin/backup", None),
+    (DB, 2, "ci", "key", EVERY, None, None),
+    (DB, 3, "work", "key", EVERY, None, None),
+]
+GONE = [
+    (WEB, "key", "build", EVERY, 'command="/usr/bin/deploy"'),
+    (WEB, "key", "old", EVERY, ""),
+    (WEB, "key", "bob", EVERY, 'expiry-time="20260101Z"'),
+    (DB, "key", "backup", "none", 'from="10.0.0.0/8",restrict,command="/usr/bin/backup"'),
+]
+NEW = [
+    (WEB, "key", "build", "none", 'restrict,command="/usr/bin/deploy"'),
+    (WEB, "key", "bob", EVERY, 'expiry-time="20260510Z"'),
+    (WEB, "key", "carol", "port agent x11 rc", "no-pty"),
+    (DB, "key", "backup", "none", 'restrict,command="/usr/bin/backup"'),
+    (DB, "key", "ci", EVERY, ""),
+]
+USED = ("laptop", "backup", "build", "work", "old")
+COMMENTS = {name: f"{name}@example" for name in NAMES} | {"carol": "=carol@example", "work": "m\u00fcller"}
+TOLD = {name: comment.replace("\u00fc", "\\xc3\\xbc") for name, comment in COMMENTS.items()}
+
+
+def make_keys(room):
+    """The line of each key, and its fingerprint as ssh-keygen prints it."""
+    lines, marks = {}, {}
+    for name in NAMES:
+        kind = ["-t", "rsa", "-b", "1024"] if name == "old" else ["-t", "ed25519"]
+        subprocess.run(["ssh-keygen", "-q", *kind, "-N", "", "-C", COMMENTS[name], "-f", name], cwd=room, check=True)
+        lines[name] = (room / f"{name}.pub").read_text().strip()
+        printed = subprocess.run(["ssh-keygen", "-lf", f"{name}.pub"], cwd=room, stdout=subprocess.PIPE, check=True).stdout
+        marks[name] = printed.split()[1].decode()
+    return lines, marks
+
+
+def write_quarter(room, quarter, lines):
+    for file, text in QUARTERS[quarter].items():
+        (room / file).parent.mkdir(parents=True, exist_ok=True)
+        (room / file).write_text(text.format(**lines))
+
+
+def table(rows):
+    """Rows of fields between tabs, sorted as bytes are."""
+    return "".join(line + "\n" for line in sorted("\t".join(map(str, row)) for row in rows))
+
+
+def changes(rows, marks):
+    return table((file, what, marks[key], rights, options, TOLD[key]) for file, what, key, rights, options in rows)
+
+
+def csv_cell(value):
+    return "" if value is None else str(value) if isinstance(value, int) else '"' + value.replace('"', '""') + '"'
+
+
+def csv(marks):
+    """The table for a spreadsheet; one comment begins with a sign of formulas."""
+    for file, line, key, what, rights, command, source in sorted(ACCESS, key=lambda row: row[0] == WEB):
+        comment = ("'" if TOLD[key].startswith("=") else "") + TOLD[key]
+        yield ",".join(map(csv_cell, (file, line, what, marks[key], rights, command, source, comment))) + "\n"
+
+
+def wanted(marks):
+    """What each section's block prints."""
+    access = [(marks[key], file, line, what, rights, command or "any", source or "any", TOLD[key]) for file, line, key, what, rights, command, source in ACCESS]
+    unused = {key for _, _, key, what, *_ in ACCESS if what == "key"} - set(USED)
+    counts = "".join(f"      1 {code}\n" for code in ("F1", "F4", "F5", "F6", "F9"))
+    return {
+        "The list of a quarter": "",
+        "Who has access": table(access),
+        "What changed since the last quarter": "gone or changed:\n" + changes(GONE, marks) + "new or changed:\n" + changes(NEW, marks),
+        "Where one key stands": f"{DB}:1\n{WEB}:3\n",
+        "Keys on many hosts": marks["backup"] + "\n",
+        "Keys that nobody used": table([marks[key]] for key in unused),
+        "Orphans": f"{marks['ci']}\t{DB}\n",
+        "Numbers for the report": f"q1\n{counts}q2\n",
+        "What expires within 30 days": f"{WEB}:5 {marks['bob']} {TOLD['bob']}\n",
+        "A table for a spreadsheet": "".join(csv(marks)),
+        "A gate on a repository of keys": "",
+    }
+
+
+def sections():
+    return [(title, BLOCK.findall(body)) for title, body in SECTION.findall(PAGE.read_text())]
+
+
+def run_blocks(room, blocks, settings):
+    """What each block prints, and its status."""
+    script = "".join(f"{block}printf '{MARK}%d{MARK}' $?\n" for block in blocks)
+    ran = subprocess.run(["bash", "-c", script], cwd=room, env=settings, stdin=subprocess.DEVNULL, stdout=subprocess.PIPE, stderr=subprocess.STDOUT, check=False)
+    parts = ran.stdout.decode(errors="replace").split(MARK)
+    return list(zip(parts[::2], parts[1::2])) + [("no end", "none")] * len(blocks)
+
+
+def recipe_rows(room, tally, settings, lines, marks):
+    """The list of the first quarter is made by the page's own command; then all blocks run over the second quarter."""
+    found, expected = sections(), wanted(marks)
+    tally.check("each section has one block, and an expected text", [(title, len(blocks)) for title, blocks in found], [(title, 1) for title in expected])
+    blocks = [blocks[0] for _, blocks in found]
+    write_quarter(room, 0, lines)
+    run_blocks(room, blocks[:1], {**settings, "NOW": FIRST})
+    os.replace(room / "q2.json", room / "q1.json")
+    write_quarter(room, 1, lines)
+    log = "".join(f"Apr  1 00:00:00 web1 sshd[1]: Accepted publickey for ann from 10.0.0.1 port 1 ssh2: ED25519 {marks[key]}\n" for key in USED)
+    (room / "auth.log").write_text(log + f"Apr  1 00:00:00 web1 sshd[1]: Failed publickey for ann from 10.0.0.1 port 1 ssh2: ED25519 {marks['bob']}\n")
+    (room / "owners.tsv").write_text("".join(f"{marks[key]}\tsomebody\n" for key in NAMES if key != "ci"))
+    for (title, _), (printed, status) in zip(found, run_blocks(room, blocks, {**settings, "NOW": SECOND})):
+        tally.check(title, (printed, status), (expected.get(title), "0"))
+
+
+def git(repository, *words):
+    settings = {**os.environ, "GIT_CONFIG_GLOBAL": os.devnull, "GIT_CONFIG_SYSTEM": os.devnull}
+    names = ["-c", "user.name=x", "-c", "user.email=x@example", "-c", "init.defaultBranch=main"]
+    return subprocess.run(["git", *names, *words], cwd=repository, env=settings, stdout=subprocess.PIPE, stderr=subprocess.STDOUT, check=True).stdout
+
+
+def gate(room, repository, settings):
+    """The status, and what stands below the line that begins the list of access; all of it where there is none."""
+    ran = subprocess.run([room / "gate.sh", "HEAD"], cwd=repository, env={**settings, "NOW": SECOND}, stdin=subprocess.DEVNULL, stdout=subprocess.PIPE, stderr=subprocess.PIPE, check=False)
+    text = ran.stdout.decode()
+    return ran.returncode, text.partition("access that this change adds or changes:\n")[2]
+
+
+def gate_rows(room, tally, settings, lines, marks):
+    """Changes to a repository of keys: none, a key more, a key less, a wider line, one to mend, a file that cannot be read."""
+    repository = room / "repository"
+    (repository / "keys").mkdir(parents=True)
+    ann = repository / "keys" / "ann"
+    limited = f'from="10.0.0.0/8",restrict {lines["backup"]}\n'
+    ann.write_text(f"{lines['laptop']}\n{limited}")
+    git(repository, "init", "-q")
+    git(repository, "add", "keys")
+    git(repository, "commit", "-qm", "keys")
+    row = lambda file, key, rights, options: "\t".join((file, "key", marks[key], rights, options, TOLD[key])) + "\n"
+    for what, text, wanted_answer in (
+        ("no change", f"{lines['laptop']}\n{limited}", (0, "")),
+        ("another order, blanks, a comment", f"# c\n{limited.replace(' ', '   ', 1)}\n{lines['laptop']}\n", (0, "")),
+        ("a key less", limited, (0, "")),
+        ("a key more", f"{lines['laptop']}\n{limited}{lines['ci']}\n", (1, row("keys/ann", "ci", EVERY, ""))),
+        ("a wider line", f"{lines['laptop']}\nrestrict {lines['backup']}\n", (1, row("keys/ann", "backup", "none", "restrict"))),
+        ("a line to mend and no new access", f"{lines['laptop']}\n{limited}ssh-dss AAAA\n", (1, "")),
+        ("the same key twice", f"{lines['laptop']}\n{limited}restrict {lines['laptop']}\n", (1, "")),
+    ):
+        ann.write_text(text)
+        tally.check(f"gate: {what}", gate(room, repository, settings), wanted_answer)
+    (repository / "keys" / "folder").mkdir()
+    tally.check("gate: a file that cannot be read", gate(room, repository, settings), (2, ""))
+    os.rmdir(repository / "keys" / "folder")
+    for tool in ("jq", "git", "ssh_audit"):
+        # A folder with every tool but one: what is missing does not pass.
+        tools = room / f"without {tool}"
+        tools.mkdir()
+        for name in ("sh", "mktemp", "mkdir", "rm", "tar", "sort", "comm", "cat", "date", "jq", "git"):
+            if name != tool:
+                (tools / name).symlink_to(shutil.which(name))
+        if tool != "ssh_audit":
+            (tools / "ssh_audit").symlink_to(os.path.realpath(room / "bin" / "ssh_audit"))
+        ann.write_text(f"{lines['laptop']}\n{limited}")
+        tally.check(f"gate: no {tool}", gate(room, repository, {**settings, "PATH": str(tools)}), (2, ""))
+
+
+def main():
+    path, tally = os.path.abspath(sys.argv[1] if len(sys.argv) > 1 else program.CRATE / "out" / "ssh_audit"), Tally()
+    missing = [need for need in ("bash", "jq", "git", "ssh-keygen", path) if shutil.which(need) is None]
+    if missing:
+        print(f"{', '.join(missing)} missing: nothing was tried\n0 passed, 1 failed")
+        return 1
+    with tempfile.TemporaryDirectory() as folder:
+        room = pathlib.Path(folder).resolve()
+        (room / "bin").mkdir()
+        (room / "bin" / "ssh_audit").symlink_to(path)
+        settings = {**os.environ, "PATH": f"{room / 'bin'}:{os.environ['PATH']}", "TMPDIR": str(room)}
+        lines, marks = make_keys(room)
+        recipe_rows(room, tally, settings, lines, marks)
+        gate_rows(room, tally, settings, lines, marks)
+    print(f"{tally.passed} passed, {tally.failed} failed")
+    return 1 if tally.failed else 0
+
+
+if __name__ == "__main__":
+    sys.exit(main())

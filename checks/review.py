@@ -1,0 +1,1002 @@
+#!/usr/bin/env python3
+"""Tries `review` from outside, on files that are made here.
+
+usage: review.py [PROGRAM] [--seed N] [--files N]
+
+Worked files, word for word, in both forms. Random authorized_keys files of keys that ssh-keygen made, with options of
+all kinds and damaged lines, reviewed at several times: every record is compared with what a model in this script expects
+of the line; whoever `admits` lets in, gets in by a line that has a record, is not shadowed, not past its time, permits
+somebody, and leaves the rights that were admitted; the lines that `admits` cannot read are those that the review calls
+unreadable; each fingerprint that `ssh-keygen -lf` prints of the file is in a record; both forms tell the same, and the
+JSON lines have their fields in order. Then names, limits, faults, statuses and writers that fail. The files of known_hosts
+are asked about in the same way, unless the program has no review of them yet: that is printed.
+
+The same seed gives the same files, but for the keys. Needs ssh-keygen (Debian: openssh-client) and the built program. The
+last line is 'N passed, M failed'; the status is 0 where nothing failed."""
+import argparse
+import base64
+import calendar
+import dataclasses
+import hashlib
+import json
+import os
+import pathlib
+import random
+import re
+import subprocess
+import sys
+import tempfile
+import time
+
+sys.dont_write_bytecode = True
+import program
+from program import FILE_LIMIT, HINT, Program, Tally, review
+
+HERE = pathlib.Path(__file__).resolve().parent
+DEFAULT = pathlib.Path(program.CRATE) / "out" / "ssh_audit"
+RIGHTS = ("port", "agent", "x11", "pty", "rc")
+AUTH_FIELDS = ["file", "line", "is", "type", "bits", "key", "comment", "options", "rights", "command", "from", "principals", "expires", "shadowed_by", "findings"]
+KNOWN_FIELDS = ["file", "line", "is", "type", "bits", "key", "comment", "names", "findings"]
+END_FIELDS = ["file", "is", "lines", "keys", "unreadable", "findings", "sha256", "fault"]
+TOTAL_FIELDS = ["is", "format", "files", "faults", "lines", "keys", "unreadable", "findings"]
+# The first moment of 2026 in UTC, which an expiry time of that day names.
+NEW_YEAR = 1_767_225_600
+FORWARDS = "    F9: its command is forced, but it may still forward: add restrict"
+TIMES = (1_500_000_000, NEW_YEAR, NEW_YEAR + 1, 1_900_000_000)
+
+
+def escaped(data):
+    """How both forms spell bytes: printable ASCII but the backslash as it is."""
+    return "".join(f"\\x{byte:02x}" if byte == 0x5C or not 0x20 <= byte <= 0x7E else chr(byte) for byte in data)
+
+
+def fingerprint(blob):
+    return "SHA256:" + base64.b64encode(hashlib.sha256(blob).digest()).decode().rstrip("=")
+
+
+def string(data):
+    return len(data).to_bytes(4, "big") + data
+
+
+# ---- worked files
+
+WORKED = r"""# web1, account ann
+ssh-ed25519 AAAAC3NzaC1lZDI1NTE5AAAAINghVOyZqZSLpIpB+TTEGqwNY0SxEy+a09/Jm5UjcJme laptop@example
+from="10.0.0.0/8",restrict,command="/usr/bin/backup \"full\"" ssh-ed25519 AAAAC3NzaC1lZDI1NTE5AAAAIOs+4KeQYLze5st0LQDq+9Tul4+5Y81KvrModw3rwuFw backup@example
+command="/usr/bin/deploy" ecdsa-sha2-nistp256 AAAAE2VjZHNhLXNoYTItbmlzdHAyNTYAAAAIbmlzdHAyNTYAAABBBMwfMpGPWhniKmCf//uMovfl4p8/vyyeDqIvbKiQx2apWrFe2NJF0Zhlh5hMpwcjj244MjAG4nItewxIbsIgdXQ= build@example
+restrict ssh-ed25519 AAAAC3NzaC1lZDI1NTE5AAAAINghVOyZqZSLpIpB+TTEGqwNY0SxEy+a09/Jm5UjcJme laptop again
+ssh-rsa AAAAB3NzaC1yc2EAAAADAQABAAAAgQDDeDoPlpMJTdhoyn2GKdy/SlfPRghJyTNHYXAAL/ir7Is5LqD2z0AnQ/lwtfBJDJw/Kh5UBgTOsb9q/MULyeVCf6IA9BQbrw4QkEVK/voICtPmQQ2d2FrHwznnx+1sMZuejt0qHInJu21gq3m22oc8AKIgf0dygAkKxCfvb1BYJw== old@example
+expiry-time="20260101Z" ssh-ed25519 AAAAC3NzaC1lZDI1NTE5AAAAIPB1hZwkzj4aSW7BQR0A8/TH5/zBdF5l1o7+pRsL4ujD bob@example
+cert-authority ssh-ed25519 AAAAC3NzaC1lZDI1NTE5AAAAIC3Xa/F49aK2Sb6CWw3MilZJHaYld/vooMethYFu0kee ca@example
+no-ptty ssh-ed25519 AAAAC3NzaC1lZDI1NTE5AAAAIBmMnDenviwjr5QGdkuZSXql1062iuZP2UqxpDvyR0wr carol@example
+verify-required ssh-rsa AAAAB3NzaC1yc2EAAAADAQABAAABAQDd14UicjporAVi0QBP1bzIvqJPIlfWS+BjTmZ8+rLFWyX1O1lruOl/FhP/zKT91/bXSW7mI4q8LT/heO91fBMnVmCrnLVmXojE/poxLCswCaoLDU1+8dSbamPLI0Te3jyzUQhxD0zQs4k2ZUtjZq9JSDe/TWhjqV5uo2Gz2nvmmdVnrpYSdUFRq28chK0Gu+BhbsFwsXAhZ7zY+kJCVoHv1esUXeP4fHx1/PaBBoByO2+0yyAb8glZtqbxESGjrrEn3PU7n+kCIyzrAzdTQg3e714ptGihND9UbiIWMdNsqaBVB/YlXcB2xyo5MsokwSYsQVLh2i8c531Bi5hru2n3
+"""
+
+WORKED_TEXT = r"""web1/ann:2: key ssh-ed25519 SHA256:gXMk5B5PxTYWe+Q7kQzHGRTNDb0nrzC3BLT7EPMvKSg laptop@example
+    rights port agent x11 pty rc
+web1/ann:3: key ssh-ed25519 SHA256:HuPvXqxf+TUVK2iDHf0i9B8HYd2eAOw3Mu4FmYQ2sWE backup@example
+    rights none
+    command /usr/bin/backup "full"
+    from 10.0.0.0/8
+web1/ann:4: key ecdsa-sha2-nistp256 SHA256:nhLvnwTE6QRz1UfV65d6yv9hpeLkeOwkaw7Ql/YqjdM build@example
+    rights port agent x11 pty rc
+    command /usr/bin/deploy
+    F9: its command is forced, but it may still forward: add restrict
+web1/ann:5: key ssh-ed25519 SHA256:gXMk5B5PxTYWe+Q7kQzHGRTNDb0nrzC3BLT7EPMvKSg laptop again
+    rights none
+    F4 2: never decides: line 2 has the same key, lets it in first and gives more
+web1/ann:6: key ssh-rsa 1024 SHA256:FM0qtkq6jK/AsMX000mmtkcGXYbwWv4bIewiR7lIzIo old@example
+    rights port agent x11 pty rc
+    F5 1024: an RSA key of 1024 bits is too short
+web1/ann:7: key ssh-ed25519 SHA256:1rPJzXSzwEYMADix8ifDkUhTn8XNhynMzeXpmR90rzk bob@example
+    rights port agent x11 pty rc
+    expires 1767225600 2026-01-01T00:00:00Z
+    F6: has expired
+web1/ann:8: authority ssh-ed25519 SHA256:VySy8OgtRCL1Xyc8Pmw64Uan5/UBdBZUOemVHS+WeUo ca@example
+    rights port agent x11 pty rc
+web1/ann:9: unreadable ssh-ed25519 SHA256:nvuWTLJLbG342Ro/cJyRt1aPYE9mITXTARX8I/yh8QQ
+    F1 L3: cannot be read here, and OpenSSH may read it: an option that sshd(8) does not list; or a first word that was meant as the type, and is not one
+web1/ann:10: key ssh-rsa 2048 SHA256:Bfvk8D9yagody1EbQdzAz5byw0A51qzcCWURIjCLnN4
+    rights port agent x11 pty rc
+    verify-required
+    F8 verify-required: OpenSSH lets this key in: it ignores verify-required of a key that is no security key
+web1/ann: 10 lines, 8 keys, 1 unreadable, 6 findings, sha256 a3b51c142bcda45a43c1dd1d736f45ea9554b013929818c32d1e1950dbd33041
+web1/none: fault A9
+total: 2 files, 1 faults, 10 lines, 8 keys, 1 unreadable, 6 findings
+"""
+
+WORKED_JSON = r"""{"file":"web1/ann","line":2,"is":"key","type":"ssh-ed25519","bits":null,"key":"SHA256:gXMk5B5PxTYWe+Q7kQzHGRTNDb0nrzC3BLT7EPMvKSg","comment":"laptop@example","options":"","rights":"port agent x11 pty rc","command":null,"from":null,"principals":null,"expires":null,"shadowed_by":null,"findings":[]}
+{"file":"web1/ann","line":3,"is":"key","type":"ssh-ed25519","bits":null,"key":"SHA256:HuPvXqxf+TUVK2iDHf0i9B8HYd2eAOw3Mu4FmYQ2sWE","comment":"backup@example","options":"from=\"10.0.0.0/8\",restrict,command=\"/usr/bin/backup \\x5c\"full\\x5c\"\"","rights":"none","command":"/usr/bin/backup \"full\"","from":"10.0.0.0/8","principals":null,"expires":null,"shadowed_by":null,"findings":[]}
+{"file":"web1/ann","line":4,"is":"key","type":"ecdsa-sha2-nistp256","bits":null,"key":"SHA256:nhLvnwTE6QRz1UfV65d6yv9hpeLkeOwkaw7Ql/YqjdM","comment":"build@example","options":"command=\"/usr/bin/deploy\"","rights":"port agent x11 pty rc","command":"/usr/bin/deploy","from":null,"principals":null,"expires":null,"shadowed_by":null,"findings":[{"code":"F9","detail":""}]}
+{"file":"web1/ann","line":5,"is":"key","type":"ssh-ed25519","bits":null,"key":"SHA256:gXMk5B5PxTYWe+Q7kQzHGRTNDb0nrzC3BLT7EPMvKSg","comment":"laptop again","options":"restrict","rights":"none","command":null,"from":null,"principals":null,"expires":null,"shadowed_by":2,"findings":[{"code":"F4","detail":"2"}]}
+{"file":"web1/ann","line":6,"is":"key","type":"ssh-rsa","bits":1024,"key":"SHA256:FM0qtkq6jK/AsMX000mmtkcGXYbwWv4bIewiR7lIzIo","comment":"old@example","options":"","rights":"port agent x11 pty rc","command":null,"from":null,"principals":null,"expires":null,"shadowed_by":null,"findings":[{"code":"F5","detail":"1024"}]}
+{"file":"web1/ann","line":7,"is":"key","type":"ssh-ed25519","bits":null,"key":"SHA256:1rPJzXSzwEYMADix8ifDkUhTn8XNhynMzeXpmR90rzk","comment":"bob@example","options":"expiry-time=\"20260101Z\"","rights":"port agent x11 pty rc","command":null,"from":null,"principals":null,"expires":1767225600,"shadowed_by":null,"findings":[{"code":"F6","detail":""}]}
+{"file":"web1/ann","line":8,"is":"authority","type":"ssh-ed25519","bits":null,"key":"SHA256:VySy8OgtRCL1Xyc8Pmw64Uan5/UBdBZUOemVHS+WeUo","comment":"ca@example","options":"cert-authority","rights":"port agent x11 pty rc","command":null,"from":null,"principals":null,"expires":null,"shadowed_by":null,"findings":[]}
+{"file":"web1/ann","line":9,"is":"unreadable","type":"ssh-ed25519","bits":null,"key":"SHA256:nvuWTLJLbG342Ro/cJyRt1aPYE9mITXTARX8I/yh8QQ","comment":null,"options":null,"rights":null,"command":null,"from":null,"principals":null,"expires":null,"shadowed_by":null,"findings":[{"code":"F1","detail":"L3"}]}
+{"file":"web1/ann","line":10,"is":"key","type":"ssh-rsa","bits":2048,"key":"SHA256:Bfvk8D9yagody1EbQdzAz5byw0A51qzcCWURIjCLnN4","comment":"","options":"verify-required","rights":"port agent x11 pty rc","command":null,"from":null,"principals":null,"expires":null,"shadowed_by":null,"findings":[{"code":"F8","detail":"verify-required"}]}
+{"file":"web1/ann","is":"end","lines":10,"keys":8,"unreadable":1,"findings":6,"sha256":"a3b51c142bcda45a43c1dd1d736f45ea9554b013929818c32d1e1950dbd33041","fault":null}
+{"file":"web1/none","is":"end","lines":0,"keys":0,"unreadable":0,"findings":0,"sha256":null,"fault":"A9"}
+{"is":"total","format":1,"files":2,"faults":1,"lines":10,"keys":8,"unreadable":1,"findings":6}
+"""
+
+# Bytes that are no text: UTF-8, an escape sequence that clears a screen, a byte ff and a CR.
+ODD = b'command="a\\b \\"c\\" \xc3\xa4" ssh-ed25519 AAAAC3NzaC1lZDI1NTE5AAAAINghVOyZqZSLpIpB+TTEGqwNY0SxEy+a09/Jm5UjcJme m\xc3\xbcller\x1b[2J\xff \r\n'
+ODD_TEXT = r"""odd:1: key ssh-ed25519 SHA256:gXMk5B5PxTYWe+Q7kQzHGRTNDb0nrzC3BLT7EPMvKSg m\xc3\xbcller\x1b[2J\xff
+    rights port agent x11 pty rc
+    command a\x5cb "c" \xc3\xa4
+    F9: its command is forced, but it may still forward: add restrict
+odd: 1 lines, 1 keys, 0 unreadable, 1 findings, sha256 886bbc8ffa56bed5a1030ccd048549abedd0932d9d3863db4d887f07638f2910
+total: 1 files, 0 faults, 1 lines, 1 keys, 0 unreadable, 1 findings
+"""
+ODD_JSON = r"""{"file":"odd","line":1,"is":"key","type":"ssh-ed25519","bits":null,"key":"SHA256:gXMk5B5PxTYWe+Q7kQzHGRTNDb0nrzC3BLT7EPMvKSg","comment":"m\\xc3\\xbcller\\x1b[2J\\xff","options":"command=\"a\\x5cb \\x5c\"c\\x5c\" \\xc3\\xa4\"","rights":"port agent x11 pty rc","command":"a\\x5cb \"c\" \\xc3\\xa4","from":null,"principals":null,"expires":null,"shadowed_by":null,"findings":[{"code":"F9","detail":""}]}
+{"file":"odd","is":"end","lines":1,"keys":1,"unreadable":0,"findings":1,"sha256":"886bbc8ffa56bed5a1030ccd048549abedd0932d9d3863db4d887f07638f2910","fault":null}
+{"is":"total","format":1,"files":1,"faults":0,"lines":1,"keys":1,"unreadable":0,"findings":1}
+"""
+POLICY = r"""web1/ann:2: key ssh-ed25519 SHA256:gXMk5B5PxTYWe+Q7kQzHGRTNDb0nrzC3BLT7EPMvKSg laptop@example
+    rights port agent x11 pty rc
+    F15: good from any address: no from=, or from="*"
+    F16: any command may be run: no command=
+    F17: good for ever: no expiry-time=
+"""
+
+HOSTS = r"""# the fleet
+web1.example.org,192.0.2.10 ssh-ed25519 AAAAC3NzaC1lZDI1NTE5AAAAICbFWwdUICGNMpx3i8skrga86MeQIHeaAAWvuDE4cnt2
+db1.example.org ssh-ed25519 AAAAC3NzaC1lZDI1NTE5AAAAIKrHRm2eZqLDNsLt4T1xCvoXGM1m1UWfMhpWYWemaEfr
+db1.example.org ssh-ed25519 AAAAC3NzaC1lZDI1NTE5AAAAINghVOyZqZSLpIpB+TTEGqwNY0SxEy+a09/Jm5UjcJme
+*.lab.example.org ssh-rsa AAAAB3NzaC1yc2EAAAADAQABAAABgQDQVph2Vg4wRfABDUoKGszWv7dLhJaBUJ5lfZIyKxFx3lzhE974FwTPLHkyWZhxhbiEzxD/NWv3TaSMw4YRf9UgYJe6junWolRXf04bLiTuVrYSP+9X/OZJsSOPhwbAqDew8PaBhPdmrzU5VUKRGBgH7uisnbUlA4x+nqTrnBTgwC2Aak4JQW6LDjXpTygl9iS9ubCE3ivCeuO4nmYZUJO+94uw22Tklk3/9B9kT2ttWYxuu35fnYpEjkeCwdp7XyGl6xkM2ykLWTUYU3nJZhXBZVRvEWGihKIGN2sxrcYzHbcQW08fX5N+wOsRfHljeZOGot97KAO0NNIIX/ADeonbDhguy9XkX5exmXOZSe5zNHqzcp7BuHFprVqbAs96McbIve0N9hHtHn+qVlNy6BlcyQ2YEYj8Z+x3Ch/NzF5Q5haUr8A9+bP3KYsUPBMwsvJlizam0a4p6sdRoNfUZT2w+mJU3TWimi5oRghoHmYzpMbHlk2G+5QXvAFV5fc4xh8=
+@cert-authority * ssh-ed25519 AAAAC3NzaC1lZDI1NTE5AAAAIKfzwZ65QmIxeq3/IlWjPshipGXqlYDSCPhV54gn9UJo
+@revoked * ssh-ed25519 AAAAC3NzaC1lZDI1NTE5AAAAIKrHRm2eZqLDNsLt4T1xCvoXGM1m1UWfMhpWYWemaEfr
+@revoked * ssh-ed25519
+web9.example.org, ssh-ed25519 AAAAC3NzaC1lZDI1NTE5AAAAICbFWwdUICGNMpx3i8skrga86MeQIHeaAAWvuDE4cnt2
+[git.example.org]:2222 ssh-ed25519 AAAAC3NzaC1lZDI1NTE5AAAAICbFWwdUICGNMpx3i8skrga86MeQIHeaAAWvuDE4cnt2
+"""
+HOSTS_TEXT = r"""known:2: key ssh-ed25519 SHA256:K1O2eINbmb17fEiDcz4h4FqkT185rAHrxyBBdF4KQT8
+    names web1.example.org,192.0.2.10
+known:3: key ssh-ed25519 SHA256:JuhwEfWrsZjKfEIish58B33eZC/AoxsXRDYcAcjBP/Y
+    names db1.example.org
+known:4: key ssh-ed25519 SHA256:gXMk5B5PxTYWe+Q7kQzHGRTNDb0nrzC3BLT7EPMvKSg
+    names db1.example.org
+    F11 3: another key of this type for a name of line 3
+known:5: key ssh-rsa 3072 SHA256:WWvqIBGfcehwggPf02VrrJSfTs7HADSzzKa2YkfEDwI
+    names *.lab.example.org
+    F13: one key for all hosts that a pattern names
+known:6: authority ssh-ed25519 SHA256:IPnB7yWGYOrw+mTQ7yfGdqL54Mal31hsY/4zFi2oBpg
+    names *
+    F14: an authority for every host
+known:7: revoked SHA256:JuhwEfWrsZjKfEIish58B33eZC/AoxsXRDYcAcjBP/Y
+    F12 3: its key is both trusted and revoked: see line 3
+known:8: revocation-unreadable
+    F10: may revoke any key and cannot be read: here it denies every host, OpenSSH may pass over it
+known:9: unreadable ssh-ed25519 SHA256:K1O2eINbmb17fEiDcz4h4FqkT185rAHrxyBBdF4KQT8
+    F1 L16: cannot be read here, and OpenSSH may read it: of known_hosts: an item of the list of host names is empty; ! alone is an empty item
+known:10: key ssh-ed25519 SHA256:K1O2eINbmb17fEiDcz4h4FqkT185rAHrxyBBdF4KQT8
+    names [git.example.org]:2222
+known: 10 lines, 6 keys, 2 unreadable, 6 findings, sha256 256b6d0a7a61116a5090af644595ba7ab28f34ef7693844bf761f174a13ea6fa
+total: 1 files, 0 faults, 10 lines, 6 keys, 2 unreadable, 6 findings
+"""
+HOSTS_JSON = r"""{"file":"known","line":2,"is":"key","type":"ssh-ed25519","bits":null,"key":"SHA256:K1O2eINbmb17fEiDcz4h4FqkT185rAHrxyBBdF4KQT8","comment":"","names":"web1.example.org,192.0.2.10","findings":[]}
+{"file":"known","line":3,"is":"key","type":"ssh-ed25519","bits":null,"key":"SHA256:JuhwEfWrsZjKfEIish58B33eZC/AoxsXRDYcAcjBP/Y","comment":"","names":"db1.example.org","findings":[]}
+{"file":"known","line":4,"is":"key","type":"ssh-ed25519","bits":null,"key":"SHA256:gXMk5B5PxTYWe+Q7kQzHGRTNDb0nrzC3BLT7EPMvKSg","comment":"","names":"db1.example.org","findings":[{"code":"F11","detail":"3"}]}
+{"file":"known","line":5,"is":"key","type":"ssh-rsa","bits":3072,"key":"SHA256:WWvqIBGfcehwggPf02VrrJSfTs7HADSzzKa2YkfEDwI","comment":"","names":"*.lab.example.org","findings":[{"code":"F13","detail":""}]}
+{"file":"known","line":6,"is":"authority","type":"ssh-ed25519","bits":null,"key":"SHA256:IPnB7yWGYOrw+mTQ7yfGdqL54Mal31hsY/4zFi2oBpg","comment":"","names":"*","findings":[{"code":"F14","detail":""}]}
+{"file":"known","line":7,"is":"revoked","type":null,"bits":null,"key":"SHA256:JuhwEfWrsZjKfEIish58B33eZC/AoxsXRDYcAcjBP/Y","comment":null,"names":null,"findings":[{"code":"F12","detail":"3"}]}
+{"file":"known","line":8,"is":"revocation-unreadable","type":null,"bits":null,"key":null,"comment":null,"names":null,"findings":[{"code":"F10","detail":""}]}
+{"file":"known","line":9,"is":"unreadable","type":"ssh-ed25519","bits":null,"key":"SHA256:K1O2eINbmb17fEiDcz4h4FqkT185rAHrxyBBdF4KQT8","comment":null,"names":null,"findings":[{"code":"F1","detail":"L16"}]}
+{"file":"known","line":10,"is":"key","type":"ssh-ed25519","bits":null,"key":"SHA256:K1O2eINbmb17fEiDcz4h4FqkT185rAHrxyBBdF4KQT8","comment":"","names":"[git.example.org]:2222","findings":[]}
+{"file":"known","is":"end","lines":10,"keys":6,"unreadable":2,"findings":6,"sha256":"256b6d0a7a61116a5090af644595ba7ab28f34ef7693844bf761f174a13ea6fa","fault":null}
+{"is":"total","format":1,"files":1,"faults":0,"lines":10,"keys":6,"unreadable":2,"findings":6}
+"""
+
+
+def worked_rows(audit, tally):
+    """The worked files, in both forms."""
+    (audit.room / "web1").mkdir()
+    (audit.room / "web1" / "ann").write_text(WORKED)
+    (audit.room / "odd").write_bytes(ODD)
+    now, text, objects = 1_770_000_000, WORKED_TEXT, WORKED_JSON
+    for name, asked, wanted, status in (
+        ("a file and a missing one", review("web1/ann", "web1/none", now=now), text, 2),
+        ("the same as JSON", review("web1/ann", "web1/none", now=now, form="json"), objects, 2),
+        ("bytes that are no text", review("odd", now=now), ODD_TEXT, 1),
+        ("the same as JSON", review("odd", now=now, form="json"), ODD_JSON, 1),
+    ):
+        tally.check(f"worked: {name}", audit.run(asked), (status, wanted.encode(), b""))
+    status, answer, _ = audit.run(review("web1/ann", now=now, findings="all"))
+    tally.check("worked: policy", (status, answer.decode()[: len(POLICY)]), (1, POLICY))
+
+
+# A code, lines of which {K} is an Ed25519 key and {R} an RSA key of 8 bits, and what is told of them by that code.
+RSA = "ssh-rsa AAAAB3NzaC1yc2EAAAADAQABAAAAAgCA"
+FOUND_OF_KEYS = [
+    ("F1", "{K}\nssh-dss AAAA\n", "    F1 L9: cannot be read here, and OpenSSH may read it: ssh-dss, which is retired"),
+    ("F2", 'from="*" {K}\n{K}\n', "    F2 1: line 1 has the same key: where that line does not let it in, this one may"),
+    ("F2", 'cert-authority {K}\ncert-authority,principals="a" {K}\n', "    F2 1: line 1 has the same key: where that line does not let it in, this one may"),
+    ("F2", "{K}\n{K}\n", None),
+    ("F2", "{K}\ncert-authority {K}\n", None),
+    ("F3", "{K} a\n{K} b\n", "    F3 1: never decides: line 1 has the same key and lets it in first"),
+    ("F3", "restrict {K}\n{K}\n", "    F3 1: never decides: line 1 has the same key and lets it in first"),
+    ("F3", "restrict {K}\ncert-authority {K}\n", None),
+    ("F4", "{K}\nrestrict {K}\n", "    F4 1: never decides: line 1 has the same key, lets it in first and gives more"),
+    ("F4", '# c\n{K}\npermitopen="h:1" {K}\n', "    F4 2: never decides: line 2 has the same key, lets it in first and gives more"),
+    ("F4", 'expiry-time="20300101Z" {K}\nrestrict {K}\n', None),
+    ("F5", "{R}\n", "    F5 8: an RSA key of 8 bits is too short"),
+    ("F6", 'expiry-time="19700101000229Z" {K}\n', "    F6: has expired"),
+    ("F6", 'expiry-time="19700101000230Z" {K}\n', None),
+    ("F7", 'from="10.0.0.0/33" {K}\n', "    F7 from: lets nobody in: its from= list permits nobody"),
+    ("F7", 'cert-authority,principals="," {K}\n', "    F7 principals: lets nobody in: its principals= list permits nobody"),
+    ("F8", 'principals="a" {K}\n', "    F8 principals: OpenSSH refuses this line: principals= stands without cert-authority"),
+    ("F8", 'cert-authority,principals="a,,b" {K}\n', "    F8 empty-principal: OpenSSH reads principals= only up to its empty piece"),
+    ("F8", "verify-required {K}\n", "    F8 verify-required: OpenSSH lets this key in: it ignores verify-required of a key that is no security key"),
+    ("F8", 'expiry-time="20300101" {K}\n', "    F8 local-time: an expiry time without Z is in the zone of the server, here in that of --zone"),
+    ("F9", 'command="a" {K}\n', FORWARDS),
+    ("F9", 'restrict,agent-forwarding,command="a" {K}\n', FORWARDS),
+    ("F9", 'restrict,port-forwarding,no-port-forwarding,pty,command="a" {K}\n', None),
+    ("F15", 'from="*" {K}\n', '    F15: good from any address: no from=, or from="*"'),
+    ("F15", 'from="*,!10.0.0.1" {K}\n', None),
+    ("F16", "{K}\n", "    F16: any command may be run: no command="),
+    ("F17", "{K}\n", "    F17: good for ever: no expiry-time="),
+    ("F18", "cert-authority {K}\n", "    F18: whoever it certifies for the user's name is let in: no principals="),
+    ("F18", "{K}\n", None),
+    ("F19", "{K}\n", "    F19: nothing says whose key this is: no comment"),
+    ("F19", "{K} c\n", None),
+]
+FOUND_OF_HOSTS = [
+    ("F8", "@cert-authority\t*.a {K}\n", "    F8 tab: OpenSSH passes over this line: a tab follows its marker"),
+    ("F11", "a,B {K}\nb {O}\n", "    F11 1: another key of this type for a name of line 1"),
+    ("F11", "a {K}\na {K}\n", None),
+    ("F12", "a {K}\n@revoked * {K}\n", "    F12 1: its key is both trusted and revoked: see line 1"),
+    ("F12", "@revoked * {K}\na {K}\n", "    F12 1: its key is both trusted and revoked: see line 1"),
+    ("F13", "!*.a,b {K}\n", None),
+    ("F14", "@cert-authority *.a,** {K}\n", "    F14: an authority for every host"),
+    ("F20", "a {K}\n", "    F20: its names are in clear"),
+    ("F20", "@cert-authority *.a {K}\n", None),
+    ("F21", "a {K}\nb {K}\n", "    F21 1: the same host key stands on line 1"),
+]
+
+
+def found_rows(audit, tally, kind, rows):
+    """What is told by a code of lines that are there for it, and of lines that look like them and are not."""
+    for code, text, wanted in rows:
+        content = text.format(K=f"ssh-ed25519 {program.KEY}", O=f"ssh-ed25519 {program.OTHER_KEY}", R=RSA).encode()
+        status, answer, _ = audit.run(review("-", kind=kind, findings=code), content)
+        found = [line for line in answer.decode("ascii").split("\n") if line.startswith("    F")]
+        tally.check(f"{code} of {text!r}", (status, found), (1, [wanted]) if wanted else (0, []))
+
+
+# ---- keys
+
+
+@dataclasses.dataclass(frozen=True)
+class Key:
+    """A public key: its type, its base64, its bits where it is RSA's, and the file that `admits` takes."""
+
+    kind: str
+    text: str
+    bits: int | None
+    file: str
+
+    @property
+    def blob(self):
+        return base64.b64decode(self.text)
+
+    @property
+    def mark(self):
+        return fingerprint(self.blob)
+
+
+MADE = [("ed25519", None), ("ed25519", None), ("ecdsa", 256), ("ecdsa", 384), ("ecdsa", 521), ("rsa", 1024), ("rsa", 2048), ("rsa", 3072)]
+
+
+def keygen(room, *words):
+    return subprocess.run(["ssh-keygen", "-q", *words], cwd=room, stdout=subprocess.PIPE, stderr=subprocess.PIPE, check=True).stdout.decode()
+
+
+def key_of(room, file, bits=None):
+    kind, text = (room / file).read_text().split()[:2]
+    return Key(kind, text, bits, file)
+
+
+def make_keys(room):
+    """Keys of each kind, a security key's among them, and an authority with two certificates; the files to ask by."""
+    keys = []
+    for number, (kind, bits) in enumerate(MADE):
+        keygen(room, "-t", kind, *(["-b", str(bits)] if bits else []), "-N", "", "-C", "", "-f", f"key{number}")
+        keys.append(key_of(room, f"key{number}.pub", bits if kind == "rsa" else None))
+    keygen(room, "-t", "ed25519", "-N", "", "-C", "", "-f", "authority")
+    keys.append(key_of(room, "authority.pub"))
+    security = b"sk-ssh-ed25519@openssh.com"
+    blob = string(security) + string(hashlib.sha256(b"a security key").digest()) + string(b"ssh:")
+    (room / "security.pub").write_text(f"{security.decode()} {base64.b64encode(blob).decode()}\n")
+    keys.append(key_of(room, "security.pub"))
+    certified = []
+    for number, names in ((0, "ann,bob"), (6, "eve")):
+        keygen(room, "-s", "authority", "-I", "id", "-n", names, "-V", "20000101:20400101", "-O", "no-pty", f"key{number}.pub")
+        certified.append(f"key{number}-cert.pub")
+    return keys, [key.file for key in keys] + certified
+
+
+# ---- lines, and what a review has to say of them
+
+
+@dataclasses.dataclass
+class Entry:
+    """A line that can be read: its options as names and values in their order, its key and its comment."""
+
+    options: list
+    key: Key
+    comment: bytes
+
+    def first(self, name):
+        return next((value for other, value in self.options if other == name), None)
+
+    def has(self, name):
+        return any(other == name for other, _ in self.options)
+
+    @property
+    def authority(self):
+        return self.has("cert-authority")
+
+    @property
+    def rights(self):
+        on = set(RIGHTS)
+        names = {"port-forwarding": "port", "agent-forwarding": "agent", "X11-forwarding": "x11", "pty": "pty", "user-rc": "rc"}
+        for name, _ in self.options:
+            if name == "restrict":
+                on = set()
+            elif name in names:
+                on.add(names[name])
+            elif name.removeprefix("no-") in names:
+                on.discard(names[name.removeprefix("no-")])
+        return [word for word in RIGHTS if word in on]
+
+    def until(self, shift):
+        """The first moment of its expiry times; a clock of the zone is so many seconds ahead of UTC."""
+        moments = [moment_of(value, shift) for name, value in self.options if name == "expiry-time"]
+        return min(moments) if moments else None
+
+    @property
+    def free(self):
+        limits = ("from", "expiry-time", *(("command", "principals") if self.authority else ()))
+        return not any(map(self.has, limits))
+
+
+def moment_of(text, shift):
+    form = {8: "%Y%m%d", 12: "%Y%m%d%H%M", 14: "%Y%m%d%H%M%S"}[len(text.rstrip("Z"))]
+    moment = calendar.timegm(time.strptime(text.rstrip("Z"), form))
+    return moment if text.endswith("Z") else moment - shift
+
+
+def is_same(one, other):
+    return one.key.blob == other.key.blob and one.authority == other.authority
+
+
+def is_narrower(new, old):
+    """Whether a line limits its key where an earlier one does not."""
+    lists = any(new.has(name) and not old.has(name) for name in ("permitopen", "permitlisten", "verify-required"))
+    command = new.has("command") and new.first("command") != old.first("command")
+    rights = set(old.rights) - set(new.rights)
+    touch = old.has("no-touch-required") and not new.has("no-touch-required")
+    return bool(new.has("from") or new.has("expiry-time") or command or rights or lists or touch)
+
+
+BAD_SOURCES = ("10.0.0.0/33", "10.0.0.1/8", "a,,b")
+
+
+def pieces(text):
+    return text.split(",")
+
+
+def findings_of(number, entry, earlier, now, shift, minimum):
+    """All that is found of an entry, and the line that lets its key in first."""
+    same = [k for k, other in earlier if is_same(entry, other)]
+    lists = entry.authority and entry.has("principals")
+    shadow = None if lists else next((k for k, other in earlier if is_same(entry, other) and other.free), None)
+    if shadow is not None:
+        yield ("F4" if is_narrower(entry, dict(earlier)[shadow]) else "F3"), str(shadow)
+    elif same:
+        yield "F2", str(same[0])
+    until, names = entry.until(shift), pieces(entry.first("principals") or "")
+    if entry.key.bits is not None and entry.key.bits < minimum:
+        yield "F5", str(entry.key.bits)
+    if until is not None and now > until:
+        yield "F6", ""
+    if entry.first("from") in BAD_SOURCES:
+        yield "F7", "from"
+    if lists and not any(names):
+        yield "F7", "principals"
+    if not entry.authority and entry.has("principals"):
+        yield "F8", "principals"
+    if lists and any(names) and not all(names):
+        yield "F8", "empty-principal"
+    if not entry.authority and entry.has("verify-required") and not entry.key.kind.startswith("sk-"):
+        yield "F8", "verify-required"
+    if any(name == "expiry-time" and not value.endswith("Z") for name, value in entry.options):
+        yield "F8", "local-time"
+    if not entry.authority and entry.has("command") and {"port", "agent", "x11"} & set(entry.rights):
+        yield "F9", ""
+    sources = pieces(entry.first("from")) if entry.has("from") else ["*"]
+    if not entry.authority and any(piece and not piece.strip("*") for piece in sources) and not any(piece.startswith("!") for piece in sources):
+        yield "F15", ""
+    if not entry.authority and not entry.has("command"):
+        yield "F16", ""
+    if not entry.authority and not entry.has("expiry-time"):
+        yield "F17", ""
+    if entry.authority and not entry.has("principals"):
+        yield "F18", ""
+    if not entry.comment:
+        yield "F19", ""
+
+
+def shadow_of(entry, earlier):
+    if entry.authority and entry.has("principals"):
+        return None
+    return next((k for k, other in earlier if is_same(entry, other) and other.free), None)
+
+
+def told_value(entry, name):
+    value = entry.first(name)
+    return None if value is None else escaped(value.encode())
+
+
+def quoted(value):
+    return '"' + value.replace('"', '\\"') + '"'
+
+
+def entry_record(file, number, entry, earlier, now, shift, minimum):
+    """The record of an entry, as JSON has it."""
+    options = ",".join(name if value is None else f"{name}={quoted(value)}" for name, value in entry.options)
+    found = findings_of(number, entry, earlier, now, shift, minimum)
+    return {
+        "file": file, "line": number, "is": "authority" if entry.authority else "key", "type": entry.key.kind, "bits": entry.key.bits,
+        "key": entry.key.mark, "comment": escaped(entry.comment), "options": escaped(options.encode()),
+        "rights": " ".join(entry.rights) or "none", "command": told_value(entry, "command"), "from": told_value(entry, "from"),
+        "principals": told_value(entry, "principals"), "expires": entry.until(shift), "shadowed_by": shadow_of(entry, earlier),
+        "findings": [{"code": code, "detail": detail} for code, detail in found],
+    }
+
+
+def unreadable_record(file, number, code, held):
+    """The record of a line that cannot be read, with the key that it holds all the same."""
+    known = {"type": held.kind, "bits": held.bits, "key": held.mark} if held else {}
+    return {field: None for field in AUTH_FIELDS} | {"file": file, "line": number, "is": "unreadable", "findings": [{"code": "F1", "detail": code}], **known}
+
+
+FLAGS = [
+    *("restrict", "pty", "no-pty", "port-forwarding", "no-port-forwarding", "agent-forwarding", "no-agent-forwarding"),
+    *("X11-forwarding", "no-X11-forwarding", "user-rc", "no-user-rc", "no-touch-required", "verify-required"),
+]
+VALUES = {
+    "command": ["backup", 'say "a, b"', "a\\b", "\xe4"],
+    "from": ["10.0.0.0/8", "192.0.2.0/24,!192.0.2.7", "*", "**,10.1.2.3", "*.example.org", *BAD_SOURCES],
+    "principals": ["ann", "ann,bob", "ann,", ",", "eve"],
+    "expiry-time": ["20260101Z", "20260101", "202512312359Z", "20300101120000", "20300101120000Z"],
+    "permitopen": ["localhost:80"], "permitlisten": ["8080"], "environment": ["A=b c"], "tunnel": ["0"],
+}
+ONCE = ("command", "from", "principals")
+COMMENTS = [b"", b"ann@laptop", b"m\xc3\xbcller \xff", b'a "quoted" \\ one', b"two  words", b"# no comment\x7f\x1b"]
+
+
+def drawn_options(draw):
+    """Options in a random order, and how they are spelled: some in other case."""
+    options = [(draw.choice(FLAGS), None) for _ in range(draw.choice((0, 0, 0, 1, 1, 2, 4)))]
+    for name in draw.sample(sorted(VALUES), draw.choice((0, 0, 0, 1, 1, 2, 3))):
+        options += [(name, draw.choice(VALUES[name]))] * (1 if name in ONCE else draw.choice((1, 1, 2)))
+    draw.shuffle(options)
+    return options
+
+
+def spelled(draw, entry):
+    """A line of this entry, with blanks and cases as they come."""
+    case = draw.choice((str, str, str.upper, str.lower))
+    options = ",".join(case(name) if value is None else f"{case(name)}={quoted(value)}" for name, value in entry.options)
+    blank = draw.choice((" ", " ", "\t", "  "))
+    front = draw.choice(("", "", " ")) + (options + blank if options else "")
+    line = f"{front}{entry.key.kind}{blank}{entry.key.text}".encode("utf-8")
+    end = draw.choice((b"\n", b"\n", b" \n", b"\r\n"))
+    return line + (b" " + entry.comment if entry.comment else b"") + end
+
+
+DAMAGES = [  # the code, the line, and whether a key is held there all the same
+    ("L2", "restrict,,pty {kind} {text} c", True),
+    ("L2", 'command="a {kind} {text} c', True),
+    ("L3", "no-ptty {kind} {text} c", True),
+    ("L4", 'restrict="x" {kind} {text}', True),
+    ("L4", "command {kind} {text}", True),
+    ("L5", 'command="a",command="a" {kind} {text} c', True),
+    ("L6", 'expiry-time="2026" {kind} {text}', True),
+    ("L7", "{kind}", False),
+    ("L9", "ssh-dss AAAAB3NzaC1kc3M= c", False),
+    ("L10", "{kind} {cut} c", False),
+    ("L12", "{other} {text} c", False),
+    ("L13", "{kind}-cert-v01@openssh.com {text} c", False),
+]
+
+
+def damaged(draw, key):
+    """A line that cannot be read: its code, its bytes, and the key that it holds all the same."""
+    code, form, holds = draw.choice(DAMAGES)
+    kind = "ssh-ed25519" if code == "L13" else key.kind
+    other = "ssh-rsa" if key.kind != "ssh-rsa" else "ssh-ed25519"
+    return code, form.format(kind=kind, text=key.text, cut=key.text[:-5], other=other).encode() + b"\n", key if holds else None
+
+
+def drawn_file(draw, keys):
+    """Its bytes; its entries by number; its unreadable lines by number, each with its code and the key it holds."""
+    content, entries, unreadable = b"", [], {}
+    few = draw.sample(keys, draw.choice((1, 2, 3, len(keys))))
+    for number in range(1, draw.choice((2, 6, 12, 25))):
+        what = draw.random()
+        if what < 0.1:
+            content += draw.choice((b"\n", b"# a comment\n", b"   \n", b"\t# x\n"))
+        elif what < 0.25:
+            code, line, held = damaged(draw, draw.choice(few))
+            content, unreadable[number] = content + line, (code, held)
+        else:
+            options = drawn_options(draw)
+            if draw.random() < 0.2:
+                options.insert(draw.randint(0, len(options)), ("cert-authority", None))
+            entry = Entry(options, draw.choice(few), draw.choice(COMMENTS))
+            content += spelled(draw, entry)
+            entries.append((number, entry))
+    return content, entries, unreadable
+
+
+# ---- what a review prints
+
+
+def records_of(answer):
+    """The records of each file by number, and the objects of ends and of the total, in their order."""
+    lines = [json.loads(line, object_pairs_hook=list) for line in answer.decode("ascii").split("\n")[:-1]]
+    objects = [{name: plain(value) for name, value in line} for line in lines]
+    fields = [[name for name, _ in line] for line in lines]
+    return objects, fields
+
+
+def plain(value):
+    """A value of the hook above: the findings are objects again."""
+    return [dict(one) for one in value] if isinstance(value, list) else value
+
+
+def wrong_fields(objects, fields, record_fields):
+    for made, names in zip(objects, fields, strict=True):
+        wanted = TOTAL_FIELDS if made["is"] == "total" else END_FIELDS if made["is"] == "end" else record_fields
+        if names != wanted:
+            yield made, names
+
+
+def is_record(made):
+    return "line" in made
+
+
+def head_of(made):
+    """The first line of a record in text, made of its JSON."""
+    words = [made["is"], made["type"], made["bits"], made["key"], made["comment"] or None]
+    return f"{made['file']}:{made['line']}: " + " ".join(str(word) for word in words if word is not None)
+
+
+def text_lines(made):
+    """The lines of a record in text, made of its JSON, without sentences; of three kinds of lines JSON has no field."""
+    yield head_of(made)
+    for field in ("rights", "command", "from", "principals", "names"):
+        if made.get(field) is not None:
+            yield f"    {field} {made[field]}"
+    if made.get("expires") is not None:
+        moment = made["expires"]
+        yield f"    expires {moment} " + time.strftime("%Y-%m-%dT%H:%M:%SZ", time.gmtime(moment))
+    for found in made["findings"]:
+        yield f"    {found['code']} {found['detail']}".rstrip()
+
+
+def end_line(made):
+    counts = f"{made['lines']} lines, {made['keys']} keys, {made['unreadable']} unreadable, {made['findings']} findings"
+    if made["is"] == "total":
+        return f"total: {made['files']} files, {made['faults']} faults, {counts}"
+    return f"{made['file']}: fault {made['fault']}" if made["fault"] else f"{made['file']}: {counts}, sha256 {made['sha256']}"
+
+
+LEFT_OUT = re.compile(r"    (carry .*|no-touch-required|verify-required)")
+FOUND = re.compile(r"(    F\d+(?: [^:]+)?): .*")
+
+
+def same_text(objects, text):
+    """The lines of the text form that JSON does not give, and those that it gives and the text has not."""
+    lines = [found[1] if (found := FOUND.fullmatch(line)) else line for line in text.decode("ascii").split("\n")[:-1] if not LEFT_OUT.fullmatch(line)]
+    wanted = [line for made in objects for line in (text_lines(made) if is_record(made) else [end_line(made)])]
+    return next(((a, b) for a, b in zip([*lines, None], [*wanted, None]) if a != b), None)
+
+
+def counted(objects, contents):
+    """Whether ends and the total count what stands before them; the wrong ones."""
+    sums, here, number = {"files": 0, "faults": 0, "lines": 0, "keys": 0, "unreadable": 0, "findings": 0}, [], 0
+    for made in objects:
+        if is_record(made):
+            here.append(made)
+        elif made["is"] == "end":
+            content = contents[made["file"]]
+            wanted = {
+                "lines": content.count(b"\n") + (content[-1:] not in (b"", b"\n")), "keys": sum(one["is"] in ("key", "authority") for one in here),
+                "unreadable": sum(one["is"] in ("unreadable", "revocation-unreadable") for one in here), "findings": sum(len(one["findings"]) for one in here),
+            }
+            if wanted != {name: made[name] for name in wanted} or made["sha256"] != hashlib.sha256(content).hexdigest() or any(one["file"] != made["file"] for one in here):
+                yield made, wanted
+            sums["files"] += 1
+            for name, count in wanted.items():
+                sums[name] += count
+            here = []
+        else:
+            number += 1
+            if {name: made[name] for name in sums} != sums or made["format"] != 1:
+                yield made, sums
+    if number != 1 or objects[-1]["is"] != "total":
+        yield "the total", number
+
+
+# ---- random files
+
+ADMITS = re.compile(r"(.+): admits by line (\d+), if the .* good")
+DENIES = re.compile(r"(.+): does not admit: (N\d)\b.*")
+PASSED_OVER = re.compile(r"    (\d+) G1 ([^:]+): .*")
+GIVEN = re.compile(r"    (rights|command|carry) .*")
+
+
+def admissions(text):
+    """Of each file: the line that lets the key in, or the cause; the lines that tell what it may; the lines that cannot
+    be read, with their codes."""
+    found = []
+    for line in text.decode("ascii").split("\n")[:-1]:
+        head = ADMITS.fullmatch(line) or DENIES.fullmatch(line)
+        if head:
+            found.append((head[1], head[2], [], {}))
+        elif GIVEN.fullmatch(line):
+            found[-1][2].append(line)
+        elif gone := PASSED_OVER.fullmatch(line):
+            found[-1][3][int(gone[1])] = gone[2]
+    return found
+
+
+def wrong_admission(answer, records, given, certified):
+    """What is wrong with the record of the line by which a key got in, or with the unreadable ones before it."""
+    file, said, told, unread = answer
+    here = records[file]
+    last = int(said) if said.isdigit() else len(here) + 10_000
+    calls = {number: made["findings"][0]["detail"] for number, made in here.items() if made["is"] == "unreadable" and number < last}
+    if (said.isdigit() or said == "N3") and len(calls) <= 50 and calls != unread:
+        return "unreadable lines", calls, unread
+    if not said.isdigit():
+        return None
+    made = here.get(last)
+    if made is None or made["is"] not in ("key", "authority") or made["shadowed_by"] is not None:
+        return "no line that lets in", made
+    if {found["code"] for found in made["findings"]} & {"F1", "F3", "F4", "F6", "F7"}:
+        return "a line that lets nobody in", made
+    rights = told[0].removeprefix("    rights").split()
+    if certified:
+        return None if made["is"] == "authority" and set(rights) <= set(made["rights"].split()) else ("rights", made, told)
+    listed = given[file, last]
+    wanted = [line.replace("    rights none", "    rights") for line in listed]
+    return None if made["is"] == "key" and [line.rstrip() for line in told] in (wanted, listed) else ("rights", listed, told)
+
+
+def given_lines(text):
+    """Of each record in the text form, the lines that tell what the key may."""
+    found, place = {}, None
+    for line in text.decode("ascii").split("\n"):
+        if head := re.match(r"([^ ].*):(\d+): ", line):
+            place = found[head[1], int(head[2])] = []
+        elif GIVEN.fullmatch(line) and place is not None:
+            place.append(line)
+    return found
+
+
+def listed_by_keygen(room, name):
+    ran = subprocess.run(["ssh-keygen", "-l", "-f", name], cwd=room, stdout=subprocess.PIPE, stderr=subprocess.DEVNULL, check=False)
+    return {line.split()[1].decode() for line in ran.stdout.splitlines() if line.count(b" ") > 1}
+
+
+def by_file(objects):
+    found = {}
+    for made in objects:
+        if is_record(made):
+            found.setdefault(made["file"], {})[made["line"]] = made
+        elif made["is"] == "end":
+            found.setdefault(made["file"], {})
+    return found
+
+
+def reviewed(audit, tally, what, names, contents, record_fields, **asked):
+    """Both forms of a review of these files, after their own checks: the records, and the text."""
+    objects, fields = records_of(audit.run(review(*names, form="json", findings="all", **asked))[1])
+    status, text, errors = audit.run(review(*names, findings="all", **asked))
+    told = any(made.get("findings") for made in objects)
+    tally.check(f"{what}: status", (status, errors), (1 if told else 0, b""))
+    tally.check(f"{what}: fields", list(wrong_fields(objects, fields, record_fields))[:1], [])
+    tally.check(f"{what}: both forms", same_text(objects, text), None)
+    tally.check(f"{what}: counts", list(counted(objects, contents))[:1], [])
+    return objects, text
+
+
+def fingerprint_row(audit, tally, what, names, objects):
+    """Whatever ssh-keygen lists of a file is in a record of it."""
+    records, listed, missing = by_file(objects), 0, []
+    for name in names:
+        found = listed_by_keygen(audit.room, name)
+        listed += len(found)
+        missing += [(name, mark) for mark in found - {made["key"] for made in records[name].values()}]
+    tally.check(f"{what}: of {listed} fingerprints of ssh-keygen, none is missing", missing[:1], [])
+
+
+def model_row(tally, what, objects, files, now, shift=0, minimum=2048):
+    """Each record is the one that the model expects."""
+    wanted = []
+    for name, (_, entries, unreadable) in files.items():
+        records = {number: entry_record(name, number, entry, entries[:place], now, shift, minimum) for place, (number, entry) in enumerate(entries)}
+        records |= {number: unreadable_record(name, number, *rest) for number, rest in unreadable.items()}
+        wanted += [records[number] for number in sorted(records)]
+    found = [made for made in objects if is_record(made)]
+    wrong = next(((a, b) for a, b in zip([*found, None], [*wanted, None]) if a != b), None)
+    tally.check(f"{what}: records as the model has them", wrong, None)
+
+
+def admission_row(audit, tally, what, names, asking, records, given, now):
+    """Whoever gets in, gets in by a line of the review."""
+    wrong, grants = [], 0
+    for key in asking:
+        for address in ("192.0.2.1", "10.1.2.3"):
+            words = ["admits", "--key", key, "--user", "ann", "--address", address, "--host", "h.example.org", "--now", str(now), *names]
+            answers = admissions(audit.run(words)[1])
+            if [answer[0] for answer in answers] != list(names):
+                wrong.append((key, "not all files are answered"))
+                continue
+            grants += sum(answer[1].isdigit() for answer in answers)
+            wrong += [(key, now, answer, bad) for answer in answers if (bad := wrong_admission(answer, records, given, "-cert" in key))]
+    tally.check(f"{what}: {grants} admissions", (wrong[:1], grants > 0), ([], True))
+
+
+def mutated(draw, content):
+    data = bytearray(content)
+    for _ in range(draw.randint(1, 6)):
+        at = draw.randint(0, len(data))
+        if draw.random() < 0.5:
+            data[at : at + draw.choice((0, 1, 5))] = draw.choice((b"\n", b" ", b",", b'"', b"\\", b"\0", b"=", b"\r\n", b"\xff", b"#", b"restrict,"))
+        else:
+            del data[at : at + draw.choice((1, 2, 30))]
+    return bytes(data)
+
+
+def auth_rows(audit, tally, draw, count):
+    """Random authorized_keys files, at several times; then the same files with bytes changed."""
+    keys, asking = make_keys(audit.room)
+    files = {f"r{number}": drawn_file(draw, keys) for number in range(count)}
+    changed = {f"m{number}": (mutated(draw, files[f"r{number}"][0]), None, None) for number in range(count)}
+    for name, (content, *_) in (files | changed).items():
+        (audit.room / name).write_bytes(content)
+    for made in (files, changed):
+        contents = {name: content for name, (content, *_) in made.items()}
+        for now in TIMES:
+            what = f"{'files' if made is files else 'changed files'} at {now}"
+            objects, text = reviewed(audit, tally, what, list(made), contents, AUTH_FIELDS, now=now)
+            if made is files:
+                model_row(tally, what, objects, files, now)
+            if now in TIMES[1:3]:
+                admission_row(audit, tally, what, list(made), asking, by_file(objects), given_lines(text), now)
+        fingerprint_row(audit, tally, what, list(made), objects)
+    contents = {name: content for name, (content, *_) in files.items()}
+    asked = {"now": NEW_YEAR - 3600, "zone": "CET-1", "rsa_minimum": 3073}
+    objects, _ = reviewed(audit, tally, "another zone", list(files), contents, AUTH_FIELDS, **asked)
+    model_row(tally, "another zone", objects, files, NEW_YEAR - 3600, shift=3600, minimum=3073)
+    told_rows(audit, tally, list(files), objects, asked)
+
+
+def told_rows(audit, tally, names, everything, asked):
+    """A list of findings leaves out the others, and nothing else."""
+    default = [f"F{number}" for number in range(1, 15)]
+    for listed, told in ((None, default), ("none", []), ("F9", ["F9"]), ("F19,F1,F4,F4", ["F1", "F4", "F19"]), (",".join(default), default), ("F21", [])):
+        status, answer, _ = audit.run(review(*names, form="json", findings=listed, **asked))
+        objects, _ = records_of(answer)
+        wanted = [{**made, "findings": [found for found in made["findings"] if found["code"] in told]} for made in everything if is_record(made)]
+        count = sum(len(made["findings"]) for made in wanted)
+        tally.check(f"findings {listed}", ([made for made in objects if is_record(made)] == wanted, objects[-1]["findings"], status), (True, count, 1 if count else 0))
+
+
+# ---- names, limits, faults
+
+KEY_LINE = f"ssh-ed25519 {program.KEY} me\n".encode()
+KEY_MARK = "SHA256:kmYcvdi2GkPeWxB6XLjrZB8JHsy2Hm8luHMFp9GMvqk"
+
+
+def key_text(name, number=1):
+    return f"{name}:{number}: key ssh-ed25519 {KEY_MARK} me\n    rights port agent x11 pty rc\n"
+
+
+def end_text(name, content, lines=1, keys=1, unreadable=0, findings=0):
+    return f"{name}: {lines} lines, {keys} keys, {unreadable} unreadable, {findings} findings, sha256 {hashlib.sha256(content).hexdigest()}\n"
+
+
+def total_text(files, faults=0, lines=0, keys=0, unreadable=0, findings=0):
+    return f"total: {files} files, {faults} faults, {lines} lines, {keys} keys, {unreadable} unreadable, {findings} findings\n"
+
+
+ONE = key_text("key") + end_text("key", KEY_LINE)
+EMPTY = end_text("empty", b"", 0, 0)
+
+
+def name_rows(audit, tally):
+    """Names of files: standard input twice, one that is missing, a folder, one with a line break, UTF-8, bytes that are
+    none, one twice."""
+    room = audit.room
+    for name, content in (("key", KEY_LINE), ("empty", b""), ("a\nb", KEY_LINE), ("\u00e9\\", KEY_LINE)):
+        (room / name).write_bytes(content)
+    with open(os.fsencode(room) + b"/\xff", "wb") as other:
+        other.write(KEY_LINE)
+    for what, names, wanted, status, given in (
+        ("a file", ["key"], ONE + total_text(1, 0, 1, 1), 0, b""),
+        ("a file twice", ["key", "key"], 2 * ONE + total_text(2, 0, 2, 2), 0, b""),
+        ("an empty file", ["empty"], EMPTY + total_text(1), 0, b""),
+        ("standard input twice", ["-", "-"], key_text("-") + end_text("-", KEY_LINE) + end_text("-", b"", 0, 0) + total_text(2, 0, 1, 1), 0, KEY_LINE),
+        ("no LF at the end", ["-"], key_text("-") + end_text("-", KEY_LINE[:-1]) + total_text(1, 0, 1, 1), 0, KEY_LINE[:-1]),
+        ("a missing file first", ["missing", "key"], "missing: fault A9\n" + ONE + total_text(2, 1, 1, 1), 2, b""),
+        ("a missing file last", ["key", "missing"], ONE + "missing: fault A9\n" + total_text(2, 1, 1, 1), 2, b""),
+        ("a folder", [".", "key"], ".: fault A9\n" + ONE + total_text(2, 1, 1, 1), 2, b""),
+        ("a file without an end", ["/dev/zero", "key"], "/dev/zero: fault A7\n" + ONE + total_text(2, 1, 1, 1), 2, b""),
+        ("a line break in a name", ["a\nb"], key_text("a\\x0ab") + end_text("a\\x0ab", KEY_LINE) + total_text(1, 0, 1, 1), 0, b""),
+        ("a missing name with a line break", ["c\nd: 9 lines"], "c\\x0ad: 9 lines: fault A9\n" + total_text(1, 1), 2, b""),
+        ("UTF-8 and a backslash in a name", ["\u00e9\\"], key_text("\\xc3\\xa9\\x5c") + end_text("\\xc3\\xa9\\x5c", KEY_LINE) + total_text(1, 0, 1, 1), 0, b""),
+    ):
+        tally.check(f"names: {what}", audit.run(review(*names), given), (status, wanted.encode(), b""))
+    tally.check("names: bytes that are no UTF-8", audit.run(review(b"\xff")), (2, b"fault usage\n", HINT))
+    _, answer, _ = audit.run(review("a\nb", "\u00e9\\", form="json"))
+    objects, _ = records_of(answer)
+    tally.check("names in JSON", [made["file"] for made in objects if is_record(made)], ["a\\x0ab", "\\xc3\\xa9\\x5c"])
+
+
+def many_rows(audit, tally):
+    """A file of 101 findings: none is left out. Ten thousand keys of one file, all of them repeated."""
+    content = 101 * b"ssh-dss AAAA\n"
+    (audit.room / "many").write_bytes(content)
+    status, answer, _ = audit.run(review("many"))
+    lines = answer.decode().split("\n")
+    tally.check("101 findings", (status, sum(line.startswith("    F1 L9: ") for line in lines), lines[-3] + "\n", lines[-2] + "\n"), (1, 101, end_text("many", content, 101, 0, 101, 101), total_text(1, 0, 101, 0, 101, 101)))
+    content = 10_000 * (b"restrict,pty " + KEY_LINE)
+    (audit.room / "many").write_bytes(content)
+    status, answer, _ = audit.run(review("many"))
+    tally.check("10,000 lines of one key", (status, answer.count(b"\n    F3 1: "), answer.endswith(total_text(1, 0, 10_000, 10_000, 0, 9_999).encode())), (1, 9_999, True))
+
+
+def size_rows(audit, tally):
+    """A file at the limit, and one byte past it, of which nothing but the fault is told."""
+    content = (KEY_LINE + (b"#" + b"x" * 998 + b"\n") * (FILE_LIMIT // 1000 + 1))[: FILE_LIMIT + 1]
+    (audit.room / "large").write_bytes(content[:-1])
+    lines = content[:-1].count(b"\n") + (content[-2:-1] != b"\n")
+    wanted = key_text("large") + end_text("large", content[:-1], lines) + total_text(1, 0, lines, 1)
+    tally.check(f"a file of {FILE_LIMIT} bytes", audit.run(review("large")), (0, wanted.encode(), b""))
+    (audit.room / "large").write_bytes(content)
+    wanted = "large: fault A7\n" + ONE + total_text(2, 1, 1, 1)
+    tally.check(f"a file of {FILE_LIMIT + 1} bytes", audit.run(review("large", "key")), (2, wanted.encode(), b""))
+    tally.check("the same in a pipe", audit.run(review("-", "key"), content), (2, wanted.replace("large", "-").encode(), b""))
+    (audit.room / "large").unlink()
+
+
+def fault_rows(audit, tally):
+    """Values that cannot be read; of several, the first in the order of the options is told. Words that are none."""
+    values = {
+        "kind": ["", "auths", "AUTH", "key"], "now": ["", "-", "1.5", "18446744073709551616", "1 "], "zone": ["", "x", "Europe/Berlin"],
+        "rsa-minimum": ["", "x", "4294967296"], "form": ["", "tsv", "JSON"],
+        "findings": ["", ",", "F1,,F2", "F1,", ",F1", "F0", "F22", "F01", "f1", "F", "F1 ,F2", "all,F1", "none,none", "ALL"],
+    }
+    for option, wrong in values.items():
+        for value in wrong:
+            given = {option.replace("-", "_"): value}
+            tally.check(f"--{option} {value!r}", audit.run(review("key", **given)), (2, f"fault value {option}\n".encode(), b""))
+    order = ["kind", "now", "zone", "rsa-minimum", "findings", "form"]
+    for place, option in enumerate(order):
+        given = {name.replace("-", "_"): "x y" for name in order[place:]}
+        tally.check(f"the first of several: {option}", audit.run(review("missing", **given)), (2, f"fault value {option}\n".encode(), b""))
+    for what, words in (
+        ("no name", review()), ("no kind", review("key", kind=None)), ("no time", review("key", now=None)), ("an option twice", review("key", now=1) + ["--now", "1"]),
+        ("an unknown option", review("key", soon=1)), ("a file by an option", review("key", file="key")), ("help", ["review", "--help"]),
+    ):
+        tally.check(f"usage: {what}", audit.run(words), (2, b"fault usage\n", HINT))
+    for listed in ("all", "none", ",".join(f"F{number}" for number in range(21, 0, -1)), "F1,F1"):
+        status = 1 if listed == "all" or "F15" in listed else 0
+        tally.check(f"--findings {listed}", audit.run(review("key", findings=listed))[0], status)
+    for asked in ({"rsa_minimum": 4294967295}, {"now": 18446744073709551615}, {"zone": "EST5EDT,M3.2.0,M11.1.0"}):
+        tally.check(f"a good value: {asked}", audit.run(review("key", **asked))[0], 0)
+
+
+def writer_rows(audit, tally):
+    """Writers that fail: the status is 2."""
+    for name in ("key", "many"):
+        with open("/dev/full", "wb") as full:
+            tally.check(f"a full device: {name}", audit.status(review(name), full), (2, b""))
+        write = program.closed_pipe()
+        tally.check(f"a closed pipe: {name}", audit.status(review(name), write), (2, b""))
+        os.close(write)
+
+
+# ---- known_hosts
+
+ITEMS = ["h.example", "H.example", "g.example", "192.0.2.7", "[h.example]:2222", "*.example", "!h.example", "*", "2001:db8::7"]
+HASHED = [program.hashed_name(name, program.SALTS[:20]) for name in ("h.example", "g.example")]
+MARKERS = ["", "", "", "", "@cert-authority ", "@revoked "]
+TRUSTS = re.compile(r"(.+): trusts by line (\d+), if the .* good")
+MISTRUSTS = re.compile(r"(.+): does not trust: (N\d)(?: (\d+))?: .*")
+
+
+def drawn_hosts(draw, keys):
+    """The bytes of a known_hosts file."""
+    lines = []
+    for _ in range(draw.choice((1, 5, 12))):
+        key = draw.choice(keys)
+        names = draw.choice(HASHED) if draw.random() < 0.2 else ",".join(draw.sample(ITEMS, draw.choice((1, 1, 2, 3))))
+        line = f"{draw.choice(MARKERS)}{names} {key.kind} {key.text}{draw.choice(('', ' c'))}"
+        damage = draw.random()
+        if damage < 0.05:
+            line = f"@revoked * {key.kind}"
+        elif damage < 0.1:
+            line = line.replace(" ", ", ", 1)
+        elif damage < 0.15:
+            line = line[: -draw.randint(1, 20)]
+        elif damage < 0.2:
+            line = draw.choice(("# a comment", "", "@frob h ssh-rsa AAAA", "|1|x|y ssh-ed25519 " + program.KEY))
+        lines.append(line)
+    return "".join(line + "\n" for line in lines).encode()
+
+
+def wrong_trust(line, records):
+    """What is wrong with the record of the line by which a host is trusted, or that revokes its key."""
+    if found := TRUSTS.fullmatch(line):
+        here, made = records[found[1]], records[found[1]].get(int(found[2]))
+        blind = [one for one in here.values() if one["is"] == "revocation-unreadable"]
+        good = made is not None and made["is"] in ("key", "authority") and not blind and not {"F1", "F10", "F12"} & {one["code"] for one in made["findings"]}
+        return None if good else (line, made, blind)
+    if (found := MISTRUSTS.fullmatch(line)) and found[2] in ("N1", "N2"):
+        made = records[found[1]].get(int(found[3]))
+        return None if made and made["is"] == ("revoked" if found[2] == "N1" else "revocation-unreadable") else (line, made)
+    return None
+
+
+def known_rows(audit, tally, draw, count):
+    """The worked file; random known_hosts files, and the hosts that are trusted by them."""
+    (audit.room / "known").write_text(HOSTS)
+    for form, wanted in (("text", HOSTS_TEXT), ("json", HOSTS_JSON)):
+        tally.check(f"worked: known_hosts as {form}", audit.run(review("known", kind="known", now=1_770_000_000, form=form)), (1, wanted.encode(), b""))
+    found_rows(audit, tally, "known", FOUND_OF_HOSTS)
+    keys = [key_of(audit.room, f"key{number}.pub", bits if kind == "rsa" else None) for number, (kind, bits) in enumerate(MADE)]
+    contents = {f"h{number}": drawn_hosts(draw, keys) for number in range(count)}
+    for name, content in contents.items():
+        (audit.room / name).write_bytes(content)
+    objects, _ = reviewed(audit, tally, "known_hosts files", list(contents), contents, KNOWN_FIELDS, kind="known")
+    fingerprint_row(audit, tally, "known_hosts files", list(contents), objects)
+    records, wrong, grants = by_file(objects), [], 0
+    for key in keys:
+        for host in ("h.example", "192.0.2.7", "g.example"):
+            lines = audit.run(["trusts", "--key", key.file, "--host", host, "--now", "150", *contents])[1].decode("ascii").split("\n")
+            grants += sum(TRUSTS.fullmatch(line) is not None for line in lines)
+            wrong += [(key.file, host, bad) for line in lines if (bad := wrong_trust(line, records))]
+    tally.check(f"known_hosts files: {grants} hosts trusted", (wrong[:1], grants > 0), ([], True))
+
+
+def main():
+    parser = argparse.ArgumentParser(description=__doc__, formatter_class=argparse.RawDescriptionHelpFormatter)
+    parser.add_argument("program", nargs="?", default=str(DEFAULT))
+    parser.add_argument("--seed", type=int, default=1)
+    parser.add_argument("--files", type=int, default=200)
+    args = parser.parse_args()
+    path, tally = os.path.abspath(args.program), Tally()
+    if not os.access(path, os.X_OK):
+        print(f"{path} is not built: nothing was tried\n0 passed, 1 failed")
+        return 1
+    with tempfile.TemporaryDirectory() as folder:
+        audit, draw = Program(path, pathlib.Path(folder)), random.Random(args.seed)
+        worked_rows(audit, tally)
+        found_rows(audit, tally, "auth", FOUND_OF_KEYS)
+        auth_rows(audit, tally, draw, args.files)
+        for row in (name_rows, many_rows, size_rows, fault_rows, writer_rows):
+            row(audit, tally)
+        known_rows(audit, tally, draw, args.files)
+    print(f"{tally.passed} passed, {tally.failed} failed")
+    return 1 if tally.failed else 0
+
+
+if __name__ == "__main__":
+    sys.exit(main())
