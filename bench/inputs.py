@@ -233,15 +233,15 @@ def endless(kind):
 
 def whole(kind, count):
     """The lines of a file of `count` lines, or with None of as many as fit in FILE_LIMIT bytes."""
-    key = KINDS[kind].last
-    last = line_of(KINDS[kind].last_front, key, "the-last-line")
+    last_key = KINDS[kind].last
+    last = line_of(KINDS[kind].last_front, last_key, "the-last-line")
     room = FILE_LIMIT - len(last)
     for line, key in itertools.islice(endless(kind), count and count - 1):
         room -= len(line)
         if room < 0:
             break
         yield line, key
-    yield last, key
+    yield last, last_key
 
 
 @dataclasses.dataclass

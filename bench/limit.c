@@ -7,6 +7,7 @@
  *   limit auth FILE                            authorized_keys: the lines, each ended by an LF
  *   limit known FILE                           the same of known_hosts
  *   limit hash FILE SALTS                      known_hosts: a line for each plain name, hashed with the next 20 bytes
+ *   limit digest FILE..                        authorized_keys: the fingerprint of each line's key, and each file's SHA-256
  *
  * It streams the file. Of each line it finds the end, skips blanks and comments, cuts options or names off, looks the
  * type up, decodes the base64, walks the fields of the key blob, and compares the blob with the key. Only where that is
@@ -16,7 +17,8 @@
  * It prints "line N", "revoked N" or "none", and "unreadable N" where it met such lines. Status: 0 found, 1 not found,
  * 2 no such file, command or base64. Of auth and known it writes the lines as they are, each after it was looked at in
  * the same way, and nothing else; the status is 0. Of hash it writes such lines, and every other as it is; the status is
- * 2 where the salts run out.
+ * 2 where the salts run out. Of digest it writes "FILE:N SHA256:.." for each line with a key, looked at in the same way,
+ * and "FILE HEX" at the end of a file.
  */
 #include <fcntl.h>
 #include <stdint.h>
@@ -26,6 +28,7 @@
 #include <unistd.h>
 
 #include "hmac.h"
+#include "sha256.h"
 
 enum { LINE_LIMIT = 65536, BUFFER = 4 * LINE_LIMIT };
 
@@ -77,15 +80,15 @@ static long decode(Span text, uint8_t *out) {
     return put(end, bits, 3 - padding) - out;
 }
 
-/* Writes the base64 of 20 bytes. */
-static void write_base64(const uint8_t bytes[20], FILE *out) {
-    for (int at = 0; at < 18; at += 3) {
+/* Writes the base64 of so many bytes, two more than a multiple of three, without the sign that fills it up. */
+static void write_base64(const uint8_t *bytes, size_t len, FILE *out) {
+    size_t whole = len - 2;
+    for (size_t at = 0; at < whole; at += 3) {
         uint32_t bits = (uint32_t)bytes[at] << 16 | (uint32_t)bytes[at + 1] << 8 | bytes[at + 2];
         for (int place = 0; place < 4; place++) putc_unlocked(ALPHABET[bits >> (18 - 6 * place) & 63], out);
     }
-    uint32_t bits = (uint32_t)bytes[18] << 10 | (uint32_t)bytes[19] << 2;
+    uint32_t bits = (uint32_t)bytes[whole] << 10 | (uint32_t)bytes[whole + 1] << 2;
     for (int place = 0; place < 3; place++) putc_unlocked(ALPHABET[bits >> (12 - 6 * place) & 63], out);
-    putc_unlocked('=', out);
 }
 
 /* ---- key blobs (RFC 4253 section 6.6, RFC 5656, RFC 8709, PROTOCOL.u2f) */
@@ -162,6 +165,7 @@ static int is_key(Span blob, const Type *type) {
 typedef struct {
     int file, at_end;
     size_t from, to;
+    Sha256 *hash; /* of all that is read, if it is wanted */
     _Alignas(4096) uint8_t buffer[BUFFER]; /* from the start of a page the whole is a seventh faster */
 } Lines;
 
@@ -181,6 +185,7 @@ static int next_line(Lines *lines, Span *line) {
         lines->from = 0;
         lines->to = left > LINE_LIMIT ? LINE_LIMIT + 1 : left;
         ssize_t got = read(lines->file, lines->buffer + lines->to, BUFFER - lines->to);
+        if (got > 0 && lines->hash) sha256_take(lines->hash, lines->buffer + lines->to, (size_t)got);
         if (got <= 0) lines->at_end = 1;
         else lines->to += (size_t)got;
     }
@@ -264,6 +269,7 @@ typedef struct {
 typedef enum { PASSES, ADMITS, REVOKES, UNREADABLE } Verdict;
 
 static uint8_t blob[LINE_LIMIT];
+static long blob_len; /* of the last line that was looked at, or -1 */
 
 static int is_sought(long len, const Sought *sought) {
     return same((Span){blob, (size_t)len}, sought->key);
@@ -342,7 +348,7 @@ static Verdict login_line(Span line, const Sought *sought) {
         rest = line;
         type = find_type(take_word(&rest));
     }
-    long len = read_key(type, rest, blob);
+    long len = blob_len = read_key(type, rest, blob);
     if (len < 0) return UNREADABLE;
     if (!is_sought(len, sought) || options.is_authority != sought->by_authority) return PASSES;
     return options.has_from && !permits(options.from, sought->texts, sought->count) ? PASSES : ADMITS;
@@ -461,10 +467,10 @@ static void write_hashed(Span marker, Span name, const uint8_t salt[SALT], Span 
     hmac_sha1(salt, text, name.len, digest);
     if (marker.len) fwrite(marker.at, 1, marker.len, stdout), putc_unlocked(' ', stdout);
     fputs("|1|", stdout);
-    write_base64(salt, stdout);
-    putc_unlocked('|', stdout);
-    write_base64(digest, stdout);
-    putc_unlocked(' ', stdout);
+    write_base64(salt, SALT, stdout);
+    fputs("=|", stdout);
+    write_base64(digest, DIGEST, stdout);
+    fputs("= ", stdout);
     fwrite(rest.at, 1, rest.len, stdout);
     putc_unlocked('\n', stdout);
 }
@@ -487,9 +493,51 @@ static int hash_lines(Lines *lines, FILE *salts) {
     return 0;
 }
 
+/* The fingerprint of each line's key, and the file's own hash. */
+static int digest_lines(Lines *lines, const char *name) {
+    static const Sought nothing;
+    static const Command command = {"digest", 0, 0, 0, login_line};
+    uint8_t digest[SHA256_DIGEST];
+    Sha256 hash, whole;
+    Span line;
+    sha256_begin(&whole);
+    lines->hash = &whole;
+    for (unsigned long number = 1; next_line(lines, &line); number++) {
+        blob_len = -1;
+        verdict_of(line, &command, &nothing);
+        if (blob_len < 0) continue;
+        sha256_begin(&hash);
+        sha256_take(&hash, blob, (size_t)blob_len);
+        sha256_end(&hash, digest);
+        printf("%s:%lu SHA256:", name, number);
+        write_base64(digest, SHA256_DIGEST, stdout);
+        putc_unlocked('\n', stdout);
+    }
+    sha256_end(&whole, digest);
+    printf("%s ", name);
+    for (int at = 0; at < SHA256_DIGEST; at++) printf("%02x", digest[at]);
+    putc_unlocked('\n', stdout);
+    return 0;
+}
+
+/* The same of each file, in its turn. */
+static int digest_files(int count, char **names, Lines *lines) {
+    fill_digits();
+    for (int at = 0; at < count; at++) {
+        lines->from = lines->to = 0;
+        lines->at_end = 0;
+        lines->file = open(names[at], O_RDONLY);
+        if (lines->file < 0) return 2;
+        digest_lines(lines, names[at]);
+        close(lines->file);
+    }
+    return 0;
+}
+
 int main(int argc, char **argv) {
     static Lines lines;
     static uint8_t key[LINE_LIMIT];
+    if (argc > 2 && strcmp(argv[1], "digest") == 0) return digest_files(argc - 2, argv + 2, &lines);
     const Command *command = argc < 2 ? NULL : find_command(argc, argv);
     int hashes = argc == 4 && strcmp(argv[1], "hash") == 0;
     if (!command && !hashes) return 2;

@@ -147,7 +147,7 @@ class Bench:
     def __init__(self, binary, folder):
         self.binary, self.folder = binary, folder
         self.keygen = needed("ssh-keygen", "openssh-client")
-        self.limit = self.compile("limit", "-O3", sources=["hmac"])
+        self.limit = self.compile("limit", "-O3", sources=["hmac", "sha256"])
         self.meter = self.compile("meter", "-O2", "-static")
 
     def compile(self, name, *flags, sources=()):
