@@ -92,7 +92,11 @@ impl KeptLine {
         ensures count { OnOk result (kept_count self.new ≤ kept_count self.old + length part.now) }
         ensures bound { length self.new.bytes ≤ line_limit }
         ensures err { OnErr result (self.new ≡ self.old) }
-        ensures spare { line_limit < length part.now → IsOk result }
+        ensures spare { (line : List ℕ)
+            → Keeps self.old line
+            → line_limit < length line + length part.now
+            → IsOk result }
+        ensures nothing { length part.now ≡ 0 → IsOk result }
     {
         if self.too_long {
             return Ok(());
@@ -113,6 +117,7 @@ impl KeptLine {
         ensures bound { length self.new.bytes ≤ line_limit }
         ensures err { OnErr result (self.new ≡ self.old) }
         ensures spare { line_limit < length part.now → IsOk result }
+        ensures nothing { length part.now ≡ 0 → IsOk result }
     {
         if part.len() > LINE_LIMIT {
             self.bytes.clear();
@@ -129,6 +134,7 @@ impl KeptLine {
 fn replace(buffer: &mut Vec<u8>, part: &[u8]) -> Result<(), AllocError>
     ensures ok { OnOk result (buffer.new.items ≡ part.now) }
     ensures err { OnErr result (buffer.new.items ≡ buffer.old.items) }
+    ensures spare { length part.now ≤ length buffer.old.items → IsOk result }
 {
     let held = buffer.len();
     if part.len() <= held {

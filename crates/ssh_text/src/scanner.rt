@@ -118,8 +118,13 @@ impl Scanner {
         ensures used { IfOk result (λ fed. self.new.used ≡ self.old.used + fed.0) }
         ensures bounded { length self.new.kept.bytes ≤ line_limit }
         ensures err { OnErr result (self.new ≡ self.old) }
-        // What makes a line too long is used whatever memory does.
-        ensures spare { line_limit < line_len piece.now → IsOk result }
+        // What makes a line too long is used whatever memory does,
+        ensures spare { (bytes : List ℕ)
+            → StandsFor self.old bytes
+            → line_limit < length (unfinished bytes) + line_len piece.now
+            → IsOk result }
+        // and so is a piece of no bytes, and the LF that a piece begins with.
+        ensures nothing { line_len piece.now ≡ 0 → IsOk result }
     {
         let end = line_len(piece);
         self.take_part(&piece[..end])?;
@@ -142,7 +147,11 @@ impl Scanner {
         ensures ready { OnOk result (self.new.ready ≡ false) }
         ensures bounded { length self.new.kept.bytes ≤ line_limit }
         ensures err { OnErr result (self.new ≡ self.old) }
-        ensures spare { line_limit < length part.now → IsOk result }
+        ensures spare { (bytes : List ℕ)
+            → StandsFor self.old bytes
+            → line_limit < length (unfinished bytes) + length part.now
+            → IsOk result }
+        ensures nothing { length part.now ≡ 0 → IsOk result }
     {
         if self.ended {
             self.kept.begin(part)?;

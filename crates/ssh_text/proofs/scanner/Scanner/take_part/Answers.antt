@@ -1,6 +1,7 @@
-use Rattle.std.proofs.Common.{◌+◌, ◌<◌, ◌^◌, length, sym, ap, subst, arith}
+use Rattle.std.proofs.Common.{◌≡◌, ◌+◌, ◌<◌, ◌^◌, false, true, length, sym, ap, subst, arith}
 use Rattle.ssh_text.specs.Scan.{StandsFor}
-use Rattle.ssh_text.proofs.ScanLemmas.{counted-append, counted-begin, stands-append, stands-begin}
+use Rattle.ssh_text.specs.Text.{line_limit}
+use Rattle.ssh_text.proofs.ScanLemmas.{counted-append, counted-begin, stands-append, stands-begin, unfinished-ended, unfinished-open}
 use Rattle.ssh_text.proofs.scanner.Scanner.take_part.Goals.{then-self+in_ok-begin, else-self+in_ok-append}
 use Rattle.ssh_text.proofs.scanner.Scanner.take_part.Goals as goal
 
@@ -25,3 +26,17 @@ returns-clause-stands_for c free bytes h =
       | else-self+in_ok-append w ↦
           rw w.self-inside-is (stands-append _ _ bytes c.args.part.now w.if-self.false free w.in_ok-append.ensures.ok stands)
     ]
+
+pub returns-in_err-begin-clause-spare : goal.returns-in_err-begin-clause-spare
+returns-in_err-begin-clause-spare c bytes h =
+    let stands = subst (λ s. StandsFor s bytes) (sym c.self.view_is) h in
+    let none = unfinished-ended _ bytes stands c.if-self.true in
+    rw none (λ long.
+    let past : line_limit < length c.args.part.now = omega arith in
+    let bad : false ≡ true = c.in_err-begin.ensures.spare past in cc)
+
+pub returns-in_err-append-clause-spare : goal.returns-in_err-append-clause-spare
+returns-in_err-append-clause-spare c bytes h =
+    let stands = subst (λ s. StandsFor s bytes) (sym c.self.view_is) h in
+    let line = unfinished-open _ bytes stands c.if-self.false in
+    rw line (λ long. let bad : false ≡ true = c.in_err-append.ensures.spare stands.line stands.kept long in cc)
