@@ -1,6 +1,6 @@
 //! The names that hosts are looked up by.
 
-ghost use Rattle.std.specs.Prelude.{◌≡◌, IfOk};
+ghost use Rattle.std.specs.Prelude.{◌≡◌, length, IfOk, IsOk};
 ghost use Rattle.ssh_names.specs.Names.{lookup_name};
 
 use std::alloc::{AllocError, Global};
@@ -12,16 +12,20 @@ const PLAIN_PORT: u16 = 22;
 /// `[host]:port` with the port in decimal (sshd(8), SSH_KNOWN_HOSTS FILE FORMAT). `Err` means out
 /// of memory.
 pub fn lookup_name(alloc: Global, host: &[u8], port: u16) -> Result<Vec<u8>, AllocError>
-    ensures { IfOk result (λ name. name.items ≡ lookup_name host.now port) }
+    ensures value { IfOk result (λ name. name.items ≡ lookup_name host.now port) }
+    // A name of no bytes takes no memory.
+    ensures spare { length host.now ≡ 0 → port ≡ 22 → IsOk result }
 {
-    let host = host.to_ascii_lowercase(alloc)?;
+    let mut lower = Vec::new(alloc);
+    lower.extend_from_slice(host)?;
+    lower.make_ascii_lowercase();
     if port == PLAIN_PORT {
-        return Ok(host);
+        return Ok(lower);
     }
     let port = port.to_string(alloc)?;
-    let mut name = Vec::with_capacity(alloc, host.len() + 8)?;
+    let mut name = Vec::with_capacity(alloc, lower.len() + 8)?;
     name.push(b'[')?;
-    name.extend_from_slice(&host)?;
+    name.extend_from_slice(&lower)?;
     name.extend_from_slice(b"]:")?;
     name.extend_from_slice(port.as_bytes())?;
     Ok(name)
