@@ -1,5 +1,5 @@
 -- Values with an escaped quote, and without.
-use Rattle.std.proofs.Common.{◌≡◌, ℕ, true, false, ◌&&◌, ◌==◌, List, [], ◌∷◌, refl, ap, inl, inr}
+use Rattle.std.proofs.Common.{◌≡◌, ℕ, length, true, false, ◌&&◌, ◌==◌, List, [], ◌∷◌, refl, ap, inl, inr}
 use Rattle.std.specs.List.{list_all}
 use Rattle.std.specs.Char.{is_ascii_digit}
 use Rattle.std.proofs.lemmas.Bool.{cases_Bool, or_parts, or_cases, or_right, or_left, and_parts, and_right, eqb-true}
@@ -25,6 +25,22 @@ quote-stays [] h = h
 quote-stays (c ∷ cs) h =
     let e : c ≡ 34 = eqb-true c 34 h in
     rw e refl
+
+quote-some : (cs : List ℕ) → begins_with_quote cs ≡ true → length (unescaped cs) ≡ 0 → ⊥
+quote-some [] h z = cc
+quote-some (c ∷ cs) h z =
+    let e : c ≡ 34 = eqb-true c 34 h in
+    let none : length (unescaped (34 ∷ cs)) ≡ 0 = rw e at z in
+    cc
+
+-- a value of no bytes stands between quotes as no bytes
+pub unescaped_none : (text : List ℕ) → length (unescaped text) ≡ 0 → length text ≡ 0
+unescaped_none [] h = refl
+unescaped_none (c ∷ cs) h =
+    elim (cases_Bool ((c == 92) && begins_with_quote cs)) [
+      | inl e ↦ absurd (quote-some cs ((and_parts (c == 92) (begins_with_quote cs) e).1) (rw e at h))
+      | inr e ↦ let some : length (c ∷ unescaped cs) ≡ 0 = rw e at h in cc
+    ]
 
 pub escape_has_quote : (text : List ℕ) → has_escape text ≡ true → has_quote (unescaped text) ≡ true
 escape_has_quote [] h = h

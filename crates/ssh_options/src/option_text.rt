@@ -8,6 +8,7 @@ ghost use Rattle.std.specs.Prelude.{
   drop,
   false,
   IfOk,
+  IsOk,
   option_map,
   option_copied,
 };
@@ -196,7 +197,8 @@ pub(crate) fn begins_with_quote(text: &[u8]) -> bool
 
 /// What stands between quotes, with a quote for each `\"`.
 pub(crate) fn unescape(alloc: Global, quoted: &[u8]) -> Result<Bytes, AllocError>
-    ensures { IfOk result (λ value. value ≡ unescaped quoted.now) }
+    ensures value { IfOk result (λ value. value ≡ unescaped quoted.now) }
+    ensures spare { length quoted.now ≡ 0 → IsOk result }
 {
     let mut value = Vec::new(alloc);
     for (i, byte) in quoted.iter().enumerate() {

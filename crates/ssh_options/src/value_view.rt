@@ -1,6 +1,6 @@
 //! The value of an option, in its line.
 
-ghost use Rattle.std.specs.Prelude.{◌≡◌, ◌↔◌, IfOk, IfSome, IsSome, IsTrue, bytes_eq, false};
+ghost use Rattle.std.specs.Prelude.{◌≡◌, ◌↔◌, length, IfOk, IfSome, IsOk, IsSome, IsTrue, bytes_eq, false};
 ghost use Rattle.std.specs.Iterator.{YieldsFirst, item_count};
 ghost use Rattle.ssh_expiry.specs.Expiry.{is_expiry_text};
 ghost use Rattle.ssh_options.specs.OptionText.{unescaped};
@@ -84,8 +84,11 @@ impl<'a> ValueView<'a> {
     }
 
     /// The value, copied. `Err` means out of memory, and nothing else.
+    #[tactic(auto, using(crate::proofs::EscapeLemmas::unescaped_none))]
     pub fn to_bytes(&self, alloc: Global) -> Result<Bytes, AllocError>
-        ensures { IfOk result (λ value. value ≡ self.now) }
+        ensures value { IfOk result (λ value. value ≡ self.now) }
+        // A value of no bytes takes no memory.
+        ensures spare { length self.now ≡ 0 → IsOk result }
     {
         let value = unescape(alloc, self.quoted)?;
         Ok(value)
