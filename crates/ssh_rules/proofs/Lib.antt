@@ -4,4 +4,5 @@ pub mod ForceLemmas
 pub mod SizeLemmas
 pub mod AdmissionLemmas
 pub mod HostAdmissionLemmas
+pub mod RevocationLemmas
 pub mod SpareLemmas

@@ -4,6 +4,7 @@ pub mod Obstacles
 pub mod CertificateForce
 pub mod Admission
 pub mod HostAdmission
+pub mod Judged
 pub mod Revocation
 pub mod ValueText
 pub mod Verdict

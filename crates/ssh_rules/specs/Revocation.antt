@@ -1,9 +1,11 @@
 -- What a line of a known_hosts file says against an offer (sshd(8), SSH_KNOWN_HOSTS FILE FORMAT).
-use Rattle.std.specs.Prelude.{◌≡◌, ◌⊎◌, ◌||◌, ℕ, Bool, true, false, List}
+use Rattle.std.specs.Prelude.{◌≡◌, ◌⊎◌, ◌||◌, ℕ, nat_lt, Bool, true, false, List, length}
 use Rattle.std.specs.Str.{bytes_eq}
 use Rattle.ssh_keys.specs.PublicKey.{key_blob}
 use Rattle.ssh_lines.specs.declared.known.KnownLine.{KnownLine}
 use Rattle.ssh_lines.specs.declared.known.KnownLine.TheVariants.{Blank, Comment, Entry, Revoked, RevokedUnreadable, Unreadable}
+use Rattle.ssh_lines.specs.Front.{begins_with}
+use Rattle.ssh_text.specs.Text.{body_of, line_limit}
 use Rattle.ssh_offers.specs.Offer.{Offer, certified, plain}
 
 -- These are the blob of the offered key, or of the certificate's signer.
@@ -33,3 +35,11 @@ may_revoke (Entry e) = false
 may_revoke (Unreadable why) = false
 may_revoke (Revoked blob) = false
 may_revoke RevokedUnreadable = true
+
+-- The line can be a revocation, by its front alone: it is past the limit, or its first field begins with `@`.
+abbrev pub can_revoke : List ℕ → Bool
+can_revoke line = nat_lt line_limit (length line) || begins_with 64 (body_of line)
+
+-- a line that revokes neither an offer's keys, nor may revoke any
+abbrev pub RevokesNothing : KnownLine → Type 0
+RevokesNothing line = ((offer : Offer) → revokes_offer offer line ≡ false) × (may_revoke line ≡ false)

@@ -1,8 +1,7 @@
 //! Whether an entry of an authorized_keys file admits a login.
 
-ghost use Rattle.std.specs.Prelude.{◌≡◌, ◌&&◌, ◌||◌, false, IfOk, IsOk, option_copied};
+ghost use Rattle.std.specs.Prelude.{◌≡◌, ◌&&◌, ◌||◌, false, IfOk, IsOk, Some};
 ghost use Rattle.std.specs.List.{list_any};
-ghost use Rattle.ssh_certs.specs.CertificateOf.{certificate_of};
 ghost use Rattle.ssh_options.specs.declared.option.ValueName.TheVariants.{
   ExpiryTime,
   From,
@@ -14,8 +13,6 @@ ghost use Rattle.ssh_rules.specs.CertificateRules.{serves};
 ghost use Rattle.ssh_rules.specs.Obstacles.{first_obstacle};
 ghost use Rattle.ssh_rules.specs.Admission.{
   certificate_obstacle,
-  commands_differ,
-  critical_rows,
   is_expired,
   is_past,
   is_past_time,
@@ -25,24 +22,22 @@ ghost use Rattle.ssh_rules.specs.Admission.{
   offer_obstacle,
   user_force_rows,
 };
+ghost use Rattle.ssh_rules.specs.Judged.{judged_of};
 ghost use Rattle.ssh_rules.specs.Spare.{has_escaped, is_about, is_escaped, is_named};
 ghost use Rattle.ssh_offers.specs.Query.{login_of};
-ghost use Rattle.ssh_offers.specs.OfferView.{offer_of};
 ghost use Rattle.ssh_offers.specs.ClaimViews.{claim_of};
 
-use crate::certificate::{
-    certificate_source, first_unknown, has_listed, has_repeated, have_their_forms, serves,
-};
+use crate::certificate::has_listed;
+use crate::judged::JudgedCertificate;
 use crate::obstacle::{
     period_obstacle, permit_obstacle, principal_obstacle, role_obstacle, size_obstacle,
-    unknown_obstacle,
 };
 use crate::reason::{Obstacle, Reason};
+use crate::sought_login::SoughtLogin;
 use crate::value_text::ValueText;
-use ssh_certs::{CertView, CertificateOption};
 use ssh_expiry::expiry;
 use ssh_lines::AuthEntryView;
-use ssh_offers::{LoginClaimView, Offer};
+use ssh_offers::LoginClaimView;
 use ssh_options::{Flag, ValueName, ValueView};
 use ssh_patterns::{Permit, source_list};
 use std::alloc::{AllocError, Global};
@@ -140,19 +135,18 @@ fn line_obstacle(
 fn has_served_principal(
     alloc: Global,
     entry: &AuthEntryView<'_>,
-    claim: &LoginClaimView<'_>,
-    certificate: &CertView<'_>,
+    judged: &JudgedCertificate<'_>,
 ) -> Result<bool, AllocError>
     ensures value { IfOk result (λ served.
-        served ≡ serves (setting Principals entry.now.options) (claim_of claim.now).query.user
-        (certificate_of certificate.now)) }
+        served ≡ serves (setting Principals entry.now.options) judged.now.user
+        judged.now.certificate) }
     ensures spare { is_escaped (setting Principals entry.now.options) ≡ false → IsOk result }
 {
     match entry.settings(ValueName::Principals).next() {
-        None => Ok(serves(certificate, claim.query.user)),
+        None => Ok(judged.serves_user()),
         Some(value) => {
             let list = ValueText::new(alloc, &value)?;
-            Ok(has_listed(certificate, list.as_slice()))
+            Ok(has_listed(judged.certificate(), list.as_slice()))
         }
     }
 }
@@ -161,103 +155,56 @@ fn has_served_principal(
 fn force_obstacle(
     alloc: Global,
     entry: &AuthEntryView<'_>,
-    claim: &LoginClaimView<'_>,
-    certificate: &CertView<'_>,
+    sought: &SoughtLogin<'_>,
+    judged: &JudgedCertificate<'_>,
 ) -> Result<Option<Obstacle>, AllocError>
+    requires { judged_of sought.now ≡ Some judged.now }
     ensures value { IfOk result (λ o.
-        o ≡ first_obstacle (user_force_rows entry.now (claim_of claim.now).query
-        (certificate_of certificate.now))) }
+        o ≡ first_obstacle (user_force_rows entry.now sought.now.query judged.now.certificate)) }
     ensures spare { is_escaped (setting Principals entry.now.options) ≡ false → IsOk result }
 {
-    if let Some(obstacle) = period_obstacle(USER_CERTIFICATE, claim.query.now, certificate) {
+    let query = &sought.claim().query;
+    if let Some(obstacle) = period_obstacle(USER_CERTIFICATE, query.now, judged.certificate()) {
         return Ok(Some(obstacle));
     }
-    let serves = has_served_principal(alloc, entry, claim, certificate)?;
-    Ok(principal_obstacle(serves, claim.query.empty_principals, certificate))
-}
-
-/// Both force a command, and these differ.
-fn commands_differ(line: Option<ValueView<'_>>, own: Option<&[u8]>) -> bool
-    ensures { result ≡ commands_differ line.entry (option_copied own.entry) }
-{
-    match (line, own) {
-        (Some(line), Some(own)) => !line.is_text(own),
-        _ => false,
-    }
-}
-
-/// Why what the certificate insists on is not met.
-fn critical_obstacle(
-    alloc: Global,
-    entry: &AuthEntryView<'_>,
-    claim: &LoginClaimView<'_>,
-    certificate: &CertView<'_>,
-) -> Result<Option<Obstacle>, AllocError>
-    ensures value { IfOk result (λ o.
-        o ≡ first_obstacle (critical_rows entry.now (claim_of claim.now).address
-        (certificate_of certificate.now))) }
-    ensures spare { is_named (first_obstacle (critical_rows entry.now (claim_of claim.now).address
-        (certificate_of certificate.now))) ≡ false → IsOk result }
-{
-    if let Some(obstacle) = unknown_obstacle(alloc, first_unknown(certificate.critical()))? {
-        return Ok(Some(obstacle));
-    }
-    if has_repeated(certificate) {
-        return Ok(Some(Obstacle::Listed(Reason::CriticalRepeated)));
-    }
-    if !have_their_forms(certificate.critical()) {
-        return Ok(Some(Obstacle::Listed(Reason::CriticalData)));
-    }
-    let source = certificate_source(certificate, &claim.address);
-    if let Some(obstacle) = permit_obstacle(
-        Reason::CertSourceBad,
-        Reason::CertSourceRefused,
-        source,
-    ) {
-        return Ok(Some(obstacle));
-    }
-    let own = certificate.text_of(CertificateOption::ForceCommand);
-    if commands_differ(entry.settings(ValueName::Command).next(), own) {
-        return Ok(Some(Obstacle::Listed(Reason::CommandConflict)));
-    }
-    Ok(None)
+    let serves = has_served_principal(alloc, entry, judged)?;
+    Ok(principal_obstacle(serves, query.empty_principals, judged.certificate()))
 }
 
 /// Why the certificate does not serve for a login by this line.
 fn certificate_obstacle(
     alloc: Global,
     entry: &AuthEntryView<'_>,
-    claim: &LoginClaimView<'_>,
-    certificate: &CertView<'_>,
+    sought: &SoughtLogin<'_>,
+    judged: &JudgedCertificate<'_>,
 ) -> Result<Option<Obstacle>, AllocError>
+    requires { judged_of sought.now ≡ Some judged.now }
     ensures value { IfOk result (λ o.
-        o ≡ certificate_obstacle entry.now (claim_of claim.now) (certificate_of certificate.now)) }
+        o ≡ certificate_obstacle entry.now sought.now judged.now.certificate) }
     ensures spare { is_escaped (setting Principals entry.now.options) ≡ false
-        → is_named (certificate_obstacle entry.now (claim_of claim.now) (certificate_of certificate.now)) ≡ false
+        → is_named (certificate_obstacle entry.now sought.now judged.now.certificate) ≡ false
         → IsOk result }
 {
-    if let Some(obstacle) = force_obstacle(alloc, entry, claim, certificate)? {
+    if let Some(obstacle) = force_obstacle(alloc, entry, sought, judged)? {
         return Ok(Some(obstacle));
     }
-    let obstacle = critical_obstacle(alloc, entry, claim, certificate)?;
-    Ok(obstacle)
+    judged.critical_obstacle(entry)
 }
 
 fn offer_obstacle(
     alloc: Global,
     entry: &AuthEntryView<'_>,
-    claim: &LoginClaimView<'_>,
+    sought: &SoughtLogin<'_>,
 ) -> Result<Option<Obstacle>, AllocError>
-    ensures value { IfOk result
-        (λ o. o ≡ offer_obstacle entry.now (claim_of claim.now) (offer_of claim.now.offer)) }
+    ensures value { IfOk result (λ o. o ≡ offer_obstacle entry.now sought.now sought.now.offer) }
     ensures spare { is_escaped (setting Principals entry.now.options) ≡ false
-        → is_named (offer_obstacle entry.now (claim_of claim.now) (offer_of claim.now.offer)) ≡ false
+        → is_named (offer_obstacle entry.now sought.now sought.now.offer) ≡ false
         → IsOk result }
 {
-    match &claim.offer {
-        Offer::Plain(_) => Ok(None),
-        Offer::Certified(certificate) => {
-            let obstacle = certificate_obstacle(alloc, entry, claim, certificate)?;
+    match sought.judged() {
+        None => Ok(None),
+        Some(judged) => {
+            let obstacle = certificate_obstacle(alloc, entry, sought, judged)?;
             Ok(obstacle)
         }
     }
@@ -269,17 +216,18 @@ fn offer_obstacle(
 pub(crate) fn login_obstacle(
     alloc: Global,
     entry: &AuthEntryView<'_>,
-    claim: &LoginClaimView<'_>,
+    sought: &SoughtLogin<'_>,
 ) -> Result<Option<Obstacle>, AllocError>
-    ensures value { IfOk result (λ o. o ≡ login_obstacle entry.now (claim_of claim.now)) }
-    ensures spare { (is_about entry.now (claim_of claim.now)
-        && (has_escaped entry.now || is_named (login_obstacle entry.now (claim_of claim.now)))) ≡ false
+    ensures value { IfOk result (λ o. o ≡ login_obstacle entry.now sought.now) }
+    ensures spare { (is_about entry.now sought.now
+        && (has_escaped entry.now || is_named (login_obstacle entry.now sought.now))) ≡ false
         → IsOk result }
 {
+    let claim = sought.claim();
     if let Some(obstacle) = line_obstacle(alloc, entry, claim)? {
         return Ok(Some(obstacle));
     }
-    if let Some(obstacle) = offer_obstacle(alloc, entry, claim)? {
+    if let Some(obstacle) = offer_obstacle(alloc, entry, sought)? {
         return Ok(Some(obstacle));
     }
     Ok(size_obstacle(claim.query.rsa_minimum, &claim.offer))

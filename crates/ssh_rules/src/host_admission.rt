@@ -1,12 +1,11 @@
 //! Whether an entry of a known_hosts file admits a host's key.
 
-ghost use Rattle.std.specs.Prelude.{◌≡◌, false, IfOk, IsOk, None, option_copied};
+ghost use Rattle.std.specs.Prelude.{◌≡◌, false, IfOk, IsOk};
 ghost use Rattle.ssh_certs.specs.CertificateOf.{certificate_of};
-ghost use Rattle.ssh_certs.specs.Left.{options_left};
+ghost use Rattle.ssh_offers.specs.Offer.{certified};
 ghost use Rattle.ssh_rules.specs.Obstacles.{first_obstacle};
 ghost use Rattle.ssh_rules.specs.Spare.{is_named};
 ghost use Rattle.ssh_rules.specs.HostAdmission.{
-  first_name,
   host_certificate_obstacle,
   host_force_rows,
   host_line_rows,
@@ -15,17 +14,16 @@ ghost use Rattle.ssh_rules.specs.HostAdmission.{
   marks_authority,
 };
 
-use crate::certificate::serves;
 use crate::obstacle::{
     period_obstacle, principal_obstacle, role_obstacle, size_obstacle, unknown_obstacle,
 };
 use crate::reason::Obstacle;
 use crate::sought::SoughtHost;
-use ssh_certs::{CertOptions, CertView};
+use ssh_certs::CertView;
 use ssh_lines::{KnownEntryView, Marker};
 use ssh_names::names_host;
 use ssh_offers::Offer;
-use std::alloc::{AllocError, Global};
+use std::alloc::AllocError;
 
 /// The kind number of a host's certificate (PROTOCOL.certkeys).
 const HOST_CERTIFICATE: u32 = 2;
@@ -60,6 +58,7 @@ fn line_obstacle(entry: &KnownEntryView<'_>, sought: &SoughtHost<'_>) -> Option<
 
 /// Why the certificate is not in force for the host.
 fn force_obstacle(sought: &SoughtHost<'_>, certificate: &CertView<'_>) -> Option<Obstacle>
+    requires { certified (certificate_of certificate.now) ≡ sought.now.offer }
     ensures { result ≡ first_obstacle
         (host_force_rows sought.now.query (certificate_of certificate.now)) }
 {
@@ -67,27 +66,15 @@ fn force_obstacle(sought: &SoughtHost<'_>, certificate: &CertView<'_>) -> Option
     if let Some(obstacle) = period_obstacle(HOST_CERTIFICATE, query.now, certificate) {
         return Some(obstacle);
     }
-    let serves = serves(certificate, sought.principal());
-    principal_obstacle(serves, query.empty_principals, certificate)
-}
-
-/// The name of the first option.
-fn first_name(options: CertOptions<'_>) -> Option<&[u8]>
-    ensures { option_copied result ≡ first_name (options_left options.entry) }
-{
-    let mut options = options;
-    match options.next() {
-        Some((name, _)) => Some(name),
-        None => None,
-    }
+    principal_obstacle(sought.serves(), query.empty_principals, certificate)
 }
 
 /// Why the certificate does not serve for the host.
 fn certificate_obstacle(
-    alloc: Global,
     sought: &SoughtHost<'_>,
     certificate: &CertView<'_>,
 ) -> Result<Option<Obstacle>, AllocError>
+    requires { certified (certificate_of certificate.now) ≡ sought.now.offer }
     ensures value { IfOk result
         (λ o. o ≡ host_certificate_obstacle sought.now.query (certificate_of certificate.now)) }
     ensures spare { is_named (host_certificate_obstacle sought.now.query (certificate_of certificate.now)) ≡ false
@@ -96,21 +83,18 @@ fn certificate_obstacle(
     if let Some(obstacle) = force_obstacle(sought, certificate) {
         return Ok(Some(obstacle));
     }
-    let obstacle = unknown_obstacle(alloc, first_name(certificate.critical()))?;
-    Ok(obstacle)
+    unknown_obstacle(sought.unknown())
 }
 
-fn offer_obstacle(alloc: Global, sought: &SoughtHost<'_>) -> Result<Option<Obstacle>, AllocError>
-    ensures value { IfOk result (λ o. o ≡ host_offer_obstacle sought.now.query sought.now.offer) }
+fn offer_obstacle(sought: &SoughtHost<'_>) -> Result<Option<Obstacle>, AllocError>
+    ensures value { IfOk result
+        (λ o. o ≡ host_offer_obstacle sought.now.query sought.now.offer) }
     ensures spare { is_named (host_offer_obstacle sought.now.query sought.now.offer) ≡ false
         → IsOk result }
 {
     match sought.offer() {
         Offer::Plain(_) => Ok(None),
-        Offer::Certified(certificate) => {
-            let obstacle = certificate_obstacle(alloc, sought, certificate)?;
-            Ok(obstacle)
-        }
+        Offer::Certified(certificate) => certificate_obstacle(sought, certificate),
     }
 }
 
@@ -118,7 +102,6 @@ fn offer_obstacle(alloc: Global, sought: &SoughtHost<'_>) -> Result<Option<Obsta
 /// to `G12`, `G19`, `G13`, `G20`; nothing where it admits.
 #[tactic(auto, unfolding(crate::specs::HostAdmission::host_obstacle))]
 pub(crate) fn host_obstacle(
-    alloc: Global,
     entry: &KnownEntryView<'_>,
     sought: &SoughtHost<'_>,
 ) -> Result<Option<Obstacle>, AllocError>
@@ -128,7 +111,7 @@ pub(crate) fn host_obstacle(
     if let Some(obstacle) = line_obstacle(entry, sought) {
         return Ok(Some(obstacle));
     }
-    if let Some(obstacle) = offer_obstacle(alloc, sought)? {
+    if let Some(obstacle) = offer_obstacle(sought)? {
         return Ok(Some(obstacle));
     }
     Ok(size_obstacle(sought.query().rsa_minimum, sought.offer()))

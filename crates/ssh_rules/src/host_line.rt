@@ -11,10 +11,9 @@ use crate::reason::Reason;
 use crate::sought::SoughtHost;
 use crate::verdict::{LineVerdict, listed_reason};
 use ssh_lines::{KnownEntryView, KnownLineView};
-use std::alloc::{AllocError, Global};
+use std::alloc::AllocError;
 
 fn entry_verdict<'a>(
-    alloc: Global,
     entry: KnownEntryView<'a>,
     sought: &SoughtHost<'_>,
 ) -> Result<LineVerdict<KnownEntryView<'a>>, AllocError>
@@ -23,7 +22,7 @@ fn entry_verdict<'a>(
     ensures spare { owns_name (host_verdict sought.now (KnownLine.Entry entry.entry)) ≡ false
         → IsOk result }
 {
-    match host_obstacle(alloc, &entry, sought)? {
+    match host_obstacle(&entry, sought)? {
         None => Ok(LineVerdict::Admits(entry)),
         Some(obstacle) => Ok(LineVerdict::Skips(listed_reason(obstacle))),
     }
@@ -31,22 +30,21 @@ fn entry_verdict<'a>(
 
 /// What a line is to a host's key: it admits it, or has the first reason in the order of `G1` to
 /// `G12`, `G19`, `G13`, `G20`, or none where it is blank, a comment, a revocation, or about another
-/// key or another host. `Err` is out of memory.
+/// key or another host. `Err` means that no more reasons can name a critical option.
 pub fn host_verdict<'a>(
-    alloc: Global,
     line: KnownLineView<'a>,
     sought: &SoughtHost<'_>,
 ) -> Result<LineVerdict<KnownEntryView<'a>>, AllocError>
     ensures value { IfOk result (λ verdict. verdict ≡ host_verdict sought.now (known_seen line.entry)) }
-    // Only a reason that owns the name of a critical option takes memory; all else is answered
-    // whatever memory does.
+    // Only a reason that names a critical option may be refused; all else is answered whatever
+    // memory does.
     ensures spare { owns_name (host_verdict sought.now (known_seen line.entry)) ≡ false
         → IsOk result }
 {
     match line {
         KnownLineView::Unreadable(why) => Ok(LineVerdict::Skips(Some(Reason::Unreadable(why)))),
         KnownLineView::Entry(entry) => {
-            let verdict = entry_verdict(alloc, entry, sought)?;
+            let verdict = entry_verdict(entry, sought)?;
             Ok(verdict)
         }
         KnownLineView::Blank

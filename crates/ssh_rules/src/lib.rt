@@ -4,7 +4,7 @@
 //! A caller that asks why a line does not admit a login (a test runs these lines):
 //!
 //! ```
-//! match login_verdict(alloc, read_auth_view(line, &mut buffer), claim)? {
+//! match login_verdict(alloc, read_auth_view(line, &mut buffer), sought)? {
 //!     LineVerdict::Admits(_) => Ok(None),
 //!     LineVerdict::Skips(reason) => Ok(reason),
 //! }
@@ -15,15 +15,20 @@ mod admission;
 mod certificate;
 mod host_admission;
 mod host_line;
+mod judged;
 mod laws;
 mod obstacle;
+mod option_name;
 mod reason;
 mod samples;
 mod sought;
+mod sought_login;
 mod value_text;
 mod verdict;
 
 pub use host_line::host_verdict;
+pub use option_name::OptionName;
 pub use reason::{Obstacle, Reason};
-pub use sought::{SoughtHost, may_revoke};
+pub use sought::{SoughtHost, can_revoke, may_revoke};
+pub use sought_login::SoughtLogin;
 pub use verdict::{LineVerdict, login_verdict};

@@ -21,13 +21,13 @@ ghost use Rattle.ssh_rules.specs.Obstacles.{
   when,
 };
 
+use crate::option_name::OptionName;
 use crate::reason::{Obstacle, Reason};
 use ssh_certs::{CertView, Time, no_principals};
 use ssh_keys::rsa_at_least;
 use ssh_offers::{EmptyPrincipals, Offer};
 use ssh_patterns::Permit;
-use ssh_text::Bytes;
-use std::alloc::{AllocError, Global};
+use std::alloc::AllocError;
 
 /// By whether the line is an authority, and whether a certificate is offered.
 pub(crate) fn role_obstacle(authority: bool, certified: bool) -> Option<Obstacle>
@@ -127,16 +127,13 @@ pub(crate) fn size_obstacle(bits: u32, offer: &Offer<'_>) -> Option<Obstacle>
 }
 
 /// Why a critical option stands against the certificate, by its name.
-pub(crate) fn unknown_obstacle(
-    alloc: Global,
-    name: Option<&[u8]>,
-) -> Result<Option<Obstacle>, AllocError>
+pub(crate) fn unknown_obstacle(name: Option<&OptionName>) -> Result<Option<Obstacle>, AllocError>
     ensures value { IfOk result (λ o. o ≡ unknown_row (option_copied name.entry)) }
     ensures spare { option_copied name.entry ≡ None → IsOk result }
 {
     let Some(name) = name else {
         return Ok(None);
     };
-    let name = name.to_vec(alloc)?;
-    Ok(Some(Obstacle::Listed(Reason::CriticalUnknown(Bytes::new(name)))))
+    let name = name.share()?;
+    Ok(Some(Obstacle::Listed(Reason::CriticalUnknown(name))))
 }

@@ -1,7 +1,7 @@
 //! Why a line does not admit an offer.
 
+use crate::option_name::OptionName;
 use ssh_options::LineCause;
-use ssh_text::Bytes;
 use std::fmt;
 use std::fmt::{Display, Formatter, Write};
 
@@ -33,7 +33,7 @@ pub enum Reason {
     EmptyPrincipals,
     /// `G13`: the certificate has a critical option of this name, which no login knows. For a
     /// host's key none is known (this project's rule).
-    CriticalUnknown(Bytes),
+    CriticalUnknown(OptionName),
     /// `G14`: a critical option stands twice in the certificate (this project's rule).
     CriticalRepeated,
     /// `G15`: a critical option of the certificate has data of another form.

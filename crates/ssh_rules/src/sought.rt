@@ -1,18 +1,31 @@
 //! A host's key that is sought in a known_hosts file.
 
-ghost use Rattle.std.specs.Prelude.{◌≡◌, IfOk};
+ghost use Rattle.std.specs.Prelude.{◌≡◌, false, IfOk, option_copied};
+ghost use Rattle.ssh_certs.specs.Left.{options_left};
 ghost use Rattle.ssh_keys.specs.PublicKey.{key_blob};
 ghost use Rattle.ssh_offers.specs.ClaimViews.{host_claim_of};
 ghost use Rattle.ssh_offers.specs.Offer.{is_certified, subject};
 ghost use Rattle.ssh_offers.specs.OfferView.{offer_of};
-ghost use Rattle.ssh_offers.specs.Query.{host_check_of};
+ghost use Rattle.ssh_offers.specs.Query.{HostCheck, host_check_of};
 ghost use Rattle.ssh_lines.specs.KnownSeen.{known_seen};
-ghost use Rattle.ssh_rules.specs.HostAdmission.{looked_up, principal_of};
-ghost use Rattle.ssh_rules.specs.Revocation.{is_own, may_revoke, revokes_offer};
+ghost use Rattle.ssh_rules.specs.HostAdmission.{first_name, looked_up, principal_of};
+ghost use Rattle.ssh_rules.specs.Judged.{host_served, host_unknown_name};
+ghost use Rattle.ssh_lines.specs.KnownGrammar.{known_line};
+ghost use Rattle.ssh_rules.specs.Revocation.{
+  RevokesNothing,
+  can_revoke,
+  is_own,
+  may_revoke,
+  revokes_offer,
+};
 
+use crate::certificate::serves;
+use crate::option_name::{OptionName, kept_name};
+use ssh_certs::CertOptions;
 use ssh_lines::KnownLineView;
 use ssh_names::lookup_name;
 use ssh_offers::{HostClaimView, HostQuery, Offer, plain_blob};
+use ssh_text::{LINE_LIMIT, skip_blanks, without_last};
 use std::alloc::{AllocError, Global};
 use std::marker::Model;
 
@@ -23,10 +36,12 @@ pub struct SoughtHost<'a> {
     claim: HostClaimView<'a>,
     /// The name that the host is looked up by.
     name: Vec<u8>,
-    /// The host as a principal.
-    principal: Vec<u8>,
     /// The blob of the key that is to be used.
     blob: Vec<u8>,
+    /// A certificate is offered that serves for the host.
+    serves: bool,
+    /// The name of the first critical option of the certificate.
+    unknown: Option<OptionName>,
 }
 
 impl<'a> Model for SoughtHost<'a> {
@@ -35,15 +50,50 @@ impl<'a> Model for SoughtHost<'a> {
     ghost use Rattle.ssh_offers.specs.ClaimViews.{host_claim_of};
     ghost use Rattle.ssh_offers.specs.HostClaim.{HostClaim};
     ghost use Rattle.ssh_offers.specs.Offer.{plain_key};
-    ghost use Rattle.ssh_rules.specs.HostAdmission.{looked_up, principal_of};
+    ghost use Rattle.ssh_rules.specs.HostAdmission.{looked_up};
+    ghost use Rattle.ssh_rules.specs.Judged.{host_served, host_unknown_name};
 
     ghost Value = { HostClaim };
 
     ghost view = { λ s. host_claim_of s.claim };
 
     ghost invariant = { λ s. (s.name.items ≡ looked_up (host_claim_of s.claim).query)
-        × (s.principal.items ≡ principal_of (host_claim_of s.claim).query)
-        × (s.blob.items ≡ key_blob (plain_key (host_claim_of s.claim).offer)) };
+        × (s.blob.items ≡ key_blob (plain_key (host_claim_of s.claim).offer))
+        × (s.serves ≡ host_served (host_claim_of s.claim).query (host_claim_of s.claim).offer)
+        × (s.unknown ≡ host_unknown_name (host_claim_of s.claim).offer) };
+}
+
+/// The name of the first option.
+fn first_name(options: CertOptions<'_>) -> Option<&[u8]>
+    ensures { option_copied result ≡ first_name (options_left options.entry) }
+{
+    let mut options = options;
+    match options.next() {
+        Some((name, _)) => Some(name),
+        None => None,
+    }
+}
+
+/// The name of the first critical option of the certificate that is offered.
+fn unknown_name(alloc: Global, offer: &Offer<'_>) -> Result<Option<OptionName>, AllocError>
+    ensures { IfOk result (λ name. name ≡ host_unknown_name (offer_of offer.now)) }
+{
+    match offer {
+        Offer::Plain(_) => Ok(None),
+        Offer::Certified(certificate) => kept_name(alloc, first_name(certificate.critical())),
+    }
+}
+
+/// Whether a certificate is offered that serves for this principal.
+fn has_served(offer: &Offer<'_>, principal: &[u8]) -> bool
+    ensures { (q : HostCheck)
+        → principal.now ≡ principal_of q
+        → result ≡ host_served q (offer_of offer.now) }
+{
+    match offer {
+        Offer::Plain(_) => false,
+        Offer::Certified(certificate) => serves(certificate, principal),
+    }
 }
 
 impl<'a> SoughtHost<'a> {
@@ -54,11 +104,14 @@ impl<'a> SoughtHost<'a> {
         let name = lookup_name(alloc, claim.query.host, claim.query.port)?;
         let principal = claim.query.host.to_ascii_lowercase(alloc)?;
         let blob = plain_blob(alloc, &claim.offer)?;
+        let serves = has_served(&claim.offer, &principal);
+        let unknown = unknown_name(alloc, &claim.offer)?;
         Ok(SoughtHost {
             claim: *claim,
             name,
-            principal,
             blob,
+            serves,
+            unknown,
         })
     }
 
@@ -76,11 +129,18 @@ impl<'a> SoughtHost<'a> {
         &self.name
     }
 
-    /// The host as a principal.
-    pub(crate) fn principal(&self) -> &[u8]
-        ensures { result.now ≡ principal_of self.now.query }
+    /// A certificate is offered that serves for the host.
+    pub(crate) fn serves(&self) -> bool
+        ensures { result ≡ host_served self.now.query self.now.offer }
     {
-        &self.principal
+        self.serves
+    }
+
+    /// The name of the first critical option of the certificate that is offered.
+    pub(crate) fn unknown(&self) -> Option<&OptionName>
+        ensures { option_copied result ≡ host_unknown_name self.now.offer }
+    {
+        self.unknown.as_ref()
     }
 
     /// What is asked.
@@ -132,4 +192,14 @@ pub fn may_revoke(line: &KnownLineView<'_>) -> bool
     ensures { result ≡ may_revoke (known_seen line.now) }
 {
     matches!(line, KnownLineView::RevokedUnreadable)
+}
+
+/// Whether a line of a known_hosts file can be a revocation, by its front alone: it is longer than a
+/// line may be, or its first field begins with `@`. So that a line that only a revocation would make
+/// count need not be read.
+pub fn can_revoke(line: &[u8]) -> bool
+    ensures value { result ≡ can_revoke line.now }
+    ensures nothing { result ≡ false → RevokesNothing (known_line line.now) }
+{
+    line.len() > LINE_LIMIT || matches!(skip_blanks(without_last(b'\r', line)), [b'@', ..])
 }

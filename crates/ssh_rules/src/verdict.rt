@@ -3,14 +3,13 @@
 ghost use Rattle.std.specs.Prelude.{◌≡◌, false, IfOk, IsOk};
 ghost use Rattle.ssh_lines.specs.declared.entry.AuthLine.{AuthLine};
 ghost use Rattle.ssh_lines.specs.LineView.{line_seen};
-ghost use Rattle.ssh_offers.specs.ClaimViews.{claim_of};
 ghost use Rattle.ssh_rules.specs.Spare.{needs_memory};
 ghost use Rattle.ssh_rules.specs.Verdict.{listed_reason, login_verdict};
 
 use crate::admission::login_obstacle;
 use crate::reason::{Obstacle, Reason};
+use crate::sought_login::SoughtLogin;
 use ssh_lines::{AuthEntryView, AuthLineView};
-use ssh_offers::LoginClaimView;
 use std::alloc::{AllocError, Global};
 
 /// What a line is to an offer, by the entry that it holds.
@@ -34,14 +33,14 @@ pub(crate) fn listed_reason(obstacle: Obstacle) -> Option<Reason>
 fn entry_verdict<'a>(
     alloc: Global,
     entry: AuthEntryView<'a>,
-    claim: &LoginClaimView<'_>,
+    sought: &SoughtLogin<'_>,
 ) -> Result<LineVerdict<AuthEntryView<'a>>, AllocError>
     ensures value { IfOk result
-        (λ verdict. verdict ≡ login_verdict (claim_of claim.now) (AuthLine.Entry entry.entry)) }
-    ensures spare { needs_memory (claim_of claim.now) (AuthLine.Entry entry.entry) ≡ false
+        (λ verdict. verdict ≡ login_verdict sought.now (AuthLine.Entry entry.entry)) }
+    ensures spare { needs_memory sought.now (AuthLine.Entry entry.entry) ≡ false
         → IsOk result }
 {
-    match login_obstacle(alloc, &entry, claim)? {
+    match login_obstacle(alloc, &entry, sought)? {
         None => Ok(LineVerdict::Admits(entry)),
         Some(obstacle) => Ok(LineVerdict::Skips(listed_reason(obstacle))),
     }
@@ -53,21 +52,21 @@ fn entry_verdict<'a>(
 pub fn login_verdict<'a>(
     alloc: Global,
     line: AuthLineView<'a>,
-    claim: &LoginClaimView<'_>,
+    sought: &SoughtLogin<'_>,
 ) -> Result<LineVerdict<AuthEntryView<'a>>, AllocError>
     ensures value { IfOk result
-        (λ verdict. verdict ≡ login_verdict (claim_of claim.now) (line_seen line.entry)) }
-    // Only a reason that owns the name of a critical option takes memory, and a value of the line
-    // that has a quote; all else is answered whatever memory does, and so is a line about another
-    // key or of another role.
-    ensures spare { needs_memory (claim_of claim.now) (line_seen line.entry) ≡ false
+        (λ verdict. verdict ≡ login_verdict sought.now (line_seen line.entry)) }
+    // Only a value of the line that has a quote takes memory, and a reason that names a critical
+    // option may be refused; all else is answered whatever memory does, and so is a line about
+    // another key or of another role.
+    ensures spare { needs_memory sought.now (line_seen line.entry) ≡ false
         → IsOk result }
 {
     match line {
         AuthLineView::Blank | AuthLineView::Comment => Ok(LineVerdict::Skips(None)),
         AuthLineView::Unreadable(why) => Ok(LineVerdict::Skips(Some(Reason::Unreadable(why)))),
         AuthLineView::Entry(entry) => {
-            let verdict = entry_verdict(alloc, entry, claim)?;
+            let verdict = entry_verdict(alloc, entry, sought)?;
             Ok(verdict)
         }
     }

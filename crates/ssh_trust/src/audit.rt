@@ -14,6 +14,7 @@ ghost use Rattle.std.specs.Prelude.{
   ℕ,
   Err,
   IfOk,
+  IsOk,
   OnOk,
   OnErr,
 };
@@ -36,15 +37,15 @@ use crate::scan::Scan;
 use crate::search::Search;
 use crate::sought::{Listing, Sought};
 use crate::source::Source;
-use ssh_offers::{AuditError, LoginClaimView, Signed};
-use ssh_rules::SoughtHost;
+use ssh_offers::{AuditError, Signed};
+use ssh_rules::{SoughtHost, SoughtLogin};
 use std::alloc::Global;
 use std::marker::Model;
 
 /// Answers a login by an authorized_keys file that comes in pieces, cut anywhere. Whatever the file
 /// holds, besides the query and what is made of it once an audit keeps one unfinished line of
 /// 65,536 bytes, one buffer for keys of 49,152 bytes, one candidate and 100 reasons at most.
-pub type LoginAudit<'a> = Audit<LoginClaimView<'a>, Scan<Candidate>>;
+pub type LoginAudit<'a> = Audit<SoughtLogin<'a>, Scan<Candidate>>;
 
 /// Answers a host's key by a known_hosts file that comes in pieces, cut anywhere. The whole file
 /// counts, for a later line may revoke. Whatever it holds, besides the query and what is made of it
@@ -113,6 +114,11 @@ impl<T: Sought<Said = S> + Drop, S: Listing + Drop> Audit<T, S> {
             → StandsFor T.claimed T.nothing T.add claim self.old bytes
             → length bytes + length piece.now ≤ file_limit
             → OnErr result (result ≡ Err Memory) }
+        // A piece of no bytes takes no memory.
+        ensures nothing { (claim : T.Claim) (bytes : List ℕ)
+            → StandsFor T.claimed T.nothing T.add claim self.old bytes
+            → length piece.now ≡ 0
+            → IsOk result }
         // A refusal is for ever.
         ensures left { OnErr result (self.new.failed ≡ true) }
         // The audit keeps no more than it may.

@@ -1,11 +1,12 @@
 //! What the lines of a known_hosts file say to a host's key: one line after the other. The whole
 //! file counts, for a later line may revoke.
 
-ghost use Rattle.std.specs.Prelude.{◌≡◌, ℕ, List, ⊤};
+ghost use Rattle.std.specs.Prelude.{◌≡◌, ℕ, false, List, ⊤};
 ghost use Rattle.ssh_lines.specs.KnownGrammar.{known_line};
 ghost use Rattle.ssh_lines.specs.KnownSeen.{known_seen};
 ghost use Rattle.ssh_offers.specs.HostClaim.{HostClaim, host_claim};
 ghost use Rattle.ssh_offers.specs.Query.{host_check_of};
+ghost use Rattle.ssh_rules.specs.Revocation.{RevokesNothing};
 ghost use Rattle.ssh_trust.specs.FileLines.{IsText};
 ghost use Rattle.ssh_trust.specs.Telling.{HostDecides};
 ghost use Rattle.ssh_trust.specs.HostDecision.{host_decision};
@@ -17,7 +18,7 @@ use crate::scan::Scan;
 use crate::sought::{Listing, Sought};
 use ssh_lines::{KeyBuffer, KnownEntryView, KnownLineView, read_known_view};
 use ssh_offers::{AuditError, HostClaimView, HostQuery, Signed, host_evidence};
-use ssh_rules::{LineVerdict, SoughtHost, host_verdict, may_revoke};
+use ssh_rules::{LineVerdict, SoughtHost, can_revoke, host_verdict, may_revoke};
 use ssh_text::Line;
 use std::alloc::{AllocError, Global};
 
@@ -59,8 +60,21 @@ fn view_of<'a>(line: Line<'a>, buffer: &'a mut KeyBuffer) -> KnownLineView<'a>
     }
 }
 
+/// Whether the line can be a revocation.
+fn can_revoke_at(line: Line<'_>) -> bool
+    ensures { (text : List ℕ)
+        → IsText line.entry text
+        → result ≡ false
+        → RevokesNothing (known_line text) }
+{
+    match line {
+        Line::Whole(text) => can_revoke(text),
+        Line::TooLong => true,
+    }
+}
+
 /// The first line that trusts a host's key, and those that revoke it. After the former only
-/// revocations count.
+/// revocations count, so that a line that can be none is not read.
 impl<'a> Sought for SoughtHost<'a> {
     type Query = HostQuery<'a>;
 
@@ -98,19 +112,22 @@ impl<'a> Sought for SoughtHost<'a> {
 
     fn take_line(
         &self,
-        alloc: Global,
+        _alloc: Global,
         number: u64,
         line: Line<'_>,
         buffer: &mut KeyBuffer,
         said: &mut HostScan,
     ) -> Result<(), AllocError> {
+        if said.admission.candidate.is_some() && !can_revoke_at(line) {
+            return Ok(());
+        }
         let view = view_of(line, buffer);
         said.revoked = first_so_far(said.revoked, number, self.is_revoked_by(&view));
         said.blind = first_so_far(said.blind, number, may_revoke(&view));
         if said.admission.candidate.is_some() {
             return Ok(());
         }
-        match host_verdict(alloc, view, self)? {
+        match host_verdict(view, self)? {
             LineVerdict::Admits(_) => {
                 said.admission.candidate = Some(number);
                 Ok(())

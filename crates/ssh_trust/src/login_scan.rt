@@ -20,7 +20,7 @@ use ssh_lines::{AuthEntryView, AuthLineView, KeyBuffer, read_auth_view};
 use ssh_offers::{AuditError, LoginClaimView, LoginQuery, Signed, login_evidence};
 use ssh_options::LineCause;
 use ssh_rights::{Rights, rights_of, touch_suffices, verification_suffices};
-use ssh_rules::{LineVerdict, login_verdict};
+use ssh_rules::{LineVerdict, SoughtLogin, login_verdict};
 use ssh_text::Line;
 use std::alloc::{AllocError, Global};
 
@@ -67,7 +67,7 @@ fn view_of<'a>(line: Line<'a>, buffer: &'a mut KeyBuffer) -> AuthLineView<'a>
 }
 
 /// The first line that admits the login. Lines after it change nothing.
-impl<'a> Sought for LoginClaimView<'a> {
+impl<'a> Sought for SoughtLogin<'a> {
     type Query = LoginQuery<'a>;
 
     type Said = Scan<Candidate>;
@@ -78,7 +78,7 @@ impl<'a> Sought for LoginClaimView<'a> {
 
     ghost claim = { λ q. login_claim (login_of q) };
 
-    ghost claimed = { claim_of };
+    ghost claimed = { λ s. s };
 
     ghost nothing = { empty_scan };
 
@@ -88,9 +88,10 @@ impl<'a> Sought for LoginClaimView<'a> {
 
     ghost means = { LoginDecides };
 
-    fn read(_alloc: Global, query: &LoginQuery<'a>) -> Result<LoginClaimView<'a>, AuditError> {
+    fn read(alloc: Global, query: &LoginQuery<'a>) -> Result<SoughtLogin<'a>, AuditError> {
         let claim = LoginClaimView::read(query)?;
-        Ok(claim)
+        let sought = SoughtLogin::new(alloc, &claim)?;
+        Ok(sought)
     }
 
     fn silence(&self, alloc: Global) -> Scan<Candidate> {
@@ -110,7 +111,7 @@ impl<'a> Sought for LoginClaimView<'a> {
         }
         match login_verdict(alloc, view_of(line, buffer), self)? {
             LineVerdict::Admits(entry) => {
-                let candidate = candidate_at(alloc, number, &entry, self)?;
+                let candidate = candidate_at(alloc, number, &entry, self.claim())?;
                 said.candidate = Some(candidate);
                 Ok(())
             }
@@ -127,7 +128,7 @@ impl<'a> Sought for LoginClaimView<'a> {
         said: Scan<Candidate>,
         vouched: &[Signed],
     ) -> Result<Decision, AllocError> {
-        let evidence = login_evidence(alloc, self)?;
+        let evidence = login_evidence(alloc, self.claim())?;
         Ok(decide_login(said, evidence, vouched))
     }
 }

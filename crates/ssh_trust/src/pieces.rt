@@ -17,6 +17,7 @@ ghost use Rattle.std.specs.Prelude.{
   ℕ,
   Err,
   IfOk,
+  IsOk,
   OnOk,
   OnErr,
 };
@@ -80,6 +81,7 @@ impl<T: Sought<Said = S> + Drop, S: Listing + Drop> Pieces<T, S> {
         ensures failed { self.new.failed ≡ self.old.failed }
         ensures bounded { IsKept S.reasons self.old.search → IsKept S.reasons self.new.search }
         ensures line { length self.new.scanner.kept.bytes ≤ line_limit }
+        ensures nothing { length rest.now ≡ 0 → IsOk result }
     {
         if let Some((number, text)) = self.scanner.whole_line(rest) {
             self.search.take_line(number, Line::Whole(text))?;
@@ -104,6 +106,7 @@ impl<T: Sought<Said = S> + Drop, S: Listing + Drop> Pieces<T, S> {
         ensures failed { self.new.failed ≡ self.old.failed }
         ensures bounded { IsKept S.reasons self.old.search → IsKept S.reasons self.new.search }
         ensures line { length self.new.scanner.kept.bytes ≤ line_limit }
+        ensures nothing { length piece.now ≡ 0 → IsOk result }
     {
         let mut done = 0;
         loop {
@@ -135,6 +138,10 @@ impl<T: Sought<Said = S> + Drop, S: Listing + Drop> Pieces<T, S> {
         ensures else_memory { self.old.failed ≡ false
             → self.old.scanner.used + length piece.now ≤ file_limit
             → OnErr result (result ≡ Err Memory) }
+        ensures nothing { self.old.failed ≡ false
+            → self.old.scanner.used ≤ file_limit
+            → length piece.now ≡ 0
+            → IsOk result }
         ensures bounded { IsKept S.reasons self.old.search → IsKept S.reasons self.new.search }
         ensures line { length self.old.scanner.kept.bytes ≤ line_limit
             → length self.new.scanner.kept.bytes ≤ line_limit }

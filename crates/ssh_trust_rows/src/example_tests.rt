@@ -9,7 +9,7 @@ use ssh_lines::{AuthLineView, KeyBuffer, read_auth_view};
 use ssh_offers::{LoginClaimView, LoginQuery, Offer, Signed, first_unvouched, login_evidence};
 use ssh_options::LineCause;
 use ssh_rights::rights_of;
-use ssh_rules::{LineVerdict, Reason, login_verdict};
+use ssh_rules::{LineVerdict, Reason, SoughtLogin, login_verdict};
 use std::alloc::Global;
 use std::test::Fail;
 
@@ -44,9 +44,9 @@ fn leaves_shell(alloc: Global, line: &[u8], offer: &Offer<'_>) -> Result<bool, F
 }
 
 /// What the example in the root of `ssh_rules` does.
-fn reason(alloc: Global, line: &[u8], claim: &LoginClaimView<'_>) -> Result<Option<Reason>, Fail> {
+fn reason(alloc: Global, line: &[u8], sought: &SoughtLogin<'_>) -> Result<Option<Reason>, Fail> {
     let mut buffer = KeyBuffer::new(alloc)?;
-    match login_verdict(alloc, read_auth_view(line, &mut buffer), claim)? {
+    match login_verdict(alloc, read_auth_view(line, &mut buffer), sought)? {
         LineVerdict::Admits(_) => Ok(None),
         LineVerdict::Skips(reason) => Ok(reason),
     }
@@ -74,10 +74,11 @@ fn tells_what_a_line_is_to_a_login(rt: HostRuntime) -> Result<(), Fail> {
     assert!(rt; leaves_shell(alloc, PLAIN, &claim.offer)?);
     assert!(rt; !leaves_shell(alloc, FORCED, &claim.offer)?);
     assert!(rt; !leaves_shell(alloc, b"# none", &claim.offer)?);
-    assert!(rt; reason(alloc, PLAIN, &claim)?.is_none());
+    let sought = SoughtLogin::new(alloc, &claim)?;
+    assert!(rt; reason(alloc, PLAIN, &sought)?.is_none());
     assert!(rt;
         matches!(
-            reason(alloc, b"ssh-dss AAAA", &claim)?,
+            reason(alloc, b"ssh-dss AAAA", &sought)?,
             Some(Reason::Unreadable(LineCause::RetiredType))
         )
     );

@@ -3,7 +3,7 @@ use Rattle.std.proofs.lemmas.Result.{err_from_is_err_and}
 use Rattle.ssh_offers.specs.Query.{login_of}
 use Rattle.ssh_trust.proofs.AnswerLemmas.{err-inj}
 use Rattle.ssh_trust.proofs.RefusalLemmas.{refusal-reads-not}
-use Rattle.ssh_trust.proofs.login_scan.LoginClaimViewSought.read.Goals as goal
+use Rattle.ssh_trust.proofs.login_scan.SoughtLoginSought.read.Goals as goal
 
 pub returns-in_err-claim-clause-unread : goal.returns-in_err-claim-clause-unread
 returns-in_err-claim-clause-unread c read =

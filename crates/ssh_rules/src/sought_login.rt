@@ -1,0 +1,85 @@
+//! A login that is sought in an authorized_keys file.
+
+ghost use Rattle.std.specs.Prelude.{◌≡◌, IfOk, IsOk, None, option_copied};
+ghost use Rattle.ssh_offers.specs.ClaimViews.{claim_of};
+ghost use Rattle.ssh_rules.specs.Judged.{judged_of, unknown_name};
+
+use crate::judged::JudgedCertificate;
+use ssh_offers::{LoginClaimView, Offer};
+use std::alloc::{AllocError, Global};
+use std::marker::Model;
+
+/// A login that is sought, with what is found of its certificate once for all lines. Contracts see
+/// its claim.
+#[derive(Drop)]
+pub struct SoughtLogin<'a> {
+    claim: LoginClaimView<'a>,
+    /// The certificate, where one is offered.
+    judged: Option<JudgedCertificate<'a>>,
+}
+
+impl<'a> Model for SoughtLogin<'a> {
+    ghost use Rattle.std.specs.Prelude.{◌≡◌};
+    ghost use Rattle.ssh_offers.specs.ClaimViews.{claim_of};
+    ghost use Rattle.ssh_offers.specs.LoginClaim.{LoginClaim};
+    ghost use Rattle.ssh_rules.specs.Judged.{judged_of};
+
+    ghost Value = { LoginClaim };
+
+    ghost view = { λ s. claim_of s.claim };
+
+    ghost invariant = { λ s. s.judged ≡ judged_of (claim_of s.claim) };
+}
+
+/// The certificate of a claim, judged.
+fn judged<'a>(
+    alloc: Global,
+    claim: &LoginClaimView<'a>,
+) -> Result<Option<JudgedCertificate<'a>>, AllocError>
+    ensures value { IfOk result (λ made. made ≡ judged_of (claim_of claim.now)) }
+    ensures spare { unknown_name (claim_of claim.now).offer ≡ None → IsOk result }
+{
+    match &claim.offer {
+        Offer::Plain(_) => Ok(None),
+        Offer::Certified(certificate) => {
+            let made = JudgedCertificate::new(
+                alloc,
+                certificate,
+                &claim.address,
+                claim.query.user,
+            )?;
+            Ok(Some(made))
+        }
+    }
+}
+
+impl<'a> SoughtLogin<'a> {
+    /// What is made of a claim once for all lines. Memory is taken for the name of a critical
+    /// option that no login knows, and for nothing else. `Err` is out of memory.
+    pub fn new(alloc: Global, claim: &LoginClaimView<'a>) -> Result<SoughtLogin<'a>, AllocError>
+        ensures value { IfOk result (λ sought. sought ≡ claim_of claim.now) }
+        // A plain key takes no memory, and neither does a certificate whose critical options are
+        // known.
+        ensures spare { unknown_name (claim_of claim.now).offer ≡ None → IsOk result }
+    {
+        let judged = judged(alloc, claim)?;
+        Ok(SoughtLogin {
+            claim: *claim,
+            judged,
+        })
+    }
+
+    /// The claim.
+    pub fn claim(&self) -> &LoginClaimView<'a>
+        ensures { claim_of result.now ≡ self.now }
+    {
+        &self.claim
+    }
+
+    /// The certificate, where one is offered.
+    pub(crate) fn judged(&self) -> Option<&JudgedCertificate<'a>>
+        ensures { option_copied result ≡ judged_of self.now }
+    {
+        self.judged.as_ref()
+    }
+}

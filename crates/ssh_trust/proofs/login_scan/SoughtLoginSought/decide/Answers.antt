@@ -1,0 +1,23 @@
+use Rattle.std.proofs.Common.{◌∙◌, List, ap, sym, subst}
+use Rattle.ssh_offers.specs.declared.query.Signed.{Signed}
+use Rattle.ssh_offers.specs.Evidence.{login_evidence}
+use Rattle.ssh_offers.specs.LoginClaim.{LoginClaim}
+use Rattle.ssh_trust.specs.Telling.{LoginDecides}
+use Rattle.ssh_trust.specs.LoginDecision.{decision_of}
+use Rattle.ssh_trust.proofs.TellingLemmas.{login_told}
+use Rattle.ssh_trust.proofs.MeaningLemmas.{login_means}
+use Rattle.ssh_trust.proofs.SearchLemmas.{login-decided}
+use Rattle.ssh_trust.proofs.login_scan.SoughtLoginSought.decide.Goals as goal
+
+pub returns-clause-decided : goal.returns-clause-decided
+returns-clause-decided c file h =
+    let said = c.args.said in
+    login-decided file c.args.self.now c.args.vouched.now said _ h
+    (c.decide_login.ensures
+    ∙ ap (λ (evidence : List Signed). decision_of evidence c.args.vouched.now said.candidate said.reasons) c.in_ok-evidence.ensures
+    ∙ ap (λ (claim : LoginClaim). decision_of (login_evidence claim) c.args.vouched.now said.candidate said.reasons) c.claim.ensures)
+
+pub returns-clause-means : goal.returns-clause-means
+returns-clause-means c file h are =
+    subst (λ d. LoginDecides file c.args.self.now c.args.vouched.now d) (sym (returns-clause-decided c file h))
+    (login_means file c.args.self.now c.args.vouched.now are, login_told file c.args.self.now c.args.vouched.now are)
