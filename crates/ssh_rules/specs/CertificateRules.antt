@@ -58,9 +58,12 @@ listed_names list = slice_split (λ c. c == 44) list
 abbrev pub has_principal : Certificate → List ℕ → Bool
 has_principal c name = list_any (λ p. bytes_eq name p) c.principals
 
--- an empty name of a list counts for nothing
+-- the name is one of these; an empty one counts for nothing
+abbrev pub is_among : List (List ℕ) → List ℕ → Bool
+is_among principals name = not (length name == 0) && list_any (λ p. bytes_eq name p) principals
+
 abbrev pub is_listed : Certificate → List ℕ → Bool
-is_listed c name = not (length name == 0) && has_principal c name
+is_listed c name = is_among c.principals name
 
 -- With a list on the line one of its names must be a principal; without one the user must be, or there is none.
 abbrev pub serves : Option (List ℕ) → List ℕ → Certificate → Bool

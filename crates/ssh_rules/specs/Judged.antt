@@ -1,10 +1,9 @@
 -- What is found of a certificate once, since no line changes it.
-use Rattle.std.specs.Prelude.{◌≡◌, ℕ, Bool, false, List, Option, Some, None, option_copied}
-use Rattle.std.specs.List.{list_all}
+use Rattle.std.specs.Prelude.{◌≡◌, ℕ, Bool, false, List, [], Option, Some, None}
 use Rattle.ssh_patterns.specs.declared.address.Address.{Address}
 use Rattle.ssh_certs.specs.Certificate.{Certificate}
 use Rattle.ssh_offers.specs.LoginClaim.{LoginClaim}
-use Rattle.ssh_offers.specs.Offer.{Offer, certified, plain}
+use Rattle.ssh_offers.specs.Offer.{Offer, OfCertificate, certified, plain}
 use Rattle.ssh_offers.specs.Query.{HostCheck}
 use Rattle.ssh_rules.specs.CertificateRules.{first_unknown, serves}
 use Rattle.ssh_rules.specs.HostAdmission.{first_name, principal_of}
@@ -23,10 +22,14 @@ judged_by claim (certified c) = Some (record { certificate = c; address = claim.
 abbrev pub judged_of : LoginClaim → Option Judged
 judged_of claim = judged_by claim claim.offer
 
--- the name of the critical option that stands against a login
-abbrev pub unknown_name : Offer → Option (List ℕ)
-unknown_name (plain key) = None
-unknown_name (certified c) = first_unknown c.critical
+-- a certificate of which nothing is kept: each critical option is one that a login knows, and it names no principal
+pub record IsPlainlyJudged (c : Certificate) : Type 0 where
+  pub known : first_unknown c.critical ≡ None
+  pub nameless : c.principals ≡ []
+
+-- a plain key, or such a certificate
+abbrev pub IsPlainlySought : Offer → Type 0
+IsPlainlySought offer = OfCertificate IsPlainlyJudged offer
 
 -- the same for a host's key
 abbrev pub host_unknown_name : Offer → Option (List ℕ)

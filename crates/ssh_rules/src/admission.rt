@@ -146,7 +146,7 @@ fn has_served_principal(
         None => Ok(judged.serves_user()),
         Some(value) => {
             let list = ValueText::new(alloc, &value)?;
-            Ok(has_listed(judged.certificate(), list.as_slice()))
+            Ok(has_listed(judged.principals(), list.as_slice()))
         }
     }
 }

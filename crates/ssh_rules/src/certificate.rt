@@ -12,8 +12,8 @@ ghost use Rattle.ssh_rules.specs.CertificateRules.{
   has_its_form,
   has_principal,
   has_two,
+  is_among,
   is_known,
-  is_listed,
   listed_names,
   repeats,
   serves,
@@ -21,6 +21,7 @@ ghost use Rattle.ssh_rules.specs.CertificateRules.{
 
 use ssh_certs::{CertOptions, CertView, CertificateOption, has_option, no_principals};
 use ssh_patterns::{Address, Permit, cidr_list};
+use ssh_principals::PrincipalIndex;
 
 /// What the certificate's own list of sources says of an address.
 pub(crate) fn certificate_source(certificate: &CertView<'_>, address: &Address) -> Permit
@@ -106,19 +107,18 @@ fn has_principal(certificate: &CertView<'_>, name: &[u8]) -> bool
 }
 
 /// Whether a name of a list is a principal; an empty one counts for nothing.
-fn is_listed(certificate: &CertView<'_>, name: &[u8]) -> bool
-    ensures { result ≡ is_listed (certificate_of certificate.now) name.now }
+fn is_among(principals: &PrincipalIndex<'_>, name: &[u8]) -> bool
+    ensures { result ≡ is_among principals.now name.now }
 {
-    !name.is_empty() && has_principal(certificate, name)
+    !name.is_empty() && principals.has(name)
 }
 
 /// Whether one of the names of a list is a principal.
-pub(crate) fn has_listed(certificate: &CertView<'_>, list: &[u8]) -> bool
-    ensures { result ≡ list_any (is_listed (certificate_of certificate.now))
-        (listed_names list.now) }
+pub(crate) fn has_listed(principals: &PrincipalIndex<'_>, list: &[u8]) -> bool
+    ensures { result ≡ list_any (is_among principals.now) (listed_names list.now) }
 {
     list.split(|b| *b == b',')
-        .any(|name| is_listed(certificate, name))
+        .any(|name| is_among(principals, name))
 }
 
 /// Whether the certificate serves for the user. One without principals is for every user.

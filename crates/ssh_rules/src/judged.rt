@@ -3,8 +3,8 @@
 ghost use Rattle.std.specs.Prelude.{◌≡◌, false, IfOk, IsOk, None, option_copied};
 ghost use Rattle.ssh_certs.specs.CertificateOf.{certificate_of};
 ghost use Rattle.ssh_rules.specs.Admission.{commands_differ, critical_rows};
-ghost use Rattle.ssh_rules.specs.CertificateRules.{first_unknown, serves};
-ghost use Rattle.ssh_rules.specs.Judged.{Judged};
+ghost use Rattle.ssh_rules.specs.CertificateRules.{serves};
+ghost use Rattle.ssh_rules.specs.Judged.{IsPlainlyJudged, Judged};
 ghost use Rattle.ssh_rules.specs.Obstacles.{first_obstacle};
 ghost use Rattle.ssh_rules.specs.Spare.{is_named};
 
@@ -18,6 +18,7 @@ use ssh_certs::{CertView, CertificateOption};
 use ssh_lines::AuthEntryView;
 use ssh_options::{ValueName, ValueView};
 use ssh_patterns::{Address, Permit};
+use ssh_principals::PrincipalIndex;
 use std::alloc::{AllocError, Global};
 use std::marker::Model;
 
@@ -40,6 +41,8 @@ pub(crate) struct JudgedCertificate<'a> {
     command: Option<&'a [u8]>,
     /// It serves for the user.
     for_user: bool,
+    /// Its principals, for the lists of lines.
+    principals: PrincipalIndex<'a>,
 }
 
 impl<'a> Model for JudgedCertificate<'a> {
@@ -67,7 +70,8 @@ impl<'a> Model for JudgedCertificate<'a> {
         × (s.formed ≡ list_all has_its_form (certificate_of s.certificate).critical)
         × (s.source ≡ certificate_source (certificate_of s.certificate) s.address)
         × (option_copied s.command ≡ forced_by_certificate (certificate_of s.certificate))
-        × (s.for_user ≡ serves None s.user.now (certificate_of s.certificate)) };
+        × (s.for_user ≡ serves None s.user.now (certificate_of s.certificate))
+        × (s.principals ≡ (certificate_of s.certificate).principals) };
 }
 
 /// Both force a command, and these differ.
@@ -82,7 +86,7 @@ fn commands_differ(line: Option<ValueView<'_>>, own: Option<&[u8]>) -> bool
 
 impl<'a> JudgedCertificate<'a> {
     /// What is found of a certificate. Memory is taken for the name of an option that no login
-    /// knows.
+    /// knows, and for the order of the principals.
     pub(crate) fn new(
         alloc: Global,
         certificate: &CertView<'a>,
@@ -94,9 +98,10 @@ impl<'a> JudgedCertificate<'a> {
           address = address.now;
           user = user.now;
         }) }
-        ensures spare { first_unknown (certificate_of certificate.now).critical ≡ None → IsOk result }
+        ensures spare { IsPlainlyJudged (certificate_of certificate.now) → IsOk result }
     {
         let unknown = kept_name(alloc, first_unknown(certificate.critical()))?;
+        let principals = PrincipalIndex::new(alloc, certificate)?;
         Ok(JudgedCertificate {
             certificate: *certificate,
             address: *address,
@@ -107,6 +112,7 @@ impl<'a> JudgedCertificate<'a> {
             source: certificate_source(certificate, address),
             command: certificate.text_of(CertificateOption::ForceCommand),
             for_user: serves(certificate, user),
+            principals,
         })
     }
 
@@ -122,6 +128,13 @@ impl<'a> JudgedCertificate<'a> {
         ensures { result ≡ serves None self.now.user self.now.certificate }
     {
         self.for_user
+    }
+
+    /// Its principals.
+    pub(crate) fn principals(&self) -> &PrincipalIndex<'a>
+        ensures { result.now ≡ self.now.certificate.principals }
+    {
+        &self.principals
     }
 
     /// Why what the certificate insists on is not met by a line.

@@ -1,8 +1,8 @@
 //! A login that is sought in an authorized_keys file.
 
-ghost use Rattle.std.specs.Prelude.{◌≡◌, IfOk, IsOk, None, option_copied};
+ghost use Rattle.std.specs.Prelude.{◌≡◌, IfOk, IsOk, option_copied};
 ghost use Rattle.ssh_offers.specs.ClaimViews.{claim_of};
-ghost use Rattle.ssh_rules.specs.Judged.{judged_of, unknown_name};
+ghost use Rattle.ssh_rules.specs.Judged.{IsPlainlySought, judged_of};
 
 use crate::judged::JudgedCertificate;
 use ssh_offers::{LoginClaimView, Offer};
@@ -37,7 +37,7 @@ fn judged<'a>(
     claim: &LoginClaimView<'a>,
 ) -> Result<Option<JudgedCertificate<'a>>, AllocError>
     ensures value { IfOk result (λ made. made ≡ judged_of (claim_of claim.now)) }
-    ensures spare { unknown_name (claim_of claim.now).offer ≡ None → IsOk result }
+    ensures spare { IsPlainlySought (claim_of claim.now).offer → IsOk result }
 {
     match &claim.offer {
         Offer::Plain(_) => Ok(None),
@@ -55,12 +55,12 @@ fn judged<'a>(
 
 impl<'a> SoughtLogin<'a> {
     /// What is made of a claim once for all lines. Memory is taken for the name of a critical
-    /// option that no login knows, and for nothing else. `Err` is out of memory.
+    /// option that no login knows, and for the order of the principals. `Err` is out of memory.
     pub fn new(alloc: Global, claim: &LoginClaimView<'a>) -> Result<SoughtLogin<'a>, AllocError>
         ensures value { IfOk result (λ sought. sought ≡ claim_of claim.now) }
-        // A plain key takes no memory, and neither does a certificate whose critical options are
-        // known.
-        ensures spare { unknown_name (claim_of claim.now).offer ≡ None → IsOk result }
+        // A plain key takes no memory, and neither does a certificate without principals whose
+        // critical options are known.
+        ensures spare { IsPlainlySought (claim_of claim.now).offer → IsOk result }
     {
         let judged = judged(alloc, claim)?;
         Ok(SoughtLogin {

@@ -1,12 +1,11 @@
 use Rattle.std.proofs.Common.{rules, ◌==◌}
 use Rattle.std.proofs.lemmas.Iterator.Search.{any_from_yields_List}
 use Rattle.std.proofs.lemmas.Iterator.Splits.{YieldsList-from_slice_split}
-use Rattle.ssh_certs.specs.CertificateOf.{certificate_of}
-use Rattle.ssh_rules.specs.CertificateRules.{is_listed}
+use Rattle.ssh_rules.specs.CertificateRules.{is_among}
 use Rattle.ssh_rules.proofs.certificate.has_listed.Goals as goal
 
 pub returns : goal.returns
 returns c =
-    any_from_yields_List (is_listed (certificate_of c.args.certificate.now)) _ _ c.any.result c.any.ensures.ran
+    any_from_yields_List (is_among c.args.principals.now) _ _ c.any.result c.any.ensures.ran
     (YieldsList-from_slice_split _ (λ b. b == 44) c.args.list.now c.split.ensures.rest c.split.ensures.done c.split.ensures.closure (λ x r q k. search rules))
     (λ x r q k. search rules)
