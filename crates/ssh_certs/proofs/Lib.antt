@@ -5,3 +5,4 @@ pub mod PackedLists
 pub mod RowLaws
 pub mod Written
 pub mod OptionLemmas
+pub mod OptionFactLemmas

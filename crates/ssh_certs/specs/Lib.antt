@@ -12,6 +12,7 @@ pub mod CertificateOf
 pub mod OptionData
 pub mod OptionTable
 pub mod CertificateOptions
+pub mod OptionFacts
 pub mod Samples
 pub mod OptionSamples
 pub mod MadeCertificates

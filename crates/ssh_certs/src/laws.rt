@@ -1,8 +1,11 @@
 //! Laws of the definitions, each proved on a function without a body.
 
-ghost use Rattle.std.specs.Prelude.{◌≡◌, true, false, Some, None};
+ghost use Rattle.std.specs.Prelude.{◌≡◌, ◌↔◌, ℕ, true, false, List, Some, None};
 ghost use Rattle.ssh_certs.specs.declared.certificate_option.CertificateOption.{CertificateOption};
-ghost use Rattle.ssh_certs.specs.OptionTable.{critical_named, is_critical, name_of};
+ghost use Rattle.ssh_certs.specs.Certificate.{CertOption};
+ghost use Rattle.ssh_certs.specs.OptionData.{one_string};
+ghost use Rattle.ssh_certs.specs.OptionFacts.{IsKnownOption, IsOneString};
+ghost use Rattle.ssh_certs.specs.OptionTable.{critical_named, fits, is_critical, name_of};
 
 /// A critical option is found by its name, and no extension is.
 fn option_rule()
@@ -10,4 +13,14 @@ fn option_rule()
         is_critical option ≡ true → critical_named (name_of option) ≡ Some option }
     ensures extension { (option : CertificateOption) →
         is_critical option ≡ false → critical_named (name_of option) ≡ None }
+{}
+
+/// An option's data is read as one string exactly where it is one, and an option that is found by
+/// its name, with data of its form, is a known one.
+fn data_rule()
+    ensures string { (text field : List ℕ) → (one_string field ≡ Some text) ↔ IsOneString text field }
+    ensures known { (o : CertOption) (option : CertificateOption)
+        → critical_named o.name ≡ Some option
+        → fits option o.value ≡ true
+        → IsKnownOption o }
 {}
