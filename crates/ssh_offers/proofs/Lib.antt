@@ -1,3 +1,4 @@
 pub mod NamedLemmas
 pub mod VouchingLemmas
 pub mod ClaimLemmas
+pub mod ClaimLaw

@@ -1,5 +1,5 @@
 -- A file signature whose body was read, and what has to be vouched for of it.
-use Rattle.std.specs.Prelude.{◌≡◌, ℕ, List, [], ◌∷◌, Result, Ok, Err}
+use Rattle.std.specs.Prelude.{◌≡◌, ℕ, List, [], ◌∷◌, Result, Ok}
 use Rattle.ssh_wire.specs.Reading.{◌>>=◌}
 use Rattle.ssh_keys.specs.declared.signature.Fit.TheVariants.{Yes}
 use Rattle.ssh_keys.specs.PublicKey.{kind_of, key_blob}

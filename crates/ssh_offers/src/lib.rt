@@ -17,6 +17,7 @@ mod evidence;
 mod file_evidence;
 mod host_claim;
 mod items;
+mod laws;
 mod login_claim;
 mod offer;
 mod query;
