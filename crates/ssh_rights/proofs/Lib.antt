@@ -1,2 +1,3 @@
 pub mod RightsLemmas
+pub mod RightsLaw
 pub mod SpareLemmas

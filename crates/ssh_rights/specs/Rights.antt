@@ -1,9 +1,10 @@
 -- What a login may do (sshd(8), AUTHORIZED_KEYS FILE FORMAT; PROTOCOL.certkeys).
-use Rattle.std.specs.Prelude.{◌≡◌, ◌⊎◌, ℕ, Bool, true, false, ◌&&◌, ◌||◌, if◌then◌else◌, List, [], ◌∷◌, ◌++◌, Option, Some, None, unwrap_or}
+use Rattle.std.specs.Prelude.{◌≡◌, ◌↔◌, ◌⊎◌, ℕ, Bool, true, false, ◌&&◌, ◌||◌, if◌then◌else◌, List, [], ◌∷◌, ◌++◌, Option, Some, None, unwrap_or}
 use Rattle.std.specs.List.{AllByRecursion}
 use Rattle.ssh_certs.specs.declared.certificate_option.CertificateOption.{CertificateOption}
-use Rattle.ssh_certs.specs.declared.certificate_option.CertificateOption.TheVariants.{PermitPortForwarding, PermitAgentForwarding, PermitX11Forwarding, PermitPty, PermitUserRc}
+use Rattle.ssh_certs.specs.declared.certificate_option.CertificateOption.TheVariants.{ForceCommand, PermitPortForwarding, PermitAgentForwarding, PermitX11Forwarding, PermitPty, PermitUserRc}
 use Rattle.ssh_certs.specs.CertificateOptions.{forced_by_certificate, has_formed}
+use Rattle.ssh_certs.specs.OptionFacts.{HasExtension, HasText}
 use Rattle.ssh_lines.specs.AuthEntry.{AuthEntry}
 use Rattle.ssh_options.specs.AuthOption.{AuthOption, Switch, Setting}
 use Rattle.ssh_options.specs.declared.option.Flag.{Flag}
@@ -18,7 +19,7 @@ use Rattle.ssh_rights.specs.declared.rights.CarriedName.TheVariants.{Environment
 use Rattle.ssh_rights.specs.declared.rights.Rights.{Rights}
 use Rattle.ssh_rights.specs.declared.right.Right.{Right}
 use Rattle.ssh_rights.specs.declared.right.Right.TheVariants.{Port, Agent, X11, Pty, UserRc}
-use Rattle.ssh_offers.specs.Offer.{Offer, plain, certified}
+use Rattle.ssh_offers.specs.Offer.{Offer, OfCertificate, plain, certified}
 
 -- the flags of a line that turn a right on and off
 abbrev pub turns_on : Right → Flag
@@ -58,6 +59,56 @@ IsOn x options =
     ⊎ ((before : List AuthOption) × (o : AuthOption) × (after : List AuthOption)
     × (options ≡ before ++ o ∷ after) × (effect_on x o ≡ Some true) × AllByRecursion (λ o. effect_on x o ≡ None) after)
 
+-- The login has the right: the line leaves it on, and a certificate, where one is offered, gives it too.
+abbrev pub HasRight : Right → AuthEntry → Offer → Type 0
+HasRight x e offer = IsOn x e.options × OfCertificate (HasExtension (permit_of x)) offer
+
+-- the certificate that is offered forces the command
+abbrev pub OfferForces : Offer → List ℕ → Type 0
+OfferForces (plain key) command = ⊥
+OfferForces (certified c) command = HasText ForceCommand c command
+
+-- The line's command is run, and where it has none that of the certificate.
+abbrev pub IsForced : AuthEntry → Offer → List ℕ → Type 0
+IsForced e offer command =
+    (setting value.Command e.options ≡ Some command) ⊎ ((setting value.Command e.options ≡ None) × OfferForces offer command)
+
+-- the options whose texts are carried on
+abbrev pub carried_name : ValueName → Option CarriedName
+carried_name value.Command = None
+carried_name value.Environment = Some Environment
+carried_name value.ExpiryTime = None
+carried_name value.From = None
+carried_name value.PermitListen = Some PermitListen
+carried_name value.PermitOpen = Some PermitOpen
+carried_name value.Principals = None
+carried_name value.Tunnel = Some Tunnel
+
+abbrev pub carried_by : Option CarriedName → List ℕ → List Carried
+carried_by None text = []
+carried_by (Some name) text = record { name = name; text = text } ∷ []
+
+abbrev pub carried_of : AuthOption → List Carried
+carried_of (Switch f) = []
+carried_of (Setting name text) = carried_by (carried_name name) text
+
+-- their texts, in the order of the line
+abbrev pub carried_texts : List AuthOption → List Carried
+carried_texts [] = []
+carried_texts (o ∷ options) = carried_of o ++ carried_texts options
+
+-- what a login by this line may do
+pub record AreRights (e : AuthEntry) (offer : Offer) (rights : Rights) : Type 0 where
+  pub port : (rights.port ≡ true) ↔ HasRight Port e offer
+  pub agent : (rights.agent ≡ true) ↔ HasRight Agent e offer
+  pub x11 : (rights.x11 ≡ true) ↔ HasRight X11 e offer
+  pub pty : (rights.pty ≡ true) ↔ HasRight Pty e offer
+  pub user_rc : (rights.user_rc ≡ true) ↔ HasRight UserRc e offer
+  pub command : (text : List ℕ) → (rights.command ≡ Some text) ↔ IsForced e offer text
+  pub carried : rights.carried ≡ carried_texts e.options
+
+-- ======== the same, as functions
+
 -- what the last option that turns it on or off leaves, after what stood before
 abbrev pub last_word : Right → Bool → List AuthOption → Bool
 last_word x said [] = said
@@ -83,30 +134,6 @@ forced_by_offer (certified c) = forced_by_certificate c
 abbrev pub command_of : Option (List ℕ) → Offer → Option (List ℕ)
 command_of (Some command) offer = Some command
 command_of None offer = forced_by_offer offer
-
--- the options whose texts are carried on
-abbrev pub carried_name : ValueName → Option CarriedName
-carried_name value.Command = None
-carried_name value.Environment = Some Environment
-carried_name value.ExpiryTime = None
-carried_name value.From = None
-carried_name value.PermitListen = Some PermitListen
-carried_name value.PermitOpen = Some PermitOpen
-carried_name value.Principals = None
-carried_name value.Tunnel = Some Tunnel
-
-abbrev pub carried_by : Option CarriedName → List ℕ → List Carried
-carried_by None text = []
-carried_by (Some name) text = record { name = name; text = text } ∷ []
-
-abbrev pub carried_of : AuthOption → List Carried
-carried_of (Switch f) = []
-carried_of (Setting name text) = carried_by (carried_name name) text
-
--- their texts, in the order of the line
-abbrev pub carried_texts : List AuthOption → List Carried
-carried_texts [] = []
-carried_texts (o ∷ options) = carried_of o ++ carried_texts options
 
 -- what a login by this line may do
 unfoldable pub rights_of : AuthEntry → Offer → Rights

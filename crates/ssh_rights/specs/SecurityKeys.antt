@@ -1,12 +1,13 @@
 -- Logins by security keys: touched, and verified (PROTOCOL.u2f; sshd(8), no-touch-required and verify-required).
-use Rattle.std.specs.Prelude.{ℕ, ◌==◌, bit_and, Bool, true, false, not, ◌&&◌, ◌||◌, List, Option, Some, None}
+use Rattle.std.specs.Prelude.{◌≡◌, ◌⊎◌, ℕ, ◌==◌, bit_and, Bool, true, false, not, ◌&&◌, ◌||◌, List, Option, Some, None}
 use Rattle.ssh_keys.specs.Signature.{Signature}
 use Rattle.ssh_certs.specs.declared.certificate_option.CertificateOption.TheVariants as certificate_option
 use Rattle.ssh_certs.specs.CertificateOptions.{has_formed, has_named}
+use Rattle.ssh_certs.specs.OptionFacts.{HasExtension, InsistsOn}
 use Rattle.ssh_options.specs.AuthOption.{AuthOption}
 use Rattle.ssh_options.specs.declared.option.Flag.TheVariants.{NoTouchRequired, VerifyRequired}
 use Rattle.ssh_options.specs.Settings.{has_flag}
-use Rattle.ssh_offers.specs.Offer.{Offer, plain, certified}
+use Rattle.ssh_offers.specs.Offer.{Offer, OfCertificate, plain, certified}
 
 -- the flags of a security key's signature
 abbrev pub user_present : ℕ
@@ -14,6 +15,36 @@ user_present = 1
 
 abbrev pub user_verified : ℕ
 user_verified = 4
+
+-- a security key's signature with this flag
+abbrev pub HasSkFlag : ℕ → Option (ℕ × ℕ) → Type 0
+HasSkFlag flag None = ⊥
+HasSkFlag flag (Some sk) = bit_and sk.0 flag ≡ flag
+
+-- no signature of a security key, or one that says that a user was present
+abbrev pub IsPresent : Option (ℕ × ℕ) → Type 0
+IsPresent None = Unit {0}
+IsPresent (Some sk) = HasSkFlag user_present (Some sk)
+
+-- The line waives the touch, and a certificate, where one is offered, has to waive it too.
+abbrev pub WaivesTouch : List AuthOption → Offer → Type 0
+WaivesTouch options offer = (has_flag NoTouchRequired options ≡ true) × OfCertificate (HasExtension certificate_option.NoTouchRequired) offer
+
+-- a security key was touched, where it has to be
+abbrev pub TouchSuffices : List AuthOption → Offer → Signature → Type 0
+TouchSuffices options offer s = IsPresent s.sk ⊎ WaivesTouch options offer
+
+-- the certificate that is offered asks that a security key verified the user
+abbrev pub OfferAsks : Offer → Type 0
+OfferAsks (plain key) = ⊥
+OfferAsks (certified c) = InsistsOn certificate_option.VerifyRequired c
+
+-- A security key verified the user, where the line or the certificate asks for it. A signature that is not a security key's
+-- verifies nobody (this project's rule).
+abbrev pub VerificationSuffices : List AuthOption → Offer → Signature → Type 0
+VerificationSuffices options offer s = (has_flag VerifyRequired options ≡ true) ⊎ OfferAsks offer → HasSkFlag user_verified s.sk
+
+-- ======== the same, as functions
 
 -- a security key's signature with this flag
 abbrev pub has_sk_flag : ℕ → Option (ℕ × ℕ) → Bool
