@@ -1,53 +1,17 @@
 -- What is kept of entries stands for their list: it answers as the list does, and one more entry is kept as the list grows.
-use Rattle.std.proofs.Common.{◌≡◌, ◌∙◌, ℕ, Bool, true, false, not, ◌&&◌, cond, List, [], ◌∷◌, ◌++◌, Option, Some, None, BTreeMap, IsSome, ap, sym, refl, subst, nat_cmp, option_and_then, option_map}
+use Rattle.std.proofs.Common.{◌≡◌, ◌∙◌, ℕ, Bool, true, false, not, ◌&&◌, cond, List, [], ◌∷◌, ◌++◌, Option, Some, None, IsSome, ap, sym, refl, subst, option_and_then, option_map}
 use Rattle.std.specs.Prelude.{bytes_eq, find, is_some}
-use Rattle.std.specs.BTreeMap.{UpdatesBy, get_by, is_at}
-use Rattle.std.specs.Cmp.{eq_by_cmp_equiv}
-use Rattle.std.specs.Cmp.Lexicographic.{nat_list_cmp_total, slice_cmp}
-use Rattle.std.specs.Global.{Vec}
-use Rattle.std.specs.Map.{KeepsOthers, lookup}
 use Rattle.std.specs.Option.{option_or}
-use Rattle.std.specs.Ordering.{eq_by_cmp}
 use Rattle.std.proofs.lemmas.List.Folds.{find-append}
-use Rattle.std.proofs.lemmas.Map.Text.{is_eq-slice_cmp}
+use Rattle.ssh_byte_maps.specs.declared.map.ByteMap.{ByteMap}
 use Rattle.std.proofs.lemmas.Slice.Eq.{bytes_eq-Decides}
 use Rattle.ssh_findings.specs.declared.earlier.Earlier.{Earlier}
 use Rattle.ssh_findings.specs.declared.earlier.Free.{Free}
 use Rattle.ssh_findings.specs.declared.earlier.Kept.{Kept}
 use Rattle.ssh_findings.specs.declared.facts.Facts.{Facts}
+use Rattle.ssh_findings.specs.declared.finding.Finding.{Finding}
 use Rattle.ssh_findings.specs.Earlier.{Held, is_free, is_same, repeat_after, repeat_of, shadow}
-use Rattle.ssh_findings.specs.Keeping.{StandsFor, free_of, kept_after, kept_at, kept_in, kept_of, repeat_by, shadow_at}
-
--- ---- a map by the bytes of its keys
-
-apart : (bs cs ks : List ℕ) → bytes_eq bs cs ≡ false → bytes_eq bs ks ≡ true → bytes_eq cs ks ≡ false
-apart bs cs ks n y = go (bytes_eq cs ks) refl
-  where
-    go : (b : Bool) → bytes_eq cs ks ≡ b → b ≡ false
-    go false e = refl
-    go true e =
-        let same : bs ≡ cs = (bytes_eq-Decides bs ks).0 y ∙ sym ((bytes_eq-Decides cs ks).0 e) in
-        let bad : true ≡ false = sym ((bytes_eq-Decides bs cs).1 same) ∙ n in
-        cc
-
-others : {X : Type 0} (bs cs : List ℕ) (m n : BTreeMap (Vec ℕ) X) → bytes_eq bs cs ≡ false
-    → KeepsOthers (eq_by_cmp (λ x y. slice_cmp nat_cmp x.items y.items)) (is_at (λ key. slice_cmp nat_cmp bs key.items)) m.entries n.entries
-    → get_by (λ key. slice_cmp nat_cmp cs key.items) n ≡ get_by (λ key. slice_cmp nat_cmp cs key.items) m
-unfolding KeepsOthers
-others bs cs m n differ h =
-    h (is_at (λ key. slice_cmp nat_cmp cs key.items))
-    (λ x y. (eq_by_cmp_equiv nat_list_cmp_total).congr cs x.items y.items)
-    (λ key e. is_eq-slice_cmp cs key.items ∙ apart bs cs key.items differ (sym (is_eq-slice_cmp bs key.items) ∙ e))
-
--- what a change at the bytes bs leaves at any bytes cs
-pub updated : {X : Type 0} (bs cs : List ℕ) (m n : BTreeMap (Vec ℕ) X) (w : Option X)
-    → UpdatesBy (λ x y. slice_cmp nat_cmp x.items y.items) (λ key. slice_cmp nat_cmp bs key.items) m n w
-    → get_by (λ key. slice_cmp nat_cmp cs key.items) n ≡ cond (bytes_eq bs cs) w (get_by (λ key. slice_cmp nat_cmp cs key.items) m)
-updated bs cs m n w h = go (bytes_eq bs cs) refl
-  where
-    go : (b : Bool) → bytes_eq bs cs ≡ b → get_by (λ key. slice_cmp nat_cmp cs key.items) n ≡ cond b w (get_by (λ key. slice_cmp nat_cmp cs key.items) m)
-    go true e = subst (λ ds. get_by (λ key. slice_cmp nat_cmp ds key.items) n ≡ w) ((bytes_eq-Decides bs cs).0 e) h.1
-    go false e = others bs cs m n e h.3
+use Rattle.ssh_findings.specs.Keeping.{StandsFor, free_of, kept_after, kept_at, kept_in, kept_of, shadow_at}
 
 -- ---- what is kept answers as the list does
 
@@ -86,9 +50,13 @@ pub shadowed_at : (earlier : Earlier) (held : List Held) (blob : List ℕ) (f : 
 unfolding shadow
 shadowed_at earlier held blob f s = go (f.is_authority && is_some f.principals)
   where
-    go : (b : Bool) → cond b None (option_and_then (λ kept. kept.free) (kept_at earlier blob f.is_authority))
+    none : (k : Option Kept) → option_and_then (λ (kept : Kept). let free : Option Free = None in free) k ≡ None
+    none None = refl
+    none (Some k) = refl
+
+    go : (b : Bool) → option_and_then (λ (kept : Kept). cond b None kept.free) (kept_at earlier blob f.is_authority)
         ≡ option_map free_of (cond b None (find (λ d. is_same blob f.is_authority d && is_free d.facts) held))
-    go true = refl
+    go true = none (kept_at earlier blob f.is_authority)
     go false = ap (option_and_then (λ kept. kept.free)) (kept earlier held blob f.is_authority s) ∙ free-kept blob f.is_authority held
 
 free-line : (d : Option Held) → option_map (λ free. free.line) (option_map free_of d) ≡ option_map (λ d. d.line) d
@@ -100,25 +68,41 @@ pub shadow_line_at : (earlier : Earlier) (held : List Held) (blob : List ℕ) (f
 shadow_line_at earlier held blob f s =
     ap (option_map (λ free. free.line)) (shadowed_at earlier held blob f s) ∙ free-line (shadow held blob f)
 
-same-repeat : (first free : Option Held) (kept : Option Free) (f : Facts)
-    → repeat_by (option_map (λ d. record { first = d.line; free = kept }) first) (option_map free_of free) f ≡ repeat_of first free f
-same-repeat None free kept f = refl
-same-repeat (Some first) None kept f = refl
-same-repeat (Some first) (Some free) kept f = refl
-
-pub repeat_at : (earlier : Earlier) (held : List Held) (blob : List ℕ) (f : Facts) → StandsFor earlier held
-    → repeat_by (kept_at earlier blob f.is_authority) (shadow_at earlier blob f) f ≡ repeat_after held blob f
-unfolding repeat_after
-repeat_at earlier held blob f s =
-    ap (λ k. repeat_by k (shadow_at earlier blob f) f) (kept earlier held blob f.is_authority s)
-    ∙ ap (λ k. repeat_by (kept_of blob f.is_authority held) k f) (shadowed_at earlier held blob f s)
-    ∙ same-repeat (find (is_same blob f.is_authority) held) (shadow held blob f) _ f
-
--- ---- one more entry
-
 -- what is kept of a first and a first free entry
 abbrev made : Option Held → Option Held → Option Kept
 made first free = option_map (λ d. record { first = d.line; free = option_map free_of free }) first
+
+-- what is found where this is kept of the key, by what stands for the first entry and the first free one
+pub repeat_some : (earlier : Earlier) (held : List Held) (blob : List ℕ) (f : Facts) (k : Kept) (result : Finding) → StandsFor earlier held
+    → Some k ≡ kept_at earlier blob f.is_authority
+    → ((first : Held) (free : Option Held) → k ≡ (record { first = first.line; free = option_map free_of free })
+    → Some result ≡ repeat_of (Some first) (cond (f.is_authority && is_some f.principals) None free) f)
+    → Some result ≡ repeat_after held blob f
+unfolding repeat_after shadow
+repeat_some earlier held blob f k result s there h =
+    go (find (λ d. is_same blob f.is_authority d) held) (there ∙ kept earlier held blob f.is_authority s)
+  where
+    free : Option Held
+    free = find (λ d. is_same blob f.is_authority d && is_free d.facts) held
+
+    go : (first : Option Held) → Some k ≡ made first free → Some result ≡ repeat_of first (cond (f.is_authority && is_some f.principals) None free) f
+    go None e = cc
+    go (Some first) e = h first free cc
+
+pub repeat_none : (earlier : Earlier) (held : List Held) (blob : List ℕ) (f : Facts) → StandsFor earlier held
+    → None ≡ kept_at earlier blob f.is_authority → None ≡ repeat_after held blob f
+unfolding repeat_after shadow
+repeat_none earlier held blob f s there =
+    go (find (λ d. is_same blob f.is_authority d) held) (there ∙ kept earlier held blob f.is_authority s)
+  where
+    free : Option Held
+    free = find (λ d. is_same blob f.is_authority d && is_free d.facts) held
+
+    go : (first : Option Held) → None ≡ made first free → None ≡ repeat_of first (cond (f.is_authority && is_some f.principals) None free) f
+    go None e = refl
+    go (Some first) e = cc
+
+-- ---- one more entry
 
 abbrev if-one : Bool → Held → Option Held
 if-one b d = cond b (Some d) None
@@ -164,7 +148,7 @@ kept-still blob is_authority held d other = kept-more blob is_authority held d �
     go false c e = refl
 
 -- the entry is of the kind that the map is for
-kept-new : (old new : BTreeMap (Vec ℕ) Kept) (is_authority : Bool) (held : List Held) (d : Held)
+kept-new : (old new : ByteMap Kept) (is_authority : Bool) (held : List Held) (d : Held)
     → cond is_authority d.facts.is_authority (not d.facts.is_authority) ≡ true
     → ((blob : List ℕ) → kept_in old blob ≡ kept_of blob is_authority held)
     → ((other : List ℕ) → kept_in new other ≡ cond (bytes_eq d.blob other) (Some (kept_after (kept_in old d.blob) d.line d.facts)) (kept_in old other))
@@ -198,11 +182,11 @@ kept_plain old new held d role s same h = record {
 }
 
 -- what stands for a list, by the same entries
-pub stands_still : (old new : Earlier) (held : List Held) → new.plain.entries ≡ old.plain.entries → new.authorities.entries ≡ old.authorities.entries
-    → StandsFor old held → StandsFor new held
+pub stands_still : (old new : Earlier) (held : List Held) → ((blob : List ℕ) → kept_in new.plain blob ≡ kept_in old.plain blob)
+    → ((blob : List ℕ) → kept_in new.authorities blob ≡ kept_in old.authorities blob) → StandsFor old held → StandsFor new held
 stands_still old new held e f s = record {
-  plain = λ blob. ap (lookup (is_at (λ key. slice_cmp nat_cmp blob key.items))) e ∙ s.plain blob;
-  authorities = λ blob. ap (lookup (is_at (λ key. slice_cmp nat_cmp blob key.items))) f ∙ s.authorities blob;
+  plain = λ blob. e blob ∙ s.plain blob;
+  authorities = λ blob. f blob ∙ s.authorities blob;
 }
 
 -- ---- an entry of a key that is kept

@@ -11,6 +11,7 @@ use Rattle.ssh_rights.specs.declared.rights.Rights.{Rights}
 use Rattle.ssh_findings.specs.declared.facts.Facts.{Facts}
 use Rattle.ssh_findings.specs.declared.finding.Finding.{Finding}
 use Rattle.ssh_findings.specs.declared.finding.Finding.TheVariants as finding
+use Rattle.ssh_findings.specs.declared.given.Given.{Given}
 use Rattle.ssh_findings.specs.Facts.{facts_of}
 
 -- the entry of an earlier line: its number, the blob of its key, and what it says
@@ -45,12 +46,6 @@ has_other_command None other = false
 has_other_command (Some command) None = true
 has_other_command (Some command) (Some other) = not (bytes_eq command other)
 
--- some right is off that is on in the other
-abbrev pub loses_right : Rights → Rights → Bool
-loses_right r other =
-    (other.port && not r.port) || ((other.agent && not r.agent) || ((other.x11 && not r.x11)
-    || ((other.pty && not r.pty) || (other.user_rc && not r.user_rc))))
-
 abbrev pub is_open_name : CarriedName → Bool
 is_open_name carried.Environment = false
 is_open_name carried.PermitListen = false
@@ -76,14 +71,39 @@ has_open texts = list_any is_open texts
 abbrev pub has_listen : List Carried → Bool
 has_listen texts = list_any is_listen texts
 
+-- what an entry gives, as far as a later one of its key can give less
+abbrev pub given_of : Facts → Given
+given_of f = record {
+  command = f.rights.command;
+  port = f.rights.port;
+  agent = f.rights.agent;
+  x11 = f.rights.x11;
+  pty = f.rights.pty;
+  user_rc = f.rights.user_rc;
+  verify_required = f.verify_required;
+  no_touch_required = f.no_touch_required;
+  opens = has_open f.rights.carried;
+  listens = has_listen f.rights.carried;
+}
+
+-- some right is off that is given
+abbrev pub loses_right : Rights → Given → Bool
+loses_right r given =
+    (given.port && not r.port) || ((given.agent && not r.agent) || ((given.x11 && not r.x11)
+    || ((given.pty && not r.pty) || (given.user_rc && not r.user_rc))))
+
+-- an entry gives less than is given
+unfoldable pub gives_less : Facts → Given → Bool
+gives_less f given =
+    is_some f.from || (f.has_expiry || (has_other_command f.rights.command given.command
+    || (loses_right f.rights given || ((f.verify_required && not given.verify_required)
+    || ((given.no_touch_required && not f.no_touch_required)
+    || ((has_open f.rights.carried && not given.opens)
+    || (has_listen f.rights.carried && not given.listens)))))))
+
 -- an entry gives less than another of the same key
-unfoldable pub is_narrower : Facts → Facts → Bool
-is_narrower f other =
-    is_some f.from || (f.has_expiry || (has_other_command f.rights.command other.rights.command
-    || (loses_right f.rights other.rights || ((f.verify_required && not other.verify_required)
-    || ((other.no_touch_required && not f.no_touch_required)
-    || ((has_open f.rights.carried && not (has_open other.rights.carried))
-    || (has_listen f.rights.carried && not (has_listen other.rights.carried))))))))
+abbrev pub is_narrower : Facts → Facts → Bool
+is_narrower f other = gives_less f (given_of other)
 
 -- what the first entry of the same key, and the one that lets it in first, make of an entry
 abbrev pub repeat_of : Option Held → Option Held → Facts → Option Finding

@@ -7,5 +7,6 @@ pub mod Findings
 pub mod Shadows
 pub mod Earlier
 pub mod Keeping
+pub mod Memory
 pub mod EntryFindings
 pub mod Spare

@@ -2,48 +2,56 @@
 
 ghost use Rattle.std.specs.Prelude.{
   ◌≡◌,
+  ◌≤◌,
+  ◌+◌,
   ◌++◌,
   ◌∷◌,
   [],
   ℕ,
+  ◌&&◌,
   if◌then◌else◌,
   bytes_eq,
   find,
   List,
+  Option,
   Some,
   None,
   IsOk,
   IsSome,
   OnErr,
   OnOk,
+  is_some,
   option_copied,
   option_map,
 };
-ghost use Rattle.std.specs.BTreeMap.{IsUnchanged};
-ghost use Rattle.ssh_findings.specs.Earlier.{Held, is_same, repeat_after, shadow};
+ghost use Rattle.ssh_byte_maps.specs.Entries.{IsUnchanged, sum_of};
+ghost use Rattle.ssh_findings.specs.Earlier.{Held, is_same, repeat_after, repeat_of, shadow};
 ghost use Rattle.ssh_findings.specs.Keeping.{
   StandsFor,
+  free_of,
   free_on,
   kept_after,
   kept_at,
   kept_in,
-  repeat_by,
   shadow_at,
+  shadow_in,
 };
+ghost use Rattle.ssh_findings.specs.Memory.{bytes_kept, entry_bytes, kept_bytes, keys_kept, one};
 
 use crate::facts::Facts;
 use crate::finding::Finding;
-use crate::narrower::{is_free, is_narrower};
+use crate::given::Given;
+use crate::narrower::{gives_less, is_free};
+use ssh_byte_maps::ByteMap;
 use std::alloc::{AllocError, Global};
-use std::collections::BTreeMap;
 
 /// An entry that lets its key in whenever, from wherever and for whomever it may be.
 #[derive(Debug, Drop)]
 pub(crate) struct Free {
     /// The number of its line.
     line: u64,
-    /// What it says.
-    facts: Facts,
+    /// What it gives.
+    given: Given,
 }
 
 /// What a later line can need of the entries of one key.
@@ -59,8 +67,8 @@ pub(crate) struct Kept {
 /// what a later line can need. So much memory is taken as the different keys want.
 #[derive(Debug, Drop)]
 pub struct Earlier {
-    plain: BTreeMap<Vec<u8>, Kept>,
-    authorities: BTreeMap<Vec<u8>, Kept>,
+    plain: ByteMap<Kept>,
+    authorities: ByteMap<Kept>,
 }
 
 /// An entry, if it is free.
@@ -68,37 +76,19 @@ fn free_on(line: u64, facts: Facts) -> Option<Free>
     ensures { result ≡ free_on line facts }
 {
     if is_free(&facts) {
-        Some(Free { line, facts })
+        Some(Free {
+            line,
+            given: Given::of(facts),
+        })
     } else {
         None
-    }
-}
-
-impl Kept {
-    /// What is kept of the first entry of a key.
-    fn first(line: u64, facts: Facts) -> Kept
-        ensures { result ≡ kept_after None line facts }
-    {
-        Kept {
-            first: line,
-            free: free_on(line, facts),
-        }
-    }
-
-    /// Keeps what is new of a further entry of the key.
-    fn add(&mut self, line: u64, facts: Facts)
-        ensures { self.new ≡ kept_after (Some self.old) line facts }
-    {
-        if self.free.is_none() {
-            self.free = free_on(line, facts);
-        }
     }
 }
 
 /// Keeps an entry with this blob. Where memory is refused, nothing is kept.
 fn keep_in(
     alloc: Global,
-    map: &mut BTreeMap<Vec<u8>, Kept>,
+    map: &mut ByteMap<Kept>,
     line: u64,
     blob: &[u8],
     facts: Facts,
@@ -106,41 +96,57 @@ fn keep_in(
     ensures ok { OnOk result ((other : List ℕ) → kept_in map.new other
         ≡ (if bytes_eq blob.now other then Some (kept_after (kept_in map.old blob.now) line facts)
         else kept_in map.old other)) }
+    ensures bytes { OnOk result
+        (sum_of kept_bytes map.new ≤ sum_of kept_bytes map.old + entry_bytes blob.now facts) }
+    ensures keys { OnOk result (sum_of one map.new ≤ sum_of one map.old + 1) }
     ensures err { OnErr result (IsUnchanged map.old map.new) }
     ensures spare { IsSome (kept_in map.old blob.now) → IsOk result }
 {
-    if let Some(kept) = map.get_mut(blob) {
-        kept.add(line, facts);
-        return Ok(());
+    let first = match map.get(blob) {
+        Some(kept) if kept.free.is_some() => return Ok(()),
+        Some(kept) => kept.first,
+        None => line,
+    };
+    let free = free_on(line, facts);
+    map.insert(alloc, blob, Kept { first, free })
+}
+
+/// The entry that lets the key of a line in first, whatever the line says, of what is kept of the
+/// key.
+fn shadow_in<'k>(kept: &'k Kept, facts: &Facts) -> Option<&'k Free>
+    ensures { option_copied result ≡ shadow_in kept.now facts.now }
+{
+    if facts.is_authority && facts.principals.is_some() {
+        None
+    } else {
+        kept.free.as_ref()
     }
-    let key = Vec::from_slice(alloc, blob)?;
-    map.insert(key, Kept::first(line, facts))?;
-    Ok(())
 }
 
 /// What the first entry of the same key, and the one that lets it in first, make of an entry.
-fn repeat_by(kept: Option<&Kept>, free: Option<&Free>, facts: &Facts) -> Option<Finding>
-    ensures { result
-        ≡ repeat_by (option_copied kept.entry) (option_copied free.entry) facts.now }
+fn repeat_by(kept: &Kept, facts: &Facts) -> Finding
+    ensures { (first : Held) (free : Option Held)
+        → kept.now ≡ (record { first = first.line; free = option_map free_of free })
+        → Some result ≡ repeat_of (Some first)
+        (if facts.now.is_authority && is_some facts.now.principals then None else free) facts.now }
 {
-    match (kept, free) {
-        (None, _) => None,
-        (Some(kept), None) => Some(Finding::SameKey(kept.first)),
-        (Some(_), Some(free)) if is_narrower(facts, &free.facts) => {
-            Some(Finding::GivesMore(free.line))
-        }
-        (Some(_), Some(free)) => Some(Finding::NeverDecides(free.line)),
+    match shadow_in(kept, facts) {
+        None => Finding::SameKey(kept.first),
+        Some(free) if gives_less(facts, &free.given) => Finding::GivesMore(free.line),
+        Some(free) => Finding::NeverDecides(free.line),
     }
 }
 
 impl Earlier {
-    /// What is kept where no entry stands before.
+    /// What is kept where no entry stands before. No memory is taken.
     pub fn new(alloc: Global) -> Earlier
-        ensures { StandsFor result [] }
+        ensures stands { StandsFor result [] }
+        ensures bytes { bytes_kept result ≡ 0 }
+        ensures keys { keys_kept result ≡ 0 }
     {
         Earlier {
-            plain: BTreeMap::new(alloc),
-            authorities: BTreeMap::new(alloc),
+            plain: ByteMap::new(alloc),
+            authorities: ByteMap::new(alloc),
         }
     }
 
@@ -159,11 +165,8 @@ impl Earlier {
     fn shadow(&self, blob: &[u8], facts: &Facts) -> Option<&Free>
         ensures { option_copied result ≡ shadow_at self.now blob.now facts.now }
     {
-        if facts.is_authority && facts.principals.is_some() {
-            return None;
-        }
         match self.kept(blob, facts.is_authority) {
-            Some(kept) => kept.free.as_ref(),
+            Some(kept) => shadow_in(kept, facts),
             None => None,
         }
     }
@@ -181,15 +184,15 @@ impl Earlier {
     }
 
     /// F2 to F4: what the entries make of an entry with this blob.
-    #[tactic(auto, using(crate::proofs::KeepingLemmas::repeat_at))]
     pub(crate) fn repeat(&self, blob: &[u8], facts: &Facts) -> Option<Finding>
         ensures { (held : List Held)
             → StandsFor self.now held
             → result ≡ repeat_after held blob.now facts.now }
     {
-        let kept = self.kept(blob, facts.is_authority);
-        let free = self.shadow(blob, facts);
-        repeat_by(kept, free, facts)
+        match self.kept(blob, facts.is_authority) {
+            Some(kept) => Some(repeat_by(kept, facts)),
+            None => None,
+        }
     }
 
     /// Keeps the entry of a line for the lines after it. An entry of a key that is kept takes no
@@ -204,6 +207,11 @@ impl Earlier {
         ensures ok { OnOk result ((held : List Held)
             → StandsFor self.old held
             → StandsFor self.new (held ++ record { line = line; blob = blob.now; facts = facts } ∷ [])) }
+        // So what is held is no more than the blobs and the commands of the entries, and a place for
+        // each, however a file repeats them.
+        ensures bytes { OnOk result
+            (bytes_kept self.new ≤ bytes_kept self.old + entry_bytes blob.now facts) }
+        ensures keys { OnOk result (keys_kept self.new ≤ keys_kept self.old + 1) }
         ensures err { OnErr result ((held : List Held)
             → StandsFor self.old held
             → StandsFor self.new held) }

@@ -20,6 +20,7 @@ mod earlier;
 mod entry;
 mod facts;
 mod finding;
+mod given;
 mod laws;
 mod list;
 mod moments;

@@ -2,17 +2,18 @@
 
 ghost use Rattle.std.specs.Prelude.{◌≡◌};
 ghost use Rattle.ssh_findings.specs.Earlier.{
+  gives_less,
   has_listen,
   has_open,
   has_other_command,
   is_free,
   is_listen,
-  is_narrower,
   is_open,
   loses_right,
 };
 
 use crate::facts::Facts;
+use crate::given::Given;
 use ssh_rights::{Carried, CarriedName, Rights};
 use ssh_text::Bytes;
 
@@ -35,15 +36,15 @@ fn has_other_command(command: &Option<Bytes>, other: &Option<Bytes>) -> bool
     }
 }
 
-/// Whether some right is off that is on in the other.
-fn loses_right(rights: &Rights, other: &Rights) -> bool
-    ensures { result ≡ loses_right rights.now other.now }
+/// Whether some right is off that another line gives.
+fn loses_right(rights: &Rights, given: &Given) -> bool
+    ensures { result ≡ loses_right rights.now given.now }
 {
-    (other.port && !rights.port)
-        || (other.agent && !rights.agent)
-        || (other.x11 && !rights.x11)
-        || (other.pty && !rights.pty)
-        || (other.user_rc && !rights.user_rc)
+    (given.port && !rights.port)
+        || (given.agent && !rights.agent)
+        || (given.x11 && !rights.x11)
+        || (given.pty && !rights.pty)
+        || (given.user_rc && !rights.user_rc)
 }
 
 fn is_open(carried: &Carried) -> bool
@@ -59,7 +60,7 @@ fn is_listen(carried: &Carried) -> bool
 }
 
 /// Whether `permitopen` stands on a line.
-fn has_open(carried: &[Carried]) -> bool
+pub(crate) fn has_open(carried: &[Carried]) -> bool
     ensures { result ≡ has_open carried.now }
 {
     for text in carried {
@@ -71,7 +72,7 @@ fn has_open(carried: &[Carried]) -> bool
 }
 
 /// Whether `permitlisten` stands on a line.
-fn has_listen(carried: &[Carried]) -> bool
+pub(crate) fn has_listen(carried: &[Carried]) -> bool
     ensures { result ≡ has_listen carried.now }
 {
     for text in carried {
@@ -82,19 +83,18 @@ fn has_listen(carried: &[Carried]) -> bool
     false
 }
 
-/// Whether an entry gives less than another of the same key.
-#[tactic(auto, unfolding(crate::specs::Earlier::is_narrower))]
-pub(crate) fn is_narrower(facts: &Facts, other: &Facts) -> bool
-    ensures { result ≡ is_narrower facts.now other.now }
+/// Whether an entry gives less than is given.
+#[tactic(auto, unfolding(crate::specs::Earlier::gives_less))]
+pub(crate) fn gives_less(facts: &Facts, given: &Given) -> bool
+    ensures { result ≡ gives_less facts.now given.now }
 {
     let carried = facts.rights.carried.as_slice();
-    let others = other.rights.carried.as_slice();
     facts.from.is_some()
         || facts.has_expiry
-        || has_other_command(&facts.rights.command, &other.rights.command)
-        || loses_right(&facts.rights, &other.rights)
-        || (facts.verify_required && !other.verify_required)
-        || (other.no_touch_required && !facts.no_touch_required)
-        || (has_open(carried) && !has_open(others))
-        || (has_listen(carried) && !has_listen(others))
+        || has_other_command(&facts.rights.command, &given.command)
+        || loses_right(&facts.rights, given)
+        || (facts.verify_required && !given.verify_required)
+        || (given.no_touch_required && !facts.no_touch_required)
+        || (has_open(carried) && !given.opens)
+        || (has_listen(carried) && !given.listens)
 }
