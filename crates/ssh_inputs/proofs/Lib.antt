@@ -1,4 +1,6 @@
 mod WordLemmas
+mod KeptLemmas
+mod TakingLemmas
 mod Reading
 mod PartReading
 mod LineReading

@@ -1,6 +1,6 @@
 -- Files in turn: what is told so far leads to what all of them tell.
-use Rattle.std.proofs.Common.{◌≡◌, ◌∙◌, ◌<◌, ℕ, List, [], ◌∷◌, Option, Some, None, refl, sym, ap, subst, inl, inr}
-use Rattle.ssh_inputs.specs.SourceState.{IfTells, SourceState, most_failures}
+use Rattle.std.proofs.Common.{◌≡◌, ◌∙◌, ℕ, List, [], ◌∷◌, Option, Some, None, refl, sym, ap, subst, inl, inr}
+use Rattle.ssh_inputs.specs.SourceState.{IfTells, SourceState}
 use Rattle.ssh_inputs.specs.FilesInTurn.{Telling, TellsFile, TellsFiles}
 use Rattle.ssh_inputs.proofs.SourceLemmas.{Alike, file-alike, keeps-same, none-failed, one-failed}
 

@@ -1,5 +1,5 @@
 -- What reading a file answers.
-use Rattle.std.specs.Prelude.{◌≡◌, ◌⊎◌, ◌++◌, ◌+◌, ℕ, false, List, Option, Some, None, Result, Ok, Err, length, nat_lt, if◌then◌else◌, ◌<◌}
+use Rattle.std.specs.Prelude.{◌≡◌, ◌++◌, ◌+◌, ℕ, false, List, Option, Some, None, Result, Ok, Err, length, nat_lt, if◌then◌else◌, ◌<◌}
 use Rattle.std.specs.Str.{bytes_eq}
 use Rattle.ssh_text.specs.Text.{file_limit, line_limit}
 use Rattle.ssh_inputs.specs.SourceState.{SourceState, dash, next_choice}
@@ -45,18 +45,6 @@ abbrev pub IsTooLong : Option (List ℕ) → Type 0
 IsTooLong None = ⊥
 IsTooLong (Some bytes) = file_limit < length bytes
 
--- all the bytes were read, and `rest` is left; or as many as pass the limit
-abbrev pub IsGathered : Option (List ℕ) → SourceState → SourceState → Option SourceState → List ℕ → Type 0
-IsGathered bytes rest s t got = ((bytes ≡ Some got) × IsLeft s rest t) ⊎ ((file_limit < length got) × IsTooLong bytes × NoReadFailed s t)
-
--- what a reading of the file of this name up to the limit answers
-abbrev pub Gathers : {V : Type 0} → (V → List ℕ) → List ℕ → Option (List ℕ) → SourceState → SourceState → Option SourceState → Result V ReadError → Type 0
-Gathers view name bytes rest s t (Ok v) = IsGathered bytes rest s t (view v)
-Gathers view name bytes rest s t (Err fault.Missing) = (bytes ≡ None) × NoReadFailed s t
-Gathers view name bytes rest s t (Err fault.TooLong) = ⊥
-Gathers view name bytes rest s t (Err fault.Failed) = OneReadFailed s t name
-Gathers view name bytes rest s t (Err fault.Memory) = HoldsBytes bytes
-
 -- why a reading of these bytes of the file of this name gives none; a file that is missing or empty is told whatever memory
 -- does
 abbrev pub FailsLoad : List ℕ → Option (List ℕ) → SourceState → Option SourceState → ReadError → Type 0
@@ -69,6 +57,12 @@ FailsLoad name bytes s t fault.Memory = HoldsBytes bytes
 abbrev pub Loads : {V : Type 0} → (V → List ℕ) → List ℕ → Option (List ℕ) → SourceState → SourceState → Option SourceState → Result V ReadError → Type 0
 Loads view name bytes rest s t (Ok v) = (within_limit bytes ≡ Some (view v)) × IsLeft s rest t
 Loads view name bytes rest s t (Err e) = FailsLoad name bytes s t e
+
+-- What a reading answers of which only a part is kept: that part of the bytes, of which there are no more than there may
+-- be; or why there is none, as where they are all kept.
+abbrev pub LoadsPart : {V : Type 0} → (List ℕ → V → Type 0) → List ℕ → Option (List ℕ) → SourceState → SourceState → Option SourceState → Result V ReadError → Type 0
+LoadsPart IsPart name bytes rest s t (Ok v) = ((file : List ℕ) × (within_limit bytes ≡ Some file) × IsPart file v) × IsLeft s rest t
+LoadsPart IsPart name bytes rest s t (Err e) = FailsLoad name bytes s t e
 
 -- what a reading of the file of this name leaves of all other files: the named ones, and of another than standard input that too
 abbrev pub KeepsOthers : List ℕ → SourceState → Option SourceState → Type 0

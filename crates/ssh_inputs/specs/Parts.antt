@@ -1,5 +1,6 @@
 -- The parts of standard input, where words, a vouch file and a trust file are read from it.
 use Rattle.std.specs.Prelude.{◌==◌, ◌&&◌, ℕ, Bool, true, List, [], ◌∷◌, Option, Some, if◌then◌else◌}
+use Rattle.std.specs.List.{list_any}
 use Rattle.std.specs.Str.{bytes_eq}
 use Rattle.ssh_inputs.specs.SourceState.{SourceState, dash, next_choice}
 
@@ -29,6 +30,18 @@ after_whole s name = after_reading s (if bytes_eq name dash then [] else s.input
 abbrev pub cut_at_line : List ℕ → List ℕ × List ℕ
 cut_at_line [] = ([], [])
 cut_at_line (b ∷ input) = if b == 10 then ([], input) else (b ∷ (cut_at_line input).0, (cut_at_line input).1)
+
+-- the first line of a file without its LF; of an empty file no bytes
+abbrev pub top_line : List ℕ → List ℕ
+top_line [] = []
+top_line (b ∷ file) = if b == 10 then [] else b ∷ top_line file
+
+abbrev pub is_line_end : ℕ → Bool
+is_line_end b = b == 10
+
+-- whether a first line has its LF
+abbrev pub has_line_end : List ℕ → Bool
+has_line_end bytes = list_any is_line_end bytes
 
 -- the first line of standard input
 abbrev pub first_line : SourceState → List ℕ

@@ -3,6 +3,8 @@
 
 mod base64_text;
 mod files;
+mod keeper;
+mod part;
 mod read;
 mod salts;
 mod samples;
@@ -13,6 +15,7 @@ mod zone;
 
 pub use base64_text::decode;
 pub use files::Files;
+pub use part::{read_digest, read_front, read_past, read_top_line};
 pub use read::{ReadError, read_first_line, read_vouch_file, read_whole};
 pub use salts::read_salts;
 pub use values::{

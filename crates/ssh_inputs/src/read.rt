@@ -4,9 +4,10 @@ ghost use Rattle.std.specs.Prelude.{◌≡◌, ◌==◌, ◌&&◌, ◌≤◌, le
 ghost use Rattle.ssh_text.specs.Text.{file_limit};
 ghost use Rattle.ssh_inputs.specs.SourceState.{bytes_at, dash, IfTells};
 ghost use Rattle.ssh_inputs.specs.Parts.{after_part, after_reading, after_whole, cut_at_empty, part_at};
-ghost use Rattle.ssh_inputs.specs.Loading.{Gathers, KeepsOthers, Loads, LoadsLine};
+ghost use Rattle.ssh_inputs.specs.Loading.{KeepsOthers, Loads, LoadsLine};
 
 use crate::files::Files;
+use crate::part::read_front;
 use ssh_text::{FILE_LIMIT, LINE_LIMIT};
 use std::alloc::Global;
 
@@ -17,35 +18,6 @@ pub enum ReadError {
     TooLong,
     Failed,
     Memory,
-}
-
-/// How many bytes are asked for at once.
-const PIECE: usize = 4096;
-
-/// The bytes of the file of this name; of a file that passes the limit, as many as pass it.
-fn gather<F: Files>(alloc: Global, files: &mut F, name: &str) -> Result<Vec<u8>, ReadError>
-    ensures bytes { IfTells (F.source_state files.old) (λ s.
-        Gathers (λ v. v.items) name.now (bytes_at s name.now) (after_whole s name.now) s
-        (F.source_state files.new) result) }
-    ensures others { IfTells (F.source_state files.old)
-        (λ s. KeepsOthers name.now s (F.source_state files.new)) }
-{
-    if !files.choose(name) {
-        return Err(ReadError::Missing);
-    }
-    let mut bytes = Vec::new(alloc);
-    let mut piece = [0u8; PIECE];
-    while bytes.len() <= FILE_LIMIT {
-        match files.read_chosen(&mut piece) {
-            Ok(0) => return Ok(bytes),
-            Ok(n) => match bytes.extend_from_slice(&piece[..n]) {
-                Ok(()) => {}
-                Err(_) => return Err(ReadError::Memory),
-            },
-            Err(_) => return Err(ReadError::Failed),
-        }
-    }
-    Ok(bytes)
 }
 
 /// The bytes of the file of this name, which may not pass the limit.
@@ -59,16 +31,7 @@ pub fn read_whole<F: Files>(alloc: Global, files: &mut F, name: &str) -> Result<
     ensures others { IfTells (F.source_state files.old)
         (λ s. KeepsOthers name.now s (F.source_state files.new)) }
 {
-    match gather(alloc, files, name) {
-        Ok(bytes) => {
-            if bytes.len() > FILE_LIMIT {
-                Err(ReadError::TooLong)
-            } else {
-                Ok(bytes)
-            }
-        }
-        Err(fault) => Err(fault),
-    }
+    read_front(alloc, files, name, FILE_LIMIT)
 }
 
 /// Whether this byte ends an empty line.
