@@ -5,7 +5,11 @@ use Rattle.std.specs.List.{AllByRecursion, list_any, slice_index_or}
 use Rattle.std.proofs.lemmas.Bool.{and_parts, ne_eqb}
 use Rattle.jiff.specs.Types.{TimeZone}
 use Rattle.ssh_keys.specs.PublicKey.{PublicKey}
-use Rattle.ssh_certs.specs.Certificate.{Certificate}
+use Rattle.ssh_certs.specs.declared.certificate_option.CertificateOption.TheVariants.{ForceCommand}
+use Rattle.ssh_certs.specs.Certificate.{Certificate, CertOption}
+use Rattle.ssh_certs.specs.OptionFacts.{IsOneString}
+use Rattle.ssh_certs.specs.OptionTable.{name_of}
+use Rattle.ssh_certs.proofs.OptionFactLemmas.{each}
 use Rattle.ssh_options.specs.declared.option.ValueName.TheVariants.{Command, ExpiryTime, From, Principals}
 use Rattle.ssh_options.specs.Settings.{first_of, setting, settings}
 use Rattle.ssh_lines.specs.AuthEntry.{AuthEntry}
@@ -18,6 +22,7 @@ use Rattle.ssh_patterns.specs.declared.address.Address.{Address}
 use Rattle.ssh_rights.specs.Rights.{command_of, rights_of}
 use Rattle.ssh_rules.specs.Admission.{AdmitsLogin, CriticalMet, IsUnexpired, IsUserInForce, is_authority, source_by}
 use Rattle.ssh_rules.specs.CertificateForce.{InForce, Serves, user_certificate}
+use Rattle.ssh_rules.proofs.AdmissionLemmas.{of-source}
 use Rattle.ssh_keys.specs.PublicKey.{key_blob}
 use Rattle.ssh_keys.proofs.KeyLaws.{find_some}
 use Rattle.std.proofs.lemmas.Slice.Eq.{bytes_eq-Decides}
@@ -38,15 +43,18 @@ force e d q (certified c) same free none role f =
     let P : Option (List ℕ) → Type 0 = λ list. InForce user_certificate q.now q.empty_principals list q.user c in
     subst P (none (same.authority ∙ role) ∙ sym (free.principals role)) f
 
+-- a certificate's option that forces a command forces the line's
+abbrev ForcesSame : AuthEntry → CertOption → Type 0
+ForcesSame d o = o.name ≡ name_of ForceCommand → (own : List ℕ) → IsOneString own o.value → (line : List ℕ) → setting Command d.options ≡ Some line → line ≡ own
+
 met : (e d : AuthEntry) (address : Address) (offer : Offer) → IsFree d → is_authority d ≡ is_certified offer
     → OfCertificate (CriticalMet e address) offer → OfCertificate (CriticalMet d address) offer
 met e d address (plain key) free role m = tt
 met e d address (certified c) free role m = record {
   known = m.known;
   once = m.once;
-  formed = m.formed;
   source = m.source;
-  command = λ line own h k. let bad : None ≡ Some line = sym (free.command role) ∙ h in cc;
+  command = each (ForcesSame d) (λ o is own one line h. let bad : None ≡ Some line = sym (free.command role) ∙ h in cc) c.critical;
 }
 
 pub shadowed : (e d : AuthEntry) (claim : LoginClaim) → IsSame e d → IsFree d
@@ -58,7 +66,7 @@ shadowed e d claim same free none a =
       key = sym same.key ∙ a.key;
       role = role;
       unexpired = subst P (sym free.time) tt;
-      source = ap (λ list. source_by list claim.query) free.source;
+      source = λ list h. let bad : None ≡ Some list = sym free.source ∙ h in cc;
       in_force = force e d claim.query claim.offer same free none role a.in_force;
       critical = met e d claim.address claim.offer free role a.critical;
       sizes = a.sizes;
@@ -148,7 +156,7 @@ bad-source (Some list) q h e = let bad : true ≡ false = bad_always list q.host
 
 pub no_sources : (zone : TimeZone) (e : AuthEntry) (claim : LoginClaim) → permits_bad (facts_of zone e).from ≡ true → AdmitsLogin e claim → ⊥
 unfolding facts_of
-no_sources zone e claim h a = bad-source (setting From e.options) claim.query h a.source
+no_sources zone e claim h a = bad-source (setting From e.options) claim.query h (of-source (setting From e.options) claim.query a.source)
 
 empty-name : (name : List ℕ) → says_name name ≡ false → name ≡ []
 empty-name [] h = refl

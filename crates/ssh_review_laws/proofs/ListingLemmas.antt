@@ -6,6 +6,7 @@ use Rattle.std.specs.List.{AllByRecursion, slice_get}
 use Rattle.std.proofs.lemmas.List.{append_assoc}
 use Rattle.jiff.specs.Types.{TimeZone}
 use Rattle.ssh_expiry.specs.Moment.{moment_of}
+use Rattle.ssh_expiry.proofs.MomentLemmas.{moment-only}
 use Rattle.ssh_text.specs.Text.{lines_of, numbered}
 use Rattle.ssh_keys.specs.PublicKey.{PublicKey, key_blob}
 use Rattle.ssh_lines.specs.AuthEntry.{AuthEntry}
@@ -32,9 +33,9 @@ use Rattle.ssh_rules.proofs.Tests.{le_z-decides}
 use Rattle.ssh_trust.specs.declared.decision.Decision.{Decision}
 use Rattle.ssh_trust.specs.declared.decision.Decision.TheVariants.{Granted}
 use Rattle.ssh_trust.specs.FileLines.{IsLineAt}
-use Rattle.ssh_trust.specs.LoginDecision.{IsCandidate, IsGrant, LoginMeans, line_verdict, login_decision}
+use Rattle.ssh_trust.specs.LoginDecision.{IsCandidate, IsGrant, line_verdict, login_decision}
 use Rattle.ssh_trust.proofs.CandidateLemmas.{AreBytes, at-place, line-bytes, line-of}
-use Rattle.ssh_trust.proofs.MeaningLemmas.{login_means}
+use Rattle.ssh_trust.proofs.MeaningLemmas.{LoginReading, login_reading}
 use Rattle.ssh_text.proofs.LineLemmas.{lines_of-are}
 use Rattle.ssh_findings.specs.Asking.{Asking}
 use Rattle.ssh_findings.specs.Earlier.{Held, held_entry, is_free, is_same, shadow}
@@ -125,7 +126,7 @@ unpast : (q : Login) (least : Option ℤ) (texts : List (List ℕ)) → AllByRec
 unpast q least [] all so = so
 unpast q least (text ∷ texts) ((moment, is, late), all) so =
     unpast q (earlier least (moment_of text q.zone)) texts all
-    (subst (λ (m : Option ℤ). is_past q.now (earlier least m) ≡ false) (sym is)
+    (subst (λ (m : Option ℤ). is_past q.now (earlier least m) ≡ false) (sym (moment-only text q.zone moment is))
     (step q.now least moment true ((le_z-decides (pos q.now) moment).1 late) so))
 
 fresh : (asking : Asking) (q : Login) (e : AuthEntry) → AllByRecursion (IsUnexpired q) (settings ExpiryTime e.options) → asking.now ≡ q.now → asking.zone ≡ q.zone
@@ -175,7 +176,7 @@ listed-by form asking name file claim vouched n rights e bytes grant left =
 pub listed : (form : Form) (asking : Asking) (name file : List ℕ) (claim : LoginClaim) (vouched : List Signed) (n : ℕ) (rights : Option Rights) (reasons : List (ℕ × Reason)) (evidence : List Signed)
     → AreBytes file → login_decision file claim vouched ≡ Granted n rights reasons evidence → IsListed form asking name file claim n rights
 listed form asking name file claim vouched n rights reasons evidence bytes h =
-    let means = subst (λ (d : Decision). LoginMeans file claim vouched d) h (login_means file claim vouched bytes) in
+    let means = subst (λ (d : Decision). LoginReading file claim vouched d) h (login_reading file claim vouched bytes) in
     listed-by form asking name file claim vouched n rights means.0 bytes means.1 means.2
 
 pub unlisted : (file : List ℕ) (claim : LoginClaim) (i : ℕ) (line : List ℕ) (e : AuthEntry) → IsLineAt file i line

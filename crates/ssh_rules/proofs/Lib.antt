@@ -2,6 +2,8 @@ pub mod Tests
 pub mod Principals
 pub mod ForceLemmas
 pub mod SizeLemmas
+pub mod SourceLemmas
+pub mod CriticalLemmas
 pub mod AdmissionLemmas
 pub mod HostAdmissionLemmas
 pub mod RevocationLemmas

@@ -1,5 +1,5 @@
 -- Lines that can be no revocation, by their front.
-use Rattle.std.proofs.Common.{◌≡◌, ℕ, nat_lt, Bool, true, false, ◌==◌, List, [], ◌∷◌, length, refl, inl, inr, Result, Ok, Err}
+use Rattle.std.proofs.Common.{◌≡◌, ℕ, nat_lt, false, ◌==◌, List, [], ◌∷◌, length, refl, inl, inr, Result, Ok, Err}
 use Rattle.std.proofs.lemmas.Bool.{cases_Bool, or_parts}
 use Rattle.ssh_options.specs.declared.cause.LineCause.{LineCause}
 use Rattle.ssh_text.specs.Text.{body_of, is_blank, line_limit}
