@@ -11,10 +11,10 @@ use Rattle.ssh_rules.specs.declared.reason.Reason.{Reason}
 use Rattle.ssh_trust.specs.declared.decision.Decision.{Decision}
 use Rattle.ssh_trust.specs.declared.decision.Decision.TheVariants.{Granted, Denied}
 use Rattle.ssh_text.specs.Text.{file_limit}
-use Rattle.ssh_trust.specs.LoginDecision.{LoginMeans, login_decision}
+use Rattle.ssh_trust.specs.LoginDecision.{login_decision}
 use Rattle.ssh_trust.specs.HostDecision.{HostMeans, host_decision}
 use Rattle.ssh_trust.proofs.HostMeaningLemmas.{host_means}
-use Rattle.ssh_trust.proofs.MeaningLemmas.{login_means}
+use Rattle.ssh_trust.proofs.MeaningLemmas.{LoginReading, login_reading}
 use Rattle.ssh_print.specs.Responses.{Response, decision_response, decision_status, no_file_response, vouch_response}
 use Rattle.ssh_inputs.specs.Loading.{within_limit}
 use Rattle.ssh_inputs.specs.Parts.{part_at}
@@ -120,7 +120,7 @@ printed-as line reasons r t e g same_rights same_evidence =
 pub login_granted : (q : Login) (f : AuditFiles) (s : SourceState) → IsOfBytes f s → (audit_response (login_by q) f s).status ≡ 0 → LoginGranted q f s (audit_response (login_by q) f s)
 login_granted q f s bytes h =
     let a = answered (login_claim q) login_decision f s h in
-    let means = subst (λ (d : Decision). LoginMeans a.file a.claim a.vouched d) a.granted.is (login_means a.file a.claim a.vouched (bytes a.file a.trusted)) in
+    let means = subst (λ (d : Decision). LoginReading a.file a.claim a.vouched d) a.granted.is (login_reading a.file a.claim a.vouched (bytes a.file a.trusted)) in
     record {
       claim = a.claim;
       offered = a.offered;

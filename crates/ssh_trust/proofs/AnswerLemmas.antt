@@ -1,5 +1,5 @@
 -- What is answered by an audit, whatever it searches for.
-use Rattle.std.proofs.Common.{◌≡◌, ◌∙◌, ◌+◌, ◌<◌, ◌≤◌, ◌↔◌, ℕ, List, length, nat_lt, Result, Ok, Err, refl, inl, inr, arith}
+use Rattle.std.proofs.Common.{◌≡◌, ◌∙◌, ◌+◌, ◌<◌, ◌≤◌, ◌↔◌, ℕ, List, length, nat_lt, Result, Ok, Err, subst, refl, inl, inr, arith}
 use Rattle.std.proofs.lemmas.Bool.{cases_Bool, le-ltb, lt-ltb, ltb-false, ltb-true}
 use Rattle.std.specs.Prelude.{IfOk}
 use Rattle.ssh_text.specs.Text.{file_limit}
@@ -20,12 +20,14 @@ pub of-claim : {Q : Type 0} (r : Result Q AuditError) (P : Q → Type 0) → ((c
 of-claim (Ok claim) P h = h claim refl
 of-claim (Err e) P h = tt
 
--- what follows from what is said of a decision is said of it too
-pub decided-too : {Q : Type 0} (r : Result Q AuditError) (result : Result Decision AuditError) (P R : Q → Decision → Type 0) → ((claim : Q) (d : Decision) → P claim d → R claim d)
-    → OfClaim r (λ claim. IfOk result (P claim)) → OfClaim r (λ claim. IfOk result (R claim))
-decided-too (Err e) result P R f h = tt
-decided-too (Ok claim) (Err e) P R f h = tt
-decided-too (Ok claim) (Ok d) P R f h = f claim d h
+-- what follows from what is said of a decision on what is claimed is said of it too
+pub decided-too : {Q : Type 0} (r : Result Q AuditError) (claim : Q) (result : Result Decision AuditError) (P R : Q → Decision → Type 0) → ((d : Decision) → P claim d → R claim d)
+    → r ≡ Ok claim → OfClaim r (λ c. IfOk result (P c)) → IfOk result (R claim)
+decided-too (Err e) claim result P R f is h = cc
+decided-too (Ok c) claim (Err e) P R f is h = tt
+decided-too (Ok c) claim (Ok d) P R f is h =
+    let same : c ≡ claim = cc in
+    f d (subst (λ x. P x d) same h)
 
 -- where an audit was made, the offer is not refused
 pub made-refused : {Q A B : Type 0} (r : Result Q AuditError) (audit : A) (result : Result B AuditError) → RefusesAs r (Ok audit) → RefusesAs r result

@@ -14,11 +14,17 @@ use Rattle.ssh_offers.specs.declared.query.Signed.{Signed}
 use Rattle.ssh_offers.specs.LoginClaim.{LoginClaim}
 use Rattle.ssh_offers.specs.Evidence.{login_evidence}
 use Rattle.ssh_offers.specs.Vouching.{first_unvouched}
+use Rattle.ssh_patterns.specs.declared.address.Address.{Address}
+use Rattle.ssh_offers.specs.Offer.{Offer, OfCertificate, certified, plain}
+use Rattle.ssh_rights.specs.Rights.{rights_of}
 use Rattle.ssh_rights.specs.SecurityKeys.{touch_suffices, verification_suffices}
-use Rattle.ssh_rules.specs.Admission.{AdmitsLogin, login_obstacle}
+use Rattle.ssh_rights.proofs.RightsLaw.{OptionsOnce, are-rights, touch-is, verification-is}
+use Rattle.ssh_rules.specs.Admission.{AdmitsLogin, CriticalMet, login_obstacle}
 use Rattle.ssh_rules.specs.Verdict.{login_verdict, verdict_by}
+use Rattle.ssh_trust.specs.declared.decision.Decision.{Decision}
+use Rattle.ssh_trust.specs.declared.decision.Decision.TheVariants.{Granted, Denied}
 use Rattle.ssh_trust.specs.Candidate.{candidate_of, reasons_of}
-use Rattle.ssh_trust.specs.LoginDecision.{IsCandidate, LoginMeans, cause_by, candidate_at, decision_by, decision_of, line_verdict, login_decision, verdicts}
+use Rattle.ssh_trust.specs.LoginDecision.{IsCandidate, IsGrant, LoginMeans, cause_by, candidate_at, decision_by, decision_of, line_verdict, login_decision, verdicts}
 use Rattle.ssh_rules.proofs.AdmissionLemmas.{admits_where_none, none_where_admits}
 use Rattle.ssh_offers.proofs.VouchingLemmas.{none_unvouched, all_vouched}
 use Rattle.ssh_trust.proofs.CandidateLemmas.{AreBytes, Judges, admits-by, candidate-is, no-candidate, one-candidate}
@@ -50,20 +56,27 @@ touched_by claim e = touch_suffices e.options claim.offer claim.signature
 abbrev pub verified_by : LoginClaim → AuthEntry → Bool
 verified_by claim e = verification_suffices e.options claim.offer claim.signature
 
+-- what the functions make of a granted login, and what is said of a denied one
+abbrev pub LoginReading : List ℕ → LoginClaim → List Signed → Decision → Type 0
+LoginReading file claim vouched (Granted line rights reasons evidence) =
+    (e : AuthEntry) × IsGrant file claim vouched line e × (rights ≡ Some (rights_of e claim.offer)) × (evidence ≡ login_evidence claim)
+LoginReading file claim vouched (Denied why reasons evidence) =
+    ((i : ℕ) (e : AuthEntry) → IsGrant file claim vouched i e → ⊥) × (evidence ≡ login_evidence claim)
+
 means-at : (file : List ℕ) (claim : LoginClaim) (vouched : List Signed) (i : ℕ) (e : AuthEntry) (reasons : List (ℕ × Reason)) → IsCandidate file claim i e
     → (touched : Bool) → touched_by claim e ≡ touched → (verified : Bool) → verified_by claim e ≡ verified
     → (unvouched : Option ℕ) → first_unvouched vouched (login_evidence claim) ≡ unvouched
-    → LoginMeans file claim vouched (decision_by (login_evidence claim) (candidate_at claim (i, e)) (cause_by touched verified unvouched) reasons)
+    → LoginReading file claim vouched (decision_by (login_evidence claim) (candidate_at claim (i, e)) (cause_by touched verified unvouched) reasons)
 means-at file claim vouched i e reasons c false t verified v unvouched u = (
   λ j f grant.
       let same = one-candidate (line_verdict claim) (login-judges claim) file i j e f c grant.candidate in
-      not-both (touched_by claim e) (ap (touched_by claim) same ∙ grant.touched) t,
+      not-both (touched_by claim e) (ap (touched_by claim) same ∙ (touch-is f.options claim.offer claim.signature).1 grant.touched) t,
   refl,
 )
 means-at file claim vouched i e reasons c true t false v unvouched u = (
   λ j f grant.
       let same = one-candidate (line_verdict claim) (login-judges claim) file i j e f c grant.candidate in
-      not-both (verified_by claim e) (ap (verified_by claim) same ∙ grant.verified) v,
+      not-both (verified_by claim e) (ap (verified_by claim) same ∙ (verification-is f.options claim.offer claim.signature).1 grant.verified) v,
   refl,
 )
 means-at file claim vouched i e reasons c true t true v (Some k) u = (
@@ -76,8 +89,8 @@ means-at file claim vouched i e reasons c true t true v None u = (
   e,
   record {
     candidate = c;
-    touched = t;
-    verified = v;
+    touched = (touch-is e.options claim.offer claim.signature).0 t;
+    verified = (verification-is e.options claim.offer claim.signature).0 v;
     all_vouched = none_unvouched vouched (login_evidence claim) u;
   },
   refl,
@@ -85,11 +98,23 @@ means-at file claim vouched i e reasons c true t true v None u = (
 )
 
 means-by : (file : List ℕ) (claim : LoginClaim) (vouched : List Signed) (reasons : List (ℕ × Reason)) → AreBytes file
-    → (c : Option (ℕ × AuthEntry)) → candidate_of (verdicts claim file) ≡ c → LoginMeans file claim vouched (decision_of (login_evidence claim) vouched (option_map (candidate_at claim) c) reasons)
+    → (c : Option (ℕ × AuthEntry)) → candidate_of (verdicts claim file) ≡ c → LoginReading file claim vouched (decision_of (login_evidence claim) vouched (option_map (candidate_at claim) c) reasons)
 means-by file claim vouched reasons bytes None none = (λ i e grant. no-candidate (line_verdict claim) (login-judges claim) file none i e grant.candidate, refl)
 means-by file claim vouched reasons bytes (Some c) some = means-at file claim vouched c.0 c.1 reasons (candidate-is (line_verdict claim) (login-judges claim) file c.0 c.1 bytes some) _ refl _ refl _ refl
 
+pub login_reading : (file : List ℕ) (claim : LoginClaim) (vouched : List Signed) → AreBytes file → LoginReading file claim vouched (login_decision file claim vouched)
+unfolding login_decision
+login_reading file claim vouched bytes = means-by file claim vouched (reasons_of (verdicts claim file)) bytes _ refl
+
+once-of : (e : AuthEntry) (address : Address) (offer : Offer) → OfCertificate (CriticalMet e address) offer → OptionsOnce offer
+once-of e address (plain key) met = tt
+once-of e address (certified c) met = met.once
+
+means-of : (file : List ℕ) (claim : LoginClaim) (vouched : List Signed) (d : Decision) → LoginReading file claim vouched d → LoginMeans file claim vouched d
+means-of file claim vouched (Granted line rights reasons evidence) (e, grant, given, evidence_is) =
+    (e, grant, (rights_of e claim.offer, given, are-rights e claim.offer (once-of e claim.address claim.offer grant.candidate.admits.critical)), evidence_is)
+means-of file claim vouched (Denied why reasons evidence) h = h
+
 -- a decision means what is said of it
 pub login_means : (file : List ℕ) (claim : LoginClaim) (vouched : List Signed) → AreBytes file → LoginMeans file claim vouched (login_decision file claim vouched)
-unfolding login_decision
-login_means file claim vouched bytes = means-by file claim vouched (reasons_of (verdicts claim file)) bytes _ refl
+login_means file claim vouched bytes = means-of file claim vouched (login_decision file claim vouched) (login_reading file claim vouched bytes)

@@ -38,6 +38,8 @@ use Rattle.ssh_trust.specs.HostDecision.{IsHostCandidate, RevokesOwn, host_decis
 use Rattle.ssh_trust.specs.HostScan.{first_number, host_line_verdict, host_scan_of, is_blind, number_at, revokes_by}
 use Rattle.ssh_trust.proofs.CandidateLemmas.{AreBytes, Judges, at-place, candidate-is, line-bytes, line-of, map-at, map-from, no-candidate, some-same, stands-admits}
 use Rattle.ssh_trust.proofs.HostMeaningLemmas.{blind-decides, host-judges, least-at, none-at, revokes-decides}
+use Rattle.ssh_rights.specs.SecurityKeys.{TouchSuffices, VerificationSuffices}
+use Rattle.ssh_rights.proofs.RightsLaw.{touch-is, verification-is}
 use Rattle.ssh_trust.proofs.MeaningLemmas.{login-judges, touched_by, verified_by}
 
 -- ---- lists
@@ -289,14 +291,26 @@ login-reasons : (file : List ℕ) (claim : LoginClaim) → AreBytes file
     → AreReasons (IsPassedOver AuthEntry (IsCandidate file claim) (LoginReason claim) file) (reasons_of (verdicts claim file))
 login-reasons file claim bytes = are-reasons (line_verdict claim) (login-judges claim) (login-tells claim) file bytes
 
+touched : (claim : LoginClaim) (e : AuthEntry) → touched_by claim e ≡ true → TouchSuffices e.options claim.offer claim.signature
+touched claim e t = (touch-is e.options claim.offer claim.signature).0 t
+
+untouched : (claim : LoginClaim) (e : AuthEntry) → touched_by claim e ≡ false → ¬ TouchSuffices e.options claim.offer claim.signature
+untouched claim e t = λ h. let bad : true ≡ false = sym ((touch-is e.options claim.offer claim.signature).1 h) ∙ t in cc
+
+verified-user : (claim : LoginClaim) (e : AuthEntry) → verified_by claim e ≡ true → VerificationSuffices e.options claim.offer claim.signature
+verified-user claim e v = (verification-is e.options claim.offer claim.signature).0 v
+
+unverified : (claim : LoginClaim) (e : AuthEntry) → verified_by claim e ≡ false → ¬ VerificationSuffices e.options claim.offer claim.signature
+unverified claim e v = λ h. let bad : true ≡ false = sym ((verification-is e.options claim.offer claim.signature).1 h) ∙ v in cc
+
 login-told-at : (file : List ℕ) (claim : LoginClaim) (vouched : List Signed) (i : ℕ) (e : AuthEntry) → AreBytes file → IsCandidate file claim i e
     → (touched : Bool) → touched_by claim e ≡ touched → (verified : Bool) → verified_by claim e ≡ verified
     → (unvouched : Option ℕ) → first_unvouched vouched (login_evidence claim) ≡ unvouched
     → LoginTells file claim vouched (decision_by (login_evidence claim) (candidate_at claim (i, e)) (cause_by touched verified unvouched) (reasons_of (verdicts claim file)))
-login-told-at file claim vouched i e bytes c false t verified v unvouched u = ((i, e, c, t), login-reasons file claim bytes)
-login-told-at file claim vouched i e bytes c true t false v unvouched u = ((i, e, c, t, v), login-reasons file claim bytes)
+login-told-at file claim vouched i e bytes c false t verified v unvouched u = ((i, e, c, untouched claim e t), login-reasons file claim bytes)
+login-told-at file claim vouched i e bytes c true t false v unvouched u = ((i, e, c, touched claim e t, unverified claim e v), login-reasons file claim bytes)
 login-told-at file claim vouched i e bytes c true t true v (Some k) u =
-    ((i, e, c, t, v, first-unvouched vouched (login_evidence claim) k u), login-reasons file claim bytes)
+    ((i, e, c, touched claim e t, verified-user claim e v, first-unvouched vouched (login_evidence claim) k u), login-reasons file claim bytes)
 login-told-at file claim vouched i e bytes c true t true v None u = login-reasons file claim bytes
 
 login-told-by : (file : List ℕ) (claim : LoginClaim) (vouched : List Signed) → AreBytes file

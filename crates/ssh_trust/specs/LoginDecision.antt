@@ -18,8 +18,9 @@ use Rattle.ssh_offers.specs.declared.query.Signed.{Signed}
 use Rattle.ssh_offers.specs.LoginClaim.{LoginClaim}
 use Rattle.ssh_rules.specs.Admission.{AdmitsLogin}
 use Rattle.ssh_offers.specs.Evidence.{login_evidence}
-use Rattle.ssh_rights.specs.Rights.{rights_of}
-use Rattle.ssh_rights.specs.SecurityKeys.{touch_suffices, verification_suffices}
+use Rattle.ssh_rights.specs.declared.rights.Rights.{Rights}
+use Rattle.ssh_rights.specs.Rights.{AreRights, rights_of}
+use Rattle.ssh_rights.specs.SecurityKeys.{TouchSuffices, VerificationSuffices, touch_suffices, verification_suffices}
 use Rattle.ssh_offers.specs.Vouching.{AllVouched, first_unvouched}
 
 -- ======== in the subject's words
@@ -31,14 +32,16 @@ IsCandidate file claim i e = IsFirstAdmitted AuthEntry SpellsEntry (λ f. Admits
 -- what a granted login stands on
 pub record IsGrant (file : List ℕ) (claim : LoginClaim) (vouched : List Signed) (i : ℕ) (e : AuthEntry) : Type 0 where
   pub candidate : IsCandidate file claim i e
-  pub touched : touch_suffices e.options claim.offer claim.signature ≡ true
-  pub verified : verification_suffices e.options claim.offer claim.signature ≡ true
+  -- A security key was touched, and verified the user, where line or certificate ask for it.
+  pub touched : TouchSuffices e.options claim.offer claim.signature
+  pub verified : VerificationSuffices e.options claim.offer claim.signature
   pub all_vouched : AllVouched vouched (login_evidence claim)
 
 -- Granted names the candidate, with its rights and the evidence. Denied means that no line is one to grant at.
 abbrev pub LoginMeans : List ℕ → LoginClaim → List Signed → Decision → Type 0
 LoginMeans file claim vouched (Granted line rights reasons evidence) =
-    (e : AuthEntry) × IsGrant file claim vouched line e × (rights ≡ Some (rights_of e claim.offer)) × (evidence ≡ login_evidence claim)
+    (e : AuthEntry) × IsGrant file claim vouched line e
+    × ((given : Rights) × (rights ≡ Some given) × AreRights e claim.offer given) × (evidence ≡ login_evidence claim)
 LoginMeans file claim vouched (Denied why reasons evidence) =
     ((i : ℕ) (e : AuthEntry) → IsGrant file claim vouched i e → ⊥) × (evidence ≡ login_evidence claim)
 

@@ -1,5 +1,5 @@
 -- Why lines are passed over, and why a login and a host's key are denied, in the subject's words (this project's rule).
-use Rattle.std.specs.Prelude.{◌≡◌, ◌↔◌, ◌⊎◌, ◌≤◌, ◌<◌, ◌+◌, ℕ, true, false, List, [], ◌∷◌, Contains, Option, Some, slice_get, take}
+use Rattle.std.specs.Prelude.{◌≡◌, ◌↔◌, ◌⊎◌, ◌≤◌, ◌<◌, ◌+◌, ℕ, List, [], ◌∷◌, Contains, Option, Some, slice_get, take}
 use Rattle.ssh_lines.specs.AuthEntry.{AuthEntry}
 use Rattle.ssh_lines.specs.declared.entry.AuthLine.TheVariants as auth
 use Rattle.ssh_lines.specs.KnownEntry.{KnownEntry}
@@ -12,7 +12,7 @@ use Rattle.ssh_offers.specs.HostClaim.{HostClaim}
 use Rattle.ssh_offers.specs.LoginClaim.{LoginClaim}
 use Rattle.ssh_offers.specs.Vouching.{Has}
 use Rattle.ssh_options.specs.declared.cause.LineCause.{LineCause}
-use Rattle.ssh_rights.specs.SecurityKeys.{touch_suffices, verification_suffices}
+use Rattle.ssh_rights.specs.SecurityKeys.{TouchSuffices, VerificationSuffices}
 use Rattle.ssh_rules.specs.declared.reason.Obstacle.{Obstacle}
 use Rattle.ssh_rules.specs.declared.reason.Obstacle.TheVariants.{Listed}
 use Rattle.ssh_rules.specs.declared.reason.Reason.{Reason}
@@ -73,13 +73,13 @@ LoginReason claim line why = HasReason (λ l cause. auth_line l ≡ auth.Unreada
 abbrev pub LoginCause : List ℕ → LoginClaim → List Signed → Cause → Type 0
 LoginCause file claim vouched NoLine = (i : ℕ) (e : AuthEntry) → IsCandidate file claim i e → ⊥
 LoginCause file claim vouched TouchMissing =
-    (i : ℕ) × (e : AuthEntry) × IsCandidate file claim i e × (touch_suffices e.options claim.offer claim.signature ≡ false)
+    (i : ℕ) × (e : AuthEntry) × IsCandidate file claim i e × ¬ TouchSuffices e.options claim.offer claim.signature
 LoginCause file claim vouched VerifyMissing =
-    (i : ℕ) × (e : AuthEntry) × IsCandidate file claim i e × (touch_suffices e.options claim.offer claim.signature ≡ true)
-    × (verification_suffices e.options claim.offer claim.signature ≡ false)
+    (i : ℕ) × (e : AuthEntry) × IsCandidate file claim i e × TouchSuffices e.options claim.offer claim.signature
+    × ¬ VerificationSuffices e.options claim.offer claim.signature
 LoginCause file claim vouched (NotVouched index) =
-    (i : ℕ) × (e : AuthEntry) × IsCandidate file claim i e × (touch_suffices e.options claim.offer claim.signature ≡ true)
-    × (verification_suffices e.options claim.offer claim.signature ≡ true) × IsFirstUnvouched vouched (login_evidence claim) index
+    (i : ℕ) × (e : AuthEntry) × IsCandidate file claim i e × TouchSuffices e.options claim.offer claim.signature
+    × VerificationSuffices e.options claim.offer claim.signature × IsFirstUnvouched vouched (login_evidence claim) index
 LoginCause file claim vouched (Revoked n) = ⊥
 LoginCause file claim vouched (RevocationUnreadable n) = ⊥
 

@@ -3,7 +3,8 @@
 ghost use Rattle.std.specs.Prelude.{◌≡◌, Err, IfOk, Ok, OnErr};
 ghost use Rattle.ssh_offers.specs.declared.error.AuditError.TheVariants.{Read};
 ghost use Rattle.ssh_offers.specs.Query.{host_check_of};
-ghost use Rattle.ssh_offers.specs.HostClaim.{host_claim};
+ghost use Rattle.ssh_offers.specs.FirstRefusal.{IsHostClaim};
+ghost use Rattle.ssh_offers.specs.HostClaim.{HostClaim, host_claim};
 ghost use Rattle.ssh_offers.specs.Evidence.{host_evidence};
 ghost use Rattle.ssh_trust.specs.Telling.{HostTells};
 ghost use Rattle.ssh_trust.specs.HostDecision.{HostMeans};
@@ -31,12 +32,14 @@ pub fn host(
     ensures refused { RefusesAs (host_claim (host_check_of query.entry.now)) result }
     // Granted names the first line that admits the key, with all its conditions; denied means that
     // this is false.
-    ensures means { OfClaim (host_claim (host_check_of query.entry.now))
-        (λ claim. IfOk result (HostMeans file.now claim vouched.now)) }
+    ensures means { (claim : HostClaim)
+        → IsHostClaim (host_check_of query.entry.now) claim
+        → IfOk result (HostMeans file.now claim vouched.now) }
     // The reasons are those of the lines that were passed over, and a denial's cause is the first
     // that holds.
-    ensures tells { OfClaim (host_claim (host_check_of query.entry.now))
-        (λ claim. IfOk result (HostTells file.now claim vouched.now)) }
+    ensures tells { (claim : HostClaim)
+        → IsHostClaim (host_check_of query.entry.now) claim
+        → IfOk result (HostTells file.now claim vouched.now) }
     // The whole answer, with cause, reasons and evidence, unless memory was refused.
     ensures answer { OfClaim (host_claim (host_check_of query.entry.now))
         (λ claim. Gives (host_answer file.now claim vouched.now) result) }
@@ -65,15 +68,17 @@ pub fn host_from<S: Source>(
     ensures unfailed { (result ≡ Err Read → ⊥) → S.unfailed reader.old reader.new }
     // A decision means of the bytes that the reader gave, which are all that it had, what it means
     // of a file.
-    ensures means { OfClaim (host_claim (host_check_of query.entry.now))
-        (λ claim. IfOk result (λ decision.
+    ensures means { (claim : HostClaim)
+        → IsHostClaim (host_check_of query.entry.now) claim
+        → IfOk result (λ decision.
         HoldsOfRead (S.left reader.old) (S.left reader.new)
-        (λ file. HostMeans file claim vouched.now decision))) }
+        (λ file. HostMeans file claim vouched.now decision)) }
     // So do its reasons, and a denial's cause.
-    ensures tells { OfClaim (host_claim (host_check_of query.entry.now))
-        (λ claim. IfOk result (λ decision.
+    ensures tells { (claim : HostClaim)
+        → IsHostClaim (host_check_of query.entry.now) claim
+        → IfOk result (λ decision.
         HoldsOfRead (S.left reader.old) (S.left reader.new)
-        (λ file. HostTells file claim vouched.now decision))) }
+        (λ file. HostTells file claim vouched.now decision)) }
     // The whole answer on the bytes that the reader gave, unless memory or a read was refused.
     ensures answer { OfClaim (host_claim (host_check_of query.entry.now))
         (λ claim. AnswersReader (S.left reader.old) (S.left reader.new)

@@ -3,7 +3,8 @@
 ghost use Rattle.std.specs.Prelude.{◌≡◌, ◌<◌, ◌^◌, length, Err, IfOk, Ok, OnErr};
 ghost use Rattle.ssh_offers.specs.declared.error.AuditError.TheVariants.{Read};
 ghost use Rattle.ssh_offers.specs.Query.{login_of};
-ghost use Rattle.ssh_offers.specs.LoginClaim.{login_claim};
+ghost use Rattle.ssh_offers.specs.FirstRefusal.{IsLoginClaim};
+ghost use Rattle.ssh_offers.specs.LoginClaim.{LoginClaim, login_claim};
 ghost use Rattle.ssh_offers.specs.Evidence.{login_evidence};
 ghost use Rattle.ssh_trust.specs.LoginDecision.{LoginMeans};
 ghost use Rattle.ssh_trust.specs.Telling.{LoginTells};
@@ -34,12 +35,14 @@ pub fn login(
     ensures refused { RefusesAs (login_claim (login_of query.entry.now)) result }
     // Granted names the first line that admits the offer, with all its conditions; denied means
     // that this is false.
-    ensures means { OfClaim (login_claim (login_of query.entry.now))
-        (λ claim. IfOk result (LoginMeans file.now claim vouched.now)) }
+    ensures means { (claim : LoginClaim)
+        → IsLoginClaim (login_of query.entry.now) claim
+        → IfOk result (LoginMeans file.now claim vouched.now) }
     // The reasons are those of the lines that were passed over, and a denial's cause is the first
     // that holds.
-    ensures tells { OfClaim (login_claim (login_of query.entry.now))
-        (λ claim. IfOk result (LoginTells file.now claim vouched.now)) }
+    ensures tells { (claim : LoginClaim)
+        → IsLoginClaim (login_of query.entry.now) claim
+        → IfOk result (LoginTells file.now claim vouched.now) }
     // The whole answer, with cause, reasons and evidence, unless memory was refused.
     ensures answer { OfClaim (login_claim (login_of query.entry.now))
         (λ claim. Gives (login_answer file.now claim vouched.now) result) }
@@ -70,15 +73,17 @@ pub fn login_from<S: Source>(
     ensures unfailed { (result ≡ Err Read → ⊥) → S.unfailed reader.old reader.new }
     // A decision means of the bytes that the reader gave, which are all that it had, what it means
     // of a file.
-    ensures means { OfClaim (login_claim (login_of query.entry.now))
-        (λ claim. IfOk result (λ decision.
+    ensures means { (claim : LoginClaim)
+        → IsLoginClaim (login_of query.entry.now) claim
+        → IfOk result (λ decision.
         HoldsOfRead (S.left reader.old) (S.left reader.new)
-        (λ file. LoginMeans file claim vouched.now decision))) }
+        (λ file. LoginMeans file claim vouched.now decision)) }
     // So do its reasons, and a denial's cause.
-    ensures tells { OfClaim (login_claim (login_of query.entry.now))
-        (λ claim. IfOk result (λ decision.
+    ensures tells { (claim : LoginClaim)
+        → IsLoginClaim (login_of query.entry.now) claim
+        → IfOk result (λ decision.
         HoldsOfRead (S.left reader.old) (S.left reader.new)
-        (λ file. LoginTells file claim vouched.now decision))) }
+        (λ file. LoginTells file claim vouched.now decision)) }
     // The whole answer on the bytes that the reader gave, unless memory or a read was refused.
     ensures answer { OfClaim (login_claim (login_of query.entry.now))
         (λ claim. AnswersReader (S.left reader.old) (S.left reader.new)

@@ -1,5 +1,6 @@
 use Rattle.ssh_offers.specs.HostClaim.{host_claim}
 use Rattle.ssh_offers.specs.Query.{host_check_of}
+use Rattle.ssh_offers.proofs.ClaimLaw.{host-claimed}
 use Rattle.ssh_trust.specs.Telling.{HostDecides, HostTells}
 use Rattle.ssh_trust.specs.HostDecision.{HostMeans}
 use Rattle.ssh_trust.specs.Reads.{HoldsOfRead}
@@ -8,15 +9,17 @@ use Rattle.ssh_trust.proofs.ReadLemmas.{read-too}
 use Rattle.ssh_trust.proofs.hosts.host_from.Goals as goal
 
 pub returns-clause-means : goal.returns-clause-means
-returns-clause-means g c =
+returns-clause-means g c = λ claim is.
     let old = g.S.Source.left c.args.reader.now in
     let new = g.S.Source.left c.of_reader.new.reader in
-    decided-too (host_claim (host_check_of c.args.query.now)) c.of_reader.result (λ claim d. HoldsOfRead old new (λ file. HostDecides file claim c.args.vouched.now d))
-    (λ claim d. HoldsOfRead old new (λ file. HostMeans file claim c.args.vouched.now d)) (λ claim d h. read-too old new _ _ (λ file k. k.0) h) c.of_reader.ensures.means
+    decided-too (host_claim (host_check_of c.args.query.now)) claim c.of_reader.result (λ x d. HoldsOfRead old new (λ file. HostDecides file x c.args.vouched.now d))
+    (λ x d. HoldsOfRead old new (λ file. HostMeans file x c.args.vouched.now d)) (λ d h. read-too old new _ _ (λ file k. k.0) h)
+    (host-claimed (host_check_of c.args.query.now) claim is) c.of_reader.ensures.means
 
 pub returns-clause-tells : goal.returns-clause-tells
-returns-clause-tells g c =
+returns-clause-tells g c = λ claim is.
     let old = g.S.Source.left c.args.reader.now in
     let new = g.S.Source.left c.of_reader.new.reader in
-    decided-too (host_claim (host_check_of c.args.query.now)) c.of_reader.result (λ claim d. HoldsOfRead old new (λ file. HostDecides file claim c.args.vouched.now d))
-    (λ claim d. HoldsOfRead old new (λ file. HostTells file claim c.args.vouched.now d)) (λ claim d h. read-too old new _ _ (λ file k. k.1) h) c.of_reader.ensures.means
+    decided-too (host_claim (host_check_of c.args.query.now)) claim c.of_reader.result (λ x d. HoldsOfRead old new (λ file. HostDecides file x c.args.vouched.now d))
+    (λ x d. HoldsOfRead old new (λ file. HostTells file x c.args.vouched.now d)) (λ d h. read-too old new _ _ (λ file k. k.1) h)
+    (host-claimed (host_check_of c.args.query.now) claim is) c.of_reader.ensures.means
