@@ -1,6 +1,6 @@
 -- What the maps of earlier lines find, and that they stand for one more line.
 use Rattle.std.proofs.Common.{◌≡◌, ◌∙◌, ◌||◌, ◌&&◌, ℕ, Bool, true, false, not, cond, List, [], ◌∷◌, ◌++◌, Option, Some, None, ap, sym, refl, arith}
-use Rattle.std.specs.Prelude.{bytes_eq}
+use Rattle.std.specs.Prelude.{bytes_eq, is_some}
 use Rattle.std.specs.List.{list_any}
 use Rattle.ssh_keys.specs.declared.kind.KeyKind.{KeyKind}
 use Rattle.ssh_patterns.specs.Lists.{pieces_left}
@@ -13,7 +13,7 @@ use Rattle.ssh_host_findings.specs.Earlier.{other_line, revokes_blob, revoking, 
 use Rattle.ssh_host_findings.specs.Items.{has_item, is_plain}
 use Rattle.ssh_host_findings.specs.Least.{least_line, lesser, line_if}
 use Rattle.ssh_host_findings.specs.Maps.{least_other, line_at, other_of_kind}
-use Rattle.ssh_host_findings.specs.StandsFor.{StandsFor, names_other, says_named}
+use Rattle.ssh_host_findings.specs.StandsFor.{KeepsKeys, StandsFor, has_names, names_other, says_named}
 use Rattle.ssh_host_findings.proofs.LeastLemmas.{grown, kept, least_none, least_or, least_same, lesser_assoc, lesser_none}
 
 -- ---- what is found
@@ -160,6 +160,21 @@ one_more_host m hosts named n own f lines role more keys s = record {
       (keys kind item blob
       ∙ ap (λ b. lesser (other_of_kind m.named kind item blob) (line_if ((not b && (same_kind f.kind kind && has_item item f.list)) && not (bytes_eq own blob)) n)) (sym role));
 }
+
+-- what stands for lines, by the same look-ups
+pub stands_still : (old new : EarlierHosts) (lines : List HostLine) → KeepsKeys old new
+    → ((kind : KeyKind) (item blob : List ℕ) → other_of_kind new.named kind item blob ≡ other_of_kind old.named kind item blob)
+    → StandsFor old lines → StandsFor new lines
+stands_still old new lines keys named s = record {
+  hosts = λ blob. keys.hosts blob ∙ s.hosts blob;
+  authorities = λ blob. keys.authorities blob ∙ s.authorities blob;
+  revoked = λ blob. keys.revoked blob ∙ s.revoked blob;
+  named = λ kind item blob. named kind item blob ∙ s.named kind item blob;
+}
+
+-- an authority has no names to keep its key for, and hashed names are none
+pub named_none : (f : HostFacts) (list : List ℕ) → f.is_authority ≡ false → f.list ≡ Some list → has_names f ≡ false → ⊥
+named_none f list role listed none = let bad : true ≡ false = sym (ap (λ o. not f.is_authority && is_some o) listed ∙ ap (λ b. not b && true) role) ∙ none in cc
 
 -- hashed names add no key to a name
 pub no_key : (m : KindKeys) (kind : KeyKind) (n : ℕ) (blob : List ℕ) → HasOneMoreKey m m kind None n blob

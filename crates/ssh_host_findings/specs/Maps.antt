@@ -1,8 +1,6 @@
 -- What is kept of earlier lines, by its bytes (this project's rule).
 use Rattle.std.specs.Prelude.{ℕ, if◌then◌else◌, List, [], ◌∷◌, Option, None, Some, bytes_eq}
-use Rattle.std.specs.BTreeMap.{get_by}
-use Rattle.std.specs.Cmp.Lexicographic.{slice_cmp}
-use Rattle.std.specs.Ordering.{nat_cmp}
+use Rattle.ssh_byte_maps.specs.Entries.{entry_of}
 use Rattle.ssh_keys.specs.declared.kind.KeyKind.{KeyKind}
 use Rattle.ssh_keys.specs.declared.kind.KeyKind.TheVariants as kind
 use Rattle.ssh_host_findings.specs.declared.first_key.FirstKey.{FirstKey}
@@ -13,7 +11,7 @@ use Rattle.ssh_host_findings.specs.Least.{lesser}
 
 -- the line that is kept for a text
 abbrev pub line_at : LeastLines → List ℕ → Option ℕ
-line_at m bytes = get_by (λ k. slice_cmp nat_cmp bytes k.items) m.lines
+line_at m bytes = entry_of m.lines bytes
 
 -- the line of another key than this, by the first key that a name has
 abbrev pub other_of : FirstKey → List ℕ → Option ℕ
@@ -25,7 +23,7 @@ other_in (Some first) blob = other_of first blob
 
 -- the line of another key than this for a name
 abbrev pub other_at : NamedKeys → List ℕ → List ℕ → Option ℕ
-other_at m item blob = other_in (get_by (λ k. slice_cmp nat_cmp item k.items) m.keys) blob
+other_at m item blob = other_in (entry_of m.keys item) blob
 
 -- the names of a kind of key
 abbrev pub names_of_kind : KindKeys → KeyKind → NamedKeys

@@ -1,7 +1,8 @@
 -- Which lines the maps of earlier lines stand for (this project's rule): each look-up finds the least line.
-use Rattle.std.specs.Prelude.{◌≡◌, ℕ, Bool, true, false, not, ◌&&◌, List, bytes_eq}
+use Rattle.std.specs.Prelude.{◌≡◌, ℕ, Bool, true, false, not, ◌&&◌, List, bytes_eq, is_some}
 use Rattle.ssh_keys.specs.declared.kind.KeyKind.{KeyKind}
 use Rattle.ssh_host_findings.specs.declared.earlier.EarlierHosts.{EarlierHosts}
+use Rattle.ssh_host_findings.specs.declared.facts.HostFacts.{HostFacts}
 use Rattle.ssh_host_findings.specs.HostLines.{HostLine, Saying, Trusts, Revokes}
 use Rattle.ssh_host_findings.specs.Earlier.{revokes_blob, same_kind, trusts_blob}
 use Rattle.ssh_host_findings.specs.Items.{has_item}
@@ -22,3 +23,13 @@ pub record StandsFor (m : EarlierHosts) (lines : List HostLine) : Type 0 where
   pub authorities : (blob : List ℕ) → line_at m.authorities blob ≡ least_line (trusts_blob true blob) lines
   pub revoked : (blob : List ℕ) → line_at m.revoked blob ≡ least_line (revokes_blob blob) lines
   pub named : (kind : KeyKind) (item blob : List ℕ) → other_of_kind m.named kind item blob ≡ least_line (names_other kind item blob) lines
+
+-- the key of an entry is kept for its names too
+abbrev pub has_names : HostFacts → Bool
+has_names f = not f.is_authority && is_some f.list
+
+-- what is found of keys alone is what was found before
+pub record KeepsKeys (old new : EarlierHosts) : Type 0 where
+  pub hosts : (blob : List ℕ) → line_at new.hosts blob ≡ line_at old.hosts blob
+  pub authorities : (blob : List ℕ) → line_at new.authorities blob ≡ line_at old.authorities blob
+  pub revoked : (blob : List ℕ) → line_at new.revoked blob ≡ line_at old.revoked blob

@@ -1,6 +1,16 @@
 //! What earlier lines say of keys and of names, kept so that a later line finds its own.
 
-ghost use Rattle.std.specs.Prelude.{◌≡◌, ◌++◌, ◌∷◌, [], List, OnOk, option_copied};
+ghost use Rattle.std.specs.Prelude.{
+  ◌≡◌,
+  ◌++◌,
+  ◌∷◌,
+  [],
+  false,
+  List,
+  OnErr,
+  OnOk,
+  option_copied,
+};
 ghost use Rattle.ssh_patterns.specs.Lists.{pieces_left};
 ghost use Rattle.ssh_host_findings.specs.HostLines.{HostLine};
 ghost use Rattle.ssh_host_findings.specs.Earlier.{
@@ -12,7 +22,7 @@ ghost use Rattle.ssh_host_findings.specs.Earlier.{
   trusting_line,
 };
 ghost use Rattle.ssh_host_findings.specs.Maps.{least_other};
-ghost use Rattle.ssh_host_findings.specs.StandsFor.{StandsFor};
+ghost use Rattle.ssh_host_findings.specs.StandsFor.{KeepsKeys, StandsFor, has_names};
 
 use crate::facts::HostFacts;
 use crate::least::{LeastLines, lesser};
@@ -45,7 +55,8 @@ impl EarlierHosts {
         }
     }
 
-    /// Keeps the entry of a line. `Err` is out of memory: then it stands for no lines any more.
+    /// Keeps the entry of a line. `Err` is out of memory: then nothing is kept of its key, and
+    /// nothing at all of an authority or of hashed names; of a list, some names may have the key.
     pub fn keep_entry(
         &mut self,
         alloc: Global,
@@ -53,34 +64,32 @@ impl EarlierHosts {
         blob: &[u8],
         facts: &HostFacts,
     ) -> Result<(), AllocError>
-        ensures { OnOk result ((lines : List HostLine) → StandsFor self.old lines
+        ensures ok { OnOk result ((lines : List HostLine) → StandsFor self.old lines
             → StandsFor self.new (lines ++ trusting line blob.now facts.now ∷ [])) }
+        ensures keys { OnErr result (KeepsKeys self.old self.new) }
+        ensures err { OnErr result (has_names facts.now ≡ false
+            → (lines : List HostLine) → StandsFor self.old lines → StandsFor self.new lines) }
     {
         if facts.is_authority {
             self.authorities.keep(alloc, blob, line)?;
             return Ok(());
         }
+        self.named.keep_names(alloc, facts, line, blob)?;
         self.hosts.keep(alloc, blob, line)?;
-        match &facts.list {
-            None => Ok(()),
-            Some(list) => {
-                self.named
-                    .keep_list(alloc, facts.kind, list.as_slice(), line, blob)?;
-                Ok(())
-            }
-        }
+        Ok(())
     }
 
-    /// Keeps a line that revokes these bytes. `Err` is out of memory: then it stands for no lines
-    /// any more.
+    /// Keeps a line that revokes these bytes. `Err` is out of memory, and nothing is kept then.
     pub fn keep_revocation(
         &mut self,
         alloc: Global,
         line: u64,
         bytes: &[u8],
     ) -> Result<(), AllocError>
-        ensures { OnOk result ((lines : List HostLine) → StandsFor self.old lines
+        ensures ok { OnOk result ((lines : List HostLine) → StandsFor self.old lines
             → StandsFor self.new (lines ++ revoking line bytes.now ∷ [])) }
+        ensures err { OnErr result ((lines : List HostLine) → StandsFor self.old lines
+            → StandsFor self.new lines) }
     {
         self.revoked.keep(alloc, bytes, line)?;
         Ok(())

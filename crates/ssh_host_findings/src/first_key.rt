@@ -18,7 +18,8 @@ pub(crate) struct FirstKey {
 }
 
 impl FirstKey {
-    ghost use Rattle.std.specs.Prelude.{IfOk, OnOk, ℕ, List, not, bytes_eq};
+    ghost use Rattle.std.specs.Prelude.{IfOk, ℕ, List, not, bytes_eq};
+    ghost use Rattle.std.specs.Option.{unwrap_or};
     ghost use Rattle.ssh_host_findings.specs.Least.{lesser, line_if};
     ghost use Rattle.ssh_host_findings.specs.Maps.{other_of};
 
@@ -46,20 +47,32 @@ impl FirstKey {
         }
     }
 
-    /// Adds a line.
-    pub(crate) fn add(&mut self, alloc: Global, line: u64, blob: &[u8]) -> Result<(), AllocError>
-        ensures { OnOk result ((b : List ℕ) → other_of self.new b
-            ≡ lesser (other_of self.old b) (line_if (not (bytes_eq blob.now b)) line)) }
+    /// What it becomes with one more line, if it changes.
+    pub(crate) fn with(
+        &self,
+        alloc: Global,
+        line: u64,
+        blob: &[u8],
+    ) -> Result<Option<FirstKey>, AllocError>
+        ensures { IfOk result (λ first. (b : List ℕ) → other_of (unwrap_or first self.now) b
+            ≡ lesser (other_of self.now b) (line_if (not (bytes_eq blob.now b)) line)) }
     {
-        if self.blob.as_slice() == blob {
-            self.line = self.line.min(line);
+        let own = self.blob.as_slice();
+        let (line, text, other) = if own == blob {
+            if self.line <= line {
+                return Ok(None);
+            }
+            (line, blob, self.other)
         } else if self.line <= line {
-            self.other = lesser(self.other, Some(line));
+            let other = lesser(self.other, Some(line));
+            if other == self.other {
+                return Ok(None);
+            }
+            (self.line, own, other)
         } else {
-            self.blob = kept(alloc, blob)?;
-            self.other = Some(self.line);
-            self.line = line;
-        }
-        Ok(())
+            (line, blob, Some(self.line))
+        };
+        let blob = kept(alloc, text)?;
+        Ok(Some(FirstKey { line, blob, other }))
     }
 }

@@ -1,12 +1,11 @@
 //! The least line that says something of a byte text.
 
-ghost use Rattle.std.specs.Prelude.{◌≡◌, ℕ, List, OnOk, None, Some, bytes_eq, if◌then◌else◌};
+ghost use Rattle.std.specs.Prelude.{◌≡◌, ℕ, List, OnErr, OnOk, None, Some, bytes_eq, if◌then◌else◌};
 ghost use Rattle.ssh_host_findings.specs.Least.{lesser};
 ghost use Rattle.ssh_host_findings.specs.Maps.{line_at};
 
-use crate::copy::copied;
+use ssh_byte_maps::ByteMap;
 use std::alloc::{AllocError, Global};
-use std::collections::BTreeMap;
 
 /// The lesser of two lines, where there are two.
 pub(crate) fn lesser(one: Option<u64>, other: Option<u64>) -> Option<u64>
@@ -32,7 +31,7 @@ fn least(kept: Option<u64>, line: u64) -> u64
 /// For each of some byte texts, a line.
 #[derive(Debug, Drop)]
 pub(crate) struct LeastLines {
-    lines: BTreeMap<Vec<u8>, u64>,
+    lines: ByteMap<u64>,
 }
 
 impl LeastLines {
@@ -40,7 +39,7 @@ impl LeastLines {
         ensures { (bytes : List ℕ) → line_at result bytes ≡ None }
     {
         LeastLines {
-            lines: BTreeMap::new(alloc),
+            lines: ByteMap::new(alloc),
         }
     }
 
@@ -51,14 +50,16 @@ impl LeastLines {
         self.lines.get(bytes).copied()
     }
 
-    /// Keeps a line for a text, where it has no lesser one.
+    /// Keeps a line for a text, where it has no lesser one. Where memory is refused, nothing is
+    /// kept.
     pub(crate) fn keep(&mut self, alloc: Global, bytes: &[u8], line: u64) -> Result<(), AllocError>
-        ensures { OnOk result ((other : List ℕ) → line_at self.new other
+        ensures ok { OnOk result ((other : List ℕ) → line_at self.new other
             ≡ if bytes_eq bytes.now other then lesser (line_at self.old other) (Some line) else line_at self.old other) }
+        ensures err { OnErr result
+            ((other : List ℕ) → line_at self.new other ≡ line_at self.old other) }
     {
         let least = least(self.line(bytes), line);
-        let key = copied(alloc, bytes)?;
-        self.lines.insert(key, least)?;
+        self.lines.insert(alloc, bytes, least)?;
         Ok(())
     }
 }

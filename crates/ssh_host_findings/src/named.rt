@@ -1,24 +1,24 @@
 //! The keys that stand for names, of each kind.
 
-ghost use Rattle.std.specs.Prelude.{◌≡◌, ◌&&◌, ℕ, List, OnOk, None, Some, bytes_eq, if◌then◌else◌, not};
+ghost use Rattle.std.specs.Prelude.{◌≡◌, ◌&&◌, ℕ, List, IsOk, OnErr, OnOk, None, Some, bytes_eq, if◌then◌else◌, not};
 ghost use Rattle.ssh_keys.specs.declared.kind.KeyKind.{KeyKind as Kind};
 ghost use Rattle.ssh_host_findings.specs.Items.{has_item};
 ghost use Rattle.ssh_host_findings.specs.Earlier.{same_kind};
 ghost use Rattle.ssh_host_findings.specs.Least.{lesser, line_if};
 ghost use Rattle.ssh_host_findings.specs.Maps.{other_at, other_of_kind};
 
-use crate::copy::copied;
+use crate::facts::HostFacts;
 use crate::first_key::FirstKey;
 use crate::item::is_plain;
+use ssh_byte_maps::ByteMap;
 use ssh_keys::KeyKind;
 use ssh_patterns::first_piece;
 use std::alloc::{AllocError, Global};
-use std::collections::BTreeMap;
 
 /// The keys of one kind that stand for names.
 #[derive(Debug, Drop)]
 pub(crate) struct NamedKeys {
-    keys: BTreeMap<Vec<u8>, FirstKey>,
+    keys: ByteMap<FirstKey>,
 }
 
 impl NamedKeys {
@@ -26,7 +26,7 @@ impl NamedKeys {
         ensures { (item blob : List ℕ) → other_at result item blob ≡ None }
     {
         NamedKeys {
-            keys: BTreeMap::new(alloc),
+            keys: ByteMap::new(alloc),
         }
     }
 
@@ -40,19 +40,21 @@ impl NamedKeys {
         }
     }
 
-    /// Keeps a key for a name.
+    /// Keeps a key for a name. Where memory is refused, nothing is kept.
     fn keep(&mut self, alloc: Global, item: &[u8], line: u64, blob: &[u8]) -> Result<(), AllocError>
-        ensures { OnOk result ((q b : List ℕ) → other_at self.new q b
+        ensures ok { OnOk result ((q b : List ℕ) → other_at self.new q b
             ≡ if bytes_eq item.now q then lesser (other_at self.old q b) (line_if (not (bytes_eq blob.now b)) line)
             else other_at self.old q b) }
+        ensures err { OnErr result ((q b : List ℕ) → other_at self.new q b ≡ other_at self.old q b) }
     {
-        if let Some(first) = self.keys.get_mut(item) {
-            first.add(alloc, line, blob)?;
-            return Ok(());
-        }
-        let key = copied(alloc, item)?;
-        let first = FirstKey::new(alloc, line, blob)?;
-        self.keys.insert(key, first)?;
+        let first = match self.keys.get(item) {
+            None => FirstKey::new(alloc, line, blob)?,
+            Some(first) => match first.with(alloc, line, blob)? {
+                None => return Ok(()),
+                Some(first) => first,
+            },
+        };
+        self.keys.insert(alloc, item, first)?;
         Ok(())
     }
 }
@@ -99,7 +101,7 @@ impl KindKeys {
         }
     }
 
-    /// Keeps a key of a kind for a name.
+    /// Keeps a key of a kind for a name. Where memory is refused, nothing is kept.
     fn keep(
         &mut self,
         alloc: Global,
@@ -108,7 +110,7 @@ impl KindKeys {
         line: u64,
         blob: &[u8],
     ) -> Result<(), AllocError>
-        ensures { OnOk result ((k : Kind) (q b : List ℕ) → other_of_kind self.new k q b
+        ensures ok { OnOk result ((k : Kind) (q b : List ℕ) → other_of_kind self.new k q b
             ≡ if same_kind kind k && bytes_eq item.now q
             then lesser (other_of_kind self.old k q b) (line_if (not (bytes_eq blob.now b)) line)
             else other_of_kind self.old k q b) }
@@ -125,7 +127,7 @@ impl KindKeys {
     }
 
     /// Keeps a key of a kind for each plain item of a list.
-    pub(crate) fn keep_list(
+    fn keep_list(
         &mut self,
         alloc: Global,
         kind: KeyKind,
@@ -146,5 +148,27 @@ impl KindKeys {
             rest = left;
         }
         Ok(())
+    }
+
+    /// Keeps the key of an entry that says this for its names. Only a list of names takes memory;
+    /// where that is refused, some of its names may have the key.
+    pub(crate) fn keep_names(
+        &mut self,
+        alloc: Global,
+        facts: &HostFacts,
+        line: u64,
+        blob: &[u8],
+    ) -> Result<(), AllocError>
+        ensures ok { OnOk result ((k : Kind) (q b : List ℕ) → other_of_kind self.new k q b
+            ≡ lesser (other_of_kind self.old k q b) (line_if ((same_kind facts.now.kind k && has_item q facts.now.list) && not (bytes_eq blob.now b)) line)) }
+        ensures spare { facts.now.list ≡ None → IsOk result }
+    {
+        match &facts.list {
+            None => Ok(()),
+            Some(list) => {
+                self.keep_list(alloc, facts.kind, list.as_slice(), line, blob)?;
+                Ok(())
+            }
+        }
     }
 }

@@ -1,5 +1,5 @@
 use Rattle.ssh_host_findings.proofs.EarlierLemmas.{one_more_revocation}
 use Rattle.ssh_host_findings.proofs.earlier.EarlierHosts.keep_revocation.Goals as goal
 
-pub returns : goal.returns
-returns c = λ lines s. one_more_revocation c.args.self.now c.keep.new.self c.args.line c.args.bytes.now lines c.in_ok-keep.ensures s
+pub returns-clause-ok : goal.returns-clause-ok
+returns-clause-ok c = λ lines s. one_more_revocation c.args.self.now c.keep.new.self c.args.line c.args.bytes.now lines c.in_ok-keep.ensures.ok s

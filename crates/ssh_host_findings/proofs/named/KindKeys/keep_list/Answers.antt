@@ -18,7 +18,7 @@ loop-rest-preserved-in_ok-keep c = λ k q b.
     let same = same_kind c.args.kind k in
     let nb = not (bytes_eq c.args.blob.now b) in
     let plain : is_plain piece ≡ true = sym c.is_plain.ensures ∙ c.if-is_plain.true in
-    ap (λ o. lesser o (line_if ((same && (is_plain q && list_any (λ p. bytes_eq p q) left)) && nb) c.args.line)) (c.in_ok-keep.ensures k q b)
+    ap (λ o. lesser o (line_if ((same && (is_plain q && list_any (λ p. bytes_eq p q) left)) && nb) c.args.line)) (c.in_ok-keep.ensures.ok k q b)
     ∙ piece_kept old same (bytes_eq piece q) (is_plain q) (list_any (λ p. bytes_eq p q) left) nb c.args.line
     (λ e. subst (λ x. is_plain x ≡ true) ((bytes_eq-Decides piece q).0 e) plain)
     ∙ ap (λ ps. lesser old (line_if ((same && (is_plain q && list_any (λ p. bytes_eq p q) ps)) && nb) c.args.line)) (sym c.first_piece.ensures.pieces)

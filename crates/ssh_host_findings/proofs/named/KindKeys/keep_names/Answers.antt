@@ -1,0 +1,16 @@
+use Rattle.std.proofs.Common.{◌≡◌, ◌∙◌, Some, ap, subst, sym}
+use Rattle.ssh_host_findings.proofs.EarlierLemmas.{HasOneMoreKey, no_key}
+use Rattle.ssh_host_findings.proofs.named.KindKeys.keep_names.Goals as goal
+
+pub returns-in-None-clause-ok : goal.returns-in-None-clause-ok
+returns-in-None-clause-ok c =
+    let m = c.args.self.now in
+    let f = c.args.facts.now in
+    subst (λ list. HasOneMoreKey m m f.kind list c.args.line c.args.blob.now) (sym c.in-None.is) (no_key m f.kind c.args.line c.args.blob.now)
+
+pub returns-in_ok-keep_list-in-Some-clause-ok : goal.returns-in_ok-keep_list-in-Some-clause-ok
+returns-in_ok-keep_list-in-Some-clause-ok c =
+    let m = c.args.self.now in
+    let f = c.args.facts.now in
+    let same : Some c.as_slice.result.now ≡ f.list = ap (λ l. Some l) c.as_slice.ensures ∙ sym c.in-Some.is in
+    subst (λ list. HasOneMoreKey m c.keep_list.new.self f.kind list c.args.line c.args.blob.now) same c.in_ok-keep_list-in-Some.ensures
