@@ -13,8 +13,8 @@ use Rattle.ssh_offers.specs.HostClaim.{fitting_test}
 use Rattle.ssh_offers.specs.Refusal.{or_refuse}
 
 -- the algorithm of the signature is one of the key's, and not RSA with SHA-1 (RFC 8332)
-abbrev pub Serves : Sshsig → Type 0
-Serves v = fit_of (kind_of v.key) (v.signature).algorithm ≡ Yes
+abbrev pub AlgorithmServes : Sshsig → Type 0
+AlgorithmServes v = fit_of (kind_of v.key) (v.signature).algorithm ≡ Yes
 
 -- The file signature of a body, or its first refusal: the body is none; or its algorithm does not serve its key (this
 -- project's rule: RSA with SHA-1 is weak, as for logins).

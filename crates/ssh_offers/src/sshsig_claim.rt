@@ -19,7 +19,7 @@ impl<'a> SshsigClaimView<'a> {
     ghost use Rattle.std.specs.Prelude.{IfErr, IfOk};
     ghost use Rattle.ssh_wire.specs.Reading.{Gives};
     ghost use Rattle.ssh_bodies.specs.Sshsig.{IsSshsigBlob};
-    ghost use Rattle.ssh_offers.specs.FileSignature.{Serves, sshsig_claim};
+    ghost use Rattle.ssh_offers.specs.FileSignature.{AlgorithmServes, sshsig_claim};
     ghost use Rattle.ssh_offers.specs.FirstRefusal.{IsSshsigRefusal};
     ghost use Rattle.ssh_offers.specs.FileSignatureView.{sshsig_claim_of};
 
@@ -31,7 +31,7 @@ impl<'a> SshsigClaimView<'a> {
         // The body is the file signature's own.
         ensures own { IfOk result (λ claim. IsSshsigBlob (sshsig_claim_of claim) body.now) }
         // Its algorithm serves its key.
-        ensures serves { IfOk result (λ claim. Serves (sshsig_claim_of claim)) }
+        ensures serves { IfOk result (λ claim. AlgorithmServes (sshsig_claim_of claim)) }
         // It is refused for the first that stands against it.
         ensures first { IfErr result (IsSshsigRefusal body.now) }
     {

@@ -22,7 +22,7 @@ use Rattle.ssh_rules.specs.declared.reason.Reason.{Reason}
 use Rattle.ssh_rules.specs.Revocation.{IsOwn, is_own}
 use Rattle.ssh_trust.specs.declared.decision.Decision.{Decision}
 use Rattle.ssh_trust.specs.declared.decision.Decision.TheVariants.{Granted}
-use Rattle.ssh_trust.specs.FileLines.{IsLineAt}
+use Rattle.ssh_trust.specs.FileLines.{StandsAt}
 use Rattle.ssh_trust.specs.HostDecision.{HostMeans, IsHostGrant, host_decision}
 use Rattle.ssh_trust.proofs.CandidateLemmas.{AreBytes, at-place, line-bytes, line-of}
 use Rattle.ssh_trust.proofs.HostMeaningLemmas.{host_means}

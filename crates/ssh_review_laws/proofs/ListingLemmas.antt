@@ -32,7 +32,7 @@ use Rattle.ssh_rules.specs.declared.verdict.LineVerdict.TheVariants.{Skips}
 use Rattle.ssh_rules.proofs.Tests.{le_z-decides}
 use Rattle.ssh_trust.specs.declared.decision.Decision.{Decision}
 use Rattle.ssh_trust.specs.declared.decision.Decision.TheVariants.{Granted}
-use Rattle.ssh_trust.specs.FileLines.{IsLineAt}
+use Rattle.ssh_trust.specs.FileLines.{StandsAt}
 use Rattle.ssh_trust.specs.LoginDecision.{IsCandidate, IsGrant, line_verdict, login_decision}
 use Rattle.ssh_trust.proofs.CandidateLemmas.{AreBytes, at-place, line-bytes, line-of}
 use Rattle.ssh_trust.proofs.MeaningLemmas.{LoginReading, login_reading}
@@ -179,7 +179,7 @@ listed form asking name file claim vouched n rights reasons evidence bytes h =
     let means = subst (λ (d : Decision). LoginReading file claim vouched d) h (login_reading file claim vouched bytes) in
     listed-by form asking name file claim vouched n rights means.0 bytes means.1 means.2
 
-pub unlisted : (file : List ℕ) (claim : LoginClaim) (i : ℕ) (line : List ℕ) (e : AuthEntry) → IsLineAt file i line
+pub unlisted : (file : List ℕ) (claim : LoginClaim) (i : ℕ) (line : List ℕ) (e : AuthEntry) → StandsAt file i line
     → ((f : AuthEntry) → auth_line line ≡ Entry f → ⊥) → IsCandidate file claim i e → ⊥
 unlisted file claim i line e stands none candidate =
     let same : Some candidate.line ≡ Some line = sym (line-of file i candidate.line candidate.stands) ∙ line-of file i line stands in

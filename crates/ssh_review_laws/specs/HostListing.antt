@@ -6,7 +6,7 @@ use Rattle.ssh_keys.specs.PublicKey.{key_blob}
 use Rattle.ssh_lines.specs.KnownEntry.{KnownEntry}
 use Rattle.ssh_lines.specs.KnownGrammar.{known_line}
 use Rattle.ssh_lines.specs.declared.known.KnownLine.TheVariants.{Entry, Revoked, RevokedUnreadable}
-use Rattle.ssh_trust.specs.FileLines.{IsLineAt}
+use Rattle.ssh_trust.specs.FileLines.{StandsAt}
 use Rattle.ssh_findings.specs.Asking.{Asking}
 use Rattle.ssh_host_findings.specs.Earlier.{revoking_line}
 use Rattle.ssh_host_findings.specs.HostLines.{HostLine}
@@ -25,7 +25,7 @@ kept_before file n = lines_kept (take (n - 1) (numbered 1 (lines_of file)))
 -- The host's key is trusted by line n, and the review lists that line:
 pub record IsHostListed (form : Form) (asking : Asking) (name file : List ℕ) (n : ℕ) : Type 0 where
   pub line : List ℕ
-  pub stands : IsLineAt file n line
+  pub stands : StandsAt file n line
   pub entry : KnownEntry
   pub spells : known_line line ≡ Entry entry
   pub before : List ℕ
@@ -35,6 +35,6 @@ pub record IsHostListed (form : Form) (asking : Asking) (name file : List ℕ) (
   -- F12 is not found of it,
   pub unrevoked : revoking_line (kept_before file n) (key_blob entry.key) ≡ None
   -- of no line of the file that revokes anything is F12 found for this key,
-  pub kept : (i : ℕ) (other bytes : List ℕ) → IsLineAt file i other → known_line other ≡ Revoked bytes → bytes ≡ key_blob entry.key → ⊥
+  pub kept : (i : ℕ) (other bytes : List ℕ) → StandsAt file i other → known_line other ≡ Revoked bytes → bytes ≡ key_blob entry.key → ⊥
   -- and F10 is found nowhere
-  pub sighted : (i : ℕ) (other : List ℕ) → IsLineAt file i other → known_line other ≡ RevokedUnreadable → ⊥
+  pub sighted : (i : ℕ) (other : List ℕ) → StandsAt file i other → known_line other ≡ RevokedUnreadable → ⊥

@@ -10,7 +10,7 @@ use Rattle.ssh_offers.specs.LoginClaim.{LoginClaim}
 use Rattle.ssh_offers.specs.Offer.{plain}
 use Rattle.ssh_rights.specs.declared.rights.Rights.{Rights}
 use Rattle.ssh_rights.specs.Rights.{rights_of}
-use Rattle.ssh_trust.specs.FileLines.{IsLineAt}
+use Rattle.ssh_trust.specs.FileLines.{StandsAt}
 use Rattle.ssh_findings.specs.Asking.{Asking}
 use Rattle.ssh_findings.specs.Earlier.{Held, shadow}
 use Rattle.ssh_keys.specs.PublicKey.{key_blob}
@@ -38,7 +38,7 @@ pub record HasRecord (form : Form) (asking : Asking) (name file told : List ℕ)
 -- The login is let in by line n with these rights, and the review lists that line:
 pub record IsListed (form : Form) (asking : Asking) (name file : List ℕ) (claim : LoginClaim) (n : ℕ) (rights : Option Rights) : Type 0 where
   pub line : List ℕ
-  pub stands : IsLineAt file n line
+  pub stands : StandsAt file n line
   pub entry : AuthEntry
   pub spells : auth_line line ≡ Entry entry
   -- it has a record, of its entry

@@ -16,7 +16,7 @@ ghost use Rattle.ssh_rules.specs.declared.reason.Reason.TheVariants as reason;
 ghost use Rattle.ssh_rules.specs.declared.verdict.LineVerdict.TheVariants.{Skips};
 ghost use Rattle.ssh_text.specs.Text.{lines_of, numbered};
 ghost use Rattle.ssh_trust.specs.declared.decision.Decision.TheVariants.{Granted};
-ghost use Rattle.ssh_trust.specs.FileLines.{IsLineAt};
+ghost use Rattle.ssh_trust.specs.FileLines.{StandsAt};
 ghost use Rattle.ssh_trust.specs.HostDecision.{host_decision};
 ghost use Rattle.ssh_trust.specs.LoginDecision.{IsCandidate, line_verdict, login_decision};
 ghost use Rattle.ssh_findings.specs.Asking.{Asking};
@@ -36,7 +36,7 @@ fn listed_rule()
         → IsListed form asking name file claim n rights }
     // A line without an entry, so one without a record or one that cannot be read, lets nobody in.
     ensures unlisted { (file : List ℕ) (claim : LoginClaim) (i : ℕ) (line : List ℕ) (e : AuthEntry)
-        → IsLineAt file i line
+        → StandsAt file i line
         → ((f : AuthEntry) → auth_line line ≡ Entry f → ⊥)
         → IsCandidate file claim i e → ⊥ }
     // A line of which F1 is found has the reason G1, of the same cause, for every login.

@@ -8,7 +8,7 @@ use Rattle.ssh_rules.specs.declared.reason.Obstacle.{Obstacle}
 use Rattle.ssh_rules.specs.declared.verdict.LineVerdict.{LineVerdict}
 use Rattle.ssh_rules.specs.declared.verdict.LineVerdict.TheVariants.{Admits, Skips}
 use Rattle.ssh_rules.specs.Verdict.{verdict_by}
-use Rattle.ssh_trust.specs.FileLines.{IsLineAt}
+use Rattle.ssh_trust.specs.FileLines.{StandsAt}
 use Rattle.ssh_trust.specs.Candidate.{IsFirstAdmitted, candidate_of, first_admitted}
 
 abbrev pub AreBytes : List ℕ → Type 0
@@ -69,7 +69,7 @@ map-from f [] k j h = cc
 map-from f (l ∷ lines) zero j h = (l, refl, some-same (f l) j h)
 map-from f (l ∷ lines) (suc k) j h = map-from f lines k j h
 
-pub line-of : (file : List ℕ) (i : ℕ) (line : List ℕ) → IsLineAt file i line → slice_get (lines_of file) (i - 1) ≡ Some line
+pub line-of : (file : List ℕ) (i : ℕ) (line : List ℕ) → StandsAt file i line → slice_get (lines_of file) (i - 1) ≡ Some line
 line-of file i line at = subst (λ (ls : List (List ℕ)). slice_get ls (i - 1) ≡ Some line) (lines_of-only at.lines file at.are_lines) at.stands
 
 bytes-front : (a b : List ℕ) → AreBytes (a ++ b) → AreBytes a
@@ -96,7 +96,7 @@ line-bytes (l ∷ lines) file (free, inr (last, whole, some)) bytes (suc k) line
     cc
 
 -- the line of a place
-pub at-place : (file : List ℕ) (i k : ℕ) (line : List ℕ) → i ≡ 1 + k → slice_get (lines_of file) k ≡ Some line → IsLineAt file i line
+pub at-place : (file : List ℕ) (i k : ℕ) (line : List ℕ) → i ≡ 1 + k → slice_get (lines_of file) k ≡ Some line → StandsAt file i line
 at-place file i k line number stands =
     let back : i - 1 ≡ k = omega arith in
     record { lines = lines_of file; are_lines = lines_of-are file; from_one = omega arith; stands = rw back stands }

@@ -7,7 +7,7 @@ use Rattle.std.proofs.lemmas.Slice.Eq.{bytes_eq-Decides}
 use Rattle.ssh_bodies.specs.Sshsig.{Sshsig, IsSshsigBlob}
 use Rattle.ssh_offers.specs.declared.error.AuditError.{AuditError}
 use Rattle.ssh_offers.specs.declared.query.Signed.{Signed}
-use Rattle.ssh_offers.specs.FileSignature.{Serves, sshsig_evidence}
+use Rattle.ssh_offers.specs.FileSignature.{AlgorithmServes, sshsig_evidence}
 use Rattle.ssh_offers.specs.Vouching.{first_unvouched}
 use Rattle.ssh_offers.proofs.VouchingLemmas.{none_unvouched, all_vouched}
 use Rattle.ssh_trust.specs.Answer.{OfClaim}
@@ -36,7 +36,7 @@ sig_means body message namespace vouched v own =
     ]
 
 -- the answer to the file signature of a body means what is said of it
-pub answered_means : (body message namespace : List ℕ) (vouched : List Signed) (v : Sshsig) (a : SshsigAnswer) → IsSshsigBlob v body → Serves v
+pub answered_means : (body message namespace : List ℕ) (vouched : List Signed) (v : Sshsig) (a : SshsigAnswer) → IsSshsigBlob v body → AlgorithmServes v
     → a ≡ sshsig_answer v message namespace vouched → SshsigMeans body message namespace vouched a
 answered_means body message namespace vouched v a spelled serves h =
     subst (λ (x : SshsigAnswer). SshsigMeans body message namespace vouched x) (sym h)

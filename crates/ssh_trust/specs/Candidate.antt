@@ -4,17 +4,17 @@ use Rattle.std.specs.List.{position_or_len}
 use Rattle.ssh_rules.specs.declared.reason.Reason.{Reason}
 use Rattle.ssh_rules.specs.declared.verdict.LineVerdict.{LineVerdict}
 use Rattle.ssh_rules.specs.declared.verdict.LineVerdict.TheVariants.{Admits, Skips}
-use Rattle.ssh_trust.specs.FileLines.{IsLineAt}
+use Rattle.ssh_trust.specs.FileLines.{StandsAt}
 
 -- ======== in the subject's words
 
 -- the least line that spells an entry that admits
 pub record IsFirstAdmitted (E : Type 0) (Spells : E → List ℕ → Type 0) (IsAdmitting : E → Type 0) (file : List ℕ) (i : ℕ) (e : E) : Type 0 where
   pub line : List ℕ
-  pub stands : IsLineAt file i line
+  pub stands : StandsAt file i line
   pub spelled : Spells e line
   pub admits : IsAdmitting e
-  pub least : (j : ℕ) (other : List ℕ) (f : E) → j < i → IsLineAt file j other → Spells f other → IsAdmitting f → ⊥
+  pub least : (j : ℕ) (other : List ℕ) (f : E) → j < i → StandsAt file j other → Spells f other → IsAdmitting f → ⊥
 
 -- ======== as a function of what each line is to the offer
 

@@ -5,7 +5,7 @@ use Rattle.ssh_text.specs.declared.scanner.Line.TheVariants.{Whole, TooLong}
 use Rattle.ssh_text.specs.Text.{AreLines, line_limit}
 
 -- this is line i of the file, counted from 1
-pub record IsLineAt (file : List ℕ) (i : ℕ) (line : List ℕ) : Type 0 where
+pub record StandsAt (file : List ℕ) (i : ℕ) (line : List ℕ) : Type 0 where
   pub lines : List (List ℕ)
   pub are_lines : AreLines lines file
   pub from_one : 0 < i

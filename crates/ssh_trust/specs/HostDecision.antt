@@ -16,7 +16,7 @@ use Rattle.ssh_trust.specs.declared.decision.Decision.{Decision}
 use Rattle.ssh_trust.specs.declared.decision.Decision.TheVariants.{Granted, Denied}
 use Rattle.ssh_trust.specs.declared.host_scan.HostScan.{HostScan}
 use Rattle.ssh_trust.specs.Candidate.{IsFirstAdmitted}
-use Rattle.ssh_trust.specs.FileLines.{IsLineAt}
+use Rattle.ssh_trust.specs.FileLines.{StandsAt}
 use Rattle.ssh_trust.specs.HostScan.{host_scan_of}
 
 -- ======== in the subject's words
@@ -27,7 +27,7 @@ IsHostCandidate file claim i e = IsFirstAdmitted KnownEntry SpellsKnown (λ f. A
 
 -- line i of the file is one of which this holds
 abbrev pub HoldsAt : (List ℕ → Type 0) → List ℕ → ℕ → Type 0
-HoldsAt P file i = (line : List ℕ) × IsLineAt file i line × P line
+HoldsAt P file i = (line : List ℕ) × StandsAt file i line × P line
 
 -- a line revokes the offered key, or the certificate's signer, whichever host it names
 abbrev pub RevokesOwn : Offer → List ℕ → Type 0

@@ -3,7 +3,7 @@ use Rattle.std.specs.Prelude.{◌≡◌, ◌≢◌, ℕ, List, Option, Some, Non
 use Rattle.std.specs.Str.{bytes_eq}
 use Rattle.ssh_bodies.specs.Sshsig.{Sshsig, IsSshsigBlob}
 use Rattle.ssh_offers.specs.declared.query.Signed.{Signed}
-use Rattle.ssh_offers.specs.FileSignature.{Serves, file_signed, sshsig_evidence}
+use Rattle.ssh_offers.specs.FileSignature.{AlgorithmServes, file_signed, sshsig_evidence}
 use Rattle.ssh_offers.specs.Vouching.{Has, first_unvouched}
 use Rattle.ssh_trust.specs.declared.sshsig_answer.SshsigAnswer.{SshsigAnswer}
 use Rattle.ssh_trust.specs.declared.sshsig_answer.SshsigAnswer.TheVariants.{Vouched, OtherNamespace, NotVouched}
@@ -13,7 +13,7 @@ use Rattle.ssh_trust.specs.declared.sshsig_answer.SshsigAnswer.TheVariants.{Vouc
 -- the bytes are the body of this file signature, and its algorithm serves its key
 pub record IsOfBody (body : List ℕ) (v : Sshsig) : Type 0 where
   pub spelled : IsSshsigBlob v body
-  pub serves : Serves v
+  pub serves : AlgorithmServes v
 
 -- Vouched: the body's signature is for this namespace, and it is vouched for over the signed bytes of this message. The
 -- two other answers mean that it is for another namespace, or that it is not vouched for.

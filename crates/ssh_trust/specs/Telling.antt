@@ -25,7 +25,7 @@ use Rattle.ssh_trust.specs.declared.decision.Decision.{Decision}
 use Rattle.ssh_trust.specs.declared.decision.Decision.TheVariants.{Granted, Denied}
 use Rattle.ssh_trust.specs.Candidate.{reason_limit}
 use Rattle.ssh_trust.specs.LoginDecision.{IsCandidate, LoginMeans}
-use Rattle.ssh_trust.specs.FileLines.{IsLineAt}
+use Rattle.ssh_trust.specs.FileLines.{StandsAt}
 use Rattle.ssh_trust.specs.HostDecision.{BlindAt, HostMeans, IsHostCandidate, IsLeast, RevokesAt}
 
 -- ---- the reasons
@@ -39,7 +39,7 @@ HasReason {E = E} IsUnread Spells obstacle line why =
 -- line n has this reason, and stands before the candidate, where there is one
 pub record IsPassedOver (E : Type 0) (IsFirst : ℕ → E → Type 0) (Reasoned : List ℕ → Reason → Type 0) (file : List ℕ) (n : ℕ) (why : Reason) : Type 0 where
   pub line : List ℕ
-  pub stands : IsLineAt file n line
+  pub stands : StandsAt file n line
   pub reasoned : Reasoned line why
   pub before : (i : ℕ) (e : E) → IsFirst i e → n < i
 
