@@ -1,5 +1,5 @@
 -- A trusted host's line is listed, and no line revokes its key.
-use Rattle.std.proofs.Common.{◌≡◌, ◌∙◌, ◌<◌, ◌+◌, ◌-◌, ◌++◌, ◌||◌, ◌⊎◌, inl, inr, ℕ, zero, suc, Bool, true, false, List, [], ◌∷◌, Option, Some, None, ap, sym, refl, subst, drop, take, arith}
+use Rattle.std.proofs.Common.{◌≡◌, ◌∙◌, ◌+◌, ◌-◌, ◌++◌, ◌||◌, ◌⊎◌, inl, inr, ℕ, zero, suc, Bool, true, false, List, [], ◌∷◌, Option, Some, ap, sym, refl, subst, drop, take}
 use Rattle.std.specs.Prelude.{bytes_eq}
 use Rattle.std.specs.List.{AllByRecursion, slice_get}
 use Rattle.std.proofs.lemmas.List.{append-nil, append_assoc}
@@ -9,7 +9,7 @@ use Rattle.ssh_text.specs.Text.{lines_of, numbered}
 use Rattle.ssh_text.proofs.LineLemmas.{lines_of-are}
 use Rattle.ssh_keys.specs.PublicKey.{key_blob}
 use Rattle.ssh_lines.specs.KnownEntry.{KnownEntry}
-use Rattle.ssh_lines.specs.KnownGrammar.{SpellsKnown, known_line}
+use Rattle.ssh_lines.specs.KnownGrammar.{known_line}
 use Rattle.ssh_lines.specs.declared.known.KnownLine.{KnownLine}
 use Rattle.ssh_lines.specs.declared.known.KnownLine.TheVariants.{Blank, Comment, Entry, Revoked, RevokedUnreadable, Unreadable}
 use Rattle.ssh_lines.proofs.ReadKnown.{known_line-spelled}
@@ -22,7 +22,6 @@ use Rattle.ssh_rules.specs.declared.reason.Reason.{Reason}
 use Rattle.ssh_rules.specs.Revocation.{IsOwn, is_own}
 use Rattle.ssh_trust.specs.declared.decision.Decision.{Decision}
 use Rattle.ssh_trust.specs.declared.decision.Decision.TheVariants.{Granted}
-use Rattle.ssh_trust.specs.FileLines.{StandsAt}
 use Rattle.ssh_trust.specs.HostDecision.{HostMeans, IsHostGrant, host_decision}
 use Rattle.ssh_trust.proofs.CandidateLemmas.{AreBytes, at-place, line-bytes, line-of}
 use Rattle.ssh_trust.proofs.HostMeaningLemmas.{host_means}
@@ -34,7 +33,7 @@ use Rattle.ssh_review.specs.declared.form.Form.{Form}
 use Rattle.ssh_review.specs.Forms.{end_line}
 use Rattle.ssh_host_review.specs.Lines.{counts_of, kept_of, line_record, records_of}
 use Rattle.ssh_host_review.specs.Reviews.{whole_review}
-use Rattle.ssh_review_laws.specs.HostListing.{IsHostListed, kept_before, lines_kept}
+use Rattle.ssh_review_laws.specs.HostListing.{IsHostListed, lines_kept}
 use Rattle.ssh_review_laws.proofs.ListLemmas.{among_first, split_at}
 use Rattle.ssh_review_laws.proofs.ListingLemmas.{denied, joined, predecessor}
 

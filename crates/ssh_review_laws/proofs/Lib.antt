@@ -2,4 +2,5 @@ mod ListLemmas
 mod RecordLemmas
 mod ListingLemmas
 mod SpelledLemmas
+mod HostSpelledLemmas
 mod HostListingLemmas

@@ -1,5 +1,5 @@
 -- Lines with their numbers, one of them and those before it.
-use Rattle.std.proofs.Common.{◌≡◌, ◌∙◌, ◌+◌, ◌<◌, ◌++◌, ℕ, zero, suc, List, [], ◌∷◌, Option, Some, None, ap, sym, refl, drop, take, arith}
+use Rattle.std.proofs.Common.{◌≡◌, ◌∙◌, ◌+◌, ◌<◌, ◌++◌, ℕ, zero, suc, List, [], ◌∷◌, Some, ap, sym, refl, drop, take, arith}
 use Rattle.std.specs.List.{slice_get}
 use Rattle.ssh_text.specs.Text.{numbered}
 

@@ -1,6 +1,6 @@
 -- A granted login's line is listed, and no other line lets anybody in.
-use Rattle.std.proofs.Common.{◌≡◌, ◌∙◌, ◌<◌, ◌+◌, ◌-◌, ◌++◌, ℕ, zero, suc, Bool, true, false, not, cond, List, [], ◌∷◌, Option, Some, None, ap, sym, refl, subst, drop, take, arith}
-use Rattle.std.specs.Prelude.{◌&&◌, ℤ, pos, find, is_some}
+use Rattle.std.proofs.Common.{◌≡◌, ◌∙◌, ◌<◌, ◌+◌, ◌-◌, ◌++◌, ℕ, suc, Bool, true, false, not, cond, List, [], ◌∷◌, Option, Some, None, ap, sym, refl, subst, drop, take, arith}
+use Rattle.std.specs.Prelude.{◌&&◌, ℤ, pos, find}
 use Rattle.std.specs.Int.Signed.{le_z}
 use Rattle.std.specs.List.{AllByRecursion, slice_get}
 use Rattle.std.proofs.lemmas.List.{append_assoc}
@@ -10,8 +10,7 @@ use Rattle.ssh_expiry.proofs.MomentLemmas.{moment-only}
 use Rattle.ssh_text.specs.Text.{lines_of, numbered}
 use Rattle.ssh_keys.specs.PublicKey.{PublicKey, key_blob}
 use Rattle.ssh_lines.specs.AuthEntry.{AuthEntry}
-use Rattle.ssh_lines.specs.AuthGrammar.{SpellsEntry, auth_line}
-use Rattle.ssh_lines.specs.declared.entry.AuthLine.{AuthLine}
+use Rattle.ssh_lines.specs.AuthGrammar.{auth_line}
 use Rattle.ssh_lines.specs.declared.entry.AuthLine.TheVariants.{Entry, Unreadable}
 use Rattle.ssh_lines.proofs.AuthLemmas.{auth_line-spelled}
 use Rattle.ssh_lines.proofs.ReadAuth.{auth_line-spells}
@@ -24,7 +23,7 @@ use Rattle.ssh_options.specs.declared.option.ValueName.TheVariants.{Command, Exp
 use Rattle.ssh_options.specs.Settings.{setting, settings}
 use Rattle.ssh_rights.specs.declared.rights.Rights.{Rights}
 use Rattle.ssh_rights.specs.Rights.{command_of, rights_of}
-use Rattle.ssh_rules.specs.Admission.{AdmitsLogin, IsUnexpired, is_authority}
+use Rattle.ssh_rules.specs.Admission.{IsUnexpired}
 use Rattle.ssh_rules.specs.Verdict.{login_verdict}
 use Rattle.ssh_rules.specs.declared.reason.Reason.{Reason}
 use Rattle.ssh_rules.specs.declared.reason.Reason.TheVariants as reason
@@ -38,17 +37,16 @@ use Rattle.ssh_trust.proofs.CandidateLemmas.{AreBytes, at-place, line-bytes, lin
 use Rattle.ssh_trust.proofs.MeaningLemmas.{LoginReading, login_reading}
 use Rattle.ssh_text.proofs.LineLemmas.{lines_of-are}
 use Rattle.ssh_findings.specs.Asking.{Asking}
-use Rattle.ssh_findings.specs.Earlier.{Held, held_entry, is_free, is_same, shadow}
-use Rattle.ssh_findings.specs.EntryFindings.{names_nobody, permits_bad}
+use Rattle.ssh_findings.specs.Earlier.{Held, is_free, is_same, shadow}
 use Rattle.ssh_findings.specs.Facts.{facts_of}
-use Rattle.ssh_findings.specs.Moments.{earlier, is_past, least_of, until}
+use Rattle.ssh_findings.specs.Moments.{earlier, is_past, least_of}
 use Rattle.ssh_findings.proofs.ShadowLemmas.{named, no_principals, no_sources}
 use Rattle.sha2.specs.Sha256.{sha256}
 use Rattle.ssh_review.specs.declared.form.Form.{Form}
 use Rattle.ssh_review.specs.Lines.{counts_of, held_of, line_record, records_of}
 use Rattle.ssh_review.specs.Forms.{end_line}
 use Rattle.ssh_review.specs.Reviews.{whole_review}
-use Rattle.ssh_review_laws.specs.Listing.{HasRecord, IsListed, entries_before, entries_of}
+use Rattle.ssh_review_laws.specs.Listing.{HasRecord, IsListed, entries_of}
 use Rattle.ssh_review_laws.proofs.ListLemmas.{among_first, split_at}
 use Rattle.ssh_review_laws.proofs.RecordLemmas.{found_held, records_after}
 

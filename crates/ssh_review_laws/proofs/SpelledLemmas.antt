@@ -1,5 +1,5 @@
 -- A file is reviewed by what its lines say, and so is the file of canonical lines.
-use Rattle.std.proofs.Common.{◌≡◌, ◌∙◌, ◌++◌, ◌+◌, ℕ, List, [], ◌∷◌, Option, Some, None, map, ap, sym, refl}
+use Rattle.std.proofs.Common.{◌≡◌, ◌∙◌, ◌++◌, ◌+◌, ℕ, List, [], ◌∷◌, Option, None, map, ap, sym, refl}
 use Rattle.std.specs.Prelude.{option_map}
 use Rattle.ssh_text.specs.Text.{lines_of, numbered}
 use Rattle.ssh_keys.specs.PublicKey.{PublicKey}

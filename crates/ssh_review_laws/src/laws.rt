@@ -9,7 +9,7 @@ ghost use Rattle.ssh_offers.specs.declared.query.Signed.{Signed as SignedValue};
 ghost use Rattle.ssh_offers.specs.HostClaim.{HostClaim};
 ghost use Rattle.ssh_offers.specs.LoginClaim.{LoginClaim};
 ghost use Rattle.ssh_options.specs.declared.cause.LineCause.{LineCause};
-ghost use Rattle.ssh_rewriting.specs.CanonicalFile.{canonical_auth_file};
+ghost use Rattle.ssh_rewriting.specs.CanonicalFile.{canonical_auth_file, canonical_known_file};
 ghost use Rattle.ssh_rights.specs.declared.rights.Rights.{Rights};
 ghost use Rattle.ssh_rules.specs.declared.reason.Reason.{Reason as LineReason};
 ghost use Rattle.ssh_rules.specs.declared.reason.Reason.TheVariants as reason;
@@ -22,7 +22,9 @@ ghost use Rattle.ssh_trust.specs.LoginDecision.{IsCandidate, line_verdict, login
 ghost use Rattle.ssh_findings.specs.Asking.{Asking};
 ghost use Rattle.ssh_review.specs.declared.form.Form.{Form};
 ghost use Rattle.ssh_review.specs.Lines.{counts_of, records_of};
+ghost use Rattle.ssh_host_review.specs.Lines as hosts;
 ghost use Rattle.ssh_review_laws.specs.HostListing.{IsHostListed};
+ghost use Rattle.ssh_review_laws.specs.HostSpelling.{HasNoMarkerTab};
 ghost use Rattle.ssh_review_laws.specs.Listing.{IsListed};
 
 /// Whoever is let in gets in by a listed line.
@@ -66,4 +68,19 @@ fn spelled_alike_rule()
         → AllByRecursion (λ c. c < 256) file
         → counts_of asking [] (numbered 1 (lines_of (canonical_auth_file file)))
         ≡ counts_of asking [] (numbered 1 (lines_of file)) }
+{}
+
+/// A known_hosts file and its canonical file are reviewed alike, if no tab follows a marker: that is
+/// what F8 tells of such a line, and a canonical line has a space there.
+fn hosts_spelled_alike_rule()
+    ensures records { (form : Form) (asking : Asking) (name file : List ℕ)
+        → AllByRecursion (λ c. c < 256) file
+        → HasNoMarkerTab file
+        → hosts.records_of form asking name [] (numbered 1 (lines_of (canonical_known_file file)))
+        ≡ hosts.records_of form asking name [] (numbered 1 (lines_of file)) }
+    ensures counts { (asking : Asking) (file : List ℕ)
+        → AllByRecursion (λ c. c < 256) file
+        → HasNoMarkerTab file
+        → hosts.counts_of asking [] (numbered 1 (lines_of (canonical_known_file file)))
+        ≡ hosts.counts_of asking [] (numbered 1 (lines_of file)) }
 {}

@@ -1,0 +1,227 @@
+-- A known_hosts file is reviewed by what its lines say, and so is the file of canonical lines, but for tabs after markers.
+use Rattle.std.proofs.Common.{◌≡◌, ◌∙◌, ◌++◌, ◌+◌, ◌&&◌, ℕ, Bool, false, List, [], ◌∷◌, Option, None, map, ap, sym, refl, append_assoc}
+use Rattle.std.specs.Prelude.{length, option_map}
+use Rattle.std.specs.List.{AllByRecursion}
+use Rattle.ssh_text.specs.Scan.{HasNoNewline}
+use Rattle.ssh_text.specs.Text.{lines_of, numbered}
+use Rattle.ssh_text.proofs.NewlineLemmas.{lines_of-whole}
+use Rattle.ssh_keys.specs.PublicKey.{PublicKey, key_blob}
+use Rattle.ssh_names.specs.Names.{names_text}
+use Rattle.ssh_lines.specs.KnownEntry.{KnownEntry}
+use Rattle.ssh_lines.specs.KnownGrammar.{known_line}
+use Rattle.ssh_lines.specs.declared.known.KnownLine.{KnownLine}
+use Rattle.ssh_lines.specs.declared.known.KnownLine.TheVariants.{Blank, Comment, Entry, Revoked, RevokedUnreadable, Unreadable}
+use Rattle.ssh_lines.specs.declared.marker.Marker.{Marker}
+use Rattle.ssh_lines.specs.declared.marker.Marker.TheVariants as markers
+use Rattle.ssh_rewriting.specs.Canonical.{comment_part, key_text, marker_part}
+use Rattle.ssh_rewriting.specs.CanonicalFile.{canonical_known_file, known_or_same, known_written}
+use Rattle.ssh_rewriting.proofs.FileLemmas.{AreGood, IsGood, good}
+use Rattle.ssh_rewriting.proofs.LineLemmas.{known-kept}
+use Rattle.ssh_rules.specs.HostAdmission.{marks_authority}
+use Rattle.ssh_trust.proofs.CandidateLemmas.{AreBytes}
+use Rattle.ssh_findings.specs.Asking.{Asking}
+use Rattle.ssh_held_keys.specs.HeldKey.{held_key, held_of as told_of}
+use Rattle.ssh_host_findings.specs.declared.facts.HostFacts.{HostFacts}
+use Rattle.ssh_host_findings.specs.declared.finding.HostFinding.{HostFinding}
+use Rattle.ssh_host_findings.specs.Earlier.{revoking, trusting}
+use Rattle.ssh_host_findings.specs.HostFacts.{has_tab_after_first, host_facts_of}
+use Rattle.ssh_host_findings.specs.HostFindings.{blind_findings, host_entry_findings, revocation_findings, unreadable_host_findings}
+use Rattle.ssh_host_findings.specs.HostLines.{HostLine}
+use Rattle.ssh_review.specs.declared.counts.Counts.{Counts}
+use Rattle.ssh_review.specs.declared.form.Form.{Form}
+use Rattle.ssh_review.specs.Counting.{no_counts, plus}
+use Rattle.ssh_host_review.specs.Counting.{counts_with}
+use Rattle.ssh_host_review.specs.Forms.{blind_record, entry_record, revoked_record, unreadable_record}
+use Rattle.ssh_host_review.specs.Lines.{counts_of, kept_of, line_findings, line_record, records_of}
+use Rattle.ssh_review_laws.specs.HostSpelling.{HasNoMarkerTab, has_marker_tab}
+
+-- ---- what a review uses of a line: what it says, of one that cannot be read the key on it, and a tab after a marker
+
+abbrev Said : Type 0
+Said = KnownLine × Option PublicKey × Bool
+
+key-on : KnownLine → List ℕ → Option PublicKey
+key-on Blank line = None
+key-on Comment line = None
+key-on (Entry e) line = None
+key-on (Revoked bytes) line = None
+key-on RevokedUnreadable line = None
+key-on (Unreadable cause) line = held_key line
+
+abbrev said : List ℕ → Said
+said line = (known_line line, key-on (known_line line) line, has_marker_tab (known_line line) line)
+
+key-kept : (line : List ℕ) (l : KnownLine) → key-on l (known_or_same l line) ≡ key-on l line
+unfolding key-on
+key-kept line Blank = refl
+key-kept line Comment = refl
+key-kept line (Entry e) = refl
+key-kept line (Revoked bytes) = refl
+key-kept line RevokedUnreadable = refl
+key-kept line (Unreadable cause) = refl
+
+-- after a canonical marker stands a space
+spaced : (rest : List ℕ) → has_tab_after_first (marker_part markers.CertAuthority ++ rest) ≡ false
+spaced [] = refl
+spaced (c ∷ rest) = refl
+
+untabbed : (marker : Marker) (rest : List ℕ) → (marks_authority marker && has_tab_after_first (marker_part marker ++ rest)) ≡ false
+untabbed markers.Unmarked rest = refl
+untabbed markers.CertAuthority rest = spaced rest
+
+parted : (m n k c : List ℕ) → m ++ n ++ k ++ c ≡ m ++ (n ++ (k ++ c))
+parted m n k c = append_assoc (m ++ n) k c ∙ append_assoc m n (k ++ c)
+
+no-tab : (line : List ℕ) (l : KnownLine) → has_marker_tab l line ≡ false → has_marker_tab l (known_or_same l line) ≡ false
+no-tab line Blank h = refl
+no-tab line Comment h = refl
+no-tab line (Entry e) h =
+    let m = marker_part e.marker in
+    let k : List ℕ = 32 ∷ key_text e.key in
+    ap (λ l. marks_authority e.marker && has_tab_after_first l) (parted m (names_text e.names) k (comment_part e.comment))
+    ∙ untabbed e.marker (names_text e.names ++ (k ++ comment_part e.comment))
+no-tab line (Revoked bytes) h = refl
+no-tab line RevokedUnreadable h = refl
+no-tab line (Unreadable cause) h = refl
+
+all-three : {A B C : Type 0} (a b : A) (x y : B) (p q : C) → a ≡ b → x ≡ y → p ≡ q → ◌≡◌ {A = A × B × C} (a, x, p) (b, y, q)
+all-three a b x y p q e h k = rw (e, h, k) refl
+
+said-kept : (line : List ℕ) → IsGood line → has_marker_tab (known_line line) line ≡ false → said (known_written line) ≡ said line
+said-kept line g none =
+    let says = (known-kept line g).says in
+    let key = ap (λ l. key-on l (known_written line)) says ∙ key-kept line (known_line line) in
+    let tab = ap (λ l. has_marker_tab l (known_written line)) says ∙ no-tab line (known_line line) none ∙ sym none in
+    all-three _ _ _ _ _ _ says key tab
+
+all-kept : (lines : List (List ℕ)) → AreGood lines → AllByRecursion (λ line. has_marker_tab (known_line line) line ≡ false) lines
+    → map said (map known_written lines) ≡ map said lines
+all-kept [] g none = refl
+all-kept (line ∷ lines) g none =
+    ap (λ s. s ∷ map said (map known_written lines)) (said-kept line g.0 none.0)
+    ∙ ap (λ more. said line ∷ more) (all-kept lines g.1 none.1)
+
+none-new : (lines : List (List ℕ)) → AreGood lines → AllByRecursion HasNoNewline (map known_written lines)
+none-new [] g = tt
+none-new (line ∷ lines) g = ((known-kept line g.0).none, none-new lines g.1)
+
+all-said : (file : List ℕ) → AreBytes file → HasNoMarkerTab file → map said (lines_of (canonical_known_file file)) ≡ map said (lines_of file)
+all-said file bytes none =
+    let g = good file bytes in
+    ap (λ ls. map said ls) (lines_of-whole (map known_written (lines_of file)) (none-new (lines_of file) g))
+    ∙ all-kept (lines_of file) g none
+
+-- ---- records and counts, by what lines say
+
+facts-by : KnownEntry → Bool → HostFacts
+facts-by e tab = record (host_facts_of [] e) { has_marker_tab = tab }
+
+facts-are : (line : List ℕ) (e : KnownEntry) → host_facts_of line e ≡ facts-by e (has_marker_tab (Entry e) line)
+unfolding facts-by host_facts_of
+facts-are line e = refl
+
+findings-by : Asking → List HostLine → Said → List HostFinding
+findings-by asking earlier (Blank, key, tab) = []
+findings-by asking earlier (Comment, key, tab) = []
+findings-by asking earlier (Entry e, key, tab) = host_entry_findings asking earlier (key_blob e.key) (facts-by e tab)
+findings-by asking earlier (Revoked bytes, key, tab) = revocation_findings asking earlier bytes
+findings-by asking earlier (RevokedUnreadable, key, tab) = blind_findings asking
+findings-by asking earlier (Unreadable cause, key, tab) = unreadable_host_findings asking cause
+
+findings-are : (asking : Asking) (earlier : List HostLine) (line : List ℕ) (l : KnownLine)
+    → line_findings asking earlier line l ≡ findings-by asking earlier (l, key-on l line, has_marker_tab l line)
+unfolding findings-by key-on
+findings-are asking earlier line Blank = refl
+findings-are asking earlier line Comment = refl
+findings-are asking earlier line (Entry e) = ap (host_entry_findings asking earlier (key_blob e.key)) (facts-are line e)
+findings-are asking earlier line (Revoked bytes) = refl
+findings-are asking earlier line RevokedUnreadable = refl
+findings-are asking earlier line (Unreadable cause) = refl
+
+record-by : Form → List ℕ → ℕ → Said → List HostFinding → List ℕ
+record-by form name n (Blank, key, tab) found = []
+record-by form name n (Comment, key, tab) found = []
+record-by form name n (Entry e, key, tab) found = entry_record form name n (facts-by e tab) found
+record-by form name n (Revoked bytes, key, tab) found = revoked_record form name n bytes found
+record-by form name n (RevokedUnreadable, key, tab) found = blind_record form name n found
+record-by form name n (Unreadable cause, key, tab) found = unreadable_record form name n (option_map told_of key) found
+
+record-is : (form : Form) (asking : Asking) (name : List ℕ) (earlier : List HostLine) (n : ℕ) (line : List ℕ) (l : KnownLine)
+    → line_record form asking name earlier n line l ≡ record-by form name n (l, key-on l line, has_marker_tab l line) (line_findings asking earlier line l)
+unfolding record-by key-on
+record-is form asking name earlier n line Blank = refl
+record-is form asking name earlier n line Comment = refl
+record-is form asking name earlier n line (Entry e) =
+    ap (λ f. entry_record form name n f (line_findings asking earlier line (Entry e))) (facts-are line e)
+record-is form asking name earlier n line (Revoked bytes) = refl
+record-is form asking name earlier n line RevokedUnreadable = refl
+record-is form asking name earlier n line (Unreadable cause) = refl
+
+kept-by : ℕ → Said → List HostLine
+kept-by n (Blank, key, tab) = []
+kept-by n (Comment, key, tab) = []
+kept-by n (Entry e, key, tab) = trusting n (key_blob e.key) (facts-by e tab) ∷ []
+kept-by n (Revoked bytes, key, tab) = revoking n bytes ∷ []
+kept-by n (RevokedUnreadable, key, tab) = []
+kept-by n (Unreadable cause, key, tab) = []
+
+kept-is : (n : ℕ) (line : List ℕ) (l : KnownLine) → kept_of n line l ≡ kept-by n (l, key-on l line, has_marker_tab l line)
+unfolding kept-by key-on
+kept-is n line Blank = refl
+kept-is n line Comment = refl
+kept-is n line (Entry e) = ap (λ f. trusting n (key_blob e.key) f ∷ []) (facts-are line e)
+kept-is n line (Revoked bytes) = refl
+kept-is n line RevokedUnreadable = refl
+kept-is n line (Unreadable cause) = refl
+
+records-by : Form → Asking → List ℕ → List HostLine → ℕ → List Said → List ℕ
+records-by form asking name earlier n [] = []
+records-by form asking name earlier n (s ∷ more) =
+    record-by form name n s (findings-by asking earlier s) ++ records-by form asking name (earlier ++ kept-by n s) (n + 1) more
+
+records-are : (form : Form) (asking : Asking) (name : List ℕ) (earlier : List HostLine) (n : ℕ) (lines : List (List ℕ))
+    → records_of form asking name earlier (numbered n lines) ≡ records-by form asking name earlier n (map said lines)
+unfolding records-by
+records-are form asking name earlier n [] = refl
+records-are form asking name earlier n (line ∷ lines) =
+    let l = known_line line in
+    ap (λ told. told ++ records_of form asking name (earlier ++ kept_of n line l) (numbered (n + 1) lines))
+    (record-is form asking name earlier n line l ∙ ap (record-by form name n (said line)) (findings-are asking earlier line l))
+    ∙ ap (λ kept. record-by form name n (said line) (findings-by asking earlier (said line))
+    ++ records_of form asking name (earlier ++ kept) (numbered (n + 1) lines)) (kept-is n line l)
+    ∙ ap (λ more. record-by form name n (said line) (findings-by asking earlier (said line)) ++ more)
+    (records-are form asking name (earlier ++ kept-by n (said line)) (n + 1) lines)
+
+counts-by : Asking → List HostLine → ℕ → List Said → Counts
+counts-by asking earlier n [] = no_counts
+counts-by asking earlier n (s ∷ more) =
+    plus (counts_with s.0 (length (findings-by asking earlier s))) (counts-by asking (earlier ++ kept-by n s) (n + 1) more)
+
+counts-are : (asking : Asking) (earlier : List HostLine) (n : ℕ) (lines : List (List ℕ))
+    → counts_of asking earlier (numbered n lines) ≡ counts-by asking earlier n (map said lines)
+unfolding counts-by
+counts-are asking earlier n [] = refl
+counts-are asking earlier n (line ∷ lines) =
+    let l = known_line line in
+    ap (λ (found : List HostFinding). plus (counts_with l (length found)) (counts_of asking (earlier ++ kept_of n line l) (numbered (n + 1) lines)))
+    (findings-are asking earlier line l)
+    ∙ ap (λ kept. plus (counts_with l (length (findings-by asking earlier (said line)))) (counts_of asking (earlier ++ kept) (numbered (n + 1) lines)))
+    (kept-is n line l)
+    ∙ ap (plus (counts_with l (length (findings-by asking earlier (said line)))))
+    (counts-are asking (earlier ++ kept-by n (said line)) (n + 1) lines)
+
+-- ---- the canonical file
+
+pub known_records_alike : (form : Form) (asking : Asking) (name file : List ℕ) → AreBytes file → HasNoMarkerTab file
+    → records_of form asking name [] (numbered 1 (lines_of (canonical_known_file file))) ≡ records_of form asking name [] (numbered 1 (lines_of file))
+known_records_alike form asking name file bytes none =
+    records-are form asking name [] 1 (lines_of (canonical_known_file file))
+    ∙ ap (records-by form asking name [] 1) (all-said file bytes none)
+    ∙ sym (records-are form asking name [] 1 (lines_of file))
+
+pub known_counts_alike : (asking : Asking) (file : List ℕ) → AreBytes file → HasNoMarkerTab file
+    → counts_of asking [] (numbered 1 (lines_of (canonical_known_file file))) ≡ counts_of asking [] (numbered 1 (lines_of file))
+known_counts_alike asking file bytes none =
+    counts-are asking [] 1 (lines_of (canonical_known_file file))
+    ∙ ap (counts-by asking [] 1) (all-said file bytes none)
+    ∙ sym (counts-are asking [] 1 (lines_of file))
