@@ -21,6 +21,7 @@ minutes, without --after.
 import argparse
 import base64
 import fcntl
+import hashlib
 import hmac
 import os
 import pathlib
@@ -409,6 +410,26 @@ def star_rows(program, tally):
     (program.room / "stars").unlink()
 
 
+def streamed_rows(program, tally):
+    """A file of 64 MiB that is shown, and a message of 64 MiB that is hashed: no more than 4 MiB."""
+    meter = program.room / "meter"
+    subprocess.run(["gcc", "-O2", "-static", "-o", meter, HERE.parent / "bench" / "meter.c"], check=True)
+    large = (FILES["keys"].encode() + (b"x" * 99 + b"\n") * (FILE_LIMIT // 100))[:FILE_LIMIT]
+    (program.room / "large").write_bytes(large)
+    evidence = FILE_TRIPLE.replace(hashlib.sha256(SIGNED_MESSAGE).hexdigest(), hashlib.sha256(large).hexdigest())
+    for asked, wanted in (
+        (show("key", "large"), (0, SHOWN.encode())),
+        (show("private", "large"), (2, b"fault B14\n")),
+        (show("sshsig", "large"), (2, b"fault B14\n")),
+        (sshsig("body", "large"), (1, f"denied N6 0\nevidence 0 {evidence}".encode())),
+        (sshsig("keys", "large"), (2, b"fault A11 B1\n")),
+    ):
+        answer, _, peak = cost_of(program, meter, asked)
+        tally.check(f"{' '.join(asked[:5])} of {FILE_LIMIT} bytes", answer, wanted)
+        tally.check(f"{' '.join(asked[:5])} of {FILE_LIMIT} bytes in {peak} KiB", peak <= 4096, True)
+    (program.room / "large").unlink()
+
+
 def bench_rows(program, tally):
     """The bench's files of 100,000 lines, spelled loosely: written anew they are the bench's, and that is its own."""
     for kind in ("options", "names"):
@@ -558,7 +579,7 @@ def long_text_rows(program, tally):
         tally.check(f"a long text, of which {wants} bytes are read", (ended, got == wanted[:wants]), ((status, b""), True))
 
 
-ROWS = (answer_rows, size_rows, input_rows, endless_rows, star_rows, bench_rows, keygen_rows, hashing_rows, writer_rows, long_text_rows)
+ROWS = (answer_rows, size_rows, input_rows, endless_rows, star_rows, streamed_rows, bench_rows, keygen_rows, hashing_rows, writer_rows, long_text_rows)
 
 
 # ---- the other checks

@@ -21,7 +21,7 @@ GIVEN = [word for word in sys.argv[1:] if word != "--every"]
 TOP = pathlib.Path(GIVEN[0]).resolve() if GIVEN else HERE.parent
 
 # What no library is: the program and its words, which refused_growth.py runs, and tests.
-NO_LIBRARIES = ("ssh_keeping", "ssh_review_laws", "ssh_words", "ssh_review_files", "ssh_command", "ssh_audit")
+NO_LIBRARIES = ("ssh_keeping", "ssh_review_laws", "ssh_words", "ssh_review_files", "ssh_questions", "ssh_answers", "ssh_command", "ssh_audit")
 
 
 def libraries():

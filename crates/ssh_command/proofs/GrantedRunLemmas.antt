@@ -14,12 +14,12 @@ use Rattle.ssh_words.specs.declared.options.OptionName.{OptionName}
 use Rattle.ssh_words.specs.declared.options.OptionName.TheVariants as option
 use Rattle.ssh_words.specs.declared.subcommand.Subcommand.TheVariants.{Host, Login}
 use Rattle.ssh_words.specs.Asked.{AuditFiles}
-use Rattle.ssh_command.specs.Audits.{Audits, Deciding, IsAuditFault, IsVouchReadFault, host_by, login_by}
+use Rattle.ssh_questions.specs.Audits.{Audits, Deciding, IsAuditFault, IsVouchReadFault, host_by, login_by}
 use Rattle.ssh_words.specs.CommandLine.{Request, request_of}
 use Rattle.ssh_command.specs.GrantedRuns.{GrantsHost, GrantsLogin}
 use Rattle.ssh_command.specs.Granting.{HostGranted, IsOfBytes, LoginGranted}
-use Rattle.ssh_command.specs.Hosts.{RespondsToHost, host_spelled}
-use Rattle.ssh_command.specs.Logins.{RespondsToLogin, login_spelled}
+use Rattle.ssh_questions.specs.Hosts.{RespondsToHost, host_spelled}
+use Rattle.ssh_questions.specs.Logins.{RespondsToLogin, login_spelled}
 use Rattle.ssh_words.specs.Options.{option_name}
 use Rattle.ssh_command.specs.Requests.{Answers, RespondsBy, request_words, source_of}
 use Rattle.ssh_words.specs.Spelling.{RespondsTo, audit_files, given, needed, or_fault, read_or, value, value_or}

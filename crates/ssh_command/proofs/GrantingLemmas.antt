@@ -21,7 +21,7 @@ use Rattle.ssh_inputs.specs.Parts.{part_at}
 use Rattle.ssh_inputs.specs.SourceState.{SourceState, bytes_at}
 use Rattle.ssh_inputs.specs.VouchFile.{vouched_of}
 use Rattle.ssh_words.specs.Asked.{AuditFiles}
-use Rattle.ssh_command.specs.Audits.{after_vouching, audit_response, decided_by, decided_response, host_by, login_by, or_vouch_fault, vouched_in, vouched_or_fault, vouched_response}
+use Rattle.ssh_questions.specs.Audits.{after_vouching, audit_response, decided_by, decided_response, host_by, login_by, or_vouch_fault, vouched_in, vouched_or_fault, vouched_response}
 use Rattle.ssh_command.specs.Granting.{HostGranted, IsOfBytes, LoginGranted}
 
 -- ---- faults have the status 2

@@ -9,7 +9,7 @@ use Rattle.ssh_inputs.specs.declared.read.ReadError.TheVariants as fault
 use Rattle.ssh_print.specs.Responses.{Response as Shown}
 use Rattle.ssh_rewriting.specs.Answer.{hashed}
 use Rattle.ssh_command.specs.Hashings.{Hashes, HashesBy, IsHashFault, hash_response, hashed_over, salts_in, salts_or_fault}
-use Rattle.ssh_command.specs.Responding.{IsFaultOf}
+use Rattle.ssh_questions.specs.FileAnswers.{IsFaultOf}
 use Rattle.ssh_command.specs.Rewritings.{rewrite_over}
 use Rattle.ssh_inputs.proofs.SourceLemmas.{Alike, file-alike, left-alike, none-failed, one-failed, over_limit, whole-alike}
 

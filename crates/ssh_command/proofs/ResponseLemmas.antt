@@ -19,13 +19,13 @@ use Rattle.ssh_words.specs.declared.error.CommandError.TheVariants.{Usage, Value
 use Rattle.ssh_words.specs.declared.options.OptionName.TheVariants as option
 use Rattle.ssh_words.specs.declared.subcommand.Subcommand.{Subcommand}
 use Rattle.ssh_words.specs.declared.subcommand.Subcommand.TheVariants.{Show, Login, Host, Sshsig, Rewrite, Hash, Admits, Trusts, Review, Explain}
-use Rattle.ssh_command.specs.Audits.{Audits, host_by, login_by}
+use Rattle.ssh_questions.specs.Audits.{Audits, host_by, login_by}
 use Rattle.ssh_words.specs.CommandLine.{Request, request_of}
-use Rattle.ssh_command.specs.Admissions.{AsksKey}
+use Rattle.ssh_answers.specs.Admissions.{AsksKey}
 use Rattle.ssh_command.specs.Hashings.{Hashes}
-use Rattle.ssh_command.specs.Hosts.{host_spelled}
-use Rattle.ssh_command.specs.Keys.{admits_spelled, trusts_spelled}
-use Rattle.ssh_command.specs.Logins.{login_spelled}
+use Rattle.ssh_questions.specs.Hosts.{host_spelled}
+use Rattle.ssh_answers.specs.Keys.{admits_spelled, trusts_spelled}
+use Rattle.ssh_questions.specs.Logins.{login_spelled}
 use Rattle.ssh_command.specs.Requests.{Responds, RespondsBy, RespondsIn}
 use Rattle.ssh_command.specs.Responding.{IsUsageOf}
 use Rattle.ssh_command.specs.Rewritings.{RewritesFile, new_file, rewrite_kind}
@@ -33,8 +33,8 @@ use Rattle.ssh_command.specs.Shows.{ShowsFile}
 use Rattle.ssh_command.specs.Sshsigs.{Signs}
 use Rattle.ssh_words.specs.Spelling.{IsToldAs, RespondsTo, audit_files, needed, sshsig_question, value}
 use Rattle.ssh_words.specs.WordsView.{IfAnswered}
-use Rattle.ssh_command.proofs.AdmissionLemmas.{key-same}
-use Rattle.ssh_command.proofs.AuditLemmas.{audits-same}
+use Rattle.ssh_answers.proofs.AdmissionLemmas.{key-same}
+use Rattle.ssh_questions.proofs.AuditLemmas.{audits-same}
 use Rattle.ssh_review_files.proofs.SpelledLemmas.{reviews_same}
 use Rattle.ssh_words.proofs.AnsweredLemmas.{spelled_same}
 use Rattle.ssh_words.proofs.CommandLineLemmas.{no_request}

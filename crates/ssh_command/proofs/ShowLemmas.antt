@@ -1,5 +1,5 @@
 -- From what a file gives to what it is shown as.
-use Rattle.std.proofs.Common.{◌≡◌, ℕ, List, Option, Some, None, Result, Ok, Err, sym, ap, subst, inl, inr}
+use Rattle.std.proofs.Common.{◌≡◌, ◌∙◌, ℕ, List, Option, Some, None, Result, Ok, Err, sym, ap, subst, inl, inr}
 use Rattle.std.specs.Prelude.{IfOk}
 use Rattle.ssh_inputs.specs.SourceState.{IfTells, SourceState, bytes_at}
 use Rattle.ssh_inputs.specs.Parts.{after_whole}
@@ -9,8 +9,9 @@ use Rattle.ssh_inputs.specs.declared.read.ReadError.TheVariants as fault
 use Rattle.ssh_print.specs.Responses.{Response as Shown}
 use Rattle.ssh_show.specs.declared.kind.ShowKind.{ShowKind}
 use Rattle.ssh_show.specs.Showing.{Shows}
-use Rattle.ssh_command.specs.Responding.{IsFaultOf}
-use Rattle.ssh_command.specs.Shows.{ShowsBytes, ShowsFile}
+use Rattle.ssh_questions.specs.FileAnswers.{IsFaultOf}
+use Rattle.ssh_command.specs.Shows.{ShowsBytes, ShowsFile, shown_part}
+use Rattle.ssh_command.proofs.PartLemmas.{part_shows}
 use Rattle.ssh_inputs.proofs.SourceLemmas.{Alike, file-alike, left-none, none-failed, one-failed, over_limit}
 
 pub shows-same : (kind : ShowKind) (name : List ℕ) (a b : SourceState) (u : Option SourceState) (r : Shown) → Alike a b → ShowsFile kind name a u r → ShowsFile kind name b u r
@@ -38,15 +39,14 @@ file_unshown view kind name None t e res fails is = tt
 file_unshown view kind name (Some s) t e (Err x) fails is = λ counts. tt
 file_unshown view kind name (Some s) t e (Ok r) fails is = λ counts. fault-by kind name s t e (view r) (fails counts) is
 
--- a file that was read
-pub file_shown : {R E : Type 0} (view : R → Shown) (kind : ShowKind) (name file read : List ℕ) (o t : Option SourceState) (res : Result R E) → read ≡ file
-    → IfTells o (λ s. (within_limit (bytes_at s name) ≡ Some file) × IsLeft s (after_whole s name) t) → IfOk res (λ r. Shows kind read (view r))
+-- a file of which the part that is shown was read
+pub file_shown : {R E : Type 0} (view : R → Shown) (kind : ShowKind) (name part read : List ℕ) (o t : Option SourceState) (res : Result R E) → read ≡ part
+    → IfTells o (λ s. ((file : List ℕ) × (within_limit (bytes_at s name) ≡ Some file) × (part ≡ shown_part kind file)) × IsLeft s (after_whole s name) t)
+    → IfOk res (λ r. Shows kind read (view r))
     → IfTells o (λ s. IfOk res (λ r. ShowsFile kind name s t (view r)))
-file_shown view kind name file read None t res is loads h = tt
-file_shown view kind name file read (Some s) t (Err x) is loads h = λ counts. tt
-file_shown view kind name file read (Some s) t (Ok r) is loads h = λ counts.
-    let load = loads counts in
-    inl (
-      left-none s (after_whole s name) t load.1,
-      subst (λ (x : Option (List ℕ)). ShowsBytes kind name x (view r)) (sym load.0) (subst (λ (b : List ℕ). Shows kind b (view r)) is h),
-    )
+file_shown view kind name part read None t res is loads h = tt
+file_shown view kind name part read (Some s) t (Err x) is loads h = λ counts. tt
+file_shown view kind name part read (Some s) t (Ok r) is loads h = λ counts.
+    let ((file, within, kept), left) = loads counts in
+    let shows : Shows kind file (view r) = part_shows kind file (view r) (subst (λ (b : List ℕ). Shows kind b (view r)) (is ∙ kept) h) in
+    inl (left-none s (after_whole s name) t left, subst (λ (x : Option (List ℕ)). ShowsBytes kind name x (view r)) (sym within) shows)

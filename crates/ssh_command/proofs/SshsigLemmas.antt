@@ -1,27 +1,40 @@
 -- From what the files give to what is answered to a file signature.
-use Rattle.std.proofs.Common.{◌≡◌, ◌∙◌, ℕ, List, [], Option, Some, None, Result, Ok, Err, refl, sym, ap, subst, inl, inr, arith}
-use Rattle.std.specs.Prelude.{IfOk}
+use Rattle.std.proofs.Common.{◌≡◌, ◌∙◌, ◌+◌, ℕ, take, List, [], Option, Some, None, Result, Ok, Err, refl, sym, ap, subst, inl, inr, arith}
+use Rattle.std.specs.Prelude.{IfOk, ⊤}
 use Rattle.ssh_inputs.specs.SourceState.{IfTells, SourceState, bytes_at}
 use Rattle.ssh_inputs.specs.Parts.{after_part, after_whole, part_at}
 use Rattle.ssh_inputs.specs.VouchFile.{vouched_of}
 use Rattle.ssh_inputs.specs.Loading.{FailsLoad, IsLeft, within_limit}
 use Rattle.ssh_inputs.specs.declared.read.ReadError.{ReadError}
 use Rattle.ssh_inputs.specs.declared.read.ReadError.TheVariants as fault
+use Rattle.ssh_keys.specs.PublicKey.{longest}
+use Rattle.ssh_bodies.specs.Sshsig.{Sshsig}
+use Rattle.ssh_offers.specs.declared.error.AuditError.{AuditError}
+use Rattle.ssh_offers.specs.FileSignature.{sshsig_claim}
+use Rattle.ssh_trust.specs.SshsigAnswer.{sshsig_answer}
 use Rattle.ssh_offers.specs.declared.query.Signed.{Signed}
 use Rattle.ssh_print.specs.Responses.{Response as Shown, no_file_response}
 use Rattle.ssh_print.specs.SshsigText.{sshsig_response}
-use Rattle.ssh_command.specs.Audits.{after_vouching, or_vouch_fault, vouched_in, vouched_or_fault}
+use Rattle.ssh_questions.specs.Audits.{after_vouching, or_vouch_fault, vouched_in, vouched_or_fault}
 use Rattle.ssh_words.specs.Asked.{SshsigQuestion}
-use Rattle.ssh_command.specs.Responding.{IsFaultOf, SignsBody, SignsMessage, SignsVouched}
-use Rattle.ssh_command.specs.Sshsigs.{IsContentFault, IsSignatureFault, Signs, body_over, body_response, bytes_answer, message_over, message_response, signature_response, vouched_over}
-use Rattle.ssh_command.proofs.AuditLemmas.{left_by, told_by, vouch_fault-same, vouch_read_failed}
+use Rattle.ssh_questions.specs.FileAnswers.{IsFaultOf}
+use Rattle.ssh_command.specs.Digests.{IsDigest, answer_by_digest, digest_bytes}
+use Rattle.ssh_command.specs.declared.digest.MessageDigest.{MessageDigest}
+use Rattle.ssh_command.specs.Responding.{SignsBody, SignsClaim, SignsMessage, SignsVouched}
+use Rattle.ssh_command.proofs.DigestLemmas.{digest_answers}
+use Rattle.ssh_command.proofs.PartLemmas.{claim_front}
+use Rattle.ssh_command.specs.Sshsigs.{IsContentFault, IsSignatureFault, Signs, body_over, body_response, claim_answer, claim_over, claim_response, message_response, signature_response, vouched_over}
+use Rattle.ssh_questions.proofs.AuditLemmas.{left_by, told_by, vouch_fault-same, vouch_read_failed}
 use Rattle.ssh_inputs.proofs.SourceLemmas.{Alike, alike-same, file-alike, left-alike, left-none, none-failed, one-failed, over_limit, whole-alike}
-use Rattle.ssh_command.proofs.SourceLemmas.{vouched-same, vouching-alike}
+use Rattle.ssh_questions.proofs.SourceLemmas.{vouched-same, vouching-alike}
 
 -- ---- sources that are alike have the same answers
 
+claim-same : (w : SshsigQuestion) (vouched : List Signed) (claim : Result Sshsig AuditError) (a b : SourceState) → Alike a b → claim_response w vouched claim a ≡ claim_response w vouched claim b
+claim-same w vouched claim a b h = ap (λ o. claim_over w vouched claim (within_limit o)) (file-alike a b w.message h)
+
 message-same : (w : SshsigQuestion) (vouched : List Signed) (body : List ℕ) (a b : SourceState) → Alike a b → message_response w vouched body a ≡ message_response w vouched body b
-message-same w vouched body a b h = ap (λ o. message_over w vouched body (within_limit o)) (file-alike a b w.message h)
+message-same w vouched body a b h = claim-same w vouched (sshsig_claim body) a b h
 
 body-by : (w : SshsigQuestion) (vouched : List Signed) (a b : SourceState) (o : Option (List ℕ)) → Alike a b → body_over w vouched a o ≡ body_over w vouched b o
 body-by w vouched a b None h = refl
@@ -62,19 +75,19 @@ signs-same w a b u r e (inr h) = inr (signature_fault-same w a b u r e h)
 
 -- ---- files that give no bytes
 
-message-fault : (w : SshsigQuestion) (vouched : List Signed) (body : List ℕ) (s : SourceState) (u : Option SourceState) (e : ReadError) (r : Shown)
-    → FailsLoad w.message (bytes_at s w.message) s u e → IsFaultOf w.message e r → SignsMessage w vouched body s u r
-message-fault w vouched body s u fault.Missing r fails is = inl (fails.1, is ∙ sym (ap (λ o. message_over w vouched body (within_limit o)) fails.0))
-message-fault w vouched body s u fault.TooLong r fails is = inl (fails.1, is ∙ sym (ap (message_over w vouched body) (over_limit (bytes_at s w.message) fails.0)))
-message-fault w vouched body s u fault.Failed r fails is = inr (fails, is)
-message-fault w vouched body s u fault.Memory r fails is = absurd is
+message-fault : (w : SshsigQuestion) (vouched : List Signed) (claim : Result Sshsig AuditError) (s : SourceState) (u : Option SourceState) (e : ReadError) (r : Shown)
+    → FailsLoad w.message (bytes_at s w.message) s u e → IsFaultOf w.message e r → SignsClaim w vouched claim s u r
+message-fault w vouched claim s u fault.Missing r fails is = inl (fails.1, is ∙ sym (ap (λ o. claim_over w vouched claim (within_limit o)) fails.0))
+message-fault w vouched claim s u fault.TooLong r fails is = inl (fails.1, is ∙ sym (ap (claim_over w vouched claim) (over_limit (bytes_at s w.message) fails.0)))
+message-fault w vouched claim s u fault.Failed r fails is = inr (fails, is)
+message-fault w vouched claim s u fault.Memory r fails is = absurd is
 
-pub message_unread : {R E : Type 0} (view : R → Shown) (w : SshsigQuestion) (vouched : List Signed) (body : List ℕ) (o u : Option SourceState) (e : ReadError) (res : Result R E)
+pub message_unread : {R E : Type 0} (view : R → Shown) (w : SshsigQuestion) (vouched : List Signed) (claim : Result Sshsig AuditError) (o u : Option SourceState) (e : ReadError) (res : Result R E)
     → IfTells o (λ s. FailsLoad w.message (bytes_at s w.message) s u e) → IfOk res (λ r. IsFaultOf w.message e (view r))
-    → IfTells o (λ s. IfOk res (λ r. SignsMessage w vouched body s u (view r)))
-message_unread view w vouched body None u e res fails is = tt
-message_unread view w vouched body (Some s) u e (Err x) fails is = λ counts. tt
-message_unread view w vouched body (Some s) u e (Ok r) fails is = λ counts. message-fault w vouched body s u e (view r) (fails counts) is
+    → IfTells o (λ s. IfOk res (λ r. SignsClaim w vouched claim s u (view r)))
+message_unread view w vouched claim None u e res fails is = tt
+message_unread view w vouched claim (Some s) u e (Err x) fails is = λ counts. tt
+message_unread view w vouched claim (Some s) u e (Ok r) fails is = λ counts. message-fault w vouched claim s u e (view r) (fails counts) is
 
 body-fault : (w : SshsigQuestion) (vouched : List Signed) (s : SourceState) (u : Option SourceState) (e : ReadError) (r : Shown)
     → FailsLoad w.body (bytes_at s w.body) s u e → IsFaultOf w.body e r → SignsBody w vouched s u r
@@ -111,43 +124,59 @@ vouch_file_unread view w name (Some s) u e (Ok r) v fails is = λ counts. vouch-
 
 -- ---- files that were read
 
--- a message that was read
-pub message_responds : {R E : Type 0} (view : R → Shown) (w : SshsigQuestion) (vouched : List Signed) (body message read : List ℕ) (o t : Option SourceState) (res : Result R E)
-    → read ≡ message
-    → IfTells o (λ s. (within_limit (bytes_at s w.message) ≡ Some message) × IsLeft s (after_whole s w.message) t)
-    → IfOk res (λ r. view r ≡ sshsig_response (bytes_answer w vouched body read))
-    → IfTells o (λ s. IfOk res (λ r. SignsMessage w vouched body s t (view r)))
-message_responds view w vouched body message read None t res is loads h = tt
-message_responds view w vouched body message read (Some s) t (Err e) is loads h = λ counts. tt
-message_responds view w vouched body message read (Some s) t (Ok r) is loads h = λ counts.
-    let load = loads counts in
-    inl (
-      left-none s (after_whole s w.message) t load.1,
-      h ∙ (ap (λ m. sshsig_response (bytes_answer w vouched body m)) is ∙ ap (message_over w vouched body) (sym load.0)),
-    )
+-- the answer to a claim by its message
+signed : (w : SshsigQuestion) (vouched : List Signed) (claim : Result Sshsig AuditError) (message : List ℕ) (s : SourceState) (t : Option SourceState) (r : Shown)
+    → within_limit (bytes_at s w.message) ≡ Some message → IsLeft s (after_whole s w.message) t
+    → r ≡ sshsig_response (claim_answer (λ v. sshsig_answer v message w.namespace vouched) claim) → SignsClaim w vouched claim s t r
+signed w vouched claim message s t r is left h = inl (left-none s (after_whole s w.message) t left, h ∙ ap (claim_over w vouched claim) (sym is))
 
-after-body : (w : SshsigQuestion) (vouched : List Signed) (body read : List ℕ) (s t : SourceState) (u : Option SourceState) (r : Shown) → read ≡ body → within_limit (bytes_at s w.body) ≡ Some body
-    → t.failures ≡ s.failures → Alike t (after_whole s w.body) → SignsMessage w vouched read t u r → SignsBody w vouched s u r
+-- a message that was hashed
+pub message_responds : {R E : Type 0} (view : R → Shown) (w : SshsigQuestion) (vouched : List Signed) (v : Sshsig) (digest : MessageDigest) (o t : Option SourceState) (res : Result R E)
+    → IfTells o (λ s. ((message : List ℕ) × (within_limit (bytes_at s w.message) ≡ Some message) × IsDigest v.hash message digest) × IsLeft s (after_whole s w.message) t)
+    → IfOk res (λ r. view r ≡ sshsig_response (Ok (answer_by_digest v (digest_bytes digest) w.namespace vouched)))
+    → IfTells o (λ s. IfOk res (λ r. SignsClaim w vouched (Ok v) s t (view r)))
+message_responds view w vouched v digest None t res loads h = tt
+message_responds view w vouched v digest (Some s) t (Err e) loads h = λ counts. tt
+message_responds view w vouched v digest (Some s) t (Ok r) loads h = λ counts.
+    let ((message, within, is), left) = loads counts in
+    let answer : answer_by_digest v (digest_bytes digest) w.namespace vouched ≡ sshsig_answer v message w.namespace vouched =
+    ap (λ d. answer_by_digest v d w.namespace vouched) is ∙ sym (digest_answers v message w.namespace vouched) in
+    signed w vouched (Ok v) message s t (view r) within left (h ∙ ap (λ a. sshsig_response (Ok a)) answer)
+
+-- a message that was passed
+pub message_passed : {R E : Type 0} (view : R → Shown) (w : SshsigQuestion) (vouched : List Signed) (e : AuditError) (o t : Option SourceState) (res : Result R E)
+    → IfTells o (λ s. ((message : List ℕ) × (within_limit (bytes_at s w.message) ≡ Some message) × ⊤) × IsLeft s (after_whole s w.message) t)
+    → IfOk res (λ r. view r ≡ sshsig_response (Err e))
+    → IfTells o (λ s. IfOk res (λ r. SignsClaim w vouched (Err e) s t (view r)))
+message_passed view w vouched e None t res loads h = tt
+message_passed view w vouched e (Some s) t (Err x) loads h = λ counts. tt
+message_passed view w vouched e (Some s) t (Ok r) loads h = λ counts.
+    let ((message, within, _), left) = loads counts in
+    signed w vouched (Err e) message s t (view r) within left h
+
+after-body : (w : SshsigQuestion) (vouched : List Signed) (body read : List ℕ) (s t : SourceState) (u : Option SourceState) (r : Shown) → sshsig_claim read ≡ sshsig_claim body
+    → within_limit (bytes_at s w.body) ≡ Some body → t.failures ≡ s.failures → Alike t (after_whole s w.body) → SignsMessage w vouched read t u r → SignsBody w vouched s u r
 after-body w vouched body read s t u r is told same left (inl h) =
     let whole : body_response w vouched s ≡ message_response w vouched read (after_whole s w.body) =
-    ap (body_over w vouched s) told ∙ ap (λ b. message_response w vouched b (after_whole s w.body)) (sym is) in
+    ap (body_over w vouched s) told ∙ ap (λ c. claim_response w vouched c (after_whole s w.body)) (sym is) in
     inl (none-failed s t u same h.0, h.1 ∙ (message-same w vouched read t (after_whole s w.body) left ∙ sym whole))
 after-body w vouched body read s t u r is told same left (inr h) =
     inr (inr (body, told, (one-failed t (after_whole s w.body) u w.message left h.0, h.1)))
 
--- a body that was read
-pub body_responds : {R E : Type 0} (view : R → Shown) (w : SshsigQuestion) (vouched : List Signed) (body read : List ℕ) (o t u : Option SourceState) (res : Result R E)
-    → read ≡ body
-    → IfTells o (λ s. (within_limit (bytes_at s w.body) ≡ Some body) × IsLeft s (after_whole s w.body) t)
+-- a body of which the front was read
+pub body_responds : {R E : Type 0} (view : R → Shown) (w : SshsigQuestion) (vouched : List Signed) (front read : List ℕ) (o t u : Option SourceState) (res : Result R E)
+    → read ≡ front
+    → IfTells o (λ s. ((body : List ℕ) × (within_limit (bytes_at s w.body) ≡ Some body) × (front ≡ take (longest + 1) body)) × IsLeft s (after_whole s w.body) t)
     → IfTells t (λ s. IfOk res (λ r. SignsMessage w vouched read s u (view r)))
     → IfTells o (λ s. IfOk res (λ r. SignsBody w vouched s u (view r)))
-body_responds view w vouched body read None t u res is loads h = tt
-body_responds view w vouched body read (Some s) None u res is loads h = λ counts. absurd ((loads counts).1)
-body_responds view w vouched body read (Some s) (Some t) u (Err e) is loads h = λ counts. tt
-body_responds view w vouched body read (Some s) (Some t) u (Ok r) is loads h = λ counts.
-    let load = loads counts in
-    let same : t.failures ≡ s.failures = load.1.2 in
-    after-body w vouched body read s t u (view r) is load.0 same (left-alike s (after_whole s w.body) t refl load.1) (h (omega (arith, counts, same)))
+body_responds view w vouched front read None t u res is loads h = tt
+body_responds view w vouched front read (Some s) None u res is loads h = λ counts. absurd ((loads counts).1)
+body_responds view w vouched front read (Some s) (Some t) u (Err e) is loads h = λ counts. tt
+body_responds view w vouched front read (Some s) (Some t) u (Ok r) is loads h = λ counts.
+    let ((body, told, kept), left) = loads counts in
+    let same : t.failures ≡ s.failures = left.2 in
+    let claim : sshsig_claim read ≡ sshsig_claim body = ap sshsig_claim (is ∙ kept) ∙ claim_front body in
+    after-body w vouched body read s t u (view r) claim told same (left-alike s (after_whole s w.body) t refl left) (h (omega (arith, counts, same)))
 
 -- the answer by the body and the message, after the vouch file was read
 after-vouch : (w : SshsigQuestion) (told : Result (List Signed) Shown) (s t : SourceState) (u : Option SourceState) (r : Shown) → vouched_in w.vouch s ≡ told

@@ -9,7 +9,7 @@ use Rattle.ssh_offers.specs.declared.query.Signed.{Signed}
 use Rattle.ssh_print.specs.Responses.{Response}
 use Rattle.ssh_trust.specs.declared.decision.Decision.{Decision}
 use Rattle.ssh_words.specs.Asked.{SshsigQuestion}
-use Rattle.ssh_command.specs.Audits.{after_vouching, audit_response, vouched_in}
+use Rattle.ssh_questions.specs.Audits.{after_vouching, audit_response, vouched_in}
 use Rattle.ssh_command.specs.Hashings.{hash_response}
 use Rattle.ssh_command.specs.Rewritings.{new_file, rewrite_kind, rewrite_over}
 use Rattle.ssh_command.specs.declared.rewriting.NewFile.TheVariants.{CanonicalAuth, CanonicalKnown}

@@ -9,8 +9,8 @@ use Rattle.ssh_inputs.specs.Values.{ReadsZone, zone_text}
 use Rattle.ssh_words.specs.declared.options.OptionName.TheVariants as option
 use Rattle.ssh_words.specs.Asked.{AuditFiles}
 use Rattle.ssh_command.specs.Granting.{HostGranted, LoginGranted}
-use Rattle.ssh_command.specs.Hosts.{host_spelled}
-use Rattle.ssh_command.specs.Logins.{login_spelled}
+use Rattle.ssh_questions.specs.Hosts.{host_spelled}
+use Rattle.ssh_questions.specs.Logins.{login_spelled}
 use Rattle.ssh_words.specs.Spelling.{given}
 
 -- the options spell this login, in the zone of its text, and the files grant it

@@ -16,7 +16,7 @@ use Rattle.ssh_trust.specs.HostDecision.{IsHostGrant}
 use Rattle.ssh_print.specs.Responses.{Response, decision_response}
 use Rattle.ssh_inputs.specs.SourceState.{SourceState, bytes_at}
 use Rattle.ssh_words.specs.Asked.{AuditFiles}
-use Rattle.ssh_command.specs.Audits.{after_vouching, vouched_in}
+use Rattle.ssh_questions.specs.Audits.{after_vouching, vouched_in}
 
 -- the trust file, where it is there, is of bytes
 abbrev pub IsOfBytes : AuditFiles → SourceState → Type 0

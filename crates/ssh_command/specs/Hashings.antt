@@ -9,7 +9,7 @@ use Rattle.ssh_inputs.specs.Salts.{salts_of}
 use Rattle.ssh_print.specs.Responses.{Response, no_file_response}
 use Rattle.clap.specs.Words.{Row}
 use Rattle.ssh_words.specs.declared.options.OptionName.TheVariants as option
-use Rattle.ssh_command.specs.Audits.{IsFileFault}
+use Rattle.ssh_questions.specs.Audits.{IsFileFault}
 use Rattle.ssh_command.specs.Rewritings.{IsRewriteFault, RewritesFile, rewrite_over}
 use Rattle.ssh_words.specs.Spelling.{RespondsTo, needed}
 

@@ -12,11 +12,11 @@ use Rattle.ssh_words.specs.declared.subcommand.Subcommand.{Subcommand}
 use Rattle.ssh_words.specs.declared.subcommand.Subcommand.TheVariants.{Show, Login, Host, Sshsig, Rewrite, Hash, Admits, Trusts, Review, Explain}
 use Rattle.ssh_words.specs.CommandLine.{Request, request_of}
 use Rattle.ssh_review_files.specs.Spelled.{RespondsToReview}
-use Rattle.ssh_command.specs.Explanations.{RespondsToExplain}
+use Rattle.ssh_answers.specs.Explanations.{RespondsToExplain}
 use Rattle.ssh_command.specs.Hashings.{RespondsToHash}
-use Rattle.ssh_command.specs.Hosts.{RespondsToHost}
-use Rattle.ssh_command.specs.Keys.{RespondsToAdmits, RespondsToTrusts}
-use Rattle.ssh_command.specs.Logins.{RespondsToLogin}
+use Rattle.ssh_questions.specs.Hosts.{RespondsToHost}
+use Rattle.ssh_answers.specs.Keys.{RespondsToAdmits, RespondsToTrusts}
+use Rattle.ssh_questions.specs.Logins.{RespondsToLogin}
 use Rattle.ssh_command.specs.Rewritings.{RespondsToRewrite}
 use Rattle.ssh_command.specs.Shows.{RespondsToShow}
 use Rattle.ssh_command.specs.Sshsigs.{RespondsToSshsig}

@@ -1,40 +1,25 @@
 -- What the files answer, part by part.
-use Rattle.std.specs.Prelude.{◌≡◌, ◌⊎◌, ℕ, Bool, true, false, List, Option, None, Result, Ok, Err}
-use Rattle.ssh_inputs.specs.SourceState.{SourceState, bytes_at}
-use Rattle.ssh_trust.specs.declared.decision.Decision.{Decision}
-use Rattle.ssh_offers.specs.declared.error.AuditError.{AuditError}
-use Rattle.ssh_offers.specs.declared.error.AuditError.TheVariants.{Read, Memory}
-use Rattle.ssh_offers.specs.declared.query.Signed.{Signed}
-use Rattle.ssh_command.specs.Audits.{Deciding, IsFileFault, IsTrustReadFault, answer_over, decided_response, refusal_of}
-use Rattle.ssh_words.specs.Asked.{SshsigQuestion}
-use Rattle.ssh_command.specs.Sshsigs.{IsContentFault, body_response, message_response}
-use Rattle.ssh_inputs.specs.Loading.{NoReadFailed, OneReadFailed}
-use Rattle.ssh_print.specs.Responses.{Response, no_file_response, usage_response}
+use Rattle.std.specs.Prelude.{◌≡◌, ◌⊎◌, ℕ, List, Option, Result, Ok, Err}
+use Rattle.ssh_inputs.specs.SourceState.{SourceState}
+use Rattle.ssh_inputs.specs.Loading.{NoReadFailed}
 use Rattle.ssh_inputs.specs.declared.read.ReadError.{ReadError}
 use Rattle.ssh_inputs.specs.declared.read.ReadError.TheVariants as fault
+use Rattle.ssh_bodies.specs.Sshsig.{Sshsig}
+use Rattle.ssh_offers.specs.FileSignature.{sshsig_claim}
+use Rattle.ssh_offers.specs.declared.error.AuditError.{AuditError}
+use Rattle.ssh_offers.specs.declared.query.Signed.{Signed}
+use Rattle.ssh_words.specs.Asked.{SshsigQuestion}
+use Rattle.ssh_print.specs.Responses.{Response, usage_response}
+use Rattle.ssh_questions.specs.Audits.{IsFileFault}
+use Rattle.ssh_command.specs.Sshsigs.{IsContentFault, body_response, claim_response}
 
--- the response to a file that gives no bytes, and is no trust file
-abbrev pub IsFaultOf : List ℕ → ReadError → Response → Type 0
-IsFaultOf name fault.Memory r = ⊥
-IsFaultOf name e r = r ≡ no_file_response name
+-- the response to a file signature after the claim of its body was read, or refused
+abbrev pub SignsClaim : SshsigQuestion → List Signed → Result Sshsig AuditError → SourceState → Option SourceState → Response → Type 0
+SignsClaim w vouched claim s t r = (NoReadFailed s t × (r ≡ claim_response w vouched claim s)) ⊎ IsFileFault w.message s t r
 
--- what a question is answered by the trust file of this name with these bytes: memory was refused, or a read of it failed, or it is the answer
-abbrev pub AnswersFile : Deciding → List Signed → List ℕ → Option (List ℕ) → SourceState → Option SourceState → Result Decision AuditError → Type 0
-AnswersFile by vouched name bytes s t result = (result ≡ Err Memory)
-    ⊎ (((refusal_of by ≡ None) × OneReadFailed s t name × (result ≡ Err Read)) ⊎ (NoReadFailed s t × (result ≡ answer_over by vouched bytes)))
-
--- the response by the trust file of this name, where these signatures are vouched for; or a read of it failed
-abbrev pub AuditsFile : Deciding → List ℕ → List Signed → SourceState → Option SourceState → Response → Type 0
-AuditsFile by name vouched s t r = (NoReadFailed s t × (r ≡ decided_response by vouched (bytes_at s name))) ⊎ IsTrustReadFault by name s t r
-
--- the same after the vouch file was read, which may have a fault
-abbrev pub AuditsVouched : Deciding → List ℕ → Result (List Signed) Response → SourceState → Option SourceState → Response → Type 0
-AuditsVouched by name (Err v) s t r = NoReadFailed s t × (r ≡ v)
-AuditsVouched by name (Ok vouched) s t r = AuditsFile by name vouched s t r
-
--- the response to a file signature after its body was read
+-- the same after the body was read
 abbrev pub SignsMessage : SshsigQuestion → List Signed → List ℕ → SourceState → Option SourceState → Response → Type 0
-SignsMessage w vouched body s t r = (NoReadFailed s t × (r ≡ message_response w vouched body s)) ⊎ IsFileFault w.message s t r
+SignsMessage w vouched body s t r = SignsClaim w vouched (sshsig_claim body) s t r
 
 -- the same before that, where these signatures are vouched for
 abbrev pub SignsBody : SshsigQuestion → List Signed → SourceState → Option SourceState → Response → Type 0
@@ -44,11 +29,6 @@ SignsBody w vouched s t r = (NoReadFailed s t × (r ≡ body_response w vouched 
 abbrev pub SignsVouched : SshsigQuestion → Result (List Signed) Response → SourceState → Option SourceState → Response → Type 0
 SignsVouched w (Err v) s t r = NoReadFailed s t × (r ≡ v)
 SignsVouched w (Ok vouched) s t r = SignsBody w vouched s t r
-
--- memory was refused
-abbrev pub is_memory : {A : Type 0} → Result A AuditError → Bool
-is_memory (Err Memory) = true
-is_memory _ = false
 
 -- the response to a first line that gives no words
 abbrev pub IsUsageOf : ReadError → Response → Type 0

@@ -13,8 +13,8 @@ use Rattle.ssh_show.specs.declared.kind.ShowKind.TheVariants as shown
 use Rattle.ssh_words.specs.declared.options.OptionName.{OptionName}
 use Rattle.ssh_words.specs.declared.options.OptionName.TheVariants as option
 use Rattle.ssh_words.specs.Options.{option_name}
-use Rattle.ssh_command.specs.Hosts.{host_spelled}
-use Rattle.ssh_command.specs.Logins.{login_spelled}
+use Rattle.ssh_questions.specs.Hosts.{host_spelled}
+use Rattle.ssh_questions.specs.Logins.{login_spelled}
 
 -- the kinds that `show` knows
 abbrev pub ShowKinds : Type 0

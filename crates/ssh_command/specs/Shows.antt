@@ -1,14 +1,24 @@
 -- What is answered to `show`, over the files of a source.
-use Rattle.std.specs.Prelude.{◌≡◌, ◌⊎◌, ℕ, List, Option, Some, None}
+use Rattle.std.specs.Prelude.{◌≡◌, ◌⊎◌, ◌+◌, ℕ, List, Option, Some, None, take}
 use Rattle.clap.specs.Words.{Row}
 use Rattle.ssh_inputs.specs.SourceState.{SourceState, bytes_at}
+use Rattle.ssh_inputs.specs.Parts.{top_line}
 use Rattle.ssh_inputs.specs.Loading.{NoReadFailed, within_limit}
+use Rattle.ssh_keys.specs.PublicKey.{longest}
 use Rattle.ssh_print.specs.Responses.{Response, no_file_response}
 use Rattle.ssh_show.specs.declared.kind.ShowKind.{ShowKind}
+use Rattle.ssh_show.specs.declared.kind.ShowKind.TheVariants as shown
 use Rattle.ssh_show.specs.Showing.{Shows, show_kind}
 use Rattle.ssh_words.specs.declared.options.OptionName.TheVariants as option
-use Rattle.ssh_command.specs.Audits.{IsFileFault}
+use Rattle.ssh_questions.specs.Audits.{IsFileFault}
 use Rattle.ssh_words.specs.Spelling.{RespondsTo, needed, value}
+
+-- the part of a file that is shown as this kind: its first line; or a body, of which one byte too many shows that it is too long
+abbrev pub shown_part : ShowKind → List ℕ → List ℕ
+shown_part shown.Key file = top_line file
+shown_part shown.Cert file = top_line file
+shown_part shown.Private file = take (longest + 1) file
+shown_part shown.Sshsig file = take (longest + 1) file
 
 -- what the bytes of the file of this name are shown as
 abbrev pub ShowsBytes : ShowKind → List ℕ → Option (List ℕ) → Response → Type 0

@@ -2,10 +2,11 @@
 use Rattle.std.specs.Prelude.{◌≡◌, ◌⊎◌, ℕ, List, Option, Some, None, Result, Ok, Err}
 use Rattle.ssh_offers.specs.declared.error.AuditError.{AuditError}
 use Rattle.ssh_offers.specs.declared.query.Signed.{Signed}
+use Rattle.ssh_bodies.specs.Sshsig.{Sshsig}
 use Rattle.ssh_offers.specs.FileSignature.{sshsig_claim}
 use Rattle.ssh_trust.specs.declared.sshsig_answer.SshsigAnswer.{SshsigAnswer}
 use Rattle.ssh_trust.specs.SshsigAnswer.{sshsig_answer}
-use Rattle.ssh_command.specs.Audits.{IsFileFault, IsVouchReadFault, after_vouching, vouched_in}
+use Rattle.ssh_questions.specs.Audits.{IsFileFault, IsVouchReadFault, after_vouching, vouched_in}
 use Rattle.clap.specs.Words.{Row}
 use Rattle.ssh_words.specs.Asked.{SshsigQuestion}
 use Rattle.ssh_words.specs.Spelling.{RespondsTo, sshsig_question}
@@ -15,26 +16,26 @@ use Rattle.ssh_inputs.specs.Loading.{NoReadFailed, within_limit}
 use Rattle.ssh_print.specs.Responses.{Response, no_file_response}
 use Rattle.ssh_print.specs.SshsigText.{sshsig_response}
 
--- ---- bytes
+-- ---- claims
 
 -- the answer by a claim, which may be refused
 abbrev pub claim_answer : {C : Type 0} → (C → SshsigAnswer) → Result C AuditError → Result SshsigAnswer AuditError
 claim_answer answer (Err e) = Err e
 claim_answer answer (Ok v) = Ok (answer v)
 
--- what is answered to a body and a message
-abbrev pub bytes_answer : SshsigQuestion → List Signed → List ℕ → List ℕ → Result SshsigAnswer AuditError
-bytes_answer w vouched body message = claim_answer (λ v. sshsig_answer v message w.namespace vouched) (sshsig_claim body)
-
 -- ---- files: the vouch file first, then the body's, then the message's
 
-abbrev pub message_over : SshsigQuestion → List Signed → List ℕ → Option (List ℕ) → Response
-message_over w vouched body None = no_file_response w.message
-message_over w vouched body (Some message) = sshsig_response (bytes_answer w vouched body message)
+-- the answer after the body's claim was read, or refused
+abbrev pub claim_over : SshsigQuestion → List Signed → Result Sshsig AuditError → Option (List ℕ) → Response
+claim_over w vouched claim None = no_file_response w.message
+claim_over w vouched claim (Some message) = sshsig_response (claim_answer (λ v. sshsig_answer v message w.namespace vouched) claim)
+
+abbrev pub claim_response : SshsigQuestion → List Signed → Result Sshsig AuditError → SourceState → Response
+claim_response w vouched claim s = claim_over w vouched claim (within_limit (bytes_at s w.message))
 
 -- the answer after the body was read
 abbrev pub message_response : SshsigQuestion → List Signed → List ℕ → SourceState → Response
-message_response w vouched body s = message_over w vouched body (within_limit (bytes_at s w.message))
+message_response w vouched body s = claim_response w vouched (sshsig_claim body) s
 
 abbrev pub body_over : SshsigQuestion → List Signed → SourceState → Option (List ℕ) → Response
 body_over w vouched s None = no_file_response w.body

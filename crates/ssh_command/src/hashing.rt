@@ -6,10 +6,10 @@ ghost use Rattle.ssh_words.specs.WordsView.{IfAnswered, rows_in};
 ghost use Rattle.ssh_print.specs.ResponseView.{response};
 ghost use Rattle.ssh_inputs.specs.SourceState.{IfTells};
 
-use crate::audit::unread;
 use crate::rewriting::{NewFile, rewrite_file};
 use ssh_inputs::{Files, read_salts, read_whole};
 use ssh_print::{Response, file_fault};
+use ssh_questions::unread;
 use ssh_words::{CommandError, OptionName, Words};
 use std::alloc::{AllocError, Global};
 

@@ -4,6 +4,9 @@ ghost use Rattle.std.specs.Prelude.{◌≡◌, ◌++◌, ℕ, List, Option, Some
 ghost use Rattle.std.specs.Fmt.{decimal};
 ghost use Rattle.std.specs.List.{AllByRecursion};
 ghost use Rattle.clap.specs.Words.{Row};
+ghost use Rattle.ssh_bodies.specs.Sshsig.{Sshsig, digest_of};
+ghost use Rattle.ssh_command.specs.Digests.{answer_by_digest};
+ghost use Rattle.ssh_trust.specs.SshsigAnswer.{sshsig_answer};
 ghost use Rattle.ssh_offers.specs.declared.query.Signed.{Signed as SignedValue};
 ghost use Rattle.ssh_offers.specs.Query.{HostCheck, Login as LoginAsked};
 ghost use Rattle.ssh_print.specs.DecisionText.{evidence_line};
@@ -12,7 +15,7 @@ ghost use Rattle.ssh_inputs.specs.SourceState.{SourceState};
 ghost use Rattle.ssh_inputs.specs.VouchFile.{vouched_of};
 ghost use Rattle.ssh_words.specs.declared.subcommand.Subcommand.TheVariants.{Host, Login};
 ghost use Rattle.ssh_words.specs.Asked.{AuditFiles};
-ghost use Rattle.ssh_command.specs.Audits.{audit_response, host_by, login_by};
+ghost use Rattle.ssh_questions.specs.Audits.{audit_response, host_by, login_by};
 ghost use Rattle.ssh_words.specs.CommandLine.{request_of};
 ghost use Rattle.ssh_command.specs.GrantedRuns.{GrantsHost, GrantsLogin};
 ghost use Rattle.ssh_command.specs.Granting.{HostGranted, IsOfBytes, LoginGranted};
@@ -28,6 +31,14 @@ fn evidence_rule()
         ++ codes "\n" }
     ensures back { (evidence : List SignedValue) → AllByRecursion HasBytes evidence
         → vouched_of (vouch_file evidence) ≡ Ok evidence }
+{}
+
+/// What is answered to a file signature depends on the message by its digest alone, so the message
+/// is hashed as it is read.
+fn signature_rule()
+    ensures { (v : Sshsig) (message namespace : List ℕ) (vouched : List SignedValue)
+        → sshsig_answer v message namespace vouched
+        ≡ answer_by_digest v (digest_of v.hash message) namespace vouched }
 {}
 
 /// An answer with status 0 is a grant: of a login or of a host's key, by a line of the trust file

@@ -1,57 +1,77 @@
 //! What files answer to a file signature, with the signatures that a vouch file vouches for.
 
 ghost use Rattle.std.specs.Prelude.{◌≡◌, IfOk};
-ghost use Rattle.ssh_command.specs.Audits.{or_vouch_fault};
+ghost use Rattle.ssh_questions.specs.Audits.{or_vouch_fault};
 ghost use Rattle.ssh_words.specs.AskedView.{question_of};
-ghost use Rattle.ssh_command.specs.Sshsigs.{RespondsToSshsig, Signs, bytes_answer};
-ghost use Rattle.ssh_command.specs.Responding.{SignsBody, SignsMessage, SignsVouched};
-ghost use Rattle.ssh_trust.specs.Answer.{Gives};
+ghost use Rattle.ssh_command.specs.Digests.{answer_by_digest, digest_bytes};
+ghost use Rattle.ssh_command.specs.Sshsigs.{RespondsToSshsig, Signs};
+ghost use Rattle.ssh_command.specs.Responding.{SignsBody, SignsClaim, SignsMessage, SignsVouched};
+ghost use Rattle.ssh_offers.specs.FileSignatureView.{sshsig_claim_of};
 ghost use Rattle.ssh_words.specs.WordsView.{IfAnswered, rows_in};
 ghost use Rattle.ssh_print.specs.ResponseView.{response};
 ghost use Rattle.ssh_print.specs.SshsigText.{sshsig_response};
 ghost use Rattle.ssh_inputs.specs.SourceState.{IfTells};
 ghost use Rattle.ssh_inputs.specs.VouchFile.{vouched_of};
 
-use crate::audit::{is_memory, unread};
-use ssh_inputs::{Files, VouchError, read_vouch_file, read_vouched, read_whole};
-use ssh_offers::{AuditError, Signed};
+use crate::digest::{MessageDigest, answer_digest, read_message};
+use ssh_inputs::{Files, VouchError, read_front, read_past, read_vouch_file, read_vouched};
+use ssh_keys::MAX_BLOB_LEN;
+use ssh_offers::{AuditError, Signed, SshsigClaimView};
 use ssh_print::{Response, sshsig_response, vouch_fault};
-use ssh_trust::{SshsigAnswer, sshsig};
+use ssh_questions::unread;
 use ssh_words::{CommandError, SshsigQuestion, Words};
 use std::alloc::{AllocError, Global};
 
-/// The answer by the bytes of a body and of a message.
-fn answer_bytes(
+/// The response by a claim and the digest of the message.
+fn respond_digest(
     alloc: Global,
     question: &SshsigQuestion<'_>,
     vouched: &[Signed],
-    body: &[u8],
-    message: &[u8],
-) -> Result<SshsigAnswer, AuditError>
-    ensures { Gives
-        (bytes_answer (question_of question.entry.now) vouched.now body.now message.now) result }
-{
-    let answer = sshsig(alloc, body, message, question.namespace.as_bytes(), vouched)?;
-    Ok(answer)
-}
-
-/// The response by the bytes of a body and of a message.
-fn respond_bytes(
-    alloc: Global,
-    question: &SshsigQuestion<'_>,
-    vouched: &[Signed],
-    body: &[u8],
-    message: &[u8],
+    claim: &SshsigClaimView<'_>,
+    digest: &MessageDigest,
 ) -> Result<Response, AllocError>
     ensures { IfOk result (λ r.
-        response r ≡ sshsig_response
-        (bytes_answer (question_of question.entry.now) vouched.now body.now message.now)) }
+        response r ≡ sshsig_response (Ok (answer_by_digest (sshsig_claim_of claim.now)
+        (digest_bytes digest.now) question.entry.now.namespace.now vouched.now))) }
 {
-    let answer = answer_bytes(alloc, question, vouched, body, message);
-    if is_memory(&answer) {
-        return Err(AllocError);
+    let answer = answer_digest(alloc, claim, digest, question.namespace.as_bytes(), vouched)?;
+    sshsig_response(alloc, &Ok(answer))
+}
+
+/// The response after the claim of the body was read: the message is hashed.
+fn respond_claim<F: Files>(
+    alloc: Global,
+    question: &SshsigQuestion<'_>,
+    vouched: &[Signed],
+    claim: &SshsigClaimView<'_>,
+    files: &mut F,
+) -> Result<Response, AllocError>
+    ensures { IfTells (F.source_state files.old) (λ s. IfOk result (λ r.
+        SignsClaim (question_of question.entry.now) vouched.now (Ok (sshsig_claim_of claim.now)) s
+        (F.source_state files.new) (response r))) }
+{
+    match read_message(files, claim.file_signature.hash, question.message) {
+        Ok(digest) => respond_digest(alloc, question, vouched, claim, &digest),
+        Err(fault) => unread(alloc, question.message, fault),
     }
-    sshsig_response(alloc, &answer)
+}
+
+/// The response after the body was refused: a message that gives no bytes is told all the same.
+fn respond_refused<F: Files>(
+    alloc: Global,
+    question: &SshsigQuestion<'_>,
+    vouched: &[Signed],
+    refusal: AuditError,
+    files: &mut F,
+) -> Result<Response, AllocError>
+    ensures { IfTells (F.source_state files.old) (λ s. IfOk result (λ r.
+        SignsClaim (question_of question.entry.now) vouched.now (Err refusal) s
+        (F.source_state files.new) (response r))) }
+{
+    match read_past(files, question.message) {
+        Ok(()) => sshsig_response(alloc, &Err(refusal)),
+        Err(fault) => unread(alloc, question.message, fault),
+    }
 }
 
 /// The response after the body was read.
@@ -66,13 +86,14 @@ fn respond_body<F: Files>(
         SignsMessage (question_of question.entry.now) vouched.now body.now s
         (F.source_state files.new) (response r))) }
 {
-    match read_whole(alloc, files, question.message) {
-        Ok(message) => respond_bytes(alloc, question, vouched, body, &message),
-        Err(fault) => unread(alloc, question.message, fault),
+    match SshsigClaimView::read(body) {
+        Ok(claim) => respond_claim(alloc, question, vouched, &claim, files),
+        Err(refusal) => respond_refused(alloc, question, vouched, refusal, files),
     }
 }
 
-/// The response after the signatures that are vouched for were read.
+/// The response after the signatures that are vouched for were read. A body may go as far as a blob;
+/// of a longer one no more is kept than shows it.
 fn respond_vouched<F: Files>(
     alloc: Global,
     question: &SshsigQuestion<'_>,
@@ -83,7 +104,7 @@ fn respond_vouched<F: Files>(
         SignsBody (question_of question.entry.now) vouched.now s (F.source_state files.new)
         (response r))) }
 {
-    match read_whole(alloc, files, question.body) {
+    match read_front(alloc, files, question.body, MAX_BLOB_LEN + 1) {
         Ok(body) => respond_body(alloc, question, vouched, &body, files),
         Err(fault) => unread(alloc, question.body, fault),
     }

@@ -1,0 +1,165 @@
+-- From what a trust file decides to what a list of them tells, and from that to what is answered about a key.
+use Rattle.std.proofs.Common.{◌≡◌, ◌∙◌, ◌<◌, ℕ, true, false, List, Option, Some, None, Result, Ok, Err, refl, sym, ap, subst, inl, inr}
+use Rattle.std.specs.Prelude.{IfOk}
+use Rattle.ssh_inputs.specs.SourceState.{IfTells, SourceState, bytes_at, most_failures}
+use Rattle.ssh_inputs.specs.Parts.{after_whole}
+use Rattle.ssh_inputs.specs.Loading.{FailsLoad, IsLeft, KeepsOthers, NoReadFailed, within_limit}
+use Rattle.ssh_inputs.specs.declared.read.ReadError.{ReadError}
+use Rattle.ssh_inputs.specs.declared.read.ReadError.TheVariants as fault
+use Rattle.ssh_offers.specs.declared.error.AuditError.{AuditError}
+use Rattle.ssh_offers.specs.declared.error.AuditError.TheVariants.{Offer, Signature, WrongAlgorithm, WeakSignature, CertSignature, Address, FileTooLong, Memory, Read, Failed, Body, Salts}
+use Rattle.ssh_offers.specs.declared.query.Signed.{Signed}
+use Rattle.ssh_trust.specs.Answer.{Gives, OfClaim, RefusesAs}
+use Rattle.ssh_trust.specs.declared.decision.Decision.{Decision}
+use Rattle.ssh_print.specs.Responses.{Response as Shown, refused_response}
+use Rattle.ssh_show.specs.declared.error.ShowError.{ShowError}
+use Rattle.ssh_show.specs.declared.error.ShowError.TheVariants as show
+use Rattle.ssh_show.specs.Offering.{Offered, offer_in}
+use Rattle.ssh_show.specs.Showing.{IsFaultOfShow, show_fault_response}
+use Rattle.ssh_show.specs.ShownLines.{Finds}
+use Rattle.ssh_admission.specs.declared.text.Party.{Party}
+use Rattle.ssh_inputs.specs.FilesInTurn.{TellsFile, TellsFiles}
+use Rattle.ssh_answers.specs.Admissions.{Asking, AsksBy, AsksFiles, AsksKey, AsksOffer, Told, both, nothing_told, offer_or_fault, or_shown_fault, telling, told_of, told_response}
+use Rattle.ssh_questions.specs.Audits.{Deciding}
+use Rattle.ssh_questions.specs.FileAnswers.{AnswersFile, IsFaultOf, is_memory}
+use Rattle.ssh_inputs.proofs.SourceLemmas.{Alike, file-alike, keeps-same, left-none, none-failed, one-failed, over_limit}
+
+-- ---- one file
+
+tells-by : (who : Party) (by : Deciding) (evidence : List Signed) (name : List ℕ) (s : SourceState) (t : Option SourceState) (answer : Result Decision AuditError) (told : Told)
+    → is_memory answer ≡ false → told ≡ told_of who name answer → KeepsOthers name s t → AnswersFile by evidence name (bytes_at s name) s t answer
+    → TellsFile (telling who by evidence) name s t told
+tells-by who by evidence name s t answer told spared is keeps (inl e) = (let bad : true ≡ false = ap is_memory (sym e) ∙ spared in cc)
+tells-by who by evidence name s t answer told spared is keeps (inr (inl (offered, failed, e))) = (keeps, inl (failed, is ∙ ap (told_of who name) e))
+tells-by who by evidence name s t answer told spared is keeps (inr (inr (none, e))) = (keeps, inr (none, is ∙ ap (told_of who name) e))
+
+pub file_told : (who : Party) (by : Deciding) (evidence : List Signed) (name : List ℕ) (o t : Option SourceState) (answer : Result Decision AuditError) (told : Told)
+    → is_memory answer ≡ false → told ≡ told_of who name answer → IfTells o (λ s. KeepsOthers name s t)
+    → IfTells o (λ s. AnswersFile by evidence name (bytes_at s name) s t answer) → IfTells o (λ s. TellsFile (telling who by evidence) name s t told)
+file_told who by evidence name None t answer told spared is keeps h = tt
+file_told who by evidence name (Some s) t answer told spared is keeps h = λ counts. tells-by who by evidence name s t answer told spared is (keeps counts) (h counts)
+
+-- ---- what is asked of the files
+
+given-same : (e given : List Signed) → Gives (Ok e) (Ok given) → given ≡ e
+given-same e given h = (let same : Ok e ≡ Ok given = h in cc)
+
+asks-told : (who : Party) (by : Deciding) (rests : Result (List Signed) AuditError) (evidence : List Signed) (names : List (List ℕ)) (s : SourceState) (t : Option SourceState) (told : Told) (r : Shown)
+    → RefusesAs rests (Ok evidence) → OfClaim rests (λ e. Gives (Ok e) (Ok evidence)) → r ≡ told_response told
+    → TellsFiles both (telling who by evidence) nothing_told names s t told → AsksBy who by rests names s t r
+asks-told who by (Err e) evidence names s t told r refused given is h = cc
+asks-told who by (Ok e) evidence names s t told r refused given is h =
+    (told, subst (λ (x : List Signed). TellsFiles both (telling who by x) nothing_told names s t told) (given-same e evidence given) h, is)
+
+pub asks_told : {R : Type 0} (view : R → Shown) (who : Party) (by : Deciding) (rests : Result (List Signed) AuditError) (evidence : List Signed) (names : List (List ℕ)) (o t : Option SourceState)
+    (told : Told) (r : R) → RefusesAs rests (Ok evidence) → OfClaim rests (λ e. Gives (Ok e) (Ok evidence)) → view r ≡ told_response told
+    → IfTells o (λ s. TellsFiles both (telling who by evidence) nothing_told names s t told) → IfTells o (λ s. AsksBy who by rests names s t (view r))
+asks_told view who by rests evidence names None t told r refused given is h = tt
+asks_told view who by rests evidence names (Some s) t told r refused given is h = λ counts. asks-told who by rests evidence names s t told (view r) refused given is (h counts)
+
+err-same : {A B : Type 0} (a b : B) → ◌≡◌ {A = Result A B} (Err a) (Err b) → a ≡ b
+err-same a b h = cc
+
+never-refused : (e : List Signed) (error : AuditError) → is_memory {A = List Signed} (Err error) ≡ false → Gives (Ok e) (Err error) → ⊥
+never-refused e (Offer x) spared h = cc
+never-refused e (Signature x) spared h = cc
+never-refused e WrongAlgorithm spared h = cc
+never-refused e WeakSignature spared h = cc
+never-refused e CertSignature spared h = cc
+never-refused e Address spared h = cc
+never-refused e FileTooLong spared h = cc
+never-refused e Memory spared h = cc
+never-refused e Read spared h = cc
+never-refused e Failed spared h = cc
+never-refused e (Body x) spared h = cc
+never-refused e Salts spared h = cc
+
+asks-refused : (who : Party) (by : Deciding) (rests : Result (List Signed) AuditError) (error : AuditError) (names : List (List ℕ)) (s : SourceState) (r : Shown)
+    → RefusesAs {A = List Signed} rests (Err error) → OfClaim rests (λ e. Gives (Ok e) (Err error)) → is_memory {A = List Signed} (Err error) ≡ false → r ≡ refused_response error
+    → AsksBy who by rests names s (Some s) r
+asks-refused who by (Err e) error names s r refused given spared is = (refl, is ∙ ap refused_response (err-same error e refused))
+asks-refused who by (Ok e) error names s r refused given spared is = absurd (never-refused e error spared given)
+
+pub asks_refused : {R E : Type 0} (view : R → Shown) (who : Party) (by : Deciding) (rests : Result (List Signed) AuditError) (error : AuditError) (names : List (List ℕ)) (o : Option SourceState) (res : Result R E)
+    → RefusesAs {A = List Signed} rests (Err error) → OfClaim rests (λ e. Gives (Ok e) (Err error)) → is_memory {A = List Signed} (Err error) ≡ false → IfOk res (λ r. view r ≡ refused_response error)
+    → IfTells o (λ s. IfOk res (λ r. AsksBy who by rests names s o (view r)))
+asks_refused view who by rests error names None res refused given spared is = tt
+asks_refused view who by rests error names (Some s) (Err x) refused given spared is = λ counts. tt
+asks_refused view who by rests error names (Some s) (Ok r) refused given spared is = λ counts. asks-refused who by rests error names s (view r) refused given spared is
+
+-- ---- the key's file
+
+pub offer_asked : {R E : Type 0} (view : R → Shown) (asks : Offered → Asking) (file : List ℕ) (offer : Offered) (names : List (List ℕ)) (o t : Option SourceState) (res : Result R E) → offer_in file ≡ Ok offer
+    → IfTells o (λ s. IfOk res (λ r. AsksFiles (asks offer) names s t (view r)))
+    → IfTells o (λ s. IfOk res (λ r. AsksOffer asks (or_shown_fault (offer_in file)) names s t (view r)))
+offer_asked view asks file offer names o t res is h =
+    subst (λ (x : Result Offered ShowError). IfTells o (λ s. IfOk res (λ r. AsksOffer asks (or_shown_fault x) names s t (view r)))) (sym is) h
+
+unoffered : {V : Type 0} (seen : V → Offered) (read : Result Offered ShowError) (error : ShowError) (r : Shown) → Finds seen read (Err error) → IsFaultOfShow error r
+    → (read ≡ Err error) × (r ≡ show_fault_response error)
+unoffered seen read (show.Line cause) r finds is = (finds, is)
+unoffered seen read (show.Cert e) r finds is = (finds, is)
+unoffered seen read (show.Body e) r finds is = (finds, is)
+unoffered seen read show.Memory r finds is = absurd is
+
+unasked : {V : Type 0} (seen : V → Offered) (asks : Offered → Asking) (file : List ℕ) (error : ShowError) (names : List (List ℕ)) (s : SourceState) (r : Shown) → Finds seen (offer_in file) (Err error) → IsFaultOfShow error r
+    → AsksOffer asks (or_shown_fault (offer_in file)) names s (Some s) r
+unasked seen asks file error names s r finds is =
+    let none = unoffered seen (offer_in file) error r finds is in
+    subst (λ (x : Result Offered ShowError). AsksOffer asks (or_shown_fault x) names s (Some s) r) (sym none.0) (refl, none.1)
+
+pub offer_unasked : {R E V : Type 0} (view : R → Shown) (seen : V → Offered) (asks : Offered → Asking) (file : List ℕ) (error : ShowError) (names : List (List ℕ)) (o : Option SourceState) (res : Result R E)
+    → Finds seen (offer_in file) (Err error) → IfOk res (λ r. IsFaultOfShow error (view r))
+    → IfTells o (λ s. IfOk res (λ r. AsksOffer asks (or_shown_fault (offer_in file)) names s o (view r)))
+offer_unasked view seen asks file error names None res finds is = tt
+offer_unasked view seen asks file error names (Some s) (Err x) finds is = λ counts. tt
+offer_unasked view seen asks file error names (Some s) (Ok r) finds is = λ counts. unasked seen asks file error names s (view r) finds is
+
+key-by : (asks : Offered → Asking) (key : List ℕ) (names : List (List ℕ)) (s m : SourceState) (t : Option SourceState) (o : Option (List ℕ)) (r : Shown) → within_limit (bytes_at s key) ≡ o
+    → KeepsOthers key s (Some m) → NoReadFailed s (Some m) → AsksOffer asks (offer_or_fault key o) names m t r → AsksKey asks key names s t r
+key-by asks key names s m t o r is keeps none h =
+    inr (m, keeps, none, subst (λ (x : Option (List ℕ)). AsksOffer asks (offer_or_fault key x) names m t r) (sym is) h)
+
+-- a key's file that was read
+pub key_asked : {R E : Type 0} (view : R → Shown) (asks : Offered → Asking) (key file read : List ℕ) (names : List (List ℕ)) (o u t : Option SourceState) (res : Result R E) → read ≡ file
+    → IfTells o (λ s. (within_limit (bytes_at s key) ≡ Some file) × IsLeft s (after_whole s key) u) → IfTells o (λ s. KeepsOthers key s u)
+    → IfTells u (λ m. IfOk res (λ r. AsksOffer asks (or_shown_fault (offer_in read)) names m t (view r)))
+    → IfTells o (λ s. IfOk res (λ r. AsksKey asks key names s t (view r)))
+key_asked view asks key file read names None u t res is loads keeps h = tt
+key_asked view asks key file read names (Some s) None t res is loads keeps h = λ counts. absurd ((loads counts).1)
+key_asked view asks key file read names (Some s) (Some m) t (Err x) is loads keeps h = λ counts. tt
+key_asked view asks key file read names (Some s) (Some m) t (Ok r) is loads keeps h = λ counts.
+    let load = loads counts in
+    let none : m.failures ≡ s.failures = left-none s (after_whole s key) (Some m) load.1 in
+    let tells : m.failures < most_failures = subst (λ (n : ℕ). n < most_failures) (sym none) counts in
+    key-by asks key names s m t (Some file) (view r) load.0 (keeps counts) none
+    (subst (λ (b : List ℕ). AsksOffer asks (or_shown_fault (offer_in b)) names m t (view r)) is (h tells))
+
+unkeyed : (asks : Offered → Asking) (key : List ℕ) (names : List (List ℕ)) (s : SourceState) (t : Option SourceState) (e : ReadError) (r : Shown) → FailsLoad key (bytes_at s key) s t e → KeepsOthers key s t
+    → IsFaultOf key e r → AsksKey asks key names s t r
+unkeyed asks key names s None fault.Missing r fails keeps is = absurd keeps
+unkeyed asks key names s None fault.TooLong r fails keeps is = absurd keeps
+unkeyed asks key names s (Some m) fault.Missing r fails keeps is = key-by asks key names s m (Some m) None r (ap within_limit fails.0) keeps fails.1 (refl, is)
+unkeyed asks key names s (Some m) fault.TooLong r fails keeps is = key-by asks key names s m (Some m) None r (over_limit (bytes_at s key) fails.0) keeps fails.1 (refl, is)
+unkeyed asks key names s t fault.Failed r fails keeps is = inl (fails, is)
+unkeyed asks key names s t fault.Memory r fails keeps is = absurd is
+
+-- one that gives no bytes
+pub key_unasked : {R E : Type 0} (view : R → Shown) (asks : Offered → Asking) (key : List ℕ) (names : List (List ℕ)) (o t : Option SourceState) (e : ReadError) (res : Result R E)
+    → IfTells o (λ s. FailsLoad key (bytes_at s key) s t e) → IfTells o (λ s. KeepsOthers key s t) → IfOk res (λ r. IsFaultOf key e (view r))
+    → IfTells o (λ s. IfOk res (λ r. AsksKey asks key names s t (view r)))
+key_unasked view asks key names None t e res fails keeps is = tt
+key_unasked view asks key names (Some s) t e (Err x) fails keeps is = λ counts. tt
+key_unasked view asks key names (Some s) t e (Ok r) fails keeps is = λ counts. unkeyed asks key names s t e (view r) (fails counts) (keeps counts) is
+
+-- ---- sources that are alike have the same answers
+
+pub key-same : (asks : Offered → Asking) (key : List ℕ) (names : List (List ℕ)) (a b : SourceState) (u : Option SourceState) (r : Shown) → Alike a b
+    → AsksKey asks key names a u r → AsksKey asks key names b u r
+key-same asks key names a b u r e (inl h) = inl (one-failed a b u key e h.0, h.1)
+key-same asks key names a b u r e (inr (m, keeps, none, h)) = inr (
+  m,
+  keeps-same key a b (Some m) e keeps,
+  none-failed b a (Some m) e.failures none,
+  subst (λ (o : Option (List ℕ)). AsksOffer asks (offer_or_fault key (within_limit o)) names m u r) (file-alike a b key e) h,
+)

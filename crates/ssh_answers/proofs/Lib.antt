@@ -1,0 +1,3 @@
+pub mod AdmissionLemmas
+mod KeyLemmas
+mod ExplainLemmas

@@ -1,0 +1,4 @@
+pub mod Admissions
+pub mod AdmissionsView
+pub mod Keys
+pub mod Explanations

@@ -1,0 +1,74 @@
+//! What is asked about the key in a file.
+
+ghost use Rattle.std.specs.Prelude.{IfOk, map};
+ghost use Rattle.ssh_answers.specs.Admissions.{
+  AsksFiles,
+  AsksKey,
+  AsksOffer,
+  Asking,
+  or_shown_fault,
+};
+ghost use Rattle.ssh_inputs.specs.SourceState.{IfTells};
+ghost use Rattle.ssh_print.specs.ResponseView.{response};
+ghost use Rattle.ssh_show.specs.Offering.{Offered, offer_in, offer_seen};
+
+use ssh_inputs::{Files, read_whole};
+use ssh_print::Response;
+use ssh_questions::unread;
+use ssh_show::{OfferedKey, read_offer, show_fault};
+use std::alloc::{AllocError, Global};
+
+/// What is asked about a key, but for the key.
+pub trait KeyQuestion {
+    /// What is asked of each trust file about what is offered.
+    ghost asks: { Self → Offered → Asking };
+
+    /// The response to what is asked of the trust files of these names about this offer.
+    fn ask<F: Files>(
+        &self,
+        alloc: Global,
+        offer: &OfferedKey,
+        names: &[&str],
+        files: &mut F,
+    ) -> Result<Response, AllocError>
+        ensures { IfTells (F.source_state files.old) (λ s. IfOk result (λ r.
+            AsksFiles (asks self.entry.now (offer_seen offer.now))
+            (map (λ name. name.now) names.now) s (F.source_state files.new) (response r))) };
+}
+
+/// The response by the bytes of the key's file.
+fn ask_bytes<K: KeyQuestion, F: Files>(
+    alloc: Global,
+    question: &K,
+    bytes: &[u8],
+    names: &[&str],
+    files: &mut F,
+) -> Result<Response, AllocError>
+    ensures { IfTells (F.source_state files.old) (λ s. IfOk result (λ r.
+        AsksOffer (K.asks question.entry.now) (or_shown_fault (offer_in bytes.now))
+        (map (λ name. name.now) names.now) s (F.source_state files.new) (response r))) }
+{
+    match read_offer(alloc, bytes) {
+        Ok(offer) => question.ask(alloc, &offer, names, files),
+        Err(error) => show_fault(alloc, error),
+    }
+}
+
+/// The response to what is asked about the key in the file of this name. It is read before the trust
+/// files.
+pub fn ask_key<K: KeyQuestion, F: Files>(
+    alloc: Global,
+    question: &K,
+    key: &str,
+    names: &[&str],
+    files: &mut F,
+) -> Result<Response, AllocError>
+    ensures { IfTells (F.source_state files.old) (λ s. IfOk result (λ r.
+        AsksKey (K.asks question.entry.now) key.now (map (λ name. name.now) names.now) s
+        (F.source_state files.new) (response r))) }
+{
+    match read_whole(alloc, files, key) {
+        Ok(bytes) => ask_bytes(alloc, question, &bytes, names, files),
+        Err(fault) => unread(alloc, key, fault),
+    }
+}

@@ -1,0 +1,88 @@
+-- The part of a file that is read says what all of it says.
+use Rattle.std.proofs.Common.{◌≡◌, ◌∙◌, ◌+◌, ◌<◌, ◌≤◌, ◌==◌, ℕ, Bool, true, false, cond, nat_lt, List, [], ◌∷◌, length, take, Err, refl, sym, ap, arith, inl, inr}
+use Rattle.std.specs.List.{onto_first}
+use Rattle.std.proofs.lemmas.Bool.{cases_Bool, lt-ltb, ltb-false, ltb-true}
+use Rattle.std.proofs.lemmas.List.{length-take-le, take_all}
+use Rattle.ssh_text.specs.Text.{lines_of}
+use Rattle.ssh_inputs.specs.Parts.{top_line}
+use Rattle.ssh_keys.specs.PublicKey.{longest}
+use Rattle.ssh_bodies.specs.declared.error.BodyError.TheVariants as errors
+use Rattle.ssh_bodies.specs.PrivateReading.{private_in}
+use Rattle.ssh_bodies.specs.SshsigReading.{sshsig_in}
+use Rattle.ssh_offers.specs.FileSignature.{sshsig_claim}
+use Rattle.ssh_print.specs.Responses.{Response as Shown}
+use Rattle.ssh_show.specs.declared.kind.ShowKind.{ShowKind}
+use Rattle.ssh_show.specs.declared.kind.ShowKind.TheVariants as shown
+use Rattle.ssh_show.specs.Showing.{Shows, file_signature_in, first_of_lines, public_half_in, shown_line}
+use Rattle.ssh_command.specs.Shows.{shown_part}
+
+-- ---- the first line
+
+first-onto : (c : ℕ) (lines : List (List ℕ)) → first_of_lines (onto_first c lines) ≡ c ∷ first_of_lines lines
+first-onto c [] = refl
+first-onto c (line ∷ lines) = refl
+
+first-by : (b : Bool) (c : ℕ) (lines : List (List ℕ)) (line : List ℕ) → first_of_lines lines ≡ line
+    → first_of_lines (cond b ([] ∷ lines) (onto_first c lines)) ≡ cond b [] (c ∷ line)
+first-by true c lines line e = refl
+first-by false c lines line e = first-onto c lines ∙ ap (λ (l : List ℕ). c ∷ l) e
+
+first-top : (file : List ℕ) → shown_line file ≡ top_line file
+first-top [] = refl
+first-top (c ∷ file) = first-by (c == 10) c (lines_of file) (top_line file) (first-top file)
+
+again-by : (b : Bool) (c : ℕ) (line : List ℕ) → (c == 10) ≡ b → top_line line ≡ line → top_line (cond b [] (c ∷ line)) ≡ cond b [] (c ∷ line)
+again-by true c line e h = refl
+again-by false c line e h = ap (λ (x : Bool). cond x [] (c ∷ top_line line)) e ∙ ap (λ (l : List ℕ). c ∷ l) h
+
+top-again : (file : List ℕ) → top_line (top_line file) ≡ top_line file
+top-again [] = refl
+top-again (c ∷ file) = again-by (c == 10) c (top_line file) refl (top-again file)
+
+line-shown : (file : List ℕ) → shown_line (top_line file) ≡ shown_line file
+line-shown file = first-top (top_line file) ∙ (top-again file ∙ sym (first-top file))
+
+-- ---- a body
+
+-- what refuses each body that is too long in one way tells the same of its front
+front-same : {A : Type 0} (read : List ℕ → A) (too_long : A) (file : List ℕ) → ((bytes : List ℕ) → nat_lt longest (length bytes) ≡ true → read bytes ≡ too_long)
+    → read (take (longest + 1) file) ≡ read file
+front-same read too_long file refuses =
+    elim (cases_Bool (nat_lt longest (length file))) [
+      | inl long ↦
+          let past : longest < length file = ltb-true longest (length file) long in
+          let size : length (take (longest + 1) file) ≡ longest + 1 = length-take-le (longest + 1) file (omega arith) in
+          refuses (take (longest + 1) file) (lt-ltb longest (length (take (longest + 1) file)) (omega arith)) ∙ sym (refuses file long)
+      | inr short ↦
+          let within : length file ≤ longest = ltb-false longest (length file) short in
+          ap read (take_all (longest + 1) file (omega arith))
+    ]
+
+private-front : (file : List ℕ) → private_in (take (longest + 1) file) ≡ private_in file
+unfolding private_in
+private-front file = front-same private_in (Err errors.TooLong) file (λ bytes long. rw long refl)
+
+sshsig-front : (file : List ℕ) → sshsig_in (take (longest + 1) file) ≡ sshsig_in file
+unfolding sshsig_in
+sshsig-front file = front-same sshsig_in (Err errors.TooLong) file (λ bytes long. rw long refl)
+
+half-front : (file : List ℕ) → public_half_in (take (longest + 1) file) ≡ public_half_in file
+unfolding public_half_in
+half-front file = rw (private-front file) refl
+
+signature-front : (file : List ℕ) → file_signature_in (take (longest + 1) file) ≡ file_signature_in file
+unfolding file_signature_in
+signature-front file = rw (sshsig-front file) refl
+
+-- the claim of a body is that of its front
+pub claim_front : (file : List ℕ) → sshsig_claim (take (longest + 1) file) ≡ sshsig_claim file
+unfolding sshsig_claim
+claim_front file = rw (sshsig-front file) refl
+
+-- ---- what is shown
+
+pub part_shows : (kind : ShowKind) (file : List ℕ) (r : Shown) → Shows kind (shown_part kind file) r → Shows kind file r
+part_shows shown.Key file r h = rw (sym (line-shown file)) h
+part_shows shown.Cert file r h = rw (sym (line-shown file)) h
+part_shows shown.Private file r h = rw (sym (half-front file)) h
+part_shows shown.Sshsig file r h = rw (sym (signature-front file)) h

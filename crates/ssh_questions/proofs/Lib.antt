@@ -1,0 +1,6 @@
+pub mod SourceLemmas
+pub mod AuditLemmas
+mod ChosenLemmas
+mod OthersLemmas
+mod QuestionLemmas
+mod LoginLemmas

@@ -1,0 +1,40 @@
+-- What is answered to a host's key.
+use Rattle.std.specs.Prelude.{◌^◌, List, Option, Result, Ok}
+use Rattle.base64.specs.Engines.{standard}
+use Rattle.base64.specs.GeneralPurpose.{decoded_of}
+use Rattle.clap.specs.Words.{Row}
+use Rattle.ssh_wire.specs.Reading.{◌>>=◌}
+use Rattle.ssh_offers.specs.declared.query.EmptyPrincipals.TheVariants.{Any}
+use Rattle.ssh_offers.specs.Query.{HostCheck}
+use Rattle.ssh_inputs.specs.SourceState.{SourceState}
+use Rattle.ssh_inputs.specs.Values.{empty_principals_of, hex_bytes, number_below}
+use Rattle.ssh_print.specs.Responses.{Response}
+use Rattle.ssh_words.specs.declared.options.OptionName.TheVariants as option
+use Rattle.ssh_questions.specs.Audits.{Audits, host_by}
+use Rattle.ssh_words.specs.Spelling.{RespondsTo, audit_files, needed, value, value_or}
+
+-- the host's key that the options spell, or the first value that is none, in this order
+unfoldable pub host_spelled : List Row → Result HostCheck Response
+host_spelled rows = do
+  offered ← value (decoded_of standard) option.Offer rows
+  signature ← value hex_bytes option.Signature rows
+  exchange_hash ← value hex_bytes option.Hash rows
+  port ← value (number_below (2 ^ 16)) option.Port rows
+  now ← value (number_below (2 ^ 64)) option.Now rows
+  empty_principals ← value_or Any empty_principals_of option.EmptyPrincipals rows
+  rsa_minimum ← value_or 0 (number_below (2 ^ 32)) option.RsaMinimum rows
+  host ← needed option.Host rows
+  Ok (record {
+    offered = offered;
+    signature = signature;
+    exchange_hash = exchange_hash;
+    host = host;
+    port = port;
+    now = now;
+    empty_principals = empty_principals;
+    rsa_minimum = rsa_minimum;
+  })
+
+-- what the files answer to the host's key that is spelled
+abbrev pub RespondsToHost : List Row → SourceState → Option SourceState → Response → Type 0
+RespondsToHost rows = RespondsTo (λ files. RespondsTo (λ check. Audits (host_by check) files) (host_spelled rows)) (audit_files rows)

@@ -1,0 +1,5 @@
+pub mod Audits
+pub mod ChosenReads
+pub mod FileAnswers
+pub mod Logins
+pub mod Hosts

@@ -1,0 +1,50 @@
+-- What is answered to a login.
+use Rattle.std.specs.Prelude.{◌^◌, List, Option, Result, Ok}
+use Rattle.base64.specs.Engines.{standard}
+use Rattle.base64.specs.GeneralPurpose.{decoded_of}
+use Rattle.clap.specs.Words.{Row}
+use Rattle.jiff.specs.Types.{TimeZone}
+use Rattle.ssh_wire.specs.Reading.{◌>>=◌}
+use Rattle.ssh_offers.specs.declared.query.EmptyPrincipals.TheVariants.{Any}
+use Rattle.ssh_offers.specs.Query.{Login}
+use Rattle.ssh_inputs.specs.SourceState.{SourceState}
+use Rattle.ssh_inputs.specs.Values.{ReadsZone, empty_principals_of, hex_bytes, number_below, short_bytes, short_hex, zone_text}
+use Rattle.ssh_print.specs.Responses.{Response}
+use Rattle.ssh_words.specs.declared.options.OptionName.TheVariants as option
+use Rattle.ssh_questions.specs.Audits.{Audits, login_by}
+use Rattle.ssh_words.specs.Spelling.{RespondsTo, audit_files, given, needed, or_fault, value, value_or}
+
+-- the login that the options spell, the zone being read; or the first value that is none, in this order
+unfoldable pub login_spelled : List Row → Option TimeZone → Result Login Response
+login_spelled rows zone = do
+  offered ← value (decoded_of standard) option.Offer rows
+  signature ← value hex_bytes option.Signature rows
+  session ← value short_hex option.Session rows
+  user ← value short_bytes option.User rows
+  now ← value (number_below (2 ^ 64)) option.Now rows
+  zone ← or_fault option.Zone zone
+  empty_principals ← value_or Any empty_principals_of option.EmptyPrincipals rows
+  rsa_minimum ← value_or 0 (number_below (2 ^ 32)) option.RsaMinimum rows
+  algorithm ← needed option.Algorithm rows
+  address ← needed option.Address rows
+  Ok (record {
+    offered = offered;
+    signature = signature;
+    algorithm = algorithm;
+    session = session;
+    user = user;
+    host = given option.Host rows;
+    address = address;
+    now = now;
+    zone = zone;
+    empty_principals = empty_principals;
+    rsa_minimum = rsa_minimum;
+  })
+
+-- what the files answer to the login that is spelled in this zone
+abbrev pub RespondsInZone : List Row → Option TimeZone → SourceState → Option SourceState → Response → Type 0
+RespondsInZone rows zone = RespondsTo (λ files. RespondsTo (λ login. Audits (login_by login) files) (login_spelled rows zone)) (audit_files rows)
+
+-- the same in the zone of the option's text
+abbrev pub RespondsToLogin : List Row → SourceState → Option SourceState → Response → Type 0
+RespondsToLogin rows s t r = (zone : Option TimeZone) × ReadsZone (zone_text (given option.Zone rows)) zone × RespondsInZone rows zone s t r
