@@ -8,7 +8,7 @@ use Rattle.ssh_wire.specs.Reading.{◌>>=◌}
 use Rattle.ssh_offers.specs.declared.query.EmptyPrincipals.TheVariants.{Any}
 use Rattle.ssh_offers.specs.Query.{HostCheck, Login as LoginAsked}
 use Rattle.ssh_print.specs.Responses.{Response, usage_response, value_response}
-use Rattle.ssh_inputs.specs.SourceState.{SourceState}
+use Rattle.ssh_inputs.specs.SourceState.{IfTells, SourceState}
 use Rattle.ssh_inputs.specs.Values.{empty_principals_of, number_below, zone_text, ReadsZone}
 use Rattle.ssh_words.specs.declared.options.OptionName.{OptionName}
 use Rattle.ssh_words.specs.declared.options.OptionName.TheVariants as option
@@ -16,7 +16,9 @@ use Rattle.ssh_words.specs.declared.subcommand.Subcommand.TheVariants.{Host, Log
 use Rattle.ssh_words.specs.Asked.{AuditFiles}
 use Rattle.ssh_questions.specs.Audits.{Audits, Deciding, IsAuditFault, IsVouchReadFault, host_by, login_by}
 use Rattle.ssh_words.specs.CommandLine.{Request, request_of}
-use Rattle.ssh_command.specs.GrantedRuns.{GrantsHost, GrantsLogin}
+use Rattle.ssh_command.specs.Account.{Account}
+use Rattle.ssh_command.specs.GrantedRuns.{AsksFor, GrantsHost, GrantsLogin}
+use Rattle.ssh_command.specs.Printing.{Prints}
 use Rattle.ssh_command.specs.Granting.{HostGranted, IsOfBytes, LoginGranted}
 use Rattle.ssh_questions.specs.Hosts.{RespondsToHost, host_spelled}
 use Rattle.ssh_questions.specs.Logins.{RespondsToLogin, login_spelled}
@@ -156,14 +158,43 @@ login-request rows = record { subcommand = Login; rows = rows }
 abbrev host-request : List Row → Request
 host-request rows = record { subcommand = Host; rows = rows }
 
-pub login_run : (words : List (List ℕ)) (rows : List Row) (f : AuditFiles) (s : SourceState) (t : Option SourceState) (r : Response)
+login_run : (words : List (List ℕ)) (rows : List Row) (f : AuditFiles) (s : SourceState) (t : Option SourceState) (r : Response)
     → request_of (request_words words s) ≡ Some (login-request rows) → audit_files rows ≡ Ok f
     → IsOfBytes f (source_of words s) → Answers words s t r → r.status ≡ 0 → GrantsLogin rows f (source_of words s) r
 login_run words rows f s t r e files bytes answers zero =
     login-by rows f (source_of words s) t r files bytes (responds-to words (Some (login-request rows)) s t r e answers zero) zero
 
-pub host_run : (words : List (List ℕ)) (rows : List Row) (f : AuditFiles) (s : SourceState) (t : Option SourceState) (r : Response)
+host_run : (words : List (List ℕ)) (rows : List Row) (f : AuditFiles) (s : SourceState) (t : Option SourceState) (r : Response)
     → request_of (request_words words s) ≡ Some (host-request rows) → audit_files rows ≡ Ok f
     → IsOfBytes f (source_of words s) → Answers words s t r → r.status ≡ 0 → GrantsHost rows f (source_of words s) r
 host_run words rows f s t r e files bytes answers zero =
     host-by rows f (source_of words s) t r files bytes (responds-to words (Some (host-request rows)) s t r e answers zero) zero
+
+-- ---- a run
+
+ends-well : (old new : Option Account) (r : Response) (status : ℕ) → Prints old new r status → status ≡ 0 → r.status ≡ 0
+ends-well old new r status (inl (taken, same)) zero = sym same ∙ zero
+ends-well old new r status (inr (broken, two)) zero = absurd (omega (arith, two, zero))
+
+abbrev Answered : List (List ℕ) → Option SourceState → Option Account → Option Account → ℕ → SourceState → Type 0
+Answered words t old new status s = (r : Response) × Answers words s t r × Prints old new r status
+
+pub login_granted_run : (words : List (List ℕ)) (o t : Option SourceState) (old new : Option Account) (status : ℕ)
+    → IfTells o (Answered words t old new status)
+    → IfTells o (λ s. (rows : List Row) (f : AuditFiles) → AsksFor Login words s rows f → status ≡ 0
+    → (r : Response) × GrantsLogin rows f (source_of words s) r × Prints old new r status)
+login_granted_run words None t old new status h = tt
+login_granted_run words (Some s) t old new status h = λ few rows f asks zero.
+    let told = h few in
+    let well = ends-well old new told.0 status told.2 zero in
+    (told.0, login_run words rows f s t told.0 asks.request asks.files asks.bytes told.1 well, told.2)
+
+pub host_granted_run : (words : List (List ℕ)) (o t : Option SourceState) (old new : Option Account) (status : ℕ)
+    → IfTells o (Answered words t old new status)
+    → IfTells o (λ s. (rows : List Row) (f : AuditFiles) → AsksFor Host words s rows f → status ≡ 0
+    → (r : Response) × GrantsHost rows f (source_of words s) r × Prints old new r status)
+host_granted_run words None t old new status h = tt
+host_granted_run words (Some s) t old new status h = λ few rows f asks zero.
+    let told = h few in
+    let well = ends-well old new told.0 status told.2 zero in
+    (told.0, host_run words rows f s t told.0 asks.request asks.files asks.bytes told.1 well, told.2)

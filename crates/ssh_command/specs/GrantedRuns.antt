@@ -1,5 +1,5 @@
 -- What a run that ends with status 0 stands on, where it was asked for a login or of a host's key (this project's rule).
-use Rattle.std.specs.Prelude.{◌≡◌, List, Option, Ok}
+use Rattle.std.specs.Prelude.{◌≡◌, ℕ, List, Option, Some, Ok}
 use Rattle.clap.specs.Words.{Row}
 use Rattle.jiff.specs.Types.{TimeZone}
 use Rattle.ssh_offers.specs.Query.{HostCheck, Login}
@@ -8,10 +8,19 @@ use Rattle.ssh_inputs.specs.SourceState.{SourceState}
 use Rattle.ssh_inputs.specs.Values.{ReadsZone, zone_text}
 use Rattle.ssh_words.specs.declared.options.OptionName.TheVariants as option
 use Rattle.ssh_words.specs.Asked.{AuditFiles}
-use Rattle.ssh_command.specs.Granting.{HostGranted, LoginGranted}
+use Rattle.ssh_words.specs.CommandLine.{request_of}
+use Rattle.ssh_words.specs.declared.subcommand.Subcommand.{Subcommand}
+use Rattle.ssh_command.specs.Granting.{HostGranted, IsOfBytes, LoginGranted}
+use Rattle.ssh_command.specs.Requests.{request_words, source_of}
 use Rattle.ssh_questions.specs.Hosts.{host_spelled}
 use Rattle.ssh_questions.specs.Logins.{login_spelled}
-use Rattle.ssh_words.specs.Spelling.{given}
+use Rattle.ssh_words.specs.Spelling.{audit_files, given}
+
+-- the words ask this of these files, and the trust file is of bytes
+pub record AsksFor (subcommand : Subcommand) (words : List (List ℕ)) (s : SourceState) (rows : List Row) (f : AuditFiles) : Type 0 where
+  pub request : request_of (request_words words s) ≡ Some (record { subcommand = subcommand; rows = rows })
+  pub files : audit_files rows ≡ Ok f
+  pub bytes : IsOfBytes f (source_of words s)
 
 -- the options spell this login, in the zone of its text, and the files grant it
 pub record GrantsLogin (rows : List Row) (f : AuditFiles) (s : SourceState) (r : Response) : Type 0 where

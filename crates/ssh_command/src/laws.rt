@@ -1,26 +1,19 @@
 //! Laws of the definitions, each proved on a function without a body.
 
-ghost use Rattle.std.specs.Prelude.{◌≡◌, ◌++◌, ℕ, List, Option, Some, Ok, codes};
+ghost use Rattle.std.specs.Prelude.{◌≡◌, ◌++◌, ℕ, List, Ok, codes};
 ghost use Rattle.std.specs.Fmt.{decimal};
 ghost use Rattle.std.specs.List.{AllByRecursion};
-ghost use Rattle.clap.specs.Words.{Row};
 ghost use Rattle.ssh_bodies.specs.Sshsig.{Sshsig, digest_of};
 ghost use Rattle.ssh_command.specs.Digests.{answer_by_digest};
 ghost use Rattle.ssh_trust.specs.SshsigAnswer.{sshsig_answer};
 ghost use Rattle.ssh_offers.specs.declared.query.Signed.{Signed as SignedValue};
 ghost use Rattle.ssh_offers.specs.Query.{HostCheck, Login as LoginAsked};
 ghost use Rattle.ssh_print.specs.DecisionText.{evidence_line};
-ghost use Rattle.ssh_print.specs.Responses.{Response as Shown};
 ghost use Rattle.ssh_inputs.specs.SourceState.{SourceState};
 ghost use Rattle.ssh_inputs.specs.VouchFile.{vouched_of};
-ghost use Rattle.ssh_words.specs.declared.subcommand.Subcommand.TheVariants.{Host, Login};
 ghost use Rattle.ssh_words.specs.Asked.{AuditFiles};
 ghost use Rattle.ssh_questions.specs.Audits.{audit_response, host_by, login_by};
-ghost use Rattle.ssh_words.specs.CommandLine.{request_of};
-ghost use Rattle.ssh_command.specs.GrantedRuns.{GrantsHost, GrantsLogin};
 ghost use Rattle.ssh_command.specs.Granting.{HostGranted, IsOfBytes, LoginGranted};
-ghost use Rattle.ssh_command.specs.Requests.{Answers, request_words, source_of};
-ghost use Rattle.ssh_words.specs.Spelling.{audit_files};
 ghost use Rattle.ssh_command.specs.VouchLines.{HasBytes, vouch_file, vouch_line};
 
 /// What is printed of a signature is, after its number, a line of a vouch file; and a vouch file of
@@ -52,21 +45,4 @@ fn granted_rule()
     ensures asked_host { (q : HostCheck) (f : AuditFiles) (s : SourceState) → IsOfBytes f s
         → (audit_response (host_by q) f s).status ≡ 0
         → HostGranted q f s (audit_response (host_by q) f s) }
-    // What `run` answers to words that ask for it: the options spell what was asked.
-    ensures login { (words : List (List ℕ)) (rows : List Row) (f : AuditFiles) (s : SourceState)
-        (t : Option SourceState) (r : Shown)
-        → request_of (request_words words s) ≡ Some (record { subcommand = Login; rows = rows })
-        → audit_files rows ≡ Ok f
-        → IsOfBytes f (source_of words s)
-        → Answers words s t r
-        → r.status ≡ 0
-        → GrantsLogin rows f (source_of words s) r }
-    ensures host { (words : List (List ℕ)) (rows : List Row) (f : AuditFiles) (s : SourceState)
-        (t : Option SourceState) (r : Shown)
-        → request_of (request_words words s) ≡ Some (record { subcommand = Host; rows = rows })
-        → audit_files rows ≡ Ok f
-        → IsOfBytes f (source_of words s)
-        → Answers words s t r
-        → r.status ≡ 0
-        → GrantsHost rows f (source_of words s) r }
 {}

@@ -1,11 +1,15 @@
 //! The program: words, files and a writer.
 
-ghost use Rattle.std.specs.Prelude.{◌≡◌, map};
+ghost use Rattle.std.specs.Prelude.{◌≡◌, List, map};
+ghost use Rattle.clap.specs.Words.{Row};
 ghost use Rattle.ssh_command.specs.Account.{NoneFailed};
 ghost use Rattle.ssh_print.specs.Responses.{Response as Shown};
-ghost use Rattle.ssh_command.specs.Requests.{Answers, words_response};
+ghost use Rattle.ssh_command.specs.GrantedRuns.{AsksFor, GrantsHost, GrantsLogin};
+ghost use Rattle.ssh_command.specs.Requests.{Answers, source_of, words_response};
 ghost use Rattle.ssh_command.specs.Printing.{Prints};
 ghost use Rattle.ssh_inputs.specs.SourceState.{IfTells};
+ghost use Rattle.ssh_words.specs.Asked.{AuditFiles};
+ghost use Rattle.ssh_words.specs.declared.subcommand.Subcommand.TheVariants.{Host, Login};
 
 use crate::respond::respond;
 use crate::sink::Sink;
@@ -33,6 +37,23 @@ fn put_out<W: Sink>(writer: &mut W, text: &[u8], status: u8) -> u8
     status
 }
 
+/// Writes the lines of the answer, and returns the status.
+fn answer<S: AsStr, F: Files, W: Sink>(
+    alloc: Global,
+    words: &[S],
+    files: &mut F,
+    writer: &mut W,
+) -> u8
+    requires { NoneFailed (W.account writer.old) }
+    ensures { IfTells (F.source_state files.old) (λ s. (r : Shown) × Answers (map S.text words.now) s (F.source_state files.new) r
+        × Prints (W.account writer.old) (W.account writer.new) r result) }
+{
+    match respond(alloc, words, files) {
+        Ok(response) => put_out(writer, response.text.as_slice(), response.status),
+        Err(AllocError) => put_out(writer, b"fault A8\n", FAULT),
+    }
+}
+
 /// Runs the program on the words after its own name; where there are none, on those of the first
 /// line of standard input, which is the file `-`. It writes the lines of the answer and returns the
 /// status: 0 for granted or done, 1 for denied, 2 for a fault, also of the writer, to which nothing
@@ -47,13 +68,23 @@ pub fn run<S: AsStr, F: Files, W: Sink>(
     // Where the source tells its files: the writer took the answer's text whole, with its status;
     // or a proper front of it, after which a write failed, with status 2. The answer is the defined
     // one, or out of memory, or after a failed read that read's own fault.
-    ensures { IfTells (F.source_state files.old) (λ s. (r : Shown) × Answers (map S.text words.now) s (F.source_state files.new) r
+    ensures answers { IfTells (F.source_state files.old) (λ s. (r : Shown) × Answers (map S.text words.now) s (F.source_state files.new) r
+        × Prints (W.account writer.old) (W.account writer.new) r result) }
+    // Status 0 to a login is a grant: a line of the trust file admits the offer, all its conditions
+    // hold, and the vouch file vouches for all that it rests on. That was printed.
+    ensures login { IfTells (F.source_state files.old) (λ s. (rows : List Row) (f : AuditFiles)
+        → AsksFor Login (map S.text words.now) s rows f
+        → result ≡ 0
+        → (r : Shown) × GrantsLogin rows f (source_of (map S.text words.now) s) r
+        × Prints (W.account writer.old) (W.account writer.new) r result) }
+    // So it is of a host's key, which moreover no line of the file revokes.
+    ensures host { IfTells (F.source_state files.old) (λ s. (rows : List Row) (f : AuditFiles)
+        → AsksFor Host (map S.text words.now) s rows f
+        → result ≡ 0
+        → (r : Shown) × GrantsHost rows f (source_of (map S.text words.now) s) r
         × Prints (W.account writer.old) (W.account writer.new) r result) }
 {
-    match respond(alloc, words, files) {
-        Ok(response) => put_out(writer, response.text.as_slice(), response.status),
-        Err(AllocError) => put_out(writer, b"fault A8\n", FAULT),
-    }
+    answer(alloc, words, files, writer)
 }
 
 /// What is printed where the program's own words cannot be read.

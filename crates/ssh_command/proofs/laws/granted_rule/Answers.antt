@@ -1,6 +1,5 @@
-use Rattle.ssh_command.proofs.GrantedRunLemmas.{host_run, login_run}
 use Rattle.ssh_command.proofs.GrantingLemmas.{host_granted, login_granted}
 use Rattle.ssh_command.proofs.laws.granted_rule.Goals as goal
 
 pub returns : goal.returns
-returns c = record { asked_login = login_granted; asked_host = host_granted; login = login_run; host = host_run }
+returns c = record { asked_login = login_granted; asked_host = host_granted }
