@@ -18,6 +18,7 @@ import pathlib
 import random
 import re
 import resource
+import signal
 import subprocess
 import sys
 import tempfile
@@ -117,6 +118,27 @@ def memory_rows(path, room, tally):
         started = [answer for answer in answers if answer[0] >= 0 and answer[0] != 127]
         other = [answer for answer in started if answer not in (own, (2, b"fault A8\n", b""))]
         tally.check(f"little address space: {asked[0]}", (other[:1], answers[-1]), ([], own))
+
+
+# ---- a limit on the size of files
+
+
+def file_size_rows(path, room, tally):
+    """Past the file size limit a front of the answer stands: the signal ends the program, or where it is ignored the status is 2."""
+    asked = show("key", "keys")
+    own = run(path, room, asked)[1]
+    for size in (0, 1, len(own) - 1, len(own)):
+        for how, status in ((signal.SIG_DFL, -signal.SIGXFSZ), (signal.SIG_IGN, 2)):
+
+            def limit():
+                signal.signal(signal.SIGXFSZ, how)
+                resource.setrlimit(resource.RLIMIT_FSIZE, (size, size))
+
+            with open(room / "out", "wb") as out:
+                ran = subprocess.run([path, *asked], cwd=room, stdin=subprocess.DEVNULL, stdout=out, stderr=subprocess.PIPE, timeout=program.SECONDS, check=False, preexec_fn=limit)
+            wanted = (0 if size == len(own) else status, own[:size], b"")
+            tally.check(f"a file size limit of {size} bytes, {how.name}", (ran.returncode, (room / "out").read_bytes(), ran.stderr), wanted)
+    (room / "out").unlink()
 
 
 # ---- files that change
@@ -312,7 +334,7 @@ def main():
         (room / "body").write_bytes(SSHSIG)
         (room / "message").write_bytes(SIGNED_MESSAGE)
         (room / "many salts").write_bytes(bytes(20 * 1000))
-        for row in (fifo_rows, memory_rows, shrinking_rows, name_rows):
+        for row in (fifo_rows, memory_rows, file_size_rows, shrinking_rows, name_rows):
             row(path, room, tally)
         library = made(room, "run_again", "-shared", "-fPIC")
         same_rows(path, room, tally, library, args.seed)

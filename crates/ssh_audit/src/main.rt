@@ -4,9 +4,12 @@
 //! answer.
 #![tactic(auto)]
 
+mod again;
+mod retried;
 mod system;
 mod watched;
 
+use retried::Retried;
 use ssh_command::{refuse, run};
 use ssh_words::WordsError;
 use std::alloc::Global;
@@ -34,7 +37,7 @@ fn tell_usage(rt: &HostRuntime) {
 
 fn main(rt: HostRuntime) -> ExitCode {
     let mut files = SystemFiles::new(&rt);
-    let mut writer = Watched::new(io::writer(&rt));
+    let mut writer = Watched::new(Retried::new(io::writer(&rt)));
     let status = match read_words(&rt) {
         Ok(words) => run(rt.alloc(), words.as_slice(), &mut files, &mut writer),
         Err(error) if error.kind() == ErrorKind::OutOfMemory => {
