@@ -25,6 +25,7 @@ SECTION = re.compile(r"^## (.*)\n((?:(?!^## ).*\n)*)", re.MULTILINE)
 BLOCK = re.compile(r"^```sh\n(.*?)^```$", re.MULTILINE | re.DOTALL)
 MARK = "\x1e"
 WEB, DB = "fleet/web1/ann/authorized_keys", "fleet/db1/root/authorized_keys"
+WEB_HOSTS, DB_HOSTS = "fleet/web1/ann/known_hosts", "fleet/db1/root/known_hosts"
 EVERY = "port agent x11 pty rc"
 NAMES = ("laptop", "backup", "build", "bob", "ca", "carol", "ci", "work", "old")
 # 2026-02-02 and 2026-04-24, in UTC.
@@ -59,6 +60,18 @@ no-pty {carol}
         DB: """restrict,command="/usr/bin/backup" {backup}
 {ci}
 {work}
+""",
+        # The keys of hosts: db was set up anew and web1 has the old key, git has one key of each of two types.
+        WEB_HOSTS: """db,10.0.0.2 {laptop}
+GIT.example.org {build}
+*.lab,!x.lab {ca}
+@cert-authority *.example.org {ca}
+""",
+        DB_HOSTS: """DB {backup}
+10.0.0.2 {laptop}
+git.example.org {old}
+|1|F1E1KeoE/eEWhi10WpGv4OdiO6Y=|3988QV0VE8wmZL7suNrYQLITLCg= {work}
+@revoked * {carol}
 """,
     },
 )
@@ -145,6 +158,7 @@ def wanted(marks):
         "Orphans": f"{marks['ci']}\t{DB}\n",
         "Numbers for the report": f"q1\n{counts}q2\n",
         "What expires within 30 days": f"{WEB}:5 {marks['bob']} {TOLD['bob']}\n",
+        "What hosts are known by": "db\tssh-ed25519\n",
         "A table for a spreadsheet": "".join(csv(marks)),
         "A gate on a repository of keys": "",
     }
