@@ -16,7 +16,9 @@ pub struct Retried<W> {
 
 impl<W> Retried<W> {
     /// The same writer.
-    pub fn new(writer: W) -> Self {
+    pub fn new(writer: W) -> Self
+        ensures { result.writer ≡ writer }
+    {
         Retried { writer }
     }
 }
