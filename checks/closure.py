@@ -1,7 +1,7 @@
 #!/usr/bin/env python3
 """Counts what a reader has to read to know what a grant means: the definitions that the clause `means` of a login and of a
 host's key comes to, with those that say which claim was read. Compares the counts, and the files that they stand in, with
-docs/REVIEW.md, so that they cannot grow unseen.
+docs/REVIEW.md, so that they cannot grow unseen; and each of their words has to be defined once in all of specs/.
 
 usage: closure.py [--list]
 
@@ -98,6 +98,15 @@ def measure(found, known):
     return len(found), lines, len(files), sum(name[0].islower() for _, _, name in found)
 
 
+def said_twice(found, known):
+    """The words of these definitions that another file of specs/ defines too, each with its files."""
+    places = collections.defaultdict(list)
+    for (crate, file), module in sorted(known.items()):
+        for name in module.definitions:
+            places[name].append(f"{crate}/specs/{file}.antt")
+    return {name: places[name] for name in sorted({name for _, _, name in found}) if len(places[name]) > 1}
+
+
 def show(found):
     by_file = collections.defaultdict(list)
     for crate, file, name in found:
@@ -112,9 +121,10 @@ def main():
     told = {name: tuple(map(int, numbers)) for name, *numbers in COUNT.findall(text)}
     listed = set(ROW.findall(text))
     passed = failed = 0
-    reached = set()
+    reached, words = set(), set()
     for name, roots in ROOTS.items():
         found = closure(roots, known)
+        words |= found
         reached |= {(crate, file) for crate, file, _ in found}
         counts = measure(found, known)
         print(f"{name}: {counts[0]} definitions, {counts[1]} lines, {counts[2]} files, {counts[3]} that compute")
@@ -128,6 +138,11 @@ def main():
         failed += 1
         print(f"FAILED {crate}/specs/{file}.antt is " + ("not in docs/REVIEW.md" if (crate, file) in reached else "in docs/REVIEW.md, and nothing comes to it"))
     passed += len(reached & listed)
+    twice = said_twice(words, known)
+    passed += len(words) - len(twice)
+    for name, files in twice.items():
+        failed += 1
+        print(f"FAILED {name} is defined in {', '.join(files)}")
     print(f"{passed} passed, {failed} failed")
     return 1 if failed or not passed else 0
 

@@ -9,7 +9,7 @@ use Rattle.ssh_offers.specs.declared.error.AuditError.{AuditError}
 use Rattle.ssh_offers.specs.declared.query.Signed.{Signed}
 use Rattle.ssh_print.specs.Codes.{cause_code, cause_codes, fault_codes, line_code, reason_code, reason_codes}
 use Rattle.ssh_print.specs.DecisionText.{rights_lines}
-use Rattle.ssh_print.specs.Texts.{escaped}
+use Rattle.ssh_print.specs.Texts.{escaped_text}
 use Rattle.ssh_rules.specs.declared.reason.Reason.{Reason}
 use Rattle.ssh_rules.specs.declared.reason.Reason.TheVariants.{Unreadable}
 use Rattle.ssh_trust.specs.declared.decision.Cause.{Cause}
@@ -104,4 +104,4 @@ answer_lines who (Err e) = fault_line e
 
 -- the same after the name of the file
 abbrev pub answer_text : Party → List ℕ → Result Decision AuditError → List ℕ
-answer_text who name answer = escaped name ++ codes ": " ++ answer_lines who answer
+answer_text who name answer = escaped_text name ++ codes ": " ++ answer_lines who answer

@@ -2,13 +2,13 @@
 use Rattle.std.specs.Prelude.{Bool, true, false, ℕ, List, [], ◌∷◌, codes, Option, Some, None}
 use Rattle.ssh_keys.specs.declared.kind.KeyKind.{KeyKind}
 use Rattle.ssh_keys.specs.declared.kind.KeyKind.TheVariants.{Rsa, SkP256, SkEd25519}
-use Rattle.ssh_keys.specs.Names.{certificate_name_of, name_of}
+use Rattle.ssh_keys.specs.Names.{certificate_name_of, key_name_of}
 use Rattle.ssh_keys.specs.Signature.{Signature, signature_blob, signature_with}
 
 -- the algorithm of a signature by a key: its type, but of RSA the name with SHA-512 (RFC 8332 section 3)
 abbrev pub signature_algorithm : KeyKind → List ℕ
 signature_algorithm Rsa = codes "rsa-sha2-512"
-signature_algorithm kind = name_of kind
+signature_algorithm kind = key_name_of kind
 
 -- the name by which a certificate of a key is offered
 abbrev pub certificate_algorithm : KeyKind → List ℕ

@@ -10,7 +10,8 @@ use Rattle.ssh_wire.specs.declared.error.WireError.{WireError}
 use Rattle.ssh_wire.specs.Spelling.{string, uint32}
 use Rattle.ssh_wire.specs.Position.{Position, start, advance}
 use Rattle.ssh_wire.specs.Reading.{Read, byte_at, number_at, string_at}
-use Rattle.ssh_wire.specs.Laws.{IsBytes, IsBytes-drop, Took, Took-then, wide32, number_takes, number_again, string_takes, string_again, string_fits, refused_none, ok_is, fine}
+use Rattle.ssh_wire.specs.Fronts.{IsBytes, Took}
+use Rattle.ssh_wire.specs.Laws.{IsBytes-drop, Took-then, wide32, number_takes, number_again, string_takes, string_again, string_fits, refused_none, ok_is, fine}
 use Rattle.ssh_wire.proofs.RowLemmas.{test_err, string_is_short}
 use Rattle.ssh_keys.specs.FirstFault.{IsFirstFault}
 use Rattle.ssh_keys.proofs.KeyLaws.{key_takes, key_again}

@@ -2,7 +2,8 @@
 use Rattle.std.proofs.Common.{◌≡◌, ◌≢◌, ℕ, ◌^◌, ◌<◌, Bool, true, ltb, List, [], ◌∷◌, length, Ok, Err, refl, sym, ap, subst, ◌∙◌, arith}
 use Rattle.std.specs.Prelude.{nat_le}
 use Rattle.std.proofs.lemmas.Bool.{leb-true, le-leb, lt-ltb}
-use Rattle.ssh_wire.specs.Laws.{IsBytes, ok_is}
+use Rattle.ssh_wire.specs.Fronts.{IsBytes}
+use Rattle.ssh_wire.specs.Laws.{ok_is}
 use Rattle.ssh_keys.proofs.KeyLaws.{key_takes, key_again}
 use Rattle.ssh_keys.proofs.Ranges.{key_from_takes, key_from_again}
 use Rattle.ssh_keys.proofs.SignatureLaws.{signature_takes, signature_again}

@@ -9,7 +9,8 @@ use Rattle.ssh_wire.specs.declared.error.WireCause.TheVariants.{Value}
 use Rattle.ssh_wire.specs.Spelling.{string, mpint, mpint_bytes}
 use Rattle.ssh_wire.specs.Position.{Position}
 use Rattle.ssh_wire.specs.Reading.{byte_at, string_at, mpint_at}
-use Rattle.ssh_wire.specs.Laws.{IsBytes, Took, guard_ok, ok_is}
+use Rattle.ssh_wire.specs.Fronts.{IsBytes, Took}
+use Rattle.ssh_wire.specs.Laws.{guard_ok, ok_is}
 use Rattle.ssh_wire.specs.MpintLaws.{mpint_takes, mpint_again}
 use Rattle.ssh_keys.proofs.KeyLaws.{and_ok}
 use Rattle.ssh_keys.specs.PublicKey.{PublicKey, rsa, p256, p384, p521, ed25519, sk_p256, sk_ed25519, is_in_range}

@@ -10,9 +10,10 @@ use Rattle.std.proofs.lemmas.Slice.Eq.{bytes_eq-Decides}
 use Rattle.ssh_wire.specs.Spelling.{string, uint32}
 use Rattle.ssh_wire.specs.Position.{Position, start}
 use Rattle.ssh_wire.specs.Reading.{◌>>=◌, Read, number_at, string_at}
-use Rattle.ssh_wire.specs.Laws.{IsBytes, Took, ok_is, fine, string_fits}
+use Rattle.ssh_wire.specs.Fronts.{IsBytes, Took}
+use Rattle.ssh_wire.specs.Laws.{ok_is, fine, string_fits}
 use Rattle.ssh_keys.proofs.KeyLaws.{and_ok, name_short}
-use Rattle.ssh_keys.specs.Names.{name_of}
+use Rattle.ssh_keys.specs.Names.{key_name_of}
 use Rattle.ssh_keys.specs.PublicKey.{PublicKey, kind_of, key_blob, longest, IsKey}
 use Rattle.ssh_bodies.specs.declared.error.BodyError.{BodyError}
 use Rattle.ssh_bodies.specs.declared.error.BodyError.TheVariants as errors
@@ -48,7 +49,7 @@ section_took public at v fits h =
     after_step (of_wire (number_at w32 check.1)) _ v h1 (λ again read_again h2.
     after_step (wants (eqb check.0 again.0) errors.CheckMismatch) _ v h2 (λ u1 is_same h3.
     after_step (of_wire (string_at again.1)) _ v h3 (λ name read_name h4.
-    after_step (wants (bytes_eq name.0 (name_of (kind_of public))) errors.PublicMismatch) _ v h4 (λ u2 is_named h5.
+    after_step (wants (bytes_eq name.0 (key_name_of (kind_of public))) errors.PublicMismatch) _ v h4 (λ u2 is_named h5.
     after_step (private_at public name.1) _ v h5 (λ key read_key h6.
     after_step (wants key.0.1 errors.PublicMismatch) _ v h6 (λ u3 is_half h7.
     after_step (of_wire (string_at key.1)) _ v h7 (λ comment read_comment h8.
@@ -58,31 +59,31 @@ section_took public at v fits h =
     let same : again.0 ≡ check.0 = sym (eqb-true check.0 again.0 (wants_ok (eqb check.0 again.0) errors.CheckMismatch u1 is_same)) in
     let t_name = text_took again.1 name t_again.0.rest_fits read_name in
     let t_key = private_took public name.1 key t_name.0.rest_fits read_key (wants_ok key.0.1 errors.PublicMismatch u3 is_half) in
-    let named : name.0 ≡ name_of (kind_of (public_of key.0.0)) =
-    (bytes_eq-Decides name.0 (name_of (kind_of public))).0 (wants_ok (bytes_eq name.0 (name_of (kind_of public))) errors.PublicMismatch u2 is_named) ∙ ap (λ (k : PublicKey). name_of (kind_of k)) (sym t_key.half) in
+    let named : name.0 ≡ key_name_of (kind_of (public_of key.0.0)) =
+    (bytes_eq-Decides name.0 (key_name_of (kind_of public))).0 (wants_ok (bytes_eq name.0 (key_name_of (kind_of public))) errors.PublicMismatch u2 is_named) ∙ ap (λ (k : PublicKey). key_name_of (kind_of k)) (sym t_key.half) in
     let t_comment = text_took key.1 comment t_key.took.rest_fits read_comment in
     let rest = (comment.1).rest in
     let pad = and_ok (nat_le (length rest) 254) (bytes_eq rest (padding (length rest))) (wants_ok (is_padding rest) errors.Padding u4 padded) in
     let is_pad : rest ≡ padding (length rest) = (bytes_eq-Decides rest (padding (length rest))).0 pad.1 in
     let made : PrivateBody = record { check = check.0; key = key.0.0; comment = comment.0 } in
     let fields = concat (private_fields key.0.0) in
-    let parts : at.rest ≡ uint32 check.0 ++ (uint32 check.0 ++ (string (name_of (kind_of (public_of key.0.0))) ++ (fields ++ (string comment.0 ++ padding (length rest))))) =
+    let parts : at.rest ≡ uint32 check.0 ++ (uint32 check.0 ++ (string (key_name_of (kind_of (public_of key.0.0))) ++ (fields ++ (string comment.0 ++ padding (length rest))))) =
     joins (uint32 check.0) t_check.0.parts (subst (λ (n : ℕ). (check.1).rest ≡ uint32 n ++ (again.1).rest) same t_again.0.parts ∙ ap (λ (t : List ℕ). uint32 check.0 ++ t)
-    (subst (λ (n : List ℕ). (again.1).rest ≡ string n ++ (name.1).rest) named t_name.0.parts ∙ ap (λ (t : List ℕ). string (name_of (kind_of (public_of key.0.0))) ++ t)
+    (subst (λ (n : List ℕ). (again.1).rest ≡ string n ++ (name.1).rest) named t_name.0.parts ∙ ap (λ (t : List ℕ). string (key_name_of (kind_of (public_of key.0.0))) ++ t)
     (joins fields t_key.took.parts (joins (string comment.0) t_comment.0.parts is_pad)))) in
     subst (λ (y : PrivateBody). IsSection public at.rest y) (ok_is {E = BodyError} made v h9) (record {
       count = length rest;
       few = leb-true (length rest) 254 pad.0;
-      spelled = parts ∙ reassociate (uint32 check.0) (uint32 check.0) (string (name_of (kind_of (public_of key.0.0)))) fields (string comment.0) (padding (length rest));
+      spelled = parts ∙ reassociate (uint32 check.0) (uint32 check.0) (string (key_name_of (kind_of (public_of key.0.0)))) fields (string comment.0) (padding (length rest));
       check = t_check.1;
       half = t_key.half;
       in_range = t_key.in_range;
     }))))))))))
 
-pub front_length : (v : PrivateBody) → length (section_front v) ≡ 8 + (length (string (name_of (kind_of (public_of v.key)))) + (length (concat (private_fields v.key)) + length (string v.comment)))
+pub front_length : (v : PrivateBody) → length (section_front v) ≡ 8 + (length (string (key_name_of (kind_of (public_of v.key)))) + (length (concat (private_fields v.key)) + length (string v.comment)))
 unfolding section_front
 front_length v =
-    let name = string (name_of (kind_of (public_of v.key))) in
+    let name = string (key_name_of (kind_of (public_of v.key))) in
     let fields = concat (private_fields v.key) in
     omega (arith, length-append (uint32 v.check) (uint32 v.check ++ (name ++ (fields ++ string v.comment))), length-append (uint32 v.check) (name ++ (fields ++ string v.comment)), length-append name (fields ++ string v.comment), length-append fields (string v.comment))
 
@@ -97,7 +98,7 @@ pub section_back : (v : PrivateBody) (count place : ℕ) → v.check < 2 ^ 32 �
     → section_at (public_of v.key) (record { place = place; rest = section v count }) ≡ Ok v
 unfolding section_at section_front
 section_back v count place check_lt is_key in_range few short =
-    let name = name_of (kind_of (public_of v.key)) in
+    let name = key_name_of (kind_of (public_of v.key)) in
     let fields = private_fields v.key in
     let r5 = padding count in
     let r4 = string v.comment ++ r5 in
@@ -392,16 +393,16 @@ wrote_in_turn v old o1 o2 o3 o4 o5 new blob k n e1 e2 is_k e3 e4 is_n is_key e5 
         append_assoc (a ++ (q ++ x)) b n ∙ append_assoc a (q ++ x) (b ++ n) ∙ ap (λ (t : List ℕ). a ++ t) (append_assoc q x (b ++ n) ∙ ap (λ (t : List ℕ). q ++ t) (sym (append_assoc x b n)))
 
 -- the front of the section, as it is written
-pub wrote_front : {E : Type 0} (r : Result (Unit {0}) E) (v : PrivateBody) (old o1 o2 new name : List ℕ) → o1 ≡ old ++ (uint32 v.check ++ (uint32 v.check ++ string name)) → name ≡ name_of (kind_of (public_of v.key))
+pub wrote_front : {E : Type 0} (r : Result (Unit {0}) E) (v : PrivateBody) (old o1 o2 new name : List ℕ) → o1 ≡ old ++ (uint32 v.check ++ (uint32 v.check ++ string name)) → name ≡ key_name_of (kind_of (public_of v.key))
     → o2 ≡ o1 ++ concat (private_fields v.key) → OnOk r (new ≡ o2 ++ string v.comment) → OnOk r (new ≡ old ++ section_front v)
 unfolding section_front
 wrote_front r v old o1 o2 new name e1 named e2 h =
     let number = uint32 v.check in
     let fields = concat (private_fields v.key) in
     let comment = string v.comment in
-    let whole : o2 ++ comment ≡ old ++ (number ++ (number ++ (string (name_of (kind_of (public_of v.key))) ++ (fields ++ comment)))) =
+    let whole : o2 ++ comment ≡ old ++ (number ++ (number ++ (string (key_name_of (kind_of (public_of v.key))) ++ (fields ++ comment)))) =
     ap (λ (t : List ℕ). t ++ comment) (e2 ∙ ap (λ (t : List ℕ). t ++ fields) (e1 ∙ ap (λ (n : List ℕ). old ++ (number ++ (number ++ string n))) named))
-    ∙ regroup old number (string (name_of (kind_of (public_of v.key)))) fields comment in
+    ∙ regroup old number (string (key_name_of (kind_of (public_of v.key)))) fields comment in
     subst (λ (t : List ℕ). OnOk r (new ≡ t)) whole h
   where
     regroup : (o a n f c : List ℕ) → ((o ++ (a ++ (a ++ n))) ++ f) ++ c ≡ o ++ (a ++ (a ++ (n ++ (f ++ c))))

@@ -13,11 +13,12 @@ use Rattle.ssh_wire.specs.declared.error.WireError.{WireError}
 use Rattle.ssh_wire.specs.Spelling.{string, uint32, mpint, mpint_bytes, natural, is_least, is_not_negative}
 use Rattle.ssh_wire.specs.Position.{Position}
 use Rattle.ssh_wire.specs.Reading.{◌>>=◌, Read, fault, byte_at, number_at, string_at, mpint_at}
-use Rattle.ssh_wire.specs.Laws.{IsBytes, Took, Took-then, ok_is, fine, string_takes, string_again, refused_none}
+use Rattle.ssh_wire.specs.Fronts.{IsBytes, Took}
+use Rattle.ssh_wire.specs.Laws.{Took-then, ok_is, fine, string_takes, string_again, refused_none}
 use Rattle.ssh_wire.specs.MpintLaws.{mpint_takes}
 use Rattle.ssh_wire.specs.Stands.{NoString}
 use Rattle.ssh_wire.proofs.RowLemmas.{string_is_short}
-use Rattle.ssh_keys.specs.Names.{name_of}
+use Rattle.ssh_keys.specs.Names.{key_name_of}
 use Rattle.ssh_keys.specs.PublicKey.{PublicKey, rsa, p256, p384, p521, ed25519, sk_p256, sk_ed25519, kind_of, is_in_range, longest}
 use Rattle.ssh_keys.proofs.SignatureLaws.{byte_takes}
 use Rattle.ssh_bodies.specs.declared.error.BodyError.{BodyError}
@@ -326,12 +327,12 @@ section_fault public at e fits public_range short h =
     let u2 = up public 2 (v check.0) (of check.0 t_check.1) at again.1 fits (check.1, t_check.0, (again.1, t_same, refl)) in
     step_err (of_wire (string_at again.1)) _ e h3 (λ bad. let f = text_fault again.1 e bad in short_fault public at e u2.place (again.1).place f.0 u2.far (inr ((again.1).rest, inl u2.stands, f.1))) (λ name read_name h4.
     let t_name = text_took again.1 name t_same.rest_fits read_name in
-    step_err (wants (bytes_eq name.0 (name_of (kind_of public))) errors.PublicMismatch) _ e h4 (λ bad.
-    let f = wants_err (bytes_eq name.0 (name_of (kind_of public))) errors.PublicMismatch e bad in
-    subst told f.1 (inl (u2.place, name.0, (name.1).rest, subst (λ (r : List ℕ). SectionStands public 2 at.rest u2.place r) t_name.0.parts u2.stands, other_name name.0 (name_of (kind_of public)) f.0))) (λ ok2 is_named h5.
-    let named : name.0 ≡ name_of (kind_of public) = (bytes_eq-Decides name.0 (name_of (kind_of public))).0 (wants_ok (bytes_eq name.0 (name_of (kind_of public))) errors.PublicMismatch ok2 is_named) in
-    let name_for : (key : PrivateKey) → public_of key ≡ public → Took again.1 (string (name_of (kind_of (public_of key)))) name.1 =
-    λ key half. subst (λ (n : List ℕ). Took again.1 (string n) name.1) (named ∙ ap (λ (k : PublicKey). name_of (kind_of k)) (sym half)) t_name.0 in
+    step_err (wants (bytes_eq name.0 (key_name_of (kind_of public))) errors.PublicMismatch) _ e h4 (λ bad.
+    let f = wants_err (bytes_eq name.0 (key_name_of (kind_of public))) errors.PublicMismatch e bad in
+    subst told f.1 (inl (u2.place, name.0, (name.1).rest, subst (λ (r : List ℕ). SectionStands public 2 at.rest u2.place r) t_name.0.parts u2.stands, other_name name.0 (key_name_of (kind_of public)) f.0))) (λ ok2 is_named h5.
+    let named : name.0 ≡ key_name_of (kind_of public) = (bytes_eq-Decides name.0 (key_name_of (kind_of public))).0 (wants_ok (bytes_eq name.0 (key_name_of (kind_of public))) errors.PublicMismatch ok2 is_named) in
+    let name_for : (key : PrivateKey) → public_of key ≡ public → Took again.1 (string (key_name_of (kind_of (public_of key)))) name.1 =
+    λ key half. subst (λ (n : List ℕ). Took again.1 (string n) name.1) (named ∙ ap (λ (k : PublicKey). key_name_of (kind_of k)) (sym half)) t_name.0 in
     let u3 = up public 3 (v check.0) (of check.0 t_check.1) at name.1 fits (check.1, t_check.0, (again.1, t_same, (name.1, name_for some.0 some.1, refl))) in
     let walk = private_walk public name.1 t_name.0.rest_fits in
     step_err (private_at public name.1) _ e h5 (λ bad.

@@ -9,7 +9,8 @@ use Rattle.ssh_wire.specs.declared.error.WireError.{WireError}
 use Rattle.ssh_wire.specs.Spelling.{string, uint32}
 use Rattle.ssh_wire.specs.Position.{Position, start}
 use Rattle.ssh_wire.specs.Reading.{number_at, string_at}
-use Rattle.ssh_wire.specs.Laws.{IsBytes, Took, fine, string_fits}
+use Rattle.ssh_wire.specs.Fronts.{IsBytes, Took}
+use Rattle.ssh_wire.specs.Laws.{fine, string_fits}
 use Rattle.ssh_keys.specs.PublicKey.{PublicKey, ed25519, key_blob, longest, IsKey}
 use Rattle.ssh_keys.specs.Signature.{signature_blob, IsSignature, signature_in}
 use Rattle.ssh_keys.proofs.SignatureFaults.{signature_fault}

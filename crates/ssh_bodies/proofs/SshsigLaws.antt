@@ -11,7 +11,8 @@ use Rattle.ssh_wire.specs.declared.error.WireError.{WireError}
 use Rattle.ssh_wire.specs.Spelling.{string, uint32}
 use Rattle.ssh_wire.specs.Position.{Position, start}
 use Rattle.ssh_wire.specs.Reading.{◌>>=◌, Read, number_at, string_at}
-use Rattle.ssh_wire.specs.Laws.{IsBytes, Took, ok_is, string_fits}
+use Rattle.ssh_wire.specs.Fronts.{IsBytes, Took}
+use Rattle.ssh_wire.specs.Laws.{ok_is, string_fits}
 use Rattle.ssh_keys.specs.PublicKey.{PublicKey, key_blob, longest, IsKey}
 use Rattle.ssh_keys.specs.Signature.{Signature, signature_blob, IsSignature, signature_in}
 use Rattle.ssh_keys.proofs.SignatureLaws.{signature_takes, signature_again}

@@ -3,7 +3,7 @@ use Rattle.std.specs.Prelude.{◌≡◌, ℕ, zero, suc, ◌+◌, ◌-◌, ◌%�
 use Rattle.std.specs.List.{concat}
 use Rattle.std.specs.Str.{bytes_eq}
 use Rattle.ssh_wire.specs.Spelling.{string, uint32, mpint}
-use Rattle.ssh_keys.specs.Names.{name_of}
+use Rattle.ssh_keys.specs.Names.{key_name_of}
 use Rattle.ssh_keys.specs.PublicKey.{PublicKey, rsa, p256, p384, p521, ed25519, sk_p256, sk_ed25519, kind_of, key_blob, longest, IsKey}
 
 -- a private key, wherever it lies in memory
@@ -69,7 +69,7 @@ padding count = padding_after 0 count
 
 -- the private section before its padding: the check number twice, the type name, the fields, the comment
 unfoldable pub section_front : PrivateBody → List ℕ
-section_front v = uint32 v.check ++ (uint32 v.check ++ (string (name_of (kind_of (public_of v.key))) ++ (concat (private_fields v.key) ++ string v.comment)))
+section_front v = uint32 v.check ++ (uint32 v.check ++ (string (key_name_of (kind_of (public_of v.key))) ++ (concat (private_fields v.key) ++ string v.comment)))
 
 -- the private section with so many bytes of padding
 abbrev pub section : PrivateBody → ℕ → List ℕ

@@ -4,7 +4,7 @@ use Rattle.std.specs.Int.{w32}
 use Rattle.std.specs.Str.{bytes_eq}
 use Rattle.ssh_wire.specs.Position.{Position, start}
 use Rattle.ssh_wire.specs.Reading.{◌>>=◌, byte_at, number_at, string_at}
-use Rattle.ssh_keys.specs.Names.{name_of}
+use Rattle.ssh_keys.specs.Names.{key_name_of}
 use Rattle.ssh_keys.specs.PublicKey.{PublicKey, rsa, p256, p384, p521, ed25519, sk_p256, sk_ed25519, kind_of, longest}
 use Rattle.ssh_bodies.specs.declared.error.BodyError.{BodyError}
 use Rattle.ssh_bodies.specs.declared.error.BodyError.TheVariants as errors
@@ -106,7 +106,7 @@ section_at public at = do
   again ← of_wire (number_at w32 check.1)
   _ ← wants (check.0 == again.0) errors.CheckMismatch
   name ← of_wire (string_at again.1)
-  _ ← wants (bytes_eq name.0 (name_of (kind_of public))) errors.PublicMismatch
+  _ ← wants (bytes_eq name.0 (key_name_of (kind_of public))) errors.PublicMismatch
   key ← private_at public name.1
   _ ← wants key.0.1 errors.PublicMismatch
   comment ← of_wire (string_at key.1)

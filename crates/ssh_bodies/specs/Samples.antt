@@ -18,8 +18,8 @@ abbrev none : List ℕ
 none = text 4 (codes "none")
 
 -- a body of so many keys: a public key of so many bytes, and a private section of so many
-abbrev body_of : ℕ → ℕ → List ℕ → List ℕ → List ℕ → List ℕ
-body_of keys len public section_len section =
+abbrev sample_body : ℕ → ℕ → List ℕ → List ℕ → List ℕ → List ℕ
+sample_body keys len public section_len section =
     codes "openssh-key-v1" ++ 0 ∷ none ++ none ++ text 0 [] ++ 0 ∷ 0 ∷ 0 ∷ keys ∷ text len public ++ section_len ++ section
 
 abbrev short_at : ℕ → BodyError
@@ -39,7 +39,7 @@ abc = text 3 (codes "abc")
 
 -- the body with so many keys, and such a section of 136 bytes
 abbrev ed25519_body : ℕ → List ℕ → List ℕ
-ed25519_body keys section = body_of keys 51 ed25519_key (0 ∷ 0 ∷ 0 ∷ 136 ∷ []) section
+ed25519_body keys section = sample_body keys 51 ed25519_key (0 ∷ 0 ∷ 0 ∷ 136 ∷ []) section
 
 abbrev good : List ℕ
 good = ed25519_body 1 (front 0 abc ++ 1 ∷ 2 ∷ [])
@@ -66,8 +66,8 @@ PrivateSamplesRefused = (private_in (good ++ 0 ∷ []) ≡ Err errors.Trailing)
     × (private_in (ed25519_body 2 (front 0 abc ++ 1 ∷ 2 ∷ [])) ≡ Err errors.KeyCount)
     × (private_in (ed25519_body 1 (front 1 abc ++ 1 ∷ 2 ∷ [])) ≡ Err errors.PublicMismatch)
     × (private_in (ed25519_body 1 (front 0 abc ++ 1 ∷ 3 ∷ [])) ≡ Err errors.Padding)
-    × (private_in (body_of 1 51 ed25519_key (0 ∷ 0 ∷ 0 ∷ 8 ∷ []) (0 ∷ 0 ∷ 0 ∷ 1 ∷ 0 ∷ 0 ∷ 0 ∷ 2 ∷ [])) ≡ Err errors.CheckMismatch)
-    × (private_in (body_of 1 51 ed25519_key (0 ∷ 0 ∷ 0 ∷ 134 ∷ []) (front 0 abc)) ≡ Err errors.NotMultipleOfEight)
+    × (private_in (sample_body 1 51 ed25519_key (0 ∷ 0 ∷ 0 ∷ 8 ∷ []) (0 ∷ 0 ∷ 0 ∷ 1 ∷ 0 ∷ 0 ∷ 0 ∷ 2 ∷ [])) ≡ Err errors.CheckMismatch)
+    × (private_in (sample_body 1 51 ed25519_key (0 ∷ 0 ∷ 0 ∷ 134 ∷ []) (front 0 abc)) ≡ Err errors.NotMultipleOfEight)
     × (private_in (codes "openssh-key-v1" ++ 0 ∷ text 10 (codes "aes256-ctr") ++ none ++ text 0 []) ≡ Err errors.Encrypted)
     × (private_in (codes "openssh-key-v1" ++ 0 ∷ none ++ text 6 (codes "bcrypt") ++ text 0 []) ≡ Err errors.Encrypted)
     × (private_in (codes "openssh-key-v1" ++ 0 ∷ none ++ none ++ text 1 (0 ∷ [])) ≡ Err errors.Encrypted)
@@ -75,8 +75,8 @@ PrivateSamplesRefused = (private_in (good ++ 0 ∷ []) ≡ Err errors.Trailing)
 -- sections of 392 bytes: 254 bytes of padding are read, and 255 are not
 abbrev pub PaddingsRead : Type 0
 PaddingsRead = (padding 3 ≡ 1 ∷ 2 ∷ 3 ∷ [])
-    × (private_in (body_of 1 51 ed25519_key (0 ∷ 0 ∷ 1 ∷ 136 ∷ []) (front 0 (text 7 (codes "seven..")) ++ padding 254)) ≡ Ok (good_value (codes "seven..")))
-    × (private_in (body_of 1 51 ed25519_key (0 ∷ 0 ∷ 1 ∷ 136 ∷ []) (front 0 (text 6 (codes "six...")) ++ padding 255)) ≡ Err errors.Padding)
+    × (private_in (sample_body 1 51 ed25519_key (0 ∷ 0 ∷ 1 ∷ 136 ∷ []) (front 0 (text 7 (codes "seven..")) ++ padding 254)) ≡ Ok (good_value (codes "seven..")))
+    × (private_in (sample_body 1 51 ed25519_key (0 ∷ 0 ∷ 1 ∷ 136 ∷ []) (front 0 (text 6 (codes "six...")) ++ padding 255)) ≡ Err errors.Padding)
 
 -- ---- the other kinds
 
@@ -123,17 +123,17 @@ handle reserved = 1 ∷ text 2 (codes "kh") ++ reserved
 
 -- a key of each kind; RSA has the modulus before the exponent, and its six numbers in the order n, e, d, iqmp, p, q
 abbrev pub KindsRead : Type 0
-KindsRead = Is (body_of 1 21 (rsa_name ++ small 3 ++ small 11) (0 ∷ 0 ∷ 0 ∷ 56 ∷ []) (section_of rsa_name (small 11 ++ small 3 ++ small 5 ++ small 7 ++ small 17 ++ small 19))) (private_rsa 11 3 5 7 17 19)
-    × Is (body_of 1 172 (p521_key (codes "nistp521")) (0 ∷ 0 ∷ 0 ∷ 192 ∷ []) (section_of (p521_key (codes "nistp521")) (small 5))) (private_p521 (point 132) 5)
-    × Is (body_of 1 136 p384_key (0 ∷ 0 ∷ 0 ∷ 160 ∷ []) (section_of p384_key (text 5 (1 ∷ 0 ∷ 0 ∷ 0 ∷ 0 ∷ [])))) (private_p384 (point 96) 0x100000000)
-    × Is (body_of 1 104 p256_key (0 ∷ 0 ∷ 0 ∷ 128 ∷ []) (section_of p256_key (text 5 (1 ∷ 0 ∷ 0 ∷ 0 ∷ 2 ∷ [])))) (private_p256 (point 64) 0x100000002)
-    × Is (body_of 1 127 sk_p256_key (0 ∷ 0 ∷ 0 ∷ 160 ∷ []) (section_of sk_p256_key (handle (text 7 (codes "padded."))))) (private_sk_p256 (point 64) (codes "ssh:") 1 (codes "kh") (codes "padded."))
-    × Is (body_of 1 74 sk_ed25519_key (0 ∷ 0 ∷ 0 ∷ 104 ∷ []) (section_of sk_ed25519_key (handle (text 4 (codes "four"))))) (private_sk_ed25519 (replicate 32 9) (codes "ssh:") 1 (codes "kh") (codes "four"))
+KindsRead = Is (sample_body 1 21 (rsa_name ++ small 3 ++ small 11) (0 ∷ 0 ∷ 0 ∷ 56 ∷ []) (section_of rsa_name (small 11 ++ small 3 ++ small 5 ++ small 7 ++ small 17 ++ small 19))) (private_rsa 11 3 5 7 17 19)
+    × Is (sample_body 1 172 (p521_key (codes "nistp521")) (0 ∷ 0 ∷ 0 ∷ 192 ∷ []) (section_of (p521_key (codes "nistp521")) (small 5))) (private_p521 (point 132) 5)
+    × Is (sample_body 1 136 p384_key (0 ∷ 0 ∷ 0 ∷ 160 ∷ []) (section_of p384_key (text 5 (1 ∷ 0 ∷ 0 ∷ 0 ∷ 0 ∷ [])))) (private_p384 (point 96) 0x100000000)
+    × Is (sample_body 1 104 p256_key (0 ∷ 0 ∷ 0 ∷ 128 ∷ []) (section_of p256_key (text 5 (1 ∷ 0 ∷ 0 ∷ 0 ∷ 2 ∷ [])))) (private_p256 (point 64) 0x100000002)
+    × Is (sample_body 1 127 sk_p256_key (0 ∷ 0 ∷ 0 ∷ 160 ∷ []) (section_of sk_p256_key (handle (text 7 (codes "padded."))))) (private_sk_p256 (point 64) (codes "ssh:") 1 (codes "kh") (codes "padded."))
+    × Is (sample_body 1 74 sk_ed25519_key (0 ∷ 0 ∷ 0 ∷ 104 ∷ []) (section_of sk_ed25519_key (handle (text 4 (codes "four"))))) (private_sk_ed25519 (replicate 32 9) (codes "ssh:") 1 (codes "kh") (codes "four"))
 
 -- another curve's name, and a number that is zero
 abbrev pub KindsRefused : Type 0
-KindsRefused = (private_in (body_of 1 172 (p521_key (codes "nistp521")) (0 ∷ 0 ∷ 0 ∷ 192 ∷ []) (section_of (p521_key (codes "nistp384")) (small 5))) ≡ Err errors.PublicMismatch)
-    × (private_in (body_of 1 172 (p521_key (codes "nistp521")) (0 ∷ 0 ∷ 0 ∷ 192 ∷ []) (section_of (p521_key (codes "nistp521")) (text 0 []) ++ 4 ∷ [])) ≡ Err (errors.Wire (record { place = 399; cause = Value })))
+KindsRefused = (private_in (sample_body 1 172 (p521_key (codes "nistp521")) (0 ∷ 0 ∷ 0 ∷ 192 ∷ []) (section_of (p521_key (codes "nistp384")) (small 5))) ≡ Err errors.PublicMismatch)
+    × (private_in (sample_body 1 172 (p521_key (codes "nistp521")) (0 ∷ 0 ∷ 0 ∷ 192 ∷ []) (section_of (p521_key (codes "nistp521")) (text 0 []) ++ 4 ∷ [])) ≡ Err (errors.Wire (record { place = 399; cause = Value })))
 
 -- ---- a file signature by the key of 32 zero bytes
 

@@ -8,7 +8,7 @@ use Rattle.ssh_wire.specs.Stands.{Stands, NoNumber, NoString}
 use Rattle.ssh_keys.specs.declared.kind.KeyKind.{KeyKind}
 use Rattle.ssh_keys.specs.declared.kind.KeyKind.TheVariants.{Rsa, P256, P384, P521, Ed25519, SkP256, SkEd25519}
 use Rattle.ssh_keys.specs.FieldFaults as keys
-use Rattle.ssh_keys.specs.Names.{name_of}
+use Rattle.ssh_keys.specs.Names.{key_name_of}
 use Rattle.ssh_keys.specs.PublicKey.{PublicKey, kind_of}
 use Rattle.ssh_bodies.specs.declared.error.BodyError.{BodyError}
 use Rattle.ssh_bodies.specs.declared.error.BodyError.TheVariants.{CheckMismatch, Padding, PublicMismatch, Wire}
@@ -18,7 +18,7 @@ use Rattle.ssh_bodies.specs.PrivateKey.{PrivateKey, PrivateBody, public_of, priv
 
 -- the row of a section before its padding (PROTOCOL.key); all fields of the private key are one here
 abbrev pub section_row : PrivateBody → List (List ℕ)
-section_row v = uint32 v.check ∷ uint32 v.check ∷ string (name_of (kind_of (public_of v.key))) ∷ concat (private_fields v.key) ∷ string v.comment ∷ []
+section_row v = uint32 v.check ∷ uint32 v.check ∷ string (key_name_of (kind_of (public_of v.key))) ∷ concat (private_fields v.key) ∷ string v.comment ∷ []
 
 -- what the section of this public key may hold
 pub record IsBodyOf (public : PublicKey) (v : PrivateBody) : Type 0 where
@@ -44,7 +44,7 @@ ChecksDiffer public section = (place : ℕ) × (n : ℕ) × (rest : List ℕ) ×
 
 -- the type name is not the public key's
 abbrev pub OtherType : PublicKey → List ℕ → Type 0
-OtherType public section = (place : ℕ) × (name : List ℕ) × (rest : List ℕ) × SectionStands public 2 section place (string name ++ rest) × (name ≢ name_of (kind_of public))
+OtherType public section = (place : ℕ) × (name : List ℕ) × (rest : List ℕ) × SectionStands public 2 section place (string name ++ rest) × (name ≢ key_name_of (kind_of public))
 
 -- what follows the comment is not 1, 2, 3 and so on, at most 254 bytes (PROTOCOL.key)
 abbrev pub NoPadding : PublicKey → List ℕ → Type 0

@@ -13,7 +13,8 @@ use Rattle.ssh_wire.specs.declared.error.WireError.{WireError}
 use Rattle.ssh_wire.specs.Spelling.{string, uint32, uint64}
 use Rattle.ssh_wire.specs.Position.{Position, start, advance}
 use Rattle.ssh_wire.specs.Reading.{◌>>=◌, Read, number_at, string_at, end_at}
-use Rattle.ssh_wire.specs.Laws.{IsBytes, Took, Took-then, wide32, wide64, number_takes, number_again, string_takes, string_again, string_fits, refused_none, fine}
+use Rattle.ssh_wire.specs.Fronts.{IsBytes, Took}
+use Rattle.ssh_wire.specs.Laws.{Took-then, wide32, wide64, number_takes, number_again, string_takes, string_again, string_fits, refused_none, fine}
 use Rattle.ssh_wire.proofs.RowLemmas.{bind_err, test_err, string_is_short}
 use Rattle.ssh_wire.specs.Stands.{NoString, BeginsString}
 use Rattle.ssh_keys.specs.declared.error.KeyError.{KeyError}

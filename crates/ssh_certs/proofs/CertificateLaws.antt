@@ -11,10 +11,11 @@ use Rattle.std.proofs.lemmas.Slice.Eq.{bytes_eq-Decides}
 use Rattle.ssh_wire.specs.Spelling.{string, uint32, uint64}
 use Rattle.ssh_wire.specs.Position.{Position, start}
 use Rattle.ssh_wire.specs.Reading.{◌>>=◌, Read, number_at, string_at, end_at}
-use Rattle.ssh_wire.specs.Laws.{IsBytes, Took, wide32, wide64, bind_ok, ok_is, fine, number_takes, number_again, string_takes, string_again, string_fits}
+use Rattle.ssh_wire.specs.Fronts.{IsBytes, Took}
+use Rattle.ssh_wire.specs.Laws.{wide32, wide64, bind_ok, ok_is, fine, number_takes, number_again, string_takes, string_again, string_fits}
 use Rattle.ssh_keys.specs.declared.kind.KeyKind.{KeyKind}
 use Rattle.ssh_keys.specs.declared.kind.KeyKind.TheVariants.{Rsa, P256, P384, P521, Ed25519, SkP256, SkEd25519}
-use Rattle.ssh_keys.specs.Names.{name_of, certificate_name_of, class_of, class_by, plain_kind, certificate_kind, kinds}
+use Rattle.ssh_keys.specs.Names.{key_name_of, certificate_name_of, class_of, class_by, plain_kind, certificate_kind, kinds}
 use Rattle.ssh_keys.specs.PublicKey.{PublicKey, kind_of, fields_of, key_blob, is_in_range, longest, IsKey}
 use Rattle.ssh_keys.specs.KeyReading.{ReadKey, fields_at, key_in}
 use Rattle.ssh_keys.proofs.KeyLaws.{fields_take, fields_again, key_takes, key_again}
@@ -345,7 +346,7 @@ certificate_refused bytes e c given blob = let read : certificate_in bytes ≡ O
 
 -- ---- the certified key
 
-name_shorter : (kind : KeyKind) → length (name_of kind) ≤ length (certificate_name_of kind)
+name_shorter : (kind : KeyKind) → length (key_name_of kind) ≤ length (certificate_name_of kind)
 name_shorter Rsa = omega arith
 name_shorter P256 = omega arith
 name_shorter P384 = omega arith
@@ -364,4 +365,4 @@ key_is_key c is =
     let fields = concat (fields_of c.key) in
     let short = subst (λ (b : List ℕ). length b ≤ longest) (laid_out_is c) is.length in
     let total = inner (certificate_name_of (kind_of c.key)) c.nonce fields _ short in
-    record { in_range = is.key; length = omega (arith, length-append (string (name_of (kind_of c.key))) fields, name_shorter (kind_of c.key), total) }
+    record { in_range = is.key; length = omega (arith, length-append (string (key_name_of (kind_of c.key))) fields, name_shorter (kind_of c.key), total) }

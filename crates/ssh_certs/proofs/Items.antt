@@ -9,7 +9,8 @@ use Rattle.ssh_wire.specs.declared.error.WireError.{WireError}
 use Rattle.ssh_wire.specs.Spelling.{string}
 use Rattle.ssh_wire.specs.Position.{Position, start}
 use Rattle.ssh_wire.specs.Reading.{◌>>=◌, Read, string_at}
-use Rattle.ssh_wire.specs.Laws.{IsBytes, Took, Took-then, bind_ok, ok_is, fine, string_takes, string_again}
+use Rattle.ssh_wire.specs.Fronts.{IsBytes, Took}
+use Rattle.ssh_wire.specs.Laws.{Took-then, bind_ok, ok_is, fine, string_takes, string_again}
 use Rattle.ssh_wire.proofs.RowLemmas.{bind_err, string_place}
 use Rattle.ssh_certs.specs.Certificate.{CertOption}
 use Rattle.ssh_certs.specs.CertificateReading.{items_within, items_in, option_at}

@@ -24,7 +24,7 @@ use Rattle.ssh_certs.specs.Certificate.{Certificate, CertOption}
 use Rattle.ssh_certs.specs.CertificateOptions.{has_formed, has_named, option_in}
 use Rattle.ssh_certs.specs.OptionData.{one_string, whole_string_at}
 use Rattle.ssh_certs.specs.OptionFacts.{AreOnce, HasExtension, HasForm, HasText, InsistsOn, IsKnownOption, IsOneString, OfText}
-use Rattle.ssh_certs.specs.OptionTable.{certificate_options, critical_named, fits, has_form, is_critical, name_of, row_of}
+use Rattle.ssh_certs.specs.OptionTable.{certificate_options, critical_named, fits, is_of_form, is_critical, certificate_option_name, certificate_option_row}
 use Rattle.ssh_certs.proofs.OptionLemmas.{critical-found}
 
 -- ---- data that is one string
@@ -88,7 +88,7 @@ is-one-string field text h = ap result_ok (is-whole field text h)
 no-bytes : (field : List ℕ) → (length field == 0) ≡ true → field ≡ []
 no-bytes field h = nil_from_length field (eqb-true (length field) 0 h)
 
-form-is : (form : DataForm) (field : List ℕ) → has_form form field ≡ true → HasForm form field
+form-is : (form : DataForm) (field : List ℕ) → is_of_form form field ≡ true → HasForm form field
 form-is Empty field h = no-bytes field h
 form-is OneString field h = go (one_string field) refl h
   where
@@ -96,7 +96,7 @@ form-is OneString field h = go (one_string field) refl h
     go (Some text) e k = (text, one-string-is field text e)
     go None e k = cc
 
-is-form : (form : DataForm) (field : List ℕ) → HasForm form field → has_form form field ≡ true
+is-form : (form : DataForm) (field : List ℕ) → HasForm form field → is_of_form form field ≡ true
 is-form Empty field h = rw h refl
 is-form OneString field (text, is) = rw (is-one-string field text is) refl
 
@@ -104,12 +104,12 @@ is-form OneString field (text, is) = rw (is-one-string field text is) refl
 pub known-is : (o : CertOption) (option : CertificateOption) → critical_named o.name ≡ Some option → fits option o.value ≡ true → IsKnownOption o
 unfolding critical_named
 known-is o option named fit =
-    let test : CertificateOption → Bool = λ x. is_critical x && bytes_eq (name_of x) o.name in
-    let passed = and_parts (is_critical option) (bytes_eq (name_of option) o.name) (find_some test certificate_options option named) in
-    (option, passed.0, sym ((bytes_eq-Decides (name_of option) o.name).0 passed.1), form-is (row_of option).form o.value fit)
+    let test : CertificateOption → Bool = λ x. is_critical x && bytes_eq (certificate_option_name x) o.name in
+    let passed = and_parts (is_critical option) (bytes_eq (certificate_option_name option) o.name) (find_some test certificate_options option named) in
+    (option, passed.0, sym ((bytes_eq-Decides (certificate_option_name option) o.name).0 passed.1), form-is (certificate_option_row option).form o.value fit)
 
 pub is-known : (o : CertOption) (known : IsKnownOption o) → (critical_named o.name ≡ Some known.0) × (fits known.0 o.value ≡ true)
-is-known o (option, critical, name, form) = (ap critical_named name ∙ critical-found option critical, is-form (row_of option).form o.value form)
+is-known o (option, critical, name, form) = (ap critical_named name ∙ critical-found option critical, is-form (certificate_option_row option).form o.value form)
 
 -- ---- the text of an option
 
@@ -158,12 +158,12 @@ each-text name P (o ∷ options) once h = go (each-text name P options once.1) (
     )
 
 pub text-of : (option : CertificateOption) (c : Certificate) (P : List ℕ → Type 0) → OfText option c P
-    → (text : List ℕ) → text_in (name_of option) c.critical ≡ Some text → P text
-text-of option c P all = first-text (name_of option) P c.critical all
+    → (text : List ℕ) → text_in (certificate_option_name option) c.critical ≡ Some text → P text
+text-of option c P all = first-text (certificate_option_name option) P c.critical all
 
 pub of-text : (option : CertificateOption) (c : Certificate) (P : List ℕ → Type 0) → AreOnce c.critical
-    → ((text : List ℕ) → text_in (name_of option) c.critical ≡ Some text → P text) → OfText option c P
-of-text option c P once h = each-text (name_of option) P c.critical once h
+    → ((text : List ℕ) → text_in (certificate_option_name option) c.critical ≡ Some text → P text) → OfText option c P
+of-text option c P once h = each-text (certificate_option_name option) P c.critical once h
 
 -- ---- an option by its name
 
@@ -172,15 +172,15 @@ any-of P Q xs f (k, x, inside, is, holds) = (k, x, inside, is, f x holds)
 
 pub insists : (option : CertificateOption) (c : Certificate) → is_critical option ≡ true → has_named option c ≡ true → InsistsOn option c
 insists option c critical h =
-    let found : list_any (λ o. bytes_eq o.name (name_of option)) c.critical ≡ true = rw critical at h in
-    any-of (λ o. bytes_eq o.name (name_of option) ≡ true) (λ o. o.name ≡ name_of option) c.critical
-    (λ o e. (bytes_eq-Decides o.name (name_of option)).0 e) (Any-from_list_any (λ o. bytes_eq o.name (name_of option)) c.critical found)
+    let found : list_any (λ o. bytes_eq o.name (certificate_option_name option)) c.critical ≡ true = rw critical at h in
+    any-of (λ o. bytes_eq o.name (certificate_option_name option) ≡ true) (λ o. o.name ≡ certificate_option_name option) c.critical
+    (λ o e. (bytes_eq-Decides o.name (certificate_option_name option)).0 e) (Any-from_list_any (λ o. bytes_eq o.name (certificate_option_name option)) c.critical found)
 
 pub named-of : (option : CertificateOption) (c : Certificate) → is_critical option ≡ true → InsistsOn option c → has_named option c ≡ true
 named-of option c critical h =
-    rw critical (list_any-from_Any (λ o. bytes_eq o.name (name_of option)) c.critical
-    (any-of (λ o. o.name ≡ name_of option) (λ o. bytes_eq o.name (name_of option) ≡ true) c.critical
-    (λ o e. (bytes_eq-Decides o.name (name_of option)).1 e) h))
+    rw critical (list_any-from_Any (λ o. bytes_eq o.name (certificate_option_name option)) c.critical
+    (any-of (λ o. o.name ≡ certificate_option_name option) (λ o. bytes_eq o.name (certificate_option_name option) ≡ true) c.critical
+    (λ o e. (bytes_eq-Decides o.name (certificate_option_name option)).1 e) h))
 
 -- ---- an extension
 
@@ -214,23 +214,23 @@ pub extension-of : (option : CertificateOption) (c : Certificate) → is_critica
 extension-of ForceCommand c extends h = cc
 extension-of SourceAddress c extends h = cc
 extension-of VerifyRequired c extends h = cc
-extension-of NoTouchRequired c extends h = contains-of (name_of NoTouchRequired) c.extensions h
-extension-of PermitX11Forwarding c extends h = contains-of (name_of PermitX11Forwarding) c.extensions h
-extension-of PermitAgentForwarding c extends h = contains-of (name_of PermitAgentForwarding) c.extensions h
-extension-of PermitPortForwarding c extends h = contains-of (name_of PermitPortForwarding) c.extensions h
-extension-of PermitPty c extends h = contains-of (name_of PermitPty) c.extensions h
-extension-of PermitUserRc c extends h = contains-of (name_of PermitUserRc) c.extensions h
+extension-of NoTouchRequired c extends h = contains-of (certificate_option_name NoTouchRequired) c.extensions h
+extension-of PermitX11Forwarding c extends h = contains-of (certificate_option_name PermitX11Forwarding) c.extensions h
+extension-of PermitAgentForwarding c extends h = contains-of (certificate_option_name PermitAgentForwarding) c.extensions h
+extension-of PermitPortForwarding c extends h = contains-of (certificate_option_name PermitPortForwarding) c.extensions h
+extension-of PermitPty c extends h = contains-of (certificate_option_name PermitPty) c.extensions h
+extension-of PermitUserRc c extends h = contains-of (certificate_option_name PermitUserRc) c.extensions h
 
 pub of-extension : (option : CertificateOption) (c : Certificate) → is_critical option ≡ false → HasExtension option c → has_formed option c ≡ true
 of-extension ForceCommand c extends h = cc
 of-extension SourceAddress c extends h = cc
 of-extension VerifyRequired c extends h = cc
-of-extension NoTouchRequired c extends h = of-contains (name_of NoTouchRequired) c.extensions h
-of-extension PermitX11Forwarding c extends h = of-contains (name_of PermitX11Forwarding) c.extensions h
-of-extension PermitAgentForwarding c extends h = of-contains (name_of PermitAgentForwarding) c.extensions h
-of-extension PermitPortForwarding c extends h = of-contains (name_of PermitPortForwarding) c.extensions h
-of-extension PermitPty c extends h = of-contains (name_of PermitPty) c.extensions h
-of-extension PermitUserRc c extends h = of-contains (name_of PermitUserRc) c.extensions h
+of-extension NoTouchRequired c extends h = of-contains (certificate_option_name NoTouchRequired) c.extensions h
+of-extension PermitX11Forwarding c extends h = of-contains (certificate_option_name PermitX11Forwarding) c.extensions h
+of-extension PermitAgentForwarding c extends h = of-contains (certificate_option_name PermitAgentForwarding) c.extensions h
+of-extension PermitPortForwarding c extends h = of-contains (certificate_option_name PermitPortForwarding) c.extensions h
+of-extension PermitPty c extends h = of-contains (certificate_option_name PermitPty) c.extensions h
+of-extension PermitUserRc c extends h = of-contains (certificate_option_name PermitUserRc) c.extensions h
 
 -- ---- the text that an option has
 
@@ -249,8 +249,8 @@ has-first name text (o ∷ options) h = go (has-first name text options) (bytes_
         (0, o, omega arith, refl, ((bytes_eq-Decides o.name name).0 e, one-string-is o.value text same))
     go rest false e = any-later (λ x. (x.name ≡ name) × IsOneString text x.value) o options (rest (rw e at h))
 
-pub has-text : (option : CertificateOption) (c : Certificate) (text : List ℕ) → text_in (name_of option) c.critical ≡ Some text → HasText option c text
-has-text option c text h = has-first (name_of option) text c.critical h
+pub has-text : (option : CertificateOption) (c : Certificate) (text : List ℕ) → text_in (certificate_option_name option) c.critical ≡ Some text → HasText option c text
+has-text option c text h = has-first (certificate_option_name option) text c.critical h
 
 -- an option stands once, so that its text is the first one's
 at-each : {X : Type 0} (P : X → Type 0) (xs : List X) (k : ℕ) (x : X) → k < length xs → slice_index_or xs k x ≡ x → AllByRecursion P xs → P x
@@ -274,5 +274,5 @@ first-has name text (p ∷ options) once (suc k, o, inside, is, holds) =
     go rest false e = rw e rest
 
 pub text-had : (option : CertificateOption) (c : Certificate) (text : List ℕ) → AreOnce c.critical → HasText option c text
-    → text_in (name_of option) c.critical ≡ Some text
-text-had option c text once h = first-has (name_of option) text c.critical once h
+    → text_in (certificate_option_name option) c.critical ≡ Some text
+text-had option c text once h = first-has (certificate_option_name option) text c.critical once h

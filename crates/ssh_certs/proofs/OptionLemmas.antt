@@ -2,9 +2,9 @@
 use Rattle.std.proofs.Common.{◌≡◌, true, false, Some, None, refl}
 use Rattle.ssh_certs.specs.declared.certificate_option.CertificateOption.{CertificateOption}
 use Rattle.ssh_certs.specs.declared.certificate_option.CertificateOption.TheVariants.{ForceCommand, SourceAddress, VerifyRequired, NoTouchRequired, PermitX11Forwarding, PermitAgentForwarding, PermitPortForwarding, PermitPty, PermitUserRc}
-use Rattle.ssh_certs.specs.OptionTable.{critical_named, is_critical, name_of}
+use Rattle.ssh_certs.specs.OptionTable.{critical_named, is_critical, certificate_option_name}
 
-pub critical-found : (option : CertificateOption) → is_critical option ≡ true → critical_named (name_of option) ≡ Some option
+pub critical-found : (option : CertificateOption) → is_critical option ≡ true → critical_named (certificate_option_name option) ≡ Some option
 unfolding critical_named
 critical-found ForceCommand h = refl
 critical-found SourceAddress h = refl
@@ -16,7 +16,7 @@ critical-found PermitPortForwarding h = cc
 critical-found PermitPty h = cc
 critical-found PermitUserRc h = cc
 
-pub extension-not-found : (option : CertificateOption) → is_critical option ≡ false → critical_named (name_of option) ≡ None
+pub extension-not-found : (option : CertificateOption) → is_critical option ≡ false → critical_named (certificate_option_name option) ≡ None
 unfolding critical_named
 extension-not-found ForceCommand h = cc
 extension-not-found SourceAddress h = cc

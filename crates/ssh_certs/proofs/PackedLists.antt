@@ -9,7 +9,8 @@ use Rattle.ssh_wire.specs.declared.error.WireError.{WireError}
 use Rattle.ssh_wire.specs.Spelling.{string}
 use Rattle.ssh_wire.specs.Position.{Position, advance}
 use Rattle.ssh_wire.specs.Reading.{◌>>=◌, Read, fault, number_at, string_at}
-use Rattle.ssh_wire.specs.Laws.{IsBytes, Took, bind_ok, guard_ok, ok_is, fine, string_takes, string_again, string_fits}
+use Rattle.ssh_wire.specs.Fronts.{IsBytes, Took}
+use Rattle.ssh_wire.specs.Laws.{bind_ok, guard_ok, ok_is, fine, string_takes, string_again, string_fits}
 use Rattle.ssh_certs.specs.declared.error.CertError.{CertError}
 use Rattle.ssh_certs.specs.CertificateReading.{as_fault, of_wire, items_in, packed_at}
 use Rattle.ssh_certs.specs.Packed.{without_items}

@@ -6,7 +6,7 @@ use Rattle.ssh_certs.specs.declared.certificate_option.CertificateOption.{Certif
 use Rattle.ssh_certs.specs.declared.certificate_option.CertificateOption.TheVariants.{ForceCommand}
 use Rattle.ssh_certs.specs.Certificate.{Certificate, CertOption}
 use Rattle.ssh_certs.specs.OptionData.{one_string}
-use Rattle.ssh_certs.specs.OptionTable.{fits, is_critical, name_of}
+use Rattle.ssh_certs.specs.OptionTable.{fits, is_critical, certificate_option_name}
 
 -- ---- in a list, by name
 
@@ -27,11 +27,11 @@ list_for option c = if is_critical option then c.critical else c.extensions
 
 -- the certificate has the option, whatever its data
 abbrev pub has_named : CertificateOption → Certificate → Bool
-has_named option c = has_option (name_of option) (list_for option c)
+has_named option c = has_option (certificate_option_name option) (list_for option c)
 
 -- an option of this name, with data of its form
 abbrev pub is_formed : CertificateOption → CertOption → Bool
-is_formed option o = bytes_eq o.name (name_of option) && fits option o.value
+is_formed option o = bytes_eq o.name (certificate_option_name option) && fits option o.value
 
 -- the certificate has the option, with data of its form
 abbrev pub has_formed : CertificateOption → Certificate → Bool
@@ -39,7 +39,7 @@ has_formed option c = list_any (is_formed option) (list_for option c)
 
 -- the text of the first such option, where its data is one string
 abbrev pub text_of : CertificateOption → Certificate → Option (List ℕ)
-text_of option c = option_and_then one_string (option_in (name_of option) (list_for option c))
+text_of option c = option_and_then one_string (option_in (certificate_option_name option) (list_for option c))
 
 -- the command that the certificate forces
 abbrev pub forced_by_certificate : Certificate → Option (List ℕ)

@@ -6,7 +6,7 @@ use Rattle.ssh_certs.specs.declared.certificate_option.CertificateOption.{Certif
 use Rattle.ssh_certs.specs.declared.certificate_option.DataForm.{DataForm}
 use Rattle.ssh_certs.specs.declared.certificate_option.DataForm.TheVariants.{Empty, OneString}
 use Rattle.ssh_certs.specs.Certificate.{Certificate, CertOption}
-use Rattle.ssh_certs.specs.OptionTable.{is_critical, name_of, row_of}
+use Rattle.ssh_certs.specs.OptionTable.{is_critical, certificate_option_name, certificate_option_row}
 
 -- the data is this text as one string, and nothing after it: four bytes of its length, and its bytes (RFC 4251 section 5)
 abbrev pub IsOneString : List ℕ → List ℕ → Type 0
@@ -19,19 +19,19 @@ HasForm OneString field = (text : List ℕ) × IsOneString text field
 
 -- a critical option that a login knows, with data of its form
 abbrev pub IsKnownOption : CertOption → Type 0
-IsKnownOption o = (option : CertificateOption) × (is_critical option ≡ true) × (o.name ≡ name_of option) × HasForm (row_of option).form o.value
+IsKnownOption o = (option : CertificateOption) × (is_critical option ≡ true) × (o.name ≡ certificate_option_name option) × HasForm (certificate_option_row option).form o.value
 
 -- the certificate has the extension, which has no data
 abbrev pub HasExtension : CertificateOption → Certificate → Type 0
-HasExtension option c = Contains c.extensions (record { name = name_of option; value = [] })
+HasExtension option c = Contains c.extensions (record { name = certificate_option_name option; value = [] })
 
 -- the certificate insists on the option, whatever its data
 abbrev pub InsistsOn : CertificateOption → Certificate → Type 0
-InsistsOn option c = Any (λ o. o.name ≡ name_of option) c.critical
+InsistsOn option c = Any (λ o. o.name ≡ certificate_option_name option) c.critical
 
 -- this is the text of the critical option
 abbrev pub HasText : CertificateOption → Certificate → List ℕ → Type 0
-HasText option c text = Any (λ o. (o.name ≡ name_of option) × IsOneString text o.value) c.critical
+HasText option c text = Any (λ o. (o.name ≡ certificate_option_name option) × IsOneString text o.value) c.critical
 
 -- no name stands twice (this project's rule)
 abbrev pub AreOnce : List CertOption → Type 0
@@ -40,4 +40,4 @@ AreOnce (o ∷ options) = AllByRecursion (λ p. p.name ≢ o.name) options × Ar
 
 -- this holds of the text of a critical option, where the certificate has that option
 abbrev pub OfText : CertificateOption → Certificate → (List ℕ → Type 0) → Type 0
-OfText option c P = AllByRecursion (λ o. o.name ≡ name_of option → (text : List ℕ) → IsOneString text o.value → P text) c.critical
+OfText option c P = AllByRecursion (λ o. o.name ≡ certificate_option_name option → (text : List ℕ) → IsOneString text o.value → P text) c.critical

@@ -2,7 +2,7 @@
 //! their data is.
 
 ghost use Rattle.std.specs.Prelude.{◌≡◌};
-ghost use Rattle.ssh_certs.specs.OptionTable.{critical_named, fits, is_critical, name_of, row_of};
+ghost use Rattle.ssh_certs.specs.OptionTable.{critical_named, fits, is_critical, certificate_option_name, certificate_option_row};
 
 use crate::option_data::one_string;
 use DataForm::{Empty, OneString};
@@ -68,9 +68,9 @@ impl CertificateOption {
 
     /// The table of options.
     fn row(self) -> Row
-        ensures name { result.0.now ≡ (row_of self).name }
-        ensures list { result.1 ≡ (row_of self).list }
-        ensures form { result.2 ≡ (row_of self).form }
+        ensures name { result.0.now ≡ (certificate_option_row self).name }
+        ensures list { result.1 ≡ (certificate_option_row self).list }
+        ensures form { result.2 ≡ (certificate_option_row self).form }
     {
         match self {
             CertificateOption::ForceCommand => (b"force-command", Critical, OneString),
@@ -91,7 +91,7 @@ impl CertificateOption {
 
     /// The name.
     pub fn name(self) -> &'static [u8]
-        ensures { result.now ≡ name_of self }
+        ensures { result.now ≡ certificate_option_name self }
     {
         self.row().0
     }

@@ -5,14 +5,14 @@ ghost use Rattle.ssh_certs.specs.declared.certificate_option.CertificateOption.{
 ghost use Rattle.ssh_certs.specs.Certificate.{CertOption};
 ghost use Rattle.ssh_certs.specs.OptionData.{one_string};
 ghost use Rattle.ssh_certs.specs.OptionFacts.{IsKnownOption, IsOneString};
-ghost use Rattle.ssh_certs.specs.OptionTable.{critical_named, fits, is_critical, name_of};
+ghost use Rattle.ssh_certs.specs.OptionTable.{critical_named, fits, is_critical, certificate_option_name};
 
 /// A critical option is found by its name, and no extension is.
 fn option_rule()
     ensures critical { (option : CertificateOption) →
-        is_critical option ≡ true → critical_named (name_of option) ≡ Some option }
+        is_critical option ≡ true → critical_named (certificate_option_name option) ≡ Some option }
     ensures extension { (option : CertificateOption) →
-        is_critical option ≡ false → critical_named (name_of option) ≡ None }
+        is_critical option ≡ false → critical_named (certificate_option_name option) ≡ None }
 {}
 
 /// An option's data is read as one string exactly where it is one, and an option that is found by

@@ -22,7 +22,7 @@ use Rattle.ssh_command.specs.Printing.{Prints}
 use Rattle.ssh_command.specs.Granting.{HostGranted, IsOfBytes, LoginGranted}
 use Rattle.ssh_questions.specs.Hosts.{RespondsToHost, host_spelled}
 use Rattle.ssh_questions.specs.Logins.{RespondsToLogin, login_spelled}
-use Rattle.ssh_words.specs.Options.{option_name}
+use Rattle.ssh_words.specs.Options.{option_word}
 use Rattle.ssh_command.specs.Requests.{Answers, RespondsBy, request_words, source_of}
 use Rattle.ssh_words.specs.Spelling.{RespondsTo, audit_files, given, needed, or_fault, read_or, value, value_or}
 use Rattle.ssh_command.proofs.GrantingLemmas.{host_granted, login_granted}
@@ -54,7 +54,7 @@ needed-faulty : (o : OptionName) (rows : List Row) → IsFaulty (needed o rows)
 needed-faulty o rows = or-faulty (given o rows) usage_response refl
 
 fault-faulty : {A : Type 0} (o : OptionName) (v : Option A) → IsFaulty (or_fault o v)
-fault-faulty o v = or-faulty v (value_response (option_name o)) refl
+fault-faulty o v = or-faulty v (value_response (option_word o)) refl
 
 value-faulty : {A : Type 0} (spells : Text → Option A) (o : OptionName) (rows : List Row) → IsFaulty (value spells o rows)
 value-faulty spells o rows = step-faulty (needed o rows) _ (needed-faulty o rows) (λ text. fault-faulty o (spells text))

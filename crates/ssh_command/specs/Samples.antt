@@ -12,7 +12,7 @@ use Rattle.ssh_show.specs.Showing.{show_kind}
 use Rattle.ssh_show.specs.declared.kind.ShowKind.TheVariants as shown
 use Rattle.ssh_words.specs.declared.options.OptionName.{OptionName}
 use Rattle.ssh_words.specs.declared.options.OptionName.TheVariants as option
-use Rattle.ssh_words.specs.Options.{option_name}
+use Rattle.ssh_words.specs.Options.{option_word}
 use Rattle.ssh_questions.specs.Hosts.{host_spelled}
 use Rattle.ssh_questions.specs.Logins.{login_spelled}
 
@@ -35,7 +35,7 @@ no_value name = Err (record { status = 2; text = codes "fault value " ++ name ++
 -- an option that is given this text
 abbrev row : OptionName → Text → Row
 row o text = record {
-  id = option_name o;
+  id = option_word o;
   values = text ∷ [];
   count = None;
   source = None;

@@ -5,7 +5,7 @@ use Rattle.std.proofs.lemmas.Bool.{and_parts, and_from, leb-true, le-leb}
 use Rattle.std.proofs.lemmas.Int.{ints}
 use Rattle.jiff.specs.Words.{IsDate, IsTime, days_in_month}
 use Rattle.ssh_expiry.specs.CivilFacts.{form-long}
-use Rattle.ssh_expiry.specs.Expiry.{number_at, year_of, month_of, day_of, hour_of, minute_of, second_of, has_form, is_date, is_time, is_civil_text}
+use Rattle.ssh_expiry.specs.Expiry.{digits_at, year_of, month_of, day_of, hour_of, minute_of, second_of, has_form, is_date, is_time, is_civil_text}
 
 date-true : (y m d : ℕ) → y ≤ 9999 → is_date y m d ≡ true → IsDate (pos y) (pos m) (pos d)
 date-true y m d small h =
@@ -66,14 +66,14 @@ is-civil digits found form small is =
     is.1 (date-true (year_of digits) (month_of digits) (day_of digits) small first.1, time-true (hour_of digits) (minute_of digits) (second_of digits) last.1))
 
 -- the digits of a year are those of its hundreds and of what is left
-year-cut : (digits : List ℕ) → 4 ≤ length digits → year_of digits ≡ number_at digits 0 2 * 100 + number_at digits 2 2
+year-cut : (digits : List ℕ) → 4 ≤ length digits → year_of digits ≡ digits_at digits 0 2 * 100 + digits_at digits 2 2
 year-cut [] long = absurd (omega arith)
 year-cut (a ∷ []) long = absurd (omega arith)
 year-cut (a ∷ b ∷ []) long = absurd (omega arith)
 year-cut (a ∷ b ∷ c ∷ []) long = absurd (omega arith)
 year-cut (a ∷ b ∷ c ∷ d ∷ rest) long = omega arith
 
-pub year-read : (digits : List ℕ) (hundreds years : ℕ) → has_form digits ≡ true → hundreds ≡ number_at digits 0 2 → years ≡ number_at digits 2 2
+pub year-read : (digits : List ℕ) (hundreds years : ℕ) → has_form digits ≡ true → hundreds ≡ digits_at digits 0 2 → years ≡ digits_at digits 2 2
     → hundreds * 100 + years ≡ year_of digits
 year-read digits hundreds years form h y = omega (arith, year-cut digits (form-long digits form), h, y)
 

@@ -8,27 +8,27 @@ use Rattle.jiff.specs.Words.{days_in_month, IsYmd, IsHms, civil_seconds, compati
 use Rattle.ssh_text.specs.Text.{without_last, ends_with}
 
 -- the number at a place of the text
-abbrev pub number_at : List ℕ → ℕ → ℕ → ℕ
-number_at text place count = digits_value 10 (take count (drop place text))
+abbrev pub digits_at : List ℕ → ℕ → ℕ → ℕ
+digits_at text place count = digits_value 10 (take count (drop place text))
 
 -- the parts of YYYYMMDDHHMMSS; what is missing at the end is zero
 abbrev pub year_of : List ℕ → ℕ
-year_of digits = number_at digits 0 4
+year_of digits = digits_at digits 0 4
 
 abbrev pub month_of : List ℕ → ℕ
-month_of digits = number_at digits 4 2
+month_of digits = digits_at digits 4 2
 
 abbrev pub day_of : List ℕ → ℕ
-day_of digits = number_at digits 6 2
+day_of digits = digits_at digits 6 2
 
 abbrev pub hour_of : List ℕ → ℕ
-hour_of digits = number_at digits 8 2
+hour_of digits = digits_at digits 8 2
 
 abbrev pub minute_of : List ℕ → ℕ
-minute_of digits = number_at digits 10 2
+minute_of digits = digits_at digits 10 2
 
 abbrev pub second_of : List ℕ → ℕ
-second_of digits = number_at digits 12 2
+second_of digits = digits_at digits 12 2
 
 -- the text without the Z at its end, if it has one
 abbrev pub without_z : List ℕ → List ℕ

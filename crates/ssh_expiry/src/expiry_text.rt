@@ -4,7 +4,7 @@ ghost use Rattle.std.specs.Prelude.{◌≡◌, ◌≤◌, ◌≤ℤ◌, pos, dro
 ghost use Rattle.std.specs.List.{list_all};
 ghost use Rattle.std.specs.Char.{is_ascii_digit, digit_value};
 ghost use Rattle.ssh_expiry.specs.Expiry.{
-  number_at,
+  digits_at,
   year_of,
   has_form,
   is_civil_text,
@@ -36,7 +36,7 @@ fn after(text: &[u8], place: usize) -> &[u8]
 /// The number of the two digits at a place; what is missing at the end is left out.
 fn two_digits(digits: &[u8], place: usize) -> u8
     requires { IsTrue (list_all is_ascii_digit digits.now) }
-    ensures value { result ≡ number_at digits.now place 2 }
+    ensures value { result ≡ digits_at digits.now place 2 }
     ensures bound { result ≤ 99 }
 {
     match after(digits, place) {
@@ -61,7 +61,7 @@ fn has_form(text: &[u8]) -> bool
 
 fn part(digits: &[u8], place: usize) -> i8
     requires { IsTrue (list_all is_ascii_digit digits.now) }
-    ensures value { result ≡ pos (number_at digits.now place 2) }
+    ensures value { result ≡ pos (digits_at digits.now place 2) }
     ensures bound { result ≤ℤ pos 99 }
 {
     two_digits(digits, place) as i8

@@ -3,7 +3,7 @@ use Rattle.std.proofs.Common.{◌≡◌, ℕ, Bool, true, false, List, Option, r
 use Rattle.std.specs.List.{list_any}
 use Rattle.ssh_patterns.specs.declared.permit.Permit.{Permit}
 use Rattle.ssh_patterns.specs.declared.permit.Permit.TheVariants.{Yes, No, Bad}
-use Rattle.ssh_patterns.specs.Lists.{is_bad_source, items_of, permit, permit_of, permits, source_item, source_list}
+use Rattle.ssh_patterns.specs.Lists.{is_bad_source, items_of, permit, permit_by, permits, source_item, source_list}
 use Rattle.ssh_findings.specs.Lists.{is_bad_list}
 
 abbrev pub is_bad : Permit → Bool
@@ -17,7 +17,7 @@ bad-permit false true = refl
 bad-permit false false = refl
 
 bad-list : (list : List ℕ) (host : Option (List ℕ)) (text : List ℕ) → is_bad (source_list list host text) ≡ is_bad_list list
-unfolding permit_of is_bad_list
+unfolding permit_by is_bad_list
 bad-list list host text = bad-permit (list_any is_bad_source (items_of list)) (permits (source_item (record { host = host; text = text })) (items_of list))
 
 -- by what is said of one source

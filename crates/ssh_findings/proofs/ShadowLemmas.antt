@@ -8,7 +8,7 @@ use Rattle.ssh_keys.specs.PublicKey.{PublicKey}
 use Rattle.ssh_certs.specs.declared.certificate_option.CertificateOption.TheVariants.{ForceCommand}
 use Rattle.ssh_certs.specs.Certificate.{Certificate, CertOption}
 use Rattle.ssh_certs.specs.OptionFacts.{IsOneString}
-use Rattle.ssh_certs.specs.OptionTable.{name_of}
+use Rattle.ssh_certs.specs.OptionTable.{certificate_option_name}
 use Rattle.ssh_certs.proofs.OptionFactLemmas.{each}
 use Rattle.ssh_options.specs.declared.option.ValueName.TheVariants.{Command, ExpiryTime, From, Principals}
 use Rattle.ssh_options.specs.Settings.{first_of, setting, settings}
@@ -45,7 +45,7 @@ force e d q (certified c) same free none role f =
 
 -- a certificate's option that forces a command forces the line's
 abbrev ForcesSame : AuthEntry → CertOption → Type 0
-ForcesSame d o = o.name ≡ name_of ForceCommand → (own : List ℕ) → IsOneString own o.value → (line : List ℕ) → setting Command d.options ≡ Some line → line ≡ own
+ForcesSame d o = o.name ≡ certificate_option_name ForceCommand → (own : List ℕ) → IsOneString own o.value → (line : List ℕ) → setting Command d.options ≡ Some line → line ≡ own
 
 met : (e d : AuthEntry) (address : Address) (offer : Offer) → IsFree d → is_authority d ≡ is_certified offer
     → OfCertificate (CriticalMet e address) offer → OfCertificate (CriticalMet d address) offer

@@ -7,7 +7,7 @@ use Rattle.std.proofs.lemmas.Bool.{cases_lt, lt-ltb}
 use Rattle.std.proofs.lemmas.List.{reverse-append, length-reverse, length-take}
 use Rattle.std.proofs.lemmas.Nat.{pow-add, leading_top}
 use Rattle.ssh_wire.specs.Spelling.{worth, natural, is_least}
-use Rattle.ssh_wire.specs.Laws.{IsBytes}
+use Rattle.ssh_wire.specs.Fronts.{IsBytes}
 use Rattle.ssh_wire.specs.MpintLaws.{IsBytes-reverse}
 use Rattle.ssh_keys.specs.Fingerprint.{IsBitCount}
 

@@ -11,7 +11,7 @@ use Rattle.ssh_wire.specs.Laws.{ok_is}
 use Rattle.ssh_keys.specs.declared.curve.Curve.TheVariants.{Nistp256, Nistp384, Nistp521}
 use Rattle.ssh_keys.specs.Curves.{curve_name_of}
 use Rattle.ssh_keys.specs.declared.error.KeyError.{KeyError}
-use Rattle.ssh_keys.specs.Names.{name_of}
+use Rattle.ssh_keys.specs.Names.{key_name_of}
 use Rattle.ssh_keys.specs.PublicKey.{PublicKey, rsa, p256, p384, p521, ed25519, sk_p256, sk_ed25519, kind_of, fields_of, key_blob, IsKey, IsKeyBlob}
 use Rattle.ssh_keys.specs.KeyReading.{key_in}
 use Rattle.ssh_keys.proofs.KeyLaws.{key_again}
@@ -48,11 +48,11 @@ joined-is (sk_ed25519 a s) = ap (λ (t : List ℕ). string a ++ t) (sym (append-
 
 -- what was written after the old bytes is the blob of the key
 pub wrote : {E : Type 0} (r : Result (Unit {0}) E) (new old text : List ℕ) (view key : PublicKey) (name : List ℕ)
-    → view ≡ key → name ≡ name_of (kind_of key) → text ≡ string name ++ joined view
+    → view ≡ key → name ≡ key_name_of (kind_of key) → text ≡ string name ++ joined view
     → OnOk r (new ≡ old ++ text) → OnOk r (new ≡ old ++ key_blob key)
 unfolding key_blob
 wrote r new old text view key name same named is h =
-    let whole : text ≡ string (name_of (kind_of key)) ++ concat (fields_of key) =
+    let whole : text ≡ string (key_name_of (kind_of key)) ++ concat (fields_of key) =
     is ∙ ap (λ (k : PublicKey). string name ++ joined k) same ∙ ap (λ (t : List ℕ). string name ++ t) (joined-is key) ∙ ap (λ (n : List ℕ). string n ++ concat (fields_of key)) named in
     subst (λ (t : List ℕ). OnOk r (new ≡ old ++ t)) whole h
 
@@ -60,7 +60,7 @@ wrote r new old text view key name same named is h =
 pub rsa_short : (e n : ℕ) → IsKey (rsa e n) → (length (mpint_bytes e) < 2 ^ 32) × (length (mpint_bytes n) < 2 ^ 32) × (length (mpint_bytes n) ≤ 262144)
 unfolding key_blob
 rsa_short e n is =
-    let name = string (name_of (kind_of (rsa e n))) in
+    let name = string (key_name_of (kind_of (rsa e n))) in
     let total : length (name ++ (mpint e ++ (mpint n ++ []))) ≤ 262144 = is.length in
     let all : length (name ++ (mpint e ++ (mpint n ++ []))) ≡ length name + (length (mpint e) + (length (mpint n) + 0)) =
     omega (arith, length-append name (mpint e ++ (mpint n ++ [])), length-append (mpint e) (mpint n ++ []), length-append (mpint n) []) in
@@ -69,7 +69,7 @@ rsa_short e n is =
 pub sk_p256_short : (q s : List ℕ) → IsKey (sk_p256 q s) → (length q < 2 ^ 32) × (length s < 2 ^ 32)
 unfolding key_blob
 sk_p256_short q s is =
-    let name = string (name_of (kind_of (sk_p256 q s))) in
+    let name = string (key_name_of (kind_of (sk_p256 q s))) in
     let curve = string (curve_name_of Nistp256) in
     let total : length (name ++ (curve ++ (string q ++ (string s ++ [])))) ≤ 262144 = is.length in
     let all : length (name ++ (curve ++ (string q ++ (string s ++ [])))) ≡ length name + (length curve + (length (string q) + (length (string s) + 0))) =
@@ -79,7 +79,7 @@ sk_p256_short q s is =
 pub sk_ed25519_short : (a s : List ℕ) → IsKey (sk_ed25519 a s) → (length a < 2 ^ 32) × (length s < 2 ^ 32)
 unfolding key_blob
 sk_ed25519_short a s is =
-    let name = string (name_of (kind_of (sk_ed25519 a s))) in
+    let name = string (key_name_of (kind_of (sk_ed25519 a s))) in
     let total : length (name ++ (string a ++ (string s ++ []))) ≤ 262144 = is.length in
     let all : length (name ++ (string a ++ (string s ++ []))) ≡ length name + (length (string a) + (length (string s) + 0)) =
     omega (arith, length-append name (string a ++ (string s ++ [])), length-append (string a) (string s ++ []), length-append (string s) []) in

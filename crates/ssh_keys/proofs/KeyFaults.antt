@@ -12,7 +12,8 @@ use Rattle.ssh_wire.specs.declared.error.WireError.{WireError}
 use Rattle.ssh_wire.specs.Spelling.{string, mpint, mpint_bytes, natural, is_least, is_not_negative}
 use Rattle.ssh_wire.specs.Position.{Position, start}
 use Rattle.ssh_wire.specs.Reading.{◌>>=◌, Read, fault, string_at, mpint_at, end_at}
-use Rattle.ssh_wire.specs.Laws.{IsBytes, string_takes, string_again, refused_none, fine}
+use Rattle.ssh_wire.specs.Fronts.{IsBytes}
+use Rattle.ssh_wire.specs.Laws.{string_takes, string_again, refused_none, fine}
 use Rattle.ssh_wire.specs.MpintLaws.{mpint_takes}
 use Rattle.ssh_wire.specs.Rows.{GoesOnAt}
 use Rattle.ssh_wire.proofs.RowLemmas.{bind_err, string_is_short}
@@ -28,8 +29,8 @@ use Rattle.ssh_keys.specs.FieldFaults.{Sort, number, curve, point, public, text,
 use Rattle.ssh_keys.specs.FirstFault.{AreShort, IsSpelled, IsUnknownName, IsFaultWithin, InFields, IsFirstFault}
 use Rattle.ssh_keys.proofs.KeyLaws.{of_wire_ok, wants_ok, kind_named, find_some, positive_takes, point_takes, public_takes, fields_take}
 use Rattle.ssh_keys.specs.KeyReading.{ReadKey, of_wire, wants, kind_from, positive_at, point_at, public_at, fields_at, blob_at, key_in}
-use Rattle.ssh_keys.specs.Names.{name_of, certificate_name_of, class_of, class_by, plain_kind, certificate_kind, kinds}
-use Rattle.ssh_keys.specs.PublicKey.{PublicKey, rsa, p256, p384, p521, ed25519, sk_p256, sk_ed25519, kind_of, fields_of, row_of, is_point, longest}
+use Rattle.ssh_keys.specs.Names.{key_name_of, certificate_name_of, class_of, class_by, plain_kind, certificate_kind, kinds}
+use Rattle.ssh_keys.specs.PublicKey.{PublicKey, rsa, p256, p384, p521, ed25519, sk_p256, sk_ed25519, kind_of, fields_of, key_blob_row, is_point, longest}
 
 -- ---- steps that failed
 
@@ -258,7 +259,7 @@ fields_fault SkEd25519 at e fits h =
 
 -- ---- the type name
 
-plain_found : (kind : KeyKind) → plain_kind (name_of kind) ≡ Some kind
+plain_found : (kind : KeyKind) → plain_kind (key_name_of kind) ≡ Some kind
 unfolding plain_kind
 plain_found Rsa = refl
 plain_found P256 = refl
@@ -328,12 +329,12 @@ within bytes errors.IsCertificate i = absurd i.fault.wrong
 within bytes errors.TooLong i = absurd i.fault.wrong
 
 -- bytes after the last field
-goes_on : (bytes : List ℕ) (e : KeyError) (key : PublicKey) (rest : List ℕ) (place : ℕ) → IsSpelled key → bytes ≡ string (name_of (kind_of key)) ++ (concat (fields_of key) ++ rest)
-    → place ≡ length (string (name_of (kind_of key))) + length (concat (fields_of key)) → of_wire (end_at (record { place = place; rest = rest })) ≡ Err e → IsFaultWithin bytes e
+goes_on : (bytes : List ℕ) (e : KeyError) (key : PublicKey) (rest : List ℕ) (place : ℕ) → IsSpelled key → bytes ≡ string (key_name_of (kind_of key)) ++ (concat (fields_of key) ++ rest)
+    → place ≡ length (string (key_name_of (kind_of key))) + length (concat (fields_of key)) → of_wire (end_at (record { place = place; rest = rest })) ≡ Err e → IsFaultWithin bytes e
 goes_on bytes e key [] place is parts far h = absurd cc
 goes_on bytes e key (b ∷ rest) place is parts far h =
-    let name = string (name_of (kind_of key)) in
-    let whole : GoesOnAt row_of IsSpelled bytes place = record {
+    let name = string (key_name_of (kind_of key)) in
+    let whole : GoesOnAt key_blob_row IsSpelled bytes place = record {
       value = key;
       fits = is;
       rest = b ∷ rest;
@@ -360,9 +361,9 @@ blob_fault bytes e fits few h =
           elim (bind_err (kind_from (class_of x.0.0)) (λ kind. fields_at kind x.0.1 >>= λ key. of_wire (end_at key.1) >>= λ u. fine key.0) e x.2) [
             | inl k ↦ name_wrong bytes x.0.0 (x.0.1).rest t.0.parts (plain_kind x.0.0) (certificate_kind x.0.0) (bytes_eq x.0.0 (codes "ssh-dss")) refl refl refl e k
             | inr k ↦
-                (let same : x.0.0 ≡ name_of k.0 = kind_named x.0.0 k.0 k.1 in
-                let parts : bytes ≡ string (name_of k.0) ++ (x.0.1).rest = t.0.parts ∙ ap (λ (n : List ℕ). string n ++ (x.0.1).rest) same in
-                let far : (x.0.1).place ≡ length (string (name_of k.0)) = t.0.place ∙ ap (λ (n : List ℕ). 0 + length (string n)) same ∙ zero-add (length (string (name_of k.0))) in
+                (let same : x.0.0 ≡ key_name_of k.0 = kind_named x.0.0 k.0 k.1 in
+                let parts : bytes ≡ string (key_name_of k.0) ++ (x.0.1).rest = t.0.parts ∙ ap (λ (n : List ℕ). string n ++ (x.0.1).rest) same in
+                let far : (x.0.1).place ≡ length (string (key_name_of k.0)) = t.0.place ∙ ap (λ (n : List ℕ). 0 + length (string n)) same ∙ zero-add (length (string (key_name_of k.0))) in
                 let less : length (x.0.1).rest < 2 ^ 32 = omega (arith, few, ap length t.0.parts, length-append (string x.0.0) (x.0.1).rest) in
                 elim (bind_err (fields_at k.0 x.0.1) (λ key. of_wire (end_at key.1) >>= λ u. fine key.0) e k.2) [
                   | inl f ↦
@@ -375,10 +376,10 @@ blob_fault bytes e fits few h =
                   | inr f ↦
                       (let took = fields_take k.0 x.0.1 f.0.0 f.0.1 t.0.rest_fits f.1 in
                       let refused : of_wire (end_at f.0.1) ≡ Err e = elim (bind_err (of_wire (end_at f.0.1)) (λ u. fine f.0.0) e f.2) [ inl r ↦ r | inr y ↦ absurd (let none : fine {E = KeyError} f.0.0 ≡ Err e = y.2 in cc) ] in
-                      let name : string (name_of k.0) ≡ string (name_of (kind_of f.0.0)) = ap (λ (kind : KeyKind). string (name_of kind)) (sym took.kind) in
+                      let name : string (key_name_of k.0) ≡ string (key_name_of (kind_of f.0.0)) = ap (λ (kind : KeyKind). string (key_name_of kind)) (sym took.kind) in
                       let short = fields_short (fields_of f.0.0) (omega (arith, less, ap length took.took.parts, length-append (concat (fields_of f.0.0)) (f.0.1).rest)) in
                       goes_on bytes e f.0.0 (f.0.1).rest (f.0.1).place (record { in_range = took.in_range; short = short })
-                      (parts ∙ ap (λ (r : List ℕ). string (name_of k.0) ++ r) took.took.parts ∙ ap (λ (n : List ℕ). n ++ (concat (fields_of f.0.0) ++ (f.0.1).rest)) name)
+                      (parts ∙ ap (λ (r : List ℕ). string (key_name_of k.0) ++ r) took.took.parts ∙ ap (λ (n : List ℕ). n ++ (concat (fields_of f.0.0) ++ (f.0.1).rest)) name)
                       (omega (arith, took.took.place, far, ap length name)) refused)
                 ])
           ])

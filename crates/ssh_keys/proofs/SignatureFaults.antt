@@ -9,7 +9,8 @@ use Rattle.ssh_wire.specs.declared.error.WireError.{WireError}
 use Rattle.ssh_wire.specs.Spelling.{string, uint32}
 use Rattle.ssh_wire.specs.Position.{Position, start, advance}
 use Rattle.ssh_wire.specs.Reading.{◌>>=◌, Read, byte_at, number_at, string_at, end_at}
-use Rattle.ssh_wire.specs.Laws.{IsBytes, wide32, number_again, string_takes, string_again, no_prefix_of, fine}
+use Rattle.ssh_wire.specs.Fronts.{IsBytes}
+use Rattle.ssh_wire.specs.Laws.{wide32, number_again, string_takes, string_again, no_prefix_of, fine}
 use Rattle.ssh_wire.specs.Rows.{StopsAt, GoesOnAt, row_by, FitsBy}
 use Rattle.ssh_wire.proofs.RowLemmas.{stops_first, stops_after, goes_on_after, IsRenamed, stops_renamed, goes_on_renamed, bind_err, test_err, string_is_short}
 use Rattle.ssh_keys.proofs.KeyLaws.{and_ok}

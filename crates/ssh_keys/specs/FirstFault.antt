@@ -9,8 +9,8 @@ use Rattle.ssh_keys.specs.declared.error.KeyError.{KeyError}
 use Rattle.ssh_keys.specs.declared.error.KeyError.TheVariants.{Wire, UnknownType, RetiredType, IsCertificate, Curve, Point, Length, TooLong}
 use Rattle.ssh_keys.specs.declared.kind.KeyKind.{KeyKind}
 use Rattle.ssh_keys.specs.FieldFaults.{IsFieldFault}
-use Rattle.ssh_keys.specs.Names.{name_of, certificate_name_of}
-use Rattle.ssh_keys.specs.PublicKey.{PublicKey, fields_of, row_of, is_in_range, longest}
+use Rattle.ssh_keys.specs.Names.{key_name_of, certificate_name_of}
+use Rattle.ssh_keys.specs.PublicKey.{PublicKey, fields_of, key_blob_row, is_in_range, longest}
 
 -- each field has fewer than 2^32 bytes after its length
 abbrev pub AreShort : List (List ℕ) → Type 0
@@ -24,7 +24,7 @@ pub record IsSpelled (key : PublicKey) : Type 0 where
 
 -- the type name of no key, of no certificate, and not `ssh-dss`
 pub record IsUnknownName (name : List ℕ) : Type 0 where
-  pub plain : (kind : KeyKind) → name ≢ name_of kind
+  pub plain : (kind : KeyKind) → name ≢ key_name_of kind
   pub certificate : (kind : KeyKind) → name ≢ certificate_name_of kind
   pub retired : name ≢ codes "ssh-dss"
 
@@ -36,12 +36,12 @@ IsCertificateName name = (kind : KeyKind) × (name ≡ certificate_name_of kind)
 pub record InFields (bytes : List ℕ) (e : KeyError) : Type 0 where
   pub kind : KeyKind
   pub fields : List ℕ
-  pub begins : bytes ≡ string (name_of kind) ++ fields
-  pub fault : IsFieldFault kind (length (string (name_of kind))) fields e
+  pub begins : bytes ≡ string (key_name_of kind) ++ fields
+  pub fault : IsFieldFault kind (length (string (key_name_of kind))) fields e
 
 -- bytes are left after all fields of a key; or no string begins the bytes; or a field after the type name is wrong
 abbrev pub IsWireFault : List ℕ → ℕ → WireCause → Type 0
-IsWireFault bytes place Trailing = GoesOnAt row_of IsSpelled bytes place
+IsWireFault bytes place Trailing = GoesOnAt key_blob_row IsSpelled bytes place
 IsWireFault bytes place Short = ((place ≡ 0) × NoString bytes) ⊎ InFields bytes (Wire (record { place = place; cause = Short }))
 IsWireFault bytes place cause = InFields bytes (Wire (record { place = place; cause = cause }))
 

@@ -6,7 +6,7 @@ use Rattle.std.proofs.Math.Seq.{drop-append_seam}
 use Rattle.base64.specs.GeneralPurpose.{IsBytes}
 use Rattle.ssh_keys.specs.declared.kind.KeyKind.{KeyKind}
 use Rattle.ssh_keys.specs.declared.kind.KeyKind.TheVariants.{Rsa, P256, P384, P521, Ed25519, SkP256, SkEd25519}
-use Rattle.ssh_keys.specs.Names.{name_of, certificate_name_of, plain_kind, certificate_kind, class_by, class_of}
+use Rattle.ssh_keys.specs.Names.{key_name_of, certificate_name_of, plain_kind, certificate_kind, class_by, class_of}
 use Rattle.ssh_keys.specs.PublicKey.{PublicKey, kind_of, key_blob}
 use Rattle.ssh_keys.specs.KeyReading.{key_in}
 use Rattle.ssh_options.specs.AuthOption.{AuthOption}
@@ -23,11 +23,12 @@ use Rattle.ssh_lines.proofs.KeyLemmas.{base64-no_cr, base64-some, spelling-some,
 use Rattle.ssh_options.proofs.OptionLemmas.{is_option_name, stops_name, AreNameBytes, BeginsWithName, begins-items, other_byte, plain-from_name_byte, name_part-at, text_of-items, options_of-spelled, quotable}
 use Rattle.ssh_keys.proofs.KeyLaws.{key_again}
 use Rattle.ssh_lines.proofs.KeyNames.{class-of_name, plain_kind-named, certificate_kind-named}
-use Rattle.ssh_lines.specs.KeyPart.{base64, is_type, begins_with_type, key_part_of}
+use Rattle.ssh_names.specs.Names.{base64}
+use Rattle.ssh_lines.specs.KeyPart.{is_type, begins_with_type, key_part_of}
 
 -- ---- no option list begins as a key type
 
-plain-no_option : (kind : KeyKind) → is_option_name (name_part (name_of kind)) ≡ false
+plain-no_option : (kind : KeyKind) → is_option_name (name_part (key_name_of kind)) ≡ false
 unfolding row_named
 plain-no_option Rsa = refl
 plain-no_option P256 = refl
@@ -110,7 +111,7 @@ line_of_body-at : (body : List ℕ) → begins_comment body ≡ false → line_o
 line_of_body-at [] h = cc
 line_of_body-at (c ∷ cs) h = rw h refl
 
-name-no_comment : (kind : KeyKind) (rest : List ℕ) → begins_comment (name_of kind ++ rest) ≡ false
+name-no_comment : (kind : KeyKind) (rest : List ℕ) → begins_comment (key_name_of kind ++ rest) ≡ false
 name-no_comment Rsa rest = refl
 name-no_comment P256 rest = refl
 name-no_comment P384 rest = refl
@@ -119,7 +120,7 @@ name-no_comment Ed25519 rest = refl
 name-no_comment SkP256 rest = refl
 name-no_comment SkEd25519 rest = refl
 
-name-begins : (kind : KeyKind) (rest : List ℕ) → begins_with_blank (name_of kind ++ rest) ≡ false
+name-begins : (kind : KeyKind) (rest : List ℕ) → begins_with_blank (key_name_of kind ++ rest) ≡ false
 name-begins Rsa rest = refl
 name-begins P256 rest = refl
 name-begins P384 rest = refl
@@ -153,17 +154,17 @@ tail-ends comment tail (inr (gap, after, g, a, e)) =
 pub record KeyText (entry : AuthEntry) (text : List ℕ) : Type 0 where
   pub gap : List ℕ
   pub rest : List ℕ
-  pub whole : text ≡ name_of (kind_of entry.key) ++ gap ++ (base64 (key_blob entry.key) ++ rest)
+  pub whole : text ≡ key_name_of (kind_of entry.key) ++ gap ++ (base64 (key_blob entry.key) ++ rest)
   pub some : bytes_eq gap [] ≡ false
   pub blanks : AreBlanks gap
   pub reads : key_part_of text ≡ Ok (record { key = entry.key; comment = entry.comment })
 
 body-with_key : (entry : AuthEntry) (body : List ℕ) → entry.options ≡ [] → KeyText entry body → line_of_body body ≡ Entry entry
 body-with_key entry body none k =
-    let right : body ≡ name_of (kind_of entry.key) ++ (k.gap ++ (base64 (key_blob entry.key) ++ k.rest)) = k.whole ∙ simp append_assoc in
+    let right : body ≡ key_name_of (kind_of entry.key) ++ (k.gap ++ (base64 (key_blob entry.key) ++ k.rest)) = k.whole ∙ simp append_assoc in
     let typed : begins_with_type body ≡ true =
     ap (λ t. is_type (class_of (first_word t))) k.whole
-    ∙ ap (λ w. is_type (class_of w)) (first_field-at (name_of (kind_of entry.key)) k.gap (base64 (key_blob entry.key) ++ k.rest) (name-no_blank (kind_of entry.key)) k.some k.blanks)
+    ∙ ap (λ w. is_type (class_of w)) (first_field-at (key_name_of (kind_of entry.key)) k.gap (base64 (key_blob entry.key) ++ k.rest) (name-no_blank (kind_of entry.key)) k.some k.blanks)
     ∙ ap is_type (class-of_name (kind_of entry.key)) in
     line_of_body-at body (ap begins_comment right ∙ name-no_comment (kind_of entry.key) (k.gap ++ (base64 (key_blob entry.key) ++ k.rest)))
     ∙ rw (typed, k.reads) (ap (λ o. Entry (record { options = o; key = entry.key; comment = entry.comment })) (sym none))
@@ -192,7 +193,7 @@ body-with_options entry items gap key h e g a b k =
 -- the key text of a line, apart from the CR at its end
 pub key_text-at : (entry : AuthEntry) (gap tail : List ℕ) → bytes_eq gap [] ≡ false → AreBlanks gap → IsBytes (key_blob entry.key)
     → key_in (key_blob entry.key) ≡ Ok entry.key → IsComment entry.comment → SpellsTail entry.comment tail
-    → KeyText entry (name_of (kind_of entry.key) ++ gap ++ (base64 (key_blob entry.key) ++ without_cr tail))
+    → KeyText entry (key_name_of (kind_of entry.key) ++ gap ++ (base64 (key_blob entry.key) ++ without_cr tail))
 key_text-at entry gap tail e g b k c t = record {
   gap = gap;
   rest = without_cr tail;
@@ -205,15 +206,15 @@ key_text-at entry gap tail e g b k c t = record {
 
 -- a line without the CR at its end: the CR stands after the base64 field
 pub line-without_cr : (key : PublicKey) (front gap tail : List ℕ) → key_in (key_blob key) ≡ Ok key
-    → without_cr (front ++ (name_of (kind_of key) ++ gap ++ base64 (key_blob key) ++ tail))
-    ≡ front ++ (name_of (kind_of key) ++ gap ++ (base64 (key_blob key) ++ without_cr tail))
+    → without_cr (front ++ (key_name_of (kind_of key) ++ gap ++ base64 (key_blob key) ++ tail))
+    ≡ front ++ (key_name_of (kind_of key) ++ gap ++ (base64 (key_blob key) ++ without_cr tail))
 line-without_cr key front gap tail k =
     let some = base64-some (key_blob key) (spelling-some key (key_blob key) k) in
-    let regroup : front ++ (name_of (kind_of key) ++ gap ++ base64 (key_blob key) ++ tail)
-    ≡ (front ++ (name_of (kind_of key) ++ gap)) ++ (base64 (key_blob key) ++ tail) = simp append_assoc in
+    let regroup : front ++ (key_name_of (kind_of key) ++ gap ++ base64 (key_blob key) ++ tail)
+    ≡ (front ++ (key_name_of (kind_of key) ++ gap)) ++ (base64 (key_blob key) ++ tail) = simp append_assoc in
     ap without_cr regroup
-    ∙ without_cr-at (front ++ (name_of (kind_of key) ++ gap)) (base64 (key_blob key)) tail some (base64-no_cr (key_blob key))
-    ∙ append_assoc front (name_of (kind_of key) ++ gap) (base64 (key_blob key) ++ without_cr tail)
+    ∙ without_cr-at (front ++ (key_name_of (kind_of key) ++ gap)) (base64 (key_blob key)) tail some (base64-no_cr (key_blob key))
+    ∙ append_assoc front (key_name_of (kind_of key) ++ gap) (base64 (key_blob key) ++ without_cr tail)
 
 spelled-body : (entry : AuthEntry) (options : List AuthOption) (text front key : List ℕ) → entry.options ≡ options
     → SpellsOptions options text → AreBlanks front → KeyText entry key → begins_with_blank key ≡ false
@@ -236,8 +237,8 @@ spelled-body entry (option ∷ options) text front key e (items, gap, h, v, a, w
     gap_stops [] key e g = cc
     gap_stops (c ∷ gap) key e g = blank-stops c g.0
 
-pub key-begins : (kind : KeyKind) (gap rest : List ℕ) → begins_with_blank (name_of kind ++ gap ++ rest) ≡ false
-key-begins kind gap rest = ap begins_with_blank (append_assoc (name_of kind) gap rest) ∙ name-begins kind (gap ++ rest)
+pub key-begins : (kind : KeyKind) (gap rest : List ℕ) → begins_with_blank (key_name_of kind ++ gap ++ rest) ≡ false
+key-begins kind gap rest = ap begins_with_blank (append_assoc (key_name_of kind) gap rest) ∙ name-begins kind (gap ++ rest)
 
 -- A line that spells an entry is read as it.
 pub auth_line-spelled : (entry : AuthEntry) (line : List ℕ) → SpellsEntry entry line → auth_line line ≡ Entry entry
@@ -246,11 +247,11 @@ auth_line-spelled entry line (short, (front, options, text, f, o, (gap, tail, v,
     let some = gap-test gap v.some in
     let g = v.blanks in
     let k : key_in (key_blob entry.key) ≡ Ok entry.key = key_again entry.key is in
-    let cut : without_cr line ≡ front ++ options ++ (name_of (kind_of entry.key) ++ gap ++ (base64 (key_blob entry.key) ++ without_cr tail)) =
+    let cut : without_cr line ≡ front ++ options ++ (key_name_of (kind_of entry.key) ++ gap ++ (base64 (key_blob entry.key) ++ without_cr tail)) =
     ap without_cr (whole ∙ ap (λ x. front ++ options ++ x) key_whole) ∙ line-without_cr entry.key (front ++ options) gap tail k in
     rw (le-ltb line_limit (length line) short)
     (ap (λ x. line_of_body (skip_blanks x)) cut
-    ∙ spelled-body entry entry.options options front (name_of (kind_of entry.key) ++ gap ++ (base64 (key_blob entry.key) ++ without_cr tail)) refl o f
+    ∙ spelled-body entry entry.options options front (key_name_of (kind_of entry.key) ++ gap ++ (base64 (key_blob entry.key) ++ without_cr tail)) refl o f
     (key_text-at entry gap tail some g b k c t) (key-begins (kind_of entry.key) gap (base64 (key_blob entry.key) ++ without_cr tail)))
 
 -- A line spells at most one entry.

@@ -6,7 +6,7 @@ use Rattle.base64.specs.declared.decode.DecodeError.{DecodeError}
 use Rattle.ssh_keys.specs.declared.error.KeyError.{KeyError}
 use Rattle.ssh_keys.specs.declared.kind.KeyKind.{KeyKind}
 use Rattle.ssh_keys.specs.KeyReading.{key_in}
-use Rattle.ssh_keys.specs.Names.{name_of}
+use Rattle.ssh_keys.specs.Names.{key_name_of}
 use Rattle.ssh_keys.specs.PublicKey.{PublicKey, kind_of}
 use Rattle.ssh_options.specs.declared.cause.LineCause.{LineCause}
 use Rattle.ssh_options.specs.declared.cause.LineCause.TheVariants as causes
@@ -26,7 +26,7 @@ of-type options comment key false = refl
 of-kind : (options : List AuthOption) (kind : KeyKind) (comment : List ℕ) (read : Result PublicKey KeyError)
     → needs_bytes (entry_of_key options (key_of_kind kind comment read)) ≡ true
 of-kind options kind comment (Err e) = refl
-of-kind options kind comment (Ok key) = of-type options comment key (bytes_eq (name_of kind) (name_of (kind_of key)))
+of-kind options kind comment (Ok key) = of-type options comment key (bytes_eq (key_name_of kind) (key_name_of (kind_of key)))
 
 of-blob : (options : List AuthOption) (kind : KeyKind) (comment : List ℕ) (decoded : Result (List ℕ) DecodeError)
     → needs_bytes (entry_of_key options (key_of_blob kind comment decoded)) ≡ true

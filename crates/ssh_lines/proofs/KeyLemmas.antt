@@ -8,14 +8,15 @@ use Rattle.base64.specs.Engines.{standard}
 use Rattle.base64.proofs.EngineFacts.{decode_of-encode_of}
 use Rattle.ssh_keys.specs.declared.kind.KeyKind.{KeyKind}
 use Rattle.ssh_keys.specs.declared.kind.KeyKind.TheVariants.{Rsa, P256, P384, P521, Ed25519, SkP256, SkEd25519}
-use Rattle.ssh_keys.specs.Names.{name_of, class_of}
+use Rattle.ssh_keys.specs.Names.{key_name_of, class_of}
 use Rattle.ssh_keys.specs.PublicKey.{PublicKey, kind_of, key_blob}
 use Rattle.ssh_keys.specs.KeyReading.{key_in, blob_at}
 use Rattle.ssh_wire.specs.Reading.{string_at}
 use Rattle.ssh_lines.proofs.KeyNames.{class-of_name}
 use Rattle.ssh_text.specs.Text.{is_blank, HasNoBlank, AreBlanks, begins_with_blank, first_word, next_field, skip_blanks, comment_of, without_cr}
 use Rattle.ssh_text.proofs.TextLemmas.{ends_word, skip_blanks-after, skip_blanks-at_word, first_word-at, after_word-at, without_cr-after}
-use Rattle.ssh_lines.specs.KeyPart.{base64, key_part_of, key_by_class, is_empty}
+use Rattle.ssh_names.specs.Names.{base64}
+use Rattle.ssh_lines.specs.KeyPart.{key_part_of, key_by_class, is_empty}
 
 -- ---- base64 has no blanks
 
@@ -60,16 +61,16 @@ base64-no_blank m = HasNoBlank-append (encode_symbols standard.encode_table m) (
 
 -- ---- names
 
-pub name-no_blank : (kind : KeyKind) → HasNoBlank (name_of kind)
-name-no_blank Rsa = HasNoBlank-from_test (name_of Rsa) refl
-name-no_blank P256 = HasNoBlank-from_test (name_of P256) refl
-name-no_blank P384 = HasNoBlank-from_test (name_of P384) refl
-name-no_blank P521 = HasNoBlank-from_test (name_of P521) refl
-name-no_blank Ed25519 = HasNoBlank-from_test (name_of Ed25519) refl
-name-no_blank SkP256 = HasNoBlank-from_test (name_of SkP256) refl
-name-no_blank SkEd25519 = HasNoBlank-from_test (name_of SkEd25519) refl
+pub name-no_blank : (kind : KeyKind) → HasNoBlank (key_name_of kind)
+name-no_blank Rsa = HasNoBlank-from_test (key_name_of Rsa) refl
+name-no_blank P256 = HasNoBlank-from_test (key_name_of P256) refl
+name-no_blank P384 = HasNoBlank-from_test (key_name_of P384) refl
+name-no_blank P521 = HasNoBlank-from_test (key_name_of P521) refl
+name-no_blank Ed25519 = HasNoBlank-from_test (key_name_of Ed25519) refl
+name-no_blank SkP256 = HasNoBlank-from_test (key_name_of SkP256) refl
+name-no_blank SkEd25519 = HasNoBlank-from_test (key_name_of SkEd25519) refl
 
-name-some : (kind : KeyKind) → is_empty (name_of kind) ≡ false
+name-some : (kind : KeyKind) → is_empty (key_name_of kind) ≡ false
 name-some Rsa = refl
 name-some P256 = refl
 name-some P384 = refl
@@ -78,7 +79,7 @@ name-some Ed25519 = refl
 name-some SkP256 = refl
 name-some SkEd25519 = refl
 
-name-same : (kind : KeyKind) → bytes_eq (name_of kind) (name_of kind) ≡ true
+name-same : (kind : KeyKind) → bytes_eq (key_name_of kind) (key_name_of kind) ≡ true
 name-same Rsa = refl
 name-same P256 = refl
 name-same P384 = refl
@@ -132,19 +133,19 @@ after_fields-at text word field rest f n h e w s =
     rw (f, n, first_word-at field rest h e, after_word-at field rest h e, w, s) refl
 
 class-at : (key : PublicKey) (rest : List ℕ) → IsBytes (key_blob key) → key_in (key_blob key) ≡ Ok key
-    → key_by_class (class_of (name_of (kind_of key))) (base64 (key_blob key)) rest ≡ Ok (record { key = key; comment = comment_of rest })
+    → key_by_class (class_of (key_name_of (kind_of key))) (base64 (key_blob key)) rest ≡ Ok (record { key = key; comment = comment_of rest })
 class-at key rest b k =
     rw (class-of_name (kind_of key), decode_of-encode_of standard (key_blob key) refl b, k, name-same (kind_of key)) refl
 
 -- a text that spells a key is read as that key
 pub key_part-at : (key : PublicKey) (gap rest : List ℕ) → bytes_eq gap [] ≡ false → AreBlanks gap
     → IsBytes (key_blob key) → key_in (key_blob key) ≡ Ok key → ends_word rest ≡ true
-    → key_part_of (name_of (kind_of key) ++ gap ++ (base64 (key_blob key) ++ rest)) ≡ Ok (record { key = key; comment = comment_of rest })
+    → key_part_of (key_name_of (kind_of key) ++ gap ++ (base64 (key_blob key) ++ rest)) ≡ Ok (record { key = key; comment = comment_of rest })
 key_part-at key gap rest e g b k r =
     let some = base64-some (key_blob key) (spelling-some key (key_blob key) k) in
-    after_fields-at (name_of (kind_of key) ++ gap ++ (base64 (key_blob key) ++ rest)) (name_of (kind_of key)) (base64 (key_blob key)) rest
-    (first_field-at (name_of (kind_of key)) gap (base64 (key_blob key) ++ rest) (name-no_blank (kind_of key)) e g)
-    (next_field-at (name_of (kind_of key)) gap (base64 (key_blob key) ++ rest) (name-no_blank (kind_of key)) e g
+    after_fields-at (key_name_of (kind_of key) ++ gap ++ (base64 (key_blob key) ++ rest)) (key_name_of (kind_of key)) (base64 (key_blob key)) rest
+    (first_field-at (key_name_of (kind_of key)) gap (base64 (key_blob key) ++ rest) (name-no_blank (kind_of key)) e g)
+    (next_field-at (key_name_of (kind_of key)) gap (base64 (key_blob key) ++ rest) (name-no_blank (kind_of key)) e g
     (begins-word (base64 (key_blob key)) rest some (base64-no_blank (key_blob key))))
     (base64-no_blank (key_blob key)) r (name-some (kind_of key)) some
     ∙ class-at key rest b k

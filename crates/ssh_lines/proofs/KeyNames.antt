@@ -5,7 +5,7 @@ use Rattle.std.proofs.lemmas.Slice.Eq.{bytes_eq-Decides}
 use Rattle.ssh_keys.specs.declared.kind.KeyKind.{KeyKind}
 use Rattle.ssh_keys.specs.declared.kind.KeyKind.TheVariants.{Rsa, P256, P384, P521, Ed25519, SkP256, SkEd25519}
 use Rattle.ssh_keys.specs.declared.kind.NameClass.TheVariants.{Plain}
-use Rattle.ssh_keys.specs.Names.{kinds, name_of, certificate_name_of, plain_kind, certificate_kind, class_by, class_of}
+use Rattle.ssh_keys.specs.Names.{kinds, key_name_of, certificate_name_of, plain_kind, certificate_kind, class_by, class_of}
 
 found : (test : KeyKind → Bool) (ks : List KeyKind) (kind : KeyKind) → find test ks ≡ Some kind → test kind ≡ true
 found test [] kind h = cc
@@ -15,10 +15,10 @@ found test (k ∷ ks) kind h =
       | inr e ↦ let f : find test ks ≡ Some kind = rw e at h in found test ks kind f
     ]
 
-pub plain_kind-named : (word : List ℕ) (kind : KeyKind) → plain_kind word ≡ Some kind → word ≡ name_of kind
+pub plain_kind-named : (word : List ℕ) (kind : KeyKind) → plain_kind word ≡ Some kind → word ≡ key_name_of kind
 unfolding plain_kind
 plain_kind-named word kind h =
-    sym ((bytes_eq-Decides (name_of kind) word).0 (found (λ k. bytes_eq (name_of k) word) kinds kind h))
+    sym ((bytes_eq-Decides (key_name_of kind) word).0 (found (λ k. bytes_eq (key_name_of k) word) kinds kind h))
 
 pub certificate_kind-named : (word : List ℕ) (kind : KeyKind) → certificate_kind word ≡ Some kind → word ≡ certificate_name_of kind
 unfolding certificate_kind
@@ -26,7 +26,7 @@ certificate_kind-named word kind h =
     sym ((bytes_eq-Decides (certificate_name_of kind) word).0 (found (λ k. bytes_eq (certificate_name_of k) word) kinds kind h))
 
 plain-by : (word : List ℕ) (plain certificate : Option KeyKind) (retired : Bool) (kind : KeyKind)
-    → plain_kind word ≡ plain → class_by plain certificate retired ≡ Plain kind → word ≡ name_of kind
+    → plain_kind word ≡ plain → class_by plain certificate retired ≡ Plain kind → word ≡ key_name_of kind
 plain-by word (Some other) certificate retired kind p h =
     let e : other ≡ kind = cc in rw (← e) (plain_kind-named word other p)
 plain-by word None (Some other) retired kind p h = cc
@@ -34,11 +34,11 @@ plain-by word None None true kind p h = cc
 plain-by word None None false kind p h = cc
 
 -- a plain name is the name of its kind
-pub plain-name : (word : List ℕ) (kind : KeyKind) → class_of word ≡ Plain kind → word ≡ name_of kind
+pub plain-name : (word : List ℕ) (kind : KeyKind) → class_of word ≡ Plain kind → word ≡ key_name_of kind
 plain-name word kind h =
     plain-by word (plain_kind word) (certificate_kind word) (bytes_eq word (codes "ssh-dss")) kind refl h
 
-pub class-of_name : (kind : KeyKind) → class_of (name_of kind) ≡ Plain kind
+pub class-of_name : (kind : KeyKind) → class_of (key_name_of kind) ≡ Plain kind
 unfolding plain_kind
 class-of_name Rsa = refl
 class-of_name P256 = refl

@@ -11,7 +11,7 @@ use Rattle.ssh_keys.specs.declared.kind.NameClass.{NameClass}
 use Rattle.ssh_keys.specs.declared.kind.NameClass.TheVariants.{Plain, Certificate, Retired, Other}
 use Rattle.ssh_keys.proofs.KeyLaws.{key_takes}
 use Rattle.ssh_keys.specs.KeyReading.{key_in}
-use Rattle.ssh_keys.specs.Names.{name_of, class_of}
+use Rattle.ssh_keys.specs.Names.{key_name_of, class_of}
 use Rattle.ssh_keys.specs.PublicKey.{PublicKey, kind_of, IsKeyBlob}
 use Rattle.ssh_names.proofs.ByteLemmas.{AreBytes, IsBytes-from_all}
 use Rattle.ssh_names.proofs.DecodedBytes.{decoded-bytes}
@@ -30,7 +30,8 @@ use Rattle.ssh_lines.specs.declared.marker.FirstField.TheVariants as first
 use Rattle.ssh_lines.specs.declared.marker.Marker.{Marker}
 use Rattle.ssh_lines.specs.declared.marker.Marker.TheVariants as markers
 use Rattle.ssh_lines.specs.Front.{LineFront, past_limit, empty, remark, fields, front_of, begins_with}
-use Rattle.ssh_lines.specs.KeyPart.{base64, is_empty, lacks_key, key_of_kind, key_of_blob, key_by_class, key_after_fields}
+use Rattle.ssh_names.specs.Names.{base64}
+use Rattle.ssh_lines.specs.KeyPart.{is_empty, lacks_key, key_of_kind, key_of_blob, key_by_class, key_after_fields}
 use Rattle.ssh_lines.specs.KnownFaults.{field_of, IsKeyFault, HasKey, IsTextFault, HasFields, IsText, IsKnownFault}
 use Rattle.ssh_lines.specs.KnownGrammar.{entry_of_key, entry_of_names, entry_of_fields, line_of_entry, line_by_first, line_of_front, names_cause, revoked_by, known_line}
 use Rattle.ssh_lines.specs.Markers.{first_field_of}
@@ -44,14 +45,14 @@ differs : (a b : List ℕ) → bytes_eq a b ≡ false → a ≢ b
 differs a b h e = let f : true ≡ false = sym ((bytes_eq-Decides a b).1 e) ∙ h in cc
 
 kind-fault : (key blob : List ℕ) (kind : KeyKind) (read : PublicKey) (cause : LineCause) (same : Bool) → class_of (first_word key) ≡ Plain kind
-    → IsKeyBlob read blob → field_of key ≡ base64 blob → bytes_eq (name_of kind) (name_of (kind_of read)) ≡ same
+    → IsKeyBlob read blob → field_of key ≡ base64 blob → bytes_eq (key_name_of kind) (key_name_of (kind_of read)) ≡ same
     → if◌then◌else◌ {A = Result KeyPart LineCause} same (Ok (record { key = read; comment = comment_of (after_word (next_field key)) })) (Err causes.TypeMismatch) ≡ Err cause
     → IsKeyFault cause key
 kind-fault key blob kind read cause true c is f s h = cc
 kind-fault key blob kind read cause false c is f s h =
     let e : causes.TypeMismatch ≡ cause = cc in
     subst (λ x. IsKeyFault x key) e
-    (kind, read, c, is.is_key, f ∙ ap base64 is.spelled, differs (name_of kind) (name_of (kind_of read)) s)
+    (kind, read, c, is.is_key, f ∙ ap base64 is.spelled, differs (key_name_of kind) (key_name_of (kind_of read)) s)
 
 blob-fault : (key blob : List ℕ) (kind : KeyKind) (read : Result PublicKey KeyError) (cause : LineCause) → class_of (first_word key) ≡ Plain kind
     → IsBytes blob → field_of key ≡ base64 blob → key_in blob ≡ read
@@ -60,7 +61,7 @@ blob-fault key blob kind (Err e) cause c b f k h =
     let is : causes.KeyBlob e ≡ cause = cc in
     subst (λ x. IsKeyFault x key) is (kind, blob, c, b, f, k)
 blob-fault key blob kind (Ok read) cause c b f k h =
-    kind-fault key blob kind read cause (bytes_eq (name_of kind) (name_of (kind_of read))) c (key_takes blob read b k) f refl h
+    kind-fault key blob kind read cause (bytes_eq (key_name_of kind) (key_name_of (kind_of read))) c (key_takes blob read b k) f refl h
 
 field-fault : (key : List ℕ) (kind : KeyKind) (decoded : Result (List ℕ) DecodeError) (cause : LineCause) → IsBytes (field_of key)
     → class_of (first_word key) ≡ Plain kind → decode_of standard (field_of key) ≡ decoded

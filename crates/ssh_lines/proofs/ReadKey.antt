@@ -9,12 +9,13 @@ use Rattle.ssh_keys.specs.declared.kind.KeyKind.{KeyKind}
 use Rattle.ssh_keys.specs.declared.kind.NameClass.{NameClass}
 use Rattle.ssh_keys.specs.declared.kind.NameClass.TheVariants.{Plain, Certificate, Retired, Other}
 use Rattle.ssh_keys.specs.declared.error.KeyError.{KeyError}
-use Rattle.ssh_keys.specs.Names.{name_of, class_of}
+use Rattle.ssh_keys.specs.Names.{key_name_of, class_of}
 use Rattle.ssh_keys.specs.PublicKey.{PublicKey, kind_of, key_blob, IsKeyBlob}
 use Rattle.ssh_keys.specs.KeyReading.{key_in}
 use Rattle.ssh_options.specs.declared.cause.LineCause.TheVariants as causes
 use Rattle.ssh_text.specs.Text.{first_word, after_word, next_field, comment_of, begins_with_blank}
-use Rattle.ssh_lines.specs.KeyPart.{KeyPart, base64, is_empty, lacks_key, SpellsKey, key_by_class, key_of_blob, key_of_kind, key_after_fields, key_part_of}
+use Rattle.ssh_names.specs.Names.{base64}
+use Rattle.ssh_lines.specs.KeyPart.{KeyPart, is_empty, lacks_key, SpellsKey, key_by_class, key_of_blob, key_of_kind, key_after_fields, key_part_of}
 use Rattle.ssh_keys.proofs.KeyLaws.{key_takes}
 use Rattle.ssh_names.proofs.DecodedBytes.{decoded-bytes}
 use Rattle.ssh_lines.proofs.KeyNames.{plain-name}
@@ -29,12 +30,12 @@ pub record KeyFacts (word field rest : List ℕ) (part : KeyPart) : Type 0 where
   pub blob : List ℕ
   pub decoded : decode_of standard field ≡ Ok blob
   pub key : key_in blob ≡ Ok part.key
-  pub same : bytes_eq (name_of kind) (name_of (kind_of part.key)) ≡ true
+  pub same : bytes_eq (key_name_of kind) (key_name_of (kind_of part.key)) ≡ true
   pub comment : part.comment ≡ comment_of rest
 
 kind-facts : (word field rest : List ℕ) (part : KeyPart) (kind : KeyKind) (blob : List ℕ) (key : PublicKey) (same : Bool)
     → class_of word ≡ Plain kind → decode_of standard field ≡ Ok blob → key_in blob ≡ Ok key
-    → bytes_eq (name_of kind) (name_of (kind_of key)) ≡ same
+    → bytes_eq (key_name_of kind) (key_name_of (kind_of key)) ≡ same
     → (if same then Ok (record { key = key; comment = comment_of rest }) else Err causes.TypeMismatch) ≡ Ok part
     → KeyFacts word field rest part
 kind-facts word field rest part kind blob key false c d k s h = cc
@@ -48,7 +49,7 @@ blob-facts : (word field rest : List ℕ) (part : KeyPart) (kind : KeyKind) (blo
     → key_of_kind kind (comment_of rest) key ≡ Ok part → KeyFacts word field rest part
 blob-facts word field rest part kind blob (Err e) c d k h = cc
 blob-facts word field rest part kind blob (Ok key) c d k h =
-    kind-facts word field rest part kind blob key (bytes_eq (name_of kind) (name_of (kind_of key))) c d k refl h
+    kind-facts word field rest part kind blob key (bytes_eq (key_name_of kind) (key_name_of (kind_of key))) c d k refl h
 
 field-facts : (word field rest : List ℕ) (part : KeyPart) (kind : KeyKind) (blob : Result (List ℕ) DecodeError)
     → class_of word ≡ Plain kind → decode_of standard field ≡ blob
@@ -114,13 +115,13 @@ key_part-spells text cr part bytes is h =
     let key_bytes : IsBytes (key_blob part.key) = subst IsBytes (sym blob) blob_bytes in
     let field : first_word next ≡ base64 (key_blob part.key) =
     decode_of_strict standard (first_word next) facts.blob (refl, refl) (IsBytes-from_all (first_word next) field_bytes) facts.decoded ∙ ap base64 (sym blob) in
-    let word : first_word text ≡ name_of (kind_of part.key) =
-    plain-name (first_word text) facts.kind facts.class ∙ (bytes_eq-Decides (name_of facts.kind) (name_of (kind_of part.key))).0 facts.same in
+    let word : first_word text ≡ key_name_of (kind_of part.key) =
+    plain-name (first_word text) facts.kind facts.class ∙ (bytes_eq-Decides (key_name_of facts.kind) (key_name_of (kind_of part.key))).0 facts.same in
     let some : bytes_eq skip.gap [] ≡ false =
     gap-some skip.gap next (ap ends_word (sym next_cut) ∙ after_word-ends text) (skip_blanks-begins (after_word text)) read.field in
-    let whole : text ++ cr ≡ name_of (kind_of part.key) ++ skip.gap ++ base64 (key_blob part.key) ++ (after_word next ++ cr) =
+    let whole : text ++ cr ≡ key_name_of (kind_of part.key) ++ skip.gap ++ base64 (key_blob part.key) ++ (after_word next ++ cr) =
     ap (λ s. s ++ cr) (text_cut ∙ ap (λ w. w ++ (skip.gap ++ (first_word next ++ after_word next))) word
-    ∙ ap (λ f. name_of (kind_of part.key) ++ (skip.gap ++ (f ++ after_word next))) field)
+    ∙ ap (λ f. key_name_of (kind_of part.key) ++ (skip.gap ++ (f ++ after_word next))) field)
     ∙ simp append_assoc in (
       skip.gap,
       after_word next ++ cr,

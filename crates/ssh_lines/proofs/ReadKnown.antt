@@ -6,7 +6,7 @@ use Rattle.base64.specs.declared.decode.DecodeError.{DecodeError}
 use Rattle.ssh_names.specs.Names.{Names, SpellsNames, names_of}
 use Rattle.ssh_names.specs.declared.error.NamesError.{NamesError}
 use Rattle.ssh_names.proofs.FieldLemmas.{names-read, names-spelled}
-use Rattle.ssh_keys.specs.Names.{name_of}
+use Rattle.ssh_keys.specs.Names.{key_name_of}
 use Rattle.ssh_keys.specs.PublicKey.{kind_of, key_blob}
 use Rattle.ssh_keys.specs.KeyReading.{key_in}
 use Rattle.ssh_keys.proofs.KeyLaws.{key_again}
@@ -24,7 +24,8 @@ use Rattle.ssh_lines.specs.declared.marker.FirstField.TheVariants as first
 use Rattle.ssh_lines.specs.declared.marker.Marker.{Marker}
 use Rattle.ssh_lines.specs.declared.marker.Marker.TheVariants as markers
 use Rattle.ssh_lines.specs.Front.{LineFront, past_limit, empty, remark, fields, front_of, begins_with}
-use Rattle.ssh_lines.specs.KeyPart.{SpellsKey, base64, is_empty, lacks_key, key_after_fields, key_part_of}
+use Rattle.ssh_names.specs.Names.{base64}
+use Rattle.ssh_lines.specs.KeyPart.{SpellsKey, is_empty, lacks_key, key_after_fields, key_part_of}
 use Rattle.ssh_lines.specs.Markers.{SpellsMarker, authority_marker, first_field_of}
 use Rattle.ssh_lines.specs.KnownGrammar.{SpellsKnown, entry_of_key, entry_of_names, entry_of_fields, line_of_entry, line_by_first, line_of_fields, line_of_front, revoked_by, known_line}
 use Rattle.ssh_lines.proofs.AuthLemmas.{key_text-at, line-without_cr, key-begins}
@@ -138,7 +139,7 @@ pub known_line-spelled : (entry : KnownEntry) (line : List ℕ) → SpellsKnown 
 known_line-spelled entry line (short, (front, marker, names, gap, key, f, m, n, blank, g, (space, tail, v, b, is, c, t, key_whole), whole)) =
     let again : key_in (key_blob entry.key) ≡ Ok entry.key = key_again entry.key is in
     let plain : AuthEntry = record { options = []; key = entry.key; comment = entry.comment } in
-    let text = name_of (kind_of entry.key) ++ space ++ (base64 (key_blob entry.key) ++ without_cr tail) in
+    let text = key_name_of (kind_of entry.key) ++ space ++ (base64 (key_blob entry.key) ++ without_cr tail) in
     let read = key_text-at plain space tail (gap-test space v.some) v.blanks b again c t in
     let says : SaysFields entry names text = record { names = names-read entry.names names n; part = read.reads } in
     let begins : begins_with_blank text ≡ false = key-begins (kind_of entry.key) space (base64 (key_blob entry.key) ++ without_cr tail) in

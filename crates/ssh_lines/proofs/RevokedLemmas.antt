@@ -14,7 +14,8 @@ use Rattle.ssh_lines.specs.declared.marker.FirstField.{FirstField}
 use Rattle.ssh_lines.specs.declared.marker.FirstField.TheVariants as first
 use Rattle.ssh_lines.specs.declared.marker.Marker.TheVariants as markers
 use Rattle.ssh_lines.specs.Front.{LineFront, past_limit, empty, remark, fields, front_of, front_of_body, begins_with}
-use Rattle.ssh_lines.specs.KeyPart.{base64, is_empty}
+use Rattle.ssh_names.specs.Names.{base64}
+use Rattle.ssh_lines.specs.KeyPart.{is_empty}
 use Rattle.ssh_lines.specs.Markers.{revoked_marker, first_field_of}
 use Rattle.ssh_lines.specs.KnownGrammar.{RevokesBytes, Blind, HasNoBytes, fourth_field, entry_of_fields, line_of_entry, line_by_first, line_of_front, revoked_by, revoked_of, known_line}
 use Rattle.ssh_names.proofs.ByteLemmas.{AreBytes, IsBytes-from_all}

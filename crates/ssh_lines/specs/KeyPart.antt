@@ -7,7 +7,7 @@ use Rattle.ssh_keys.specs.declared.kind.KeyKind.{KeyKind}
 use Rattle.ssh_keys.specs.declared.kind.NameClass.{NameClass}
 use Rattle.ssh_keys.specs.declared.kind.NameClass.TheVariants.{Plain, Certificate, Retired, Other}
 use Rattle.ssh_keys.specs.declared.error.KeyError.{KeyError}
-use Rattle.ssh_keys.specs.Names.{name_of, class_of}
+use Rattle.ssh_keys.specs.Names.{key_name_of, class_of}
 use Rattle.ssh_keys.specs.PublicKey.{PublicKey, kind_of, key_blob, IsKey}
 use Rattle.ssh_keys.specs.KeyReading.{key_in}
 use Rattle.ssh_options.specs.declared.cause.LineCause.{LineCause}
@@ -19,10 +19,6 @@ pub record KeyPart : Type 0 where
   pub key : PublicKey
   pub comment : List ℕ
 
--- the base64 of bytes, in the standard alphabet with padding (RFC 4648, section 4)
-abbrev pub base64 : List ℕ → List ℕ
-base64 bytes = encode_of standard bytes
-
 -- ---- spelling
 
 -- the key's type string, blanks, the base64 of its blob, and the comment after them
@@ -30,7 +26,7 @@ abbrev pub SpellsKey : PublicKey → List ℕ → List ℕ → Type 0
 SpellsKey key comment text =
     (gap tail : List ℕ) × IsGap gap × IsBytes (key_blob key) × IsKey key
     × IsComment comment × SpellsTail comment tail
-    × (text ≡ name_of (kind_of key) ++ gap ++ base64 (key_blob key) ++ tail)
+    × (text ≡ key_name_of (kind_of key) ++ gap ++ base64 (key_blob key) ++ tail)
 
 -- ---- reading
 
@@ -55,7 +51,7 @@ lacks_key text = is_empty (first_word text) || is_empty (first_word (next_field 
 abbrev pub key_of_kind : KeyKind → List ℕ → Result PublicKey KeyError → Result KeyPart LineCause
 key_of_kind kind comment (Err e) = Err (causes.KeyBlob e)
 key_of_kind kind comment (Ok key) =
-    if bytes_eq (name_of kind) (name_of (kind_of key)) then Ok (record { key = key; comment = comment }) else Err causes.TypeMismatch
+    if bytes_eq (key_name_of kind) (key_name_of (kind_of key)) then Ok (record { key = key; comment = comment }) else Err causes.TypeMismatch
 
 abbrev pub key_of_blob : KeyKind → List ℕ → Result (List ℕ) DecodeError → Result KeyPart LineCause
 key_of_blob kind comment (Err e) = Err causes.Base64

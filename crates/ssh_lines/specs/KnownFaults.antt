@@ -3,7 +3,7 @@ use Rattle.std.specs.Prelude.{◌≡◌, ◌≢◌, ◌⊎◌, ℕ, ◌≤◌, t
 use Rattle.base64.specs.GeneralPurpose.{IsBytes}
 use Rattle.ssh_keys.specs.declared.kind.KeyKind.{KeyKind}
 use Rattle.ssh_keys.specs.declared.kind.NameClass.TheVariants.{Plain, Certificate, Retired, Other}
-use Rattle.ssh_keys.specs.Names.{name_of, class_of}
+use Rattle.ssh_keys.specs.Names.{key_name_of, class_of}
 use Rattle.ssh_keys.specs.PublicKey.{PublicKey, kind_of, key_blob, IsKey}
 use Rattle.ssh_keys.specs.KeyReading.{key_in}
 use Rattle.ssh_names.specs.Names.{Names, SpellsNames, IsNamesFault}
@@ -12,7 +12,7 @@ use Rattle.ssh_options.specs.declared.cause.LineCause.{LineCause}
 use Rattle.ssh_options.specs.declared.cause.LineCause.TheVariants as causes
 use Rattle.ssh_text.specs.Text.{line_limit, body_of, first_word, next_field}
 use Rattle.ssh_lines.specs.Front.{begins_with}
-use Rattle.ssh_lines.specs.KeyPart.{base64}
+use Rattle.ssh_names.specs.Names.{base64}
 use Rattle.ssh_lines.specs.Markers.{authority_marker, revoked_marker}
 use Rattle.ssh_lines.specs.KnownGrammar.{HasNoBytes}
 
@@ -32,7 +32,7 @@ IsKeyFault (causes.KeyBlob e) key =
     × (key_in blob ≡ Err e)
 IsKeyFault causes.TypeMismatch key =
     (kind : KeyKind) × (read : PublicKey) × (class_of (first_word key) ≡ Plain kind) × IsKey read
-    × (field_of key ≡ base64 (key_blob read)) × (name_of kind ≢ name_of (kind_of read))
+    × (field_of key ≡ base64 (key_blob read)) × (key_name_of kind ≢ key_name_of (kind_of read))
 IsKeyFault _ key = ⊥
 
 -- type and base64 are there

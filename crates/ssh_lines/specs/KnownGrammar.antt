@@ -18,7 +18,8 @@ use Rattle.ssh_lines.specs.KnownEntry.{KnownEntry}
 use Rattle.ssh_lines.specs.declared.known.KnownLine.{KnownLine}
 use Rattle.ssh_lines.specs.declared.known.KnownLine.TheVariants.{Blank, Comment, Entry, Revoked, RevokedUnreadable, Unreadable}
 use Rattle.ssh_lines.specs.Front.{LineFront, past_limit, empty, remark, fields, front_of}
-use Rattle.ssh_lines.specs.KeyPart.{SpellsKey, base64, is_empty, lacks_key, key_after_fields}
+use Rattle.ssh_names.specs.Names.{base64}
+use Rattle.ssh_lines.specs.KeyPart.{SpellsKey, is_empty, lacks_key, key_after_fields}
 use Rattle.ssh_lines.specs.Markers.{SpellsMarker, revoked_marker, first_field_of}
 
 -- ---- spelling

@@ -14,7 +14,7 @@ use Rattle.ssh_options.specs.AuthOption.{AuthOption, Switch, Setting}
 use Rattle.ssh_lines.specs.declared.entry.AuthLine.{AuthLine}
 use Rattle.ssh_lines.specs.declared.entry.AuthLine.TheVariants.{Blank, Comment, Entry, Unreadable}
 use Rattle.ssh_expiry.specs.Expiry.{is_expiry_text}
-use Rattle.ssh_options.specs.OptionNames.{row_of, row_named}
+use Rattle.ssh_options.specs.OptionNames.{option_row, row_named}
 use Rattle.ssh_options.specs.OptionText.{options_of}
 use Rattle.ssh_lines.specs.KeyPart.{key_part_of}
 use Rattle.ssh_lines.specs.AuthGrammar.{auth_line}
@@ -39,7 +39,7 @@ EntrySamplesRead =
     × (auth_line (codes "  # a comment") ≡ Comment)
 
 pub entry_samples_read : EntrySamplesRead
-unfolding auth_line options_of row_of row_named key_part_of is_expiry_text key_in blob_at fields_at public_at string_at plain_kind certificate_kind base64_on_literals
+unfolding auth_line options_of option_row row_named key_part_of is_expiry_text key_in blob_at fields_at public_at string_at plain_kind certificate_kind base64_on_literals
 entry_samples_read = (refl, refl, refl, refl, refl)
 
 -- the entry of these options and the key
@@ -62,7 +62,7 @@ ExamplesRead =
     × (auth_line (codes "cert-authority,no-touch-required,principals=\"user_a\" " ++ zero_line) ≡ zero_with (Switch CertAuthority ∷ Switch NoTouchRequired ∷ Setting Principals (codes "user_a") ∷ []))
 
 pub examples_read : ExamplesRead
-unfolding auth_line options_of row_of row_named key_part_of is_expiry_text key_in blob_at fields_at public_at string_at plain_kind certificate_kind base64_on_literals
+unfolding auth_line options_of option_row row_named key_part_of is_expiry_text key_in blob_at fields_at public_at string_at plain_kind certificate_kind base64_on_literals
 examples_read = (refl, refl, refl, refl, refl, refl, refl, refl, refl, refl, refl)
 
 -- every option of sshd(8)'s list: those without a value, and those with one
@@ -78,7 +78,7 @@ EveryOptionRead =
     ≡ zero_with (Setting PermitListen (codes "8080") ∷ Setting PermitOpen (codes "[2001:db8::1]:80") ∷ Setting Principals (codes "a,b") ∷ Setting Tunnel (codes "0") ∷ []))
 
 pub every_option_read : EveryOptionRead
-unfolding auth_line options_of row_of row_named key_part_of is_expiry_text key_in blob_at fields_at public_at string_at plain_kind certificate_kind base64_on_literals
+unfolding auth_line options_of option_row row_named key_part_of is_expiry_text key_in blob_at fields_at public_at string_at plain_kind certificate_kind base64_on_literals
 every_option_read = (refl, refl, refl, refl)
 
 -- lines with a fault: in their options, in the order of the tests
@@ -102,7 +102,7 @@ OptionFaultsRead =
     × (auth_line (codes "nosuch") ≡ Unreadable causes.UnknownOption)
 
 pub option_faults_read : OptionFaultsRead
-unfolding auth_line options_of row_of row_named key_part_of is_expiry_text key_in blob_at fields_at public_at string_at plain_kind certificate_kind base64_on_literals
+unfolding auth_line options_of option_row row_named key_part_of is_expiry_text key_in blob_at fields_at public_at string_at plain_kind certificate_kind base64_on_literals
 option_faults_read = (refl, refl, refl, refl, refl, refl, refl, refl, refl, refl, refl, refl, refl, refl, refl, refl)
 
 -- and in their keys
@@ -122,7 +122,7 @@ KeyFaultsRead =
     × (auth_line (codes "ssh-rsa " ++ zero_text) ≡ Unreadable causes.TypeMismatch)
 
 pub key_faults_read : KeyFaultsRead
-unfolding auth_line options_of row_of row_named key_part_of is_expiry_text key_in blob_at fields_at public_at string_at plain_kind certificate_kind base64_on_literals
+unfolding auth_line options_of option_row row_named key_part_of is_expiry_text key_in blob_at fields_at public_at string_at plain_kind certificate_kind base64_on_literals
 key_faults_read = (refl, refl, refl, refl, refl, refl, refl, refl, refl, refl, refl, refl)
 
 -- the longest line, and one byte more
@@ -134,5 +134,5 @@ LongLinesRead =
     × (auth_line (codes "#" ++ replicate 65536 120) ≡ Unreadable causes.TooLong)
 
 pub long_lines_read : LongLinesRead
-unfolding auth_line options_of row_of row_named key_part_of is_expiry_text key_in blob_at fields_at public_at string_at plain_kind certificate_kind base64_on_literals
+unfolding auth_line options_of option_row row_named key_part_of is_expiry_text key_in blob_at fields_at public_at string_at plain_kind certificate_kind base64_on_literals
 long_lines_read = (refl, refl, refl, refl)

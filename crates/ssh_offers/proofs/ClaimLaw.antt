@@ -9,7 +9,7 @@ use Rattle.ssh_keys.specs.declared.error.KeyError.{KeyError}
 use Rattle.ssh_keys.specs.declared.kind.KeyKind.{KeyKind}
 use Rattle.ssh_keys.specs.declared.kind.KeyKind.TheVariants.{Rsa, P256, P384, P521, Ed25519, SkP256, SkEd25519}
 use Rattle.ssh_keys.specs.KeyReading.{key_in}
-use Rattle.ssh_keys.specs.Names.{certificate_kind, certificate_name_of, class_of, name_of, plain_kind}
+use Rattle.ssh_keys.specs.Names.{certificate_kind, certificate_name_of, class_of, key_name_of, plain_kind}
 use Rattle.ssh_keys.specs.PublicKey.{IsKeyBlob, PublicKey, fields_of, key_blob, kind_of}
 use Rattle.ssh_keys.specs.Signature.{IsSignatureBlob, Signature, fit_of, signature_blob, signature_in}
 use Rattle.ssh_keys.proofs.KeyLaws.{key_only, key_refused}
@@ -51,7 +51,7 @@ signature-read s blob is = go (signature_in blob) refl
     go (Err f) e = absurd (signature_refused blob f s e is)
 
 -- a plain key's type name is no certificate's
-plain-class : (kind : KeyKind) → is_certificate_class (class_of (name_of kind)) ≡ false
+plain-class : (kind : KeyKind) → is_certificate_class (class_of (key_name_of kind)) ≡ false
 unfolding plain_kind certificate_kind
 plain-class Rsa = refl
 plain-class P256 = refl
@@ -61,7 +61,7 @@ plain-class Ed25519 = refl
 plain-class SkP256 = refl
 plain-class SkEd25519 = refl
 
-plain-short : (kind : KeyKind) → length (name_of kind) < 2 ^ 32
+plain-short : (kind : KeyKind) → length (key_name_of kind) < 2 ^ 32
 plain-short Rsa = omega arith
 plain-short P256 = omega arith
 plain-short P384 = omega arith
@@ -73,7 +73,7 @@ plain-short SkEd25519 = omega arith
 key-unnamed : (key : PublicKey) → is_certificate_blob (key_blob key) ≡ false
 unfolding is_certificate_blob key_blob
 key-unnamed key =
-    ap is_certificate_name (string_again (name_of (kind_of key)) 0 (concat (fields_of key)) (plain-short (kind_of key))) ∙ plain-class (kind_of key)
+    ap is_certificate_name (string_again (key_name_of (kind_of key)) 0 (concat (fields_of key)) (plain-short (kind_of key))) ∙ plain-class (kind_of key)
 
 certificate-begins : (c : Certificate) → IsNamedCertificate (certificate_blob c)
 unfolding certificate_blob

@@ -5,7 +5,8 @@ use Rattle.std.specs.Str.{bytes_eq}
 use Rattle.std.proofs.lemmas.Slice.Eq.{bytes_eq-Decides}
 use Rattle.ssh_wire.specs.Position.{start}
 use Rattle.ssh_wire.specs.Reading.{Read, string_at}
-use Rattle.ssh_wire.specs.Laws.{IsBytes, string_again, string_takes}
+use Rattle.ssh_wire.specs.Fronts.{IsBytes}
+use Rattle.ssh_wire.specs.Laws.{string_again, string_takes}
 use Rattle.ssh_wire.specs.Spelling.{string}
 use Rattle.ssh_keys.specs.declared.kind.KeyKind.{KeyKind}
 use Rattle.ssh_keys.specs.declared.kind.KeyKind.TheVariants.{Rsa, P256, P384, P521, Ed25519, SkP256, SkEd25519}

@@ -6,7 +6,7 @@ use Rattle.ssh_keys.specs.declared.kind.KeyKind.{KeyKind}
 use Rattle.ssh_keys.specs.declared.kind.KeyKind.TheVariants.{Rsa}
 use Rattle.ssh_keys.specs.declared.signature.Fit.{Fit}
 use Rattle.ssh_keys.specs.declared.signature.Fit.TheVariants.{Yes, Weak, No}
-use Rattle.ssh_keys.specs.Names.{name_of, certificate_name_of}
+use Rattle.ssh_keys.specs.Names.{key_name_of, certificate_name_of}
 use Rattle.ssh_keys.specs.PublicKey.{kind_of}
 use Rattle.ssh_keys.specs.Signature.{fit_of}
 use Rattle.ssh_offers.specs.declared.error.AuditError.{AuditError}
@@ -15,7 +15,7 @@ use Rattle.ssh_offers.specs.Offer.{Offer, plain, certified}
 
 -- the type name of what is offered
 abbrev pub type_name : Bool → KeyKind → List ℕ
-type_name false kind = name_of kind
+type_name false kind = key_name_of kind
 type_name true kind = certificate_name_of kind
 
 -- RSA's two names that are good, by the hash; those of certificates have an ending
@@ -29,7 +29,7 @@ rsa_sha512_name true = codes "rsa-sha2-512-cert-v01@openssh.com"
 
 -- the names that ask for RSA with SHA-1
 abbrev pub is_weak_name : List ℕ → Bool
-is_weak_name name = bytes_eq name (name_of Rsa) || bytes_eq name (certificate_name_of Rsa)
+is_weak_name name = bytes_eq name (key_name_of Rsa) || bytes_eq name (certificate_name_of Rsa)
 
 -- the signature algorithm that a name asks for: RSA has two, and every other kind of key its type name
 abbrev pub wanted_algorithm : KeyKind → Bool → List ℕ → Result (List ℕ) AuditError
@@ -37,11 +37,11 @@ wanted_algorithm Rsa cert name =
     if bytes_eq name (rsa_sha256_name cert) then Ok (codes "rsa-sha2-256")
     else if bytes_eq name (rsa_sha512_name cert) then Ok (codes "rsa-sha2-512")
     else if is_weak_name name then Err WeakSignature else Err WrongAlgorithm
-wanted_algorithm kind cert name = if bytes_eq name (type_name cert kind) then Ok (name_of kind) else Err WrongAlgorithm
+wanted_algorithm kind cert name = if bytes_eq name (type_name cert kind) then Ok (key_name_of kind) else Err WrongAlgorithm
 
 -- why a signature of an algorithm that was not asked for is refused
 abbrev pub other_algorithm : KeyKind → List ℕ → AuditError
-other_algorithm Rsa algorithm = if bytes_eq algorithm (name_of Rsa) then WeakSignature else WrongAlgorithm
+other_algorithm Rsa algorithm = if bytes_eq algorithm (key_name_of Rsa) then WeakSignature else WrongAlgorithm
 other_algorithm kind algorithm = WrongAlgorithm
 
 -- the signature has the algorithm that was asked for

@@ -212,13 +212,13 @@ SignersOfCertificates =
 -- ---- the bytes that a client signs (RFC 4252 section 7)
 
 -- an Ed25519 key of 32 zero bytes
-abbrev key_blob : List ℕ
-key_blob = 0 ∷ 0 ∷ 0 ∷ 11 ∷ (codes "ssh-ed25519" ++ 0 ∷ 0 ∷ 0 ∷ 32 ∷ replicate 32 0)
+abbrev sample_key_blob : List ℕ
+sample_key_blob = 0 ∷ 0 ∷ 0 ∷ 11 ∷ (codes "ssh-ed25519" ++ 0 ∷ 0 ∷ 0 ∷ 32 ∷ replicate 32 0)
 
 -- a login by that key, of the user ann in the session 01020304
 abbrev login_by : List ℕ → Option (List ℕ) → List ℕ → ℕ → TimeZone → Login
 login_by signature host address now zone = record {
-  offered = key_blob;
+  offered = sample_key_blob;
   signature = signature;
   algorithm = codes "ssh-ed25519";
   session = 1 ∷ 2 ∷ 3 ∷ 4 ∷ [];
@@ -236,7 +236,7 @@ abbrev signed_bytes : List ℕ
 signed_bytes =
     0 ∷ 0 ∷ 0 ∷ 4 ∷ 1 ∷ 2 ∷ 3 ∷ 4 ∷ 0x32 ∷ 0 ∷ 0 ∷ 0 ∷ 3 ∷ 0x61 ∷ 0x6e ∷ 0x6e
     ∷ 0 ∷ 0 ∷ 0 ∷ 14 ∷ (codes "ssh-connection" ++ 0 ∷ 0 ∷ 0 ∷ 9 ∷ (codes "publickey" ++ 1
-    ∷ 0 ∷ 0 ∷ 0 ∷ 11 ∷ (codes "ssh-ed25519" ++ 0 ∷ 0 ∷ 0 ∷ 51 ∷ key_blob)))
+    ∷ 0 ∷ 0 ∷ 0 ∷ 11 ∷ (codes "ssh-ed25519" ++ 0 ∷ 0 ∷ 0 ∷ 51 ∷ sample_key_blob)))
 
 -- They are the same whatever the signature, the host, the address, the moment and the zone.
 abbrev pub LoginBytesSpelled : Type 0

@@ -11,8 +11,8 @@ use Rattle.ssh_options.specs.declared.option.ValueName.TheVariants.{Command, Env
 use Rattle.ssh_options.specs.AuthOption.{AuthOption, Switch, Setting}
 use Rattle.ssh_options.specs.declared.option.OptionName.TheVariants as names
 use Rattle.ssh_text.specs.Text.{is_blank}
-use Rattle.ssh_options.specs.OptionNames.{row_of, row_named, flag_name, value_name, option_named, same_name}
-use Rattle.ssh_options.specs.OptionText.{Item, escaped, ends_with_backslash, option_name, value_part, SpellsOption, SpellsItems, AreAllowed, can_be_quoted, option_text_of, items_of, is_name_byte, name_part, after_name, value_of, named_item, item_of, each_item, option_of, options_from, options_of}
+use Rattle.ssh_options.specs.OptionNames.{option_row, row_named, flag_name, value_name, option_named, same_name}
+use Rattle.ssh_options.specs.OptionText.{OptionItem, escaped, ends_with_backslash, option_name, value_part, SpellsOption, SpellsItems, AreAllowed, can_be_quoted, option_text_of, option_items, is_name_byte, name_part, after_name, value_of, named_item, option_item, each_item, option_of, options_from, options_of}
 use Rattle.ssh_options.proofs.ValueLemmas.{unescaped-escaped, closed-escaped}
 
 -- ---- the bytes of names
@@ -60,8 +60,8 @@ text-after_name (c ∷ name) cont end n h last =
     rw (plain.blank, plain.quote) (ap (λ s. c ∷ s) (text-after_name name cont end n.1 h c))
 
 pub items-after_name : (name cont part : List ℕ) (parts : List (List ℕ)) → AreNameBytes name
-    → ((last : ℕ) → items_of false last cont ≡ part ∷ parts)
-    → (last : ℕ) → items_of false last (name ++ cont) ≡ (name ++ part) ∷ parts
+    → ((last : ℕ) → option_items false last cont ≡ part ∷ parts)
+    → (last : ℕ) → option_items false last (name ++ cont) ≡ (name ++ part) ∷ parts
 items-after_name [] cont part parts n h last = h last
 items-after_name (c ∷ name) cont part parts n h last =
     let plain = plain-from_name_byte c n.0 in
@@ -80,9 +80,9 @@ text-in_quotes (c ∷ cs) cont end h last b =
       | inr e ↦ rw (e, e) (ap (λ s. c ∷ s) (text-in_quotes cs cont end h c b))
     ]
 
-items-in_quotes : (v cont part : List ℕ) (parts : List (List ℕ)) → ((last : ℕ) → items_of false last cont ≡ part ∷ parts)
+items-in_quotes : (v cont part : List ℕ) (parts : List (List ℕ)) → ((last : ℕ) → option_items false last cont ≡ part ∷ parts)
     → (last : ℕ) → ends_with_backslash (last ∷ v) ≡ false
-    → items_of true last (escaped v ++ 34 ∷ cont) ≡ (escaped v ++ 34 ∷ part) ∷ parts
+    → option_items true last (escaped v ++ 34 ∷ cont) ≡ (escaped v ++ 34 ∷ part) ∷ parts
 items-in_quotes [] cont part parts h last b = rw (b, h 34) refl
 items-in_quotes (c ∷ cs) cont part parts h last b =
     elim (cases_Bool (c == 34)) [
@@ -107,8 +107,8 @@ text-after_value (Setting name v) cont end q h last =
     rw (append_assoc (escaped v) (34 ∷ []) cont, append_assoc (escaped v) (34 ∷ []) end) (ap (λ s. 61 ∷ 34 ∷ s) inside)
 
 pub items-after_value : (option : AuthOption) (cont part : List ℕ) (parts : List (List ℕ)) → can_be_quoted option ≡ true
-    → ((last : ℕ) → items_of false last cont ≡ part ∷ parts)
-    → (last : ℕ) → items_of false last (value_part option ++ cont) ≡ (value_part option ++ part) ∷ parts
+    → ((last : ℕ) → option_items false last cont ≡ part ∷ parts)
+    → (last : ℕ) → option_items false last (value_part option ++ cont) ≡ (value_part option ++ part) ∷ parts
 items-after_value (Switch flag) cont part parts q h last = h last
 items-after_value (Setting name v) cont part parts q h last =
     let inside = items-in_quotes v cont part parts h 34 (backslash-after_quote v q) in
@@ -126,7 +126,7 @@ bytes-from_test (c ∷ cs) h =
     let parts = and_parts (is_name_byte c) (list_all is_name_byte cs) h in (parts.0, bytes-from_test cs parts.1)
 
 flag-bytes : (flag : Flag) → list_all is_name_byte (str_to_ascii_lowercase (flag_name flag)) ≡ true
-unfolding row_of
+unfolding option_row
 flag-bytes AgentForwarding = refl
 flag-bytes CertAuthority = refl
 flag-bytes NoAgentForwarding = refl
@@ -143,7 +143,7 @@ flag-bytes UserRc = refl
 flag-bytes X11Forwarding = refl
 
 value-bytes : (name : ValueName) → list_all is_name_byte (str_to_ascii_lowercase (value_name name)) ≡ true
-unfolding row_of
+unfolding option_row
 value-bytes Command = refl
 value-bytes Environment = refl
 value-bytes ExpiryTime = refl
@@ -162,7 +162,7 @@ spelled-bytes name option h =
     names-from_lower name (rw (lower-equal name (option_name option) h) (bytes-from_test (str_to_ascii_lowercase (option_name option)) (option-bytes option)))
 
 pub flag-found : (flag : Flag) (name : List ℕ) → str_to_ascii_lowercase name ≡ str_to_ascii_lowercase (flag_name flag) → option_named name ≡ Some (names.Switch flag)
-unfolding row_of row_named
+unfolding option_row row_named
 flag-found AgentForwarding name e = rw e refl
 flag-found CertAuthority name e = rw e refl
 flag-found NoAgentForwarding name e = rw e refl
@@ -180,7 +180,7 @@ flag-found X11Forwarding name e = rw e refl
 
 pub value-found : (value : ValueName) (name : List ℕ) → str_to_ascii_lowercase name ≡ str_to_ascii_lowercase (value_name value)
     → option_named name ≡ Some (names.Setting value)
-unfolding row_of row_named
+unfolding option_row row_named
 value-found Command name e = rw e refl
 value-found Environment name e = rw e refl
 value-found ExpiryTime name e = rw e refl
@@ -220,7 +220,7 @@ value_of-part (Setting name v) q =
     rw (closed-escaped 34 v (backslash-after_quote v q), unescaped-escaped v) refl
 
 no_name : (option : AuthOption) → same_name [] (option_name option) ≡ true → ⊥
-unfolding row_of
+unfolding option_row
 no_name (Switch AgentForwarding) h = cc
 no_name (Switch CertAuthority) h = cc
 no_name (Switch NoAgentForwarding) h = cc
@@ -250,7 +250,7 @@ option_of-named (Switch flag) name h = rw (flag-found flag name (lower-equal nam
 option_of-named (Setting value v) name h = rw (value-found value name (lower-equal name (value_name value) h)) refl
 
 item_of-named : (option : AuthOption) (name : List ℕ) → same_name name (option_name option) ≡ true → can_be_quoted option ≡ true
-    → item_of (name ++ value_part option) ≡ Some (record { name = name; value = value_in option })
+    → option_item (name ++ value_part option) ≡ Some (record { name = name; value = value_in option })
 item_of-named option [] h q = absurd (no_name option h)
 item_of-named option (c ∷ cs) h q =
     let bytes = spelled-bytes (c ∷ cs) option h in
@@ -263,8 +263,8 @@ item_of-named option (c ∷ cs) h q =
 -- what the options and their text say of reading
 pub record AreRead (options : List AuthOption) (text : List ℕ) : Type 0 where
   pub texts : List (List ℕ)
-  pub items : List Item
-  pub cut : (last : ℕ) → items_of false last text ≡ texts
+  pub items : List OptionItem
+  pub cut : (last : ℕ) → option_items false last text ≡ texts
   pub each : each_item texts ≡ Some items
   pub options_of_items : AllZip (λ item option. option_of item ≡ Ok option) items options
 
@@ -276,7 +276,7 @@ read-last option text q (name, same, whole) = record {
   texts = (name ++ (value_part option ++ [])) ∷ [];
   items = record { name = name; value = value_in option } ∷ [];
   cut = λ last.
-      ap (items_of false last) (whole ∙ ap (λ s. name ++ s) (sym (append-nil (value_part option))))
+      ap (option_items false last) (whole ∙ ap (λ s. name ++ s) (sym (append-nil (value_part option))))
       ∙ items-after_name name (value_part option ++ []) (value_part option ++ []) [] (spelled-bytes name option same)
       (items-after_value option [] [] [] q (λ l. refl)) last;
   each = rw (append-nil (value_part option), item_of-named option name same q) refl;
@@ -289,7 +289,7 @@ read-more option options text first rest q (name, same, whole) cut more = record
   texts = (name ++ (value_part option ++ [])) ∷ more.texts;
   items = record { name = name; value = value_in option } ∷ more.items;
   cut = λ last.
-      ap (items_of false last) (cut ∙ ap (λ s. s ++ 44 ∷ rest) whole ∙ append_assoc name (value_part option) (44 ∷ rest))
+      ap (option_items false last) (cut ∙ ap (λ s. s ++ 44 ∷ rest) whole ∙ append_assoc name (value_part option) (44 ∷ rest))
       ∙ items-after_name name (value_part option ++ 44 ∷ rest) (value_part option ++ []) more.texts (spelled-bytes name option same)
       (items-after_value option (44 ∷ rest) [] more.texts q (λ l. ap (λ s. [] ∷ s) (more.cut 44))) last;
   each = rw (append-nil (value_part option), item_of-named option name same q, more.each) refl;
@@ -322,7 +322,7 @@ text_of-items (option ∷ next ∷ options) text cont q (first, rest, (name, sam
     ∙ sym to_name
 
 -- options that a line may hold are all taken
-options_from-allowed : (before options : List AuthOption) (items : List Item) → AreAllowed before options
+options_from-allowed : (before options : List AuthOption) (items : List OptionItem) → AreAllowed before options
     → AllZip (λ item option. option_of item ≡ Ok option) items options
     → options_from (Ok before) items ≡ Ok (before ++ options)
 options_from-allowed before [] [] a z = ap Ok (sym (append-nil before))

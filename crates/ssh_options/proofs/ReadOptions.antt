@@ -9,9 +9,9 @@ use Rattle.ssh_options.specs.declared.cause.LineCause.TheVariants as causes
 use Rattle.ssh_text.specs.Text.{is_blank}
 use Rattle.ssh_options.specs.declared.option.OptionName.{OptionName}
 use Rattle.ssh_options.specs.declared.option.OptionName.TheVariants as names
-use Rattle.ssh_options.specs.OptionNames.{OptionRow, options, row_of, row_named, name_in, option_named, same_name}
+use Rattle.ssh_options.specs.OptionNames.{OptionRow, options, option_row, row_named, name_in, option_named, same_name}
 use Rattle.ssh_options.specs.OptionFaults.{SpellsValue, SpellsItem}
-use Rattle.ssh_options.specs.OptionText.{Item, escaped, unescaped, ends_with_backslash, SpellsOption, SpellsItems, AreAllowed, can_be_quoted, repeats, has_bad_expiry, option_text_of, items_of, is_open_quote, turned, is_name_byte, name_part, after_name, value_of, named_item, item_of, each_item, option_by_name, option_of, and_option, options_from, options_of_items, options_of, closed_by_quote}
+use Rattle.ssh_options.specs.OptionText.{OptionItem, escaped, unescaped, ends_with_backslash, SpellsOption, SpellsItems, AreAllowed, can_be_quoted, repeats, has_bad_expiry, option_text_of, option_items, is_open_quote, turned, is_name_byte, name_part, after_name, value_of, named_item, option_item, each_item, option_by_name, option_of, and_option, options_from, options_of_items, options_of, closed_by_quote}
 use Rattle.ssh_text.proofs.TextLemmas.{ends_word}
 use Rattle.ssh_options.proofs.OptionLemmas.{AreNameBytes}
 
@@ -192,17 +192,17 @@ name-bytes : (text : List ℕ) → AreNameBytes (name_part text)
 name-bytes [] = tt
 name-bytes (c ∷ cs) = name-by c (name_part cs) (is_name_byte c) refl (name-bytes cs)
 
-item-named : (text name part : List ℕ) (value : Option (Option (List ℕ))) (item : Item) → text ≡ name ++ part → AreNameBytes name
+item-named : (text name part : List ℕ) (value : Option (Option (List ℕ))) (item : OptionItem) → text ≡ name ++ part → AreNameBytes name
     → value_of part ≡ value → named_item name value ≡ Some item → SpellsItem item text
 item-named text [] part value item w b v h = cc
 item-named text (c ∷ cs) part None item w b v h = cc
 item-named text (c ∷ cs) part (Some value) item w b v h =
     let e : record { name = c ∷ cs; value = value } ≡ item = cc in
-    let P : Item → Type 0 = λ x. SpellsItem x text in
+    let P : OptionItem → Type 0 = λ x. SpellsItem x text in
     let some : (c ∷ cs) ≢ [] = λ f. cc in
     subst P e (part, some, b, read_part part value v, w)
 
-pub read_item : (text : List ℕ) (item : Item) → item_of text ≡ Some item → SpellsItem item text
+pub read_item : (text : List ℕ) (item : OptionItem) → option_item text ≡ Some item → SpellsItem item text
 read_item text item h =
     item-named text (name_part text) (after_name text) (value_of (after_name text)) item (name-cut text) (name-bytes text) refl h
 
@@ -210,36 +210,36 @@ read_item text item h =
 
 -- the row's name is the name of its option
 abbrev is_own : OptionRow → Bool
-is_own row = bytes_eq (name_in (row_of row.option)) row.name
+is_own row = bytes_eq (name_in (option_row row.option)) row.name
 
 each_own : list_all is_own options ≡ true
-unfolding row_of
+unfolding option_row
 each_own = refl
 
 -- the option of a row that is found has the name
 found-own : (name : List ℕ) (rows : List OptionRow) (row : OptionRow) → list_all is_own rows ≡ true
-    → find (λ r. same_name name r.name) rows ≡ Some row → same_name name (name_in (row_of row.option)) ≡ true
+    → find (λ r. same_name name r.name) rows ≡ Some row → same_name name (name_in (option_row row.option)) ≡ true
 found-own name [] row own h = cc
 found-own name (r ∷ rows) row own h =
     let parts = and_parts (is_own r) (list_all is_own rows) own in
     elim (cases_Bool (same_name name r.name)) [
       | inl e ↦
           let g : Some r ≡ Some row = rw e at h in let k : r ≡ row = cc in
-          let P : OptionRow → Type 0 = λ x. same_name name (name_in (row_of x.option)) ≡ true in
-          subst P k (rw ((bytes_eq-Decides (name_in (row_of r.option)) r.name).0 parts.0) e)
+          let P : OptionRow → Type 0 = λ x. same_name name (name_in (option_row x.option)) ≡ true in
+          subst P k (rw ((bytes_eq-Decides (name_in (option_row r.option)) r.name).0 parts.0) e)
       | inr e ↦ let g : find (λ r. same_name name r.name) rows ≡ Some row = rw e at h in found-own name rows row parts.1 g
     ]
 
 named-by : (name : List ℕ) (option : OptionName) (found : Option OptionRow) → row_named name ≡ found
-    → option_map (λ row. row.option) found ≡ Some option → same_name name (name_in (row_of option)) ≡ true
+    → option_map (λ row. row.option) found ≡ Some option → same_name name (name_in (option_row option)) ≡ true
 unfolding row_named
 named-by name option None r h = cc
 named-by name option (Some row) r h =
     let e : row.option ≡ option = cc in
-    let P : OptionName → Type 0 = λ x. same_name name (name_in (row_of x)) ≡ true in
+    let P : OptionName → Type 0 = λ x. same_name name (name_in (option_row x)) ≡ true in
     subst P e (found-own name options row each_own r)
 
-pub named-same : (name : List ℕ) (option : OptionName) → option_named name ≡ Some option → same_name name (name_in (row_of option)) ≡ true
+pub named-same : (name : List ℕ) (option : OptionName) → option_named name ≡ Some option → same_name name (name_in (option_row option)) ≡ true
 named-same name option h = named-by name option (row_named name) refl h
 
 pub record ReadOption (text : List ℕ) (option : AuthOption) : Type 0 where
@@ -259,7 +259,7 @@ option-by text name part (Some value) option (Some (names.Setting setting)) w r 
     let e : Setting setting value ≡ option = cc in let P : AuthOption → Type 0 = λ x. ReadOption text x in
     subst P e (record { spelled = (name, named-same name (names.Setting setting) n, w ∙ ap (λ p. name ++ p) r.0); quotable = r.1 })
 
-read_option : (text : List ℕ) (item : Item) (option : AuthOption) → item_of text ≡ Some item → option_of item ≡ Ok option → ReadOption text option
+read_option : (text : List ℕ) (item : OptionItem) (option : AuthOption) → option_item text ≡ Some item → option_of item ≡ Ok option → ReadOption text option
 read_option text item option i o = by (read_item text item i)
   where
     by : SpellsItem item text → ReadOption text option
@@ -270,8 +270,8 @@ read_option text item option i o = by (read_item text item i)
 pub record SomeItems (inside : Bool) (last : ℕ) (text : List ℕ) : Type 0 where
   pub first : List ℕ
   pub others : List (List ℕ)
-  pub are : items_of inside last text ≡ first ∷ others
-  pub joined : join_with_byte 44 (items_of inside last text) ≡ text
+  pub are : option_items inside last text ≡ first ∷ others
+  pub joined : join_with_byte 44 (option_items inside last text) ≡ text
 
 join-onto : (c : ℕ) (first : List ℕ) (others : List (List ℕ)) → join_with_byte 44 (onto_first c (first ∷ others)) ≡ c ∷ join_with_byte 44 (first ∷ others)
 join-onto c first [] = refl
@@ -281,16 +281,16 @@ items-by : (inside : Bool) (last c : ℕ) (cs : List ℕ) (stops : Bool) → (no
     → SomeItems false c cs → SomeItems (turned (is_open_quote last c) inside) c cs → SomeItems inside last (c ∷ cs)
 items-by inside last c cs true s here more =
     let comma : c ≡ 44 = eqb-true c 44 ((and_parts (not inside) (c == 44) s).1) in
-    let e : items_of inside last (c ∷ cs) ≡ [] ∷ items_of false c cs = rw s refl in
+    let e : option_items inside last (c ∷ cs) ≡ [] ∷ option_items false c cs = rw s refl in
     record {
       first = [];
-      others = items_of false c cs;
+      others = option_items false c cs;
       are = e;
       joined = ap (join_with_byte 44) (e ∙ ap (λ t. [] ∷ t) here.are) ∙ ap (λ t. 44 ∷ t) (ap (join_with_byte 44) (sym here.are) ∙ here.joined)
           ∙ ap (λ x. x ∷ cs) (sym comma);
     }
 items-by inside last c cs false s here more =
-    let e : items_of inside last (c ∷ cs) ≡ onto_first c (items_of (turned (is_open_quote last c) inside) c cs) = rw s refl in
+    let e : option_items inside last (c ∷ cs) ≡ onto_first c (option_items (turned (is_open_quote last c) inside) c cs) = rw s refl in
     record {
       first = c ∷ more.first;
       others = more.others;
@@ -304,15 +304,15 @@ some_items inside last [] = record { first = []; others = []; are = refl; joined
 some_items inside last (c ∷ cs) =
     items-by inside last c cs (not inside && (c == 44)) refl (some_items false c cs) (some_items (turned (is_open_quote last c) inside) c cs)
 
-pub record EachCut (text : List ℕ) (texts : List (List ℕ)) (items : List Item) : Type 0 where
-  pub item : Item
-  pub rest : List Item
-  pub here : item_of text ≡ Some item
+pub record EachCut (text : List ℕ) (texts : List (List ℕ)) (items : List OptionItem) : Type 0 where
+  pub item : OptionItem
+  pub rest : List OptionItem
+  pub here : option_item text ≡ Some item
   pub later : each_item texts ≡ Some rest
   pub whole : items ≡ item ∷ rest
 
-pub each-by : (text : List ℕ) (texts : List (List ℕ)) (items : List Item) (item : Option Item) (rest : Option (List Item))
-    → item_of text ≡ item → each_item texts ≡ rest → each_item (text ∷ texts) ≡ Some items → EachCut text texts items
+pub each-by : (text : List ℕ) (texts : List (List ℕ)) (items : List OptionItem) (item : Option OptionItem) (rest : Option (List OptionItem))
+    → option_item text ≡ item → each_item texts ≡ rest → each_item (text ∷ texts) ≡ Some items → EachCut text texts items
 each-by text texts items None rest i r h = let f : None ≡ Some items = rw i at h in cc
 each-by text texts items (Some item) None i r h = let f : None ≡ Some items = rw (i, r) at h in cc
 each-by text texts items (Some item) (Some rest) i r h =
@@ -320,21 +320,21 @@ each-by text texts items (Some item) (Some rest) i r h =
     let e : item ∷ rest ≡ items = cc in
     record { item = item; rest = rest; here = i; later = r; whole = sym e }
 
-abbrev Says : Item → AuthOption → Type 0
+abbrev Says : OptionItem → AuthOption → Type 0
 Says item option = option_of item ≡ Ok option
 
 abbrev AllQuotable : List AuthOption → Type 0
 AllQuotable options = AllByRecursion (λ option. can_be_quoted option ≡ true) options
 
-last-item : (text : List ℕ) (item : Item) (rest : List Item) (options : List AuthOption) → item_of text ≡ Some item
+last-item : (text : List ℕ) (item : OptionItem) (rest : List OptionItem) (options : List AuthOption) → option_item text ≡ Some item
     → rest ≡ [] → AllZip Says (item ∷ rest) options → SpellsItems options text × AllQuotable options
 last-item text item rest [] i r z = absurd z
 last-item text item rest (option ∷ []) i r z =
     let read = read_option text item option i z.0 in (read.spelled, (read.quotable, tt))
 last-item text item rest (option ∷ next ∷ options) i r z =
-    let P : List Item → Type 0 = λ x. AllZip Says x (next ∷ options) in absurd (subst P r z.1)
+    let P : List OptionItem → Type 0 = λ x. AllZip Says x (next ∷ options) in absurd (subst P r z.1)
 
-next-item : (text joined : List ℕ) (item : Item) (rest : List Item) (options : List AuthOption) → item_of text ≡ Some item
+next-item : (text joined : List ℕ) (item : OptionItem) (rest : List OptionItem) (options : List AuthOption) → option_item text ≡ Some item
     → AllZip Says (item ∷ rest) options
     → ((more : List AuthOption) → AllZip Says rest more → SpellsItems more joined × AllQuotable more)
     → SpellsItems options (text ++ 44 ∷ joined) × AllQuotable options
@@ -346,17 +346,17 @@ next-item text joined item rest (option ∷ next ∷ options) i z ih =
     ((text, joined, read.spelled, more.0, refl), (read.quotable, more.1))
 
 -- the options of items are spelled by the items' texts with commas between them
-spells-items : (text : List ℕ) (texts : List (List ℕ)) (items : List Item) (options : List AuthOption)
+spells-items : (text : List ℕ) (texts : List (List ℕ)) (items : List OptionItem) (options : List AuthOption)
     → each_item (text ∷ texts) ≡ Some items → AllZip Says items options
     → SpellsItems options (join_with_byte 44 (text ∷ texts)) × AllQuotable options
 spells-items text [] items options h z =
-    let cut = each-by text [] items (item_of text) (each_item []) refl refl h in
-    let P : List Item → Type 0 = λ x. AllZip Says x options in
+    let cut = each-by text [] items (option_item text) (each_item []) refl refl h in
+    let P : List OptionItem → Type 0 = λ x. AllZip Says x options in
     let none : cut.rest ≡ [] = let e : Some [] ≡ Some cut.rest = cut.later in cc in
     last-item text cut.item cut.rest options cut.here none (subst P cut.whole z)
 spells-items text (next ∷ texts) items options h z =
-    let cut = each-by text (next ∷ texts) items (item_of text) (each_item (next ∷ texts)) refl refl h in
-    let P : List Item → Type 0 = λ x. AllZip Says x options in
+    let cut = each-by text (next ∷ texts) items (option_item text) (each_item (next ∷ texts)) refl refl h in
+    let P : List OptionItem → Type 0 = λ x. AllZip Says x options in
     next-item text (join_with_byte 44 (next ∷ texts)) cut.item cut.rest options cut.here (subst P cut.whole z)
     (λ more y. spells-items next texts cut.rest more cut.later y)
 
@@ -367,17 +367,17 @@ AreTested before [] = Unit {0}
 AreTested before (option ∷ options) =
     (repeats before option ≡ false) × (has_bad_expiry option ≡ false) × AreTested (before ++ option ∷ []) options
 
-pub record Taken (before : List AuthOption) (items : List Item) (options : List AuthOption) : Type 0 where
+pub record Taken (before : List AuthOption) (items : List OptionItem) (options : List AuthOption) : Type 0 where
   pub new : List AuthOption
   pub whole : options ≡ before ++ new
   pub says : AllZip Says items new
   pub tested : AreTested before new
 
-from_fault : (cause : LineCause) (items : List Item) (options : List AuthOption) → options_from (Err cause) items ≡ Ok options → ⊥
+from_fault : (cause : LineCause) (items : List OptionItem) (options : List AuthOption) → options_from (Err cause) items ≡ Ok options → ⊥
 from_fault cause [] options h = cc
 from_fault cause (item ∷ items) options h = from_fault cause items options h
 
-taken-more : (before : List AuthOption) (item : Item) (items : List Item) (options : List AuthOption) (option : AuthOption) (again bad : Bool)
+taken-more : (before : List AuthOption) (item : OptionItem) (items : List OptionItem) (options : List AuthOption) (option : AuthOption) (again bad : Bool)
     → option_of item ≡ Ok option → repeats before option ≡ again → has_bad_expiry option ≡ bad
     → options_from (if again then Err causes.RepeatedOption else if bad then Err causes.ExpiryText else Ok (before ++ option ∷ [])) items ≡ Ok options
     → ((b : List AuthOption) → options_from (Ok b) items ≡ Ok options → Taken b items options)
@@ -393,7 +393,7 @@ taken-more before item items options option false false o r x h ih =
       tested = (r, x, more.tested);
     }
 
-taken-by : (before : List AuthOption) (item : Item) (items : List Item) (options : List AuthOption) (option : Result AuthOption LineCause)
+taken-by : (before : List AuthOption) (item : OptionItem) (items : List OptionItem) (options : List AuthOption) (option : Result AuthOption LineCause)
     → option_of item ≡ option → options_from (and_option before option) items ≡ Ok options
     → ((b : List AuthOption) → options_from (Ok b) items ≡ Ok options → Taken b items options)
     → Taken before (item ∷ items) options
@@ -401,7 +401,7 @@ taken-by before item items options (Err cause) o h ih = absurd (from_fault cause
 taken-by before item items options (Ok option) o h ih =
     taken-more before item items options option (repeats before option) (has_bad_expiry option) o refl refl h ih
 
-taken : (items : List Item) (before options : List AuthOption) → options_from (Ok before) items ≡ Ok options → Taken before items options
+taken : (items : List OptionItem) (before options : List AuthOption) → options_from (Ok before) items ≡ Ok options → Taken before items options
 taken [] before options h =
     let e : before ≡ options = cc in record { new = []; whole = sym e ∙ sym (append-nil before); says = tt; tested = tt }
 taken (item ∷ items) before options h =
@@ -415,7 +415,7 @@ pub record ReadOptions (text : List ℕ) (options : List AuthOption) : Type 0 wh
   pub spelled : SpellsItems options text
   pub allowed : AreAllowed [] options
 
-options-by : (text : List ℕ) (options : List AuthOption) (items : Option (List Item)) → each_item (items_of false 0 text) ≡ items
+options-by : (text : List ℕ) (options : List AuthOption) (items : Option (List OptionItem)) → each_item (option_items false 0 text) ≡ items
     → options_of_items items ≡ Ok options → ReadOptions text options
 options-by text options None i h = cc
 options-by text options (Some items) i h =
@@ -434,7 +434,7 @@ options-by text options (Some items) i h =
 -- An option text that is read spells its options.
 pub read_options : (text : List ℕ) (options : List AuthOption) → options_of text ≡ Ok options → ReadOptions text options
 unfolding options_of
-read_options text options h = options-by text options (each_item (items_of false 0 text)) refl h
+read_options text options h = options-by text options (each_item (option_items false 0 text)) refl h
 
 -- ---- the end of the option text
 

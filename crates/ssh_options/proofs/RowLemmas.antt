@@ -5,7 +5,7 @@ use Rattle.ssh_options.specs.declared.option.Flag.TheVariants.{AgentForwarding, 
 use Rattle.ssh_options.specs.declared.option.ValueName.TheVariants.{Command, Environment, ExpiryTime, From, PermitListen, PermitOpen, Principals, Tunnel}
 use Rattle.ssh_options.specs.declared.option.OptionName.{OptionName}
 use Rattle.ssh_options.specs.declared.option.OptionName.TheVariants.{Switch, Setting}
-use Rattle.ssh_options.specs.OptionNames.{OptionRow, options, row_of}
+use Rattle.ssh_options.specs.OptionNames.{OptionRow, options, option_row}
 use Rattle.ssh_options.specs.OptionTexts.{TableRow, table_row}
 
 found-row : (test : OptionRow → Bool) (rows : List TableRow)
@@ -21,8 +21,8 @@ row-found test rows None said h = ap (option_map table_row) h ∙ found-row test
 row-found test rows (Some row) said h = ap (option_map table_row) h ∙ found-row test rows ∙ ap (find test) said
 
 -- each option has a row
-has_row : (option : OptionName) → is_some (row_of option) ≡ true
-unfolding row_of
+has_row : (option : OptionName) → is_some (option_row option) ≡ true
+unfolding option_row
 has_row (Switch AgentForwarding) = refl
 has_row (Switch CertAuthority) = refl
 has_row (Switch NoAgentForwarding) = refl
@@ -50,5 +50,5 @@ row-some : (row : Option TableRow) → is_some (option_map table_row row) ≡ is
 row-some None = refl
 row-some (Some row) = refl
 
-pub some_row : (option : OptionName) (row : Option TableRow) → option_map table_row row ≡ row_of option → is_some row ≡ true
+pub some_row : (option : OptionName) (row : Option TableRow) → option_map table_row row ≡ option_row option → is_some row ≡ true
 some_row option row h = sym (row-some row) ∙ ap is_some h ∙ has_row option

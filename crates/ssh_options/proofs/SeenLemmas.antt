@@ -7,8 +7,8 @@ use Rattle.ssh_options.specs.AuthOption.{AuthOption, Switch, Setting}
 use Rattle.ssh_options.specs.declared.option_check.Seen.{Seen}
 use Rattle.ssh_options.specs.declared.cause.LineCause.{LineCause}
 use Rattle.ssh_options.specs.declared.cause.LineCause.TheVariants as causes
-use Rattle.ssh_options.specs.OptionNames.{same_value_name, row_of}
-use Rattle.ssh_options.specs.OptionText.{Item, items_of, item_of, each_item, has_setting, repeats, has_bad_expiry, option_of, and_option, and_item, options_from, options_of_items, options_of}
+use Rattle.ssh_options.specs.OptionNames.{same_value_name, option_row}
+use Rattle.ssh_options.specs.OptionText.{OptionItem, option_items, option_item, each_item, has_setting, repeats, has_bad_expiry, option_of, and_option, and_item, options_from, options_of_items, options_of}
 use Rattle.ssh_options.specs.OptionsInPlace.{seen_of, none_seen, stood, with_name, and_read_seen, and_item_seen, fault_in}
 
 -- ---- what has stood
@@ -41,7 +41,7 @@ seen-setting : (name : ValueName) (value : List ℕ) (before : List AuthOption) 
 seen-setting name value before = rw (setting-after Command name value before, setting-after From name value before, setting-after Principals name value before) refl
 
 stood-repeats : (name : ValueName) (value : List ℕ) (before : List AuthOption) → repeats before (Setting name value) ≡ stood (seen_of before) name
-unfolding row_of
+unfolding option_row
 stood-repeats Command value before = refl
 stood-repeats Environment value before = refl
 stood-repeats ExpiryTime value before = refl
@@ -71,15 +71,15 @@ option-seen before (Ok (Setting name value)) =
     rw (stood-repeats name value before)
     (by-tests (stood (seen_of before) name) (has_bad_expiry (Setting name value)) (before ++ Setting name value ∷ []) (with_name (seen_of before) name) (seen-setting name value before))
 
-item-seen : (so_far : Result (List AuthOption) LineCause) (item : Item) → seen_in (and_item so_far item) ≡ and_item_seen (seen_in so_far) item
+item-seen : (so_far : Result (List AuthOption) LineCause) (item : OptionItem) → seen_in (and_item so_far item) ≡ and_item_seen (seen_in so_far) item
 item-seen (Err cause) item = refl
 item-seen (Ok before) item = option-seen before (option_of item)
 
-abbrev seen_from : Result Seen LineCause → List Item → Result Seen LineCause
+abbrev seen_from : Result Seen LineCause → List OptionItem → Result Seen LineCause
 seen_from so_far [] = so_far
 seen_from so_far (item ∷ items) = seen_from (and_item_seen so_far item) items
 
-items-seen : (so_far : Result (List AuthOption) LineCause) (items : List Item) → seen_in (options_from so_far items) ≡ seen_from (seen_in so_far) items
+items-seen : (so_far : Result (List AuthOption) LineCause) (items : List OptionItem) → seen_in (options_from so_far items) ≡ seen_from (seen_in so_far) items
 items-seen so_far [] = refl
 items-seen so_far (item ∷ items) = items-seen (and_item so_far item) items ∙ ap (λ s. seen_from s items) (item-seen so_far item)
 
@@ -89,7 +89,7 @@ fault-seen (Ok options) = refl
 
 -- ---- the items of a text, one by one
 
-abbrev fault_by : Result Seen LineCause → Option (List Item) → Option LineCause
+abbrev fault_by : Result Seen LineCause → Option (List OptionItem) → Option LineCause
 fault_by so_far None = Some causes.OptionSyntax
 fault_by so_far (Some items) = fault_in (seen_from so_far items)
 
@@ -97,28 +97,28 @@ fault_by so_far (Some items) = fault_in (seen_from so_far items)
 abbrev pub fault_from : Result Seen LineCause → List (List ℕ) → Option LineCause
 fault_from so_far texts = fault_by so_far (each_item texts)
 
-pub fault_from_all : (text : List ℕ) → fault_in (options_of text) ≡ fault_from (Ok none_seen) (items_of false 0 text)
+pub fault_from_all : (text : List ℕ) → fault_in (options_of text) ≡ fault_from (Ok none_seen) (option_items false 0 text)
 unfolding options_of
-fault_from_all text = by-items (each_item (items_of false 0 text))
+fault_from_all text = by-items (each_item (option_items false 0 text))
   where
-    by-items : (items : Option (List Item)) → fault_in (options_of_items items) ≡ fault_by (Ok none_seen) items
+    by-items : (items : Option (List OptionItem)) → fault_in (options_of_items items) ≡ fault_by (Ok none_seen) items
     by-items None = refl
     by-items (Some items) = fault-seen (options_from (Ok []) items) ∙ ap fault_in (items-seen (Ok []) items)
 
-onto-items : (so_far : Result Seen LineCause) (item : Item) (items : Option (List Item))
+onto-items : (so_far : Result Seen LineCause) (item : OptionItem) (items : Option (List OptionItem))
     → fault_by so_far (option_map (λ more. item ∷ more) items) ≡ fault_by (and_item_seen so_far item) items
 onto-items so_far item None = refl
 onto-items so_far item (Some items) = refl
 
-pub fault_from-next : (whole : Option LineCause) (so_far after : Result Seen LineCause) (texts later : List (List ℕ)) (text : List ℕ) (item : Item)
-    → texts ≡ text ∷ later → Some item ≡ item_of text → after ≡ and_item_seen so_far item → whole ≡ fault_from so_far texts → whole ≡ fault_from after later
+pub fault_from-next : (whole : Option LineCause) (so_far after : Result Seen LineCause) (texts later : List (List ℕ)) (text : List ℕ) (item : OptionItem)
+    → texts ≡ text ∷ later → Some item ≡ option_item text → after ≡ and_item_seen so_far item → whole ≡ fault_from so_far texts → whole ≡ fault_from after later
 fault_from-next whole so_far after texts later text item cut read with held =
     held ∙ ap (fault_from so_far) cut
     ∙ ap (λ i. fault_by so_far (option_and_then (λ x. option_map (λ more. x ∷ more) (each_item later)) i)) (sym read)
     ∙ onto-items so_far item (each_item later) ∙ ap (λ r. fault_from r later) (sym with)
 
 pub fault_from-refused : (whole : Option LineCause) (so_far : Result Seen LineCause) (texts later : List (List ℕ)) (text : List ℕ)
-    → texts ≡ text ∷ later → None ≡ item_of text → whole ≡ fault_from so_far texts → whole ≡ Some causes.OptionSyntax
+    → texts ≡ text ∷ later → None ≡ option_item text → whole ≡ fault_from so_far texts → whole ≡ Some causes.OptionSyntax
 fault_from-refused whole so_far texts later text cut read held =
     held ∙ ap (fault_from so_far) cut
     ∙ ap (λ i. fault_by so_far (option_and_then (λ x. option_map (λ more. x ∷ more) (each_item later)) i)) (sym read)

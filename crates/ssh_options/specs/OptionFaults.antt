@@ -8,8 +8,8 @@ use Rattle.ssh_options.specs.declared.option.Flag.{Flag}
 use Rattle.ssh_options.specs.declared.option.ValueName.{ValueName}
 use Rattle.ssh_options.specs.AuthOption.{AuthOption, Switch, Setting}
 use Rattle.ssh_options.specs.declared.option.OptionName.{OptionName}
-use Rattle.ssh_options.specs.OptionNames.{row_of, name_in, flag_name, value_name, same_name}
-use Rattle.ssh_options.specs.OptionText.{Item, AreAllowed, ends_with_backslash, has_bad_expiry, is_name_byte, quoted, repeats}
+use Rattle.ssh_options.specs.OptionNames.{option_row, name_in, flag_name, value_name, same_name}
+use Rattle.ssh_options.specs.OptionText.{OptionItem, AreAllowed, ends_with_backslash, has_bad_expiry, is_name_byte, quoted, repeats}
 
 -- ---- the form
 
@@ -19,13 +19,13 @@ SpellsValue None text = text ≡ []
 SpellsValue (Some value) text = (text ≡ quoted value) × (not (ends_with_backslash value) ≡ true)
 
 -- A name of letters, digits and hyphens, and what follows it. Whether the name is listed is not asked.
-abbrev pub SpellsItem : Item → List ℕ → Type 0
+abbrev pub SpellsItem : OptionItem → List ℕ → Type 0
 SpellsItem item text =
     (part : List ℕ) × (item.name ≢ []) × AllByRecursion (λ c. is_name_byte c ≡ true) item.name × SpellsValue item.value part
     × (text ≡ item.name ++ part)
 
 -- the items with commas between them
-abbrev pub SpellsItemList : List Item → List ℕ → Type 0
+abbrev pub SpellsItemList : List OptionItem → List ℕ → Type 0
 SpellsItemList [] text = ⊥
 SpellsItemList (item ∷ []) text = SpellsItem item text
 SpellsItemList (item ∷ next ∷ items) text =
@@ -34,20 +34,20 @@ SpellsItemList (item ∷ next ∷ items) text =
 -- ---- the first fault
 
 -- The item says the option: its name in any case, and a value exactly if it is a setting.
-abbrev pub SaysOption : Item → AuthOption → Type 0
+abbrev pub SaysOption : OptionItem → AuthOption → Type 0
 SaysOption item (Switch flag) = (same_name item.name (flag_name flag) ≡ true) × (item.value ≡ None)
 SaysOption item (Setting name value) = (same_name item.name (value_name name) ≡ true) × (item.value ≡ Some value)
 
 -- a flag with a value, or a setting without one
-abbrev pub HasWrongValue : Item → Type 0
+abbrev pub HasWrongValue : OptionItem → Type 0
 HasWrongValue item =
     ((flag : Flag) × (same_name item.name (flag_name flag) ≡ true) × (item.value ≢ None))
     ⊎ ((name : ValueName) × (same_name item.name (value_name name) ≡ true) × (item.value ≡ None))
 
 -- The fault of an item that stands after these options: its name is not listed, then its value, then what may not stand
 -- again, then an expiry time that is none.
-abbrev pub IsItemFault : LineCause → List AuthOption → Item → Type 0
-IsItemFault causes.UnknownOption before item = (option : OptionName) → same_name item.name (name_in (row_of option)) ≡ false
+abbrev pub IsItemFault : LineCause → List AuthOption → OptionItem → Type 0
+IsItemFault causes.UnknownOption before item = (option : OptionName) → same_name item.name (name_in (option_row option)) ≡ false
 IsItemFault causes.OptionValue before item = HasWrongValue item
 IsItemFault causes.RepeatedOption before item = (option : AuthOption) × SaysOption item option × (repeats before option ≡ true)
 IsItemFault causes.ExpiryText before item =
@@ -57,7 +57,7 @@ IsItemFault _ before item = ⊥
 -- The fault of an option text: it is no list of items, or one of its items has a fault, and those before that item say
 -- options that may stand in a line.
 abbrev pub IsOptionsFault : LineCause → List ℕ → Type 0
-IsOptionsFault causes.OptionSyntax text = (items : List Item) → ¬ SpellsItemList items text
+IsOptionsFault causes.OptionSyntax text = (items : List OptionItem) → ¬ SpellsItemList items text
 IsOptionsFault cause text =
-    (front rest : List Item) × (item : Item) × (before : List AuthOption) × SpellsItemList (front ++ item ∷ rest) text
+    (front rest : List OptionItem) × (item : OptionItem) × (before : List AuthOption) × SpellsItemList (front ++ item ∷ rest) text
     × AllZip SaysOption front before × AreAllowed [] before × IsItemFault cause before item

@@ -19,34 +19,34 @@ pub record OptionRow : Type 0 where
   pub option : OptionName
   pub times : Times
 
-abbrev row : List ℕ → OptionName → Times → OptionRow
-row name option times = record { name = name; option = option; times = times }
+abbrev listed : List ℕ → OptionName → Times → OptionRow
+listed name option times = record { name = name; option = option; times = times }
 
 -- sshd(8)'s list; that an option may stand only once is this project's rule
 abbrev pub options : List OptionRow
 options =
-    row (codes "agent-forwarding") (Switch AgentForwarding) Any
-    ∷ row (codes "cert-authority") (Switch CertAuthority) Any
-    ∷ row (codes "no-agent-forwarding") (Switch NoAgentForwarding) Any
-    ∷ row (codes "no-port-forwarding") (Switch NoPortForwarding) Any
-    ∷ row (codes "no-pty") (Switch NoPty) Any
-    ∷ row (codes "no-user-rc") (Switch NoUserRc) Any
-    ∷ row (codes "no-X11-forwarding") (Switch NoX11Forwarding) Any
-    ∷ row (codes "port-forwarding") (Switch PortForwarding) Any
-    ∷ row (codes "pty") (Switch Pty) Any
-    ∷ row (codes "no-touch-required") (Switch NoTouchRequired) Any
-    ∷ row (codes "verify-required") (Switch VerifyRequired) Any
-    ∷ row (codes "restrict") (Switch Restrict) Any
-    ∷ row (codes "user-rc") (Switch UserRc) Any
-    ∷ row (codes "X11-forwarding") (Switch X11Forwarding) Any
-    ∷ row (codes "command") (Setting Command) Once
-    ∷ row (codes "environment") (Setting Environment) Any
-    ∷ row (codes "expiry-time") (Setting ExpiryTime) Any
-    ∷ row (codes "from") (Setting From) Once
-    ∷ row (codes "permitlisten") (Setting PermitListen) Any
-    ∷ row (codes "permitopen") (Setting PermitOpen) Any
-    ∷ row (codes "principals") (Setting Principals) Once
-    ∷ row (codes "tunnel") (Setting Tunnel) Any
+    listed (codes "agent-forwarding") (Switch AgentForwarding) Any
+    ∷ listed (codes "cert-authority") (Switch CertAuthority) Any
+    ∷ listed (codes "no-agent-forwarding") (Switch NoAgentForwarding) Any
+    ∷ listed (codes "no-port-forwarding") (Switch NoPortForwarding) Any
+    ∷ listed (codes "no-pty") (Switch NoPty) Any
+    ∷ listed (codes "no-user-rc") (Switch NoUserRc) Any
+    ∷ listed (codes "no-X11-forwarding") (Switch NoX11Forwarding) Any
+    ∷ listed (codes "port-forwarding") (Switch PortForwarding) Any
+    ∷ listed (codes "pty") (Switch Pty) Any
+    ∷ listed (codes "no-touch-required") (Switch NoTouchRequired) Any
+    ∷ listed (codes "verify-required") (Switch VerifyRequired) Any
+    ∷ listed (codes "restrict") (Switch Restrict) Any
+    ∷ listed (codes "user-rc") (Switch UserRc) Any
+    ∷ listed (codes "X11-forwarding") (Switch X11Forwarding) Any
+    ∷ listed (codes "command") (Setting Command) Once
+    ∷ listed (codes "environment") (Setting Environment) Any
+    ∷ listed (codes "expiry-time") (Setting ExpiryTime) Any
+    ∷ listed (codes "from") (Setting From) Once
+    ∷ listed (codes "permitlisten") (Setting PermitListen) Any
+    ∷ listed (codes "permitopen") (Setting PermitOpen) Any
+    ∷ listed (codes "principals") (Setting Principals) Once
+    ∷ listed (codes "tunnel") (Setting Tunnel) Any
     ∷ []
 
 -- ---- by the option
@@ -65,8 +65,8 @@ same_option (Switch a) (Setting b) = false
 same_option (Setting a) (Switch b) = false
 
 -- the row of an option: each has one
-unfoldable pub row_of : OptionName → Option OptionRow
-row_of option = find (λ row. same_option row.option option) options
+unfoldable pub option_row : OptionName → Option OptionRow
+option_row option = find (λ row. same_option row.option option) options
 
 abbrev pub name_in : Option OptionRow → List ℕ
 name_in None = []
@@ -82,14 +82,14 @@ is_single_in (Some row) = is_once row.times
 
 -- the name of a flag, and of a setting, as sshd(8) spells it
 abbrev pub flag_name : Flag → List ℕ
-flag_name flag = name_in (row_of (Switch flag))
+flag_name flag = name_in (option_row (Switch flag))
 
 abbrev pub value_name : ValueName → List ℕ
-value_name value = name_in (row_of (Setting value))
+value_name value = name_in (option_row (Setting value))
 
 -- whether it may stand once in a line
 abbrev pub is_single : ValueName → Bool
-is_single value = is_single_in (row_of (Setting value))
+is_single value = is_single_in (option_row (Setting value))
 
 -- ---- by the name
 

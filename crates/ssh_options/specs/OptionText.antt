@@ -94,11 +94,11 @@ option_text_of inside last (c ∷ cs) =
     if not inside && is_blank c then [] else c ∷ option_text_of (turned (is_open_quote last c) inside) c cs
 
 -- the items between the commas outside quotes
-abbrev pub items_of : Bool → ℕ → List ℕ → List (List ℕ)
-items_of inside last [] = [] ∷ []
-items_of inside last (c ∷ cs) =
-    if not inside && (c == 44) then [] ∷ items_of false c cs
-    else onto_first c (items_of (turned (is_open_quote last c) inside) c cs)
+abbrev pub option_items : Bool → ℕ → List ℕ → List (List ℕ)
+option_items inside last [] = [] ∷ []
+option_items inside last (c ∷ cs) =
+    if not inside && (c == 44) then [] ∷ option_items false c cs
+    else onto_first c (option_items (turned (is_open_quote last c) inside) c cs)
 
 -- a letter, a digit or a hyphen
 abbrev pub is_name_byte : ℕ → Bool
@@ -129,7 +129,7 @@ closed_by_quote last (c ∷ cs) =
     else option_map (λ text. c ∷ text) (closed_by_quote c cs)
 
 -- an item: a name, and the value of one that has a value
-pub record Item : Type 0 where
+pub record OptionItem : Type 0 where
   pub name : List ℕ
   pub value : Option (List ℕ)
 
@@ -140,16 +140,16 @@ value_of (c ∷ []) = None
 value_of (c ∷ d ∷ cs) =
     if (c == 61) && (d == 34) then option_map (λ text. Some (unescaped text)) (closed_by_quote 34 cs) else None
 
-abbrev pub named_item : List ℕ → Option (Option (List ℕ)) → Option Item
+abbrev pub named_item : List ℕ → Option (Option (List ℕ)) → Option OptionItem
 named_item [] value = None
 named_item (c ∷ cs) value = option_map (λ v. record { name = c ∷ cs; value = v }) value
 
-abbrev pub item_of : List ℕ → Option Item
-item_of text = named_item (name_part text) (value_of (after_name text))
+abbrev pub option_item : List ℕ → Option OptionItem
+option_item text = named_item (name_part text) (value_of (after_name text))
 
-abbrev pub each_item : List (List ℕ) → Option (List Item)
+abbrev pub each_item : List (List ℕ) → Option (List OptionItem)
 each_item [] = Some []
-each_item (text ∷ texts) = option_and_then (λ item. option_map (λ items. item ∷ items) (each_item texts)) (item_of text)
+each_item (text ∷ texts) = option_and_then (λ item. option_map (λ items. item ∷ items) (each_item texts)) (option_item text)
 
 -- the option of an item: its name must be listed, and have a value exactly if it is the name of a setting
 abbrev pub option_by_name : Option OptionName → Option (List ℕ) → Result AuthOption LineCause
@@ -159,7 +159,7 @@ option_by_name (Some (names.Switch flag)) (Some value) = Err causes.OptionValue
 option_by_name (Some (names.Setting name)) (Some value) = Ok (Setting name value)
 option_by_name (Some (names.Setting name)) None = Err causes.OptionValue
 
-abbrev pub option_of : Item → Result AuthOption LineCause
+abbrev pub option_of : OptionItem → Result AuthOption LineCause
 option_of item = option_by_name (option_named item.name) item.value
 
 -- the options with one more, or the first fault
@@ -170,19 +170,19 @@ and_option before (Ok option) =
     else if has_bad_expiry option then Err causes.ExpiryText
     else Ok (before ++ option ∷ [])
 
-abbrev pub and_item : Result (List AuthOption) LineCause → Item → Result (List AuthOption) LineCause
+abbrev pub and_item : Result (List AuthOption) LineCause → OptionItem → Result (List AuthOption) LineCause
 and_item (Err cause) item = Err cause
 and_item (Ok before) item = and_option before (option_of item)
 
 -- the options of items, tested from the left
-abbrev pub options_from : Result (List AuthOption) LineCause → List Item → Result (List AuthOption) LineCause
+abbrev pub options_from : Result (List AuthOption) LineCause → List OptionItem → Result (List AuthOption) LineCause
 options_from so_far [] = so_far
 options_from so_far (item ∷ items) = options_from (and_item so_far item) items
 
-abbrev pub options_of_items : Option (List Item) → Result (List AuthOption) LineCause
+abbrev pub options_of_items : Option (List OptionItem) → Result (List AuthOption) LineCause
 options_of_items None = Err causes.OptionSyntax
 options_of_items (Some items) = options_from (Ok []) items
 
 -- what an option text says, or its first fault
 unfoldable pub options_of : List ℕ → Result (List AuthOption) LineCause
-options_of text = options_of_items (each_item (items_of false 0 text))
+options_of text = options_of_items (each_item (option_items false 0 text))

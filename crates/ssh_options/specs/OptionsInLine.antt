@@ -4,7 +4,7 @@ use Rattle.std.specs.Result.{result_ok}
 use Rattle.ssh_options.specs.AuthOption.{AuthOption, Switch, Setting}
 use Rattle.ssh_options.specs.declared.option_view.OptionView.{OptionView}
 use Rattle.ssh_options.specs.declared.option_view.OptionView.TheVariants as views
-use Rattle.ssh_options.specs.OptionText.{item_of, option_of}
+use Rattle.ssh_options.specs.OptionText.{option_item, option_of}
 
 -- an option in its line, by its name and its value
 abbrev pub option_in_line : OptionView → AuthOption
@@ -13,7 +13,7 @@ option_in_line (views.Setting name value) = Setting name value
 
 -- the option of an item by itself, if it is one
 abbrev pub option_at : List ℕ → Option AuthOption
-option_at text = option_and_then (λ item. result_ok (option_of item)) (item_of text)
+option_at text = option_and_then (λ item. result_ok (option_of item)) (option_item text)
 
 -- the options of items, if each is one
 abbrev pub each_option : List (List ℕ) → Option (List AuthOption)

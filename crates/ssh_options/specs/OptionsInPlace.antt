@@ -7,7 +7,7 @@ use Rattle.ssh_options.specs.declared.option_check.Seen.{Seen}
 use Rattle.ssh_options.specs.declared.cause.LineCause.{LineCause}
 use Rattle.ssh_options.specs.declared.cause.LineCause.TheVariants as causes
 use Rattle.ssh_options.specs.OptionNames.{same_value_name}
-use Rattle.ssh_options.specs.OptionText.{Item, begins_with_quote, has_setting, has_bad_expiry, option_of}
+use Rattle.ssh_options.specs.OptionText.{OptionItem, begins_with_quote, has_setting, has_bad_expiry, option_of}
 
 -- an escaped quote stands between the quotes
 abbrev pub has_escape : List ℕ → Bool
@@ -68,7 +68,7 @@ abbrev pub and_read_seen : Seen → Result AuthOption LineCause → Result Seen 
 and_read_seen seen (Err cause) = Err cause
 and_read_seen seen (Ok option) = and_seen seen option
 
-abbrev pub and_item_seen : Result Seen LineCause → Item → Result Seen LineCause
+abbrev pub and_item_seen : Result Seen LineCause → OptionItem → Result Seen LineCause
 and_item_seen (Err cause) item = Err cause
 and_item_seen (Ok seen) item = and_read_seen seen (option_of item)
 

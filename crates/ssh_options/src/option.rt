@@ -3,7 +3,7 @@
 ghost use Rattle.std.specs.Prelude.{◌≡◌, Some, option_map, map};
 ghost use Rattle.ssh_options.specs.OptionNames.{
   options,
-  row_of,
+  option_row,
   row_named,
   option_named,
   flag_name,
@@ -103,7 +103,7 @@ fn options() -> &'static [Row]
 
 /// The row of an option: each has one.
 fn row_of(option: OptionName) -> Row
-    ensures { row_of option ≡ Some (table_row result) }
+    ensures { option_row option ≡ Some (table_row result) }
 {
     options()
         .iter()

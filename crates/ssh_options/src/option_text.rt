@@ -15,7 +15,7 @@ ghost use Rattle.std.specs.Prelude.{
 ghost use Rattle.std.specs.Iterator.{YieldsFirstRef, item_count};
 ghost use Rattle.ssh_options.specs.OptionText.{
   option_text_of,
-  items_of,
+  option_items,
   is_name_byte,
   name_part,
   after_name,
@@ -23,7 +23,7 @@ ghost use Rattle.ssh_options.specs.OptionText.{
   closed_by_quote,
   unescaped,
   value_of,
-  item_of,
+  option_item,
   is_open_quote,
 };
 ghost use Rattle.ssh_options.specs.OptionTexts.{AreCut, texts_left, plain_item};
@@ -95,7 +95,7 @@ pub(crate) struct ItemTexts<'a> {
 impl<'a> ItemTexts<'a> {
     /// The items of the text.
     pub(crate) fn new(text: &'a [u8]) -> ItemTexts<'a>
-        ensures { texts_left (option_copied result.rest) ≡ items_of false 0 text.now }
+        ensures { texts_left (option_copied result.rest) ≡ option_items false 0 text.now }
     {
         ItemTexts { rest: Some(text) }
     }
@@ -176,7 +176,7 @@ fn read_value(text: &[u8]) -> Option<Option<&[u8]>>
 
 /// The name and the value of an item, if its text is in form.
 pub(crate) fn read_item(text: &[u8]) -> Option<ItemText<'_>>
-    ensures { option_map plain_item result ≡ item_of text.now }
+    ensures { option_map plain_item result ≡ option_item text.now }
 {
     let (name, rest) = text.split_at(name_len(text));
     if name.is_empty() {

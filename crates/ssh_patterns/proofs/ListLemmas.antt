@@ -3,7 +3,7 @@ use Rattle.std.proofs.Common.{◌≡◌, ℕ, ◌+◌, ◌*◌, ◌≤◌, ◌++
 use Rattle.std.specs.List.{list_any}
 use Rattle.std.proofs.lemmas.Nat.{mul-le}
 use Rattle.ssh_patterns.specs.declared.permit.Permit.{Permit}
-use Rattle.ssh_patterns.specs.Lists.{Item, item_of, items_of, pieces, permit, permits, permit_of, is_yes}
+use Rattle.ssh_patterns.specs.Lists.{Item, item_of, items_of, pieces, permit, permits, permit_by, is_yes}
 
 -- what the pieces that are left say after some items were refused or matched
 abbrev pub verdict_after : (Item → Bool) → (List ℕ → Bool) → Bool → Bool → List (List ℕ) → Permit
@@ -13,8 +13,8 @@ verdict_after is_bad matches refused matched left =
     && (matched || list_any (λ item. not item.negated && matches item.text) (map item_of left)))
 
 pub verdict-start : (is_bad : Item → Bool) (matches : List ℕ → Bool) (list : List ℕ)
-    → verdict_after is_bad matches false false (pieces list) ≡ permit_of is_bad matches list
-unfolding permit_of
+    → verdict_after is_bad matches false false (pieces list) ≡ permit_by is_bad matches list
+unfolding permit_by
 verdict-start is_bad matches list = refl
 
 -- a piece, its comma and what is left are the list
@@ -40,6 +40,6 @@ yes-by false = refl
 
 -- where no item is bad, a list says yes or no
 pub yes-permits : (matches : List ℕ → Bool) (list : List ℕ)
-    → is_yes (permit_of (λ item. false) matches list) ≡ permits matches (items_of list)
-unfolding permit_of
+    → is_yes (permit_by (λ item. false) matches list) ≡ permits matches (items_of list)
+unfolding permit_by
 yes-permits matches list = rw (none_bad (items_of list)) (yes-by (permits matches (items_of list)))

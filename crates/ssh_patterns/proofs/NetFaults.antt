@@ -6,7 +6,7 @@ use Rattle.ssh_patterns.specs.declared.error.PatternError.{PatternError}
 use Rattle.ssh_patterns.specs.declared.error.PatternError.TheVariants as errors
 use Rattle.ssh_patterns.specs.AddressText.{IsAddressText}
 use Rattle.ssh_patterns.specs.AddressReading.{address_of}
-use Rattle.ssh_patterns.specs.Block.{Block, width, number, size}
+use Rattle.ssh_patterns.specs.Block.{Block, width, block_number, size}
 use Rattle.ssh_patterns.specs.Cut.{cut_at}
 use Rattle.ssh_patterns.specs.Nets.{slash, HasBase, HasHostBits, prefix_of, ◌>>=◌, net_of}
 use Rattle.ssh_patterns.proofs.CutLemmas.{parts-cut}
@@ -17,7 +17,7 @@ use Rattle.ssh_patterns.proofs.NetLaw.{address-has_no, small-width}
 -- the net of a base and a length
 abbrev block_of : Address → ℕ → Result Block PatternError
 block_of base prefix =
-    if number base % size base prefix == 0 then Ok (record { base = base; prefix = prefix }) else Err errors.HostBits
+    if block_number base % size base prefix == 0 then Ok (record { base = base; prefix = prefix }) else Err errors.HostBits
 
 abbrev of_prefix : Address → Option ℕ → Result Block PatternError
 of_prefix base prefix = ok_or prefix errors.Length >>= (λ p. block_of base p)
@@ -36,7 +36,7 @@ other-block false block h = cc
 
 other-prefix : (base : Address) (prefix : Option ℕ) → of_prefix base prefix ≢ Err errors.Address
 other-prefix base None h = cc
-other-prefix base (Some p) h = other-block (number base % size base p == 0) (record { base = base; prefix = p }) h
+other-prefix base (Some p) h = other-block (block_number base % size base p == 0) (record { base = base; prefix = p }) h
 
 has-no-fault : (text : List ℕ) → HasBase text → net_of text ≢ Err errors.Address
 unfolding net_of
@@ -66,11 +66,11 @@ no-address text = (λ h has. has-no-fault text has h, λ h. no-cut (cut_at (code
 
 -- ---- bits past the length
 
-set-by : (b : Bool) (base : Address) (p : ℕ) (block : Block) → (number base % size base p == 0) ≡ b
+set-by : (b : Bool) (base : Address) (p : ℕ) (block : Block) → (block_number base % size base p == 0) ≡ b
     → (if b then Ok block else Err errors.HostBits) ≡ Err errors.HostBits
-    → number base % size base p ≢ 0
+    → block_number base % size base p ≢ 0
 set-by true base p block e h = cc
-set-by false base p block e h = eqb-false (number base % size base p) 0 e
+set-by false base p block e h = eqb-false (block_number base % size base p) 0 e
 
 from-prefix : (prefix : Option ℕ) (base : Address) (text front back : List ℕ) → prefix_of base back ≡ prefix
     → text ≡ front ++ slash ∷ back → IsAddressText base front → of_prefix base prefix ≡ Err errors.HostBits → HasHostBits text
@@ -84,7 +84,7 @@ from-prefix (Some p) base text front back e whole spelled h =
       whole = whole ∙ ap (λ s. front ++ slash ∷ s) short.1;
       spelled = spelled;
       within = omega (arith, short.0);
-      set = set-by (number base % size base p == 0) base p (record { base = base; prefix = p }) refl h;
+      set = set-by (block_number base % size base p == 0) base p (record { base = base; prefix = p }) refl h;
     }
 
 from-base : (base : Option Address) (text front back : List ℕ) → address_of front ≡ base → text ≡ front ++ slash ∷ back
@@ -106,7 +106,7 @@ set-read text h =
       cut_at-front slash h.base_text (decimal h.prefix) (address-has_no h.base h.base_text h.spelled),
       address-read h.base h.base_text h.spelled,
       limited-decimal (width h.base + 1) h.prefix (small-width h.base) (omega (arith, h.within)),
-      ne_eqb (number h.base % size h.base h.prefix) 0 h.set,
+      ne_eqb (block_number h.base % size h.base h.prefix) 0 h.set,
     ) refl
 
 pub bits-past : (text : List ℕ) → (net_of text ≡ Err errors.HostBits) ↔ HasHostBits text

@@ -9,7 +9,7 @@ use Rattle.ssh_patterns.specs.declared.error.PatternError.{PatternError}
 use Rattle.ssh_patterns.specs.declared.error.PatternError.TheVariants as errors
 use Rattle.ssh_patterns.specs.AddressText.{AreOctets, dotted, colon, AreGroups, AreGroupsAtEnd, IsAddressText}
 use Rattle.ssh_patterns.specs.AddressReading.{address_of}
-use Rattle.ssh_patterns.specs.Block.{Block, width, number, size}
+use Rattle.ssh_patterns.specs.Block.{Block, width, block_number, size}
 use Rattle.ssh_patterns.specs.Cut.{cut_at}
 use Rattle.ssh_patterns.specs.Nets.{slash, IsNetText, AreOfOneFamily, LiesIn, same_family, in_net, prefix_of, ◌>>=◌, net_of}
 use Rattle.ssh_patterns.proofs.CutLemmas.{parts-cut}
@@ -70,10 +70,10 @@ pub small-width : (base : Address) → width base + 1 ≤ 256
 small-width (V4 n) = omega arith
 small-width (V6 n) = omega arith
 
-block-by : (b : Bool) (base : Address) (prefix : ℕ) (net : Block) → (number base % size base prefix == 0) ≡ b
+block-by : (b : Bool) (base : Address) (prefix : ℕ) (net : Block) → (block_number base % size base prefix == 0) ≡ b
     → (if b then Ok (record { base = base; prefix = prefix }) else Err errors.HostBits) ≡ Ok net
-    → (number base % size base prefix ≡ 0) × (record { base = base; prefix = prefix } ≡ net)
-block-by true base prefix net e h = (eqb-true (number base % size base prefix) 0 e, ok-is h)
+    → (block_number base % size base prefix ≡ 0) × (record { base = base; prefix = prefix } ≡ net)
+block-by true base prefix net e h = (eqb-true (block_number base % size base prefix) 0 e, ok-is h)
 block-by false base prefix net e h = cc
 
 pub net-some : (net : Block) (text : List ℕ) → net_of text ≡ Ok net → IsNetText net text
@@ -86,7 +86,7 @@ net-some net text h =
     let spelled = address-some base.0 cut.0.0 (found (address_of cut.0.0) errors.Address base.0 base.1) in
     let short = limited-some (width base.0 + 1) cut.0.1 prefix.0 (small-width base.0)
     (found (prefix_of base.0 cut.0.1) errors.Length prefix.0 prefix.1) in
-    let block = block-by (number base.0 % size base.0 prefix.0 == 0) base.0 prefix.0 net refl prefix.2 in
+    let block = block-by (block_number base.0 % size base.0 prefix.0 == 0) base.0 prefix.0 net refl prefix.2 in
     rw (← block.1) (record {
       base_text = cut.0.0;
       whole = whole ∙ ap (λ s. cut.0.0 ++ slash ∷ s) short.1;
@@ -126,7 +126,7 @@ same-by (V6 m) (V6 n) h = refl
 pub lies-in : (net : Block) (address : Address) → IsTrue (in_net net address) ↔ LiesIn net address
 lies-in net address =
     let bits : ℕ = size net.base net.prefix in (
-      λ h. let parts = and_parts (same_family net.base address) (number address / bits == number net.base / bits) h in
-          record { family = family-by net.base address parts.0; first_bits = eqb-true (number address / bits) (number net.base / bits) parts.1 },
-      λ h. rw (same-by net.base address h.family) (eq-eqb (number address / bits) (number net.base / bits) h.first_bits),
+      λ h. let parts = and_parts (same_family net.base address) (block_number address / bits == block_number net.base / bits) h in
+          record { family = family-by net.base address parts.0; first_bits = eqb-true (block_number address / bits) (block_number net.base / bits) parts.1 },
+      λ h. rw (same-by net.base address h.family) (eq-eqb (block_number address / bits) (block_number net.base / bits) h.first_bits),
     )

@@ -12,7 +12,7 @@ use Rattle.ssh_patterns.specs.AddressReading.{address_of}
 use Rattle.ssh_patterns.specs.Block.{Block}
 use Rattle.ssh_patterns.specs.Matching.{is_empty}
 use Rattle.ssh_patterns.specs.Nets.{slash, IsNetText, same_address, net_of}
-use Rattle.ssh_patterns.specs.Lists.{Item, items_of, Permits, permit, permits, permit_of, has_slash, net_has, is_address, host_matches, OnHost, is_match_in_lower_case, Source, FitsAddress, FitsSource, IsBadSource, is_bad_source, source_item, cidr_item, IsBadCidr, is_bad_cidr}
+use Rattle.ssh_patterns.specs.Lists.{Item, items_of, Permits, permit, permits, permit_by, has_slash, net_has, is_address, host_matches, OnHost, is_match_in_lower_case, Source, FitsAddress, FitsSource, IsBadSource, is_bad_source, source_item, cidr_item, IsBadCidr, is_bad_cidr}
 use Rattle.ssh_patterns.proofs.MatchLemmas.{or_left, or_right}
 use Rattle.ssh_patterns.proofs.OctetLemmas.{or_true, some-is}
 use Rattle.ssh_patterns.proofs.AddressLaw.{address-read, address-some}
@@ -36,16 +36,16 @@ none-by true h = absurd (h refl)
 none-by false h = refl
 
 pub says-bad : (is_bad : Item → Bool) (IsBad : Item → Type 0) (matches : List ℕ → Bool) (list : List ℕ) → Tells is_bad IsBad
-    → (permit_of is_bad matches list ≡ Bad) ↔ Any IsBad (items_of list)
-unfolding permit_of
+    → (permit_by is_bad matches list ≡ Bad) ↔ Any IsBad (items_of list)
+unfolding permit_by
 says-bad is_bad IsBad matches list tells =
     let any = any-tells is_bad IsBad tells (items_of list) in
     (λ h. any.0 (bad-by (list_any is_bad (items_of list)) (permits matches (items_of list)) h), λ h. rw (any.1 h) refl)
 
 pub says-yes : (is_bad : Item → Bool) (IsBad : Item → Type 0) (matches : List ℕ → Bool) (Fits : List ℕ → Type 0) (list : List ℕ)
     → Tells is_bad IsBad → Tells matches Fits
-    → (permit_of is_bad matches list ≡ Yes) ↔ ((¬ Any IsBad (items_of list)) × Permits Fits list)
-unfolding permit_of
+    → (permit_by is_bad matches list ≡ Yes) ↔ ((¬ Any IsBad (items_of list)) × Permits Fits list)
+unfolding permit_by
 says-yes is_bad IsBad matches Fits list bad fits =
     let any = any-tells is_bad IsBad bad (items_of list) in
     let rule = permits-tells matches Fits fits list in (

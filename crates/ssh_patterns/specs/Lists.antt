@@ -64,8 +64,8 @@ is_yes No = false
 is_yes Bad = false
 
 -- what a list says that some items make bad, by which items match
-unfoldable pub permit_of : (Item → Bool) → (List ℕ → Bool) → List ℕ → Permit
-permit_of is_bad matches list = permit (list_any is_bad (items_of list)) (permits matches (items_of list))
+unfoldable pub permit_by : (Item → Bool) → (List ℕ → Bool) → List ℕ → Permit
+permit_by is_bad matches list = permit (list_any is_bad (items_of list)) (permits matches (items_of list))
 
 -- whether a text matches a pattern, both in ASCII lower case
 abbrev pub is_match_in_lower_case : List ℕ → List ℕ → Bool
@@ -153,7 +153,7 @@ is_bad_source item = is_empty item.text || (has_slash item.text && not (is_ok (n
 
 -- the list of a `from` option
 abbrev pub source_list : List ℕ → Option (List ℕ) → List ℕ → Permit
-source_list list host text = permit_of is_bad_source (source_item (record { host = host; text = text })) list
+source_list list host text = permit_by is_bad_source (source_item (record { host = host; text = text })) list
 
 -- an item of a `source-address` list: a net that has the address, or the address
 abbrev pub cidr_item : Address → List ℕ → Bool
@@ -172,4 +172,4 @@ is_bad_cidr item =
 
 -- the list of a certificate's `source-address` (PROTOCOL.certkeys)
 abbrev pub cidr_list : List ℕ → Address → Permit
-cidr_list list address = permit_of is_bad_cidr (cidr_item address) list
+cidr_list list address = permit_by is_bad_cidr (cidr_item address) list

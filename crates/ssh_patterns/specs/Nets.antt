@@ -6,7 +6,7 @@ use Rattle.ssh_patterns.specs.declared.error.PatternError.{PatternError}
 use Rattle.ssh_patterns.specs.declared.error.PatternError.TheVariants as errors
 use Rattle.ssh_patterns.specs.AddressText.{IsAddressText}
 use Rattle.ssh_patterns.specs.AddressReading.{address_of}
-use Rattle.ssh_patterns.specs.Block.{Block, IsBlock, width, number, size}
+use Rattle.ssh_patterns.specs.Block.{Block, IsBlock, width, block_number, size}
 use Rattle.ssh_patterns.specs.Cut.{cut_at}
 use Rattle.ssh_patterns.specs.Digits.{below, decimal_of}
 
@@ -37,7 +37,7 @@ pub record HasHostBits (text : List ℕ) : Type 0 where
   pub whole : text ≡ base_text ++ slash ∷ decimal prefix
   pub spelled : IsAddressText base base_text
   pub within : prefix ≤ width base
-  pub set : number base % size base prefix ≢ 0
+  pub set : block_number base % size base prefix ≢ 0
 
 -- the two addresses are of one family
 abbrev pub AreOfOneFamily : Address → Address → Type 0
@@ -49,7 +49,7 @@ AreOfOneFamily (V6 m) (V6 n) = Unit {0}
 -- The address lies in the net: it is of the family of its base, and has the same quotient by the net's size.
 pub record LiesIn (net : Block) (address : Address) : Type 0 where
   pub family : AreOfOneFamily net.base address
-  pub first_bits : number address / size net.base net.prefix ≡ number net.base / size net.base net.prefix
+  pub first_bits : block_number address / size net.base net.prefix ≡ block_number net.base / size net.base net.prefix
 
 -- whether two addresses are of one family
 abbrev pub same_family : Address → Address → Bool
@@ -61,11 +61,11 @@ same_family (V6 m) (V6 n) = true
 -- An address lies in a net of its own family whose first bits it shares: its quotient by the size of the net is that of the base.
 abbrev pub in_net : Block → Address → Bool
 in_net net address =
-    same_family net.base address && (number address / size net.base net.prefix == number net.base / size net.base net.prefix)
+    same_family net.base address && (block_number address / size net.base net.prefix == block_number net.base / size net.base net.prefix)
 
 -- whether two addresses are one
 abbrev pub same_address : Address → Address → Bool
-same_address a b = same_family a b && (number a == number b)
+same_address a b = same_family a b && (block_number a == block_number b)
 
 -- the length of a net: a decimal number without leading zeros, at most the bits of the family
 abbrev pub prefix_of : Address → List ℕ → Option ℕ
@@ -83,4 +83,4 @@ net_of text = do
   cut ← ok_or (cut_at (codes "/") text) errors.Address
   base ← ok_or (address_of cut.0) errors.Address
   prefix ← ok_or (prefix_of base cut.1) errors.Length
-  if number base % size base prefix == 0 then Ok (record { base = base; prefix = prefix }) else Err errors.HostBits
+  if block_number base % size base prefix == 0 then Ok (record { base = base; prefix = prefix }) else Err errors.HostBits

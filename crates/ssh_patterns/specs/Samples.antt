@@ -6,7 +6,7 @@ use Rattle.ssh_patterns.specs.declared.error.PatternError.TheVariants as errors
 use Rattle.ssh_patterns.specs.AddressReading.{octets_of, group_of, last_groups_of, groups_of, filled, eight_groups_of, address_of}
 use Rattle.ssh_patterns.specs.Matching.{is_match}
 use Rattle.ssh_patterns.specs.Nets.{net_of}
-use Rattle.ssh_patterns.specs.Lists.{permit_of, host_list, source_list, cidr_list}
+use Rattle.ssh_patterns.specs.Lists.{permit_by, host_list, source_list, cidr_list}
 
 abbrev pub MatchingSamples : Type 0
 MatchingSamples = (is_match (codes "a?c") (codes "ac") ≡ false)
@@ -65,5 +65,5 @@ ListSamples = (host_list (codes "!a") (codes "b") ≡ false)
     × (cidr_list (codes "10.0.0.*") (V4 0x0a00_0001) ≡ Bad)
 
 pub list_samples : ListSamples
-unfolding octets_of group_of last_groups_of groups_of filled eight_groups_of address_of net_of permit_of
+unfolding octets_of group_of last_groups_of groups_of filled eight_groups_of address_of net_of permit_by
 list_samples = (refl, refl, refl, refl, refl, refl, refl, refl, refl, refl, refl, refl, refl, refl)

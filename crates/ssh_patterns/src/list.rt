@@ -26,7 +26,7 @@ ghost use Rattle.ssh_patterns.specs.Lists.{
   pieces,
   pieces_left,
   length_left,
-  permit_of,
+  permit_by,
   is_yes,
 };
 
@@ -90,7 +90,7 @@ fn item_of(piece: &[u8]) -> (bool, &[u8])
 pub(crate) fn permit<A: Asked>(list: &[u8], asked: &A) -> (Permit, u128)
     // So that the turns fit.
     requires { A.most_turns asked.now ≤ 2 ^ 64 }
-    ensures value { result.0 ≡ permit_of (A.is_bad asked.now) (A.is_match asked.now) list.now }
+    ensures value { result.0 ≡ permit_by (A.is_bad asked.now) (A.is_match asked.now) list.now }
     ensures most { result.1 ≤ (length list.now + 1) * A.most_turns asked.now }
     ensures least { IsTrue (is_yes result.0) → A.least_turns asked.now ≤ result.1 }
 {

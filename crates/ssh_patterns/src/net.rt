@@ -1,7 +1,7 @@
 //! Nets: the addresses of one family that share their first bits (RFC 4632, section 3.1).
 
 ghost use Rattle.std.specs.Prelude.{◌≡◌, ◌↔◌, IsTrue, IfOk, Ok, Err, ◌/◌, ◌%◌, ◌^◌, ◌==◌};
-ghost use Rattle.ssh_patterns.specs.Block.{Block, width, number};
+ghost use Rattle.ssh_patterns.specs.Block.{Block, block_number, width};
 ghost use Rattle.ssh_patterns.specs.Nets.{
   IsNetText,
   HasBase,
@@ -64,7 +64,7 @@ fn width(address: Address) -> u8
 }
 
 fn number(address: Address) -> u128
-    ensures { result ≡ number address }
+    ensures { result ≡ block_number address }
 {
     match address {
         Address::V4(number) => u128::from(number),

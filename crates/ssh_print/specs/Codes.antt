@@ -20,7 +20,7 @@ use Rattle.ssh_options.specs.declared.cause.LineCause.{LineCause}
 use Rattle.ssh_options.specs.declared.cause.LineCause.TheVariants as line_cause
 use Rattle.ssh_offers.specs.declared.error.OfferError.{OfferError}
 use Rattle.ssh_offers.specs.declared.error.OfferError.TheVariants as offer
-use Rattle.ssh_print.specs.Texts.{spaced, escaped}
+use Rattle.ssh_print.specs.Texts.{spaced, escaped_text}
 
 abbrev pub wire_code : WireCause → List ℕ
 wire_code wire.Short = codes " V1"
@@ -118,7 +118,7 @@ reason_code reason.RsaTooSmall = codes "G20"
 -- what stands after it
 abbrev pub reason_rest : Reason → List ℕ
 reason_rest (reason.Unreadable e) = line_codes e
-reason_rest (reason.CriticalUnknown name) = spaced (escaped name)
+reason_rest (reason.CriticalUnknown name) = spaced (escaped_text name)
 reason_rest _ = []
 
 abbrev pub reason_codes : Reason → List ℕ

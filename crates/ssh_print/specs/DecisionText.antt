@@ -11,7 +11,7 @@ use Rattle.ssh_trust.specs.declared.decision.Decision.TheVariants.{Granted, Deni
 use Rattle.ssh_rules.specs.declared.reason.Reason.{Reason}
 use Rattle.ssh_rights.specs.declared.rights.Rights.{Rights}
 use Rattle.ssh_offers.specs.declared.query.Signed.{Signed}
-use Rattle.ssh_print.specs.Texts.{hex_text, escaped, text_line}
+use Rattle.ssh_print.specs.Texts.{hex_text, escaped_text, text_line}
 use Rattle.ssh_print.specs.Codes.{reason_codes, cause_codes}
 
 abbrev pub evidence_line : ℕ → Signed → List ℕ
@@ -50,7 +50,7 @@ carried_word carried.PermitOpen = codes "permitopen"
 carried_word carried.Tunnel = codes "tunnel"
 
 abbrev pub carried_line : List ℕ → Carried → List ℕ
-carried_line indent c = indent ++ codes "carry " ++ carried_word c.name ++ codes " " ++ escaped c.text ++ codes "\n"
+carried_line indent c = indent ++ codes "carry " ++ carried_word c.name ++ codes " " ++ escaped_text c.text ++ codes "\n"
 
 -- the lines of what a login may do, each after this indent; for a host's key none
 abbrev pub rights_lines : List ℕ → Option Rights → List ℕ

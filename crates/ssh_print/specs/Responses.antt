@@ -5,7 +5,7 @@ use Rattle.ssh_trust.specs.declared.decision.Decision.{Decision}
 use Rattle.ssh_trust.specs.declared.decision.Decision.TheVariants.{Granted, Denied}
 use Rattle.ssh_offers.specs.declared.error.AuditError.{AuditError}
 use Rattle.ssh_offers.specs.declared.error.AuditError.TheVariants as error
-use Rattle.ssh_print.specs.Texts.{escaped}
+use Rattle.ssh_print.specs.Texts.{escaped_text}
 use Rattle.ssh_print.specs.Codes.{fault_codes}
 use Rattle.ssh_print.specs.DecisionText.{decision_text}
 
@@ -37,7 +37,7 @@ value_response name = fault_response (codes " value " ++ name)
 
 -- a file that is no trust file, and that is not there, cannot be read or is too long
 abbrev pub no_file_response : List ℕ → Response
-no_file_response name = fault_response (codes " file " ++ escaped name)
+no_file_response name = fault_response (codes " file " ++ escaped_text name)
 
 abbrev pub vouch_response : ℕ → Response
 vouch_response n = fault_response (codes " vouch " ++ decimal n)

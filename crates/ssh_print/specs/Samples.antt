@@ -15,7 +15,7 @@ use Rattle.ssh_rules.specs.declared.reason.Reason.TheVariants as reason
 use Rattle.ssh_trust.specs.declared.decision.Cause.TheVariants as cause
 use Rattle.ssh_trust.specs.declared.decision.Decision.TheVariants.{Granted, Denied}
 use Rattle.ssh_trust.specs.declared.sshsig_answer.SshsigAnswer.TheVariants.{Vouched, OtherNamespace, NotVouched}
-use Rattle.ssh_print.specs.Texts.{hex_text, escaped, text_line, word_line}
+use Rattle.ssh_print.specs.Texts.{hex_text, escaped_text, text_line, word_line}
 use Rattle.ssh_print.specs.Codes.{wire_codes, key_codes, cert_codes, body_codes, line_codes, reason_codes, cause_codes, fault_codes}
 use Rattle.ssh_print.specs.DecisionText.{evidence_lines, rights_lines}
 use Rattle.ssh_print.specs.Responses.{decision_response, fault_response, no_file_response, out_of_memory, refused_response, usage_response, value_response, vouch_response}
@@ -182,9 +182,9 @@ abbrev pub TextsShown : Type 0
 TextsShown =
     (hex_text [] ≡ codes "-")
     × (hex_text (0 ∷ 9 ∷ 10 ∷ 15 ∷ 16 ∷ 0x9f ∷ 0xab ∷ 255 ∷ []) ≡ codes "00090a0f109fabff")
-    × (escaped (codes " a~\"") ≡ codes " a~\"")
-    × (escaped (codes "\\") ≡ codes "\\x5c")
-    × (escaped (0 ∷ 10 ∷ 31 ∷ 127 ∷ 128 ∷ 255 ∷ []) ≡ codes "\\x00\\x0a\\x1f\\x7f\\x80\\xff")
+    × (escaped_text (codes " a~\"") ≡ codes " a~\"")
+    × (escaped_text (codes "\\") ≡ codes "\\x5c")
+    × (escaped_text (0 ∷ 10 ∷ 31 ∷ 127 ∷ 128 ∷ 255 ∷ []) ≡ codes "\\x00\\x0a\\x1f\\x7f\\x80\\xff")
     × (text_line (codes "comment ") (codes "a\tb") ≡ codes "comment a\\x09b\n")
     × (word_line (codes "serial ") (codes "5") ≡ codes "serial 5\n")
 

@@ -27,8 +27,8 @@ is_plain b = nat_le 32 b && (nat_lt b 127 && not (b == 92))
 abbrev pub escaped_byte : ℕ → List ℕ
 escaped_byte b = if is_plain b then b ∷ [] else 92 ∷ 120 ∷ hex_pair b
 
-abbrev pub escaped : List ℕ → List ℕ
-escaped text = flat_map escaped_byte text
+abbrev pub escaped_text : List ℕ → List ℕ
+escaped_text text = flat_map escaped_byte text
 
 -- ---- lines, each of which ends with an LF
 
@@ -38,4 +38,4 @@ word_line word said = word ++ said ++ codes "\n"
 
 -- the same of bytes that may be any
 abbrev pub text_line : List ℕ → List ℕ → List ℕ
-text_line word text = word_line word (escaped text)
+text_line word text = word_line word (escaped_text text)

@@ -9,7 +9,7 @@ ghost use Rattle.ssh_print.specs.Texts.{
   hex_text,
   is_plain,
   escaped_byte,
-  escaped,
+  escaped_text,
 };
 
 use std::alloc::{AllocError, Global};
@@ -76,7 +76,7 @@ fn push_escaped_byte(out: &mut Vec<u8>, byte: u8) -> Result<(), AllocError>
 
 /// After an `Err` a part of it may stand there.
 fn push_escaped_bytes(out: &mut Vec<u8>, text: &[u8]) -> Result<(), AllocError>
-    ensures ok { OnOk result (out.new.items ≡ out.old.items ++ escaped text.now) }
+    ensures ok { OnOk result (out.new.items ≡ out.old.items ++ escaped_text text.now) }
     ensures err { OnErr result (Keeps out.old.items out.new.items) }
     ensures spare { length text.now ≡ 0 → IsOk result }
 {
@@ -89,7 +89,7 @@ fn push_escaped_bytes(out: &mut Vec<u8>, text: &[u8]) -> Result<(), AllocError>
 /// Printable ASCII as it is, but for the backslash, every other byte as `\x` and two digits, at the
 /// end. An `Err` is want of memory, and changes nothing.
 pub fn push_escaped(out: &mut Vec<u8>, text: &[u8]) -> Result<(), AllocError>
-    ensures ok { OnOk result (out.new.items ≡ out.old.items ++ escaped text.now) }
+    ensures ok { OnOk result (out.new.items ≡ out.old.items ++ escaped_text text.now) }
     ensures err { OnErr result (out.new.items ≡ out.old.items) }
     // No bytes take no memory.
     ensures spare { length text.now ≡ 0 → IsOk result }

@@ -11,7 +11,7 @@ use Rattle.jiff.specs.Types.{TimeZone}
 use Rattle.sha2.specs.Sha256.{sha256}
 use Rattle.ssh_text.specs.Text.{SpellsTail, lines_of}
 use Rattle.ssh_keys.specs.Fingerprint.{digest_text_of, fingerprint_of}
-use Rattle.ssh_keys.specs.Names.{name_of}
+use Rattle.ssh_keys.specs.Names.{key_name_of}
 use Rattle.ssh_keys.specs.PublicKey.{PublicKey, key_blob, kind_of}
 use Rattle.ssh_options.specs.AuthOption.{AuthOption, Switch, Setting}
 use Rattle.ssh_options.specs.declared.option.ValueName.{ValueName}
@@ -22,7 +22,8 @@ use Rattle.ssh_options.specs.Settings.{first_of, setting, settings}
 use Rattle.ssh_lines.specs.AuthEntry.{AuthEntry}
 use Rattle.ssh_lines.specs.AuthGrammar.{SpellsEntry, SpellsOptions, auth_line}
 use Rattle.ssh_lines.specs.declared.entry.AuthLine.TheVariants.{Entry}
-use Rattle.ssh_lines.specs.KeyPart.{SpellsKey, base64}
+use Rattle.ssh_names.specs.Names.{base64}
+use Rattle.ssh_lines.specs.KeyPart.{SpellsKey}
 use Rattle.ssh_lines.proofs.ReadAuth.{auth_line-spells}
 use Rattle.ssh_offers.specs.Offer.{plain}
 use Rattle.ssh_rights.specs.declared.rights.Carried.{Carried}
@@ -88,7 +89,7 @@ tail-comment comment tail (inr (gap, after, blanks, trailing, is)) k =
 
 pub key-comment : (key : PublicKey) (comment text : List ℕ) → SpellsKey key comment text → AreBytes text → AreBytes comment
 key-comment key comment text (gap, tail, blanks, bytes, is_key, fits, spelled, is) k =
-    tail-comment comment tail spelled (back (name_of (kind_of key) ++ gap ++ base64 (key_blob key)) tail (subst AreBytes is k))
+    tail-comment comment tail spelled (back (key_name_of (kind_of key) ++ gap ++ base64 (key_blob key)) tail (subst AreBytes is k))
 
 -- ---- an entry
 

@@ -1,7 +1,7 @@
 -- The end of a file and the total, as text (this project's rule).
 use Rattle.std.specs.Prelude.{◌++◌, ℕ, List, codes}
 use Rattle.std.specs.Fmt.{decimal}
-use Rattle.ssh_print.specs.Texts.{escaped, hex_text}
+use Rattle.ssh_print.specs.Texts.{escaped_text, hex_text}
 use Rattle.ssh_review.specs.declared.counts.Counts.{Counts}
 use Rattle.ssh_review.specs.declared.counts.FileFault.{FileFault}
 use Rattle.ssh_review.specs.declared.counts.FileFault.TheVariants.{Unread, TooLong}
@@ -18,7 +18,7 @@ counts_text c =
 
 -- the end of a file, with the SHA-256 of its bytes
 abbrev pub end_text : List ℕ → Counts → List ℕ → List ℕ
-end_text name counts digest = escaped name ++ codes ": " ++ counts_text counts ++ codes ", sha256 " ++ hex_text digest ++ codes "\n"
+end_text name counts digest = escaped_text name ++ codes ": " ++ counts_text counts ++ codes ", sha256 " ++ hex_text digest ++ codes "\n"
 
 abbrev pub fault_code : FileFault → List ℕ
 fault_code Unread = codes "A9"
@@ -26,7 +26,7 @@ fault_code TooLong = codes "A7"
 
 -- the end of a file with a fault
 abbrev pub fault_text : List ℕ → FileFault → List ℕ
-fault_text name fault = escaped name ++ codes ": fault " ++ fault_code fault ++ codes "\n"
+fault_text name fault = escaped_text name ++ codes ": fault " ++ fault_code fault ++ codes "\n"
 
 -- what all files come to
 abbrev pub total_text : Total → List ℕ

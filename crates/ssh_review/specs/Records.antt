@@ -3,11 +3,11 @@ use Rattle.std.specs.Prelude.{◌++◌, ◌∷◌, [], ℕ, ℤ, Bool, List, Opt
 use Rattle.std.specs.List.{flat_map}
 use Rattle.std.specs.Fmt.{decimal}
 use Rattle.ssh_keys.specs.declared.kind.KeyKind.{KeyKind}
-use Rattle.ssh_keys.specs.Names.{name_of}
+use Rattle.ssh_keys.specs.Names.{key_name_of}
 use Rattle.ssh_rights.specs.declared.rights.Carried.{Carried}
 use Rattle.ssh_rights.specs.declared.rights.Rights.{Rights}
 use Rattle.ssh_print.specs.DecisionText.{carried_word}
-use Rattle.ssh_print.specs.Texts.{escaped, text_line, word_line}
+use Rattle.ssh_print.specs.Texts.{escaped_text, text_line, word_line}
 use Rattle.ssh_findings.specs.declared.facts.Facts.{Facts}
 use Rattle.ssh_findings.specs.declared.finding.Finding.{Finding}
 use Rattle.ssh_held_keys.specs.declared.held.HeldKey.{HeldKey}
@@ -17,7 +17,7 @@ use Rattle.ssh_review.specs.Sentences.{finding_line}
 
 -- the name of the file and the number of the line
 abbrev pub place_text : List ℕ → ℕ → List ℕ
-place_text name number = escaped name ++ codes ":" ++ decimal number ++ codes ": "
+place_text name number = escaped_text name ++ codes ":" ++ decimal number ++ codes ": "
 
 abbrev pub role_word : Bool → List ℕ
 role_word is_authority = if is_authority then codes "authority " else codes "key "
@@ -30,7 +30,7 @@ bits_text (Some bits) = codes " " ++ decimal bits
 -- a comment, if it has bytes
 abbrev pub comment_text : List ℕ → List ℕ
 comment_text [] = []
-comment_text (c ∷ cs) = codes " " ++ escaped (c ∷ cs)
+comment_text (c ∷ cs) = codes " " ++ escaped_text (c ∷ cs)
 
 -- as `ssh-keygen -l` prints it
 unfoldable pub fingerprint_word : List ℕ → List ℕ
@@ -38,7 +38,7 @@ fingerprint_word fingerprint = codes " SHA256:" ++ fingerprint
 
 -- the type of a key, the size of an RSA key, and the fingerprint
 unfoldable pub key_words : KeyKind → Option ℕ → List ℕ → List ℕ
-key_words kind bits fingerprint = name_of kind ++ bits_text bits ++ fingerprint_word fingerprint
+key_words kind bits fingerprint = key_name_of kind ++ bits_text bits ++ fingerprint_word fingerprint
 
 -- which key, and whose
 unfoldable pub entry_head : Facts → List ℕ
@@ -56,7 +56,7 @@ setting_line word (Some text) = text_line word text
 
 -- a text that is carried on
 abbrev pub carried_inset : Carried → List ℕ
-carried_inset c = codes "    carry " ++ carried_word c.name ++ codes " " ++ escaped c.text ++ codes "\n"
+carried_inset c = codes "    carry " ++ carried_word c.name ++ codes " " ++ escaped_text c.text ++ codes "\n"
 
 -- what the line leaves to the key: the rights, the command that is forced, the texts that are carried on
 unfoldable pub right_lines : Rights → List ℕ

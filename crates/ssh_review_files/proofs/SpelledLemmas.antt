@@ -15,13 +15,13 @@ use Rattle.ssh_review.specs.declared.form.Form.{Form}
 use Rattle.ssh_review.specs.declared.form.Form.TheVariants.{Text}
 use Rattle.ssh_review_files.specs.declared.asking.ReviewKind.{ReviewKind}
 use Rattle.ssh_review_files.specs.FileReviews.{ReviewsFiles, nothing_told, telling, with_file}
-use Rattle.ssh_review_files.specs.Spelled.{ReviewAsked, RespondsToReview, form_of, kind_of, review_spelled, usual_minimum}
+use Rattle.ssh_review_files.specs.Spelled.{ReviewAsked, RespondsToReview, form_of, review_kind_of, review_spelled, usual_minimum}
 use Rattle.ssh_words.specs.declared.options.OptionName.TheVariants as option
 use Rattle.ssh_words.specs.Spelling.{RespondsTo, names_needed, or_fault, value, value_or}
 use Rattle.ssh_words.proofs.AnsweredLemmas.{spelled_responds, spelled_same}
 
 pub review_is_spelled : (rows : List Row) (told : Option TimeZone) (kind : ReviewKind) (now : ℕ) (zone : TimeZone) (minimum : ℕ) (codes : List Code) (form : Form) (names : List (List ℕ))
-    → value kind_of option.Kind rows ≡ Ok kind
+    → value review_kind_of option.Kind rows ≡ Ok kind
     → value (number_below (2 ^ 64)) option.Now rows ≡ Ok now
     → or_fault option.Zone told ≡ Ok zone
     → value_or usual_minimum (number_below (2 ^ 32)) option.RsaMinimum rows ≡ Ok minimum

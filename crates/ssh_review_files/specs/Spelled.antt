@@ -18,8 +18,8 @@ use Rattle.ssh_words.specs.declared.options.OptionName.TheVariants as option
 use Rattle.ssh_words.specs.Spelling.{RespondsTo, given, names_needed, or_fault, value, value_or}
 
 -- the kind of trust files that a word names
-abbrev pub kind_of : List ℕ → Option ReviewKind
-kind_of word =
+abbrev pub review_kind_of : List ℕ → Option ReviewKind
+review_kind_of word =
     if bytes_eq word (codes "auth") then Some Auth
     else if bytes_eq word (codes "known") then Some Known
     else None
@@ -44,7 +44,7 @@ pub record ReviewAsked : Type 0 where
 
 unfoldable pub review_spelled : List Row → Option TimeZone → Result ReviewAsked Response
 review_spelled rows zone = do
-  kind ← value kind_of option.Kind rows
+  kind ← value review_kind_of option.Kind rows
   now ← value (number_below (2 ^ 64)) option.Now rows
   zone ← or_fault option.Zone zone
   rsa_minimum ← value_or usual_minimum (number_below (2 ^ 32)) option.RsaMinimum rows

@@ -4,7 +4,7 @@ ghost use Rattle.std.specs.Prelude.{◌≡◌, ◌^◌, Some, option_map};
 ghost use Rattle.ssh_findings.specs.Codes.{codes_in, default_codes};
 ghost use Rattle.ssh_inputs.specs.Values.{number_below};
 ghost use Rattle.ssh_review.specs.declared.form.Form.TheVariants.{Text};
-ghost use Rattle.ssh_review_files.specs.Spelled.{form_of, kind_of, usual_minimum};
+ghost use Rattle.ssh_review_files.specs.Spelled.{form_of, review_kind_of, usual_minimum};
 ghost use Rattle.ssh_words.specs.declared.options.OptionName.TheVariants as option;
 ghost use Rattle.ssh_words.specs.Spelling.{value, value_or};
 ghost use Rattle.ssh_words.specs.WordsView.{Spells, rows_in};
@@ -26,7 +26,7 @@ pub enum ReviewKind {
 
 /// The kind that a word names, if it names one.
 fn read_kind(word: &str) -> Option<ReviewKind>
-    ensures { result ≡ kind_of word.now }
+    ensures { result ≡ review_kind_of word.now }
 {
     if word == "auth" {
         Some(ReviewKind::Auth)
@@ -39,7 +39,7 @@ fn read_kind(word: &str) -> Option<ReviewKind>
 
 /// The kind of the files that are reviewed.
 pub fn review_kind(words: &Words<'_>) -> Result<ReviewKind, CommandError>
-    ensures { Spells (λ k. k) (value kind_of option.Kind (rows_in words.now)) result }
+    ensures { Spells (λ k. k) (value review_kind_of option.Kind (rows_in words.now)) result }
 {
     let word = words.needed(OptionName::Kind)?;
     OptionName::Kind.or_fault(read_kind(word))

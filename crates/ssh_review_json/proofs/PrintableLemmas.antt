@@ -5,7 +5,7 @@ use Rattle.std.specs.List.{flat_map}
 use Rattle.std.specs.Fmt.{decimal, digit_glyph, digits, digits_onto, signed_decimal}
 use Rattle.std.proofs.lemmas.Bool.{and_from, le-leb, lt-ltb, ltb-true}
 use Rattle.std.proofs.lemmas.List.Folds.{list_all-append}
-use Rattle.ssh_print.specs.Texts.{escaped, escaped_byte, hex_digit, hex_pair, hex_text, is_plain}
+use Rattle.ssh_print.specs.Texts.{escaped_text, escaped_byte, hex_digit, hex_pair, hex_text, is_plain}
 use Rattle.ssh_review_json.specs.OneLine.{AreBytes, are_printable, is_line, is_printable}
 use Rattle.ssh_review_json.specs.Strings.{json_text, quoted_byte}
 
@@ -128,12 +128,12 @@ escaped-byte-printable b h = go (is_plain b) refl
     go true e = and_from (is_printable b) true (plain-printable (nat_le 32 b) (nat_lt b 127) (not (b == 92)) e) refl
     go false e = hex-pair-printable b h
 
-escaped-by : (text : List ℕ) → AreBytes text → are_printable (escaped text) ≡ true
+escaped-by : (text : List ℕ) → AreBytes text → are_printable (escaped_text text) ≡ true
 escaped-by [] h = refl
 escaped-by (b ∷ text) h =
-    printable-append (escaped_byte b) (escaped text) (escaped-byte-printable b h.0) (escaped-by text h.1)
+    printable-append (escaped_byte b) (escaped_text text) (escaped-byte-printable b h.0) (escaped-by text h.1)
 
-pub escaped-printable : (text : List ℕ) → AreBytes text → ArePrintable (escaped text)
+pub escaped-printable : (text : List ℕ) → AreBytes text → ArePrintable (escaped_text text)
 escaped-printable text h = record { all = escaped-by text h }
 
 quoted-byte-printable : (c : ℕ) → is_printable c ≡ true → are_printable (quoted_byte c) ≡ true
@@ -155,5 +155,5 @@ quoted-printable (c ∷ text) h = go (is_printable c) refl (quoted-printable tex
 pub string-printable : (text : List ℕ) → AreBytes text → ArePrintable (json_text text)
 unfolding json_text
 string-printable text h =
-    let inside : ArePrintable (flat_map quoted_byte (escaped text)) = record { all = quoted-printable (escaped text) (escaped-by text h) } in
+    let inside : ArePrintable (flat_map quoted_byte (escaped_text text)) = record { all = quoted-printable (escaped_text text) (escaped-by text h) } in
     join (join (word (codes "\"") refl) inside) (word (codes "\"") refl)

@@ -2,7 +2,7 @@
 use Rattle.std.proofs.Common.{◌≡◌, ◌∙◌, ℕ, ◌==◌, Bool, true, false, ◌||◌, cond, List, [], ◌∷◌, ◌++◌, refl, ap, append_assoc}
 use Rattle.std.specs.Prelude.{Some, None}
 use Rattle.std.specs.List.{flat_map}
-use Rattle.ssh_print.specs.Texts.{escaped}
+use Rattle.ssh_print.specs.Texts.{escaped_text}
 use Rattle.ssh_review_json.specs.Strings.{json_text, quoted_byte, read_rest, read_string, with_byte}
 
 plain-read : (c : ℕ) (text : List ℕ) (read : List ℕ × List ℕ) → (c == 34) ≡ false → (c == 92) ≡ false → read_rest text ≡ Some read
@@ -28,6 +28,6 @@ bytes-read (c ∷ text) rest = go (c == 34) (c == 92) refl refl (bytes-read text
     go false true e f h = meant-read c (flat_map quoted_byte text ++ 34 ∷ rest) (text, rest) (ap (λ b. b || (c == 92)) e ∙ f) h
     go false false e f h = plain-read c (flat_map quoted_byte text ++ 34 ∷ rest) (text, rest) e f h
 
-pub string-read : (text rest : List ℕ) → read_string (json_text text ++ rest) ≡ Some (escaped text, rest)
+pub string-read : (text rest : List ℕ) → read_string (json_text text ++ rest) ≡ Some (escaped_text text, rest)
 unfolding json_text
-string-read text rest = rw (append_assoc (flat_map quoted_byte (escaped text)) (34 ∷ []) rest) (bytes-read (escaped text) rest)
+string-read text rest = rw (append_assoc (flat_map quoted_byte (escaped_text text)) (34 ∷ []) rest) (bytes-read (escaped_text text) rest)

@@ -9,7 +9,7 @@ use Rattle.ssh_keys.specs.declared.error.KeyError.{KeyError}
 use Rattle.ssh_keys.specs.declared.error.KeyError.TheVariants as key
 use Rattle.ssh_keys.specs.declared.kind.KeyKind.{KeyKind}
 use Rattle.ssh_keys.specs.declared.kind.KeyKind.TheVariants.{Rsa, P256, P384, P521, Ed25519, SkP256, SkEd25519}
-use Rattle.ssh_keys.specs.Names.{name_of}
+use Rattle.ssh_keys.specs.Names.{key_name_of}
 use Rattle.ssh_options.specs.declared.cause.LineCause.{LineCause}
 use Rattle.ssh_options.specs.declared.cause.LineCause.TheVariants as cause
 use Rattle.ssh_options.specs.declared.option.Flag.{Flag}
@@ -17,7 +17,7 @@ use Rattle.ssh_options.specs.declared.option.Flag.TheVariants.{AgentForwarding, 
 use Rattle.ssh_options.specs.declared.option.ValueName.{ValueName}
 use Rattle.ssh_options.specs.declared.option.ValueName.TheVariants.{Command, Environment, ExpiryTime, From, PermitListen, PermitOpen, Principals, Tunnel}
 use Rattle.ssh_options.specs.AuthOption.{AuthOption, Switch, Setting}
-use Rattle.ssh_options.specs.OptionNames.{flag_name, row_of, value_name}
+use Rattle.ssh_options.specs.OptionNames.{flag_name, option_row, value_name}
 use Rattle.ssh_options.specs.OptionText.{escaped as value_text}
 use Rattle.ssh_rights.specs.declared.rights.Rights.{Rights}
 use Rattle.ssh_rewriting.specs.Canonical.{after_comma, option_text}
@@ -36,7 +36,7 @@ use Rattle.ssh_review_json.proofs.PrintableLemmas.{ArePrintable, bytes-append, b
 
 -- ---- names of types
 
-pub kind-printable : (kind : KeyKind) → ArePrintable (name_of kind)
+pub kind-printable : (kind : KeyKind) → ArePrintable (key_name_of kind)
 kind-printable Rsa = record { all = refl }
 kind-printable P256 = record { all = refl }
 kind-printable P384 = record { all = refl }
@@ -48,7 +48,7 @@ kind-printable SkEd25519 = record { all = refl }
 -- ---- options
 
 flag-printable : (flag : Flag) → ArePrintable (flag_name flag)
-unfolding row_of
+unfolding option_row
 flag-printable AgentForwarding = record { all = refl }
 flag-printable CertAuthority = record { all = refl }
 flag-printable NoAgentForwarding = record { all = refl }
@@ -65,7 +65,7 @@ flag-printable UserRc = record { all = refl }
 flag-printable X11Forwarding = record { all = refl }
 
 value-name-printable : (name : ValueName) → ArePrintable (value_name name)
-unfolding row_of
+unfolding option_row
 value-name-printable Command = record { all = refl }
 value-name-printable Environment = record { all = refl }
 value-name-printable ExpiryTime = record { all = refl }

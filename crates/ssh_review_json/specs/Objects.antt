@@ -1,7 +1,7 @@
 -- Records of lines, as JSON objects (this project's rule). Each is one line.
 use Rattle.std.specs.Prelude.{◌++◌, ℕ, Bool, List, Option, Some, None, codes, if◌then◌else◌}
 use Rattle.ssh_keys.specs.declared.kind.KeyKind.{KeyKind}
-use Rattle.ssh_keys.specs.Names.{name_of}
+use Rattle.ssh_keys.specs.Names.{key_name_of}
 use Rattle.ssh_options.specs.AuthOption.{AuthOption}
 use Rattle.ssh_rights.specs.declared.rights.Rights.{Rights}
 use Rattle.ssh_findings.specs.declared.facts.Facts.{Facts}
@@ -28,7 +28,7 @@ fingerprint_text fingerprint = codes "SHA256:" ++ fingerprint
 -- the type of a key, the size of an RSA key, and the fingerprint
 unfoldable pub key_fields : KeyKind → Option ℕ → List ℕ → List ℕ
 key_fields kind bits fingerprint =
-    text_field (codes "type") (name_of kind) ++ number_or_null (codes "bits") bits ++ text_field (codes "key") (fingerprint_text fingerprint)
+    text_field (codes "type") (key_name_of kind) ++ number_or_null (codes "bits") bits ++ text_field (codes "key") (fingerprint_text fingerprint)
 
 -- which key, and whose
 unfoldable pub owner_fields : Facts → List ℕ

@@ -2,7 +2,7 @@
 
 ghost use Rattle.std.specs.Prelude.{◌≡◌, ◌++◌, ℕ, true, List, Option, Some};
 ghost use Rattle.ssh_options.specs.AuthOption.{AuthOption};
-ghost use Rattle.ssh_print.specs.Texts.{escaped};
+ghost use Rattle.ssh_print.specs.Texts.{escaped_text};
 ghost use Rattle.ssh_findings.specs.declared.facts.Facts.{Facts};
 ghost use Rattle.ssh_findings.specs.declared.finding.Finding.{Finding};
 ghost use Rattle.ssh_held_keys.specs.declared.held.HeldKey.{HeldKey};
@@ -21,7 +21,7 @@ ghost use Rattle.ssh_review_json.specs.Strings.{json_text, read_string};
 /// string ends nowhere before.
 fn string_rule()
     ensures { (text rest : List ℕ)
-        → read_string (json_text text ++ rest) ≡ Some (escaped text, rest) }
+        → read_string (json_text text ++ rest) ≡ Some (escaped_text text, rest) }
 {}
 
 /// Each record is one line of printable ASCII, whatever bytes are told: no byte of a file can break a

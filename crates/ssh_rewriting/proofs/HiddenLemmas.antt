@@ -9,10 +9,10 @@ use Rattle.base64.specs.Rfc4648.{encoded_size, padding_len}
 use Rattle.base64.proofs.RoundTrip.{length-encode_symbols}
 use Rattle.base64.specs.Engines.{standard}
 use Rattle.base64.specs.Rfc4648.{encode_symbols}
-use Rattle.ssh_keys.specs.Names.{name_of}
+use Rattle.ssh_keys.specs.Names.{key_name_of}
 use Rattle.ssh_keys.specs.PublicKey.{kind_of, key_blob}
 use Rattle.ssh_patterns.specs.Lists.{pieces}
-use Rattle.ssh_lines.specs.KeyPart.{base64}
+use Rattle.ssh_names.specs.Names.{base64}
 use Rattle.ssh_names.specs.Names.{Names, Patterns, Hashed, names_text}
 use Rattle.ssh_text.specs.Text.{line_limit}
 use Rattle.ssh_lines.specs.KnownEntry.{KnownEntry}
@@ -36,9 +36,9 @@ parts-length marker kind symbols comment = simp length-append (omega arith)
 -- how many bytes the hashed line of an entry has, part by part
 pub hashed-length : (entry : KnownEntry)
     → hashed_length entry
-    ≡ length (marker_part entry.marker) + 60 + 1 + (length (name_of (kind_of entry.key)) + 1 + encoded_size (length (key_blob entry.key)) true) + length (comment_part entry.comment)
+    ≡ length (marker_part entry.marker) + 60 + 1 + (length (key_name_of (kind_of entry.key)) + 1 + encoded_size (length (key_blob entry.key)) true) + length (comment_part entry.comment)
 hashed-length entry =
-    parts-length (marker_part entry.marker) (name_of (kind_of entry.key)) (base64 (key_blob entry.key)) (comment_part entry.comment)
+    parts-length (marker_part entry.marker) (key_name_of (kind_of entry.key)) (base64 (key_blob entry.key)) (comment_part entry.comment)
     ∙ rw (length-symbols (key_blob entry.key)) refl
 
 -- ---- lines

@@ -1,10 +1,11 @@
 -- Key and comment of a canonical line spell what they are made of, and are no longer than what spelled it.
 use Rattle.std.proofs.Common.{◌≡◌, ◌≢◌, ℕ, ◌+◌, ◌≤◌, inl, inr, List, [], ◌∷◌, ◌++◌, length, length-append, refl, sym, ap, subst, ◌∙◌, arith, append_assoc, append-nil}
-use Rattle.ssh_keys.specs.Names.{name_of}
+use Rattle.ssh_keys.specs.Names.{key_name_of}
 use Rattle.ssh_keys.specs.PublicKey.{PublicKey, kind_of, key_blob}
 use Rattle.ssh_text.specs.Text.{SpellsTail, IsGap}
 use Rattle.ssh_text.specs.Scan.{HasNoNewline}
-use Rattle.ssh_lines.specs.KeyPart.{SpellsKey, base64}
+use Rattle.ssh_names.specs.Names.{base64}
+use Rattle.ssh_lines.specs.KeyPart.{SpellsKey}
 use Rattle.ssh_rewriting.specs.Canonical.{key_text, comment_part}
 
 -- ---- no LF
@@ -79,11 +80,11 @@ shorter name gap symbols tail comment a b = simp length-append (omega arith)
 pub key-length : (key : PublicKey) (comment text : List ℕ) → SpellsKey key comment text → length (written_key key comment) ≤ length text
 key-length key comment text (gap, tail, g, b, is, c, t, whole) =
     let P : List ℕ → Type 0 = λ l. length (written_key key comment) ≤ length l in
-    subst P (sym whole) (shorter (name_of (kind_of key)) gap (base64 (key_blob key)) tail (comment_part comment) (comment-length comment tail t) (gap-length gap g))
+    subst P (sym whole) (shorter (key_name_of (kind_of key)) gap (base64 (key_blob key)) tail (comment_part comment) (comment-length comment tail t) (gap-length gap g))
 
 pub none-key : (key : PublicKey) (comment text : List ℕ) → SpellsKey key comment text → HasNoNewline text → HasNoNewline (written_key key comment)
 none-key key comment text (gap, tail, g, b, is, c, t, whole) n =
-    let name = name_of (kind_of key) in
+    let name = key_name_of (kind_of key) in
     let symbols = base64 (key_blob key) in
     let cut = subst HasNoNewline whole n in
     let fields = none-front (name ++ gap ++ symbols) tail cut in

@@ -1,7 +1,7 @@
 -- The one canonical line of an entry (this project's rule, within the grammar of sshd(8)).
 use Rattle.std.specs.Prelude.{ℕ, List, [], ◌∷◌, ◌++◌, map}
 use Rattle.std.specs.List.{join_with_byte}
-use Rattle.ssh_keys.specs.Names.{name_of}
+use Rattle.ssh_keys.specs.Names.{key_name_of}
 use Rattle.ssh_keys.specs.PublicKey.{PublicKey, kind_of, key_blob}
 use Rattle.ssh_options.specs.AuthOption.{AuthOption}
 use Rattle.ssh_options.specs.OptionText.{option_name, value_part}
@@ -10,14 +10,14 @@ use Rattle.ssh_lines.specs.AuthEntry.{AuthEntry}
 use Rattle.ssh_lines.specs.KnownEntry.{KnownEntry}
 use Rattle.ssh_lines.specs.declared.marker.Marker.{Marker}
 use Rattle.ssh_lines.specs.declared.marker.Marker.TheVariants as markers
-use Rattle.ssh_lines.specs.KeyPart.{base64}
+use Rattle.ssh_names.specs.Names.{base64}
 use Rattle.ssh_lines.specs.Markers.{authority_marker}
 
 -- ---- the parts of both files
 
 -- the key's type and the base64 of its blob, parted by a space
 abbrev pub key_text : PublicKey → List ℕ
-key_text key = name_of (kind_of key) ++ 32 ∷ base64 (key_blob key)
+key_text key = key_name_of (kind_of key) ++ 32 ∷ base64 (key_blob key)
 
 -- a space and the comment, if it is not empty
 abbrev pub comment_part : List ℕ → List ℕ

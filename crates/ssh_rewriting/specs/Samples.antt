@@ -7,7 +7,7 @@ use Rattle.ssh_wire.specs.Reading.{string_at}
 use Rattle.ssh_keys.specs.PublicKey.{key_blob, rsa}
 use Rattle.ssh_keys.specs.Names.{plain_kind, certificate_kind}
 use Rattle.ssh_keys.specs.KeyReading.{key_in, blob_at, fields_at, public_at}
-use Rattle.ssh_options.specs.OptionNames.{row_of, row_named}
+use Rattle.ssh_options.specs.OptionNames.{option_row, row_named}
 use Rattle.ssh_options.specs.declared.option.Flag.TheVariants.{NoX11Forwarding, Pty, Restrict, X11Forwarding}
 use Rattle.ssh_options.specs.declared.option.ValueName.TheVariants.{Command, ExpiryTime}
 use Rattle.ssh_options.specs.AuthOption.{AuthOption, Switch, Setting}
@@ -49,7 +49,7 @@ AuthSamplesWritten =
     × (canonical_auth (record { options = []; key = rsa 65537 128; comment = codes "toy" }) ≡ codes "ssh-rsa AAAAB3NzaC1yc2EAAAADAQABAAAAAgCA toy")
 
 pub auth_samples_written : AuthSamplesWritten
-unfolding row_of mpint_bytes key_blob base64_on_literals
+unfolding option_row mpint_bytes key_blob base64_on_literals
 auth_samples_written = (refl, refl, refl, refl, refl)
 
 -- entries of a known_hosts file
@@ -78,7 +78,7 @@ AuthFilesWritten =
     × (rewritten [] [] ≡ Ok [])
 
 pub auth_files_written : AuthFilesWritten
-unfolding auth_line options_of row_of row_named key_part_of is_expiry_text key_in key_blob blob_at fields_at public_at string_at plain_kind certificate_kind base64_on_literals
+unfolding auth_line options_of option_row row_named key_part_of is_expiry_text key_in key_blob blob_at fields_at public_at string_at plain_kind certificate_kind base64_on_literals
 auth_files_written = (refl, refl, refl)
 
 -- A known_hosts file: an entry, an authority, a revocation, a comment, and a line that cannot be read, without an LF.

@@ -1,8 +1,8 @@
 //! The key and the comment of a canonical line.
 
 ghost use Rattle.std.specs.Prelude.{◌≡◌, ◌≤◌, ◌++◌, ◌∷◌, length, OnOk, OnErr};
-ghost use Rattle.ssh_keys.specs.Names.{name_of};
-ghost use Rattle.ssh_lines.specs.KeyPart.{base64};
+ghost use Rattle.ssh_keys.specs.Names.{key_name_of};
+ghost use Rattle.ssh_names.specs.Names.{base64};
 ghost use Rattle.ssh_rewriting.specs.Canonical.{comment_part};
 ghost use Rattle.ssh_rewriting.specs.Kept.{Keeps};
 
@@ -49,7 +49,7 @@ pub(crate) fn put_key(
     out: &mut Vec<u8>,
 ) -> Result<(), AllocError>
     ensures ok { OnOk result (out.new.items ≡ out.old.items
-        ++ (name_of kind ++ 32 ∷ base64 blob.now) ++ comment_part comment.now) }
+        ++ (key_name_of kind ++ 32 ∷ base64 blob.now) ++ comment_part comment.now) }
     ensures err { OnErr result (Keeps out.old.items out.new.items) }
 {
     out.extend_from_slice(kind.name())?;

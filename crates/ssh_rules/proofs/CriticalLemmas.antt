@@ -18,7 +18,7 @@ use Rattle.ssh_patterns.specs.declared.address.Address.{Address}
 use Rattle.ssh_patterns.specs.declared.permit.Permit.TheVariants.{Yes}
 use Rattle.ssh_rules.specs.declared.reason.Reason.TheVariants as reason
 use Rattle.ssh_rules.specs.Admission.{CriticalMet, PermitsAddress, commands_differ, critical_rows}
-use Rattle.ssh_rules.specs.CertificateRules.{first_unknown, fits_known, has_its_form, has_two, is_known, repeats, source_by}
+use Rattle.ssh_rules.specs.CertificateRules.{first_unknown, fits_known, has_its_form, has_two, is_known, has_repeats, source_by}
 use Rattle.ssh_rules.specs.Obstacles.{unknown_row}
 use Rattle.ssh_rules.proofs.SourceLemmas.{address-permitted, permits-address}
 use Rattle.ssh_rules.proofs.Tests.{NoneHolds, each-decides, none-fails, not_off, off, off_not, permitted, when_off, yes_row}
@@ -111,8 +111,8 @@ is-once : (options : List CertOption) → AreOnce options → AllByRecursion (λ
 is-once [] h = tt
 is-once (o ∷ options) h = (own-name o options ∙ option-not o.name options h.0, other-names o options options h.0 (is-once options h.1))
 
-twice-decides : (options : List CertOption) → (repeats options ≡ false → AllByRecursion (λ o. has_two o.name options ≡ false) options)
-    × (AllByRecursion (λ o. has_two o.name options ≡ false) options → repeats options ≡ false)
+twice-decides : (options : List CertOption) → (has_repeats options ≡ false → AllByRecursion (λ o. has_two o.name options ≡ false) options)
+    × (AllByRecursion (λ o. has_two o.name options ≡ false) options → has_repeats options ≡ false)
 twice-decides options = none-fails (λ o. has_two o.name options) (λ o. has_two o.name options ≡ false) (λ o. (λ h. h, λ h. h)) options
 
 -- ---- its sources and its command

@@ -23,7 +23,7 @@ use Rattle.ssh_rules.specs.declared.reason.Reason.TheVariants as reason
 use Rattle.ssh_offers.specs.Query.{Login}
 use Rattle.ssh_offers.specs.Offer.{Offer, OfCertificate, certified, is_certified, plain, subject}
 use Rattle.ssh_offers.specs.LoginClaim.{LoginClaim}
-use Rattle.ssh_rules.specs.CertificateRules.{certificate_source, first_unknown, has_its_form, repeats}
+use Rattle.ssh_rules.specs.CertificateRules.{certificate_source, first_unknown, has_its_form, has_repeats}
 use Rattle.ssh_rules.specs.CertificateForce.{InForce, force_rows, user_certificate}
 use Rattle.ssh_rules.specs.KeySizes.{AreLongEnough}
 use Rattle.ssh_rules.specs.Obstacles.{first_obstacle, key_row, or_later, permit_row, role_row, size_row, unknown_row, when}
@@ -126,7 +126,7 @@ user_force_rows e q c = force_rows user_certificate q.now q.empty_principals (se
 abbrev pub critical_rows : AuthEntry → Address → Certificate → List (Option Obstacle)
 critical_rows e address c =
     unknown_row (first_unknown c.critical)
-    ∷ when (repeats c.critical) reason.CriticalRepeated
+    ∷ when (has_repeats c.critical) reason.CriticalRepeated
     ∷ when (not (list_all has_its_form c.critical)) reason.CriticalData
     ∷ permit_row reason.CertSourceBad reason.CertSourceRefused (certificate_source c address)
     ∷ when (commands_differ (setting Command e.options) (forced_by_certificate c)) reason.CommandConflict

@@ -37,8 +37,8 @@ has_two name [] = false
 has_two name (o ∷ options) = if bytes_eq o.name name then has_option name options else has_two name options
 
 -- some name stands twice
-abbrev pub repeats : List CertOption → Bool
-repeats options = list_any (λ o. has_two o.name options) options
+abbrev pub has_repeats : List CertOption → Bool
+has_repeats options = list_any (λ o. has_two o.name options) options
 
 -- the data has the form of the option, if it is one that a login knows
 abbrev pub fits_known : Option CertificateOption → List ℕ → Bool

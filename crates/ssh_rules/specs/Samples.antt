@@ -19,7 +19,7 @@ use Rattle.ssh_rules.specs.declared.reason.Reason.{Reason}
 use Rattle.ssh_rules.specs.declared.reason.Reason.TheVariants as reason
 use Rattle.ssh_rules.specs.declared.reason.Reason.TheVariants.{WrongCertKind, NotYetValid, NoLongerValid, PrincipalRefused, CriticalUnknown, CriticalRepeated, CriticalData, CertSourceBad, CertSourceRefused, CommandConflict, RsaTooSmall}
 use Rattle.ssh_rules.specs.Admission.{certificate_obstacle}
-use Rattle.ssh_rules.specs.CertificateRules.{first_unknown, has_its_form, is_known, repeats}
+use Rattle.ssh_rules.specs.CertificateRules.{first_unknown, has_its_form, is_known, has_repeats}
 use Rattle.ssh_rules.specs.HostAdmission.{host_certificate_obstacle}
 use Rattle.ssh_rules.specs.Obstacles.{size_row}
 
@@ -71,11 +71,11 @@ FormsJudged =
 -- names that stand twice, one after the other or not
 abbrev pub RepetitionsFound : Type 0
 RepetitionsFound =
-    (repeats [] ≡ false)
-    × (repeats (option (codes "a") [] ∷ option (codes "b") [] ∷ option (codes "A") [] ∷ []) ≡ false)
-    × (repeats (option (codes "a") [] ∷ option (codes "a") (0 ∷ []) ∷ []) ≡ true)
-    × (repeats (option (codes "a") [] ∷ option (codes "b") [] ∷ option (codes "a") [] ∷ []) ≡ true)
-    × (repeats (option (codes "b") [] ∷ option (codes "a") [] ∷ option (codes "a") [] ∷ []) ≡ true)
+    (has_repeats [] ≡ false)
+    × (has_repeats (option (codes "a") [] ∷ option (codes "b") [] ∷ option (codes "A") [] ∷ []) ≡ false)
+    × (has_repeats (option (codes "a") [] ∷ option (codes "a") (0 ∷ []) ∷ []) ≡ true)
+    × (has_repeats (option (codes "a") [] ∷ option (codes "b") [] ∷ option (codes "a") [] ∷ []) ≡ true)
+    × (has_repeats (option (codes "b") [] ∷ option (codes "a") [] ∷ option (codes "a") [] ∷ []) ≡ true)
 
 -- ---- certificates
 

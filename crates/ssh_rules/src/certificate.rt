@@ -15,7 +15,7 @@ ghost use Rattle.ssh_rules.specs.CertificateRules.{
   is_among,
   is_known,
   listed_names,
-  repeats,
+  has_repeats,
   serves,
 };
 
@@ -67,7 +67,7 @@ fn has_two(name: &[u8], options: CertOptions<'_>) -> bool
 
 /// Whether some critical option stands twice.
 pub(crate) fn has_repeated(certificate: &CertView<'_>) -> bool
-    ensures { result ≡ repeats (certificate_of certificate.now).critical }
+    ensures { result ≡ has_repeats (certificate_of certificate.now).critical }
 {
     for (name, _) in certificate.critical() {
         if has_two(name, certificate.critical()) {

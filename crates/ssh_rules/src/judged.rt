@@ -54,7 +54,7 @@ impl<'a> Model for JudgedCertificate<'a> {
       certificate_source,
       first_unknown,
       has_its_form,
-      repeats,
+      has_repeats,
       serves,
     };
     ghost use Rattle.ssh_rules.specs.Judged.{Judged};
@@ -66,7 +66,7 @@ impl<'a> Model for JudgedCertificate<'a> {
         { certificate = certificate_of s.certificate; address = s.address; user = s.user.now } };
 
     ghost invariant = { λ s. (s.unknown ≡ first_unknown (certificate_of s.certificate).critical)
-        × (s.repeated ≡ repeats (certificate_of s.certificate).critical)
+        × (s.repeated ≡ has_repeats (certificate_of s.certificate).critical)
         × (s.formed ≡ list_all has_its_form (certificate_of s.certificate).critical)
         × (s.source ≡ certificate_source (certificate_of s.certificate) s.address)
         × (option_copied s.command ≡ forced_by_certificate (certificate_of s.certificate))

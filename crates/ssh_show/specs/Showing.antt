@@ -7,7 +7,7 @@ use Rattle.base64.specs.GeneralPurpose.{decoded_of}
 use Rattle.ssh_keys.specs.declared.kind.NameClass.{NameClass}
 use Rattle.ssh_keys.specs.declared.kind.NameClass.TheVariants.{Plain, Certificate, Retired, Other}
 use Rattle.ssh_keys.specs.declared.error.KeyError.{KeyError}
-use Rattle.ssh_keys.specs.Names.{name_of, certificate_name_of, class_of}
+use Rattle.ssh_keys.specs.Names.{key_name_of, certificate_name_of, class_of}
 use Rattle.ssh_keys.specs.PublicKey.{PublicKey, kind_of}
 use Rattle.ssh_keys.specs.KeyReading.{key_in}
 use Rattle.ssh_certs.specs.Certificate as certs
@@ -84,7 +84,7 @@ blob_of_field None field = blob_spelled (decoded_of standard field)
 -- a key, where its type is the line's
 abbrev pub key_of_type : List ℕ → Result PublicKey KeyError → Result PublicKey ShowError
 key_of_type type (Err e) = Err (Line (KeyBlob e))
-key_of_type type (Ok key) = if bytes_eq (name_of (kind_of key)) type then Ok key else Err (Line TypeMismatch)
+key_of_type type (Ok key) = if bytes_eq (key_name_of (kind_of key)) type then Ok key else Err (Line TypeMismatch)
 
 abbrev pub key_of_blob : List ℕ → Result (List ℕ) ShowError → Result PublicKey ShowError
 key_of_blob type (Err e) = Err e

@@ -1,7 +1,7 @@
 -- What `show` prints of a private key's body and of a file signature (this project's rule). Each line ends with an LF.
 use Rattle.std.specs.Prelude.{◌≡◌, ◌++◌, ℕ, List, codes}
 use Rattle.std.specs.Fmt.{decimal}
-use Rattle.ssh_keys.specs.Names.{name_of}
+use Rattle.ssh_keys.specs.Names.{key_name_of}
 use Rattle.ssh_keys.specs.PublicKey.{PublicKey, kind_of}
 use Rattle.ssh_bodies.specs.PrivateKey.{PrivateBody, public_of}
 use Rattle.ssh_bodies.specs.Sshsig.{Sshsig, hash_name}
@@ -19,7 +19,7 @@ public_half v = record { key = public_of v.key; check = v.check; comment = v.com
 
 -- the type and the fingerprint of a key
 unfoldable pub key_head : PublicKey → List ℕ
-key_head key = word_line (codes "type ") (name_of (kind_of key)) ++ word_line (codes "fingerprint ") (fingerprint_text key)
+key_head key = word_line (codes "type ") (key_name_of (kind_of key)) ++ word_line (codes "fingerprint ") (fingerprint_text key)
 
 unfoldable pub half_lines : PublicHalf → List ℕ
 half_lines h = key_head h.key ++ word_line (codes "check ") (decimal h.check) ++ comment_line h.comment

@@ -4,11 +4,11 @@ use Rattle.std.specs.List.{flat_map}
 use Rattle.std.specs.Fmt.{decimal}
 use Rattle.jiff.specs.Types.{DateTime}
 use Rattle.jiff.specs.Words.{civil_nanos, iso_datetime_text}
-use Rattle.ssh_keys.specs.Names.{name_of, certificate_name_of}
+use Rattle.ssh_keys.specs.Names.{key_name_of, certificate_name_of}
 use Rattle.ssh_keys.specs.PublicKey.{PublicKey, kind_of}
 use Rattle.ssh_keys.specs.Fingerprint.{IsRsaSize, fingerprint_of}
 use Rattle.ssh_certs.specs.Certificate.{CertOption, Certificate}
-use Rattle.ssh_print.specs.Texts.{escaped, hex_text, word_line, text_line}
+use Rattle.ssh_print.specs.Texts.{escaped_text, hex_text, word_line, text_line}
 
 -- ---- keys
 
@@ -26,7 +26,7 @@ comment_line (c ∷ cs) = text_line (codes "comment ") (c ∷ cs)
 
 abbrev pub key_lines : PublicKey → Option ℕ → List ℕ → List ℕ
 key_lines key bits comment =
-    word_line (codes "type ") (name_of (kind_of key))
+    word_line (codes "type ") (key_name_of (kind_of key))
     ++ bits_line bits
     ++ word_line (codes "fingerprint ") (fingerprint_text key)
     ++ comment_line comment
@@ -67,10 +67,10 @@ moment_line word moment date = word_line word (decimal moment ++ codes " " ++ da
 
 -- a critical option or an extension: its name and its data
 abbrev pub option_line : List ℕ → CertOption → List ℕ
-option_line word option = word_line word (escaped option.name ++ codes " " ++ hex_text option.value)
+option_line word option = word_line word (escaped_text option.name ++ codes " " ++ hex_text option.value)
 
 abbrev pub signer_line : PublicKey → List ℕ
-signer_line key = word_line (codes "signer ") (name_of (kind_of key) ++ codes " " ++ fingerprint_text key)
+signer_line key = word_line (codes "signer ") (key_name_of (kind_of key) ++ codes " " ++ fingerprint_text key)
 
 -- the certificate's type and key, and its signer
 unfoldable pub cert_key_lines : Certificate → List ℕ

@@ -4,7 +4,7 @@ use Rattle.std.specs.Prelude.{⊤}
 use Rattle.std.specs.Str.{bytes_eq}
 use Rattle.ssh_keys.specs.declared.kind.KeyKind.{KeyKind}
 use Rattle.ssh_keys.specs.declared.kind.KeyKind.TheVariants.{Rsa, P256, P384, P521, Ed25519, SkP256, SkEd25519}
-use Rattle.ssh_keys.specs.Names.{name_of}
+use Rattle.ssh_keys.specs.Names.{key_name_of}
 use Rattle.ssh_offers.specs.declared.error.AuditError.{AuditError}
 use Rattle.ssh_offers.specs.declared.error.AuditError.TheVariants.{WrongAlgorithm, WeakSignature, Read}
 use Rattle.ssh_offers.specs.Algorithms.{other_algorithm, rsa_sha256_name, rsa_sha512_name, is_weak_name, type_name, wanted_algorithm}
@@ -44,7 +44,7 @@ weak-or-wrong true = tt
 weak-or-wrong false = tt
 
 other : (kind : KeyKind) (algorithm : List ℕ) → IsNoRead (other_algorithm kind algorithm)
-other Rsa algorithm = weak-or-wrong (bytes_eq algorithm (name_of Rsa))
+other Rsa algorithm = weak-or-wrong (bytes_eq algorithm (key_name_of Rsa))
 other P256 algorithm = tt
 other P384 algorithm = tt
 other P521 algorithm = tt

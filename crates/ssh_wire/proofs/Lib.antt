@@ -1,1 +1,2 @@
+pub mod MpintLemmas
 pub mod RowLemmas

@@ -8,7 +8,8 @@ use Rattle.ssh_wire.specs.declared.error.WireError.{WireError}
 use Rattle.ssh_wire.specs.Spelling.{uint32, string, natural, is_least, is_not_negative}
 use Rattle.ssh_wire.specs.Position.{Position, start, advance}
 use Rattle.ssh_wire.specs.Reading.{◌>>=◌, Read, fault, number_at, string_at, mpint_at, pair_at}
-use Rattle.ssh_wire.specs.Laws.{IsBytes, wide32, number_takes, number_again, string_again, refused_none, no_prefix_of}
+use Rattle.ssh_wire.specs.Fronts.{IsBytes}
+use Rattle.ssh_wire.specs.Laws.{wide32, number_takes, number_again, string_again, refused_none, no_prefix_of}
 use Rattle.ssh_wire.specs.Rows.{StopsAt, GoesOnAt, row_by, FitsBy, number_and_string, FitBoth}
 
 -- the first field is refused

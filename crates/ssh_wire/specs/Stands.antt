@@ -1,7 +1,7 @@
 -- How far bytes are those of a format, by its row of fields alone, and what does not stand there.
 use Rattle.std.specs.Prelude.{◌≡◌, ℕ, ◌<◌, ◌^◌, List, ◌++◌, length, take}
 use Rattle.std.specs.List.{concat}
-use Rattle.ssh_wire.specs.Laws.{Begins}
+use Rattle.ssh_wire.specs.Fronts.{Begins}
 use Rattle.ssh_wire.specs.Spelling.{uint32, uint64, string}
 
 -- The bytes begin with the first fields of some value in range, up to the place, and the rest follows. (A

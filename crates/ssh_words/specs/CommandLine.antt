@@ -8,13 +8,13 @@ use Rattle.clap.specs.Simple.{on_top}
 use Rattle.ssh_words.specs.declared.options.Needed.{Needed}
 use Rattle.ssh_words.specs.declared.options.OptionName.{OptionName}
 use Rattle.ssh_words.specs.declared.subcommand.Subcommand.{Subcommand}
-use Rattle.ssh_words.specs.Options.{is_required, names_id, names_of, option_name, options_of, subcommand_name, subcommand_named, subcommands}
+use Rattle.ssh_words.specs.Options.{is_required, names_id, names_of, option_word, options_of, subcommand_name, subcommand_named, subcommands}
 
 -- ---- what clap is given
 
 -- an option with a value, `--name value`, which may be required
 abbrev pub option_rule : OptionName × Needed → Rule
-option_rule row = record (new_rule (option_name row.0)) { long = Some (option_name row.0); required = is_required row.1 }
+option_rule row = record (new_rule (option_word row.0)) { long = Some (option_word row.0); required = is_required row.1 }
 
 -- a command of these options
 abbrev pub with_options : App → List (OptionName × Needed) → App

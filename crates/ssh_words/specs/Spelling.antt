@@ -12,13 +12,13 @@ use Rattle.ssh_words.specs.declared.error.CommandError.TheVariants.{Usage, Value
 use Rattle.ssh_words.specs.declared.options.OptionName.{OptionName}
 use Rattle.ssh_words.specs.declared.options.OptionName.TheVariants.{Body, File, Message, Namespace, Vouch}
 use Rattle.ssh_words.specs.Asked.{AuditFiles, SshsigQuestion}
-use Rattle.ssh_words.specs.Options.{names_id, option_name}
+use Rattle.ssh_words.specs.Options.{names_id, option_word}
 
 -- ---- texts
 
 -- the text of an option, where it is given
 abbrev pub given : OptionName → List Row → Option Text
-given o rows = first_of (option_name o) rows
+given o rows = first_of (option_word o) rows
 
 -- the text of an option that has to be given
 abbrev pub needed : OptionName → List Row → Result Text Response
@@ -40,7 +40,7 @@ pairs_given (Some text) = has_pairs text
 
 -- a value, or the answer that the option has none
 abbrev pub or_fault : {A : Type 0} → OptionName → Option A → Result A Response
-or_fault o v = ok_or v (value_response (option_name o))
+or_fault o v = ok_or v (value_response (option_word o))
 
 -- the value that the text of an option spells, by this reading
 abbrev pub value : {A : Type 0} → (Text → Option A) → OptionName → List Row → Result A Response
@@ -85,5 +85,5 @@ RespondsTo responds (Ok q) s t r = responds q s t r
 -- the answer to a fault, where memory was not refused
 abbrev pub IsToldAs : CommandError → Response → Type 0
 IsToldAs Usage r = r ≡ usage_response
-IsToldAs (Value o) r = r ≡ value_response (option_name o)
+IsToldAs (Value o) r = r ≡ value_response (option_word o)
 IsToldAs Memory r = ⊥

@@ -8,7 +8,7 @@ use Rattle.ssh_words.specs.declared.options.Needed.{Needed}
 use Rattle.ssh_words.specs.declared.options.Needed.TheVariants.{Required, Optional}
 use Rattle.ssh_words.specs.declared.options.OptionName.{OptionName}
 use Rattle.ssh_words.specs.declared.subcommand.Subcommand.{Subcommand}
-use Rattle.ssh_words.specs.Options.{names_id, names_of, option_name, options_of, subcommand_name, subcommands}
+use Rattle.ssh_words.specs.Options.{names_id, names_of, option_word, options_of, subcommand_name, subcommands}
 
 -- brackets stand around what may be left out, and a space before it
 abbrev pub opened : Needed → Text
@@ -21,7 +21,7 @@ closed Optional = codes "]"
 
 -- an option with its value
 abbrev pub usage_option : OptionName × Needed → Text
-usage_option row = opened row.1 ++ codes "--" ++ option_name row.0 ++ codes " VALUE" ++ closed row.1
+usage_option row = opened row.1 ++ codes "--" ++ option_word row.0 ++ codes " VALUE" ++ closed row.1
 
 -- names, of which there may be many
 abbrev pub usage_names : Option Needed → Text

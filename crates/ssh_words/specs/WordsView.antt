@@ -13,7 +13,7 @@ use Rattle.ssh_words.specs.declared.request.WordsError.{WordsError}
 use Rattle.ssh_words.specs.declared.request.WordsError.TheVariants as words
 use Rattle.ssh_words.specs.declared.words.Words.{Words}
 use Rattle.ssh_words.specs.CommandLine.{Request as Asked, request_of}
-use Rattle.ssh_words.specs.Options.{option_name}
+use Rattle.ssh_words.specs.Options.{option_word}
 
 -- the values of the options
 abbrev pub rows_in : Words → List Row
@@ -37,12 +37,12 @@ FaultIs e words.Memory = ⊤
 abbrev pub Spells : {V A : Type 0} → (V → A) → Result A Response → Result V CommandError → Type 0
 Spells view wanted (Ok v) = wanted ≡ Ok (view v)
 Spells view wanted (Err Usage) = wanted ≡ Err usage_response
-Spells view wanted (Err (Value o)) = wanted ≡ Err (value_response (option_name o))
+Spells view wanted (Err (Value o)) = wanted ≡ Err (value_response (option_word o))
 Spells view wanted (Err Memory) = ⊤
 
 -- a fact about the response, which a fault stands for too, unless memory was refused
 abbrev pub IfAnswered : Result Printed CommandError → (Response → Type 0) → Type 0
 IfAnswered (Ok r) P = P (response r)
 IfAnswered (Err Usage) P = P usage_response
-IfAnswered (Err (Value o)) P = P (value_response (option_name o))
+IfAnswered (Err (Value o)) P = P (value_response (option_word o))
 IfAnswered (Err Memory) P = ⊤

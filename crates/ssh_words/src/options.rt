@@ -3,7 +3,7 @@
 ghost use Rattle.std.specs.Prelude.{◌≡◌};
 ghost use Rattle.std.specs.Option.{ok_or};
 ghost use Rattle.ssh_words.specs.declared.error.CommandError.TheVariants.{Value};
-ghost use Rattle.ssh_words.specs.Options.{is_required, option_name};
+ghost use Rattle.ssh_words.specs.Options.{is_required, option_word};
 
 use crate::error::CommandError;
 
@@ -38,7 +38,7 @@ pub enum OptionName {
 impl OptionName {
     /// The name, as words give it after two dashes.
     pub fn name(self) -> &'static str
-        ensures { result.now ≡ option_name self }
+        ensures { result.now ≡ option_word self }
     {
         match self {
             OptionName::Kind => "kind",

@@ -1,7 +1,7 @@
 use Rattle.std.proofs.Common.{◌≡◌, ℕ, List, length, ap, ◌∙◌, arith}
 use Rattle.std.specs.List.{concat}
 use Rattle.ssh_wire.specs.Spelling.{string}
-use Rattle.ssh_keys.specs.Names.{name_of}
+use Rattle.ssh_keys.specs.Names.{key_name_of}
 use Rattle.ssh_keys.specs.PublicKey.{PublicKey, kind_of, fields_of}
 use Rattle.ssh_keys.specs.View.{public_key}
 use Rattle.ssh_bodies.specs.PrivateFrom.{private_key}
@@ -14,7 +14,7 @@ pub returns-clause-value : goal.returns-clause-value
 returns-clause-value c =
     let view = c.args.view.now in
     let half = public_of (private_key view.fields) in
-    let named = c.name.ensures ∙ ap name_of c.kind.ensures ∙ ap (λ (k : PublicKey). name_of (kind_of k)) view.public_half in
-    let name : length (string c.name.result.now) ≡ length (string (name_of (kind_of half))) = ap (λ (t : List ℕ). length (string t)) named in
+    let named = c.name.ensures ∙ ap key_name_of c.kind.ensures ∙ ap (λ (k : PublicKey). key_name_of (kind_of k)) view.public_half in
+    let name : length (string c.name.result.now) ≡ length (string (key_name_of (kind_of half))) = ap (λ (t : List ℕ). length (string t)) named in
     let public : length (concat (fields_of (public_key c.public_half.result))) ≡ length (concat (fields_of half)) = ap (λ (k : PublicKey). length (concat (fields_of k))) c.public_half.ensures in
     omega (arith, name, public, c.string_len-name.ensures.value, c.public_len.ensures.value, c.secret_len.ensures.value, c.string_len.ensures.value, front_length (private_body view))

@@ -1,7 +1,7 @@
 use Rattle.std.proofs.Common.{◌++◌, ◌<◌, ◌^◌, ℕ, List, length, refl, sym, ap, subst, ◌∙◌, arith}
 use Rattle.ssh_wire.specs.Spelling.{string}
 use Rattle.ssh_wire.specs.Mpint.{number_of}
-use Rattle.ssh_keys.specs.Names.{name_of}
+use Rattle.ssh_keys.specs.Names.{key_name_of}
 use Rattle.ssh_keys.specs.PublicKey.{PublicKey, rsa, p256, p384, p521, ed25519, sk_p256, sk_ed25519, IsKey}
 use Rattle.ssh_keys.specs.KeyOf.{key_of}
 use Rattle.ssh_keys.proofs.KeyLaws.{name_short}
@@ -29,34 +29,34 @@ encode-requires-in-SkEd25519 c =
 
 pub returns-in-Rsa-clause-ok : goal.returns-in-Rsa-clause-ok
 returns-in-Rsa-clause-ok c =
-    wrote c.encode.result c.encode.new.out.items c.args.out.now.items _ _ (key_of c.args.key.now) c.name-name.result.now c.in-Rsa.ensures (c.name-name.ensures ∙ ap name_of c.kind.ensures) refl c.encode.ensures.ok
+    wrote c.encode.result c.encode.new.out.items c.args.out.now.items _ _ (key_of c.args.key.now) c.name-name.result.now c.in-Rsa.ensures (c.name-name.ensures ∙ ap key_name_of c.kind.ensures) refl c.encode.ensures.ok
 
 pub returns-in-P256-clause-ok : goal.returns-in-P256-clause-ok
 returns-in-P256-clause-ok c =
-    wrote c.encode-in-P256.result c.encode-in-P256.new.out.items c.args.out.now.items _ (p256 c.in-P256.point.now) (key_of c.args.key.now) c.name-name.result.now c.in-P256.ensures (c.name-name.ensures ∙ ap name_of c.kind.ensures)
+    wrote c.encode-in-P256.result c.encode-in-P256.new.out.items c.args.out.now.items _ (p256 c.in-P256.point.now) (key_of c.args.key.now) c.name-name.result.now c.in-P256.ensures (c.name-name.ensures ∙ ap key_name_of c.kind.ensures)
     (ap (λ (t : List ℕ). string c.name-name.result.now ++ (string t ++ string c.in-P256.point.now)) c.name.ensures) c.encode-in-P256.ensures.ok
 
 pub returns-in-P384-clause-ok : goal.returns-in-P384-clause-ok
 returns-in-P384-clause-ok c =
-    wrote c.encode-in-P384.result c.encode-in-P384.new.out.items c.args.out.now.items _ (p384 c.in-P384.point.now) (key_of c.args.key.now) c.name-name.result.now c.in-P384.ensures (c.name-name.ensures ∙ ap name_of c.kind.ensures)
+    wrote c.encode-in-P384.result c.encode-in-P384.new.out.items c.args.out.now.items _ (p384 c.in-P384.point.now) (key_of c.args.key.now) c.name-name.result.now c.in-P384.ensures (c.name-name.ensures ∙ ap key_name_of c.kind.ensures)
     (ap (λ (t : List ℕ). string c.name-name.result.now ++ (string t ++ string c.in-P384.point.now)) c.name-in-P384.ensures) c.encode-in-P384.ensures.ok
 
 pub returns-in-P521-clause-ok : goal.returns-in-P521-clause-ok
 returns-in-P521-clause-ok c =
-    wrote c.encode-in-P521.result c.encode-in-P521.new.out.items c.args.out.now.items _ (p521 c.in-P521.point.now) (key_of c.args.key.now) c.name-name.result.now c.in-P521.ensures (c.name-name.ensures ∙ ap name_of c.kind.ensures)
+    wrote c.encode-in-P521.result c.encode-in-P521.new.out.items c.args.out.now.items _ (p521 c.in-P521.point.now) (key_of c.args.key.now) c.name-name.result.now c.in-P521.ensures (c.name-name.ensures ∙ ap key_name_of c.kind.ensures)
     (ap (λ (t : List ℕ). string c.name-name.result.now ++ (string t ++ string c.in-P521.point.now)) c.name-in-P521.ensures) c.encode-in-P521.ensures.ok
 
 pub returns-in-Ed25519-clause-ok : goal.returns-in-Ed25519-clause-ok
 returns-in-Ed25519-clause-ok c =
-    wrote c.encode-in-Ed25519.result c.encode-in-Ed25519.new.out.items c.args.out.now.items _ (ed25519 c.in-Ed25519.public.now) (key_of c.args.key.now) c.name-name.result.now c.in-Ed25519.ensures (c.name-name.ensures ∙ ap name_of c.kind.ensures)
+    wrote c.encode-in-Ed25519.result c.encode-in-Ed25519.new.out.items c.args.out.now.items _ (ed25519 c.in-Ed25519.public.now) (key_of c.args.key.now) c.name-name.result.now c.in-Ed25519.ensures (c.name-name.ensures ∙ ap key_name_of c.kind.ensures)
     refl c.encode-in-Ed25519.ensures.ok
 
 pub returns-in-SkP256-clause-ok : goal.returns-in-SkP256-clause-ok
 returns-in-SkP256-clause-ok c =
-    wrote c.encode-in-SkP256.result c.encode-in-SkP256.new.out.items c.args.out.now.items _ (sk_p256 c.in-SkP256.point.now c.in-SkP256.application.now) (key_of c.args.key.now) c.name-name.result.now c.in-SkP256.ensures (c.name-name.ensures ∙ ap name_of c.kind.ensures)
+    wrote c.encode-in-SkP256.result c.encode-in-SkP256.new.out.items c.args.out.now.items _ (sk_p256 c.in-SkP256.point.now c.in-SkP256.application.now) (key_of c.args.key.now) c.name-name.result.now c.in-SkP256.ensures (c.name-name.ensures ∙ ap key_name_of c.kind.ensures)
     (ap (λ (t : List ℕ). string c.name-name.result.now ++ (string t ++ (string c.in-SkP256.point.now ++ string c.in-SkP256.application.now))) c.name-in-SkP256.ensures) c.encode-in-SkP256.ensures.ok
 
 pub returns-in-SkEd25519-clause-ok : goal.returns-in-SkEd25519-clause-ok
 returns-in-SkEd25519-clause-ok c =
-    wrote c.encode-in-SkEd25519.result c.encode-in-SkEd25519.new.out.items c.args.out.now.items _ (sk_ed25519 c.in-SkEd25519.public.now c.in-SkEd25519.application.now) (key_of c.args.key.now) c.name-name.result.now c.in-SkEd25519.ensures (c.name-name.ensures ∙ ap name_of c.kind.ensures)
+    wrote c.encode-in-SkEd25519.result c.encode-in-SkEd25519.new.out.items c.args.out.now.items _ (sk_ed25519 c.in-SkEd25519.public.now c.in-SkEd25519.application.now) (key_of c.args.key.now) c.name-name.result.now c.in-SkEd25519.ensures (c.name-name.ensures ∙ ap key_name_of c.kind.ensures)
     refl c.encode-in-SkEd25519.ensures.ok

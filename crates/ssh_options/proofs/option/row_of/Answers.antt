@@ -2,19 +2,19 @@ use Rattle.std.proofs.Common.{rules, tests, option_map, sym, ap, ◌∙◌}
 use Rattle.std.proofs.lemmas.Iterator.{YieldsList-from_slice}
 use Rattle.std.proofs.lemmas.Iterator.Consumers.{YieldsList-from_copied}
 use Rattle.std.proofs.lemmas.Iterator.Search.{find_from_yields_List}
-use Rattle.ssh_options.specs.OptionNames.{same_option, row_of}
+use Rattle.ssh_options.specs.OptionNames.{same_option, option_row}
 use Rattle.ssh_options.specs.OptionTexts.{table_row}
 use Rattle.ssh_options.proofs.RowLemmas.{row-found, some_row}
 use Rattle.ssh_options.proofs.option.row_of.Goals as goal
 
 pub unwrap-requires : goal.unwrap-requires
-unfolding row_of
+unfolding option_row
 unwrap-requires c =
     let found = find_from_yields_List (λ row. same_option row.1 c.args.option) _ _ c.find.result c.find.ensures.ran (YieldsList-from_copied (YieldsList-from_slice c.options.result.now cc)) (λ x b q k. search (rules, tests)) in
     some_row c.args.option c.find.result (row-found (λ row. same_option row.option c.args.option) c.options.result.now c.find.result c.options.ensures found)
 
 pub returns : goal.returns
-unfolding row_of
+unfolding option_row
 returns c =
     let found = find_from_yields_List (λ row. same_option row.1 c.args.option) _ _ c.find.result c.find.ensures.ran (YieldsList-from_copied (YieldsList-from_slice c.options.result.now cc)) (λ x b q k. search (rules, tests)) in
     sym (row-found (λ row. same_option row.option c.args.option) c.options.result.now c.find.result c.options.ensures found) ∙ ap (option_map table_row) c.unwrap.ensures

@@ -1,6 +1,6 @@
 use Rattle.std.proofs.Common.{[], ◌∷◌}
 use Rattle.std.proofs.lemmas.Result.{err_from_is_err_and}
-use Rattle.ssh_lines.specs.KeyPart.{base64}
+use Rattle.ssh_names.specs.Names.{base64}
 use Rattle.ssh_rewriting.proofs.Kept.{keeps_three}
 use Rattle.ssh_rewriting.proofs.key_text.put_key.Goals as goal
 

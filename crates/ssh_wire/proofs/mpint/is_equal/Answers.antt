@@ -1,5 +1,5 @@
 use Rattle.std.proofs.Common.{arith, ◌∙◌}
-use Rattle.ssh_wire.specs.MpintLaws.{same_number}
+use Rattle.ssh_wire.proofs.MpintLemmas.{same_number}
 use Rattle.ssh_wire.proofs.mpint.is_equal.Goals as goal
 
 pub returns : goal.returns

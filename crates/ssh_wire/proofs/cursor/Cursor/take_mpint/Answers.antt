@@ -1,6 +1,6 @@
 use Rattle.std.proofs.Common.{◌≡◌, Err, rules}
 use Rattle.ssh_wire.specs.Reading.{mpint_at}
-use Rattle.ssh_wire.specs.MpintLaws.{mpint_is_refused}
+use Rattle.ssh_wire.proofs.MpintLemmas.{mpint_is_refused}
 use Rattle.ssh_wire.proofs.cursor.Cursor.take_mpint.Goals as goal
 
 pub returns-then-not-is_least-clause-refused : goal.returns-then-not-is_least-clause-refused

@@ -1,5 +1,6 @@
 use Rattle.std.proofs.Common.{arith, sym, ◌∙◌}
-use Rattle.ssh_wire.specs.MpintLaws.{mpint_bytes-natural, not_least_none, negative_none}
+use Rattle.ssh_wire.proofs.MpintLemmas.{not_least_none, negative_none}
+use Rattle.ssh_wire.specs.MpintLaws.{mpint_bytes-natural}
 use Rattle.ssh_wire.proofs.mpint.Mpint.new.Goals as goal
 use Rattle.ssh_wire.proofs.mpint.Mpint.new.Goals.{else-is_least-via-then-is_least+else-is_not_negative, else-is_least-via-else-is_least}
 

@@ -1,0 +1,27 @@
+-- What stands at the front of bytes: the text that was read there, or no value's spelling.
+use Rattle.std.proofs.Common.{◌≡◌, ℕ, ◌+◌, ◌<◌, List, ◌++◌, length, get_or}
+use Rattle.ssh_wire.specs.declared.error.WireError.{WireError}
+use Rattle.ssh_wire.specs.Position.{Position}
+
+-- each of them is a byte
+abbrev pub IsBytes : List ℕ → Type 0
+IsBytes bytes = (i : ℕ) → get_or bytes i 0 < 256
+
+-- the text lies at the first position, and the second one is after it
+pub record Took (before : Position) (text : List ℕ) (after : Position) : Type 0 where
+  pub parts : before.rest ≡ text ++ after.rest
+  pub place : after.place ≡ before.place + length text
+  pub rest_fits : IsBytes after.rest
+
+-- some value in its range has its spelling at the front of the bytes
+pub record Begins {A : Type 0} (spelling : A → List ℕ) (Fits : A → Type 0) (bytes : List ℕ) : Type 0 where
+  pub value : A
+  pub fits : Fits value
+  pub rest : List ℕ
+  pub begins : bytes ≡ spelling value ++ rest
+
+-- no value is spelled where the reader stands: the fault is there, and there the reader stays
+pub record IsRefused {A : Type 0} (spelling : A → List ℕ) (Fits : A → Type 0) (before : Position) (e : WireError) (after : Position) : Type 0 where
+  pub none : ¬ Begins spelling Fits before.rest
+  pub place : e.place ≡ before.place
+  pub stays : after ≡ before
