@@ -1,6 +1,6 @@
 -- Key type, base64 key and comment, the part that the lines of both files share (sshd(8)).
 use Rattle.std.specs.Prelude.{◌≡◌, ℕ, Bool, true, false, ◌||◌, if◌then◌else◌, List, [], ◌∷◌, ◌++◌, bytes_eq, Result, Ok, Err}
-use Rattle.base64.specs.GeneralPurpose.{encode_of, decode_of, IsBytes}
+use Rattle.base64.specs.GeneralPurpose.{decode_of, IsBytes}
 use Rattle.base64.specs.Engines.{standard}
 use Rattle.base64.specs.declared.decode.DecodeError.{DecodeError}
 use Rattle.ssh_keys.specs.declared.kind.KeyKind.{KeyKind}
@@ -12,6 +12,7 @@ use Rattle.ssh_keys.specs.PublicKey.{PublicKey, kind_of, key_blob, IsKey}
 use Rattle.ssh_keys.specs.KeyReading.{key_in}
 use Rattle.ssh_options.specs.declared.cause.LineCause.{LineCause}
 use Rattle.ssh_options.specs.declared.cause.LineCause.TheVariants as causes
+use Rattle.ssh_names.specs.Names.{base64}
 use Rattle.ssh_text.specs.Text.{skip_blanks, first_word, next_field, after_word, comment_of, IsGap, SpellsTail, IsComment}
 
 -- a key, and the comment after it
