@@ -48,7 +48,7 @@ pub record RevokesBytes (line revoked : List ℕ) : Type 0 where
   pub bytes : IsBytes revoked
   pub spelled : fourth_field line ≡ base64 revoked
 
--- The field is missing, or it is the base64 of no bytes.
+-- The field is missing, or there are no bytes whose base64 it is.
 abbrev pub HasNoBytes : List ℕ → Type 0
 HasNoBytes field = (field ≡ []) ⊎ ((bytes : List ℕ) → IsBytes bytes → ¬ (field ≡ base64 bytes))
 

@@ -1,5 +1,6 @@
 -- The first refusal of an offer, by what stands in its blobs: each case says what was read and found good before it.
-use Rattle.std.specs.Prelude.{◌≡◌, ◌≢◌, ◌⊎◌, ℕ, List, Ok, Err}
+use Rattle.std.specs.Prelude.{◌≡◌, ◌≢◌, ◌⊎◌, ◌<◌, ℕ, List, Ok, Err}
+use Rattle.std.specs.List.{AllByRecursion}
 use Rattle.ssh_wire.specs.declared.error.WireError.{WireError}
 use Rattle.ssh_wire.specs.Stands.{BeginsString}
 use Rattle.ssh_keys.specs.declared.kind.KeyKind.{KeyKind}
@@ -110,6 +111,10 @@ IsLoginRefusal q e =
     ⊎ (BadlyPaired q e
     ⊎ (BadlyCertified q e
     ⊎ BadlyAddressed q e))))
+
+-- each of the numbers is a byte
+abbrev pub AreBytes : List ℕ → Type 0
+AreBytes text = AllByRecursion (λ c. c < 256) text
 
 -- what a login claims that is not refused
 pub record IsLoginClaim (q : Login) (claim : LoginClaim) : Type 0 where

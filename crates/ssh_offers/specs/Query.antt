@@ -7,24 +7,34 @@ use Rattle.ssh_offers.specs.declared.query.HostQuery.{HostQuery}
 use Rattle.ssh_offers.specs.declared.query.LoginQuery.{LoginQuery}
 
 pub record Login : Type 0 where
+  -- the blob of a plain key or of a certificate, and that of the signature over the login bytes (RFC 4252 section 7)
   pub offered : List ℕ
   pub signature : List ℕ
+  -- the name of the public key algorithm, the session identifier and the user's name, as the login bytes have them
   pub algorithm : List ℕ
   pub session : List ℕ
   pub user : List ℕ
+  -- the client: its host name, where one is known, and the text of its address
   pub host : Option (List ℕ)
   pub address : List ℕ
+  -- seconds since 1970-01-01 in UTC
   pub now : ℕ
+  -- that of expiry times which name none
   pub zone : TimeZone
+  -- whether a certificate without principals is for all or for none
   pub empty_principals : EmptyPrincipals
+  -- how many bits the number n of an RSA key has at least
   pub rsa_minimum : ℕ
 
 pub record HostCheck : Type 0 where
+  -- the blob of a plain key or of a certificate, and that of the signature over the exchange hash (RFC 4253 section 8)
   pub offered : List ℕ
   pub signature : List ℕ
   pub exchange_hash : List ℕ
+  -- the host as the client names it, and its port
   pub host : List ℕ
   pub port : ℕ
+  -- as of a login
   pub now : ℕ
   pub empty_principals : EmptyPrincipals
   pub rsa_minimum : ℕ

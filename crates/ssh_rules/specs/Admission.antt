@@ -65,7 +65,8 @@ pub record CriticalMet (e : AuthEntry) (address : Address) (c : Certificate) : T
   -- and a forced command is the line's, if the line forces one.
   pub command : OfText ForceCommand c (λ own. (line : List ℕ) → setting Command e.options ≡ Some line → line ≡ own)
 
--- an entry of an authorized_keys file admits a login
+-- An entry of an authorized_keys file admits a login. (That a security key was touched, and verified the user, a grant asks
+-- beside this.)
 pub record AdmitsLogin (e : AuthEntry) (claim : LoginClaim) : Type 0 where
   -- It holds the offered key, or that of the certificate's signer,
   pub key : HoldsKey e (subject claim.offer)

@@ -27,7 +27,8 @@ abbrev pub Serves : EmptyPrincipals → Option (List ℕ) → List ℕ → Certi
 Serves empty (Some list) name c = (listed : List ℕ) × Contains (listed_names list) listed × (listed ≢ []) × HasPrincipal c listed
 Serves empty None name c = IsForAll empty c ⊎ HasPrincipal c name
 
--- the certificate is of this kind, from its first moment on and before its last, for a principal that is asked for
+-- The certificate is of this kind, in force from `valid after` on and no longer at `valid before`, and for a principal that is
+-- asked for.
 pub record InForce (kind now : ℕ) (empty : EmptyPrincipals) (list : Option (List ℕ)) (name : List ℕ) (c : Certificate) : Type 0 where
   pub of_kind : c.kind_number ≡ kind
   pub begun : c.after ≤ now

@@ -36,7 +36,8 @@ marks_authority CertAuthority = true
 abbrev pub IsHostInForce : HostCheck → Certificate → Type 0
 IsHostInForce q c = InForce host_certificate q.now q.empty_principals None (principal_of q) c
 
--- No critical option is known of a host's certificate (this project's rule).
+-- It has no critical option: none is defined for certificates of hosts (PROTOCOL.certkeys), and one that is not known must
+-- not be passed over.
 abbrev pub InsistsOnNothing : Certificate → Type 0
 InsistsOnNothing c = c.critical ≡ []
 
