@@ -1,12 +1,12 @@
 #!/usr/bin/env python3
 """Counts what a reader has to read to know what a grant means: the definitions that the clause `means` of a login and of a
-host's key comes to, with those that say which claim was read. Compares the counts, and the files that they stand in, with
-docs/REVIEW.md, so that they cannot grow unseen; and each of their words has to be defined once in all of specs/.
+host's key comes to, with those that say which claim was read. Compares the counts, the files that they stand in and the
+list of them with docs/REVIEW.md, so that they cannot grow unseen; and each of their words has to be defined once in all of specs/.
 
 usage: closure.py [--list]
 
 A definition is counted with its lines, without comments and blank lines; what the kit defines is not counted. By --list
-the definitions are printed, file by file. The last line is 'N passed, M failed'; the status is 0 where nothing failed."""
+the definitions of both are printed, file by file, as docs/REVIEW.md has them. The last line is 'N passed, M failed'; the status is 0 where nothing failed."""
 import collections
 import pathlib
 import re
@@ -22,7 +22,10 @@ ROOTS = {
 USE = re.compile(r"(?:pub )?use Rattle\.([\w.]+?)(?:\.\{(.*)\}| as (\w+))?$")
 HEAD = re.compile(r"(?:(?:abbrev|unfoldable|pub|record|data) +)*([^\s:({]+) *[:({]")
 NOT_A_HEAD = (" ", "--", "use ", "pub use ", "pub mod ", "mod ", "infix")
-WORD = re.compile(r"[A-Za-z_◌>=][\w◌>='-]*")
+# Not a field, which stands after a dot.
+WORD = re.compile(r"(?<![\w.])[A-Za-z_◌>=][\w◌>='-]*")
+# The name of a record's field, where it is declared.
+FIELD = re.compile(r"^ +pub [\w-]+ :")
 ROW = re.compile(r"^\| `(ssh_\w+)/specs/(\w+)\.antt` \|", re.MULTILINE)
 COUNT = re.compile(r"^\| (\w+) \| (\d+) \| (\d+) \| (\d+) \| (\d+) \|$", re.MULTILINE)
 
@@ -80,7 +83,8 @@ def closure(roots, known):
             continue
         seen.add(found)
         module = known[crate, file]
-        for word in set(WORD.findall(" ".join(module.definitions[name]))):
+        lines = (FIELD.sub("", line) for line in module.definitions[name])
+        for word in set(WORD.findall(" ".join(lines))):
             if word in module.imports:
                 place, old = module.imports[word]
                 target = old and place_of(old, place, known)
@@ -107,12 +111,15 @@ def said_twice(found, known):
     return {name: places[name] for name in sorted({name for _, _, name in found}) if len(places[name]) > 1}
 
 
-def show(found):
-    by_file = collections.defaultdict(list)
+def listing(found):
+    """The definitions, a line for each file."""
+    by_file = collections.defaultdict(set)
     for crate, file, name in found:
-        by_file[crate, file].append(name)
-    for (crate, file), names in sorted(by_file.items()):
-        print(f"  {crate}/specs/{file}.antt: {', '.join(sorted(names))}")
+        by_file[crate, file].add(name)
+    return "".join(
+        f"- `{crate}/specs/{file}.antt`: {', '.join(f'`{name}`' for name in sorted(names))}\n"
+        for (crate, file), names in sorted(by_file.items())
+    )
 
 
 def main():
@@ -128,8 +135,6 @@ def main():
         reached |= {(crate, file) for crate, file, _ in found}
         counts = measure(found, known)
         print(f"{name}: {counts[0]} definitions, {counts[1]} lines, {counts[2]} files, {counts[3]} that compute")
-        if "--list" in sys.argv:
-            show(found)
         good = told.get(name) == counts
         passed, failed = passed + good, failed + (not good)
         if not good:
@@ -138,6 +143,12 @@ def main():
         failed += 1
         print(f"FAILED {crate}/specs/{file}.antt is " + ("not in docs/REVIEW.md" if (crate, file) in reached else "in docs/REVIEW.md, and nothing comes to it"))
     passed += len(reached & listed)
+    if "--list" in sys.argv:
+        print(listing(words), end="")
+    good = listing(words) in text
+    passed, failed = passed + good, failed + (not good)
+    if not good:
+        print("FAILED docs/REVIEW.md has another list of the definitions than --list prints")
     twice = said_twice(words, known)
     passed += len(words) - len(twice)
     for name, files in twice.items():
