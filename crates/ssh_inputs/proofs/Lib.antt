@@ -7,5 +7,7 @@ mod LineReading
 mod ValueLemmas
 pub mod PieceLemmas
 mod VouchedLemmas
+mod SeekerLemmas
+mod SeekingLemmas
 pub mod SourceLemmas
 pub mod TurnLemmas

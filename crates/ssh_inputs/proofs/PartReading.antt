@@ -1,5 +1,5 @@
 -- The first part of standard input, as it is being read.
-use Rattle.std.proofs.Common.{◌≡◌, ◌++◌, ℕ, Bool, true, List, Option, Some, None}
+use Rattle.std.proofs.Common.{◌≡◌, ◌++◌, ℕ, Bool, true, List, length, Option, Some, None}
 use Rattle.ssh_inputs.specs.SourceState.{SourceState, next_choice, standard_input}
 use Rattle.ssh_inputs.specs.Parts.{cut_at_empty}
 
@@ -8,3 +8,7 @@ abbrev pub IsReadingPart : SourceState → Bool → List ℕ → Option SourceSt
 IsReadingPart s fresh got None = ⊥
 IsReadingPart s fresh got (Some t) = ((cut_at_empty true s.input).0 ≡ got ++ (cut_at_empty fresh t.input).0)
     × ((cut_at_empty true s.input).1 ≡ (cut_at_empty fresh t.input).1) × (t ≡ record s { input = t.input; chosen = standard_input; choices = next_choice s.choices })
+
+-- a keeper took so many bytes of it
+abbrev pub IsTakingPart : (List ℕ → Type 0) → ℕ → SourceState → Bool → Option SourceState → Type 0
+IsTakingPart took count s fresh t = (got : List ℕ) × took got × (length got ≡ count) × IsReadingPart s fresh got t

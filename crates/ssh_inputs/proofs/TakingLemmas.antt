@@ -3,10 +3,9 @@ use Rattle.std.proofs.Common.{◌≡◌, ◌∙◌, ◌++◌, ◌+◌, ◌≤◌
 use Rattle.std.proofs.lemmas.List.{append_assoc, length-append, length-take-le, take_all}
 use Rattle.std.proofs.lemmas.Bool.{ltb-false}
 use Rattle.ssh_text.specs.Text.{file_limit}
-use Rattle.ssh_inputs.specs.Parts.{after_whole}
 use Rattle.ssh_inputs.specs.Loading.{Loads, LoadsPart, within_limit}
 use Rattle.ssh_inputs.specs.declared.read.ReadError.{ReadError}
-use Rattle.ssh_inputs.specs.SourceState.{Chosen, IfTells, ReadsKnown, SourceState, bytes_at, choosing, left_of, left_with, named_file, nothing, standard_input}
+use Rattle.ssh_inputs.specs.SourceState.{Chosen, IfTells, ReadsKnown, SourceState, choosing, left_of, left_with, named_file, nothing, standard_input}
 use Rattle.ssh_inputs.proofs.Reading.{IsReading}
 
 -- it took so many bytes, and what is left are the others
@@ -53,11 +52,11 @@ within-all (Some bytes) file got h e =
     let short : length bytes ≤ file_limit = ltb-false file_limit (length bytes) within.0 in
     h ∙ ap (λ b. Some b) (sym (e ∙ take_all file_limit file (subst (λ b. length b ≤ file_limit) within.1 short)))
 
-pub whole_loaded : {V : Type 0} (view : V → List ℕ) (name : List ℕ) (o t : Option SourceState) (r : Result V ReadError)
-    → IfTells o (λ s. LoadsPart (λ file v. view v ≡ take file_limit file) name (bytes_at s name) (after_whole s name) s t r)
-    → IfTells o (λ s. Loads view name (bytes_at s name) (after_whole s name) s t r)
-whole_loaded view name None t r h = tt
-whole_loaded view name (Some s) t (Err e) h = h
-whole_loaded view name (Some s) t (Ok v) h = λ counts.
-    let ((file, is, part), left) = h counts in
-    (within-all (bytes_at s name) file (view v) is part, left)
+pub whole_loaded : {V : Type 0} (view : V → List ℕ) (name : List ℕ) (bytes : SourceState → Option (List ℕ)) (left : SourceState → SourceState) (o t : Option SourceState) (r : Result V ReadError)
+    → IfTells o (λ s. LoadsPart (λ file v. view v ≡ take file_limit file) name (bytes s) (left s) s t r)
+    → IfTells o (λ s. Loads view name (bytes s) (left s) s t r)
+whole_loaded view name bytes left None t r h = tt
+whole_loaded view name bytes left (Some s) t (Err e) h = h
+whole_loaded view name bytes left (Some s) t (Ok v) h = λ counts.
+    let ((file, is, part), rest) = h counts in
+    (within-all (bytes s) file (view v) is part, rest)

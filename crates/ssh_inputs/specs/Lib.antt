@@ -4,6 +4,8 @@ pub mod Values
 pub mod Salts
 pub mod Words
 pub mod VouchFile
+pub mod Seeking
+pub mod Seekers
 pub mod Loading
 pub mod FilesInTurn
 pub mod Samples

@@ -8,6 +8,8 @@ mod part;
 mod read;
 mod salts;
 mod samples;
+mod seek;
+mod seeker;
 mod values;
 mod vouch;
 mod words;
@@ -18,6 +20,7 @@ pub use files::Files;
 pub use part::{read_digest, read_front, read_past, read_top_line};
 pub use read::{ReadError, read_first_line, read_vouch_file, read_whole};
 pub use salts::read_salts;
+pub use seek::{Found, seek_vouched};
 pub use values::{
     is_short, read_bits, read_empty_principals, read_hex, read_number, read_port, read_short_hex,
 };

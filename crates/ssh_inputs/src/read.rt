@@ -1,13 +1,14 @@
 //! Reading files whole, and the parts of standard input.
 
-ghost use Rattle.std.specs.Prelude.{◌≡◌, ◌==◌, ◌&&◌, ◌≤◌, length, IfOk, Some, true};
+ghost use Rattle.std.specs.Prelude.{◌≤◌, length, IfOk};
 ghost use Rattle.ssh_text.specs.Text.{file_limit};
-ghost use Rattle.ssh_inputs.specs.SourceState.{bytes_at, dash, IfTells};
-ghost use Rattle.ssh_inputs.specs.Parts.{after_part, after_reading, after_whole, cut_at_empty, part_at};
+ghost use Rattle.ssh_inputs.specs.SourceState.{bytes_at, IfTells};
+ghost use Rattle.ssh_inputs.specs.Parts.{after_part, after_whole, part_at};
 ghost use Rattle.ssh_inputs.specs.Loading.{KeepsOthers, Loads, LoadsLine};
 
 use crate::files::Files;
-use crate::part::read_front;
+use crate::keeper::Front;
+use crate::part::{read_front, take_vouch_file};
 use ssh_text::{FILE_LIMIT, LINE_LIMIT};
 use std::alloc::Global;
 
@@ -34,48 +35,6 @@ pub fn read_whole<F: Files>(alloc: Global, files: &mut F, name: &str) -> Result<
     read_front(alloc, files, name, FILE_LIMIT)
 }
 
-/// Whether this byte ends an empty line.
-fn ends_part(fresh: bool, byte: u8) -> bool
-    ensures { result ≡ (fresh && byte == 10) }
-{
-    fresh && byte == b'\n'
-}
-
-/// The bytes of standard input up to the end of its first empty line.
-fn read_part<F: Files>(alloc: Global, files: &mut F) -> Result<Vec<u8>, ReadError>
-    ensures short { IfOk result (λ v. length v.items ≤ file_limit) }
-    ensures bytes { IfTells (F.source_state files.old) (λ s.
-        Loads (λ v. v.items) dash (Some (cut_at_empty true s.input).0)
-        (after_reading s (cut_at_empty true s.input).1) s (F.source_state files.new) result) }
-{
-    if !files.choose("-") {
-        return Err(ReadError::Missing);
-    }
-    let mut bytes = Vec::new(alloc);
-    let mut fresh = true;
-    let mut piece = [0u8; 1];
-    while bytes.len() <= FILE_LIMIT {
-        match files.read_chosen(&mut piece) {
-            Ok(0) => return Ok(bytes),
-            Ok(_) => {
-                let byte = piece[0];
-                if bytes.push(byte).is_err() {
-                    return Err(ReadError::Memory);
-                }
-                if ends_part(fresh, byte) {
-                    if bytes.len() > FILE_LIMIT {
-                        return Err(ReadError::TooLong);
-                    }
-                    return Ok(bytes);
-                }
-                fresh = byte == b'\n';
-            }
-            Err(_) => return Err(ReadError::Failed),
-        }
-    }
-    Err(ReadError::TooLong)
-}
-
 /// The bytes of a vouch file; of standard input, its part up to the first empty line.
 pub fn read_vouch_file<F: Files>(
     alloc: Global,
@@ -88,11 +47,9 @@ pub fn read_vouch_file<F: Files>(
         Loads (λ v. v.items) name.now (part_at s name.now) (after_part s name.now) s
         (F.source_state files.new) result) }
 {
-    if name == "-" {
-        read_part(alloc, files)
-    } else {
-        read_whole(alloc, files, name)
-    }
+    let mut front = Front::new(alloc, FILE_LIMIT);
+    take_vouch_file(files, name, &mut front)?;
+    Ok(front.bytes)
 }
 
 /// The first line of standard input, without its LF.

@@ -1,0 +1,10 @@
+use Rattle.std.proofs.lemmas.Bool.{ne_eqb}
+use Rattle.ssh_inputs.specs.Seeking.{sought_of}
+use Rattle.ssh_inputs.proofs.SeekerLemmas.{byte_taken}
+use Rattle.ssh_inputs.proofs.seeker.Seeker.take_byte.Goals as goal
+
+pub returns-else-byte-eq10 : goal.returns-else-byte-eq10
+returns-else-byte-eq10 c text =
+    let self = c.args.self.now in
+    byte_taken self.fault self.found (sought_of self.sought) self.number self.place c.next_place-self.result c.args.byte text
+    (ne_eqb c.args.byte 10 c.if-byte-eq10.false) c.next_place-self.ensures.begun c.next_place-self.ensures.rest

@@ -1,0 +1,12 @@
+use Rattle.std.proofs.Common.{◌≡◌, ◌∙◌, ◌==◌, ◌∷◌, false, sym}
+use Rattle.std.proofs.lemmas.Bool.{ne_eqb}
+use Rattle.ssh_inputs.specs.Seeking.{sought_of}
+use Rattle.ssh_inputs.proofs.SeekerLemmas.{line_begun}
+use Rattle.ssh_inputs.proofs.seeker.next_place.Goals as goal
+
+pub returns-in-Start-2-clause-rest : goal.returns-in-Start-2-clause-rest
+returns-in-Start-2-clause-rest c text =
+    let kept : (c.args.byte == 35) ≡ false = ne_eqb c.args.byte 35 c.if-byte-eq35.false in
+    let first = c.first_field.ensures in
+    let begun = line_begun c.args.sought c.first_field.result (c.args.byte ∷ text) kept first.name first.digits first.equal first.left in
+    rw c.in-Start-2.is (begun ∙ (c.next_in_field.ensures text ∙ sym (c.in_field.ensures.rest (sought_of c.args.sought) text)))

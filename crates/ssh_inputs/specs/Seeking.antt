@@ -1,0 +1,25 @@
+-- Which of the signatures that are sought a vouch file vouches for (this project's rule).
+use Rattle.std.specs.Prelude.{◌≡◌, ℕ, Bool, false, List, Option, Some, None, Result, Ok, Err, option_map}
+use Rattle.std.specs.Borrow.{Bor}
+use Rattle.ssh_offers.specs.declared.query.Signed.{Signed}
+use Rattle.ssh_offers.specs.Vouching.{is_vouched}
+use Rattle.ssh_inputs.specs.declared.seek.Found.{Found}
+use Rattle.ssh_inputs.specs.VouchFile.{vouched_of}
+
+-- a signature that is sought, if one is
+abbrev pub sought_of : Option (Bor Signed) → Option Signed
+sought_of sought = option_map (λ s. s.now) sought
+
+-- whether what is sought is among these signatures: where nothing is sought, nothing is found
+abbrev pub is_among : Option Signed → List Signed → Bool
+is_among None vouched = false
+is_among (Some signed) vouched = is_vouched vouched signed
+
+-- which of two signatures are among these
+abbrev pub AreFound : Option Signed → Option Signed → List Signed → Found → Type 0
+AreFound first second vouched found = (found.first ≡ is_among first vouched) × (found.second ≡ is_among second vouched)
+
+-- what a vouch file with these bytes tells of two signatures: which of them it vouches for, or its first line that spells no triple
+abbrev pub TellsOf : Option Signed → Option Signed → List ℕ → Result Found ℕ → Type 0
+TellsOf first second file (Ok found) = (vouched : List Signed) × (vouched_of file ≡ Ok vouched) × AreFound first second vouched found
+TellsOf first second file (Err n) = vouched_of file ≡ Err n
