@@ -92,19 +92,19 @@ told_by vouch name bytes read s v is h =
 pub left_by : (vouch : Option (List ℕ)) (name : List ℕ) (s t : SourceState) → vouch ≡ Some name → IsLeft s (after_part s name) (Some t) → Alike t (after_vouching vouch s)
 left_by vouch name s t v h = subst (λ z. Alike t (after_vouching z s)) (sym v) (left-alike s (after_part s name) t refl h)
 
--- a vouch file that was read
-pub vouch_responds : {R E : Type 0} (view : R → Shown) (f : AuditFiles) (by : Deciding) (name bytes read : List ℕ) (o t u : Option SourceState) (res : Result R E) → f.vouch ≡ Some name → read ≡ bytes
-    → IfTells o (λ s. (within_limit (part_at s name) ≡ Some bytes) × IsLeft s (after_part s name) t)
-    → IfTells t (λ s. IfOk res (λ r. AuditsVouched by f.trust (or_vouch_fault (vouched_of read)) s u (view r)))
+-- a vouch file that was read, and told this
+pub vouch_responds : {R E : Type 0} (view : R → Shown) (f : AuditFiles) (by : Deciding) (name : List ℕ) (Tells : List ℕ → Type 0) (o t u : Option SourceState) (res : Result R E) → f.vouch ≡ Some name
+    → IfTells o (λ s. ((file : List ℕ) × (within_limit (part_at s name) ≡ Some file) × Tells file) × IsLeft s (after_part s name) t)
+    → ((file : List ℕ) → Tells file → IfTells t (λ s. IfOk res (λ r. AuditsVouched by f.trust (or_vouch_fault (vouched_of file)) s u (view r))))
     → IfTells o (λ s. IfOk res (λ r. Audits by f s u (view r)))
-vouch_responds view f by name bytes read None t u res v is loads h = tt
-vouch_responds view f by name bytes read (Some s) None u res v is loads h = λ counts. absurd ((loads counts).1)
-vouch_responds view f by name bytes read (Some s) (Some t) u (Err e) v is loads h = λ counts. tt
-vouch_responds view f by name bytes read (Some s) (Some t) u (Ok r) v is loads h = λ counts.
-    let load = loads counts in
-    let same : t.failures ≡ s.failures = load.1.2 in
-    after-vouch by f (or_vouch_fault (vouched_of read)) s t u (view r) (told_by f.vouch name bytes read s v is load.0) same
-    (left_by f.vouch name s t v load.1) (h (omega (arith, counts, same)))
+vouch_responds view f by name Tells None t u res v loads h = tt
+vouch_responds view f by name Tells (Some s) None u res v loads h = λ counts. absurd ((loads counts).1)
+vouch_responds view f by name Tells (Some s) (Some t) u (Err e) v loads h = λ counts. tt
+vouch_responds view f by name Tells (Some s) (Some t) u (Ok r) v loads h = λ counts.
+    let ((file, whole, tells), left) = loads counts in
+    let same : t.failures ≡ s.failures = left.2 in
+    after-vouch by f (or_vouch_fault (vouched_of file)) s t u (view r) (told_by f.vouch name file file s v refl whole) same
+    (left_by f.vouch name s t v left) (h file tells (omega (arith, counts, same)))
 
 -- no vouch file
 no-vouch : (by : Deciding) (f : AuditFiles) (s : SourceState) (u : Option SourceState) (r : Shown) → f.vouch ≡ None → AuditsFile by f.trust [] s u r → Audits by f s u r

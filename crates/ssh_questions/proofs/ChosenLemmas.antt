@@ -68,7 +68,7 @@ short : (given left : List ℕ) (x y : Decision) (e : AuditError) → if_short g
 short given left x y e h = short-by (nat_lt file_limit (length given)) given left x y e refl h
 
 -- what was returned is the answer, or memory was refused
-told : {A : Type 0} (answer result : Result A AuditError) → Gives answer result → (result ≡ Err Memory) ⊎ (result ≡ answer)
+pub told : {A : Type 0} (answer result : Result A AuditError) → Gives answer result → (result ≡ Err Memory) ⊎ (result ≡ answer)
 told answer (Ok x) h = inr (sym h)
 told answer (Err (Offer x)) h = inr (sym h)
 told answer (Err (Signature x)) h = inr (sym h)

@@ -3,4 +3,6 @@ pub mod AuditLemmas
 mod ChosenLemmas
 mod OthersLemmas
 mod QuestionLemmas
+mod RestingLemmas
+mod KeptLemmas
 mod LoginLemmas

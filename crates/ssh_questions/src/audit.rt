@@ -1,6 +1,6 @@
 //! What a trust file answers to a question, with the signatures that a vouch file vouches for.
 
-ghost use Rattle.std.specs.Prelude.{◌≡◌, Err, IfOk, OnErr, option_map};
+ghost use Rattle.std.specs.Prelude.{◌≡◌, Err, IfOk, List, OnErr, Some, option_map, ℕ};
 ghost use Rattle.ssh_offers.specs.declared.error.AuditError.TheVariants.{Read};
 ghost use Rattle.ssh_questions.specs.Audits.{Audits, DecidesReader, or_vouch_fault};
 ghost use Rattle.ssh_questions.specs.ChosenReads.{FailsOn, ReadsOn};
@@ -11,7 +11,9 @@ ghost use Rattle.ssh_questions.specs.FileAnswers.{
   IsFaultOf,
   is_memory,
 };
+ghost use Rattle.ssh_questions.specs.Resting.{RestsOn, first_of, second_of, sought_in};
 ghost use Rattle.ssh_words.specs.AskedView.{names_of};
+ghost use Rattle.ssh_inputs.specs.Seeking.{TellsOf};
 ghost use Rattle.ssh_print.specs.ResponseView.{response};
 ghost use Rattle.ssh_inputs.specs.Loading.{KeepsOthers};
 ghost use Rattle.ssh_inputs.specs.SourceState.{IfTells, bytes_at, left_of};
@@ -19,7 +21,8 @@ ghost use Rattle.ssh_inputs.specs.VouchFile.{vouched_of};
 
 use crate::chosen::ChosenFile;
 use crate::question::Question;
-use ssh_inputs::{Files, ReadError, VouchError, read_vouch_file, read_vouched};
+use crate::vouching::{first_two, kept, sought};
+use ssh_inputs::{Files, Found, ReadError, seek_vouched};
 use ssh_offers::{AuditError, Signed};
 use ssh_print::{Response, decision_response, file_fault, vouch_fault};
 use ssh_trust::Decision;
@@ -105,25 +108,49 @@ pub fn unread(alloc: Global, name: &str, fault: ReadError) -> Result<Response, A
     }
 }
 
-/// The response after the bytes of the vouch file were read.
-fn respond_bytes<Q: Question, F: Files>(
+/// The response after the vouch file was read, which told which of the evidence it vouches for, or
+/// its first line that is no triple.
+fn respond_told<Q: Question, F: Files>(
     alloc: Global,
     names: &AuditFiles<'_>,
     question: &Q,
-    bytes: &[u8],
+    evidence: &[Signed],
+    told: Result<Found, u64>,
     files: &mut F,
 ) -> Result<Response, AllocError>
-    ensures { IfTells (F.source_state files.old) (λ s. IfOk result (λ r.
+    requires evidence { evidence.now ≡ sought_in (Q.rests_on question.now) }
+    requires rests { RestsOn (Q.decides question.now) (Q.rests_on question.now) }
+    ensures { (file : List ℕ) → TellsOf (first_of evidence.now) (second_of evidence.now) file told
+        → IfTells (F.source_state files.old) (λ s. IfOk result (λ r.
         AuditsVouched (Q.decides question.entry.now) names.entry.now.trust.now
-        (or_vouch_fault (vouched_of bytes.now)) s (F.source_state files.new) (response r))) }
+        (or_vouch_fault (vouched_of file)) s (F.source_state files.new) (response r))) }
 {
-    match read_vouched(alloc, bytes) {
-        Ok(vouched) => {
-            let response = respond_vouched(alloc, names, question, &vouched, files)?;
-            Ok(response)
-        }
-        Err(VouchError::Line(number)) => vouch_fault(alloc, number),
-        Err(VouchError::Memory) => Err(AllocError),
+    match told {
+        Ok(found) => respond_vouched(alloc, names, question, kept(evidence, found), files),
+        Err(number) => vouch_fault(alloc, number),
+    }
+}
+
+/// The response to a question by the vouch file of this name.
+fn respond_sought<Q: Question, F: Files>(
+    alloc: Global,
+    names: &AuditFiles<'_>,
+    question: &Q,
+    name: &str,
+    evidence: &[Signed],
+    files: &mut F,
+) -> Result<Response, AllocError>
+    requires evidence { evidence.now ≡ sought_in (Q.rests_on question.now) }
+    requires rests { RestsOn (Q.decides question.now) (Q.rests_on question.now) }
+    requires vouch { (names_of names.now).vouch ≡ Some name.now }
+    ensures { IfTells (F.source_state files.old) (λ s. IfOk result (λ r.
+        Audits (Q.decides question.entry.now) (names_of names.entry.now) s
+        (F.source_state files.new) (response r))) }
+{
+    let (first, second) = first_two(evidence);
+    match seek_vouched(files, name, first, second) {
+        Ok(told) => respond_told(alloc, names, question, evidence, told, files),
+        Err(fault) => unread(alloc, name, fault),
     }
 }
 
@@ -140,9 +167,9 @@ pub fn respond_question<Q: Question, F: Files>(
 {
     match names.vouch {
         None => respond_vouched(alloc, names, question, &[], files),
-        Some(name) => match read_vouch_file(alloc, files, name) {
-            Ok(bytes) => respond_bytes(alloc, names, question, &bytes, files),
-            Err(fault) => unread(alloc, name, fault),
-        },
+        Some(name) => {
+            let evidence = sought(alloc, question)?;
+            respond_sought(alloc, names, question, name, evidence.as_slice(), files)
+        }
     }
 }

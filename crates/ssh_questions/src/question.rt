@@ -15,6 +15,7 @@ ghost use Rattle.ssh_questions.specs.Audits.{
   login_rests,
   refusal_of,
 };
+ghost use Rattle.ssh_questions.specs.Resting.{RestsOn};
 
 use ssh_offers::{AuditError, HostClaimView, HostQuery, Items, LoginClaimView, LoginQuery, Signed};
 use ssh_trust::{Decision, Source, evidence_of_host, evidence_of_login, host_from, login_from};
@@ -36,7 +37,9 @@ pub trait Question {
     fn evidence(&self, alloc: Global) -> Result<Items<Signed>, AuditError>
         ensures refused { RefusesAs (rests_on self.entry.now) result }
         ensures evidence { OfClaim (rests_on self.entry.now)
-            (λ evidence. Gives (Ok evidence) result) };
+            (λ evidence. Gives (Ok evidence) result) }
+        // Of all that is vouched for a decision takes only which of these signatures are.
+        ensures rests { RestsOn (decides self.entry.now) (rests_on self.entry.now) };
 
     /// The decision by what a trust file's reader has left, where these signatures are vouched for.
     /// Where the offer is refused nothing is read.
@@ -70,7 +73,7 @@ impl Question for LoginQuestion<'_> {
         LoginClaimView::read(&self.query).err()
     }
 
-    #[tactic(auto, using(crate::proofs::QuestionLemmas::rests_refused, crate::proofs::QuestionLemmas::rests_given))]
+    #[tactic(auto, using(crate::proofs::QuestionLemmas::rests_refused, crate::proofs::QuestionLemmas::rests_given, crate::proofs::RestingLemmas::login_rests_on))]
     fn evidence(&self, alloc: Global) -> Result<Items<Signed>, AuditError> {
         evidence_of_login(alloc, &self.query)
     }
@@ -94,7 +97,7 @@ impl Question for HostQuery<'_> {
         HostClaimView::read(self).err()
     }
 
-    #[tactic(auto, using(crate::proofs::QuestionLemmas::rests_refused, crate::proofs::QuestionLemmas::rests_given))]
+    #[tactic(auto, using(crate::proofs::QuestionLemmas::rests_refused, crate::proofs::QuestionLemmas::rests_given, crate::proofs::RestingLemmas::host_rests_on))]
     fn evidence(&self, alloc: Global) -> Result<Items<Signed>, AuditError> {
         evidence_of_host(alloc, self)
     }
