@@ -1,7 +1,7 @@
 -- What a change of one entry leaves of the others, and of a sum over all.
-use Rattle.std.proofs.Common.{◌≡◌, ◌∙◌, ◌+◌, ℕ, Bool, true, false, cond, List, [], ◌∷◌, Option, Some, None, BTreeMap, refl, sym, ap, subst, nat_cmp, arith}
-use Rattle.std.specs.Prelude.{bytes_eq}
-use Rattle.std.specs.BTreeMap.{UpdatesBy, get, get_by, insert_entry, is_at}
+use Rattle.std.proofs.Common.{◌≡◌, ◌∙◌, ◌+◌, ℕ, Bool, true, false, cond, List, [], ◌∷◌, ◌++◌, Option, Some, None, BTreeMap, Bor, option_copied, refl, sym, ap, subst, get_or, nat_cmp, set, arith}
+use Rattle.std.specs.Prelude.{bytes_eq, is_some}
+use Rattle.std.specs.BTreeMap.{UpdatesBy, get_by, insert_entry, is_at}
 use Rattle.std.specs.Cmp.{eq_by_cmp_equiv}
 use Rattle.std.specs.Cmp.Lexicographic.{nat_list_cmp_total, slice_cmp}
 use Rattle.std.specs.declared.cmp.Ordering.{Ordering}
@@ -14,13 +14,13 @@ use Rattle.std.specs.Result.{OnErr}
 use Rattle.std.specs.declared.result.Result.{Result}
 use Rattle.std.specs.declared.result.Result.TheVariants.{Ok, Err}
 use Rattle.std.specs.Ordering.{eq_by_cmp, is_eq, match_ordering}
-use Rattle.std.proofs.lemmas.List.Sums.{sum_by-cons}
+use Rattle.std.proofs.lemmas.List.Sums.{sum_by-append, sum_by-cons, sum_by-set}
 use Rattle.std.proofs.lemmas.Map.Text.{is_eq-slice_cmp}
 use Rattle.std.proofs.lemmas.Slice.Eq.{bytes_eq-Decides}
 use Rattle.ssh_byte_maps.specs.declared.map.ByteMap.{ByteMap}
 use Rattle.ssh_byte_maps.specs.declared.map.Place.{Place}
-use Rattle.ssh_byte_maps.specs.Entries.{IsUnchanged, entry_of, other_of, sum_of, value_at, weight_at}
-use Rattle.ssh_byte_maps.specs.Number.{number}
+use Rattle.ssh_byte_maps.specs.Entries.{IsPlace, IsUnchanged, entry_of, other_of, sum_of, value_in, weight_at}
+use Rattle.ssh_byte_maps.proofs.PlaceLemmas.{value_more, value_put, value_there}
 
 -- what holds, whatever the result is
 pub on_err : {T E : Type 0} (r : Result T E) {P : Type 0} → P → OnErr r P
@@ -108,178 +108,149 @@ sum-set g test (e ∷ es) v w a b h found = go (test e.0) refl found (sum-set g 
 
 -- ---- the entry of one text changes
 
-numbers-same : (x y : ℕ) → is_eq (nat_cmp x y) ≡ true → x ≡ y
-numbers-same x y h = grind arith
-
 module _ {V : Type 0} where
-  -- no entries
-  pub none_of : (m : ByteMap V) (text : List ℕ) → m.firsts.entries ≡ [] → m.others.entries ≡ [] → entry_of m text ≡ None
-  unfolding entry_of
-  none_of m text e f =
-      ap (λ es. option_or (lookup (is_at (λ key. slice_cmp nat_cmp text key.items)) es) (value_at (get nat_cmp m.firsts (number text)) text)) f
-      ∙ ap (λ es. value_at (lookup (is_at (nat_cmp (number text))) es) text) e
+  -- what is counted of a place
+  abbrev of_place : (List ℕ → V → ℕ) → Place V → ℕ
+  of_place weight p = weight p.text.items p.value
 
-  pub sum_of_none : (weight : List ℕ → V → ℕ) (m : ByteMap V) → m.firsts.entries ≡ [] → m.others.entries ≡ [] → sum_of weight m ≡ 0
+  abbrev of_other : (List ℕ → V → ℕ) → Vec ℕ × V → ℕ
+  of_other weight e = weight e.0.items e.1
+
+  -- no entries
+  pub none_of : (m : ByteMap V) (text : List ℕ) → m.places.items ≡ [] → m.others.entries ≡ [] → entry_of m text ≡ None
+  unfolding entry_of value_in
+  none_of m text e f =
+      ap (λ ps. option_or (value_in ps text) (other_of m text)) e
+      ∙ ap (λ es. lookup (is_at (λ key. slice_cmp nat_cmp text key.items)) es) f
+
+  pub sum_of_none : (weight : List ℕ → V → ℕ) (m : ByteMap V) → m.places.items ≡ [] → m.others.entries ≡ [] → sum_of weight m ≡ 0
   unfolding sum_of
   sum_of_none weight m e f =
-      ap (λ es. sum_by (λ (x : ℕ × Place V). weight x.1.text.items x.1.value) es + sum_by (λ (x : Vec ℕ × V). weight x.0.items x.1) m.others.entries) e
-      ∙ ap (λ es. 0 + sum_by (λ (x : Vec ℕ × V). weight x.0.items x.1) es) f
+      ap (λ ps. sum_by (of_place weight) ps + sum_by (of_other weight) m.others.entries) e
+      ∙ ap (λ es. 0 + sum_by (of_other weight) es) f
 
   -- maps of the same entries
-  pub unchanged : (m n : ByteMap V) → n.firsts.entries ≡ m.firsts.entries → n.others.entries ≡ m.others.entries → IsUnchanged m n
+  pub unchanged : (m n : ByteMap V) → n.places.items ≡ m.places.items → n.others.entries ≡ m.others.entries → IsUnchanged m n
   unfolding entry_of sum_of
   unchanged m n e f = record {
     entries = λ text.
-        ap (λ es. option_or (lookup (is_at (λ key. slice_cmp nat_cmp text key.items)) es) (value_at (get nat_cmp n.firsts (number text)) text)) f
-        ∙ ap (λ es. option_or (other_of m text) (value_at (lookup (is_at (nat_cmp (number text))) es) text)) e;
+        ap (λ ps. option_or (value_in ps text) (other_of n text)) e
+        ∙ ap (λ es. option_or (value_in m.places.items text) (lookup (is_at (λ key. slice_cmp nat_cmp text key.items)) es)) f;
     sums = λ weight.
-        ap (λ es. sum_by (λ (x : ℕ × Place V). weight x.1.text.items x.1.value) es + sum_by (λ (x : Vec ℕ × V). weight x.0.items x.1) n.others.entries) e
-        ∙ ap (λ es. sum_by (λ (x : ℕ × Place V). weight x.1.text.items x.1.value) m.firsts.entries + sum_by (λ (x : Vec ℕ × V). weight x.0.items x.1) es) f;
+        ap (λ ps. sum_by (of_place weight) ps + sum_by (of_other weight) n.others.entries) e
+        ∙ ap (λ es. sum_by (of_place weight) m.places.items + sum_by (of_other weight) es) f;
   }
 
-  same-text : (p : Place V) (text : List ℕ) → p.text.items ≡ text → value_at (Some p) text ≡ Some p.value
-  same-text p text e = ap (λ b. cond b (Some p.value) None) ((bytes_eq-Decides p.text.items text).1 e)
-
-  -- at the place of another text there is nothing for this one
-  other-text : (p : Place V) (text other : List ℕ) → p.text.items ≡ text → bytes_eq text other ≡ false → value_at (Some p) other ≡ None
-  other-text p text other e differ = ap (λ b. cond b (Some p.value) None) (ap (λ bs. bytes_eq bs other) e ∙ differ)
-
-  -- what the place of a text's number has of the texts after it is put there
-  at-number : (m n : BTreeMap ℕ (Place V)) (text : List ℕ) (p : Place V) → p.text.items ≡ text
-      → UpdatesBy nat_cmp (nat_cmp (number text)) m n (Some p)
-      → ((other : List ℕ) → bytes_eq text other ≡ false → value_at (get nat_cmp m (number text)) other ≡ None)
-      → (other : List ℕ) → value_at (get nat_cmp n (number other)) other
-      ≡ cond (bytes_eq text other) (Some p.value) (value_at (get nat_cmp m (number other)) other)
-  at-number m n text p e h free other = go (bytes_eq text other) refl
-    where
-      found : List ℕ → Option V
-      found t = value_at (get nat_cmp m (number t)) t
-
-      go : (b : Bool) → bytes_eq text other ≡ b → value_at (get nat_cmp n (number other)) other ≡ cond b (Some p.value) (found other)
-      go true t =
-          subst (λ (u : List ℕ). value_at (get nat_cmp n (number u)) u ≡ Some p.value) ((bytes_eq-Decides text other).0 t)
-          (ap (λ o. value_at o text) h.1 ∙ same-text p text e)
-      go false t = at (is_eq (nat_cmp (number text) (number other))) refl
-        where
-          at : (c : Bool) → is_eq (nat_cmp (number text) (number other)) ≡ c → value_at (get nat_cmp n (number other)) other ≡ found other
-          at true s =
-              let same : number text ≡ number other = numbers-same _ _ s in
-              ap (λ o. value_at o other) (ap (get nat_cmp n) (sym same) ∙ h.1) ∙ other-text p text other e t
-              ∙ sym (ap (λ k. value_at (get nat_cmp m k) other) (sym same) ∙ free other t)
-          at false s = ap (λ o. value_at o other) (h.2 (number other) s)
-
-  -- a text is put at the place of its number, and is not among the others
-  pub first_put : (m n : ByteMap V) (text : List ℕ) (p : Place V) → p.text.items ≡ text → n.others ≡ m.others → other_of m text ≡ None
-      → UpdatesBy nat_cmp (nat_cmp (number text)) m.firsts n.firsts (Some p)
-      → ((other : List ℕ) → bytes_eq text other ≡ false → value_at (get nat_cmp m.firsts (number text)) other ≡ None)
-      → (other : List ℕ) → entry_of n other ≡ cond (bytes_eq text other) (Some p.value) (entry_of m other)
+  -- the entry of a text: at its place, or among the others
+  pub entry_there : (m : ByteMap V) (text : List ℕ) (i : ℕ) (d : Place V) → IsPlace m.places.items text i → entry_of m text ≡ Some (get_or m.places.items i d).value
   unfolding entry_of
-  first_put m n text p e same none h free other =
-      ap (λ (others : BTreeMap (Vec ℕ) V). option_or (get_by (λ key. slice_cmp nat_cmp other key.items) others) (value_at (get nat_cmp n.firsts (number other)) other)) same
-      ∙ ap (option_or (other_of m other)) (at-number m.firsts n.firsts text p e h free other)
-      ∙ go (bytes_eq text other) refl
-    where
-      go : (b : Bool) → bytes_eq text other ≡ b
-          → option_or (other_of m other) (cond b (Some p.value) (value_at (get nat_cmp m.firsts (number other)) other)) ≡ cond b (Some p.value) (entry_of m other)
-      go true t = ap (λ o. option_or o (Some p.value)) (ap (other_of m) (sym ((bytes_eq-Decides text other).0 t)) ∙ none)
-      go false t = refl
+  entry_there m text i d place = ap (λ o. option_or o (other_of m text)) (value_there m.places.items text i place d)
+
+  pub entry_other : (m : ByteMap V) (text : List ℕ) → value_in m.places.items text ≡ None → entry_of m text ≡ other_of m text
+  unfolding entry_of
+  entry_other m text none = ap (λ o. option_or o (other_of m text)) none
+
+  -- a text that has no place, and is not among the others
+  pub entry_none : (m : ByteMap V) (text : List ℕ) (found : Option (Bor V)) → value_in m.places.items text ≡ None → option_copied found ≡ other_of m text
+      → is_some found ≡ false → entry_of m text ≡ None
+  entry_none m text None h e f = entry_other m text h ∙ sym e
+  entry_none m text (Some x) h e f = cc
+
+  front : (b : Bool) (v : V) (x y : Option V) → option_or (cond b (Some v) x) y ≡ cond b (Some v) (option_or x y)
+  front true v x y = refl
+  front false v x y = refl
+
+  -- another value at the place of a text
+  pub entry_put : (m n : ByteMap V) (text : List ℕ) (i : ℕ) (q : Place V) → IsPlace m.places.items text i → q.text.items ≡ text
+      → n.places.items ≡ set m.places.items i q → n.others ≡ m.others
+      → (other : List ℕ) → entry_of n other ≡ cond (bytes_eq text other) (Some q.value) (entry_of m other)
+  unfolding entry_of
+  entry_put m n text i q place e items same other =
+      ap (λ o. option_or (value_in n.places.items other) (get_by (λ key. slice_cmp nat_cmp other key.items) o)) same
+      ∙ ap (λ ps. option_or (value_in ps other) (other_of m other)) items
+      ∙ ap (λ o. option_or o (other_of m other)) (value_put m.places.items text i q place e other)
+      ∙ front (bytes_eq text other) q.value (value_in m.places.items other) (other_of m other)
+
+  -- one more place
+  pub entry_more : (m n : ByteMap V) (p : Place V) → n.places.items ≡ m.places.items ++ p ∷ [] → n.others ≡ m.others
+      → (other : List ℕ) → entry_of n other ≡ cond (bytes_eq p.text.items other) (Some p.value) (entry_of m other)
+  unfolding entry_of
+  entry_more m n p items same other =
+      ap (λ o. option_or (value_in n.places.items other) (get_by (λ key. slice_cmp nat_cmp other key.items) o)) same
+      ∙ ap (λ ps. option_or (value_in ps other) (other_of m other)) items
+      ∙ ap (λ o. option_or o (other_of m other)) (value_more m.places.items p other)
+      ∙ front (bytes_eq p.text.items other) p.value (value_in m.places.items other) (other_of m other)
 
   -- a text is put among the others
-  pub other_put : (m n : ByteMap V) (text : List ℕ) (value : V) → n.firsts.entries ≡ m.firsts.entries
+  pub other_put : (m n : ByteMap V) (text : List ℕ) (value : V) → value_in m.places.items text ≡ None → n.places ≡ m.places
       → UpdatesBy (λ x y. slice_cmp nat_cmp x.items y.items) (λ key. slice_cmp nat_cmp text key.items) m.others n.others (Some value)
       → (other : List ℕ) → entry_of n other ≡ cond (bytes_eq text other) (Some value) (entry_of m other)
   unfolding entry_of
-  other_put m n text value same h other =
-      ap (λ es. option_or (other_of n other) (value_at (lookup (is_at (nat_cmp (number other))) es) other)) same
-      ∙ ap (λ o. option_or o (value_at (get nat_cmp m.firsts (number other)) other)) (updated text other m.others n.others (Some value) h)
-      ∙ go (bytes_eq text other)
+  other_put m n text value none same h other =
+      ap (λ (ps : Vec (Place V)). option_or (value_in ps.items other) (other_of n other)) same
+      ∙ ap (option_or (value_in m.places.items other)) (updated text other m.others n.others (Some value) h)
+      ∙ go (bytes_eq text other) refl
     where
-      go : (b : Bool) → option_or (cond b (Some value) (other_of m other)) (value_at (get nat_cmp m.firsts (number other)) other)
-          ≡ cond b (Some value) (entry_of m other)
-      go true = refl
-      go false = refl
-
-  -- what the place of a number has of a text, if that is all that there is
-  pub entry_first : (m : ByteMap V) (text : List ℕ) → other_of m text ≡ None → entry_of m text ≡ value_at (get nat_cmp m.firsts (number text)) text
-  unfolding entry_of
-  entry_first m text none = ap (λ o. option_or o (value_at (get nat_cmp m.firsts (number text)) text)) none
-
-  pub entry_other : (m : ByteMap V) (text : List ℕ) (value : V) → other_of m text ≡ Some value → entry_of m text ≡ Some value
-  unfolding entry_of
-  entry_other m text value found = ap (λ o. option_or o (value_at (get nat_cmp m.firsts (number text)) text)) found
-
-  -- a place of another text than this
-  pub apart_there : (m : ByteMap V) (text : List ℕ) (p : Place V) → other_of m text ≡ None → Some p ≡ get nat_cmp m.firsts (number text)
-      → bytes_eq p.text.items text ≡ false → entry_of m text ≡ None
-  apart_there m text p none found differ =
-      entry_first m text none ∙ ap (λ o. value_at o text) (sym found) ∙ ap (λ b. cond b (Some p.value) None) differ
-
-  -- no place
-  pub absent_there : (m : ByteMap V) (text : List ℕ) → other_of m text ≡ None → get nat_cmp m.firsts (number text) ≡ None → entry_of m text ≡ None
-  absent_there m text none found = entry_first m text none ∙ ap (λ o. value_at o text) found
-
-  pub present_there : (m : ByteMap V) (text : List ℕ) (p : Place V) → other_of m text ≡ None → Some p ≡ get nat_cmp m.firsts (number text)
-      → p.text.items ≡ text → entry_of m text ≡ Some p.value
-  present_there m text p none found e = entry_first m text none ∙ ap (λ o. value_at o text) (sym found) ∙ same-text p text e
-
-  -- only another text stands at the place of this one's number
-  pub free_of : (m : BTreeMap ℕ (Place V)) (text : List ℕ) (p : Place V) → Some p ≡ get nat_cmp m (number text) → p.text.items ≡ text
-      → (other : List ℕ) → bytes_eq text other ≡ false → value_at (get nat_cmp m (number text)) other ≡ None
-  free_of m text p found e other differ = ap (λ o. value_at o other) (sym found) ∙ other-text p text other e differ
+      go : (b : Bool) → bytes_eq text other ≡ b
+          → option_or (value_in m.places.items other) (cond b (Some value) (other_of m other))
+          ≡ cond b (Some value) (option_or (value_in m.places.items other) (other_of m other))
+      go true t =
+          let absent : value_in m.places.items other ≡ None = subst (λ u. value_in m.places.items u ≡ None) ((bytes_eq-Decides text other).0 t) none in
+          ap (λ o. option_or o (Some value)) absent
+      go false t = refl
 
   -- ---- and the sum over all
 
-  pub sum_first : (weight : List ℕ → V → ℕ) (m n : ByteMap V) (text : List ℕ) (p q : Place V) → n.others ≡ m.others
-      → n.firsts.entries ≡ set_value (is_at (nat_cmp (number text))) m.firsts.entries q
-      → Some p ≡ get nat_cmp m.firsts (number text) → p.text.items ≡ text → q.text.items ≡ text → entry_of m text ≡ Some p.value
+  pub sum_put : (weight : List ℕ → V → ℕ) (m n : ByteMap V) (text : List ℕ) (i : ℕ) (q : Place V) → IsPlace m.places.items text i → q.text.items ≡ text
+      → n.places.items ≡ set m.places.items i q → n.others ≡ m.others
       → sum_of weight n + weight_at weight text (entry_of m text) ≡ sum_of weight m + weight text q.value
   unfolding sum_of
-  sum_first weight m n text p q same entries found e f there =
-      let now = sum-set (λ (x : ℕ × Place V). weight x.1.text.items x.1.value) (is_at (nat_cmp (number text))) m.firsts.entries p q (weight text p.value) (weight text q.value)
-      (λ k t. (ap (λ bs. weight bs p.value) e, ap (λ bs. weight bs q.value) f)) (sym found) in
-      let firsts = ap (sum_by (λ (x : ℕ × Place V). weight x.1.text.items x.1.value)) entries in
-      let others = ap (λ (o : BTreeMap (Vec ℕ) V). sum_by (λ (x : Vec ℕ × V). weight x.0.items x.1) o.entries) same in
-      let old = ap (weight_at weight text) there in
-      omega (arith, now, firsts, others, old)
+  sum_put weight m n text i q place e items same =
+      let now = sum_by-set (of_place weight) m.places.items i q q place.within in
+      let places = ap (sum_by (of_place weight)) items in
+      let others = ap (λ (o : BTreeMap (Vec ℕ) V). sum_by (of_other weight) o.entries) same in
+      let old = ap (weight_at weight text) (entry_there m text i q place) in
+      let before = ap (λ bs. weight bs (get_or m.places.items i q).value) (place.own q) in
+      let own = ap (λ bs. weight bs q.value) e in
+      omega (arith, now, places, others, old, before, own)
 
-  pub sum_first_new : (weight : List ℕ → V → ℕ) (m n : ByteMap V) (text : List ℕ) (p : Place V) → n.others ≡ m.others
-      → n.firsts.entries ≡ insert_entry nat_cmp m.firsts.entries (number text) p
-      → get nat_cmp m.firsts (number text) ≡ None → p.text.items ≡ text → entry_of m text ≡ None
+  pub sum_more_place : (weight : List ℕ → V → ℕ) (m n : ByteMap V) (text : List ℕ) (p : Place V) → n.places.items ≡ m.places.items ++ p ∷ [] → n.others ≡ m.others
+      → p.text.items ≡ text → entry_of m text ≡ None
       → sum_of weight n + weight_at weight text (entry_of m text) ≡ sum_of weight m + weight text p.value
   unfolding sum_of
-  sum_first_new weight m n text p same entries none e absent =
-      let now = sum-more (λ (x : ℕ × Place V). weight x.1.text.items x.1.value) nat_cmp m.firsts.entries (number text) p none in
-      let firsts = ap (sum_by (λ (x : ℕ × Place V). weight x.1.text.items x.1.value)) entries in
-      let others = ap (λ (o : BTreeMap (Vec ℕ) V). sum_by (λ (x : Vec ℕ × V). weight x.0.items x.1) o.entries) same in
-      let old = ap (weight_at weight text) absent in
+  sum_more_place weight m n text p items same e absent =
+      let places = ap (sum_by (of_place weight)) items ∙ sum_by-append (of_place weight) m.places.items (p ∷ []) in
+      let one = sum_by-cons (of_place weight) p [] in
+      let others = ap (λ (o : BTreeMap (Vec ℕ) V). sum_by (of_other weight) o.entries) same in
+      let before = ap (weight_at weight text) absent in
       let own = ap (λ bs. weight bs p.value) e in
-      omega (arith, now, firsts, others, old, own)
+      omega (arith, places, one, others, before, own)
 
-  pub sum_other : (weight : List ℕ → V → ℕ) (m n : ByteMap V) (text : List ℕ) (old value : V) → n.firsts ≡ m.firsts
+  pub sum_other : (weight : List ℕ → V → ℕ) (m n : ByteMap V) (text : List ℕ) (old value : V) → n.places ≡ m.places
       → n.others.entries ≡ set_value (is_at (λ key. slice_cmp nat_cmp text key.items)) m.others.entries value
       → other_of m text ≡ Some old → entry_of m text ≡ Some old
       → sum_of weight n + weight_at weight text (entry_of m text) ≡ sum_of weight m + weight text value
   unfolding sum_of
   sum_other weight m n text old value same entries found there =
-      let now = sum-set (λ (x : Vec ℕ × V). weight x.0.items x.1) (is_at (λ key. slice_cmp nat_cmp text key.items)) m.others.entries old value (weight text old) (weight text value)
+      let now = sum-set (of_other weight) (is_at (λ key. slice_cmp nat_cmp text key.items)) m.others.entries old value (weight text old) (weight text value)
       (λ key t.
       let own : key.items ≡ text = sym ((bytes_eq-Decides text key.items).0 (sym (is_eq-slice_cmp text key.items) ∙ t)) in
       (ap (λ bs. weight bs old) own, ap (λ bs. weight bs value) own)) found in
-      let firsts = ap (λ (o : BTreeMap ℕ (Place V)). sum_by (λ (x : ℕ × Place V). weight x.1.text.items x.1.value) o.entries) same in
-      let others = ap (sum_by (λ (x : Vec ℕ × V). weight x.0.items x.1)) entries in
+      let places = ap (λ (ps : Vec (Place V)). sum_by (of_place weight) ps.items) same in
+      let others = ap (sum_by (of_other weight)) entries in
       let before = ap (weight_at weight text) there in
-      omega (arith, now, firsts, others, before)
+      omega (arith, now, places, others, before)
 
-  pub sum_other_new : (weight : List ℕ → V → ℕ) (m n : ByteMap V) (text : List ℕ) (key : Vec ℕ) (value : V) → n.firsts.entries ≡ m.firsts.entries
+  pub sum_other_new : (weight : List ℕ → V → ℕ) (m n : ByteMap V) (text : List ℕ) (key : Vec ℕ) (value : V) → n.places ≡ m.places
       → n.others.entries ≡ insert_entry (λ x y. slice_cmp nat_cmp x.items y.items) m.others.entries key value
       → key.items ≡ text → other_of m text ≡ None → entry_of m text ≡ None
       → sum_of weight n + weight_at weight text (entry_of m text) ≡ sum_of weight m + weight text value
   unfolding sum_of
   sum_other_new weight m n text key value same entries e none absent =
       let gone : lookup (is_at (λ (k : Vec ℕ). slice_cmp nat_cmp key.items k.items)) m.others.entries ≡ None = subst (λ bs. other_of m bs ≡ None) (sym e) none in
-      let now = sum-more (λ (x : Vec ℕ × V). weight x.0.items x.1) (λ x y. slice_cmp nat_cmp x.items y.items) m.others.entries key value gone in
-      let firsts = ap (sum_by (λ (x : ℕ × Place V). weight x.1.text.items x.1.value)) same in
-      let others = ap (sum_by (λ (x : Vec ℕ × V). weight x.0.items x.1)) entries in
+      let now = sum-more (of_other weight) (λ x y. slice_cmp nat_cmp x.items y.items) m.others.entries key value gone in
+      let places = ap (λ (ps : Vec (Place V)). sum_by (of_place weight) ps.items) same in
+      let others = ap (sum_by (of_other weight)) entries in
       let before = ap (weight_at weight text) absent in
       let own = ap (λ bs. weight bs value) e in
-      omega (arith, now, firsts, others, before, own)
+      omega (arith, now, places, others, before, own)

@@ -1,1 +1,4 @@
+pub mod RowLemmas
+pub mod PlaceLemmas
+pub mod SeekLemmas
 pub mod EntryLemmas

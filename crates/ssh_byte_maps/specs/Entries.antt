@@ -1,37 +1,46 @@
 -- What a map from byte texts holds (this project's rule).
-use Rattle.std.specs.Prelude.{ℕ, ◌+◌, ◌≡◌, if◌then◌else◌, bytes_eq, List, Option, Some, None}
-use Rattle.std.specs.BTreeMap.{get, get_by}
+use Rattle.std.specs.Prelude.{ℕ, ◌+◌, ◌≡◌, ◌<◌, false, if◌then◌else◌, bytes_eq, get_or, length, List, [], ◌∷◌, Option, Some, None}
+use Rattle.std.specs.BTreeMap.{get_by}
 use Rattle.std.specs.Cmp.Lexicographic.{slice_cmp}
 use Rattle.std.specs.List.{sum_by}
 use Rattle.std.specs.Option.{option_or}
 use Rattle.std.specs.Ordering.{nat_cmp}
 use Rattle.ssh_byte_maps.specs.declared.map.ByteMap.{ByteMap}
 use Rattle.ssh_byte_maps.specs.declared.map.Place.{Place}
-use Rattle.ssh_byte_maps.specs.Number.{number}
 
 module _ {V : Type 0} where
-  -- the value of a text among those whose number another text has
+  -- the value at a place, if that is the text's
+  abbrev pub value_at : Place V → List ℕ → Option V
+  value_at place text = if bytes_eq place.text.items text then Some place.value else None
+
+  -- the value at the last place that is the text's
+  unfoldable pub value_in : List (Place V) → List ℕ → Option V
+  value_in [] text = None
+  value_in (place ∷ places) text = option_or (value_in places text) (value_at place text)
+
+  -- the value of a text among those of full rows
   abbrev pub other_of : ByteMap V → List ℕ → Option V
   other_of map text = get_by (λ key. slice_cmp nat_cmp text key.items) map.others
 
-  -- the value at a place, if that is the text's
-  abbrev pub value_at : Option (Place V) → List ℕ → Option V
-  value_at None text = None
-  value_at (Some place) text = if bytes_eq place.text.items text then Some place.value else None
-
-  -- the value of a text: among those, or at the place of its number
+  -- the value of a text: at its place, or among those of full rows
   unfoldable pub entry_of : ByteMap V → List ℕ → Option V
-  entry_of map text = option_or (other_of map text) (value_at (get nat_cmp map.firsts (number text)) text)
+  entry_of map text = option_or (value_in map.places.items text) (other_of map text)
 
   -- the sum of what is counted of each entry, by its text and its value
   unfoldable pub sum_of : (List ℕ → V → ℕ) → ByteMap V → ℕ
   sum_of weight map =
-      sum_by (λ e. weight e.1.text.items e.1.value) map.firsts.entries + sum_by (λ e. weight e.0.items e.1) map.others.entries
+      sum_by (λ place. weight place.text.items place.value) map.places.items + sum_by (λ e. weight e.0.items e.1) map.others.entries
 
   -- what is counted of the entry of a text, if it has one
   abbrev pub weight_at : (List ℕ → V → ℕ) → List ℕ → Option V → ℕ
   weight_at weight text None = 0
   weight_at weight text (Some value) = weight text value
+
+  -- this is the last place that is the text's
+  pub record IsPlace (places : List (Place V)) (text : List ℕ) (index : ℕ) : Type 0 where
+    pub within : index < length places
+    pub own : (d : Place V) → (get_or places index d).text.items ≡ text
+    pub after : (i : ℕ) (d : Place V) → index < i → i < length places → bytes_eq (get_or places i d).text.items text ≡ false
 
   -- each text has the value that it had, and no sum over the entries has changed
   pub record IsUnchanged (old new : ByteMap V) : Type 0 where

@@ -1,2 +1,4 @@
 pub mod Number
+pub mod Rows
+pub mod Tables
 pub mod Entries

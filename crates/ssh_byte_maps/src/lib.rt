@@ -1,9 +1,9 @@
 //! Maps from byte texts to values, for texts that begin alike.
 //!
-//! The keys of SSH share their first bytes, which a comparison of texts walks each time. Here texts
-//! are ordered by a hash of 64 bits, and only those of one hash by their bytes: so whatever texts
-//! somebody picks, a look-up takes no more steps than in an ordered map. A caller that counts how
-//! often each text stands among some:
+//! The keys of SSH share their first bytes, which a comparison of texts walks each time. Here a text
+//! is found by a hash of 64 bits, in a row of a few texts, and the rows are doubled as they fill. A
+//! text whose row is full stands in an ordered map: so whatever texts somebody picks, a look-up takes
+//! only a few steps more than there. A caller that counts how often each text stands among some:
 //!
 //! ```
 //! let mut counts = ByteMap::new(alloc);
@@ -16,5 +16,6 @@
 
 mod map;
 mod number;
+mod table;
 
 pub use map::ByteMap;

@@ -1,0 +1,14 @@
+use Rattle.std.proofs.Common.{◌%◌, ◌<◌, ap, subst, sym}
+use Rattle.std.specs.Prelude.{slice_index}
+use Rattle.std.proofs.lemmas.List.{length-map}
+use Rattle.ssh_byte_maps.specs.declared.table.Link.{Link}
+use Rattle.ssh_byte_maps.specs.Rows.{IsLast}
+use Rattle.ssh_byte_maps.specs.Tables.{numbers_of, rows_of}
+use Rattle.ssh_byte_maps.proofs.table.Table.before.Goals as goal
+
+pub returns : goal.returns
+returns c =
+    let t = c.args.self.now in
+    subst (IsLast (rows_of t) (numbers_of t) (slice_index (numbers_of t) c.args.place % rows_of t) c.args.place)
+    (sym (ap (λ (l : Link). l.before) c.index.ensures))
+    (t.back.at c.args.place c.index.result.now (subst (λ n. c.args.place < n) (length-map t.links.items (λ (l : Link). l.number)) c.requires))
