@@ -2,13 +2,15 @@
 
 ghost use Rattle.std.specs.Prelude.{◌≡◌, IfOk};
 ghost use Rattle.jiff.specs.Words.{plain_zone};
+ghost use Rattle.ssh_keys.specs.Fingerprint.{fingerprint_of};
 ghost use Rattle.ssh_keys.specs.KeyOf.{key_of};
 ghost use Rattle.ssh_options.specs.Settings.{setting};
 ghost use Rattle.ssh_findings.specs.Facts.{facts_of, plain_rights, rsa_size};
 
 use crate::moments::{has_local_time, until};
 use jiff::tz::TimeZone;
-use ssh_keys::{KeyKind, KeyView, fingerprint, rsa_bits};
+use sha2::{Digest, Sha256};
+use ssh_keys::{KeyKind, KeyView, digest_text, rsa_bits};
 use ssh_lines::AuthEntryView;
 use ssh_offers::Offer;
 use ssh_options::{Flag, ValueName};
@@ -55,6 +57,16 @@ pub fn rsa_size(key: &KeyView<'_>) -> Option<u32>
     rsa_bits(key)
 }
 
+/// The fingerprint of the key, as `ssh-keygen -l` prints it after `SHA256:`, from its blob on the line.
+#[tactic(auto, unfolding(ssh_keys::specs::Fingerprint::fingerprint_of))]
+fn fingerprint(alloc: Global, entry: &AuthEntryView<'_>) -> Result<[u8; 43], AllocError>
+    ensures { IfOk result (λ text. text ≡ fingerprint_of entry.now.key) }
+{
+    let digest = Sha256::digest(entry.blob());
+    let text = digest_text(alloc, &digest)?;
+    Ok(text)
+}
+
 /// The value of an option that may stand once, copied.
 fn setting(
     alloc: Global,
@@ -99,7 +111,7 @@ impl Facts {
         ensures { IfOk result (λ facts. facts ≡ facts_of (plain_zone zone.now) entry.now) }
     {
         let key = entry.key();
-        let fingerprint = fingerprint(alloc, &key)?;
+        let fingerprint = fingerprint(alloc, entry)?;
         let comment = comment(alloc, entry)?;
         let rights = plain_rights(alloc, entry)?;
         let from = setting(alloc, ValueName::From, entry)?;
