@@ -6,5 +6,6 @@ pub mod Ends
 pub mod EndObjects
 pub mod Forms
 pub mod Lines
+pub mod Memory
 pub mod Reviews
 pub mod Shown

@@ -1,12 +1,13 @@
 //! The records of a file's lines.
 
-ghost use Rattle.std.specs.Prelude.{◌≡◌, ◌++◌, [], ◌≤◌, List, IfOk, OnOk, length};
+ghost use Rattle.std.specs.Prelude.{◌≡◌, ◌+◌, ◌++◌, [], ◌≤◌, List, IfOk, OnOk, length};
 ghost use Rattle.ssh_lines.specs.declared.entry.AuthLine.{AuthLine};
 ghost use Rattle.ssh_lines.specs.LineView.{line_seen};
 ghost use Rattle.ssh_text.specs.Text.{file_limit, lines_of, numbered};
 ghost use Rattle.ssh_findings.specs.Asking.{asking_of};
 ghost use Rattle.ssh_findings.specs.Earlier.{Held};
 ghost use Rattle.ssh_findings.specs.Keeping.{StandsFor};
+ghost use Rattle.ssh_findings.specs.Memory.{bytes_kept, keys_kept};
 ghost use Rattle.ssh_review.specs.Lines.{
   counts_of,
   held_of,
@@ -15,6 +16,7 @@ ghost use Rattle.ssh_review.specs.Lines.{
   line_record,
   records_of,
 };
+ghost use Rattle.ssh_review.specs.Memory.{line_bytes, lines_bytes};
 
 use crate::counts::Counts;
 use crate::form::Form;
@@ -45,6 +47,10 @@ fn push_entry_line(
     ensures kept { OnOk result ((held : List Held) → StandsFor earlier.old held
         → StandsFor earlier.new (held ++ held_of
         (asking_of asked.entry.now) (place.entry.now.number, AuthLine.Entry entry.now))) }
+    ensures bytes { OnOk result (bytes_kept earlier.new
+        ≤ bytes_kept earlier.old + line_bytes (asking_of asked.entry.now) (AuthLine.Entry entry.now)) }
+    ensures keys { IfOk result
+        (λ counts. keys_kept earlier.new ≤ keys_kept earlier.old + counts.keys) }
 {
     let facts = Facts::read(alloc, asked.zone, entry)?;
     let found = entry_findings(alloc, asked, earlier, entry.blob(), &facts)?;
@@ -113,6 +119,10 @@ fn push_line(
     ensures kept { OnOk result ((held : List Held) → StandsFor earlier.old held
         → StandsFor earlier.new (held ++ held_of
         (asking_of asked.entry.now) (place.entry.now.number, line_seen view.now))) }
+    ensures bytes { OnOk result (bytes_kept earlier.new
+        ≤ bytes_kept earlier.old + line_bytes (asking_of asked.entry.now) (line_seen view.now)) }
+    ensures keys { IfOk result
+        (λ counts. keys_kept earlier.new ≤ keys_kept earlier.old + counts.keys) }
 {
     match view {
         AuthLineView::Blank | AuthLineView::Comment => Ok(Counts {
@@ -130,28 +140,34 @@ fn push_line(
     }
 }
 
-/// The records of a file's lines, and what they count.
+/// The records of a file's lines, and what they count. What is kept of the entries for later lines
+/// is no more than their blobs and forced commands, and a place for each.
 pub(crate) fn push_lines(
     alloc: Global,
     form: Form,
     asked: &Asked<'_>,
     name: &[u8],
     file: &[u8],
+    earlier: &mut Earlier,
     out: &mut Vec<u8>,
 ) -> Result<Counts, AllocError>
-    requires { length file.now ≤ file_limit }
+    requires limit { length file.now ≤ file_limit }
+    requires none { StandsFor earlier.old [] }
     ensures text { OnOk result (out.new.items ≡ out.old.items
         ++ records_of form (asking_of asked.entry.now) name.now [] (numbered 1 (lines_of file.now))) }
     ensures counts { IfOk result (λ counts. counts
         ≡ counts_of (asking_of asked.entry.now) [] (numbered 1 (lines_of file.now))) }
+    ensures bytes { OnOk result (bytes_kept earlier.new ≤ bytes_kept earlier.old
+        + lines_bytes (asking_of asked.entry.now) (numbered 1 (lines_of file.now))) }
+    ensures keys { IfOk result
+        (λ counts. keys_kept earlier.new ≤ keys_kept earlier.old + counts.keys) }
 {
     let mut buffer = KeyBuffer::new(alloc)?;
     let mut counts = Counts::NONE;
-    let mut earlier = Earlier::new(alloc);
     for (number, line) in Lines::new(file) {
         let place = Place { name, number };
         let view = read_auth_view(line, &mut buffer);
-        let told = push_line(alloc, form, asked, &place, line, &view, &mut earlier, out)?;
+        let told = push_line(alloc, form, asked, &place, line, &view, earlier, out)?;
         counts = counts.plus(told);
     }
     Ok(counts)

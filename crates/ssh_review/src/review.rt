@@ -12,7 +12,7 @@ use crate::end_object::{push_end_object, push_fault_object, push_total_object};
 use crate::form::Form;
 use crate::lines::push_lines;
 use sha2::{Digest, Sha256};
-use ssh_findings::Asked;
+use ssh_findings::{Asked, Earlier};
 use ssh_text::FILE_LIMIT;
 use std::alloc::{AllocError, Global};
 
@@ -49,7 +49,8 @@ fn whole_review(
         (λ r. review r ≡ whole_review form (asking_of asked.entry.now) name.now file.now) }
 {
     let mut text = Vec::new(alloc);
-    let counts = push_lines(alloc, form, asked, name, file, &mut text)?;
+    let mut earlier = Earlier::new(alloc);
+    let counts = push_lines(alloc, form, asked, name, file, &mut earlier, &mut text)?;
     let digest = Sha256::digest(file);
     push_end(alloc, form, &mut text, name, counts, &digest)?;
     Ok(Reviewed {

@@ -7,6 +7,9 @@ ghost use Rattle.ssh_review_json.specs.RightsWords.{rights_words, without_space}
 use ssh_rights::Rights;
 use std::alloc::{AllocError, Global};
 
+/// How many bytes the words of all rights have, each after a space.
+const ALL_WORDS: usize = 22;
+
 fn right_word(is_on: bool, word: &'static [u8]) -> &'static [u8]
     ensures { result.now ≡ right_word is_on word.entry.now }
 {
@@ -44,7 +47,7 @@ pub fn push_rights_words(
 ) -> Result<(), AllocError>
     ensures { OnOk result (out.new.items ≡ out.old.items ++ rights_words rights.now) }
 {
-    let mut words = Vec::new(alloc);
+    let mut words = Vec::with_capacity(alloc, ALL_WORDS)?;
     push_right_words(&mut words, rights)?;
     out.extend_from_slice(without_space(&words))?;
     Ok(())

@@ -9,5 +9,5 @@ plus-counts-requires c =
     let next = numbered (c.next.new.self).0 (lines_of (c.next.new.self).1) in
     let fits : Fits c.loop-number.counts c.in_ok-told.told =
     told_fits (asking_of c.args.asked.now) (c.loop-number.invariant.2).0 c.args.file.now c.loop-number.counts c.in_ok-told.told c.in-Some.number c.in-Some.line.now _ now next
-    c.requires c.in-Some.ensures.steps c.read_auth_view-view.ensures.exact (c.in_ok-told.ensures.counts (c.loop-number.invariant.2).0 (c.loop-number.invariant.2).1) (c.loop-number.invariant.2).3 in
+    c.requires.limit c.in-Some.ensures.steps c.read_auth_view-view.ensures.exact (c.in_ok-told.ensures.counts (c.loop-number.invariant.2).0 (c.loop-number.invariant.2).1) (c.loop-number.invariant.2).3 in
     record { lines = fits.lines; keys = fits.keys; unreadable = fits.unreadable; findings = fits.findings }
