@@ -189,7 +189,7 @@ no_key m kind n own k item blob =
 
 -- ---- one more key for a piece of a list
 
-folded : (old : Option ℕ) (r nb : Bool) (n : ℕ) → lesser (lesser old (line_if nb n)) (line_if (r && nb) n) ≡ lesser old (line_if nb n)
+pub folded : (old : Option ℕ) (r nb : Bool) (n : ℕ) → lesser (lesser old (line_if nb n)) (line_if (r && nb) n) ≡ lesser old (line_if nb n)
 folded old true true n = lesser_assoc old (Some n) (Some n) ∙ ap (λ l. lesser old (Some l)) (omega arith)
 folded old true false n = lesser_none (lesser old None)
 folded old false nb n = lesser_none (lesser old (line_if nb n))

@@ -1,5 +1,6 @@
 pub mod TextKeys
 pub mod LeastLemmas
 pub mod EarlierLemmas
+pub mod NameLemmas
 pub mod SpareLemmas
 pub mod LawLemmas

@@ -5,6 +5,7 @@ pub mod HostLines
 pub mod Least
 pub mod Earlier
 pub mod Maps
+pub mod Memory
 pub mod StandsFor
 pub mod HostFindings
 pub mod Revoked

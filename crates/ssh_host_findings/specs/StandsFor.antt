@@ -1,12 +1,13 @@
 -- Which lines the maps of earlier lines stand for (this project's rule): each look-up finds the least line.
-use Rattle.std.specs.Prelude.{◌≡◌, ℕ, Bool, true, false, not, ◌&&◌, List, bytes_eq, is_some}
+use Rattle.std.specs.Prelude.{◌≡◌, ◌⊎◌, ℕ, Bool, true, false, not, ◌&&◌, List, Option, bytes_eq, is_some}
 use Rattle.ssh_keys.specs.declared.kind.KeyKind.{KeyKind}
 use Rattle.ssh_host_findings.specs.declared.earlier.EarlierHosts.{EarlierHosts}
 use Rattle.ssh_host_findings.specs.declared.facts.HostFacts.{HostFacts}
+use Rattle.ssh_host_findings.specs.declared.named.KindKeys.{KindKeys}
 use Rattle.ssh_host_findings.specs.HostLines.{HostLine, Saying, Trusts, Revokes}
 use Rattle.ssh_host_findings.specs.Earlier.{revokes_blob, same_kind, trusts_blob}
 use Rattle.ssh_host_findings.specs.Items.{has_item}
-use Rattle.ssh_host_findings.specs.Least.{least_line}
+use Rattle.ssh_host_findings.specs.Least.{least_line, lesser, line_if}
 use Rattle.ssh_host_findings.specs.Maps.{line_at, other_of_kind}
 
 -- the line trusts a host's key of this kind, for a host with this plain item
@@ -33,3 +34,10 @@ pub record KeepsKeys (old new : EarlierHosts) : Type 0 where
   pub hosts : (blob : List ℕ) → line_at new.hosts blob ≡ line_at old.hosts blob
   pub authorities : (blob : List ℕ) → line_at new.authorities blob ≡ line_at old.authorities blob
   pub revoked : (blob : List ℕ) → line_at new.revoked blob ≡ line_at old.revoked blob
+
+-- of the keys of a kind that stand for a name, either nothing has changed or the key of a line has come
+abbrev pub KeepsName : KindKeys → KindKeys → KeyKind → Option (List ℕ) → ℕ → List ℕ → KeyKind → List ℕ → Type 0
+KeepsName old new kind list line own k item =
+    ((blob : List ℕ) → other_of_kind new k item blob ≡ other_of_kind old k item blob)
+    ⊎ ((blob : List ℕ) → other_of_kind new k item blob
+    ≡ lesser (other_of_kind old k item blob) (line_if ((same_kind kind k && has_item item list) && not (bytes_eq own blob)) line))

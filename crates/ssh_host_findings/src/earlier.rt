@@ -2,10 +2,14 @@
 
 ghost use Rattle.std.specs.Prelude.{
   ◌≡◌,
+  ◌≤◌,
+  ◌+◌,
   ◌++◌,
   ◌∷◌,
   [],
+  ℕ,
   false,
+  length,
   List,
   OnErr,
   OnOk,
@@ -22,7 +26,9 @@ ghost use Rattle.ssh_host_findings.specs.Earlier.{
   trusting_line,
 };
 ghost use Rattle.ssh_host_findings.specs.Maps.{least_other};
-ghost use Rattle.ssh_host_findings.specs.StandsFor.{KeepsKeys, StandsFor, has_names};
+ghost use Rattle.ssh_host_findings.specs.Memory.{bytes_kept, entry_bytes};
+ghost use Rattle.ssh_host_findings.specs.StandsFor.{KeepsKeys, KeepsName, StandsFor, has_names};
+ghost use Rattle.ssh_keys.specs.declared.kind.KeyKind.{KeyKind as Kind};
 
 use crate::facts::HostFacts;
 use crate::least::{LeastLines, lesser};
@@ -45,7 +51,8 @@ pub struct EarlierHosts {
 impl EarlierHosts {
     /// No lines. No memory is taken.
     pub fn new(alloc: Global) -> EarlierHosts
-        ensures { StandsFor result [] }
+        ensures stands { StandsFor result [] }
+        ensures bytes { bytes_kept result ≡ 0 }
     {
         EarlierHosts {
             hosts: LeastLines::new(alloc),
@@ -66,7 +73,12 @@ impl EarlierHosts {
     ) -> Result<(), AllocError>
         ensures ok { OnOk result ((lines : List HostLine) → StandsFor self.old lines
             → StandsFor self.new (lines ++ trusting line blob.now facts.now ∷ [])) }
+        // So of an entry no more is held than its blob, and each plain name of its list with the blob.
+        ensures bytes { OnOk result
+            (bytes_kept self.new ≤ bytes_kept self.old + entry_bytes blob.now facts.now) }
         ensures keys { OnErr result (KeepsKeys self.old self.new) }
+        ensures names { OnErr result ((kind : Kind) (item : List ℕ) → KeepsName self.old.named self.new.named
+            facts.now.kind facts.now.list line blob.now kind item) }
         ensures err { OnErr result (has_names facts.now ≡ false
             → (lines : List HostLine) → StandsFor self.old lines → StandsFor self.new lines) }
     {
@@ -88,6 +100,7 @@ impl EarlierHosts {
     ) -> Result<(), AllocError>
         ensures ok { OnOk result ((lines : List HostLine) → StandsFor self.old lines
             → StandsFor self.new (lines ++ revoking line bytes.now ∷ [])) }
+        ensures bytes { OnOk result (bytes_kept self.new ≤ bytes_kept self.old + length bytes.now) }
         ensures err { OnErr result ((lines : List HostLine) → StandsFor self.old lines
             → StandsFor self.new lines) }
     {

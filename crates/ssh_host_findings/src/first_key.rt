@@ -18,15 +18,16 @@ pub(crate) struct FirstKey {
 }
 
 impl FirstKey {
-    ghost use Rattle.std.specs.Prelude.{IfOk, ℕ, List, not, bytes_eq};
+    ghost use Rattle.std.specs.Prelude.{◌≤◌, ◌+◌, IfOk, IfSome, ℕ, List, length, not, bytes_eq};
     ghost use Rattle.std.specs.Option.{unwrap_or};
     ghost use Rattle.ssh_host_findings.specs.Least.{lesser, line_if};
     ghost use Rattle.ssh_host_findings.specs.Maps.{other_of};
 
     /// The key of one line.
     pub(crate) fn new(alloc: Global, line: u64, blob: &[u8]) -> Result<FirstKey, AllocError>
-        ensures { IfOk result (λ first. (b : List ℕ) → other_of first b
+        ensures other { IfOk result (λ first. (b : List ℕ) → other_of first b
             ≡ line_if (not (bytes_eq blob.now b)) line) }
+        ensures bytes { IfOk result (λ first. first.blob ≡ blob.now) }
     {
         let blob = kept(alloc, blob)?;
         Ok(FirstKey {
@@ -54,8 +55,10 @@ impl FirstKey {
         line: u64,
         blob: &[u8],
     ) -> Result<Option<FirstKey>, AllocError>
-        ensures { IfOk result (λ first. (b : List ℕ) → other_of (unwrap_or first self.now) b
+        ensures other { IfOk result (λ first. (b : List ℕ) → other_of (unwrap_or first self.now) b
             ≡ lesser (other_of self.now b) (line_if (not (bytes_eq blob.now b)) line)) }
+        ensures bytes { IfOk result (λ first. IfSome first
+            (λ first. length first.blob ≤ length self.now.blob + length blob.now)) }
     {
         let own = self.blob.as_slice();
         let (line, text, other) = if own == blob {

@@ -1,8 +1,9 @@
 //! The least line that says something of a byte text.
 
-ghost use Rattle.std.specs.Prelude.{◌≡◌, ℕ, List, OnErr, OnOk, None, Some, bytes_eq, if◌then◌else◌};
+ghost use Rattle.std.specs.Prelude.{◌≡◌, ◌≤◌, ◌+◌, ℕ, length, List, OnErr, OnOk, None, Some, bytes_eq, if◌then◌else◌};
 ghost use Rattle.ssh_host_findings.specs.Least.{lesser};
 ghost use Rattle.ssh_host_findings.specs.Maps.{line_at};
+ghost use Rattle.ssh_host_findings.specs.Memory.{texts_bytes};
 
 use ssh_byte_maps::ByteMap;
 use std::alloc::{AllocError, Global};
@@ -36,7 +37,8 @@ pub(crate) struct LeastLines {
 
 impl LeastLines {
     pub(crate) fn new(alloc: Global) -> LeastLines
-        ensures { (bytes : List ℕ) → line_at result bytes ≡ None }
+        ensures empty { (bytes : List ℕ) → line_at result bytes ≡ None }
+        ensures bytes { texts_bytes result ≡ 0 }
     {
         LeastLines {
             lines: ByteMap::new(alloc),
@@ -55,6 +57,7 @@ impl LeastLines {
     pub(crate) fn keep(&mut self, alloc: Global, bytes: &[u8], line: u64) -> Result<(), AllocError>
         ensures ok { OnOk result ((other : List ℕ) → line_at self.new other
             ≡ if bytes_eq bytes.now other then lesser (line_at self.old other) (Some line) else line_at self.old other) }
+        ensures bytes { OnOk result (texts_bytes self.new ≤ texts_bytes self.old + length bytes.now) }
         ensures err { OnErr result
             ((other : List ℕ) → line_at self.new other ≡ line_at self.old other) }
     {

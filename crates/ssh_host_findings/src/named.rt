@@ -1,11 +1,14 @@
 //! The keys that stand for names, of each kind.
 
-ghost use Rattle.std.specs.Prelude.{◌≡◌, ◌&&◌, ℕ, List, IsOk, OnErr, OnOk, None, Some, bytes_eq, if◌then◌else◌, not};
+ghost use Rattle.std.specs.Prelude.{◌≡◌, ◌≤◌, ◌+◌, ◌&&◌, ℕ, List, IsOk, OnErr, OnOk, None, Some, bytes_eq, if◌then◌else◌, length, not};
+ghost use Rattle.ssh_patterns.specs.Lists.{pieces, pieces_left};
 ghost use Rattle.ssh_keys.specs.declared.kind.KeyKind.{KeyKind as Kind};
 ghost use Rattle.ssh_host_findings.specs.Items.{has_item};
 ghost use Rattle.ssh_host_findings.specs.Earlier.{same_kind};
 ghost use Rattle.ssh_host_findings.specs.Least.{lesser, line_if};
 ghost use Rattle.ssh_host_findings.specs.Maps.{other_at, other_of_kind};
+ghost use Rattle.ssh_host_findings.specs.Memory.{items_bytes, kinds_bytes, names_bytes};
+ghost use Rattle.ssh_host_findings.specs.StandsFor.{KeepsName};
 
 use crate::facts::HostFacts;
 use crate::first_key::FirstKey;
@@ -23,7 +26,8 @@ pub(crate) struct NamedKeys {
 
 impl NamedKeys {
     fn new(alloc: Global) -> NamedKeys
-        ensures { (item blob : List ℕ) → other_at result item blob ≡ None }
+        ensures empty { (item blob : List ℕ) → other_at result item blob ≡ None }
+        ensures bytes { names_bytes result ≡ 0 }
     {
         NamedKeys {
             keys: ByteMap::new(alloc),
@@ -45,6 +49,8 @@ impl NamedKeys {
         ensures ok { OnOk result ((q b : List ℕ) → other_at self.new q b
             ≡ if bytes_eq item.now q then lesser (other_at self.old q b) (line_if (not (bytes_eq blob.now b)) line)
             else other_at self.old q b) }
+        ensures bytes { OnOk result
+            (names_bytes self.new ≤ names_bytes self.old + (length item.now + length blob.now)) }
         ensures err { OnErr result ((q b : List ℕ) → other_at self.new q b ≡ other_at self.old q b) }
     {
         let first = match self.keys.get(item) {
@@ -73,7 +79,8 @@ pub(crate) struct KindKeys {
 
 impl KindKeys {
     pub(crate) fn new(alloc: Global) -> KindKeys
-        ensures { (kind : Kind) (item blob : List ℕ) → other_of_kind result kind item blob ≡ None }
+        ensures empty { (kind : Kind) (item blob : List ℕ) → other_of_kind result kind item blob ≡ None }
+        ensures bytes { kinds_bytes result ≡ 0 }
     {
         KindKeys {
             rsa: NamedKeys::new(alloc),
@@ -114,6 +121,10 @@ impl KindKeys {
             ≡ if same_kind kind k && bytes_eq item.now q
             then lesser (other_of_kind self.old k q b) (line_if (not (bytes_eq blob.now b)) line)
             else other_of_kind self.old k q b) }
+        ensures bytes { OnOk result
+            (kinds_bytes self.new ≤ kinds_bytes self.old + (length item.now + length blob.now)) }
+        ensures err { OnErr result
+            ((k : Kind) (q b : List ℕ) → other_of_kind self.new k q b ≡ other_of_kind self.old k q b) }
     {
         match kind {
             KeyKind::Rsa => self.rsa.keep(alloc, item, line, blob),
@@ -135,9 +146,13 @@ impl KindKeys {
         line: u64,
         blob: &[u8],
     ) -> Result<(), AllocError>
-        ensures { OnOk result ((k : Kind) (q b : List ℕ) → other_of_kind self.new k q b
+        ensures ok { OnOk result ((k : Kind) (q b : List ℕ) → other_of_kind self.new k q b
             ≡ lesser (other_of_kind self.old k q b)
             (line_if ((same_kind kind k && has_item q (Some list.now)) && not (bytes_eq blob.now b)) line)) }
+        ensures bytes { OnOk result
+            (kinds_bytes self.new ≤ kinds_bytes self.old + items_bytes blob.now (pieces list.now)) }
+        ensures err { OnErr result ((k : Kind) (q : List ℕ)
+            → KeepsName self.old self.new kind (Some list.now) line blob.now k q) }
     {
         let mut rest = Some(list);
         while let Some(pieces) = rest {
@@ -161,6 +176,10 @@ impl KindKeys {
     ) -> Result<(), AllocError>
         ensures ok { OnOk result ((k : Kind) (q b : List ℕ) → other_of_kind self.new k q b
             ≡ lesser (other_of_kind self.old k q b) (line_if ((same_kind facts.now.kind k && has_item q facts.now.list) && not (bytes_eq blob.now b)) line)) }
+        ensures bytes { OnOk result
+            (kinds_bytes self.new ≤ kinds_bytes self.old + items_bytes blob.now (pieces_left facts.now.list)) }
+        ensures err { OnErr result ((k : Kind) (q : List ℕ)
+            → KeepsName self.old self.new facts.now.kind facts.now.list line blob.now k q) }
         ensures spare { facts.now.list ≡ None → IsOk result }
     {
         match &facts.list {

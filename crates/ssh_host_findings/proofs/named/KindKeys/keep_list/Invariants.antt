@@ -1,17 +1,23 @@
-use Rattle.std.proofs.Common.{◌≡◌, ◌&&◌, ℕ, List, bytes_eq, not, Some, option_copied}
+use Rattle.std.proofs.Common.{◌≡◌, ◌≤◌, ◌+◌, ◌&&◌, ℕ, List, bytes_eq, not, Some, true, option_copied}
 use Rattle.ssh_keys.specs.declared.kind.KeyKind.{KeyKind}
-use Rattle.ssh_patterns.specs.Lists.{length_left}
+use Rattle.ssh_patterns.specs.Lists.{length_left, pieces, pieces_left}
 use Rattle.ssh_host_findings.specs.Items.{has_item}
 use Rattle.ssh_host_findings.specs.Earlier.{same_kind}
 use Rattle.ssh_host_findings.specs.Least.{lesser, line_if}
 use Rattle.ssh_host_findings.specs.Maps.{other_of_kind}
+use Rattle.ssh_host_findings.specs.Memory.{items_bytes, kinds_bytes}
+use Rattle.ssh_host_findings.specs.StandsFor.{KeepsName}
 use Rattle.ssh_host_findings.proofs.named.KindKeys.keep_list.Given as goal
 
 abbrev pub invariant-loop-rest : goal.invariant-loop-rest
-invariant-loop-rest l =
-    (k : KeyKind) (q b : List ℕ)
-    → lesser (other_of_kind l.self k q b) (line_if ((same_kind l.kind k && has_item q (option_copied l.rest)) && not (bytes_eq l.blob b)) l.line)
-    ≡ lesser (other_of_kind l.fn.self k q b) (line_if ((same_kind l.kind k && has_item q (Some l.list)) && not (bytes_eq l.blob b)) l.line)
+invariant-loop-rest l = record {
+  found : (k : KeyKind) (q b : List ℕ)
+      → lesser (other_of_kind l.self k q b) (line_if ((same_kind l.kind k && has_item q (option_copied l.rest)) && not (bytes_eq l.blob b)) l.line)
+      ≡ lesser (other_of_kind l.fn.self k q b) (line_if ((same_kind l.kind k && has_item q (Some l.list)) && not (bytes_eq l.blob b)) l.line);
+  bytes : kinds_bytes l.self + items_bytes l.blob (pieces_left (option_copied l.rest)) ≤ kinds_bytes l.fn.self + items_bytes l.blob (pieces l.list);
+  names : (k : KeyKind) (q : List ℕ) → KeepsName l.fn.self l.self l.kind (Some l.list) l.line l.blob k q;
+  within : (q : List ℕ) → has_item q (option_copied l.rest) ≡ true → has_item q (Some l.list) ≡ true;
+}
 
 abbrev pub decreases-loop-rest : goal.decreases-loop-rest
 decreases-loop-rest l = length_left (option_copied l.rest)

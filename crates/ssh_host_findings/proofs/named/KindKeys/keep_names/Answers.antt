@@ -1,5 +1,8 @@
-use Rattle.std.proofs.Common.{◌≡◌, ◌∙◌, Some, ap, subst, sym}
+use Rattle.std.proofs.Common.{◌≡◌, ◌∙◌, ℕ, List, Some, ap, subst, sym}
+use Rattle.ssh_keys.specs.declared.kind.KeyKind.{KeyKind}
+use Rattle.ssh_host_findings.specs.StandsFor.{KeepsName}
 use Rattle.ssh_host_findings.proofs.EarlierLemmas.{HasOneMoreKey, no_key}
+use Rattle.ssh_host_findings.proofs.NameLemmas.{on_err}
 use Rattle.ssh_host_findings.proofs.named.KindKeys.keep_names.Goals as goal
 
 pub returns-in-None-clause-ok : goal.returns-in-None-clause-ok
@@ -13,4 +16,13 @@ returns-in_ok-keep_list-in-Some-clause-ok c =
     let m = c.args.self.now in
     let f = c.args.facts.now in
     let same : Some c.as_slice.result.now ≡ f.list = ap (λ l. Some l) c.as_slice.ensures ∙ sym c.in-Some.is in
-    subst (λ list. HasOneMoreKey m c.keep_list.new.self f.kind list c.args.line c.args.blob.now) same c.in_ok-keep_list-in-Some.ensures
+    subst (λ list. HasOneMoreKey m c.keep_list.new.self f.kind list c.args.line c.args.blob.now) same c.in_ok-keep_list-in-Some.ensures.ok
+
+pub returns-in_err-keep_list-in-Some-clause-err : goal.returns-in_err-keep_list-in-Some-clause-err
+returns-in_err-keep_list-in-Some-clause-err c =
+    let m = c.args.self.now in
+    let f = c.args.facts.now in
+    let same : Some c.as_slice.result.now ≡ f.list = ap (λ l. Some l) c.as_slice.ensures ∙ sym c.in-Some.is in
+    on_err c.from_residual.result
+    (subst (λ list. (k : KeyKind) (q : List ℕ) → KeepsName m c.keep_list.new.self f.kind list c.args.line c.args.blob.now k q) same
+    c.in_err-keep_list-in-Some.ensures.err)
