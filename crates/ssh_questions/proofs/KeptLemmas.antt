@@ -14,7 +14,7 @@ use Rattle.ssh_print.specs.Responses.{Response as Shown, decision_response}
 use Rattle.ssh_trust.specs.Answer.{Gives, OfClaim, RefusesAs, if_short}
 use Rattle.ssh_questions.specs.Audits.{Deciding, answer_over, or_vouch_fault}
 use Rattle.ssh_questions.specs.FileAnswers.{AuditsFile, AuditsVouched}
-use Rattle.ssh_questions.specs.Resting.{RestsOn, VouchAlike, first_of, kept_by, kept_of, second_of, sought_in}
+use Rattle.ssh_questions.specs.Resting.{RestsOn, VouchAlike, first_resting, kept_by, kept_of, second_resting, sought_in}
 use Rattle.ssh_questions.proofs.ChosenLemmas.{told}
 
 -- ---- what is sought
@@ -75,7 +75,7 @@ two-alike x y vouched true false one two = (first-vouched x [] ∙ one, (other x
 two-alike x y vouched false true one two = (other y x vouched two one, (first-vouched y [] ∙ two, tt))
 two-alike x y vouched false false one two = (one, (two, tt))
 
-kept-alike : (evidence vouched : List Signed) (found : Found) → length evidence ≤ 2 → AreFound (first_of evidence) (second_of evidence) vouched found
+kept-alike : (evidence vouched : List Signed) (found : Found) → length evidence ≤ 2 → AreFound (first_resting evidence) (second_resting evidence) vouched found
     → VouchAlike (kept_of evidence found) vouched evidence
 kept-alike [] vouched found few are = tt
 kept-alike (x ∷ []) vouched found few are = one-alike x vouched found.first found.second are.0 are.1
@@ -85,7 +85,7 @@ kept-alike (x ∷ y ∷ z ∷ more) vouched found few are = absurd (omega (arith
 -- ---- what is answered
 
 answer-same : (by : Deciding) (rests : Result (List Signed) AuditError) (vouched : List Signed) (found : Found) (file : Option (List ℕ)) → RestsOn by rests
-    → AreFound (first_of (sought_in rests)) (second_of (sought_in rests)) vouched found → answer_over by (kept_of (sought_in rests) found) file ≡ answer_over by vouched file
+    → AreFound (first_resting (sought_in rests)) (second_resting (sought_in rests)) vouched found → answer_over by (kept_of (sought_in rests) found) file ≡ answer_over by vouched file
 answer-same (Err e) rests vouched found None rest are = refl
 answer-same (Err e) rests vouched found (Some file) rest are = refl
 answer-same (Ok decision) (Err e) vouched found file rest are = absurd rest
@@ -99,7 +99,7 @@ audits-all by name a b s u r same (inl h) = inl (h.0, h.1 ∙ ap decision_respon
 audits-all by name a b s u r same (inr h) = inr h
 
 audits-told : (by : Deciding) (rests : Result (List Signed) AuditError) (found : Found) (name file : List ℕ) (s : SourceState) (u : Option SourceState) (r : Shown) → RestsOn by rests
-    → TellsOf (first_of (sought_in rests)) (second_of (sought_in rests)) file (Ok found)
+    → TellsOf (first_resting (sought_in rests)) (second_resting (sought_in rests)) file (Ok found)
     → AuditsFile by name (kept_of (sought_in rests) found) s u r → AuditsVouched by name (or_vouch_fault (vouched_of file)) s u r
 audits-told by rests found name file s u r rest (vouched, read, are) h =
     rw read
@@ -108,11 +108,11 @@ audits-told by rests found name file s u r rest (vouched, read, are) h =
 -- the response by what was found is the one by all that is vouched for
 pub found_responds : {R E : Type 0} (view : R → Shown) (by : Deciding) (rests : Result (List Signed) AuditError) (evidence kept : List Signed) (found : Found) (name file : List ℕ)
     (o u : Option SourceState) (res : Result R E) → RestsOn by rests → evidence ≡ sought_in rests → kept ≡ kept_of evidence found
-    → TellsOf (first_of evidence) (second_of evidence) file (Ok found)
+    → TellsOf (first_resting evidence) (second_resting evidence) file (Ok found)
     → IfTells o (λ s. IfOk res (λ r. AuditsFile by name kept s u (view r)))
     → IfTells o (λ s. IfOk res (λ r. AuditsVouched by name (or_vouch_fault (vouched_of file)) s u (view r)))
 found_responds view by rests evidence kept found name file None u res rest is keeps tells h = tt
 found_responds view by rests evidence kept found name file (Some s) u (Err e) rest is keeps tells h = λ counts. tt
 found_responds view by rests evidence kept found name file (Some s) u (Ok r) rest is keeps tells h = λ counts.
-    audits-told by rests found name file s u (view r) rest (subst (λ e. TellsOf (first_of e) (second_of e) file (Ok found)) is tells)
+    audits-told by rests found name file s u (view r) rest (subst (λ e. TellsOf (first_resting e) (second_resting e) file (Ok found)) is tells)
     (subst (λ e. AuditsFile by name (kept_of e found) s u (view r)) is (subst (λ k. AuditsFile by name k s u (view r)) keeps (h counts)))

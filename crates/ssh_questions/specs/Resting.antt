@@ -23,13 +23,13 @@ abbrev pub sought_in : Result (List Signed) AuditError → List Signed
 sought_in (Ok evidence) = evidence
 sought_in (Err e) = []
 
-abbrev pub first_of : List Signed → Option Signed
-first_of [] = None
-first_of (signed ∷ evidence) = Some signed
+abbrev pub first_resting : List Signed → Option Signed
+first_resting [] = None
+first_resting (signed ∷ evidence) = Some signed
 
-abbrev pub second_of : List Signed → Option Signed
-second_of [] = None
-second_of (signed ∷ evidence) = first_of evidence
+abbrev pub second_resting : List Signed → Option Signed
+second_resting [] = None
+second_resting (signed ∷ evidence) = first_resting evidence
 
 -- those of two signatures that were found
 abbrev pub kept_by : Bool → Bool → List Signed → List Signed

@@ -11,7 +11,7 @@ ghost use Rattle.ssh_questions.specs.FileAnswers.{
   IsFaultOf,
   is_memory,
 };
-ghost use Rattle.ssh_questions.specs.Resting.{RestsOn, first_of, second_of, sought_in};
+ghost use Rattle.ssh_questions.specs.Resting.{RestsOn, first_resting, second_resting, sought_in};
 ghost use Rattle.ssh_words.specs.AskedView.{names_of};
 ghost use Rattle.ssh_inputs.specs.Seeking.{TellsOf};
 ghost use Rattle.ssh_print.specs.ResponseView.{response};
@@ -120,7 +120,7 @@ fn respond_told<Q: Question, F: Files>(
 ) -> Result<Response, AllocError>
     requires evidence { evidence.now ≡ sought_in (Q.rests_on question.now) }
     requires rests { RestsOn (Q.decides question.now) (Q.rests_on question.now) }
-    ensures { (file : List ℕ) → TellsOf (first_of evidence.now) (second_of evidence.now) file told
+    ensures { (file : List ℕ) → TellsOf (first_resting evidence.now) (second_resting evidence.now) file told
         → IfTells (F.source_state files.old) (λ s. IfOk result (λ r.
         AuditsVouched (Q.decides question.entry.now) names.entry.now.trust.now
         (or_vouch_fault (vouched_of file)) s (F.source_state files.new) (response r))) }

@@ -2,7 +2,7 @@
 
 ghost use Rattle.std.specs.Prelude.{◌≡◌, IfOk};
 ghost use Rattle.ssh_inputs.specs.Seeking.{sought_of};
-ghost use Rattle.ssh_questions.specs.Resting.{RestsOn, first_of, kept_of, second_of, sought_in};
+ghost use Rattle.ssh_questions.specs.Resting.{RestsOn, first_resting, kept_of, second_resting, sought_in};
 
 use crate::question::Question;
 use ssh_inputs::Found;
@@ -23,8 +23,8 @@ pub fn sought<Q: Question>(alloc: Global, question: &Q) -> Result<Items<Signed>,
 
 /// The first two signatures, as far as there are so many.
 pub fn first_two(evidence: &[Signed]) -> (Option<&Signed>, Option<&Signed>)
-    ensures first { sought_of result.0 ≡ first_of evidence.now }
-    ensures second { sought_of result.1 ≡ second_of evidence.now }
+    ensures first { sought_of result.0 ≡ first_resting evidence.now }
+    ensures second { sought_of result.1 ≡ second_resting evidence.now }
 {
     match evidence {
         [] => (None, None),
