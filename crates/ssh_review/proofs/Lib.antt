@@ -1,3 +1,4 @@
+pub mod PlainLemmas
 pub mod Appended
 pub mod DateLemmas
 pub mod LineLemmas

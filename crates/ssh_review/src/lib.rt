@@ -20,6 +20,7 @@ mod end_object;
 mod form;
 mod laws;
 mod lines;
+mod plain;
 mod record;
 mod review;
 mod sentence;

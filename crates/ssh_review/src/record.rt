@@ -25,11 +25,12 @@ ghost use Rattle.ssh_review.specs.Records.{
 ghost use Rattle.ssh_review.specs.Sentences.{finding_line};
 
 use crate::date::moment_text;
+use crate::plain::push_shown;
 use crate::sentence::push_finding;
 use ssh_findings::{Facts, Finding};
 use ssh_held_keys::HeldKey;
 use ssh_keys::KeyKind;
-use ssh_print::{push_escaped, push_number, push_text_line, push_word_line};
+use ssh_print::{push_number, push_text_line, push_word_line};
 use ssh_review_json::{Place, push_rights_words};
 use ssh_rights::{Carried, CarriedName, Rights};
 use ssh_text::Bytes;
@@ -41,7 +42,7 @@ pub fn push_place(alloc: Global, out: &mut Vec<u8>, place: &Place<'_>) -> Result
     ensures { OnOk result (out.new.items
         ≡ out.old.items ++ place_text place.entry.now.name.now place.entry.now.number) }
 {
-    push_escaped(out, place.name)?;
+    push_shown(out, place.name)?;
     out.push(b':')?;
     push_number(alloc, out, place.number)?;
     out.extend_from_slice(b": ")?;
@@ -73,7 +74,7 @@ pub fn push_comment(out: &mut Vec<u8>, comment: &[u8]) -> Result<(), AllocError>
 {
     if !comment.is_empty() {
         out.push(b' ')?;
-        push_escaped(out, comment)?;
+        push_shown(out, comment)?;
     }
     Ok(())
 }
@@ -158,7 +159,7 @@ fn push_carried(out: &mut Vec<u8>, carried: &Carried) -> Result<(), AllocError>
     out.extend_from_slice(b"    carry ")?;
     out.extend_from_slice(carried_word(carried.name))?;
     out.push(b' ')?;
-    push_escaped(out, carried.text.as_slice())?;
+    push_shown(out, carried.text.as_slice())?;
     out.push(b'\n')?;
     Ok(())
 }
