@@ -2,7 +2,7 @@
 
 ghost use Rattle.std.specs.Prelude.{◌≡◌, ◌++◌, OnOk};
 ghost use Rattle.std.specs.List.{list_all};
-ghost use Rattle.ssh_print.specs.Texts.{escaped, is_plain};
+ghost use Rattle.ssh_print.specs.Texts.{escaped_text, is_plain};
 
 use ssh_print::push_escaped;
 use std::alloc::AllocError;
@@ -23,7 +23,7 @@ fn are_plain(text: &[u8]) -> bool
 /// A text as `push_escaped` writes it, and in one piece where its bytes are plain.
 #[tactic(auto, using(crate::proofs::PlainLemmas::plain_shown))]
 pub(crate) fn push_shown(out: &mut Vec<u8>, text: &[u8]) -> Result<(), AllocError>
-    ensures { OnOk result (out.new.items ≡ out.old.items ++ escaped text.now) }
+    ensures { OnOk result (out.new.items ≡ out.old.items ++ escaped_text text.now) }
 {
     if are_plain(text) {
         out.extend_from_slice(text)
