@@ -18,7 +18,7 @@ use Rattle.ssh_host_findings.specs.HostLines.{HostLine}
 use Rattle.ssh_review.specs.declared.counts.Counts.{Counts}
 use Rattle.ssh_review.specs.Counting.{plus}
 use Rattle.ssh_review.proofs.LineLemmas.{Fits, Within, both-within, fit, lines-few}
-use Rattle.ssh_host_review.specs.Lines.{counts_of, kept_of, line_counts}
+use Rattle.ssh_host_review.specs.Lines.{host_counts_of, host_kept_of, host_line_counts}
 
 -- ---- findings of a line
 
@@ -70,7 +70,7 @@ revocation-short asking earlier bytes = revoked-short asking (trusting_line earl
 
 -- ---- lines
 
-line-within : (asking : Asking) (earlier : List HostLine) (line : List ℕ) (said : KnownLine) → Within (line_counts asking earlier line said) 1
+line-within : (asking : Asking) (earlier : List HostLine) (line : List ℕ) (said : KnownLine) → Within (host_line_counts asking earlier line said) 1
 line-within asking earlier line Blank = record { lines = omega arith; keys = omega arith; unreadable = omega arith; findings = omega arith }
 line-within asking earlier line Comment = record { lines = omega arith; keys = omega arith; unreadable = omega arith; findings = omega arith }
 line-within asking earlier line (Entry e) =
@@ -82,18 +82,18 @@ line-within asking earlier line RevokedUnreadable =
 line-within asking earlier line (Unreadable cause) =
     record { lines = omega arith; keys = omega arith; unreadable = omega arith; findings = omega (arith, told-short asking true (finding.Unreadable cause)) }
 
-all-within : (asking : Asking) (earlier : List HostLine) (n : ℕ) (lines : List (List ℕ)) → Within (counts_of asking earlier (numbered n lines)) (length lines)
+all-within : (asking : Asking) (earlier : List HostLine) (n : ℕ) (lines : List (List ℕ)) → Within (host_counts_of asking earlier (numbered n lines)) (length lines)
 all-within asking earlier n [] = record { lines = omega arith; keys = omega arith; unreadable = omega arith; findings = omega arith }
 all-within asking earlier n (line ∷ lines) =
-    let after = earlier ++ kept_of n line (known_line line) in
-    both-within (line_counts asking earlier line (known_line line)) (counts_of asking after (numbered (n + 1) lines)) (length lines)
+    let after = earlier ++ host_kept_of n line (known_line line) in
+    both-within (host_line_counts asking earlier line (known_line line)) (host_counts_of asking after (numbered (n + 1) lines)) (length lines)
     (line-within asking earlier line (known_line line)) (all-within asking after (n + 1) lines)
 
 pub told_fits : (asking : Asking) (earlier : List HostLine) (file : List ℕ) (before told : Counts) (n : ℕ) (line : List ℕ) (said : KnownLine) (now next : List (ℕ × List ℕ))
-    → length file ≤ file_limit → now ≡ (n, line) ∷ next → said ≡ known_line line → told ≡ line_counts asking earlier line said
-    → plus before (counts_of asking earlier now) ≡ counts_of asking [] (numbered 1 (lines_of file)) → Fits before told
+    → length file ≤ file_limit → now ≡ (n, line) ∷ next → said ≡ known_line line → told ≡ host_line_counts asking earlier line said
+    → plus before (host_counts_of asking earlier now) ≡ host_counts_of asking [] (numbered 1 (lines_of file)) → Fits before told
 told_fits asking earlier file before told n line said now next h e k f g =
-    let after = earlier ++ kept_of n line (known_line line) in
-    fit before told (counts_of asking after next) (counts_of asking [] (numbered 1 (lines_of file))) (length (lines_of file))
+    let after = earlier ++ host_kept_of n line (known_line line) in
+    fit before told (host_counts_of asking after next) (host_counts_of asking [] (numbered 1 (lines_of file))) (length (lines_of file))
     (all-within asking [] 1 (lines_of file)) (omega (arith, lines-few file, h))
-    (ap (λ c. plus before (plus c (counts_of asking after next))) (f ∙ ap (line_counts asking earlier line) k) ∙ ap (λ left. plus before (counts_of asking earlier left)) (sym e) ∙ g)
+    (ap (λ c. plus before (plus c (host_counts_of asking after next))) (f ∙ ap (host_line_counts asking earlier line) k) ∙ ap (λ left. plus before (host_counts_of asking earlier left)) (sym e) ∙ g)

@@ -7,18 +7,18 @@ use Rattle.ssh_host_findings.specs.HostLines.{HostLine}
 use Rattle.ssh_review.specs.declared.counts.Counts.{Counts}
 use Rattle.ssh_review.specs.declared.form.Form.{Form}
 use Rattle.ssh_review.specs.Counting.{plus}
-use Rattle.ssh_host_review.specs.Lines.{counts_of, kept_of, line_counts, line_record, records_of}
+use Rattle.ssh_host_review.specs.Lines.{host_counts_of, host_kept_of, host_line_counts, host_line_record, host_records_of}
 
 pub text-step : (form : Form) (asking : Asking) (name : List ℕ) (lines : List HostLine) (n : ℕ) (line : List ℕ) (said : KnownLine) (now next : List (ℕ × List ℕ)) (out after all : List ℕ)
-    → now ≡ (n, line) ∷ next → said ≡ known_line line → after ≡ out ++ line_record form asking name lines n line said
-    → out ++ records_of form asking name lines now ≡ all
-    → after ++ records_of form asking name (lines ++ kept_of n line said) next ≡ all
+    → now ≡ (n, line) ∷ next → said ≡ known_line line → after ≡ out ++ host_line_record form asking name lines n line said
+    → out ++ host_records_of form asking name lines now ≡ all
+    → after ++ host_records_of form asking name (lines ++ host_kept_of n line said) next ≡ all
 text-step form asking name lines n line said now next out after all e k f h =
-    let left = records_of form asking name (lines ++ kept_of n line said) next in
+    let left = host_records_of form asking name (lines ++ host_kept_of n line said) next in
     ap (λ text. text ++ left) f
-    ∙ (append_assoc out (line_record form asking name lines n line said) left
-    ∙ (ap (λ told. out ++ (line_record form asking name lines n line told ++ records_of form asking name (lines ++ kept_of n line told) next)) k
-    ∙ (ap (λ rest. out ++ records_of form asking name lines rest) (sym e) ∙ h)))
+    ∙ (append_assoc out (host_line_record form asking name lines n line said) left
+    ∙ (ap (λ told. out ++ (host_line_record form asking name lines n line told ++ host_records_of form asking name (lines ++ host_kept_of n line told) next)) k
+    ∙ (ap (λ rest. out ++ host_records_of form asking name lines rest) (sym e) ∙ h)))
 
 plus-assoc : (a b c : Counts) → plus (plus a b) c ≡ plus a (plus b c)
 plus-assoc a b c =
@@ -29,12 +29,12 @@ plus-assoc a b c =
     rw (lines, keys, unreadable, findings) refl
 
 pub counts-step : (asking : Asking) (lines : List HostLine) (n : ℕ) (line : List ℕ) (said : KnownLine) (now next : List (ℕ × List ℕ)) (before told sum all : Counts)
-    → now ≡ (n, line) ∷ next → said ≡ known_line line → told ≡ line_counts asking lines line said → sum ≡ plus before told
-    → plus before (counts_of asking lines now) ≡ all
-    → plus sum (counts_of asking (lines ++ kept_of n line said) next) ≡ all
+    → now ≡ (n, line) ∷ next → said ≡ known_line line → told ≡ host_line_counts asking lines line said → sum ≡ plus before told
+    → plus before (host_counts_of asking lines now) ≡ all
+    → plus sum (host_counts_of asking (lines ++ host_kept_of n line said) next) ≡ all
 counts-step asking lines n line said now next before told sum all e k f g h =
-    let left = counts_of asking (lines ++ kept_of n line said) next in
+    let left = host_counts_of asking (lines ++ host_kept_of n line said) next in
     ap (λ s. plus s left) (g ∙ ap (plus before) f)
-    ∙ (plus-assoc before (line_counts asking lines line said) left
-    ∙ (ap (λ told. plus before (plus (line_counts asking lines line told) (counts_of asking (lines ++ kept_of n line told) next))) k
-    ∙ (ap (λ rest. plus before (counts_of asking lines rest)) (sym e) ∙ h)))
+    ∙ (plus-assoc before (host_line_counts asking lines line said) left
+    ∙ (ap (λ told. plus before (plus (host_line_counts asking lines line told) (host_counts_of asking (lines ++ host_kept_of n line told) next))) k
+    ∙ (ap (λ rest. plus before (host_counts_of asking lines rest)) (sym e) ∙ h)))

@@ -10,28 +10,28 @@ use Rattle.ssh_review_json.specs.OneLine.{AreBytes, IsHeldOfBytes, are_printable
 use Rattle.ssh_review_json.proofs.ObjectLemmas.{head-printable, held-printable, is-printable, key-printable, null-printable, object-printable, said-printable, text-printable}
 use Rattle.ssh_review_json.proofs.PrintableLemmas.{ArePrintable, bytes-from_printable, join, line-from, word}
 use Rattle.ssh_review_json.proofs.WordLemmas.{code-printable}
-use Rattle.ssh_host_review.specs.Findings.{after_comma, finding_object, findings_end, findings_list}
-use Rattle.ssh_host_review.specs.Objects.{bare_object, empty_fields, entry_fields, entry_object, revoked_fields, revoked_object}
+use Rattle.ssh_host_review.specs.Findings.{host_after_comma, host_finding_object, host_findings_end, host_findings_list}
+use Rattle.ssh_host_review.specs.Objects.{bare_object, host_empty_fields, entry_fields, host_entry_object, revoked_fields, revoked_object}
 use Rattle.ssh_host_review.proofs.ByteLemmas.{IsOfBytes, print-printable}
 use Rattle.ssh_host_review.proofs.TextLemmas.{detail-printable}
 
 -- ---- findings
 
-finding-printable : (f : HostFinding) → ArePrintable (finding_object f)
+finding-printable : (f : HostFinding) → ArePrintable (host_finding_object f)
 finding-printable f = object-printable (code-printable (code_of f)) (detail-printable f)
 
-others-printable : (found : List HostFinding) → ArePrintable (flat_map after_comma found)
+others-printable : (found : List HostFinding) → ArePrintable (flat_map host_after_comma found)
 others-printable [] = word [] refl
 others-printable (f ∷ found) = join (join (word (codes ",") refl) (finding-printable f)) (others-printable found)
 
-list-printable : (found : List HostFinding) → ArePrintable (findings_list found)
+list-printable : (found : List HostFinding) → ArePrintable (host_findings_list found)
 list-printable [] = word [] refl
 list-printable (f ∷ found) = join (finding-printable f) (others-printable found)
 
-end-line : {a : List ℕ} (found : List HostFinding) → ArePrintable a → is_line (a ++ findings_end found) ≡ true
+end-line : {a : List ℕ} (found : List HostFinding) → ArePrintable a → is_line (a ++ host_findings_end found) ≡ true
 end-line {a} found h =
     let listed = join (word (codes ",\"findings\":[") refl) (list-printable found) in
-    rw (← append_assoc a (codes ",\"findings\":[" ++ findings_list found) (codes "]}\n")) (line-from (codes "]}\n") (join h listed) refl)
+    rw (← append_assoc a (codes ",\"findings\":[" ++ host_findings_list found) (codes "]}\n")) (line-from (codes "]}\n") (join h listed) refl)
 
 -- ---- records
 
@@ -41,13 +41,13 @@ fields-printable f h =
     let key = key-printable f.kind f.bits f.fingerprint (bytes-from_printable h.fingerprint) in
     join (join key (text-printable (codes "comment") f.comment refl h.comment)) (text-printable (codes "names") f.names refl h.names)
 
-pub entry-line : (name : List ℕ) (n : ℕ) (f : HostFacts) (found : List HostFinding) → AreBytes name → IsOfBytes f → is_line (entry_object name n f found) ≡ true
-unfolding entry_object
+pub entry-line : (name : List ℕ) (n : ℕ) (f : HostFacts) (found : List HostFinding) → AreBytes name → IsOfBytes f → is_line (host_entry_object name n f found) ≡ true
+unfolding host_entry_object
 entry-line name n f found h k =
     end-line found (join (head-printable name n h (is-printable f.is_authority)) (fields-printable f k))
 
-empty-printable : ArePrintable empty_fields
-unfolding empty_fields
+empty-printable : ArePrintable host_empty_fields
+unfolding host_empty_fields
 empty-printable = record { all = refl }
 
 revoked-printable : (bytes : List ℕ) → ArePrintable (revoked_fields bytes)

@@ -21,8 +21,8 @@ use Rattle.ssh_review.proofs.ByteLemmas.{held-bytes, lines-bytes}
 use Rattle.ssh_review.proofs.DigestLemmas.{digest-bytes}
 use Rattle.ssh_review.proofs.ReviewLemmas.{end-shown, fault-shown, held-printable}
 use Rattle.ssh_review.proofs.ShownLemmas.{AreShown, add, from-line, show}
-use Rattle.ssh_host_review.specs.Lines.{counts_of, kept_of, line_findings, line_record, records_of}
-use Rattle.ssh_host_review.specs.Reviews.{known_review, whole_review}
+use Rattle.ssh_host_review.specs.Lines.{host_counts_of, host_kept_of, host_line_findings, host_line_record, host_records_of}
+use Rattle.ssh_host_review.specs.Reviews.{known_review, host_whole_review}
 use Rattle.ssh_host_review.proofs.ByteLemmas.{entry-facts}
 use Rattle.ssh_host_review.proofs.ObjectLemmas.{bare-line, entry-line, revoked-line}
 use Rattle.ssh_host_review.proofs.TextLemmas.{bare-shown, entry-shown, revoked-shown}
@@ -31,20 +31,20 @@ use Rattle.ssh_host_review.proofs.TextLemmas.{bare-shown, entry-shown, revoked-s
 
 line-by : (asking : Asking) (name : List ℕ) (earlier : List HostLine) (n : ℕ) (line : List ℕ) (said : KnownLine)
     → AreBytes name → AreBytes line → known_line line ≡ said
-    → (line_record Json asking name earlier n line said ≡ []) ⊎ (is_line (line_record Json asking name earlier n line said) ≡ true)
+    → (host_line_record Json asking name earlier n line said ≡ []) ⊎ (is_line (host_line_record Json asking name earlier n line said) ≡ true)
 line-by asking name earlier n line Blank h k is = inl refl
 line-by asking name earlier n line Comment h k is = inl refl
 line-by asking name earlier n line (Entry e) h k is =
-    inr (entry-line name n (host_facts_of line e) (line_findings asking earlier line (Entry e)) h (entry-facts line e k is))
+    inr (entry-line name n (host_facts_of line e) (host_line_findings asking earlier line (Entry e)) h (entry-facts line e k is))
 line-by asking name earlier n line (Revoked bytes) h k is =
-    inr (revoked-line name n bytes (line_findings asking earlier line (Revoked bytes)) h)
+    inr (revoked-line name n bytes (host_line_findings asking earlier line (Revoked bytes)) h)
 line-by asking name earlier n line RevokedUnreadable h k is =
-    inr (bare-line name n (codes "revocation-unreadable") None (line_findings asking earlier line RevokedUnreadable) h refl tt)
+    inr (bare-line name n (codes "revocation-unreadable") None (host_line_findings asking earlier line RevokedUnreadable) h refl tt)
 line-by asking name earlier n line (Unreadable cause) h k is =
-    inr (bare-line name n (codes "unreadable") (key_told line) (line_findings asking earlier line (Unreadable cause)) h refl (held-bytes (held_key line)))
+    inr (bare-line name n (codes "unreadable") (key_told line) (host_line_findings asking earlier line (Unreadable cause)) h refl (held-bytes (held_key line)))
 
 pub record-line : (asking : Asking) (name : List ℕ) (earlier : List HostLine) (n : ℕ) (line : List ℕ) → AreBytes name → AreBytes line
-    → (line_record Json asking name earlier n line (known_line line) ≡ []) ⊎ (is_line (line_record Json asking name earlier n line (known_line line)) ≡ true)
+    → (host_line_record Json asking name earlier n line (known_line line) ≡ []) ⊎ (is_line (host_line_record Json asking name earlier n line (known_line line)) ≡ true)
 record-line asking name earlier n line h k = line-by asking name earlier n line (known_line line) h k refl
 
 -- ---- each form
@@ -54,35 +54,35 @@ json-shown {record_text} (inl e) = rw e (show [] refl)
 json-shown {record_text} (inr h) = from-line h
 
 record-by : (form : Form) (asking : Asking) (name : List ℕ) (earlier : List HostLine) (n : ℕ) (line : List ℕ) (said : KnownLine)
-    → AreBytes name → AreBytes line → known_line line ≡ said → AreShown (line_record form asking name earlier n line said)
+    → AreBytes name → AreBytes line → known_line line ≡ said → AreShown (host_line_record form asking name earlier n line said)
 record-by Json asking name earlier n line said h k is = json-shown (line-by asking name earlier n line said h k is)
 record-by Text asking name earlier n line Blank h k is = show [] refl
 record-by Text asking name earlier n line Comment h k is = show [] refl
 record-by Text asking name earlier n line (Entry e) h k is =
-    entry-shown name n (host_facts_of line e) (line_findings asking earlier line (Entry e)) h (entry-facts line e k is)
+    entry-shown name n (host_facts_of line e) (host_line_findings asking earlier line (Entry e)) h (entry-facts line e k is)
 record-by Text asking name earlier n line (Revoked bytes) h k is =
-    revoked-shown name n bytes (line_findings asking earlier line (Revoked bytes)) h
+    revoked-shown name n bytes (host_line_findings asking earlier line (Revoked bytes)) h
 record-by Text asking name earlier n line RevokedUnreadable h k is =
-    bare-shown name n (codes "revocation-unreadable") None (line_findings asking earlier line RevokedUnreadable) h refl tt
+    bare-shown name n (codes "revocation-unreadable") None (host_line_findings asking earlier line RevokedUnreadable) h refl tt
 record-by Text asking name earlier n line (Unreadable cause) h k is =
-    bare-shown name n (codes "unreadable") (key_told line) (line_findings asking earlier line (Unreadable cause)) h refl (held-printable (held_key line))
+    bare-shown name n (codes "unreadable") (key_told line) (host_line_findings asking earlier line (Unreadable cause)) h refl (held-printable (held_key line))
 
 records-shown : (form : Form) (asking : Asking) (name : List ℕ) (earlier : List HostLine) (n : ℕ) (lines : List (List ℕ))
-    → AreBytes name → AllByRecursion AreBytes lines → AreShown (records_of form asking name earlier (numbered n lines))
+    → AreBytes name → AllByRecursion AreBytes lines → AreShown (host_records_of form asking name earlier (numbered n lines))
 records-shown form asking name earlier n [] h k = show [] refl
 records-shown form asking name earlier n (line ∷ lines) h k =
     add (record-by form asking name earlier n line (known_line line) h k.0 refl)
-    (records-shown form asking name (earlier ++ kept_of n line (known_line line)) (n + 1) lines h k.1)
+    (records-shown form asking name (earlier ++ host_kept_of n line (known_line line)) (n + 1) lines h k.1)
 
-whole-shown : (form : Form) (asking : Asking) (name file : List ℕ) → AreBytes name → AreBytes file → AreShown (whole_review form asking name file).text
-unfolding whole_review
+whole-shown : (form : Form) (asking : Asking) (name file : List ℕ) → AreBytes name → AreBytes file → AreShown (host_whole_review form asking name file).text
+unfolding host_whole_review
 whole-shown form asking name file h k =
     add (records-shown form asking name [] 1 (lines_of file) h (lines-bytes file k))
-    (end-shown form name (counts_of asking [] (numbered 1 (lines_of file))) (sha256 file) h (digest-bytes file))
+    (end-shown form name (host_counts_of asking [] (numbered 1 (lines_of file))) (sha256 file) h (digest-bytes file))
 
 pub review-shown : (form : Form) (asking : Asking) (name file : List ℕ) → AreBytes name → AreBytes file → AreShown (known_review form asking name file).text
 review-shown form asking name file h k = go (nat_lt file_limit (length file))
   where
-    go : (b : Bool) → AreShown (cond b (fault_review form name TooLong) (whole_review form asking name file)).text
+    go : (b : Bool) → AreShown (cond b (fault_review form name TooLong) (host_whole_review form asking name file)).text
     go true = fault-shown form name TooLong h
     go false = whole-shown form asking name file h k

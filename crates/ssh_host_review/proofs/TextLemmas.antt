@@ -15,14 +15,14 @@ use Rattle.ssh_review_json.proofs.WordLemmas.{cause-printable, code-printable}
 use Rattle.ssh_review.specs.Records.{fingerprint_word}
 use Rattle.ssh_review.proofs.ShownLemmas.{AreShown, add, seen, show}
 use Rattle.ssh_review.proofs.TextLemmas.{IsHeldPrintable, comment-printable, finding-head-printable, held-printable, key-printable, place-printable, role-printable, short-printable, unreadable-printable}
-use Rattle.ssh_host_review.specs.Details.{detail_of}
-use Rattle.ssh_host_review.specs.Records.{bare_text, entry_head, entry_text, revoked_text}
-use Rattle.ssh_host_review.specs.Sentences.{finding_line, sentence_of}
+use Rattle.ssh_host_review.specs.Details.{host_detail_of}
+use Rattle.ssh_host_review.specs.Records.{bare_text, host_entry_head, host_entry_text, revoked_text}
+use Rattle.ssh_host_review.specs.Sentences.{host_finding_line, host_sentence_of}
 use Rattle.ssh_host_review.proofs.ByteLemmas.{IsOfBytes, print-printable}
 
 -- ---- findings
 
-pub detail-printable : (f : HostFinding) → ArePrintable (detail_of f)
+pub detail-printable : (f : HostFinding) → ArePrintable (host_detail_of f)
 detail-printable (finding.Unreadable why) = cause-printable why
 detail-printable (finding.ShortKey bits) = decimal-printable bits
 detail-printable finding.MarkerTab = record { all = refl }
@@ -34,7 +34,7 @@ detail-printable finding.EveryHost = record { all = refl }
 detail-printable finding.NamesInClear = record { all = refl }
 detail-printable (finding.SameHostKey line) = decimal-printable line
 
-sentence-printable : (f : HostFinding) → ArePrintable (sentence_of f)
+sentence-printable : (f : HostFinding) → ArePrintable (host_sentence_of f)
 sentence-printable (finding.Unreadable why) = unreadable-printable why
 sentence-printable (finding.ShortKey bits) = short-printable bits
 sentence-printable finding.MarkerTab = record { all = refl }
@@ -46,25 +46,25 @@ sentence-printable finding.EveryHost = record { all = refl }
 sentence-printable finding.NamesInClear = record { all = refl }
 sentence-printable (finding.SameHostKey line) = join (word (codes "the same host key stands on line ") refl) (decimal-printable line)
 
-finding-shown : (f : HostFinding) → AreShown (finding_line f)
+finding-shown : (f : HostFinding) → AreShown (host_finding_line f)
 finding-shown f =
-    let head = finding-head-printable (code_text (code_of f)) (detail_of f) (code-printable (code_of f)) (detail-printable f) in
+    let head = finding-head-printable (code_text (code_of f)) (host_detail_of f) (code-printable (code_of f)) (detail-printable f) in
     add (seen (join head (sentence-printable f))) (show (codes "\n") refl)
 
-findings-shown : (found : List HostFinding) → AreShown (flat_map finding_line found)
+findings-shown : (found : List HostFinding) → AreShown (flat_map host_finding_line found)
 findings-shown [] = show [] refl
 findings-shown (f ∷ found) = add (finding-shown f) (findings-shown found)
 
 -- ---- records
 
-head-shown : (f : HostFacts) → IsOfBytes f → AreShown (entry_head f)
-unfolding entry_head
+head-shown : (f : HostFacts) → IsOfBytes f → AreShown (host_entry_head f)
+unfolding host_entry_head
 head-shown f h =
     let key = join (role-printable f.is_authority) (key-printable f.kind f.bits f.fingerprint h.fingerprint) in
     add (seen (join key (comment-printable f.comment h.comment))) (show (codes "\n") refl)
 
-pub entry-shown : (name : List ℕ) (n : ℕ) (f : HostFacts) (found : List HostFinding) → AreBytes name → IsOfBytes f → AreShown (entry_text name n f found)
-unfolding entry_text word_line
+pub entry-shown : (name : List ℕ) (n : ℕ) (f : HostFacts) (found : List HostFinding) → AreBytes name → IsOfBytes f → AreShown (host_entry_text name n f found)
+unfolding host_entry_text word_line
 entry-shown name n f found h k =
     let names = add (seen (join (word (codes "    names ") refl) (escaped-printable f.names k.names))) (show (codes "\n") refl) in
     add (add (add (seen (place-printable name n h)) (head-shown f k)) names) (findings-shown found)

@@ -6,10 +6,10 @@ use Rattle.ssh_review.specs.declared.counts.Counts.{Counts}
 
 -- of a line with so many findings: an entry is a key, an authority's too; a revocation is a line alone, and one that cannot be
 -- read counts as unreadable
-abbrev pub counts_with : KnownLine → ℕ → Counts
-counts_with Blank findings = record { lines = 1; keys = 0; unreadable = 0; findings = findings }
-counts_with Comment findings = record { lines = 1; keys = 0; unreadable = 0; findings = findings }
-counts_with (Entry entry) findings = record { lines = 1; keys = 1; unreadable = 0; findings = findings }
-counts_with (Revoked bytes) findings = record { lines = 1; keys = 0; unreadable = 0; findings = findings }
-counts_with RevokedUnreadable findings = record { lines = 1; keys = 0; unreadable = 1; findings = findings }
-counts_with (Unreadable cause) findings = record { lines = 1; keys = 0; unreadable = 1; findings = findings }
+abbrev pub host_counts_with : KnownLine → ℕ → Counts
+host_counts_with Blank findings = record { lines = 1; keys = 0; unreadable = 0; findings = findings }
+host_counts_with Comment findings = record { lines = 1; keys = 0; unreadable = 0; findings = findings }
+host_counts_with (Entry entry) findings = record { lines = 1; keys = 1; unreadable = 0; findings = findings }
+host_counts_with (Revoked bytes) findings = record { lines = 1; keys = 0; unreadable = 0; findings = findings }
+host_counts_with RevokedUnreadable findings = record { lines = 1; keys = 0; unreadable = 1; findings = findings }
+host_counts_with (Unreadable cause) findings = record { lines = 1; keys = 0; unreadable = 1; findings = findings }

@@ -6,14 +6,14 @@ use Rattle.ssh_host_findings.specs.declared.finding.HostFinding.TheVariants as f
 use Rattle.ssh_review_json.specs.Details.{cause_detail}
 
 -- a line's fault, the bits of a key, what of the line it is, or the number of another line
-abbrev pub detail_of : HostFinding → List ℕ
-detail_of (finding.Unreadable why) = cause_detail why
-detail_of (finding.ShortKey bits) = decimal bits
-detail_of finding.MarkerTab = codes "tab"
-detail_of finding.BlindRevocation = []
-detail_of (finding.OtherKey line) = decimal line
-detail_of (finding.TrustedAndRevoked line) = decimal line
-detail_of finding.PatternHosts = []
-detail_of finding.EveryHost = []
-detail_of finding.NamesInClear = []
-detail_of (finding.SameHostKey line) = decimal line
+abbrev pub host_detail_of : HostFinding → List ℕ
+host_detail_of (finding.Unreadable why) = cause_detail why
+host_detail_of (finding.ShortKey bits) = decimal bits
+host_detail_of finding.MarkerTab = codes "tab"
+host_detail_of finding.BlindRevocation = []
+host_detail_of (finding.OtherKey line) = decimal line
+host_detail_of (finding.TrustedAndRevoked line) = decimal line
+host_detail_of finding.PatternHosts = []
+host_detail_of finding.EveryHost = []
+host_detail_of finding.NamesInClear = []
+host_detail_of (finding.SameHostKey line) = decimal line

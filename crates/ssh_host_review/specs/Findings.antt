@@ -5,19 +5,19 @@ use Rattle.ssh_findings.specs.Codes.{code_text}
 use Rattle.ssh_host_findings.specs.declared.finding.HostFinding.{HostFinding}
 use Rattle.ssh_host_findings.specs.Findings.{code_of}
 use Rattle.ssh_review_json.specs.Findings.{code_object}
-use Rattle.ssh_host_review.specs.Details.{detail_of}
+use Rattle.ssh_host_review.specs.Details.{host_detail_of}
 
-abbrev pub finding_object : HostFinding → List ℕ
-finding_object f = code_object (code_text (code_of f)) (detail_of f)
+abbrev pub host_finding_object : HostFinding → List ℕ
+host_finding_object f = code_object (code_text (code_of f)) (host_detail_of f)
 
-abbrev pub after_comma : HostFinding → List ℕ
-after_comma f = 44 ∷ finding_object f
+abbrev pub host_after_comma : HostFinding → List ℕ
+host_after_comma f = 44 ∷ host_finding_object f
 
 -- the objects with commas between them
-abbrev pub findings_list : List HostFinding → List ℕ
-findings_list [] = []
-findings_list (f ∷ others) = finding_object f ++ flat_map after_comma others
+abbrev pub host_findings_list : List HostFinding → List ℕ
+host_findings_list [] = []
+host_findings_list (f ∷ others) = host_finding_object f ++ flat_map host_after_comma others
 
 -- the last field of a record, and the end of its line
-abbrev pub findings_end : List HostFinding → List ℕ
-findings_end found = codes ",\"findings\":[" ++ findings_list found ++ codes "]}\n"
+abbrev pub host_findings_end : List HostFinding → List ℕ
+host_findings_end found = codes ",\"findings\":[" ++ host_findings_list found ++ codes "]}\n"

@@ -5,13 +5,13 @@ use Rattle.ssh_host_findings.specs.declared.finding.HostFinding.{HostFinding}
 use Rattle.ssh_held_keys.specs.declared.held.HeldKey.{HeldKey}
 use Rattle.ssh_review.specs.declared.form.Form.{Form}
 use Rattle.ssh_review.specs.declared.form.Form.TheVariants.{Text, Json}
-use Rattle.ssh_host_review.specs.Objects.{bare_object, entry_object, revoked_object}
-use Rattle.ssh_host_review.specs.Records.{bare_text, entry_text, revoked_text}
+use Rattle.ssh_host_review.specs.Objects.{bare_object, host_entry_object, revoked_object}
+use Rattle.ssh_host_review.specs.Records.{bare_text, host_entry_text, revoked_text}
 
 -- the record of an entry
-abbrev pub entry_record : Form → List ℕ → ℕ → HostFacts → List HostFinding → List ℕ
-entry_record Text name n f found = entry_text name n f found
-entry_record Json name n f found = entry_object name n f found
+abbrev pub host_entry_record : Form → List ℕ → ℕ → HostFacts → List HostFinding → List ℕ
+host_entry_record Text name n f found = host_entry_text name n f found
+host_entry_record Json name n f found = host_entry_object name n f found
 
 -- the record of a line that revokes these bytes
 abbrev pub revoked_record : Form → List ℕ → ℕ → List ℕ → List HostFinding → List ℕ
@@ -24,6 +24,6 @@ blind_record Text name n found = bare_text name n (codes "revocation-unreadable"
 blind_record Json name n found = bare_object name n (codes "revocation-unreadable") None found
 
 -- the record of a line that cannot be read, with the key that stands on it, if there is one
-abbrev pub unreadable_record : Form → List ℕ → ℕ → Option HeldKey → List HostFinding → List ℕ
-unreadable_record Text name n held found = bare_text name n (codes "unreadable") held found
-unreadable_record Json name n held found = bare_object name n (codes "unreadable") held found
+abbrev pub host_unreadable_record : Form → List ℕ → ℕ → Option HeldKey → List HostFinding → List ℕ
+host_unreadable_record Text name n held found = bare_text name n (codes "unreadable") held found
+host_unreadable_record Json name n held found = bare_object name n (codes "unreadable") held found

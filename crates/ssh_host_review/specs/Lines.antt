@@ -14,53 +14,53 @@ use Rattle.ssh_review.specs.declared.counts.Counts.{Counts}
 use Rattle.ssh_review.specs.declared.form.Form.{Form}
 use Rattle.ssh_review.specs.Counting.{no_counts, plus}
 use Rattle.ssh_review.specs.Lines.{key_told}
-use Rattle.ssh_host_review.specs.Counting.{counts_with}
-use Rattle.ssh_host_review.specs.Forms.{blind_record, entry_record, revoked_record, unreadable_record}
+use Rattle.ssh_host_review.specs.Counting.{host_counts_with}
+use Rattle.ssh_host_review.specs.Forms.{blind_record, host_entry_record, revoked_record, host_unreadable_record}
 
 -- what is found of a line after these lines, and told
-abbrev pub line_findings : Asking → List HostLine → List ℕ → KnownLine → List HostFinding
-line_findings asking earlier line Blank = []
-line_findings asking earlier line Comment = []
-line_findings asking earlier line (Entry entry) = host_entry_findings asking earlier (key_blob entry.key) (host_facts_of line entry)
-line_findings asking earlier line (Revoked bytes) = revocation_findings asking earlier bytes
-line_findings asking earlier line RevokedUnreadable = blind_findings asking
-line_findings asking earlier line (Unreadable cause) = unreadable_host_findings asking cause
+abbrev pub host_line_findings : Asking → List HostLine → List ℕ → KnownLine → List HostFinding
+host_line_findings asking earlier line Blank = []
+host_line_findings asking earlier line Comment = []
+host_line_findings asking earlier line (Entry entry) = host_entry_findings asking earlier (key_blob entry.key) (host_facts_of line entry)
+host_line_findings asking earlier line (Revoked bytes) = revocation_findings asking earlier bytes
+host_line_findings asking earlier line RevokedUnreadable = blind_findings asking
+host_line_findings asking earlier line (Unreadable cause) = unreadable_host_findings asking cause
 
 -- The record of a line that says this, with its number. Blank lines and comments have none.
-abbrev pub line_record : Form → Asking → List ℕ → List HostLine → ℕ → List ℕ → KnownLine → List ℕ
-line_record form asking name earlier n line Blank = []
-line_record form asking name earlier n line Comment = []
-line_record form asking name earlier n line (Entry entry) =
-    entry_record form name n (host_facts_of line entry) (line_findings asking earlier line (Entry entry))
-line_record form asking name earlier n line (Revoked bytes) =
-    revoked_record form name n bytes (line_findings asking earlier line (Revoked bytes))
-line_record form asking name earlier n line RevokedUnreadable =
-    blind_record form name n (line_findings asking earlier line RevokedUnreadable)
-line_record form asking name earlier n line (Unreadable cause) =
-    unreadable_record form name n (key_told line) (line_findings asking earlier line (Unreadable cause))
+abbrev pub host_line_record : Form → Asking → List ℕ → List HostLine → ℕ → List ℕ → KnownLine → List ℕ
+host_line_record form asking name earlier n line Blank = []
+host_line_record form asking name earlier n line Comment = []
+host_line_record form asking name earlier n line (Entry entry) =
+    host_entry_record form name n (host_facts_of line entry) (host_line_findings asking earlier line (Entry entry))
+host_line_record form asking name earlier n line (Revoked bytes) =
+    revoked_record form name n bytes (host_line_findings asking earlier line (Revoked bytes))
+host_line_record form asking name earlier n line RevokedUnreadable =
+    blind_record form name n (host_line_findings asking earlier line RevokedUnreadable)
+host_line_record form asking name earlier n line (Unreadable cause) =
+    host_unreadable_record form name n (key_told line) (host_line_findings asking earlier line (Unreadable cause))
 
-abbrev pub line_counts : Asking → List HostLine → List ℕ → KnownLine → Counts
-line_counts asking earlier line said = counts_with said (length (line_findings asking earlier line said))
+abbrev pub host_line_counts : Asking → List HostLine → List ℕ → KnownLine → Counts
+host_line_counts asking earlier line said = host_counts_with said (length (host_line_findings asking earlier line said))
 
 -- what later lines are told of a line
-abbrev pub kept_of : ℕ → List ℕ → KnownLine → List HostLine
-kept_of n line Blank = []
-kept_of n line Comment = []
-kept_of n line (Entry entry) = trusting n (key_blob entry.key) (host_facts_of line entry) ∷ []
-kept_of n line (Revoked bytes) = revoking n bytes ∷ []
-kept_of n line RevokedUnreadable = []
-kept_of n line (Unreadable cause) = []
+abbrev pub host_kept_of : ℕ → List ℕ → KnownLine → List HostLine
+host_kept_of n line Blank = []
+host_kept_of n line Comment = []
+host_kept_of n line (Entry entry) = trusting n (key_blob entry.key) (host_facts_of line entry) ∷ []
+host_kept_of n line (Revoked bytes) = revoking n bytes ∷ []
+host_kept_of n line RevokedUnreadable = []
+host_kept_of n line (Unreadable cause) = []
 
 -- the records of lines, each with its number, after these lines
-abbrev pub records_of : Form → Asking → List ℕ → List HostLine → List (ℕ × List ℕ) → List ℕ
-records_of form asking name earlier [] = []
-records_of form asking name earlier (line ∷ lines) =
-    line_record form asking name earlier line.0 line.1 (known_line line.1)
-    ++ records_of form asking name (earlier ++ kept_of line.0 line.1 (known_line line.1)) lines
+abbrev pub host_records_of : Form → Asking → List ℕ → List HostLine → List (ℕ × List ℕ) → List ℕ
+host_records_of form asking name earlier [] = []
+host_records_of form asking name earlier (line ∷ lines) =
+    host_line_record form asking name earlier line.0 line.1 (known_line line.1)
+    ++ host_records_of form asking name (earlier ++ host_kept_of line.0 line.1 (known_line line.1)) lines
 
 -- what lines count
-abbrev pub counts_of : Asking → List HostLine → List (ℕ × List ℕ) → Counts
-counts_of asking earlier [] = no_counts
-counts_of asking earlier (line ∷ lines) =
-    plus (line_counts asking earlier line.1 (known_line line.1))
-    (counts_of asking (earlier ++ kept_of line.0 line.1 (known_line line.1)) lines)
+abbrev pub host_counts_of : Asking → List HostLine → List (ℕ × List ℕ) → Counts
+host_counts_of asking earlier [] = no_counts
+host_counts_of asking earlier (line ∷ lines) =
+    plus (host_line_counts asking earlier line.1 (known_line line.1))
+    (host_counts_of asking (earlier ++ host_kept_of line.0 line.1 (known_line line.1)) lines)

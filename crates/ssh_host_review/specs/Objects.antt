@@ -5,7 +5,7 @@ use Rattle.ssh_host_findings.specs.declared.finding.HostFinding.{HostFinding}
 use Rattle.ssh_held_keys.specs.declared.held.HeldKey.{HeldKey}
 use Rattle.ssh_review_json.specs.Fields.{null_field, text_field}
 use Rattle.ssh_review_json.specs.Objects.{fingerprint_text, held_fields, is_word, key_fields, object_head}
-use Rattle.ssh_host_review.specs.Findings.{findings_end}
+use Rattle.ssh_host_review.specs.Findings.{host_findings_end}
 use Rattle.ssh_host_review.specs.Records.{print_of}
 
 -- which key, the comment, and the names as they stand
@@ -14,12 +14,12 @@ entry_fields f =
     key_fields f.kind f.bits f.fingerprint ++ text_field (codes "comment") f.comment ++ text_field (codes "names") f.names
 
 -- the record of an entry, with what is found and told
-unfoldable pub entry_object : List ℕ → ℕ → HostFacts → List HostFinding → List ℕ
-entry_object name n f found = object_head name n (is_word f.is_authority) ++ entry_fields f ++ findings_end found
+unfoldable pub host_entry_object : List ℕ → ℕ → HostFacts → List HostFinding → List ℕ
+host_entry_object name n f found = object_head name n (is_word f.is_authority) ++ entry_fields f ++ host_findings_end found
 
 -- the fields that an entry alone has
-unfoldable pub empty_fields : List ℕ
-empty_fields = null_field (codes "comment") ++ null_field (codes "names")
+unfoldable pub host_empty_fields : List ℕ
+host_empty_fields = null_field (codes "comment") ++ null_field (codes "names")
 
 -- the fingerprint of what is revoked, and no type
 unfoldable pub revoked_fields : List ℕ → List ℕ
@@ -29,9 +29,9 @@ revoked_fields bytes =
 -- the record of a line that revokes these bytes, with what is found and told
 unfoldable pub revoked_object : List ℕ → ℕ → List ℕ → List HostFinding → List ℕ
 revoked_object name n bytes found =
-    object_head name n (codes "revoked") ++ revoked_fields bytes ++ empty_fields ++ findings_end found
+    object_head name n (codes "revoked") ++ revoked_fields bytes ++ host_empty_fields ++ host_findings_end found
 
 -- the record of a line of which no more can be told than what it is and the key that stands on it, if there is one, with what
 -- is found and told
 unfoldable pub bare_object : List ℕ → ℕ → List ℕ → Option HeldKey → List HostFinding → List ℕ
-bare_object name n is held found = object_head name n is ++ held_fields held ++ empty_fields ++ findings_end found
+bare_object name n is held found = object_head name n is ++ held_fields held ++ host_empty_fields ++ host_findings_end found

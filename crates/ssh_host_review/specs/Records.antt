@@ -8,17 +8,17 @@ use Rattle.ssh_host_findings.specs.declared.facts.HostFacts.{HostFacts}
 use Rattle.ssh_host_findings.specs.declared.finding.HostFinding.{HostFinding}
 use Rattle.ssh_held_keys.specs.declared.held.HeldKey.{HeldKey}
 use Rattle.ssh_review.specs.Records.{comment_text, fingerprint_word, held_words, key_words, place_text, role_word}
-use Rattle.ssh_host_review.specs.Sentences.{finding_line}
+use Rattle.ssh_host_review.specs.Sentences.{host_finding_line}
 
 -- which key, and the comment
-unfoldable pub entry_head : HostFacts → List ℕ
-entry_head f =
+unfoldable pub host_entry_head : HostFacts → List ℕ
+host_entry_head f =
     role_word f.is_authority ++ key_words f.kind f.bits f.fingerprint ++ comment_text f.comment ++ codes "\n"
 
 -- the record of an entry, with its names as they stand, and what is found and told
-unfoldable pub entry_text : List ℕ → ℕ → HostFacts → List HostFinding → List ℕ
-entry_text name n f found =
-    place_text name n ++ entry_head f ++ text_line (codes "    names ") f.names ++ flat_map finding_line found
+unfoldable pub host_entry_text : List ℕ → ℕ → HostFacts → List HostFinding → List ℕ
+host_entry_text name n f found =
+    place_text name n ++ host_entry_head f ++ text_line (codes "    names ") f.names ++ flat_map host_finding_line found
 
 -- the text of the SHA-256 of some bytes, which is the fingerprint where they are a key's blob
 unfoldable pub print_of : List ℕ → List ℕ
@@ -27,9 +27,9 @@ print_of bytes = digest_text_of (sha256 bytes)
 -- the record of a line that revokes these bytes, with what is found and told
 unfoldable pub revoked_text : List ℕ → ℕ → List ℕ → List HostFinding → List ℕ
 revoked_text name n bytes found =
-    place_text name n ++ codes "revoked" ++ fingerprint_word (print_of bytes) ++ codes "\n" ++ flat_map finding_line found
+    place_text name n ++ codes "revoked" ++ fingerprint_word (print_of bytes) ++ codes "\n" ++ flat_map host_finding_line found
 
 -- the record of a line of which no more can be told than what it is and the key that stands on it, if there is one, with what
 -- is found and told
 unfoldable pub bare_text : List ℕ → ℕ → List ℕ → Option HeldKey → List HostFinding → List ℕ
-bare_text name n is held found = place_text name n ++ is ++ held_words held ++ codes "\n" ++ flat_map finding_line found
+bare_text name n is held found = place_text name n ++ is ++ held_words held ++ codes "\n" ++ flat_map host_finding_line found

@@ -7,18 +7,18 @@ use Rattle.ssh_review.specs.declared.counts.FileFault.TheVariants.{TooLong}
 use Rattle.ssh_review.specs.declared.form.Form.{Form}
 use Rattle.ssh_review.specs.Forms.{end_line}
 use Rattle.ssh_review.specs.Reviews.{Review, fault_review}
-use Rattle.ssh_host_review.specs.Lines.{counts_of, records_of}
+use Rattle.ssh_host_review.specs.Lines.{host_counts_of, host_records_of}
 
 -- the records of the lines of a file, and its end
-unfoldable pub whole_review : Form → Asking → List ℕ → List ℕ → Review
-whole_review form asking name file = record {
-  text = records_of form asking name [] (numbered 1 (lines_of file))
-      ++ end_line form name (counts_of asking [] (numbered 1 (lines_of file))) (sha256 file);
-  counts = counts_of asking [] (numbered 1 (lines_of file));
+unfoldable pub host_whole_review : Form → Asking → List ℕ → List ℕ → Review
+host_whole_review form asking name file = record {
+  text = host_records_of form asking name [] (numbered 1 (lines_of file))
+      ++ end_line form name (host_counts_of asking [] (numbered 1 (lines_of file))) (sha256 file);
+  counts = host_counts_of asking [] (numbered 1 (lines_of file));
   fault = None;
 }
 
 -- Of a file past the limit nothing but its end is told.
 abbrev pub known_review : Form → Asking → List ℕ → List ℕ → Review
 known_review form asking name file =
-    if nat_lt file_limit (length file) then fault_review form name TooLong else whole_review form asking name file
+    if nat_lt file_limit (length file) then fault_review form name TooLong else host_whole_review form asking name file

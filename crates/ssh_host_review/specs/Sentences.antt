@@ -6,21 +6,21 @@ use Rattle.ssh_host_findings.specs.declared.finding.HostFinding.{HostFinding}
 use Rattle.ssh_host_findings.specs.declared.finding.HostFinding.TheVariants as finding
 use Rattle.ssh_host_findings.specs.Findings.{code_of}
 use Rattle.ssh_review.specs.Sentences.{finding_head, short_sentence, unreadable_sentence}
-use Rattle.ssh_host_review.specs.Details.{detail_of}
+use Rattle.ssh_host_review.specs.Details.{host_detail_of}
 
-abbrev pub sentence_of : HostFinding → List ℕ
-sentence_of (finding.Unreadable why) = unreadable_sentence why
-sentence_of (finding.ShortKey bits) = short_sentence bits
-sentence_of finding.MarkerTab = codes "OpenSSH passes over this line: a tab follows its marker"
-sentence_of finding.BlindRevocation =
+abbrev pub host_sentence_of : HostFinding → List ℕ
+host_sentence_of (finding.Unreadable why) = unreadable_sentence why
+host_sentence_of (finding.ShortKey bits) = short_sentence bits
+host_sentence_of finding.MarkerTab = codes "OpenSSH passes over this line: a tab follows its marker"
+host_sentence_of finding.BlindRevocation =
     codes "may revoke any key and cannot be read: here it denies every host, OpenSSH may pass over it"
-sentence_of (finding.OtherKey line) = codes "another key of this type for a name of line " ++ decimal line
-sentence_of (finding.TrustedAndRevoked line) = codes "its key is both trusted and revoked: see line " ++ decimal line
-sentence_of finding.PatternHosts = codes "one key for all hosts that a pattern names"
-sentence_of finding.EveryHost = codes "an authority for every host"
-sentence_of finding.NamesInClear = codes "its names are in clear"
-sentence_of (finding.SameHostKey line) = codes "the same host key stands on line " ++ decimal line
+host_sentence_of (finding.OtherKey line) = codes "another key of this type for a name of line " ++ decimal line
+host_sentence_of (finding.TrustedAndRevoked line) = codes "its key is both trusted and revoked: see line " ++ decimal line
+host_sentence_of finding.PatternHosts = codes "one key for all hosts that a pattern names"
+host_sentence_of finding.EveryHost = codes "an authority for every host"
+host_sentence_of finding.NamesInClear = codes "its names are in clear"
+host_sentence_of (finding.SameHostKey line) = codes "the same host key stands on line " ++ decimal line
 
 -- the line of a finding
-abbrev pub finding_line : HostFinding → List ℕ
-finding_line f = finding_head (code_text (code_of f)) (detail_of f) ++ sentence_of f ++ codes "\n"
+abbrev pub host_finding_line : HostFinding → List ℕ
+host_finding_line f = finding_head (code_text (code_of f)) (host_detail_of f) ++ host_sentence_of f ++ codes "\n"

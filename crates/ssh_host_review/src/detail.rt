@@ -1,7 +1,7 @@
 //! Details of findings, as both forms of a review tell them.
 
 ghost use Rattle.std.specs.Prelude.{◌≡◌, IfOk};
-ghost use Rattle.ssh_host_review.specs.Details.{detail_of};
+ghost use Rattle.ssh_host_review.specs.Details.{host_detail_of};
 
 use ssh_host_findings::HostFinding;
 use ssh_review_json::{cause_detail, number_detail};
@@ -10,7 +10,7 @@ use std::alloc::{AllocError, Global};
 /// What stands after the code of a finding: the codes of a line's fault, the bits of a key, what of
 /// the line it is, or the number of another line; no bytes where the code says all.
 pub(crate) fn detail(alloc: Global, finding: HostFinding) -> Result<Vec<u8>, AllocError>
-    ensures { IfOk result (λ text. text.items ≡ detail_of finding) }
+    ensures { IfOk result (λ text. text.items ≡ host_detail_of finding) }
 {
     match finding {
         HostFinding::Unreadable(cause) => cause_detail(alloc, cause),

@@ -3,10 +3,10 @@
 ghost use Rattle.std.specs.Prelude.{◌≡◌, ◌++◌, OnOk};
 ghost use Rattle.std.specs.List.{flat_map};
 ghost use Rattle.ssh_host_review.specs.Findings.{
-  after_comma,
-  finding_object,
-  findings_end,
-  findings_list,
+  host_after_comma,
+  host_finding_object,
+  host_findings_end,
+  host_findings_list,
 };
 
 use crate::detail::detail;
@@ -20,7 +20,7 @@ fn push_finding_object(
     out: &mut Vec<u8>,
     finding: HostFinding,
 ) -> Result<(), AllocError>
-    ensures { OnOk result (out.new.items ≡ out.old.items ++ finding_object finding) }
+    ensures { OnOk result (out.new.items ≡ out.old.items ++ host_finding_object finding) }
 {
     let said = detail(alloc, finding)?;
     push_code_object(alloc, out, finding.code().text(), &said)
@@ -28,7 +28,7 @@ fn push_finding_object(
 
 /// The objects of findings, each after a comma.
 fn push_others(alloc: Global, out: &mut Vec<u8>, found: &[HostFinding]) -> Result<(), AllocError>
-    ensures { OnOk result (out.new.items ≡ out.old.items ++ flat_map after_comma found.now) }
+    ensures { OnOk result (out.new.items ≡ out.old.items ++ flat_map host_after_comma found.now) }
 {
     for finding in found {
         out.push(b',')?;
@@ -43,7 +43,7 @@ fn push_findings_list(
     out: &mut Vec<u8>,
     found: &[HostFinding],
 ) -> Result<(), AllocError>
-    ensures { OnOk result (out.new.items ≡ out.old.items ++ findings_list found.now) }
+    ensures { OnOk result (out.new.items ≡ out.old.items ++ host_findings_list found.now) }
 {
     if let [first, others @ ..] = found {
         push_finding_object(alloc, out, *first)?;
@@ -58,7 +58,7 @@ pub(crate) fn push_findings_end(
     out: &mut Vec<u8>,
     found: &[HostFinding],
 ) -> Result<(), AllocError>
-    ensures { OnOk result (out.new.items ≡ out.old.items ++ findings_end found.now) }
+    ensures { OnOk result (out.new.items ≡ out.old.items ++ host_findings_end found.now) }
 {
     out.extend_from_slice(b",\"findings\":[")?;
     push_findings_list(alloc, out, found)?;

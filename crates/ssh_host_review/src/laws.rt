@@ -8,7 +8,7 @@ ghost use Rattle.ssh_review_json.specs.OneLine.{AreBytes, is_line};
 ghost use Rattle.ssh_review.specs.declared.form.Form.{Form};
 ghost use Rattle.ssh_review.specs.declared.form.Form.TheVariants.{Json};
 ghost use Rattle.ssh_review.specs.Shown.{are_shown};
-ghost use Rattle.ssh_host_review.specs.Lines.{line_record};
+ghost use Rattle.ssh_host_review.specs.Lines.{host_line_record};
 ghost use Rattle.ssh_host_review.specs.Reviews.{known_review};
 
 /// As JSON each record is one line of printable ASCII, whatever bytes stand in the file and in its
@@ -17,8 +17,8 @@ fn one_line_rule()
     ensures { (asking : Asking) (name : List ℕ) (earlier : List HostLine) (n : ℕ) (line : List ℕ)
         → AreBytes name
         → AreBytes line
-        → (line_record Json asking name earlier n line (known_line line) ≡ [])
-        ⊎ (is_line (line_record Json asking name earlier n line (known_line line)) ≡ true) }
+        → (host_line_record Json asking name earlier n line (known_line line) ≡ [])
+        ⊎ (is_line (host_line_record Json asking name earlier n line (known_line line)) ≡ true) }
 {}
 
 /// In each form nothing but printable ASCII and the LFs at the ends of lines comes out, whatever bytes

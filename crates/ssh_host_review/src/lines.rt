@@ -8,12 +8,12 @@ ghost use Rattle.ssh_findings.specs.Asking.{asking_of};
 ghost use Rattle.ssh_host_findings.specs.HostLines.{HostLine};
 ghost use Rattle.ssh_host_findings.specs.StandsFor.{StandsFor};
 ghost use Rattle.ssh_host_review.specs.Lines.{
-  counts_of,
-  kept_of,
-  line_counts,
-  line_findings,
-  line_record,
-  records_of,
+  host_counts_of,
+  host_kept_of,
+  host_line_counts,
+  host_line_findings,
+  host_line_record,
+  host_records_of,
 };
 
 use crate::object::{push_bare_object, push_entry_object, push_revoked_object};
@@ -43,12 +43,12 @@ fn push_entry_line(
     out: &mut Vec<u8>,
 ) -> Result<Counts, AllocError>
     ensures text { OnOk result ((lines : List HostLine) → StandsFor earlier.old lines
-        → out.new.items ≡ out.old.items ++ line_record form (asking_of asked.entry.now)
+        → out.new.items ≡ out.old.items ++ host_line_record form (asking_of asked.entry.now)
         place.entry.now.name.now lines place.entry.now.number line.now (KnownLine.Entry entry.now)) }
     ensures counts { IfOk result (λ counts. (lines : List HostLine) → StandsFor earlier.old lines
-        → counts ≡ line_counts (asking_of asked.entry.now) lines line.now (KnownLine.Entry entry.now)) }
+        → counts ≡ host_line_counts (asking_of asked.entry.now) lines line.now (KnownLine.Entry entry.now)) }
     ensures kept { OnOk result ((lines : List HostLine) → StandsFor earlier.old lines
-        → StandsFor earlier.new (lines ++ kept_of
+        → StandsFor earlier.new (lines ++ host_kept_of
         place.entry.now.number line.now (KnownLine.Entry entry.now))) }
 {
     let facts = HostFacts::read(alloc, line, entry)?;
@@ -77,12 +77,12 @@ fn push_revoked_line(
     out: &mut Vec<u8>,
 ) -> Result<Counts, AllocError>
     ensures text { OnOk result ((lines : List HostLine) → StandsFor earlier.old lines
-        → out.new.items ≡ out.old.items ++ line_record form (asking_of asked.entry.now)
+        → out.new.items ≡ out.old.items ++ host_line_record form (asking_of asked.entry.now)
         place.entry.now.name.now lines place.entry.now.number [] (KnownLine.Revoked bytes.now)) }
     ensures counts { IfOk result (λ counts. (lines : List HostLine) → StandsFor earlier.old lines
-        → counts ≡ line_counts (asking_of asked.entry.now) lines [] (KnownLine.Revoked bytes.now)) }
+        → counts ≡ host_line_counts (asking_of asked.entry.now) lines [] (KnownLine.Revoked bytes.now)) }
     ensures kept { OnOk result ((lines : List HostLine) → StandsFor earlier.old lines
-        → StandsFor earlier.new (lines ++ kept_of
+        → StandsFor earlier.new (lines ++ host_kept_of
         place.entry.now.number [] (KnownLine.Revoked bytes.now))) }
 {
     let found = revocation_findings(alloc, asked, earlier, bytes)?;
@@ -107,9 +107,9 @@ fn push_blind_line(
     place: &Place<'_>,
     out: &mut Vec<u8>,
 ) -> Result<Counts, AllocError>
-    ensures text { OnOk result (out.new.items ≡ out.old.items ++ line_record form (asking_of asked.entry.now)
+    ensures text { OnOk result (out.new.items ≡ out.old.items ++ host_line_record form (asking_of asked.entry.now)
         place.entry.now.name.now [] place.entry.now.number [] KnownLine.RevokedUnreadable) }
-    ensures counts { IfOk result (λ counts. counts ≡ line_counts (asking_of asked.entry.now)
+    ensures counts { IfOk result (λ counts. counts ≡ host_line_counts (asking_of asked.entry.now)
         [] [] KnownLine.RevokedUnreadable) }
 {
     let found = blind_findings(alloc, asked)?;
@@ -135,9 +135,9 @@ fn push_unreadable_line(
     cause: LineCause,
     out: &mut Vec<u8>,
 ) -> Result<Counts, AllocError>
-    ensures text { OnOk result (out.new.items ≡ out.old.items ++ line_record form (asking_of asked.entry.now)
+    ensures text { OnOk result (out.new.items ≡ out.old.items ++ host_line_record form (asking_of asked.entry.now)
         place.entry.now.name.now [] place.entry.now.number line.now (KnownLine.Unreadable cause)) }
-    ensures counts { IfOk result (λ counts. counts ≡ line_counts (asking_of asked.entry.now)
+    ensures counts { IfOk result (λ counts. counts ≡ host_line_counts (asking_of asked.entry.now)
         [] line.now (KnownLine.Unreadable cause)) }
 {
     let held = held_key(alloc, line)?;
@@ -166,12 +166,12 @@ fn push_line(
     out: &mut Vec<u8>,
 ) -> Result<Counts, AllocError>
     ensures text { OnOk result ((lines : List HostLine) → StandsFor earlier.old lines
-        → out.new.items ≡ out.old.items ++ line_record form (asking_of asked.entry.now)
+        → out.new.items ≡ out.old.items ++ host_line_record form (asking_of asked.entry.now)
         place.entry.now.name.now lines place.entry.now.number line.now (known_seen view.now)) }
     ensures counts { IfOk result (λ counts. (lines : List HostLine) → StandsFor earlier.old lines
-        → counts ≡ line_counts (asking_of asked.entry.now) lines line.now (known_seen view.now)) }
+        → counts ≡ host_line_counts (asking_of asked.entry.now) lines line.now (known_seen view.now)) }
     ensures kept { OnOk result ((lines : List HostLine) → StandsFor earlier.old lines
-        → StandsFor earlier.new (lines ++ kept_of
+        → StandsFor earlier.new (lines ++ host_kept_of
         place.entry.now.number line.now (known_seen view.now))) }
 {
     match view {
@@ -205,9 +205,9 @@ pub(crate) fn push_lines(
 ) -> Result<Counts, AllocError>
     requires { length file.now ≤ file_limit }
     ensures text { OnOk result (out.new.items ≡ out.old.items
-        ++ records_of form (asking_of asked.entry.now) name.now [] (numbered 1 (lines_of file.now))) }
+        ++ host_records_of form (asking_of asked.entry.now) name.now [] (numbered 1 (lines_of file.now))) }
     ensures counts { IfOk result (λ counts. counts
-        ≡ counts_of (asking_of asked.entry.now) [] (numbered 1 (lines_of file.now))) }
+        ≡ host_counts_of (asking_of asked.entry.now) [] (numbered 1 (lines_of file.now))) }
 {
     let mut buffer = KeyBuffer::new(alloc)?;
     let mut counts = Counts::NONE;

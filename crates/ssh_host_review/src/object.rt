@@ -3,9 +3,9 @@
 ghost use Rattle.std.specs.Prelude.{◌≡◌, ◌++◌, OnOk};
 ghost use Rattle.ssh_host_review.specs.Objects.{
   bare_object,
-  empty_fields,
+  host_empty_fields,
   entry_fields,
-  entry_object,
+  host_entry_object,
   revoked_fields,
   revoked_object,
 };
@@ -32,7 +32,7 @@ fn push_entry_fields(alloc: Global, out: &mut Vec<u8>, facts: &HostFacts) -> Res
 }
 
 /// The record of an entry.
-#[tactic(auto, unfolding(crate::specs::Objects::entry_object))]
+#[tactic(auto, unfolding(crate::specs::Objects::host_entry_object))]
 pub(crate) fn push_entry_object(
     alloc: Global,
     out: &mut Vec<u8>,
@@ -41,7 +41,7 @@ pub(crate) fn push_entry_object(
     found: &[HostFinding],
 ) -> Result<(), AllocError>
     ensures { OnOk result (out.new.items ≡ out.old.items
-        ++ entry_object place.entry.now.name.now place.entry.now.number facts.now found.now) }
+        ++ host_entry_object place.entry.now.name.now place.entry.now.number facts.now found.now) }
 {
     push_object_head(alloc, out, place, is_word(facts.is_authority))?;
     push_entry_fields(alloc, out, facts)?;
@@ -50,9 +50,9 @@ pub(crate) fn push_entry_object(
 }
 
 /// The fields of an entry, where there is none.
-#[tactic(auto, unfolding(crate::specs::Objects::empty_fields))]
+#[tactic(auto, unfolding(crate::specs::Objects::host_empty_fields))]
 fn push_empty_fields(out: &mut Vec<u8>) -> Result<(), AllocError>
-    ensures { OnOk result (out.new.items ≡ out.old.items ++ empty_fields) }
+    ensures { OnOk result (out.new.items ≡ out.old.items ++ host_empty_fields) }
 {
     push_null_field(out, b"comment")?;
     push_null_field(out, b"names")?;

@@ -4,11 +4,11 @@ ghost use Rattle.std.specs.Prelude.{◌≡◌, ◌++◌, OnOk};
 ghost use Rattle.std.specs.List.{flat_map};
 ghost use Rattle.ssh_host_review.specs.Records.{
   bare_text,
-  entry_head,
-  entry_text,
+  host_entry_head,
+  host_entry_text,
   revoked_text,
 };
-ghost use Rattle.ssh_host_review.specs.Sentences.{finding_line};
+ghost use Rattle.ssh_host_review.specs.Sentences.{host_finding_line};
 
 use crate::print::print_of;
 use crate::sentence::push_finding;
@@ -20,7 +20,7 @@ use ssh_review_json::Place;
 use std::alloc::{AllocError, Global};
 
 fn push_findings(alloc: Global, out: &mut Vec<u8>, found: &[HostFinding]) -> Result<(), AllocError>
-    ensures { OnOk result (out.new.items ≡ out.old.items ++ flat_map finding_line found.now) }
+    ensures { OnOk result (out.new.items ≡ out.old.items ++ flat_map host_finding_line found.now) }
 {
     for finding in found {
         push_finding(alloc, out, *finding)?;
@@ -29,9 +29,9 @@ fn push_findings(alloc: Global, out: &mut Vec<u8>, found: &[HostFinding]) -> Res
 }
 
 /// Which key, and the comment.
-#[tactic(auto, unfolding(crate::specs::Records::entry_head))]
+#[tactic(auto, unfolding(crate::specs::Records::host_entry_head))]
 fn push_head(alloc: Global, out: &mut Vec<u8>, facts: &HostFacts) -> Result<(), AllocError>
-    ensures { OnOk result (out.new.items ≡ out.old.items ++ entry_head facts.now) }
+    ensures { OnOk result (out.new.items ≡ out.old.items ++ host_entry_head facts.now) }
 {
     out.extend_from_slice(role_word(facts.is_authority))?;
     push_key(alloc, out, facts.kind, facts.bits, &facts.fingerprint)?;
@@ -41,7 +41,7 @@ fn push_head(alloc: Global, out: &mut Vec<u8>, facts: &HostFacts) -> Result<(), 
 }
 
 /// The record of an entry.
-#[tactic(auto, unfolding(crate::specs::Records::entry_text))]
+#[tactic(auto, unfolding(crate::specs::Records::host_entry_text))]
 pub(crate) fn push_entry_text(
     alloc: Global,
     out: &mut Vec<u8>,
@@ -50,7 +50,7 @@ pub(crate) fn push_entry_text(
     found: &[HostFinding],
 ) -> Result<(), AllocError>
     ensures { OnOk result (out.new.items ≡ out.old.items
-        ++ entry_text place.entry.now.name.now place.entry.now.number facts.now found.now) }
+        ++ host_entry_text place.entry.now.name.now place.entry.now.number facts.now found.now) }
 {
     push_place(alloc, out, place)?;
     push_head(alloc, out, facts)?;

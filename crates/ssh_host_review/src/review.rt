@@ -4,7 +4,7 @@ ghost use Rattle.std.specs.Prelude.{◌≡◌, ◌≤◌, IfOk, length};
 ghost use Rattle.ssh_text.specs.Text.{file_limit};
 ghost use Rattle.ssh_findings.specs.Asking.{asking_of};
 ghost use Rattle.ssh_review.specs.Reviews.{review};
-ghost use Rattle.ssh_host_review.specs.Reviews.{known_review, whole_review};
+ghost use Rattle.ssh_host_review.specs.Reviews.{known_review, host_whole_review};
 
 use crate::lines::push_lines;
 use sha2::{Digest, Sha256};
@@ -14,7 +14,7 @@ use ssh_text::FILE_LIMIT;
 use std::alloc::{AllocError, Global};
 
 /// The review of a file within the limit.
-#[tactic(auto, unfolding(crate::specs::Reviews::whole_review))]
+#[tactic(auto, unfolding(crate::specs::Reviews::host_whole_review))]
 fn whole_review(
     alloc: Global,
     form: Form,
@@ -24,7 +24,7 @@ fn whole_review(
 ) -> Result<Reviewed, AllocError>
     requires { length file.now ≤ file_limit }
     ensures { IfOk result
-        (λ r. review r ≡ whole_review form (asking_of asked.entry.now) name.now file.now) }
+        (λ r. review r ≡ host_whole_review form (asking_of asked.entry.now) name.now file.now) }
 {
     let mut text = Vec::new(alloc);
     let counts = push_lines(alloc, form, asked, name, file, &mut text)?;

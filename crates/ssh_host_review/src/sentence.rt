@@ -2,7 +2,7 @@
 
 ghost use Rattle.std.specs.Prelude.{◌≡◌, ◌++◌, OnOk};
 ghost use Rattle.std.specs.Fmt.{decimal};
-ghost use Rattle.ssh_host_review.specs.Sentences.{finding_line, sentence_of};
+ghost use Rattle.ssh_host_review.specs.Sentences.{host_finding_line, host_sentence_of};
 
 use crate::detail::detail;
 use ssh_host_findings::HostFinding;
@@ -20,7 +20,7 @@ fn push_naming(alloc: Global, out: &mut Vec<u8>, words: &[u8], line: u64) -> Res
 }
 
 fn push_sentence(alloc: Global, out: &mut Vec<u8>, finding: HostFinding) -> Result<(), AllocError>
-    ensures { OnOk result (out.new.items ≡ out.old.items ++ sentence_of finding) }
+    ensures { OnOk result (out.new.items ≡ out.old.items ++ host_sentence_of finding) }
 {
     match finding {
         HostFinding::Unreadable(cause) => push_unreadable_sentence(out, cause),
@@ -60,7 +60,7 @@ pub(crate) fn push_finding(
     out: &mut Vec<u8>,
     finding: HostFinding,
 ) -> Result<(), AllocError>
-    ensures { OnOk result (out.new.items ≡ out.old.items ++ finding_line finding) }
+    ensures { OnOk result (out.new.items ≡ out.old.items ++ host_finding_line finding) }
 {
     let said = detail(alloc, finding)?;
     push_finding_head(out, finding.code().text(), &said)?;

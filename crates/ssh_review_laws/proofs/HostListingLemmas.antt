@@ -31,8 +31,8 @@ use Rattle.ssh_host_findings.specs.Revoked.{revokes}
 use Rattle.ssh_host_findings.proofs.LawLemmas.{granted, revoked_then}
 use Rattle.ssh_review.specs.declared.form.Form.{Form}
 use Rattle.ssh_review.specs.Forms.{end_line}
-use Rattle.ssh_host_review.specs.Lines.{counts_of, kept_of, line_record, records_of}
-use Rattle.ssh_host_review.specs.Reviews.{whole_review}
+use Rattle.ssh_host_review.specs.Lines.{host_counts_of, host_kept_of, host_line_record, host_records_of}
+use Rattle.ssh_host_review.specs.Reviews.{host_whole_review}
 use Rattle.ssh_review_laws.specs.HostListing.{IsHostListed, lines_kept}
 use Rattle.ssh_review_laws.proofs.ListLemmas.{among_first, split_at}
 use Rattle.ssh_review_laws.proofs.ListingLemmas.{denied, joined, predecessor}
@@ -40,21 +40,21 @@ use Rattle.ssh_review_laws.proofs.ListingLemmas.{denied, joined, predecessor}
 -- ---- the record
 
 records_after : (form : Form) (asking : Asking) (name : List ℕ) (earlier : List HostLine) (first rest : List (ℕ × List ℕ))
-    → records_of form asking name earlier (first ++ rest)
-    ≡ records_of form asking name earlier first ++ records_of form asking name (earlier ++ lines_kept first) rest
-records_after form asking name earlier [] rest = ap (λ e. records_of form asking name e rest) (sym (append-nil earlier))
+    → host_records_of form asking name earlier (first ++ rest)
+    ≡ host_records_of form asking name earlier first ++ host_records_of form asking name (earlier ++ lines_kept first) rest
+records_after form asking name earlier [] rest = ap (λ e. host_records_of form asking name e rest) (sym (append-nil earlier))
 records_after form asking name earlier (line ∷ first) rest =
-    let kept = kept_of line.0 line.1 (known_line line.1) in
-    let told = line_record form asking name earlier line.0 line.1 (known_line line.1) in
+    let kept = host_kept_of line.0 line.1 (known_line line.1) in
+    let told = host_line_record form asking name earlier line.0 line.1 (known_line line.1) in
     ap (λ more. told ++ more) (records_after form asking name (earlier ++ kept) first rest
-    ∙ ap (λ e. records_of form asking name (earlier ++ kept) first ++ records_of form asking name e rest) (append_assoc earlier kept (lines_kept first)))
-    ∙ sym (append_assoc told (records_of form asking name (earlier ++ kept) first) (records_of form asking name (earlier ++ (kept ++ lines_kept first)) rest))
+    ∙ ap (λ e. host_records_of form asking name (earlier ++ kept) first ++ host_records_of form asking name e rest) (append_assoc earlier kept (lines_kept first)))
+    ∙ sym (append_assoc told (host_records_of form asking name (earlier ++ kept) first) (host_records_of form asking name (earlier ++ (kept ++ lines_kept first)) rest))
 
 same-record : (form : Form) (asking : Asking) (name : List ℕ) (earlier : List HostLine) (n k : ℕ) (line : List ℕ) (e : KnownEntry) → n ≡ 1 + k → known_line line ≡ Entry e
-    → line_record form asking name earlier (1 + k) line (known_line line) ≡ line_record form asking name earlier n line (Entry e)
+    → host_line_record form asking name earlier (1 + k) line (known_line line) ≡ host_line_record form asking name earlier n line (Entry e)
 same-record form asking name earlier n k line e number spells =
-    ap (line_record form asking name earlier (1 + k) line) spells
-    ∙ ap (λ (m : ℕ). line_record form asking name earlier m line (Entry e)) (sym number)
+    ap (host_line_record form asking name earlier (1 + k) line) spells
+    ∙ ap (λ (m : ℕ). host_line_record form asking name earlier m line (Entry e)) (sym number)
 
 -- ---- no line before it revokes
 
@@ -75,7 +75,7 @@ Passes offer d = revokes offer d ≡ false
 
 by-line : (offer : Offer) (x : ℕ × List ℕ) (lines : List (ℕ × List ℕ)) (l : KnownLine)
     → ((bytes : List ℕ) → l ≡ Revoked bytes → is_own offer bytes ≡ false)
-    → AllByRecursion (Passes offer) (lines_kept lines) → AllByRecursion (Passes offer) (kept_of x.0 x.1 l ++ lines_kept lines)
+    → AllByRecursion (Passes offer) (lines_kept lines) → AllByRecursion (Passes offer) (host_kept_of x.0 x.1 l ++ lines_kept lines)
 by-line offer x lines Blank here rest = rest
 by-line offer x lines Comment here rest = rest
 by-line offer x lines RevokedUnreadable here rest = rest
@@ -105,7 +105,7 @@ no-own file claim vouched n e all grant k line bytes at is =
 
 listed-by : (form : Form) (asking : Asking) (name file : List ℕ) (claim : HostClaim) (vouched : List Signed) (n : ℕ) (e : KnownEntry) → AreBytes file
     → IsHostGrant file claim vouched n e → IsHostListed form asking name file n
-unfolding whole_review
+unfolding host_whole_review
 listed-by form asking name file claim vouched n e all grant =
     let candidate = grant.candidate in
     let k = n - 1 in
@@ -114,12 +114,12 @@ listed-by form asking name file claim vouched n e all grant =
     let spells = known_line-spelled e candidate.line candidate.spelled in
     let lines = numbered 1 (lines_of file) in
     let earlier = lines_kept (take k lines) in
-    let before = records_of form asking name [] (take k lines) in
-    let after = records_of form asking name (earlier ++ kept_of (1 + k) candidate.line (known_line candidate.line)) (drop (suc k) lines) in
-    let tail = end_line form name (counts_of asking [] lines) (sha256 file) in
-    let parts : records_of form asking name [] lines ≡ before ++ (line_record form asking name earlier (1 + k) candidate.line (known_line candidate.line) ++ after) =
-    ap (records_of form asking name []) (split_at 1 k (lines_of file) candidate.line at) ∙ records_after form asking name [] (take k lines) ((1 + k, candidate.line) ∷ drop (suc k) lines) in
-    let here : records_of form asking name [] lines ≡ before ++ (line_record form asking name earlier n candidate.line (Entry e) ++ after) =
+    let before = host_records_of form asking name [] (take k lines) in
+    let after = host_records_of form asking name (earlier ++ host_kept_of (1 + k) candidate.line (known_line candidate.line)) (drop (suc k) lines) in
+    let tail = end_line form name (host_counts_of asking [] lines) (sha256 file) in
+    let parts : host_records_of form asking name [] lines ≡ before ++ (host_line_record form asking name earlier (1 + k) candidate.line (known_line candidate.line) ++ after) =
+    ap (host_records_of form asking name []) (split_at 1 k (lines_of file) candidate.line at) ∙ records_after form asking name [] (take k lines) ((1 + k, candidate.line) ∷ drop (suc k) lines) in
+    let here : host_records_of form asking name [] lines ≡ before ++ (host_line_record form asking name earlier n candidate.line (Entry e) ++ after) =
     parts ∙ ap (λ told. before ++ (told ++ after)) (same-record form asking name earlier n k candidate.line e number spells) in
     record {
       line = candidate.line;
@@ -128,7 +128,7 @@ listed-by form asking name file claim vouched n e all grant =
       spells = spells;
       before = before;
       after = after ++ tail;
-      recorded = joined (records_of form asking name [] lines) before (line_record form asking name earlier n candidate.line (Entry e)) after tail here;
+      recorded = joined (host_records_of form asking name [] lines) before (host_line_record form asking name earlier n candidate.line (Entry e)) after tail here;
       unrevoked = granted earlier e claim
           (all-pass claim.offer (take k lines) (λ j x bytes stood is.
           no-own file claim vouched n e all grant j x.1 bytes (among_first 1 k j (lines_of file) x stood).2 is)) candidate.admits;

@@ -30,9 +30,9 @@ use Rattle.ssh_host_findings.specs.HostLines.{HostLine}
 use Rattle.ssh_review.specs.declared.counts.Counts.{Counts}
 use Rattle.ssh_review.specs.declared.form.Form.{Form}
 use Rattle.ssh_review.specs.Counting.{no_counts, plus}
-use Rattle.ssh_host_review.specs.Counting.{counts_with}
-use Rattle.ssh_host_review.specs.Forms.{blind_record, entry_record, revoked_record, unreadable_record}
-use Rattle.ssh_host_review.specs.Lines.{counts_of, kept_of, line_findings, line_record, records_of}
+use Rattle.ssh_host_review.specs.Counting.{host_counts_with}
+use Rattle.ssh_host_review.specs.Forms.{blind_record, host_entry_record, revoked_record, host_unreadable_record}
+use Rattle.ssh_host_review.specs.Lines.{host_counts_of, host_kept_of, host_line_findings, host_line_record, host_records_of}
 use Rattle.ssh_review_laws.specs.HostSpelling.{HasNoMarkerTab, has_marker_tab}
 
 -- ---- what a review uses of a line: what it says, of one that cannot be read the key on it, and a tab after a marker
@@ -129,7 +129,7 @@ findings-by asking earlier (RevokedUnreadable, key, tab) = blind_findings asking
 findings-by asking earlier (Unreadable cause, key, tab) = unreadable_host_findings asking cause
 
 findings-are : (asking : Asking) (earlier : List HostLine) (line : List ℕ) (l : KnownLine)
-    → line_findings asking earlier line l ≡ findings-by asking earlier (l, key-on l line, has_marker_tab l line)
+    → host_line_findings asking earlier line l ≡ findings-by asking earlier (l, key-on l line, has_marker_tab l line)
 unfolding findings-by key-on
 findings-are asking earlier line Blank = refl
 findings-are asking earlier line Comment = refl
@@ -141,18 +141,18 @@ findings-are asking earlier line (Unreadable cause) = refl
 record-by : Form → List ℕ → ℕ → Said → List HostFinding → List ℕ
 record-by form name n (Blank, key, tab) found = []
 record-by form name n (Comment, key, tab) found = []
-record-by form name n (Entry e, key, tab) found = entry_record form name n (facts-by e tab) found
+record-by form name n (Entry e, key, tab) found = host_entry_record form name n (facts-by e tab) found
 record-by form name n (Revoked bytes, key, tab) found = revoked_record form name n bytes found
 record-by form name n (RevokedUnreadable, key, tab) found = blind_record form name n found
-record-by form name n (Unreadable cause, key, tab) found = unreadable_record form name n (option_map told_of key) found
+record-by form name n (Unreadable cause, key, tab) found = host_unreadable_record form name n (option_map told_of key) found
 
 record-is : (form : Form) (asking : Asking) (name : List ℕ) (earlier : List HostLine) (n : ℕ) (line : List ℕ) (l : KnownLine)
-    → line_record form asking name earlier n line l ≡ record-by form name n (l, key-on l line, has_marker_tab l line) (line_findings asking earlier line l)
+    → host_line_record form asking name earlier n line l ≡ record-by form name n (l, key-on l line, has_marker_tab l line) (host_line_findings asking earlier line l)
 unfolding record-by key-on
 record-is form asking name earlier n line Blank = refl
 record-is form asking name earlier n line Comment = refl
 record-is form asking name earlier n line (Entry e) =
-    ap (λ f. entry_record form name n f (line_findings asking earlier line (Entry e))) (facts-are line e)
+    ap (λ f. host_entry_record form name n f (host_line_findings asking earlier line (Entry e))) (facts-are line e)
 record-is form asking name earlier n line (Revoked bytes) = refl
 record-is form asking name earlier n line RevokedUnreadable = refl
 record-is form asking name earlier n line (Unreadable cause) = refl
@@ -165,7 +165,7 @@ kept-by n (Revoked bytes, key, tab) = revoking n bytes ∷ []
 kept-by n (RevokedUnreadable, key, tab) = []
 kept-by n (Unreadable cause, key, tab) = []
 
-kept-is : (n : ℕ) (line : List ℕ) (l : KnownLine) → kept_of n line l ≡ kept-by n (l, key-on l line, has_marker_tab l line)
+kept-is : (n : ℕ) (line : List ℕ) (l : KnownLine) → host_kept_of n line l ≡ kept-by n (l, key-on l line, has_marker_tab l line)
 unfolding kept-by key-on
 kept-is n line Blank = refl
 kept-is n line Comment = refl
@@ -180,47 +180,47 @@ records-by form asking name earlier n (s ∷ more) =
     record-by form name n s (findings-by asking earlier s) ++ records-by form asking name (earlier ++ kept-by n s) (n + 1) more
 
 records-are : (form : Form) (asking : Asking) (name : List ℕ) (earlier : List HostLine) (n : ℕ) (lines : List (List ℕ))
-    → records_of form asking name earlier (numbered n lines) ≡ records-by form asking name earlier n (map said lines)
+    → host_records_of form asking name earlier (numbered n lines) ≡ records-by form asking name earlier n (map said lines)
 unfolding records-by
 records-are form asking name earlier n [] = refl
 records-are form asking name earlier n (line ∷ lines) =
     let l = known_line line in
-    ap (λ told. told ++ records_of form asking name (earlier ++ kept_of n line l) (numbered (n + 1) lines))
+    ap (λ told. told ++ host_records_of form asking name (earlier ++ host_kept_of n line l) (numbered (n + 1) lines))
     (record-is form asking name earlier n line l ∙ ap (record-by form name n (said line)) (findings-are asking earlier line l))
     ∙ ap (λ kept. record-by form name n (said line) (findings-by asking earlier (said line))
-    ++ records_of form asking name (earlier ++ kept) (numbered (n + 1) lines)) (kept-is n line l)
+    ++ host_records_of form asking name (earlier ++ kept) (numbered (n + 1) lines)) (kept-is n line l)
     ∙ ap (λ more. record-by form name n (said line) (findings-by asking earlier (said line)) ++ more)
     (records-are form asking name (earlier ++ kept-by n (said line)) (n + 1) lines)
 
 counts-by : Asking → List HostLine → ℕ → List Said → Counts
 counts-by asking earlier n [] = no_counts
 counts-by asking earlier n (s ∷ more) =
-    plus (counts_with s.0 (length (findings-by asking earlier s))) (counts-by asking (earlier ++ kept-by n s) (n + 1) more)
+    plus (host_counts_with s.0 (length (findings-by asking earlier s))) (counts-by asking (earlier ++ kept-by n s) (n + 1) more)
 
 counts-are : (asking : Asking) (earlier : List HostLine) (n : ℕ) (lines : List (List ℕ))
-    → counts_of asking earlier (numbered n lines) ≡ counts-by asking earlier n (map said lines)
+    → host_counts_of asking earlier (numbered n lines) ≡ counts-by asking earlier n (map said lines)
 unfolding counts-by
 counts-are asking earlier n [] = refl
 counts-are asking earlier n (line ∷ lines) =
     let l = known_line line in
-    ap (λ (found : List HostFinding). plus (counts_with l (length found)) (counts_of asking (earlier ++ kept_of n line l) (numbered (n + 1) lines)))
+    ap (λ (found : List HostFinding). plus (host_counts_with l (length found)) (host_counts_of asking (earlier ++ host_kept_of n line l) (numbered (n + 1) lines)))
     (findings-are asking earlier line l)
-    ∙ ap (λ kept. plus (counts_with l (length (findings-by asking earlier (said line)))) (counts_of asking (earlier ++ kept) (numbered (n + 1) lines)))
+    ∙ ap (λ kept. plus (host_counts_with l (length (findings-by asking earlier (said line)))) (host_counts_of asking (earlier ++ kept) (numbered (n + 1) lines)))
     (kept-is n line l)
-    ∙ ap (plus (counts_with l (length (findings-by asking earlier (said line)))))
+    ∙ ap (plus (host_counts_with l (length (findings-by asking earlier (said line)))))
     (counts-are asking (earlier ++ kept-by n (said line)) (n + 1) lines)
 
 -- ---- the canonical file
 
 pub known_records_alike : (form : Form) (asking : Asking) (name file : List ℕ) → AreBytes file → HasNoMarkerTab file
-    → records_of form asking name [] (numbered 1 (lines_of (canonical_known_file file))) ≡ records_of form asking name [] (numbered 1 (lines_of file))
+    → host_records_of form asking name [] (numbered 1 (lines_of (canonical_known_file file))) ≡ host_records_of form asking name [] (numbered 1 (lines_of file))
 known_records_alike form asking name file bytes none =
     records-are form asking name [] 1 (lines_of (canonical_known_file file))
     ∙ ap (records-by form asking name [] 1) (all-said file bytes none)
     ∙ sym (records-are form asking name [] 1 (lines_of file))
 
 pub known_counts_alike : (asking : Asking) (file : List ℕ) → AreBytes file → HasNoMarkerTab file
-    → counts_of asking [] (numbered 1 (lines_of (canonical_known_file file))) ≡ counts_of asking [] (numbered 1 (lines_of file))
+    → host_counts_of asking [] (numbered 1 (lines_of (canonical_known_file file))) ≡ host_counts_of asking [] (numbered 1 (lines_of file))
 known_counts_alike asking file bytes none =
     counts-are asking [] 1 (lines_of (canonical_known_file file))
     ∙ ap (counts-by asking [] 1) (all-said file bytes none)

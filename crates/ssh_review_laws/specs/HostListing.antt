@@ -10,13 +10,13 @@ use Rattle.ssh_trust.specs.FileLines.{StandsAt}
 use Rattle.ssh_findings.specs.Asking.{Asking}
 use Rattle.ssh_host_findings.specs.Earlier.{revoking_line}
 use Rattle.ssh_host_findings.specs.HostLines.{HostLine}
-use Rattle.ssh_host_review.specs.Lines.{kept_of, line_record}
-use Rattle.ssh_host_review.specs.Reviews.{whole_review}
+use Rattle.ssh_host_review.specs.Lines.{host_kept_of, host_line_record}
+use Rattle.ssh_host_review.specs.Reviews.{host_whole_review}
 use Rattle.ssh_review.specs.declared.form.Form.{Form}
 
 -- what these lines, each with its number, say of keys
 abbrev pub lines_kept : List (ℕ × List ℕ) → List HostLine
-lines_kept lines = flat_map (λ line. kept_of line.0 line.1 (known_line line.1)) lines
+lines_kept lines = flat_map (λ line. host_kept_of line.0 line.1 (known_line line.1)) lines
 
 -- the same of the lines before line n
 abbrev pub kept_before : List ℕ → ℕ → List HostLine
@@ -31,7 +31,7 @@ pub record IsHostListed (form : Form) (asking : Asking) (name file : List ℕ) (
   pub before : List ℕ
   pub after : List ℕ
   -- it has a record, of its entry
-  pub recorded : (whole_review form asking name file).text ≡ before ++ (line_record form asking name (kept_before file n) n line (Entry entry) ++ after)
+  pub recorded : (host_whole_review form asking name file).text ≡ before ++ (host_line_record form asking name (kept_before file n) n line (Entry entry) ++ after)
   -- F12 is not found of it,
   pub unrevoked : revoking_line (kept_before file n) (key_blob entry.key) ≡ None
   -- of no line of the file that revokes anything is F12 found for this key,

@@ -3,7 +3,7 @@ use Rattle.ssh_lines.specs.KnownSeen.{known_seen}
 use Rattle.ssh_text.specs.Text.{lines_of, numbered}
 use Rattle.ssh_findings.specs.Asking.{asking_of}
 use Rattle.ssh_review.proofs.LineLemmas.{Fits}
-use Rattle.ssh_host_review.specs.Lines.{kept_of}
+use Rattle.ssh_host_review.specs.Lines.{host_kept_of}
 use Rattle.ssh_host_review.proofs.CountLemmas.{told_fits}
 use Rattle.ssh_host_review.proofs.LoopLemmas.{counts-step, text-step}
 use Rattle.ssh_host_review.proofs.lines.push_lines.Goals as goal
@@ -29,4 +29,4 @@ loop-number-preserved c =
     c.in-Some.ensures.steps c.read_known_view-view.ensures.exact (c.in_ok-told.ensures.text earlier stands) (c.loop-number.invariant.2).2 in
     let counts = counts-step asking earlier c.in-Some.number c.in-Some.line.now said now next c.loop-number.counts c.in_ok-told.told c.plus-counts.result _
     c.in-Some.ensures.steps c.read_known_view-view.ensures.exact (c.in_ok-told.ensures.counts earlier stands) c.plus-counts.ensures (c.loop-number.invariant.2).3 in
-    (tt, tt, (earlier ++ kept_of c.in-Some.number c.in-Some.line.now said, c.in_ok-told.ensures.kept earlier stands, text, counts))
+    (tt, tt, (earlier ++ host_kept_of c.in-Some.number c.in-Some.line.now said, c.in_ok-told.ensures.kept earlier stands, text, counts))
