@@ -430,6 +430,24 @@ def streamed_rows(program, tally):
     (program.room / "large").unlink()
 
 
+def vouching_rows(program, tally):
+    """Vouch files of 64 MiB, of the shortest triples and of one line: no more than 4 MiB."""
+    meter = program.room / "meter"
+    triple, short = FILES["vouched"].encode(), b"- - -\n"
+    count = (FILE_LIMIT - len(triple)) // len(short)
+    for name, content, wanted in (
+        ("other triples", short * count, (1, UNVOUCHED)),
+        ("the one that is sought after others", short * count + triple, (0, GRANTED)),
+        ("no triple after others", short * count + b"-\n", (2, f"fault vouch {count + 1}\n")),
+        ("one line", b"0" * (FILE_LIMIT - 4) + b" - -", (1, UNVOUCHED)),
+    ):
+        (program.room / "large").write_bytes(content)
+        answer, took, peak = cost_of(program, meter, login("keys", "large"))
+        tally.check(f"a vouch file of {len(content)} bytes, {name}", answer, (wanted[0], wanted[1].encode()))
+        tally.check(f"the same in {peak} KiB, {took} microseconds", peak <= 4096, True)
+    (program.room / "large").unlink()
+
+
 def bench_rows(program, tally):
     """The bench's files of 100,000 lines, spelled loosely: written anew they are the bench's, and that is its own."""
     for kind in ("options", "names"):
@@ -579,7 +597,7 @@ def long_text_rows(program, tally):
         tally.check(f"a long text, of which {wants} bytes are read", (ended, got == wanted[:wants]), ((status, b""), True))
 
 
-ROWS = (answer_rows, size_rows, input_rows, endless_rows, star_rows, streamed_rows, bench_rows, keygen_rows, hashing_rows, writer_rows, long_text_rows)
+ROWS = (answer_rows, size_rows, input_rows, endless_rows, star_rows, streamed_rows, vouching_rows, bench_rows, keygen_rows, hashing_rows, writer_rows, long_text_rows)
 
 
 # ---- the other checks

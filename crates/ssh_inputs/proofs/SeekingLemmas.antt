@@ -64,9 +64,24 @@ file-seek sought file short = let few = few-lines file in lines-seek sought 1 (l
 
 -- ---- two
 
-both-tell : (first second : Option Signed) (file : List ℕ) (read : Result (List Signed) ℕ) → vouched_of file ≡ read → TellsOf first second file (both (seek first read) (seek second read))
-both-tell first second file (Ok vouched) e = (vouched, e, (refl, refl))
+-- what a reading of the file for the second tells, where it is sought
+abbrev seek_second : Option Signed → Result (List Signed) ℕ → Result Bool ℕ
+seek_second None read = Ok false
+seek_second (Some signed) read = seek (Some signed) read
+
+-- the same of the lines of a file
+abbrev pub second_lines : Option Signed → List ℕ → Result Bool ℕ
+second_lines None file = Ok false
+second_lines (Some signed) file = lines_rest (Some signed) 1 (lines_of file)
+
+both-tell : (first second : Option Signed) (file : List ℕ) (read : Result (List Signed) ℕ) → vouched_of file ≡ read → TellsOf first second file (both (seek first read) (seek_second second read))
+both-tell first None file (Ok vouched) e = (vouched, e, (refl, refl))
+both-tell first (Some signed) file (Ok vouched) e = (vouched, e, (refl, refl))
 both-tell first second file (Err n) e = e
+
+second-seek : (second : Option Signed) (file : List ℕ) → length file ≤ file_limit → second_lines second file ≡ seek_second second (vouched_of file)
+second-seek None file short = refl
+second-seek (Some signed) file short = file-seek (Some signed) file short
 
 within-by : (b : Bool) (bytes file : List ℕ) → nat_lt file_limit (length bytes) ≡ b → cond b None (Some bytes) ≡ Some file → length file ≤ file_limit
 within-by true bytes file long h = cc
@@ -82,14 +97,13 @@ within (Some bytes) file h = within-by (nat_lt file_limit (length bytes)) bytes 
 abbrev Takes : (List ℕ → Result Bool ℕ) → (List ℕ → Result Bool ℕ) → List ℕ → Type 0
 Takes old new file = (rest : List ℕ) → old (file ++ rest) ≡ new rest
 
-takes-whole : (sought : Option Signed) (old new : List ℕ → Result Bool ℕ) (file : List ℕ) → ((l : List ℕ) → old l ≡ lines_rest sought 1 (lines_of l))
-    → Takes old new file → length file ≤ file_limit → new [] ≡ seek sought (vouched_of file)
-takes-whole sought old new file begun took short = sym (took []) ∙ (ap old (append-nil file) ∙ (begun file ∙ file-seek sought file short))
+takes-whole : (old new : List ℕ → Result Bool ℕ) (file : List ℕ) (told : Result Bool ℕ) → old file ≡ told → Takes old new file → new [] ≡ told
+takes-whole old new file told begun took = sym (took []) ∙ (ap old (append-nil file) ∙ begun)
 
 -- a vouch file that was read for two signatures
 pub both_told : {V : Type 0} (first second : Option Signed) (a b c d : List ℕ → Result Bool ℕ) (name : List ℕ) (bytes : SourceState → Option (List ℕ)) (left : SourceState → SourceState)
     (o t : Option SourceState) (v : V) (told : Result Found ℕ)
-    → ((l : List ℕ) → a l ≡ lines_rest first 1 (lines_of l)) → ((l : List ℕ) → c l ≡ lines_rest second 1 (lines_of l)) → told ≡ both (b []) (d [])
+    → ((l : List ℕ) → a l ≡ lines_rest first 1 (lines_of l)) → ((l : List ℕ) → c l ≡ second_lines second l) → told ≡ both (b []) (d [])
     → IfTells o (λ s. LoadsPart {V = V} (λ file w. Takes a b file × Takes c d file) name (bytes s) (left s) s t (Ok v))
     → IfTells o (λ s. LoadsPart (TellsOf first second) name (bytes s) (left s) s t (Ok told))
 both_told first second a b c d name bytes left None t v told begun also is loads = tt
@@ -97,6 +111,11 @@ both_told first second a b c d name bytes left (Some s) t v told begun also is l
     let ((file, whole, (one, two)), rest) = loads counts in
     let short = within (bytes s) file whole in
     let tells = both-tell first second file (vouched_of file) refl in
-    let same : told ≡ both (seek first (vouched_of file)) (seek second (vouched_of file)) =
-    is ∙ rw (takes-whole first a b file begun one short, takes-whole second c d file also two short) refl in
+    let same : told ≡ both (seek first (vouched_of file)) (seek_second second (vouched_of file)) =
+    is
+    ∙ rw (
+      takes-whole a b file (seek first (vouched_of file)) (begun file ∙ file-seek first file short) one,
+      takes-whole c d file (seek_second second (vouched_of file)) (also file ∙ second-seek second file short) two,
+    )
+    refl in
     ((file, whole, subst (TellsOf first second file) (sym same) tells), rest)

@@ -140,6 +140,11 @@ unless_fault None found rest = or_found found rest
 abbrev pub seeker_rest : Seeker → List ℕ → Result Bool ℕ
 seeker_rest x text = unless_fault x.fault x.found (from_place (sought_of x.sought) x.number x.place text)
 
+-- the same of a reader that may be left out: then nothing is found
+abbrev pub second_rest : Option Seeker → List ℕ → Result Bool ℕ
+second_rest None text = Ok false
+second_rest (Some x) text = seeker_rest x text
+
 -- what two readings of one file tell together
 abbrev pub both : Result Bool ℕ → Result Bool ℕ → Result Found ℕ
 both (Ok first) (Ok second) = Ok (record { first = first; second = second })

@@ -1,10 +1,9 @@
 //! Seeking signatures in a vouch file, of which nothing is kept.
 
 ghost use Rattle.std.specs.Prelude.{◌≡◌, ◌≢◌, ◌++◌, [], false, Err, List, ℕ};
-ghost use Rattle.ssh_text.specs.Text.{lines_of};
 ghost use Rattle.ssh_inputs.specs.Loading.{LoadsPart};
 ghost use Rattle.ssh_inputs.specs.Parts.{after_part, part_at};
-ghost use Rattle.ssh_inputs.specs.Seekers.{both, lines_rest, seeker_rest};
+ghost use Rattle.ssh_inputs.specs.Seekers.{both, second_rest, seeker_rest};
 ghost use Rattle.ssh_inputs.specs.Seeking.{TellsOf, sought_of};
 ghost use Rattle.ssh_inputs.specs.SourceState.{IfTells};
 ghost use Rattle.ssh_inputs.specs.declared.read.ReadError.TheVariants.{Memory};
@@ -24,20 +23,23 @@ pub struct Found {
     pub second: bool,
 }
 
-/// A vouch file as far as it was read for two signatures.
+/// A vouch file as far as it was read for two signatures, or for the first alone.
 #[derive(Clone, Copy)]
 struct Seekers<'a> {
     first: Seeker<'a>,
-    second: Seeker<'a>,
+    second: Option<Seeker<'a>>,
 }
 
 impl Seekers<'_> {
     /// Which of them the file vouches for, or its first line that is no triple.
     fn finish(&self) -> Result<Found, u64>
-        ensures { result ≡ both (seeker_rest self.now.first []) (seeker_rest self.now.second []) }
+        ensures { result ≡ both (seeker_rest self.now.first []) (second_rest self.now.second []) }
     {
         let first = self.first.finish()?;
-        let second = self.second.finish()?;
+        let second = match &self.second {
+            Some(seeker) => seeker.finish()?,
+            None => false,
+        };
         Ok(Found { first, second })
     }
 }
@@ -45,13 +47,15 @@ impl Seekers<'_> {
 impl Keeper for Seekers<'_> {
     ghost took = { λ start x bytes.
         ((rest : List ℕ) → seeker_rest start.first (bytes ++ rest) ≡ seeker_rest x.first rest)
-        × ((rest : List ℕ) → seeker_rest start.second (bytes ++ rest) ≡ seeker_rest x.second rest) };
+        × ((rest : List ℕ) → second_rest start.second (bytes ++ rest) ≡ second_rest x.second rest) };
 
     ghost grows = { false };
 
     fn take(&mut self, piece: &[u8]) -> Result<(), AllocError> {
         self.first.take_piece(piece);
-        self.second.take_piece(piece);
+        if let Some(seeker) = &mut self.second {
+            seeker.take_piece(piece);
+        }
         Ok(())
     }
 }
@@ -72,7 +76,10 @@ pub fn seek_vouched<F: Files>(
 {
     let mut seekers = Seekers {
         first: Seeker::new(first),
-        second: Seeker::new(second),
+        second: match second {
+            Some(signed) => Some(Seeker::new(Some(signed))),
+            None => None,
+        },
     };
     take_vouch_file(files, name, &mut seekers)?;
     Ok(seekers.finish())
