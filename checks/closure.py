@@ -16,8 +16,16 @@ TOP = pathlib.Path(__file__).resolve().parent.parent
 REVIEW = TOP / "docs" / "REVIEW.md"
 # What is asked about, and the definitions that say what the answer means.
 ROOTS = {
-    "login": (("ssh_trust", "LoginDecision", "LoginMeans"), ("ssh_offers", "FirstRefusal", "IsLoginClaim")),
-    "host": (("ssh_trust", "HostDecision", "HostMeans"), ("ssh_offers", "FirstRefusal", "IsHostClaim")),
+    "login": (
+        ("ssh_trust", "LoginDecision", "LoginMeans"),
+        ("ssh_offers", "FirstRefusal", "IsLoginClaim"),
+        ("ssh_offers", "Query", "login_of"),
+    ),
+    "host": (
+        ("ssh_trust", "HostDecision", "HostMeans"),
+        ("ssh_offers", "FirstRefusal", "IsHostClaim"),
+        ("ssh_offers", "Query", "host_check_of"),
+    ),
 }
 USE = re.compile(r"(?:pub )?use Rattle\.([\w.]+?)(?:\.\{(.*)\}| as (\w+))?$")
 HEAD = re.compile(r"(?:(?:abbrev|unfoldable|pub|record|data) +)*([^\s:({]+) *[:({]")
