@@ -3,16 +3,15 @@
 ghost use Rattle.std.specs.Prelude.{◌≡◌, true};
 ghost use Rattle.ssh_host_findings.specs.Least.{leads};
 
-use crate::copy::kept;
 use crate::least::lesser;
-use ssh_text::Bytes;
-use std::alloc::{AllocError, Global};
+use crate::shared::SharedBlob;
+use std::alloc::AllocError;
 
 /// The key of the least line that has one for a name, and the least line with another.
 #[derive(Debug, Drop)]
 pub(crate) struct FirstKey {
     line: u64,
-    blob: Bytes,
+    blob: SharedBlob,
     other: Option<u64>,
     ghost first: { leads line other ≡ true },
 }
@@ -24,12 +23,12 @@ impl FirstKey {
     ghost use Rattle.ssh_host_findings.specs.Maps.{other_of};
 
     /// The key of one line.
-    pub(crate) fn new(alloc: Global, line: u64, blob: &[u8]) -> Result<FirstKey, AllocError>
+    pub(crate) fn new(line: u64, blob: &SharedBlob) -> Result<FirstKey, AllocError>
         ensures other { IfOk result (λ first. (b : List ℕ) → other_of first b
             ≡ line_if (not (bytes_eq blob.now b)) line) }
         ensures bytes { IfOk result (λ first. first.blob ≡ blob.now) }
     {
-        let blob = kept(alloc, blob)?;
+        let blob = blob.share()?;
         Ok(FirstKey {
             line,
             blob,
@@ -49,19 +48,14 @@ impl FirstKey {
     }
 
     /// What it becomes with one more line, if it changes.
-    pub(crate) fn with(
-        &self,
-        alloc: Global,
-        line: u64,
-        blob: &[u8],
-    ) -> Result<Option<FirstKey>, AllocError>
+    pub(crate) fn with(&self, line: u64, blob: &SharedBlob) -> Result<Option<FirstKey>, AllocError>
         ensures other { IfOk result (λ first. (b : List ℕ) → other_of (unwrap_or first self.now) b
             ≡ lesser (other_of self.now b) (line_if (not (bytes_eq blob.now b)) line)) }
         ensures bytes { IfOk result (λ first. IfSome first
             (λ first. length first.blob ≤ length self.now.blob + length blob.now)) }
     {
-        let own = self.blob.as_slice();
-        let (line, text, other) = if own == blob {
+        let own = &self.blob;
+        let (line, shared, other) = if own.as_slice() == blob.as_slice() {
             if self.line <= line {
                 return Ok(None);
             }
@@ -75,7 +69,7 @@ impl FirstKey {
         } else {
             (line, blob, Some(self.line))
         };
-        let blob = kept(alloc, text)?;
+        let blob = shared.share()?;
         Ok(Some(FirstKey { line, blob, other }))
     }
 }

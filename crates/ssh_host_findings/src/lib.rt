@@ -26,6 +26,7 @@ mod laws;
 mod least;
 mod named;
 mod samples;
+mod shared;
 
 pub use earlier::EarlierHosts;
 pub use facts::HostFacts;

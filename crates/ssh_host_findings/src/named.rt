@@ -13,6 +13,7 @@ ghost use Rattle.ssh_host_findings.specs.StandsFor.{KeepsName};
 use crate::facts::HostFacts;
 use crate::first_key::FirstKey;
 use crate::item::is_plain;
+use crate::shared::SharedBlob;
 use ssh_byte_maps::ByteMap;
 use ssh_keys::KeyKind;
 use ssh_patterns::first_piece;
@@ -45,7 +46,13 @@ impl NamedKeys {
     }
 
     /// Keeps a key for a name. Where memory is refused, nothing is kept.
-    fn keep(&mut self, alloc: Global, item: &[u8], line: u64, blob: &[u8]) -> Result<(), AllocError>
+    fn keep(
+        &mut self,
+        alloc: Global,
+        item: &[u8],
+        line: u64,
+        blob: &SharedBlob,
+    ) -> Result<(), AllocError>
         ensures ok { OnOk result ((q b : List ℕ) → other_at self.new q b
             ≡ if bytes_eq item.now q then lesser (other_at self.old q b) (line_if (not (bytes_eq blob.now b)) line)
             else other_at self.old q b) }
@@ -54,8 +61,8 @@ impl NamedKeys {
         ensures err { OnErr result ((q b : List ℕ) → other_at self.new q b ≡ other_at self.old q b) }
     {
         let first = match self.keys.get(item) {
-            None => FirstKey::new(alloc, line, blob)?,
-            Some(first) => match first.with(alloc, line, blob)? {
+            None => FirstKey::new(line, blob)?,
+            Some(first) => match first.with(line, blob)? {
                 None => return Ok(()),
                 Some(first) => first,
             },
@@ -115,7 +122,7 @@ impl KindKeys {
         kind: KeyKind,
         item: &[u8],
         line: u64,
-        blob: &[u8],
+        blob: &SharedBlob,
     ) -> Result<(), AllocError>
         ensures ok { OnOk result ((k : Kind) (q b : List ℕ) → other_of_kind self.new k q b
             ≡ if same_kind kind k && bytes_eq item.now q
@@ -144,7 +151,7 @@ impl KindKeys {
         kind: KeyKind,
         list: &[u8],
         line: u64,
-        blob: &[u8],
+        blob: &SharedBlob,
     ) -> Result<(), AllocError>
         ensures ok { OnOk result ((k : Kind) (q b : List ℕ) → other_of_kind self.new k q b
             ≡ lesser (other_of_kind self.old k q b)
@@ -185,7 +192,8 @@ impl KindKeys {
         match &facts.list {
             None => Ok(()),
             Some(list) => {
-                self.keep_list(alloc, facts.kind, list.as_slice(), line, blob)?;
+                let shared = SharedBlob::new(alloc, blob)?;
+                self.keep_list(alloc, facts.kind, list.as_slice(), line, &shared)?;
                 Ok(())
             }
         }

@@ -16,13 +16,15 @@ returns-in_ok-keep_list-in-Some-clause-ok c =
     let m = c.args.self.now in
     let f = c.args.facts.now in
     let same : Some c.as_slice.result.now ≡ f.list = ap (λ l. Some l) c.as_slice.ensures ∙ sym c.in-Some.is in
-    subst (λ list. HasOneMoreKey m c.keep_list.new.self f.kind list c.args.line c.args.blob.now) same c.in_ok-keep_list-in-Some.ensures.ok
+    subst (λ own. HasOneMoreKey m c.keep_list.new.self f.kind f.list c.args.line own) c.in_ok-shared-in-Some.ensures
+    (subst (λ list. HasOneMoreKey m c.keep_list.new.self f.kind list c.args.line c.in_ok-shared-in-Some.shared) same c.in_ok-keep_list-in-Some.ensures.ok)
 
 pub returns-in_err-keep_list-in-Some-clause-err : goal.returns-in_err-keep_list-in-Some-clause-err
 returns-in_err-keep_list-in-Some-clause-err c =
     let m = c.args.self.now in
     let f = c.args.facts.now in
     let same : Some c.as_slice.result.now ≡ f.list = ap (λ l. Some l) c.as_slice.ensures ∙ sym c.in-Some.is in
-    on_err c.from_residual.result
-    (subst (λ list. (k : KeyKind) (q : List ℕ) → KeepsName m c.keep_list.new.self f.kind list c.args.line c.args.blob.now k q) same
-    c.in_err-keep_list-in-Some.ensures.err)
+    on_err c.from_residual-in_err-keep_list-in-Some.result
+    (subst (λ own. (k : KeyKind) (q : List ℕ) → KeepsName m c.keep_list.new.self f.kind f.list c.args.line own k q) c.in_ok-shared-in-Some.ensures
+    (subst (λ list. (k : KeyKind) (q : List ℕ) → KeepsName m c.keep_list.new.self f.kind list c.args.line c.in_ok-shared-in-Some.shared k q) same
+    c.in_err-keep_list-in-Some.ensures.err))
