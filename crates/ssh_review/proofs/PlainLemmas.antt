@@ -1,6 +1,6 @@
 -- A text of plain bytes is printed as it is.
 use Rattle.std.proofs.Common.{◌≡◌, ◌∙◌, ℕ, Bool, true, false, ◌&&◌, cond, List, [], ◌∷◌, ◌++◌, ap, refl}
-use Rattle.std.specs.List.{flat_map, list_all}
+use Rattle.std.specs.List.{list_all}
 use Rattle.ssh_print.specs.Texts.{escaped_text, escaped_byte, hex_pair, is_plain}
 
 plain-first : (c : ℕ) (cs : List ℕ) (b : Bool) → is_plain c ≡ b → (b && list_all is_plain cs) ≡ true → (escaped_byte c ≡ c ∷ []) × (list_all is_plain cs ≡ true)
