@@ -76,11 +76,11 @@ fn hosts_spelled_alike_rule()
     ensures records { (form : Form) (asking : Asking) (name file : List ℕ)
         → AllByRecursion (λ c. c < 256) file
         → HasNoMarkerTab file
-        → hosts.records_of form asking name [] (numbered 1 (lines_of (canonical_known_file file)))
-        ≡ hosts.records_of form asking name [] (numbered 1 (lines_of file)) }
+        → hosts.host_records_of form asking name [] (numbered 1 (lines_of (canonical_known_file file)))
+        ≡ hosts.host_records_of form asking name [] (numbered 1 (lines_of file)) }
     ensures counts { (asking : Asking) (file : List ℕ)
         → AllByRecursion (λ c. c < 256) file
         → HasNoMarkerTab file
-        → hosts.counts_of asking [] (numbered 1 (lines_of (canonical_known_file file)))
-        ≡ hosts.counts_of asking [] (numbered 1 (lines_of file)) }
+        → hosts.host_counts_of asking [] (numbered 1 (lines_of (canonical_known_file file)))
+        ≡ hosts.host_counts_of asking [] (numbered 1 (lines_of file)) }
 {}
