@@ -411,7 +411,7 @@ def star_rows(program, tally):
 
 
 def streamed_rows(program, tally):
-    """A file of 64 MiB that is shown, and a message of 64 MiB that is hashed: no more than 4 MiB."""
+    """A file of 64 MiB that is shown or asked about, and a message of 64 MiB that is hashed: no more than 4 MiB."""
     meter = program.room / "meter"
     subprocess.run(["gcc", "-O2", "-static", "-o", meter, HERE.parent / "bench" / "meter.c"], check=True)
     large = (FILES["keys"].encode() + (b"x" * 99 + b"\n") * (FILE_LIMIT // 100))[:FILE_LIMIT]
@@ -427,6 +427,11 @@ def streamed_rows(program, tally):
         answer, _, peak = cost_of(program, meter, asked)
         tally.check(f"{' '.join(asked[:5])} of {FILE_LIMIT} bytes", answer, wanted)
         tally.check(f"{' '.join(asked[:5])} of {FILE_LIMIT} bytes in {peak} KiB", peak <= 4096, True)
+    asked = ("admits", "--user", "ann", "--address", "192.0.2.1", "--now", "1700000000", "keys", "--key")
+    wanted, _, _ = cost_of(program, meter, (*asked, "keys"))
+    answer, _, peak = cost_of(program, meter, (*asked, "large"))
+    tally.check("admits of a key's file of 64 MiB, as of its first line", answer, wanted)
+    tally.check(f"the same in {peak} KiB", (wanted[0], peak <= 4096), (0, True))
     (program.room / "large").unlink()
 
 

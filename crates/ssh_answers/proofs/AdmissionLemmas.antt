@@ -2,7 +2,7 @@
 use Rattle.std.proofs.Common.{◌≡◌, ◌∙◌, ◌<◌, ℕ, true, false, List, Option, Some, None, Result, Ok, Err, refl, sym, ap, subst, inl, inr}
 use Rattle.std.specs.Prelude.{IfOk}
 use Rattle.ssh_inputs.specs.SourceState.{IfTells, SourceState, bytes_at, most_failures}
-use Rattle.ssh_inputs.specs.Parts.{after_whole}
+use Rattle.ssh_inputs.specs.Parts.{after_whole, top_line}
 use Rattle.ssh_inputs.specs.Loading.{FailsLoad, IsLeft, KeepsOthers, NoReadFailed, within_limit}
 use Rattle.ssh_inputs.specs.declared.read.ReadError.{ReadError}
 use Rattle.ssh_inputs.specs.declared.read.ReadError.TheVariants as fault
@@ -17,6 +17,7 @@ use Rattle.ssh_show.specs.declared.error.ShowError.TheVariants as show
 use Rattle.ssh_show.specs.Offering.{Offered, offer_in}
 use Rattle.ssh_show.specs.Showing.{IsFaultOfShow, show_fault_response}
 use Rattle.ssh_show.specs.ShownLines.{Finds}
+use Rattle.ssh_show.proofs.TopLineLemmas.{line-offered}
 use Rattle.ssh_admission.specs.declared.text.Party.{Party}
 use Rattle.ssh_inputs.specs.FilesInTurn.{TellsFile, TellsFiles}
 use Rattle.ssh_answers.specs.Admissions.{Asking, AsksBy, AsksFiles, AsksKey, AsksOffer, Told, both, nothing_told, offer_or_fault, or_shown_fault, telling, told_of, told_response}
@@ -120,20 +121,23 @@ key-by : (asks : Offered → Asking) (key : List ℕ) (names : List (List ℕ)) 
 key-by asks key names s m t o r is keeps none h =
     inr (m, keeps, none, subst (λ (x : Option (List ℕ)). AsksOffer asks (offer_or_fault key x) names m t r) (sym is) h)
 
--- a key's file that was read
-pub key_asked : {R E : Type 0} (view : R → Shown) (asks : Offered → Asking) (key file read : List ℕ) (names : List (List ℕ)) (o u t : Option SourceState) (res : Result R E) → read ≡ file
-    → IfTells o (λ s. (within_limit (bytes_at s key) ≡ Some file) × IsLeft s (after_whole s key) u) → IfTells o (λ s. KeepsOthers key s u)
+-- a key's file of which the first line was read
+pub key_asked : {R E : Type 0} (view : R → Shown) (asks : Offered → Asking) (key line read : List ℕ) (names : List (List ℕ)) (o u t : Option SourceState) (res : Result R E) → read ≡ line
+    → IfTells o (λ s. ((file : List ℕ) × (within_limit (bytes_at s key) ≡ Some file) × (line ≡ top_line file)) × IsLeft s (after_whole s key) u)
+    → IfTells o (λ s. KeepsOthers key s u)
     → IfTells u (λ m. IfOk res (λ r. AsksOffer asks (or_shown_fault (offer_in read)) names m t (view r)))
     → IfTells o (λ s. IfOk res (λ r. AsksKey asks key names s t (view r)))
-key_asked view asks key file read names None u t res is loads keeps h = tt
-key_asked view asks key file read names (Some s) None t res is loads keeps h = λ counts. absurd ((loads counts).1)
-key_asked view asks key file read names (Some s) (Some m) t (Err x) is loads keeps h = λ counts. tt
-key_asked view asks key file read names (Some s) (Some m) t (Ok r) is loads keeps h = λ counts.
+key_asked view asks key line read names None u t res is loads keeps h = tt
+key_asked view asks key line read names (Some s) None t res is loads keeps h = λ counts. absurd ((loads counts).1)
+key_asked view asks key line read names (Some s) (Some m) t (Err x) is loads keeps h = λ counts. tt
+key_asked view asks key line read names (Some s) (Some m) t (Ok r) is loads keeps h = λ counts.
     let load = loads counts in
+    let file = load.0.0 in
     let none : m.failures ≡ s.failures = left-none s (after_whole s key) (Some m) load.1 in
     let tells : m.failures < most_failures = subst (λ (n : ℕ). n < most_failures) (sym none) counts in
-    key-by asks key names s m t (Some file) (view r) load.0 (keeps counts) none
-    (subst (λ (b : List ℕ). AsksOffer asks (or_shown_fault (offer_in b)) names m t (view r)) is (h tells))
+    let same : offer_in read ≡ offer_in file = ap offer_in (is ∙ load.0.2) ∙ line-offered file in
+    key-by asks key names s m t (Some file) (view r) load.0.1 (keeps counts) none
+    (subst (λ (x : Result Offered ShowError). AsksOffer asks (or_shown_fault x) names m t (view r)) same (h tells))
 
 unkeyed : (asks : Offered → Asking) (key : List ℕ) (names : List (List ℕ)) (s : SourceState) (t : Option SourceState) (e : ReadError) (r : Shown) → FailsLoad key (bytes_at s key) s t e → KeepsOthers key s t
     → IsFaultOf key e r → AsksKey asks key names s t r

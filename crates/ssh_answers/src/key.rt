@@ -12,7 +12,7 @@ ghost use Rattle.ssh_inputs.specs.SourceState.{IfTells};
 ghost use Rattle.ssh_print.specs.ResponseView.{response};
 ghost use Rattle.ssh_show.specs.Offering.{Offered, offer_in, offer_seen};
 
-use ssh_inputs::{Files, read_whole};
+use ssh_inputs::{Files, read_top_line};
 use ssh_print::Response;
 use ssh_questions::unread;
 use ssh_show::{OfferedKey, read_offer, show_fault};
@@ -36,26 +36,26 @@ pub trait KeyQuestion {
             (map (λ name. name.now) names.now) s (F.source_state files.new) (response r))) };
 }
 
-/// The response by the bytes of the key's file.
-fn ask_bytes<K: KeyQuestion, F: Files>(
+/// The response by the first line of the key's file.
+fn ask_line<K: KeyQuestion, F: Files>(
     alloc: Global,
     question: &K,
-    bytes: &[u8],
+    line: &[u8],
     names: &[&str],
     files: &mut F,
 ) -> Result<Response, AllocError>
     ensures { IfTells (F.source_state files.old) (λ s. IfOk result (λ r.
-        AsksOffer (K.asks question.entry.now) (or_shown_fault (offer_in bytes.now))
+        AsksOffer (K.asks question.entry.now) (or_shown_fault (offer_in line.now))
         (map (λ name. name.now) names.now) s (F.source_state files.new) (response r))) }
 {
-    match read_offer(alloc, bytes) {
+    match read_offer(alloc, line) {
         Ok(offer) => question.ask(alloc, &offer, names, files),
         Err(error) => show_fault(alloc, error),
     }
 }
 
 /// The response to what is asked about the key in the file of this name. It is read before the trust
-/// files.
+/// files, and its first line alone is kept.
 pub fn ask_key<K: KeyQuestion, F: Files>(
     alloc: Global,
     question: &K,
@@ -67,8 +67,8 @@ pub fn ask_key<K: KeyQuestion, F: Files>(
         AsksKey (K.asks question.entry.now) key.now (map (λ name. name.now) names.now) s
         (F.source_state files.new) (response r))) }
 {
-    match read_whole(alloc, files, key) {
-        Ok(bytes) => ask_bytes(alloc, question, &bytes, names, files),
+    match read_top_line(alloc, files, key) {
+        Ok(line) => ask_line(alloc, question, &line, names, files),
         Err(fault) => unread(alloc, key, fault),
     }
 }

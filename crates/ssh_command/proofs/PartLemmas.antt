@@ -1,10 +1,7 @@
 -- The part of a file that is read says what all of it says.
-use Rattle.std.proofs.Common.{◌≡◌, ◌∙◌, ◌+◌, ◌<◌, ◌≤◌, ◌==◌, ℕ, Bool, true, false, cond, nat_lt, List, [], ◌∷◌, length, take, Err, refl, sym, ap, arith, inl, inr}
-use Rattle.std.specs.List.{onto_first}
+use Rattle.std.proofs.Common.{◌≡◌, ◌∙◌, ◌+◌, ◌<◌, ◌≤◌, ℕ, true, nat_lt, List, length, take, Err, refl, sym, ap, arith, inl, inr}
 use Rattle.std.proofs.lemmas.Bool.{cases_Bool, lt-ltb, ltb-false, ltb-true}
 use Rattle.std.proofs.lemmas.List.{length-take-le, take_all}
-use Rattle.ssh_text.specs.Text.{lines_of}
-use Rattle.ssh_inputs.specs.Parts.{top_line}
 use Rattle.ssh_keys.specs.PublicKey.{longest}
 use Rattle.ssh_bodies.specs.declared.error.BodyError.TheVariants as errors
 use Rattle.ssh_bodies.specs.PrivateReading.{private_in}
@@ -13,34 +10,9 @@ use Rattle.ssh_offers.specs.FileSignature.{sshsig_claim}
 use Rattle.ssh_print.specs.Responses.{Response as Shown}
 use Rattle.ssh_show.specs.declared.kind.ShowKind.{ShowKind}
 use Rattle.ssh_show.specs.declared.kind.ShowKind.TheVariants as shown
-use Rattle.ssh_show.specs.Showing.{Shows, file_signature_in, first_of_lines, public_half_in, shown_line}
+use Rattle.ssh_show.specs.Showing.{Shows, file_signature_in, public_half_in}
+use Rattle.ssh_show.proofs.TopLineLemmas.{line-shown}
 use Rattle.ssh_command.specs.Shows.{shown_part}
-
--- ---- the first line
-
-first-onto : (c : ℕ) (lines : List (List ℕ)) → first_of_lines (onto_first c lines) ≡ c ∷ first_of_lines lines
-first-onto c [] = refl
-first-onto c (line ∷ lines) = refl
-
-first-by : (b : Bool) (c : ℕ) (lines : List (List ℕ)) (line : List ℕ) → first_of_lines lines ≡ line
-    → first_of_lines (cond b ([] ∷ lines) (onto_first c lines)) ≡ cond b [] (c ∷ line)
-first-by true c lines line e = refl
-first-by false c lines line e = first-onto c lines ∙ ap (λ (l : List ℕ). c ∷ l) e
-
-first-top : (file : List ℕ) → shown_line file ≡ top_line file
-first-top [] = refl
-first-top (c ∷ file) = first-by (c == 10) c (lines_of file) (top_line file) (first-top file)
-
-again-by : (b : Bool) (c : ℕ) (line : List ℕ) → (c == 10) ≡ b → top_line line ≡ line → top_line (cond b [] (c ∷ line)) ≡ cond b [] (c ∷ line)
-again-by true c line e h = refl
-again-by false c line e h = ap (λ (x : Bool). cond x [] (c ∷ top_line line)) e ∙ ap (λ (l : List ℕ). c ∷ l) h
-
-top-again : (file : List ℕ) → top_line (top_line file) ≡ top_line file
-top-again [] = refl
-top-again (c ∷ file) = again-by (c == 10) c (top_line file) refl (top-again file)
-
-line-shown : (file : List ℕ) → shown_line (top_line file) ≡ shown_line file
-line-shown file = first-top (top_line file) ∙ (top-again file ∙ sym (first-top file))
 
 -- ---- a body
 

@@ -1,1 +1,2 @@
 mod ShowLemmas
+pub mod TopLineLemmas
