@@ -19,7 +19,7 @@ use Rattle.ssh_words.specs.CommandLine.{Request, request_of}
 use Rattle.ssh_command.specs.Account.{Account}
 use Rattle.ssh_command.specs.GrantedRuns.{AsksFor, GrantsHost, GrantsLogin}
 use Rattle.ssh_command.specs.Printing.{Prints}
-use Rattle.ssh_command.specs.Granting.{HostGranted, IsOfBytes, LoginGranted}
+use Rattle.ssh_command.specs.Granting.{HostGranted, TrustsBytes, LoginGranted}
 use Rattle.ssh_questions.specs.Hosts.{RespondsToHost, host_spelled}
 use Rattle.ssh_questions.specs.Logins.{RespondsToLogin, login_spelled}
 use Rattle.ssh_words.specs.Options.{option_word}
@@ -100,7 +100,7 @@ no-fault by f s t r (inr (vouched, told, fault)) h = let two = status-of r _ fau
 
 -- ---- a response with the status 0
 
-login-in : (rows : List Row) (told : Option TimeZone) (f : AuditFiles) (s : SourceState) (t : Option SourceState) (r : Response) → IsOfBytes f s
+login-in : (rows : List Row) (told : Option TimeZone) (f : AuditFiles) (s : SourceState) (t : Option SourceState) (r : Response) → TrustsBytes f s
     → ReadsZone (zone_text (given option.Zone rows)) told → (q : Result LoginAsked Response) → login_spelled rows told ≡ q
     → RespondsTo (λ q. Audits (login_by q) f) q s t r → r.status ≡ 0 → GrantsLogin rows f s r
 login-in rows told f s t r bytes read (Err e) spelled h zero =
@@ -116,7 +116,7 @@ login-in rows told f s t r bytes read (Ok q) spelled (inl (none, e)) zero = reco
   granted = subst (λ (x : Response). LoginGranted q f s x) (sym e) (login_granted q f s bytes (sym (status-of r _ e) ∙ zero));
 }
 
-host-in : (rows : List Row) (f : AuditFiles) (s : SourceState) (t : Option SourceState) (r : Response) → IsOfBytes f s
+host-in : (rows : List Row) (f : AuditFiles) (s : SourceState) (t : Option SourceState) (r : Response) → TrustsBytes f s
     → (q : Result HostCheck Response) → host_spelled rows ≡ q → RespondsTo (λ q. Audits (host_by q) f) q s t r → r.status ≡ 0 → GrantsHost rows f s r
 host-in rows f s t r bytes (Err e) spelled h zero =
     let two = host-faulty rows e spelled in
@@ -143,12 +143,12 @@ responds-to words q s t r e (inl (inl responds)) h =
 responds-to words q s t r e (inl (inr (line, none, usage))) h = let two = status-of r _ usage in absurd (omega (arith, two, h))
 responds-to words q s t r e (inr memory) h = let two = status-of r _ memory in absurd (omega (arith, two, h))
 
-login-by : (rows : List Row) (f : AuditFiles) (s : SourceState) (t : Option SourceState) (r : Response) → audit_files rows ≡ Ok f → IsOfBytes f s
+login-by : (rows : List Row) (f : AuditFiles) (s : SourceState) (t : Option SourceState) (r : Response) → audit_files rows ≡ Ok f → TrustsBytes f s
     → RespondsToLogin rows s t r → r.status ≡ 0 → GrantsLogin rows f s r
 login-by rows f s t r e bytes (zone, read, h) zero =
     login-in rows zone f s t r bytes read (login_spelled rows zone) refl (with-files (λ f. RespondsTo (λ q. Audits (login_by q) f) (login_spelled rows zone)) rows f s t r e h) zero
 
-host-by : (rows : List Row) (f : AuditFiles) (s : SourceState) (t : Option SourceState) (r : Response) → audit_files rows ≡ Ok f → IsOfBytes f s
+host-by : (rows : List Row) (f : AuditFiles) (s : SourceState) (t : Option SourceState) (r : Response) → audit_files rows ≡ Ok f → TrustsBytes f s
     → RespondsToHost rows s t r → r.status ≡ 0 → GrantsHost rows f s r
 host-by rows f s t r e bytes h zero = host-in rows f s t r bytes (host_spelled rows) refl (with-files (λ f. RespondsTo (λ q. Audits (host_by q) f) (host_spelled rows)) rows f s t r e h) zero
 
@@ -160,13 +160,13 @@ host-request rows = record { subcommand = Host; rows = rows }
 
 login_run : (words : List (List ℕ)) (rows : List Row) (f : AuditFiles) (s : SourceState) (t : Option SourceState) (r : Response)
     → request_of (request_words words s) ≡ Some (login-request rows) → audit_files rows ≡ Ok f
-    → IsOfBytes f (source_of words s) → Answers words s t r → r.status ≡ 0 → GrantsLogin rows f (source_of words s) r
+    → TrustsBytes f (source_of words s) → Answers words s t r → r.status ≡ 0 → GrantsLogin rows f (source_of words s) r
 login_run words rows f s t r e files bytes answers zero =
     login-by rows f (source_of words s) t r files bytes (responds-to words (Some (login-request rows)) s t r e answers zero) zero
 
 host_run : (words : List (List ℕ)) (rows : List Row) (f : AuditFiles) (s : SourceState) (t : Option SourceState) (r : Response)
     → request_of (request_words words s) ≡ Some (host-request rows) → audit_files rows ≡ Ok f
-    → IsOfBytes f (source_of words s) → Answers words s t r → r.status ≡ 0 → GrantsHost rows f (source_of words s) r
+    → TrustsBytes f (source_of words s) → Answers words s t r → r.status ≡ 0 → GrantsHost rows f (source_of words s) r
 host_run words rows f s t r e files bytes answers zero =
     host-by rows f (source_of words s) t r files bytes (responds-to words (Some (host-request rows)) s t r e answers zero) zero
 

@@ -11,10 +11,10 @@ use Rattle.ssh_rules.specs.declared.reason.Reason.{Reason}
 use Rattle.ssh_trust.specs.declared.decision.Decision.{Decision}
 use Rattle.ssh_trust.specs.declared.decision.Decision.TheVariants.{Granted, Denied}
 use Rattle.ssh_text.specs.Text.{file_limit}
-use Rattle.ssh_trust.specs.LoginDecision.{login_decision}
+use Rattle.ssh_trust.specs.LoginDecision.{LoginMeans, login_decision}
 use Rattle.ssh_trust.specs.HostDecision.{HostMeans, host_decision}
 use Rattle.ssh_trust.proofs.HostMeaningLemmas.{host_means}
-use Rattle.ssh_trust.proofs.MeaningLemmas.{LoginReading, login_reading}
+use Rattle.ssh_trust.proofs.MeaningLemmas.{login_means}
 use Rattle.ssh_print.specs.Responses.{Response, decision_response, decision_status, no_file_response, vouch_response}
 use Rattle.ssh_inputs.specs.Loading.{within_limit}
 use Rattle.ssh_inputs.specs.Parts.{part_at}
@@ -22,7 +22,8 @@ use Rattle.ssh_inputs.specs.SourceState.{SourceState, bytes_at}
 use Rattle.ssh_inputs.specs.VouchFile.{vouched_of}
 use Rattle.ssh_words.specs.Asked.{AuditFiles}
 use Rattle.ssh_questions.specs.Audits.{after_vouching, audit_response, decided_by, decided_response, host_by, login_by, or_vouch_fault, vouched_in, vouched_or_fault, vouched_response}
-use Rattle.ssh_command.specs.Granting.{HostGranted, IsOfBytes, LoginGranted}
+use Rattle.ssh_offers.proofs.ClaimReading.{host-found, login-found}
+use Rattle.ssh_command.specs.Granting.{HostGranted, TrustsBytes, LoginGranted}
 
 -- ---- faults have the status 2
 
@@ -117,13 +118,13 @@ printed-as line reasons r t e g same_rights same_evidence =
     ap (λ (x : Option Rights). decision_response (Ok (Granted line x reasons e))) same_rights
     ∙ ap (λ (x : List Signed). decision_response (Ok (Granted line t reasons x))) same_evidence
 
-pub login_granted : (q : Login) (f : AuditFiles) (s : SourceState) → IsOfBytes f s → (audit_response (login_by q) f s).status ≡ 0 → LoginGranted q f s (audit_response (login_by q) f s)
+pub login_granted : (q : Login) (f : AuditFiles) (s : SourceState) → TrustsBytes f s → (audit_response (login_by q) f s).status ≡ 0 → LoginGranted q f s (audit_response (login_by q) f s)
 login_granted q f s bytes h =
     let a = answered (login_claim q) login_decision f s h in
-    let means = subst (λ (d : Decision). LoginReading a.file a.claim a.vouched d) a.granted.is (login_reading a.file a.claim a.vouched (bytes a.file a.trusted)) in
+    let means = subst (λ (d : Decision). LoginMeans a.file a.claim a.vouched d) a.granted.is (login_means a.file a.claim a.vouched (bytes a.file a.trusted)) in
     record {
       claim = a.claim;
-      offered = a.offered;
+      claimed = λ offered signed. login-found q a.claim offered signed a.offered;
       vouched = a.vouched;
       told = a.told;
       file = a.file;
@@ -131,17 +132,19 @@ login_granted q f s bytes h =
       line = a.granted.line;
       entry = means.0;
       grant = means.1;
+      rights = means.2.0;
+      given = means.2.2;
       reasons = a.granted.reasons;
-      printed = a.printed ∙ printed-as a.granted.line a.granted.reasons _ _ _ _ means.2 means.3;
+      printed = a.printed ∙ printed-as a.granted.line a.granted.reasons _ _ _ _ means.2.1 means.3;
     }
 
-pub host_granted : (q : HostCheck) (f : AuditFiles) (s : SourceState) → IsOfBytes f s → (audit_response (host_by q) f s).status ≡ 0 → HostGranted q f s (audit_response (host_by q) f s)
+pub host_granted : (q : HostCheck) (f : AuditFiles) (s : SourceState) → TrustsBytes f s → (audit_response (host_by q) f s).status ≡ 0 → HostGranted q f s (audit_response (host_by q) f s)
 host_granted q f s bytes h =
     let a = answered (host_claim q) host_decision f s h in
     let means = subst (λ (d : Decision). HostMeans a.file a.claim a.vouched d) a.granted.is (host_means a.file a.claim a.vouched (bytes a.file a.trusted)) in
     record {
       claim = a.claim;
-      offered = a.offered;
+      claimed = λ offered signed. host-found q a.claim offered signed a.offered;
       vouched = a.vouched;
       told = a.told;
       file = a.file;

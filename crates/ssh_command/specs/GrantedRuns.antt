@@ -10,7 +10,7 @@ use Rattle.ssh_words.specs.declared.options.OptionName.TheVariants as option
 use Rattle.ssh_words.specs.Asked.{AuditFiles}
 use Rattle.ssh_words.specs.CommandLine.{request_of}
 use Rattle.ssh_words.specs.declared.subcommand.Subcommand.{Subcommand}
-use Rattle.ssh_command.specs.Granting.{HostGranted, IsOfBytes, LoginGranted}
+use Rattle.ssh_command.specs.Granting.{HostGranted, TrustsBytes, LoginGranted}
 use Rattle.ssh_command.specs.Requests.{request_words, source_of}
 use Rattle.ssh_questions.specs.Hosts.{host_spelled}
 use Rattle.ssh_questions.specs.Logins.{login_spelled}
@@ -20,7 +20,7 @@ use Rattle.ssh_words.specs.Spelling.{audit_files, given}
 pub record AsksFor (subcommand : Subcommand) (words : List (List ℕ)) (s : SourceState) (rows : List Row) (f : AuditFiles) : Type 0 where
   pub request : request_of (request_words words s) ≡ Some (record { subcommand = subcommand; rows = rows })
   pub files : audit_files rows ≡ Ok f
-  pub bytes : IsOfBytes f (source_of words s)
+  pub bytes : TrustsBytes f (source_of words s)
 
 -- the options spell this login, in the zone of its text, and the files grant it
 pub record GrantsLogin (rows : List Row) (f : AuditFiles) (s : SourceState) (r : Response) : Type 0 where

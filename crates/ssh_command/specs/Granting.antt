@@ -5,10 +5,12 @@ use Rattle.ssh_lines.specs.AuthEntry.{AuthEntry}
 use Rattle.ssh_lines.specs.KnownEntry.{KnownEntry}
 use Rattle.ssh_offers.specs.declared.query.Signed.{Signed}
 use Rattle.ssh_offers.specs.Evidence.{host_evidence, login_evidence}
-use Rattle.ssh_offers.specs.HostClaim.{HostClaim, host_claim}
-use Rattle.ssh_offers.specs.LoginClaim.{LoginClaim, login_claim}
+use Rattle.ssh_offers.specs.FirstRefusal.{IsHostClaim, IsLoginClaim}
+use Rattle.ssh_offers.specs.HostClaim.{HostClaim}
+use Rattle.ssh_offers.specs.LoginClaim.{LoginClaim}
 use Rattle.ssh_offers.specs.Query.{HostCheck, Login}
-use Rattle.ssh_rights.specs.Rights.{rights_of}
+use Rattle.ssh_rights.specs.declared.rights.Rights.{Rights}
+use Rattle.ssh_rights.specs.Rights.{AreRights}
 use Rattle.ssh_rules.specs.declared.reason.Reason.{Reason}
 use Rattle.ssh_trust.specs.declared.decision.Decision.TheVariants.{Granted}
 use Rattle.ssh_trust.specs.LoginDecision.{IsGrant}
@@ -18,14 +20,19 @@ use Rattle.ssh_inputs.specs.SourceState.{SourceState, bytes_at}
 use Rattle.ssh_words.specs.Asked.{AuditFiles}
 use Rattle.ssh_questions.specs.Audits.{after_vouching, vouched_in}
 
+-- each number is a byte
+abbrev pub IsOfBytes : List ℕ → Type 0
+IsOfBytes text = AllByRecursion (λ c. c < 256) text
+
 -- the trust file, where it is there, is of bytes
-abbrev pub IsOfBytes : AuditFiles → SourceState → Type 0
-IsOfBytes f s = (file : List ℕ) → bytes_at (after_vouching f.vouch s) f.trust ≡ Some file → AllByRecursion (λ c. c < 256) file
+abbrev pub TrustsBytes : AuditFiles → SourceState → Type 0
+TrustsBytes f s = (file : List ℕ) → bytes_at (after_vouching f.vouch s) f.trust ≡ Some file → IsOfBytes file
 
 -- The vouch file vouches for these, the trust file has these bytes, and a line of it is one to grant the login at; this is printed.
 pub record LoginGranted (q : Login) (f : AuditFiles) (s : SourceState) (r : Response) : Type 0 where
   pub claim : LoginClaim
-  pub offered : login_claim q ≡ Ok claim
+  -- It is what the blobs of the offer and of the signature spell, which are of bytes.
+  pub claimed : IsOfBytes q.offered → IsOfBytes q.signature → IsLoginClaim q claim
   pub vouched : List Signed
   pub told : vouched_in f.vouch s ≡ Ok vouched
   pub file : List ℕ
@@ -33,13 +40,15 @@ pub record LoginGranted (q : Login) (f : AuditFiles) (s : SourceState) (r : Resp
   pub line : ℕ
   pub entry : AuthEntry
   pub grant : IsGrant file claim vouched line entry
+  pub rights : Rights
+  pub given : AreRights entry claim.offer rights
   pub reasons : List (ℕ × Reason)
-  pub printed : r ≡ decision_response (Ok (Granted line (Some (rights_of entry claim.offer)) reasons (login_evidence claim)))
+  pub printed : r ≡ decision_response (Ok (Granted line (Some rights) reasons (login_evidence claim)))
 
 -- the same of a host's key, for which no rights are printed
 pub record HostGranted (q : HostCheck) (f : AuditFiles) (s : SourceState) (r : Response) : Type 0 where
   pub claim : HostClaim
-  pub offered : host_claim q ≡ Ok claim
+  pub claimed : IsOfBytes q.offered → IsOfBytes q.signature → IsHostClaim q claim
   pub vouched : List Signed
   pub told : vouched_in f.vouch s ≡ Ok vouched
   pub file : List ℕ

@@ -13,7 +13,7 @@ ghost use Rattle.ssh_inputs.specs.SourceState.{SourceState};
 ghost use Rattle.ssh_inputs.specs.VouchFile.{vouched_of};
 ghost use Rattle.ssh_words.specs.Asked.{AuditFiles};
 ghost use Rattle.ssh_questions.specs.Audits.{audit_response, host_by, login_by};
-ghost use Rattle.ssh_command.specs.Granting.{HostGranted, IsOfBytes, LoginGranted};
+ghost use Rattle.ssh_command.specs.Granting.{HostGranted, TrustsBytes, LoginGranted};
 ghost use Rattle.ssh_command.specs.VouchLines.{HasBytes, vouch_file, vouch_line};
 
 /// What is printed of a signature is, after its number, a line of a vouch file; and a vouch file of
@@ -39,10 +39,10 @@ fn signature_rule()
 /// that grant's.
 fn granted_rule()
     // What is answered to what is asked of these files.
-    ensures asked_login { (q : LoginAsked) (f : AuditFiles) (s : SourceState) → IsOfBytes f s
+    ensures asked_login { (q : LoginAsked) (f : AuditFiles) (s : SourceState) → TrustsBytes f s
         → (audit_response (login_by q) f s).status ≡ 0
         → LoginGranted q f s (audit_response (login_by q) f s) }
-    ensures asked_host { (q : HostCheck) (f : AuditFiles) (s : SourceState) → IsOfBytes f s
+    ensures asked_host { (q : HostCheck) (f : AuditFiles) (s : SourceState) → TrustsBytes f s
         → (audit_response (host_by q) f s).status ≡ 0
         → HostGranted q f s (audit_response (host_by q) f s) }
 {}
