@@ -3,6 +3,7 @@ pub mod Appended
 pub mod DateLemmas
 pub mod LineLemmas
 pub mod ByteLemmas
+pub mod MemoryLemmas
 pub mod DigestLemmas
 pub mod DateTextLemmas
 pub mod ShownLemmas

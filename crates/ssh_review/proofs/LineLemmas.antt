@@ -131,6 +131,12 @@ fit before told rest all n w h e =
       findings = omega (arith, findings, w.findings);
     }
 
+pub keys-fit : (asking : Asking) (file : List ℕ) (before rest : Counts) → plus before rest ≡ counts_of asking [] (numbered 1 (lines_of file))
+    → before.keys ≤ length file
+keys-fit asking file before rest e =
+    let keys : before.keys + rest.keys ≡ (counts_of asking [] (numbered 1 (lines_of file))).keys = ap (λ (c : Counts). c.keys) e in
+    omega (arith, keys, (all-within asking [] 1 (lines_of file)).keys, lines-few file)
+
 pub told_fits : (asking : Asking) (earlier : List Held) (file : List ℕ) (before told : Counts) (n : ℕ) (line : List ℕ) (said : AuthLine) (now next : List (ℕ × List ℕ))
     → length file ≤ file_limit → now ≡ (n, line) ∷ next → said ≡ auth_line line → told ≡ line_counts asking earlier said
     → plus before (counts_of asking earlier now) ≡ counts_of asking [] (numbered 1 (lines_of file)) → Fits before told

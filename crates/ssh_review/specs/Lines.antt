@@ -52,6 +52,11 @@ held_of asking (n, Comment) = []
 held_of asking (n, Entry entry) = held_entry asking.zone n entry ∷ []
 held_of asking (n, Unreadable cause) = []
 
+-- the entries of lines, each with its number
+abbrev pub held_lines : Asking → List (ℕ × List ℕ) → List Held
+held_lines asking [] = []
+held_lines asking (line ∷ lines) = held_of asking (line.0, auth_line line.1) ++ held_lines asking lines
+
 -- the records of lines, each with its number, after the lines of these entries
 abbrev pub records_of : Form → Asking → List ℕ → List Held → List (ℕ × List ℕ) → List ℕ
 records_of form asking name earlier [] = []

@@ -27,6 +27,7 @@ mod sentence;
 
 pub use counts::{Counts, FileFault, Reviewed, Total};
 pub use form::Form;
+pub use lines::push_records;
 pub use record::{push_comment, push_fingerprint, push_held, push_key, push_place, role_word};
 pub use review::{push_end, review_auth, review_fault, total_line};
 pub use sentence::{push_finding_head, push_short_sentence, push_unreadable_sentence};

@@ -10,6 +10,7 @@ ghost use Rattle.ssh_findings.specs.Keeping.{StandsFor};
 ghost use Rattle.ssh_findings.specs.Memory.{bytes_kept, keys_kept};
 ghost use Rattle.ssh_review.specs.Lines.{
   counts_of,
+  held_lines,
   held_of,
   line_counts,
   line_findings,
@@ -140,9 +141,11 @@ fn push_line(
     }
 }
 
-/// The records of a file's lines, and what they count. What is kept of the entries for later lines
-/// is no more than their blobs and forced commands, and a place for each.
-pub(crate) fn push_lines(
+/// The records of a file's lines, at the end, and what they count. `earlier`, where no entry stands
+/// yet, then has of the file's entries what a later line can need: no more bytes than the file has, and
+/// no more keys than entries, however often they repeat. After an `Err`, which is want of memory, a
+/// part of the records may stand there, and some entries may be kept.
+pub fn push_records(
     alloc: Global,
     form: Form,
     asked: &Asked<'_>,
@@ -157,10 +160,18 @@ pub(crate) fn push_lines(
         ++ records_of form (asking_of asked.entry.now) name.now [] (numbered 1 (lines_of file.now))) }
     ensures counts { IfOk result (λ counts. counts
         ≡ counts_of (asking_of asked.entry.now) [] (numbered 1 (lines_of file.now))) }
+    ensures kept { OnOk result (StandsFor earlier.new
+        (held_lines (asking_of asked.entry.now) (numbered 1 (lines_of file.now)))) }
+    // Of each entry its blob and its forced command are kept at most, and a place.
     ensures bytes { OnOk result (bytes_kept earlier.new ≤ bytes_kept earlier.old
         + lines_bytes (asking_of asked.entry.now) (numbered 1 (lines_of file.now))) }
     ensures keys { IfOk result
         (λ counts. keys_kept earlier.new ≤ keys_kept earlier.old + counts.keys) }
+    // So what is kept is no more than the file.
+    ensures file_bytes { OnOk result
+        (bytes_kept earlier.new ≤ bytes_kept earlier.old + length file.now) }
+    ensures file_keys { OnOk result
+        (keys_kept earlier.new ≤ keys_kept earlier.old + length file.now) }
 {
     let mut buffer = KeyBuffer::new(alloc)?;
     let mut counts = Counts::NONE;

@@ -10,7 +10,7 @@ use crate::counts::{Counts, FileFault, Reviewed, Total};
 use crate::end::{push_end_text, push_fault_text, push_total_text};
 use crate::end_object::{push_end_object, push_fault_object, push_total_object};
 use crate::form::Form;
-use crate::lines::push_lines;
+use crate::lines::push_records;
 use sha2::{Digest, Sha256};
 use ssh_findings::{Asked, Earlier};
 use ssh_text::FILE_LIMIT;
@@ -50,7 +50,7 @@ fn whole_review(
 {
     let mut text = Vec::new(alloc);
     let mut earlier = Earlier::new(alloc);
-    let counts = push_lines(alloc, form, asked, name, file, &mut earlier, &mut text)?;
+    let counts = push_records(alloc, form, asked, name, file, &mut earlier, &mut text)?;
     let digest = Sha256::digest(file);
     push_end(alloc, form, &mut text, name, counts, &digest)?;
     Ok(Reviewed {
@@ -96,8 +96,8 @@ pub fn review_fault(
 
 /// The review of an authorized_keys file of this name and these bytes: a record for each entry and
 /// each line that cannot be read, in their order, and an end with counts and the SHA-256. A file of
-/// more than 67,108,864 bytes has the fault A7. So much memory is taken as the different keys of the
-/// file want. `Err` is out of memory.
+/// more than 67,108,864 bytes has the fault A7. Of its entries so much is kept meanwhile as
+/// `push_records` says: no more bytes than the file has. `Err` is out of memory.
 pub fn review_auth(
     alloc: Global,
     form: Form,

@@ -5,9 +5,9 @@ use Rattle.ssh_findings.specs.Earlier.{Held}
 use Rattle.ssh_findings.specs.Keeping.{StandsFor}
 use Rattle.ssh_findings.specs.Memory.{bytes_kept, keys_kept}
 use Rattle.ssh_review.specs.Counting.{plus}
-use Rattle.ssh_review.specs.Lines.{counts_of, records_of}
+use Rattle.ssh_review.specs.Lines.{counts_of, held_lines, records_of}
 use Rattle.ssh_review.specs.Memory.{lines_bytes}
-use Rattle.ssh_review.proofs.lines.push_lines.Given as goal
+use Rattle.ssh_review.proofs.lines.push_records.Given as goal
 
 abbrev pub invariant-loop-number : goal.invariant-loop-number
 invariant-loop-number l =
@@ -16,7 +16,9 @@ invariant-loop-number l =
     × (l.out.items ++ records_of l.form (asking_of l.asked) l.name held (numbered (l.number-iterator).0 (lines_of (l.number-iterator).1))
     ≡ l.initial.out.items ++ records_of l.form (asking_of l.asked) l.name [] (numbered 1 (lines_of l.file)))
     × (plus l.counts (counts_of (asking_of l.asked) held (numbered (l.number-iterator).0 (lines_of (l.number-iterator).1)))
-    ≡ counts_of (asking_of l.asked) [] (numbered 1 (lines_of l.file))))
+    ≡ counts_of (asking_of l.asked) [] (numbered 1 (lines_of l.file)))
+    × (held ++ held_lines (asking_of l.asked) (numbered (l.number-iterator).0 (lines_of (l.number-iterator).1))
+    ≡ held_lines (asking_of l.asked) (numbered 1 (lines_of l.file))))
     × (bytes_kept l.earlier + lines_bytes (asking_of l.asked) (numbered (l.number-iterator).0 (lines_of (l.number-iterator).1))
     ≤ bytes_kept l.initial.earlier + lines_bytes (asking_of l.asked) (numbered 1 (lines_of l.file)))
     × (keys_kept l.earlier ≤ keys_kept l.initial.earlier + l.counts.keys)
