@@ -1,4 +1,3 @@
-pub mod PlainLemmas
 pub mod Appended
 pub mod DateLemmas
 pub mod LineLemmas

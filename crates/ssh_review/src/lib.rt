@@ -20,7 +20,6 @@ mod end_object;
 mod form;
 mod laws;
 mod lines;
-mod plain;
 mod record;
 mod review;
 mod sentence;

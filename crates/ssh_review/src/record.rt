@@ -25,13 +25,12 @@ ghost use Rattle.ssh_review.specs.Records.{
 ghost use Rattle.ssh_review.specs.Sentences.{finding_line};
 
 use crate::date::moment_text;
-use crate::plain::push_shown;
 use crate::sentence::push_finding;
 use ssh_findings::{Facts, Finding};
 use ssh_held_keys::HeldKey;
 use ssh_keys::KeyKind;
 use ssh_print::{push_number, push_text_line, push_word_line};
-use ssh_review_json::{Place, push_rights_words};
+use ssh_review_json::{Place, push_rights_words, push_shown};
 use ssh_rights::{Carried, CarriedName, Rights};
 use ssh_text::Bytes;
 use std::alloc::{AllocError, Global};

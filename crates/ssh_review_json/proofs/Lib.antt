@@ -1,3 +1,4 @@
+pub mod PlainLemmas
 pub mod PrintableLemmas
 pub mod ReadingLemmas
 pub mod WordLemmas

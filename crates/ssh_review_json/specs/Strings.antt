@@ -1,7 +1,7 @@
 -- JSON strings of any bytes (RFC 8259, section 7, over the texts that are printed).
-use Rattle.std.specs.Prelude.{◌++◌, ◌∷◌, [], ◌==◌, ◌||◌, ℕ, List, Option, Some, None, codes, if◌then◌else◌}
+use Rattle.std.specs.Prelude.{◌++◌, ◌∷◌, [], ◌==◌, ◌||◌, ◌&&◌, ℕ, Bool, not, List, Option, Some, None, codes, if◌then◌else◌}
 use Rattle.std.specs.List.{flat_map}
-use Rattle.ssh_print.specs.Texts.{escaped_text}
+use Rattle.ssh_print.specs.Texts.{escaped_text, is_plain}
 
 -- a byte of a string: a backslash (92) stands before a quote (34) and before a backslash
 abbrev pub quoted_byte : ℕ → List ℕ
@@ -10,6 +10,10 @@ quoted_byte c = (if c == 34 || c == 92 then 92 ∷ [] else []) ++ c ∷ []
 -- the text that is printed of the bytes, as a string
 unfoldable pub json_text : List ℕ → List ℕ
 json_text text = codes "\"" ++ flat_map quoted_byte (escaped_text text) ++ codes "\""
+
+-- a byte that stands in a string as it is: one that is printed so, but for the quote
+abbrev pub is_verbatim : ℕ → Bool
+is_verbatim c = is_plain c && not (c == 34)
 
 -- ---- reading
 
