@@ -1,4 +1,5 @@
 pub mod PlainLemmas
+pub mod UnquotedLemmas
 pub mod PrintableLemmas
 pub mod ReadingLemmas
 pub mod WordLemmas

@@ -32,6 +32,9 @@ use ssh_options::OptionsView;
 use ssh_rights::Rights;
 use std::alloc::{AllocError, Global};
 
+/// How many bytes a fingerprint has: `SHA256:`, and a digest in base64.
+const FINGERPRINT_LEN: usize = 50;
+
 /// Where a line stands: the name of its file, and its number.
 #[derive(Clone, Copy, Debug)]
 pub struct Place<'a> {
@@ -69,7 +72,8 @@ pub fn is_word(is_authority: bool) -> &'static [u8]
 pub fn fingerprint_text(alloc: Global, fingerprint: &[u8]) -> Result<Vec<u8>, AllocError>
     ensures { IfOk result (λ text. text.items ≡ fingerprint_text fingerprint.now) }
 {
-    let mut text = Vec::from_slice(alloc, b"SHA256:")?;
+    let mut text = Vec::with_capacity(alloc, FINGERPRINT_LEN)?;
+    text.extend_from_slice(b"SHA256:")?;
     text.extend_from_slice(fingerprint)?;
     Ok(text)
 }

@@ -1,6 +1,6 @@
 use Rattle.std.proofs.Common.{◌≡◌, ◌++◌}
 use Rattle.ssh_options.specs.OptionText.{escaped}
-use Rattle.ssh_review_json.proofs.options.push_value.Given as goal
+use Rattle.ssh_review_json.proofs.options.push_value_bytes.Given as goal
 
 abbrev pub invariant-loop-byte : goal.invariant-loop-byte
 invariant-loop-byte l =
