@@ -20,21 +20,21 @@ use Rattle.ssh_show.specs.ShownLines.{Finds}
 use Rattle.ssh_show.proofs.TopLineLemmas.{line-offered}
 use Rattle.ssh_admission.specs.declared.text.Party.{Party}
 use Rattle.ssh_inputs.specs.FilesInTurn.{TellsFile, TellsFiles}
-use Rattle.ssh_answers.specs.Admissions.{Asking, AsksBy, AsksFiles, AsksKey, AsksOffer, Told, both, nothing_told, offer_or_fault, or_shown_fault, telling, told_of, told_response}
+use Rattle.ssh_answers.specs.Admissions.{KeyAsking, AsksBy, AsksFiles, AsksKey, AsksOffer, ToldLines, told_both, nothing_told, offer_or_fault, or_shown_fault, telling, told_of, told_response}
 use Rattle.ssh_questions.specs.Audits.{Deciding}
 use Rattle.ssh_questions.specs.FileAnswers.{AnswersFile, IsFaultOf, is_memory}
 use Rattle.ssh_inputs.proofs.SourceLemmas.{Alike, file-alike, keeps-same, left-none, none-failed, one-failed, over_limit}
 
 -- ---- one file
 
-tells-by : (who : Party) (by : Deciding) (evidence : List Signed) (name : List ℕ) (s : SourceState) (t : Option SourceState) (answer : Result Decision AuditError) (told : Told)
+tells-by : (who : Party) (by : Deciding) (evidence : List Signed) (name : List ℕ) (s : SourceState) (t : Option SourceState) (answer : Result Decision AuditError) (told : ToldLines)
     → is_memory answer ≡ false → told ≡ told_of who name answer → KeepsOthers name s t → AnswersFile by evidence name (bytes_at s name) s t answer
     → TellsFile (telling who by evidence) name s t told
 tells-by who by evidence name s t answer told spared is keeps (inl e) = (let bad : true ≡ false = ap is_memory (sym e) ∙ spared in cc)
 tells-by who by evidence name s t answer told spared is keeps (inr (inl (offered, failed, e))) = (keeps, inl (failed, is ∙ ap (told_of who name) e))
 tells-by who by evidence name s t answer told spared is keeps (inr (inr (none, e))) = (keeps, inr (none, is ∙ ap (told_of who name) e))
 
-pub file_told : (who : Party) (by : Deciding) (evidence : List Signed) (name : List ℕ) (o t : Option SourceState) (answer : Result Decision AuditError) (told : Told)
+pub file_told : (who : Party) (by : Deciding) (evidence : List Signed) (name : List ℕ) (o t : Option SourceState) (answer : Result Decision AuditError) (told : ToldLines)
     → is_memory answer ≡ false → told ≡ told_of who name answer → IfTells o (λ s. KeepsOthers name s t)
     → IfTells o (λ s. AnswersFile by evidence name (bytes_at s name) s t answer) → IfTells o (λ s. TellsFile (telling who by evidence) name s t told)
 file_told who by evidence name None t answer told spared is keeps h = tt
@@ -45,16 +45,16 @@ file_told who by evidence name (Some s) t answer told spared is keeps h = λ cou
 given-same : (e given : List Signed) → Gives (Ok e) (Ok given) → given ≡ e
 given-same e given h = (let same : Ok e ≡ Ok given = h in cc)
 
-asks-told : (who : Party) (by : Deciding) (rests : Result (List Signed) AuditError) (evidence : List Signed) (names : List (List ℕ)) (s : SourceState) (t : Option SourceState) (told : Told) (r : Shown)
+asks-told : (who : Party) (by : Deciding) (rests : Result (List Signed) AuditError) (evidence : List Signed) (names : List (List ℕ)) (s : SourceState) (t : Option SourceState) (told : ToldLines) (r : Shown)
     → RefusesAs rests (Ok evidence) → OfClaim rests (λ e. Gives (Ok e) (Ok evidence)) → r ≡ told_response told
-    → TellsFiles both (telling who by evidence) nothing_told names s t told → AsksBy who by rests names s t r
+    → TellsFiles told_both (telling who by evidence) nothing_told names s t told → AsksBy who by rests names s t r
 asks-told who by (Err e) evidence names s t told r refused given is h = cc
 asks-told who by (Ok e) evidence names s t told r refused given is h =
-    (told, subst (λ (x : List Signed). TellsFiles both (telling who by x) nothing_told names s t told) (given-same e evidence given) h, is)
+    (told, subst (λ (x : List Signed). TellsFiles told_both (telling who by x) nothing_told names s t told) (given-same e evidence given) h, is)
 
 pub asks_told : {R : Type 0} (view : R → Shown) (who : Party) (by : Deciding) (rests : Result (List Signed) AuditError) (evidence : List Signed) (names : List (List ℕ)) (o t : Option SourceState)
-    (told : Told) (r : R) → RefusesAs rests (Ok evidence) → OfClaim rests (λ e. Gives (Ok e) (Ok evidence)) → view r ≡ told_response told
-    → IfTells o (λ s. TellsFiles both (telling who by evidence) nothing_told names s t told) → IfTells o (λ s. AsksBy who by rests names s t (view r))
+    (told : ToldLines) (r : R) → RefusesAs rests (Ok evidence) → OfClaim rests (λ e. Gives (Ok e) (Ok evidence)) → view r ≡ told_response told
+    → IfTells o (λ s. TellsFiles told_both (telling who by evidence) nothing_told names s t told) → IfTells o (λ s. AsksBy who by rests names s t (view r))
 asks_told view who by rests evidence names None t told r refused given is h = tt
 asks_told view who by rests evidence names (Some s) t told r refused given is h = λ counts. asks-told who by rests evidence names s t told (view r) refused given is (h counts)
 
@@ -90,7 +90,7 @@ asks_refused view who by rests error names (Some s) (Ok r) refused given spared 
 
 -- ---- the key's file
 
-pub offer_asked : {R E : Type 0} (view : R → Shown) (asks : Offered → Asking) (file : List ℕ) (offer : Offered) (names : List (List ℕ)) (o t : Option SourceState) (res : Result R E) → offer_in file ≡ Ok offer
+pub offer_asked : {R E : Type 0} (view : R → Shown) (asks : Offered → KeyAsking) (file : List ℕ) (offer : Offered) (names : List (List ℕ)) (o t : Option SourceState) (res : Result R E) → offer_in file ≡ Ok offer
     → IfTells o (λ s. IfOk res (λ r. AsksFiles (asks offer) names s t (view r)))
     → IfTells o (λ s. IfOk res (λ r. AsksOffer asks (or_shown_fault (offer_in file)) names s t (view r)))
 offer_asked view asks file offer names o t res is h =
@@ -103,26 +103,26 @@ unoffered seen read (show.Cert e) r finds is = (finds, is)
 unoffered seen read (show.Body e) r finds is = (finds, is)
 unoffered seen read show.Memory r finds is = absurd is
 
-unasked : {V : Type 0} (seen : V → Offered) (asks : Offered → Asking) (file : List ℕ) (error : ShowError) (names : List (List ℕ)) (s : SourceState) (r : Shown) → Finds seen (offer_in file) (Err error) → IsFaultOfShow error r
+unasked : {V : Type 0} (seen : V → Offered) (asks : Offered → KeyAsking) (file : List ℕ) (error : ShowError) (names : List (List ℕ)) (s : SourceState) (r : Shown) → Finds seen (offer_in file) (Err error) → IsFaultOfShow error r
     → AsksOffer asks (or_shown_fault (offer_in file)) names s (Some s) r
 unasked seen asks file error names s r finds is =
     let none = unoffered seen (offer_in file) error r finds is in
     subst (λ (x : Result Offered ShowError). AsksOffer asks (or_shown_fault x) names s (Some s) r) (sym none.0) (refl, none.1)
 
-pub offer_unasked : {R E V : Type 0} (view : R → Shown) (seen : V → Offered) (asks : Offered → Asking) (file : List ℕ) (error : ShowError) (names : List (List ℕ)) (o : Option SourceState) (res : Result R E)
+pub offer_unasked : {R E V : Type 0} (view : R → Shown) (seen : V → Offered) (asks : Offered → KeyAsking) (file : List ℕ) (error : ShowError) (names : List (List ℕ)) (o : Option SourceState) (res : Result R E)
     → Finds seen (offer_in file) (Err error) → IfOk res (λ r. IsFaultOfShow error (view r))
     → IfTells o (λ s. IfOk res (λ r. AsksOffer asks (or_shown_fault (offer_in file)) names s o (view r)))
 offer_unasked view seen asks file error names None res finds is = tt
 offer_unasked view seen asks file error names (Some s) (Err x) finds is = λ counts. tt
 offer_unasked view seen asks file error names (Some s) (Ok r) finds is = λ counts. unasked seen asks file error names s (view r) finds is
 
-key-by : (asks : Offered → Asking) (key : List ℕ) (names : List (List ℕ)) (s m : SourceState) (t : Option SourceState) (o : Option (List ℕ)) (r : Shown) → within_limit (bytes_at s key) ≡ o
+key-by : (asks : Offered → KeyAsking) (key : List ℕ) (names : List (List ℕ)) (s m : SourceState) (t : Option SourceState) (o : Option (List ℕ)) (r : Shown) → within_limit (bytes_at s key) ≡ o
     → KeepsOthers key s (Some m) → NoReadFailed s (Some m) → AsksOffer asks (offer_or_fault key o) names m t r → AsksKey asks key names s t r
 key-by asks key names s m t o r is keeps none h =
     inr (m, keeps, none, subst (λ (x : Option (List ℕ)). AsksOffer asks (offer_or_fault key x) names m t r) (sym is) h)
 
 -- a key's file of which the first line was read
-pub key_asked : {R E : Type 0} (view : R → Shown) (asks : Offered → Asking) (key line read : List ℕ) (names : List (List ℕ)) (o u t : Option SourceState) (res : Result R E) → read ≡ line
+pub key_asked : {R E : Type 0} (view : R → Shown) (asks : Offered → KeyAsking) (key line read : List ℕ) (names : List (List ℕ)) (o u t : Option SourceState) (res : Result R E) → read ≡ line
     → IfTells o (λ s. ((file : List ℕ) × (within_limit (bytes_at s key) ≡ Some file) × (line ≡ top_line file)) × IsLeft s (after_whole s key) u)
     → IfTells o (λ s. KeepsOthers key s u)
     → IfTells u (λ m. IfOk res (λ r. AsksOffer asks (or_shown_fault (offer_in read)) names m t (view r)))
@@ -139,7 +139,7 @@ key_asked view asks key line read names (Some s) (Some m) t (Ok r) is loads keep
     key-by asks key names s m t (Some file) (view r) load.0.1 (keeps counts) none
     (subst (λ (x : Result Offered ShowError). AsksOffer asks (or_shown_fault x) names m t (view r)) same (h tells))
 
-unkeyed : (asks : Offered → Asking) (key : List ℕ) (names : List (List ℕ)) (s : SourceState) (t : Option SourceState) (e : ReadError) (r : Shown) → FailsLoad key (bytes_at s key) s t e → KeepsOthers key s t
+unkeyed : (asks : Offered → KeyAsking) (key : List ℕ) (names : List (List ℕ)) (s : SourceState) (t : Option SourceState) (e : ReadError) (r : Shown) → FailsLoad key (bytes_at s key) s t e → KeepsOthers key s t
     → IsFaultOf key e r → AsksKey asks key names s t r
 unkeyed asks key names s None fault.Missing r fails keeps is = absurd keeps
 unkeyed asks key names s None fault.TooLong r fails keeps is = absurd keeps
@@ -149,7 +149,7 @@ unkeyed asks key names s t fault.Failed r fails keeps is = inl (fails, is)
 unkeyed asks key names s t fault.Memory r fails keeps is = absurd is
 
 -- one that gives no bytes
-pub key_unasked : {R E : Type 0} (view : R → Shown) (asks : Offered → Asking) (key : List ℕ) (names : List (List ℕ)) (o t : Option SourceState) (e : ReadError) (res : Result R E)
+pub key_unasked : {R E : Type 0} (view : R → Shown) (asks : Offered → KeyAsking) (key : List ℕ) (names : List (List ℕ)) (o t : Option SourceState) (e : ReadError) (res : Result R E)
     → IfTells o (λ s. FailsLoad key (bytes_at s key) s t e) → IfTells o (λ s. KeepsOthers key s t) → IfOk res (λ r. IsFaultOf key e (view r))
     → IfTells o (λ s. IfOk res (λ r. AsksKey asks key names s t (view r)))
 key_unasked view asks key names None t e res fails keeps is = tt
@@ -158,7 +158,7 @@ key_unasked view asks key names (Some s) t e (Ok r) fails keeps is = λ counts. 
 
 -- ---- sources that are alike have the same answers
 
-pub key-same : (asks : Offered → Asking) (key : List ℕ) (names : List (List ℕ)) (a b : SourceState) (u : Option SourceState) (r : Shown) → Alike a b
+pub key-same : (asks : Offered → KeyAsking) (key : List ℕ) (names : List (List ℕ)) (a b : SourceState) (u : Option SourceState) (r : Shown) → Alike a b
     → AsksKey asks key names a u r → AsksKey asks key names b u r
 key-same asks key names a b u r e (inl h) = inl (one-failed a b u key e h.0, h.1)
 key-same asks key names a b u r e (inr (m, keeps, none, h)) = inr (

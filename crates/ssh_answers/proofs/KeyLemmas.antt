@@ -10,11 +10,11 @@ use Rattle.ssh_show.specs.Offering.{Offered}
 use Rattle.ssh_admission.specs.StandIn.{login_algorithm, stand_in}
 use Rattle.ssh_words.specs.declared.options.OptionName.TheVariants as option
 use Rattle.ssh_words.specs.Spelling.{given, names_needed, needed, or_fault, usual_port, value, value_or}
-use Rattle.ssh_answers.specs.Admissions.{Asking}
+use Rattle.ssh_answers.specs.Admissions.{KeyAsking}
 use Rattle.ssh_answers.specs.Keys.{admits_spelled, host_asking, login_asking, trusts_spelled}
 
 -- the login that is asked about what is offered
-abbrev pub client_asks : (user : List ℕ) (host : Option (List ℕ)) (address : List ℕ) (now : ℕ) (zone : TimeZone) (empty : EmptyPrincipals) (bits : ℕ) → Offered → Asking
+abbrev pub client_asks : (user : List ℕ) (host : Option (List ℕ)) (address : List ℕ) (now : ℕ) (zone : TimeZone) (empty : EmptyPrincipals) (bits : ℕ) → Offered → KeyAsking
 client_asks user host address now zone empty bits o = login_asking (record {
   offered = o.blob;
   signature = stand_in o.kind;
@@ -43,7 +43,7 @@ pub admits_is_spelled : (rows : List Row) (told : Option TimeZone) (key user : L
 unfolding admits_spelled
 admits_is_spelled rows told key user now zone empty bits address names host a b c d e f g h i = rw (i, a, b, c, d, e, f, g, h) refl
 
-abbrev pub host_asks : (host : List ℕ) (port now : ℕ) (empty : EmptyPrincipals) (bits : ℕ) → Offered → Asking
+abbrev pub host_asks : (host : List ℕ) (port now : ℕ) (empty : EmptyPrincipals) (bits : ℕ) → Offered → KeyAsking
 host_asks host port now empty bits o = host_asking (record {
   offered = o.blob;
   signature = stand_in o.kind;

@@ -38,33 +38,33 @@ status_of Denies = 1
 status_of Faulty = 2
 
 -- lines, and what the files that they tell of come to
-pub record Told : Type 0 where
+pub record ToldLines : Type 0 where
   pub outcome : Outcome
   pub text : List ℕ
 
-abbrev pub nothing_told : Told
+abbrev pub nothing_told : ToldLines
 nothing_told = record { outcome = Denies; text = [] }
 
 -- what is told so far, with what one more file tells
-abbrev pub both : Told → Told → Told
-both a b = record { outcome = and_then a.outcome b.outcome; text = a.text ++ b.text }
+abbrev pub told_both : ToldLines → ToldLines → ToldLines
+told_both a b = record { outcome = and_then a.outcome b.outcome; text = a.text ++ b.text }
 
-abbrev pub told_of : Party → List ℕ → Result Decision AuditError → Told
+abbrev pub told_of : Party → List ℕ → Result Decision AuditError → ToldLines
 told_of who name answer = record { outcome = outcome_of answer; text = answer_text who name answer }
 
-abbrev pub told_response : Told → Response
+abbrev pub told_response : ToldLines → Response
 told_response told = record { status = status_of told.outcome; text = told.text }
 
 -- ---- files
 
 -- what is asked of each file: whose key it is, what a file decides of it, and what that rests on
-pub record Asking : Type 0 where
+pub record KeyAsking : Type 0 where
   pub who : Party
   pub by : Deciding
   pub rests_on : Result (List Signed) AuditError
 
 -- what a trust file answers where all evidence is vouched for; a failed read of it is told as A9
-abbrev pub telling : Party → Deciding → List Signed → Telling Told
+abbrev pub telling : Party → Deciding → List Signed → Telling ToldLines
 telling who by evidence = record {
   of_bytes = λ name bytes. told_of who name (answer_over by evidence bytes);
   of_fault = λ name. told_of who name (Err Read);
@@ -74,9 +74,9 @@ telling who by evidence = record {
 abbrev pub AsksBy : Party → Deciding → Result (List Signed) AuditError → List (List ℕ) → SourceState → Option SourceState → Response → Type 0
 AsksBy who by (Err e) names s t r = NoReadFailed s t × (r ≡ refused_response e)
 AsksBy who by (Ok evidence) names s t r =
-    (told : Told) × TellsFiles both (telling who by evidence) nothing_told names s t told × (r ≡ told_response told)
+    (told : ToldLines) × TellsFiles told_both (telling who by evidence) nothing_told names s t told × (r ≡ told_response told)
 
-abbrev pub AsksFiles : Asking → List (List ℕ) → SourceState → Option SourceState → Response → Type 0
+abbrev pub AsksFiles : KeyAsking → List (List ℕ) → SourceState → Option SourceState → Response → Type 0
 AsksFiles a names s t r = AsksBy a.who a.by a.rests_on names s t r
 
 -- ---- the key's file
@@ -90,11 +90,11 @@ abbrev pub offer_or_fault : List ℕ → Option (List ℕ) → Result Offered Re
 offer_or_fault key None = Err (no_file_response key)
 offer_or_fault key (Some file) = or_shown_fault (offer_in file)
 
-abbrev pub AsksOffer : (Offered → Asking) → Result Offered Response → List (List ℕ) → SourceState → Option SourceState → Response → Type 0
+abbrev pub AsksOffer : (Offered → KeyAsking) → Result Offered Response → List (List ℕ) → SourceState → Option SourceState → Response → Type 0
 AsksOffer asks (Err fault) names s t r = NoReadFailed s t × (r ≡ fault)
 AsksOffer asks (Ok offer) names s t r = AsksFiles (asks offer) names s t r
 
 -- the key's file is read first: its read failed, or what it offers is asked about
-abbrev pub AsksKey : (Offered → Asking) → List ℕ → List (List ℕ) → SourceState → Option SourceState → Response → Type 0
+abbrev pub AsksKey : (Offered → KeyAsking) → List ℕ → List (List ℕ) → SourceState → Option SourceState → Response → Type 0
 AsksKey asks key names s t r = IsFileFault key s t r
     ⊎ ((m : SourceState) × KeepsOthers key s (Some m) × NoReadFailed s (Some m) × AsksOffer asks (offer_or_fault key (within_limit (bytes_at s key))) names m t r)

@@ -13,19 +13,19 @@ use Rattle.ssh_admission.specs.StandIn.{login_algorithm, stand_in}
 use Rattle.ssh_admission.specs.declared.text.Party.TheVariants.{Client, Host}
 use Rattle.ssh_words.specs.declared.options.OptionName.TheVariants as option
 use Rattle.ssh_words.specs.Spelling.{RespondsTo, given, names_needed, needed, or_fault, usual_port, value, value_or}
-use Rattle.ssh_answers.specs.Admissions.{Asking, AsksKey}
+use Rattle.ssh_answers.specs.Admissions.{KeyAsking, AsksKey}
 use Rattle.ssh_questions.specs.Audits.{host_by, host_rests, login_by, login_rests}
 
 -- the names of the key's file and of the trust files, and what is asked of each about what the first offers
 pub record KeyAsked : Type 0 where
   pub key : List ℕ
   pub names : List (List ℕ)
-  pub asks : Offered → Asking
+  pub asks : Offered → KeyAsking
 
-abbrev pub login_asking : Login → Asking
+abbrev pub login_asking : Login → KeyAsking
 login_asking q = record { who = Client; by = login_by q; rests_on = login_rests q }
 
-abbrev pub host_asking : HostCheck → Asking
+abbrev pub host_asking : HostCheck → KeyAsking
 host_asking q = record { who = Host; by = host_by q; rests_on = host_rests q }
 
 -- ---- a client's key

@@ -4,7 +4,7 @@ ghost use Rattle.std.specs.Prelude.{◌≡◌, IfOk, map};
 ghost use Rattle.ssh_answers.specs.Admissions.{
   AsksBy,
   and_then,
-  both,
+  told_both,
   nothing_told,
   outcome_of,
   status_of,
@@ -112,7 +112,7 @@ fn tell_files<Q: Question, F: Files>(
     files: &mut F,
 ) -> Result<Told, AllocError>
     ensures { IfTells (F.source_state files.old) (λ s. IfOk result (λ told.
-        TellsFiles both (telling who (Q.decides question.entry.now) evidence.now) nothing_told
+        TellsFiles told_both (telling who (Q.decides question.entry.now) evidence.now) nothing_told
         (map (λ name. name.now) names.now) s (F.source_state files.new) (told_seen told))) }
 {
     let mut outcome = Outcome::Denies;

@@ -5,7 +5,7 @@ ghost use Rattle.ssh_answers.specs.Admissions.{
   AsksFiles,
   AsksKey,
   AsksOffer,
-  Asking,
+  KeyAsking,
   or_shown_fault,
 };
 ghost use Rattle.ssh_inputs.specs.SourceState.{IfTells};
@@ -21,7 +21,7 @@ use std::alloc::{AllocError, Global};
 /// What is asked about a key, but for the key.
 pub trait KeyQuestion {
     /// What is asked of each trust file about what is offered.
-    ghost asks: { Self → Offered → Asking };
+    ghost asks: { Self → Offered → KeyAsking };
 
     /// The response to what is asked of the trust files of these names about this offer.
     fn ask<F: Files>(

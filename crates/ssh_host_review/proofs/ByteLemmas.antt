@@ -9,7 +9,7 @@ use Rattle.ssh_lines.specs.declared.known.KnownLine.TheVariants.{Entry}
 use Rattle.ssh_lines.proofs.ReadKnown.{known_line-spells}
 use Rattle.ssh_host_findings.specs.declared.facts.HostFacts.{HostFacts}
 use Rattle.ssh_host_findings.specs.HostFacts.{host_facts_of}
-use Rattle.ssh_review_json.specs.OneLine.{AreBytes}
+use Rattle.ssh_offers.specs.FirstRefusal.{AreBytes}
 use Rattle.ssh_review_json.proofs.PrintableLemmas.{ArePrintable}
 use Rattle.ssh_review.proofs.ByteLemmas.{back, front, key-comment}
 use Rattle.ssh_review.proofs.DigestLemmas.{base64-printable, digest-bytes}

@@ -6,7 +6,8 @@ use Rattle.ssh_held_keys.specs.declared.held.HeldKey.{HeldKey}
 use Rattle.ssh_host_findings.specs.declared.facts.HostFacts.{HostFacts}
 use Rattle.ssh_host_findings.specs.declared.finding.HostFinding.{HostFinding}
 use Rattle.ssh_host_findings.specs.Findings.{code_of}
-use Rattle.ssh_review_json.specs.OneLine.{AreBytes, IsHeldOfBytes, are_printable, is_line}
+use Rattle.ssh_offers.specs.FirstRefusal.{AreBytes}
+use Rattle.ssh_review_json.specs.OneLine.{IsHeldOfBytes, are_printable, is_line}
 use Rattle.ssh_review_json.proofs.ObjectLemmas.{head-printable, held-printable, is-printable, key-printable, null-printable, object-printable, said-printable, text-printable}
 use Rattle.ssh_review_json.proofs.PrintableLemmas.{ArePrintable, bytes-from_printable, join, line-from, word}
 use Rattle.ssh_review_json.proofs.WordLemmas.{code-printable}

@@ -11,7 +11,8 @@ use Rattle.ssh_findings.specs.Asking.{Asking}
 use Rattle.ssh_host_findings.specs.HostFacts.{host_facts_of}
 use Rattle.ssh_host_findings.specs.HostLines.{HostLine}
 use Rattle.ssh_held_keys.specs.HeldKey.{held_key}
-use Rattle.ssh_review_json.specs.OneLine.{AreBytes, is_line}
+use Rattle.ssh_offers.specs.FirstRefusal.{AreBytes}
+use Rattle.ssh_review_json.specs.OneLine.{is_line}
 use Rattle.ssh_review.specs.declared.counts.FileFault.TheVariants.{TooLong}
 use Rattle.ssh_review.specs.declared.form.Form.{Form}
 use Rattle.ssh_review.specs.declared.form.Form.TheVariants.{Text, Json}

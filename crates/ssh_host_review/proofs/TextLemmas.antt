@@ -9,7 +9,8 @@ use Rattle.ssh_host_findings.specs.declared.facts.HostFacts.{HostFacts}
 use Rattle.ssh_host_findings.specs.declared.finding.HostFinding.{HostFinding}
 use Rattle.ssh_host_findings.specs.declared.finding.HostFinding.TheVariants as finding
 use Rattle.ssh_host_findings.specs.Findings.{code_of}
-use Rattle.ssh_review_json.specs.OneLine.{AreBytes, are_printable}
+use Rattle.ssh_offers.specs.FirstRefusal.{AreBytes}
+use Rattle.ssh_review_json.specs.OneLine.{are_printable}
 use Rattle.ssh_review_json.proofs.PrintableLemmas.{ArePrintable, decimal-printable, escaped-printable, join, word}
 use Rattle.ssh_review_json.proofs.WordLemmas.{cause-printable, code-printable}
 use Rattle.ssh_review.specs.Records.{fingerprint_word}

@@ -31,7 +31,8 @@ use Rattle.ssh_rights.specs.declared.rights.CarriedName.{CarriedName}
 use Rattle.ssh_rights.specs.Rights.{carried_by, carried_name, carried_texts, command_of, rights_of}
 use Rattle.ssh_findings.specs.Facts.{facts_of}
 use Rattle.ssh_held_keys.specs.HeldKey.{held_of as told_of}
-use Rattle.ssh_review_json.specs.OneLine.{AreBytes, AreBytesIfAny, HasByteValue, HaveByteValues, IsHeldOfBytes, IsOfBytes}
+use Rattle.ssh_offers.specs.FirstRefusal.{AreBytes}
+use Rattle.ssh_review_json.specs.OneLine.{AreBytesIfAny, HasByteValue, HaveByteValues, IsHeldOfBytes, IsOfBytes}
 
 -- ---- parts
 

@@ -8,7 +8,8 @@ use Rattle.base64.specs.Engines.{standard}
 use Rattle.base64.specs.GeneralPurpose.{encode_of}
 use Rattle.base64.specs.Rfc4648.{encode_symbols, padding_len}
 use Rattle.sha2.specs.Sha256.{digest_bytes, final_hash, initial_hash_256, sha256}
-use Rattle.ssh_review_json.specs.OneLine.{AreBytes, are_printable, is_printable}
+use Rattle.ssh_offers.specs.FirstRefusal.{AreBytes}
+use Rattle.ssh_review_json.specs.OneLine.{are_printable, is_printable}
 use Rattle.ssh_review_json.proofs.PrintableLemmas.{ArePrintable, bytes-append, join, word}
 
 -- ---- bytes

@@ -1,7 +1,8 @@
 -- The end of a file and the total are one line each as JSON objects.
 use Rattle.std.proofs.Common.{◌≡◌, ℕ, true, List, refl}
 use Rattle.std.specs.Prelude.{codes}
-use Rattle.ssh_review_json.specs.OneLine.{AreBytes, is_line}
+use Rattle.ssh_offers.specs.FirstRefusal.{AreBytes}
+use Rattle.ssh_review_json.specs.OneLine.{is_line}
 use Rattle.ssh_review_json.proofs.ObjectLemmas.{null-printable, number-printable, said-printable}
 use Rattle.ssh_review_json.proofs.PrintableLemmas.{ArePrintable, hex-printable, join, line-from, string-printable, word}
 use Rattle.ssh_review.specs.declared.counts.Counts.{Counts}

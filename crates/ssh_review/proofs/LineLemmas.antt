@@ -17,7 +17,7 @@ use Rattle.ssh_keys.specs.PublicKey.{key_blob}
 use Rattle.ssh_findings.specs.Earlier.{Held, repeat_after}
 use Rattle.ssh_findings.specs.Facts.{facts_of}
 use Rattle.ssh_findings.specs.Findings.{code_of}
-use Rattle.ssh_review.specs.Lines.{counts_of, held_of, line_counts}
+use Rattle.ssh_review.specs.Lines.{counts_of, held_by_line, line_counts}
 
 -- ---- how much is counted at most
 
@@ -95,7 +95,7 @@ both-within a b n v w = record {
 all-within : (asking : Asking) (earlier : List Held) (n : ℕ) (lines : List (List ℕ)) → Within (counts_of asking earlier (numbered n lines)) (length lines)
 all-within asking earlier n [] = record { lines = omega arith; keys = omega arith; unreadable = omega arith; findings = omega arith }
 all-within asking earlier n (line ∷ lines) =
-    let after = earlier ++ held_of asking (n, auth_line line) in
+    let after = earlier ++ held_by_line asking (n, auth_line line) in
     both-within (line_counts asking earlier (auth_line line)) (counts_of asking after (numbered (n + 1) lines)) (length lines)
     (line-within asking earlier (auth_line line)) (all-within asking after (n + 1) lines)
 
@@ -141,7 +141,7 @@ pub told_fits : (asking : Asking) (earlier : List Held) (file : List ℕ) (befor
     → length file ≤ file_limit → now ≡ (n, line) ∷ next → said ≡ auth_line line → told ≡ line_counts asking earlier said
     → plus before (counts_of asking earlier now) ≡ counts_of asking [] (numbered 1 (lines_of file)) → Fits before told
 told_fits asking earlier file before told n line said now next h e k f g =
-    let after = earlier ++ held_of asking (n, auth_line line) in
+    let after = earlier ++ held_by_line asking (n, auth_line line) in
     fit before told (counts_of asking after next) (counts_of asking [] (numbered 1 (lines_of file))) (length (lines_of file))
     (all-within asking [] 1 (lines_of file)) (omega (arith, lines-few file, h))
     (ap (λ c. plus before (plus c (counts_of asking after next))) (f ∙ ap (line_counts asking earlier) k) ∙ ap (λ left. plus before (counts_of asking earlier left)) (sym e) ∙ g)

@@ -27,7 +27,7 @@ use Rattle.ssh_rights.specs.Rights.{command_of, rights_of}
 use Rattle.ssh_findings.specs.Asking.{Asking}
 use Rattle.ssh_findings.specs.Facts.{facts_of}
 use Rattle.ssh_findings.specs.Memory.{entry_bytes, text_bytes}
-use Rattle.ssh_review_json.specs.OneLine.{AreBytes}
+use Rattle.ssh_offers.specs.FirstRefusal.{AreBytes}
 use Rattle.ssh_review.specs.Memory.{line_bytes, lines_bytes}
 use Rattle.ssh_review.proofs.ByteLemmas.{lines-bytes}
 

@@ -7,7 +7,8 @@ use Rattle.ssh_findings.specs.Asking.{Asking}
 use Rattle.ssh_findings.specs.Earlier.{Held}
 use Rattle.ssh_findings.specs.Facts.{facts_of}
 use Rattle.ssh_held_keys.specs.HeldKey.{held_key}
-use Rattle.ssh_review_json.specs.OneLine.{AreBytes, is_line}
+use Rattle.ssh_offers.specs.FirstRefusal.{AreBytes}
+use Rattle.ssh_review_json.specs.OneLine.{is_line}
 use Rattle.ssh_review_json.proofs.ObjectLemmas.{entry-line, unreadable-line}
 use Rattle.ssh_review.specs.declared.form.Form.TheVariants.{Json}
 use Rattle.ssh_review.specs.Lines.{key_told, line_findings, line_record, shadow_line}

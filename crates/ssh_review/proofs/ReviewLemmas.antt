@@ -15,7 +15,8 @@ use Rattle.ssh_findings.specs.Asking.{Asking}
 use Rattle.ssh_findings.specs.Earlier.{Held}
 use Rattle.ssh_findings.specs.Facts.{facts_of}
 use Rattle.ssh_held_keys.specs.HeldKey.{held_key, held_of as told_of}
-use Rattle.ssh_review_json.specs.OneLine.{AreBytes, are_printable}
+use Rattle.ssh_offers.specs.FirstRefusal.{AreBytes}
+use Rattle.ssh_review_json.specs.OneLine.{are_printable}
 use Rattle.ssh_review_json.proofs.ObjectLemmas.{entry-line, unreadable-line}
 use Rattle.ssh_review_json.proofs.PrintableLemmas.{ArePrintable, decimal-printable, escaped-printable, hex-printable, join, word}
 use Rattle.ssh_review.specs.declared.counts.Counts.{Counts}
@@ -25,8 +26,8 @@ use Rattle.ssh_review.specs.declared.counts.Total.{Total}
 use Rattle.ssh_review.specs.declared.form.Form.{Form}
 use Rattle.ssh_review.specs.declared.form.Form.TheVariants.{Text, Json}
 use Rattle.ssh_review.specs.Ends.{count_text, counts_text}
-use Rattle.ssh_review.specs.Forms.{end_line, fault_line, total_line}
-use Rattle.ssh_review.specs.Lines.{counts_of, held_of, key_told, line_findings, line_record, records_of, shadow_line}
+use Rattle.ssh_review.specs.Forms.{end_line, file_fault_line, total_line}
+use Rattle.ssh_review.specs.Lines.{counts_of, held_by_line, key_told, line_findings, line_record, records_of, shadow_line}
 use Rattle.ssh_review.specs.Reviews.{auth_review, fault_review, whole_review}
 use Rattle.ssh_review.proofs.ByteLemmas.{entry-facts, held-bytes, lines-bytes}
 use Rattle.ssh_review.proofs.DigestLemmas.{base64-printable, digest-bytes}
@@ -67,7 +68,7 @@ records-shown : (form : Form) (asking : Asking) (name : List ℕ) (earlier : Lis
 records-shown form asking name earlier n [] h k = show [] refl
 records-shown form asking name earlier n (line ∷ lines) h k =
     add (record-by form asking name earlier n line (auth_line line) h k.0 refl)
-    (records-shown form asking name (earlier ++ held_of asking (n, auth_line line)) (n + 1) lines h k.1)
+    (records-shown form asking name (earlier ++ held_by_line asking (n, auth_line line)) (n + 1) lines h k.1)
 
 -- ---- ends
 
@@ -88,7 +89,7 @@ end-shown Text name counts digest h k =
     add (seen (join counted (hex-printable digest k))) (show (codes "\n") refl)
 end-shown Json name counts digest h k = from-line (end-line name counts digest h k)
 
-pub fault-shown : (form : Form) (name : List ℕ) (fault : FileFault) → AreBytes name → AreShown (fault_line form name fault)
+pub fault-shown : (form : Form) (name : List ℕ) (fault : FileFault) → AreBytes name → AreShown (file_fault_line form name fault)
 fault-shown Text name fault h =
     add (seen (join (join (escaped-printable name h) (word (codes ": fault ") refl)) (code-printable fault))) (show (codes "\n") refl)
 fault-shown Json name fault h = from-line (fault-line name fault h)

@@ -20,7 +20,8 @@ use Rattle.ssh_held_keys.specs.declared.held.HeldKey.{HeldKey}
 use Rattle.ssh_findings.specs.Codes.{code_text}
 use Rattle.ssh_findings.specs.Findings.{code_of}
 use Rattle.ssh_review_json.specs.Details.{detail_of}
-use Rattle.ssh_review_json.specs.OneLine.{AreBytes, AreBytesIfAny, IsOfBytes, are_printable}
+use Rattle.ssh_offers.specs.FirstRefusal.{AreBytes}
+use Rattle.ssh_review_json.specs.OneLine.{AreBytesIfAny, IsOfBytes, are_printable}
 use Rattle.ssh_review_json.proofs.PrintableLemmas.{ArePrintable, decimal-printable, escaped-printable, join, word}
 use Rattle.ssh_review_json.proofs.WordLemmas.{code-printable, detail-printable, kind-printable, rights-printable}
 use Rattle.ssh_review.specs.Records.{bits_text, carried_inset, comment_text, entry_head, entry_text, fingerprint_word, flag_line, held_words, key_words, limit_lines, place_text, right_lines, rights_inset, role_word, setting_line, unreadable_text, until_line}

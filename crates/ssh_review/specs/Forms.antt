@@ -30,9 +30,9 @@ end_line Text name counts digest = end_text name counts digest
 end_line Json name counts digest = end_object name counts digest
 
 -- the end of a file with a fault
-abbrev pub fault_line : Form → List ℕ → FileFault → List ℕ
-fault_line Text name fault = fault_text name fault
-fault_line Json name fault = fault_object name fault
+abbrev pub file_fault_line : Form → List ℕ → FileFault → List ℕ
+file_fault_line Text name fault = fault_text name fault
+file_fault_line Json name fault = fault_object name fault
 
 -- what all files come to
 abbrev pub total_line : Form → Total → List ℕ

@@ -46,27 +46,27 @@ abbrev pub line_counts : Asking → List Held → AuthLine → Counts
 line_counts asking earlier line = counts_with line (length (line_findings asking earlier line))
 
 -- the entry of a line, with its number
-abbrev pub held_of : Asking → ℕ × AuthLine → List Held
-held_of asking (n, Blank) = []
-held_of asking (n, Comment) = []
-held_of asking (n, Entry entry) = held_entry asking.zone n entry ∷ []
-held_of asking (n, Unreadable cause) = []
+abbrev pub held_by_line : Asking → ℕ × AuthLine → List Held
+held_by_line asking (n, Blank) = []
+held_by_line asking (n, Comment) = []
+held_by_line asking (n, Entry entry) = held_entry asking.zone n entry ∷ []
+held_by_line asking (n, Unreadable cause) = []
 
 -- the entries of lines, each with its number
 abbrev pub held_lines : Asking → List (ℕ × List ℕ) → List Held
 held_lines asking [] = []
-held_lines asking (line ∷ lines) = held_of asking (line.0, auth_line line.1) ++ held_lines asking lines
+held_lines asking (line ∷ lines) = held_by_line asking (line.0, auth_line line.1) ++ held_lines asking lines
 
 -- the records of lines, each with its number, after the lines of these entries
 abbrev pub records_of : Form → Asking → List ℕ → List Held → List (ℕ × List ℕ) → List ℕ
 records_of form asking name earlier [] = []
 records_of form asking name earlier (line ∷ lines) =
     line_record form asking name earlier line (auth_line line.1)
-    ++ records_of form asking name (earlier ++ held_of asking (line.0, auth_line line.1)) lines
+    ++ records_of form asking name (earlier ++ held_by_line asking (line.0, auth_line line.1)) lines
 
 -- what lines count
 abbrev pub counts_of : Asking → List Held → List (ℕ × List ℕ) → Counts
 counts_of asking earlier [] = no_counts
 counts_of asking earlier (line ∷ lines) =
     plus (line_counts asking earlier (auth_line line.1))
-    (counts_of asking (earlier ++ held_of asking (line.0, auth_line line.1)) lines)
+    (counts_of asking (earlier ++ held_by_line asking (line.0, auth_line line.1)) lines)

@@ -9,7 +9,7 @@ use Rattle.ssh_review.specs.declared.counts.Reviewed.{Reviewed}
 use Rattle.ssh_review.specs.declared.form.Form.{Form}
 use Rattle.ssh_findings.specs.Asking.{Asking}
 use Rattle.ssh_review.specs.Counting.{no_counts}
-use Rattle.ssh_review.specs.Forms.{end_line, fault_line}
+use Rattle.ssh_review.specs.Forms.{end_line, file_fault_line}
 use Rattle.ssh_review.specs.Lines.{counts_of, records_of}
 
 -- the text, what is counted, and why there is no review
@@ -32,7 +32,7 @@ whole_review form asking name file = record {
 
 -- Of a file with a fault nothing but its end is told.
 abbrev pub fault_review : Form → List ℕ → FileFault → Review
-fault_review form name fault = record { text = fault_line form name fault; counts = no_counts; fault = Some fault }
+fault_review form name fault = record { text = file_fault_line form name fault; counts = no_counts; fault = Some fault }
 
 -- the review of an authorized_keys file
 abbrev pub auth_review : Form → Asking → List ℕ → List ℕ → Review

@@ -10,13 +10,13 @@ use Rattle.ssh_findings.specs.Codes.{code_text}
 use Rattle.ssh_findings.specs.Findings.{code_of}
 use Rattle.ssh_review_json.specs.Details.{detail_of}
 
-abbrev pub sentence_in : Option Told → List ℕ
-sentence_in None = []
-sentence_in (Some row) = row.sentence
+abbrev pub finding_sentence : Option Told → List ℕ
+finding_sentence None = []
+finding_sentence (Some row) = row.sentence
 
 -- why a line cannot be read: what the table of codes says of the code
 abbrev pub cause_text : LineCause → List ℕ
-cause_text why = sentence_in (row_of (line_code why))
+cause_text why = finding_sentence (row_of (line_code why))
 
 -- the sentence of a finding that names no number and no fault
 abbrev pub plain_sentence : Finding → List ℕ

@@ -4,14 +4,15 @@ ghost use Rattle.std.specs.Prelude.{◌≡◌, ◌⊎◌, [], ℕ, true, List};
 ghost use Rattle.ssh_lines.specs.AuthGrammar.{auth_line};
 ghost use Rattle.ssh_findings.specs.Asking.{Asking};
 ghost use Rattle.ssh_findings.specs.Earlier.{Held};
-ghost use Rattle.ssh_review_json.specs.OneLine.{AreBytes, is_line};
+ghost use Rattle.ssh_offers.specs.FirstRefusal.{AreBytes};
+ghost use Rattle.ssh_review_json.specs.OneLine.{is_line};
 ghost use Rattle.ssh_review.specs.declared.counts.Counts.{Counts};
 ghost use Rattle.ssh_review.specs.declared.counts.FileFault.{FileFault};
 ghost use Rattle.ssh_review.specs.declared.counts.Total.{Total};
 ghost use Rattle.ssh_review.specs.declared.form.Form.{Form};
 ghost use Rattle.ssh_review.specs.declared.form.Form.TheVariants.{Json};
 ghost use Rattle.ssh_review.specs.EndObjects.{end_object, fault_object, total_object};
-ghost use Rattle.ssh_review.specs.Forms.{fault_line, total_line};
+ghost use Rattle.ssh_review.specs.Forms.{file_fault_line, total_line};
 ghost use Rattle.ssh_review.specs.Lines.{line_record};
 ghost use Rattle.ssh_review.specs.Reviews.{auth_review};
 ghost use Rattle.ssh_review.specs.Shown.{are_shown};
@@ -43,6 +44,6 @@ fn shown_rule()
         → are_shown (auth_review form asking name file).text ≡ true }
     ensures fault { (form : Form) (name : List ℕ) (fault : FileFault)
         → AreBytes name
-        → are_shown (fault_line form name fault) ≡ true }
+        → are_shown (file_fault_line form name fault) ≡ true }
     ensures total { (form : Form) (t : Total) → are_shown (total_line form t) ≡ true }
 {}

@@ -11,7 +11,7 @@ ghost use Rattle.ssh_findings.specs.Memory.{bytes_kept, keys_kept};
 ghost use Rattle.ssh_review.specs.Lines.{
   counts_of,
   held_lines,
-  held_of,
+  held_by_line,
   line_counts,
   line_findings,
   line_record,
@@ -46,7 +46,7 @@ fn push_entry_line(
     ensures counts { IfOk result (λ counts. (held : List Held) → StandsFor earlier.old held
         → counts ≡ line_counts (asking_of asked.entry.now) held (AuthLine.Entry entry.now)) }
     ensures kept { OnOk result ((held : List Held) → StandsFor earlier.old held
-        → StandsFor earlier.new (held ++ held_of
+        → StandsFor earlier.new (held ++ held_by_line
         (asking_of asked.entry.now) (place.entry.now.number, AuthLine.Entry entry.now))) }
     ensures bytes { OnOk result (bytes_kept earlier.new
         ≤ bytes_kept earlier.old + line_bytes (asking_of asked.entry.now) (AuthLine.Entry entry.now)) }
@@ -118,7 +118,7 @@ fn push_line(
     ensures counts { IfOk result (λ counts. (held : List Held) → StandsFor earlier.old held
         → counts ≡ line_counts (asking_of asked.entry.now) held (line_seen view.now)) }
     ensures kept { OnOk result ((held : List Held) → StandsFor earlier.old held
-        → StandsFor earlier.new (held ++ held_of
+        → StandsFor earlier.new (held ++ held_by_line
         (asking_of asked.entry.now) (place.entry.now.number, line_seen view.now))) }
     ensures bytes { OnOk result (bytes_kept earlier.new
         ≤ bytes_kept earlier.old + line_bytes (asking_of asked.entry.now) (line_seen view.now)) }

@@ -3,7 +3,7 @@
 ghost use Rattle.std.specs.Prelude.{◌≡◌, ◌++◌, ◌≤◌, IfOk, OnOk, length};
 ghost use Rattle.ssh_text.specs.Text.{file_limit};
 ghost use Rattle.ssh_findings.specs.Asking.{asking_of};
-ghost use Rattle.ssh_review.specs.Forms.{end_line, fault_line, total_line};
+ghost use Rattle.ssh_review.specs.Forms.{end_line, file_fault_line, total_line};
 ghost use Rattle.ssh_review.specs.Reviews.{auth_review, fault_review, review, whole_review};
 
 use crate::counts::{Counts, FileFault, Reviewed, Total};
@@ -68,7 +68,7 @@ fn push_fault(
     name: &[u8],
     fault: FileFault,
 ) -> Result<(), AllocError>
-    ensures { OnOk result (out.new.items ≡ out.old.items ++ fault_line form name.now fault) }
+    ensures { OnOk result (out.new.items ≡ out.old.items ++ file_fault_line form name.now fault) }
 {
     match form {
         Form::Text => push_fault_text(out, name, fault),

@@ -15,14 +15,14 @@ use Rattle.ssh_review.specs.declared.form.Form.{Form}
 use Rattle.ssh_review.specs.Reviews.{Review, fault_review}
 use Rattle.ssh_review_files.specs.declared.asking.ReviewKind.{ReviewKind}
 use Rattle.ssh_review_files.specs.declared.asking.ReviewKind.TheVariants.{Auth, Known}
-use Rattle.ssh_review_files.specs.FileReviews.{IsUnread, review_of, review_over, telling}
+use Rattle.ssh_review_files.specs.FileReviews.{IsUnreadReview, review_of, review_over, telling_review}
 use Rattle.ssh_text.specs.Text.{file_limit}
 
 -- a file that was read
 pub file_reviewed : {R E : Type 0} (view : R → Review) (kind : ReviewKind) (form : Form) (asking : Asking) (name file bytes : List ℕ) (o t : Option SourceState) (res : Result R E) → bytes ≡ file
     → IfTells o (λ s. (within_limit (bytes_at s name) ≡ Some file) × IsLeft s (after_whole s name) t) → IfTells o (λ s. KeepsOthers name s t)
     → IfOk res (λ r. view r ≡ review_of kind form asking name bytes)
-    → IfTells o (λ s. IfOk res (λ r. TellsFile (telling kind form asking) name s t (view r)))
+    → IfTells o (λ s. IfOk res (λ r. TellsFile (telling_review kind form asking) name s t (view r)))
 file_reviewed view kind form asking name file bytes None t res is loads keeps h = tt
 file_reviewed view kind form asking name file bytes (Some s) t (Err e) is loads keeps h = λ counts. tt
 file_reviewed view kind form asking name file bytes (Some s) t (Ok r) is loads keeps h = λ counts.
@@ -40,7 +40,7 @@ too-long Auth form asking name (Some bytes) h = rw (lt-ltb file_limit (length by
 too-long Known form asking name (Some bytes) h = rw (lt-ltb file_limit (length bytes) h) refl
 
 unread-by : (kind : ReviewKind) (form : Form) (asking : Asking) (name : List ℕ) (s : SourceState) (t : Option SourceState) (e : ReadError) (r : Review) → FailsLoad name (bytes_at s name) s t e
-    → KeepsOthers name s t → IsUnread form name e r → TellsFile (telling kind form asking) name s t r
+    → KeepsOthers name s t → IsUnreadReview form name e r → TellsFile (telling_review kind form asking) name s t r
 unread-by kind form asking name s t read.Missing r fails keeps is = (keeps, inr (fails.1, is ∙ sym (ap (review_over kind form asking name) fails.0)))
 unread-by kind form asking name s t read.TooLong r fails keeps is = (keeps, inr (fails.1, is ∙ sym (too-long kind form asking name (bytes_at s name) fails.0)))
 unread-by kind form asking name s t read.Failed r fails keeps is = (keeps, inl (fails, is))
@@ -48,8 +48,8 @@ unread-by kind form asking name s t read.Memory r fails keeps is = absurd is
 
 -- one that gives no bytes
 pub file_unread : {R E : Type 0} (view : R → Review) (kind : ReviewKind) (form : Form) (asking : Asking) (name : List ℕ) (o t : Option SourceState) (e : ReadError) (res : Result R E)
-    → IfTells o (λ s. FailsLoad name (bytes_at s name) s t e) → IfTells o (λ s. KeepsOthers name s t) → IfOk res (λ r. IsUnread form name e (view r))
-    → IfTells o (λ s. IfOk res (λ r. TellsFile (telling kind form asking) name s t (view r)))
+    → IfTells o (λ s. FailsLoad name (bytes_at s name) s t e) → IfTells o (λ s. KeepsOthers name s t) → IfOk res (λ r. IsUnreadReview form name e (view r))
+    → IfTells o (λ s. IfOk res (λ r. TellsFile (telling_review kind form asking) name s t (view r)))
 file_unread view kind form asking name None t e res fails keeps is = tt
 file_unread view kind form asking name (Some s) t e (Err x) fails keeps is = λ counts. tt
 file_unread view kind form asking name (Some s) t e (Ok r) fails keeps is = λ counts. unread-by kind form asking name s t e (view r) (fails counts) (keeps counts) is

@@ -14,7 +14,7 @@ use Rattle.ssh_print.specs.Responses.{Response}
 use Rattle.ssh_review.specs.declared.form.Form.{Form}
 use Rattle.ssh_review.specs.declared.form.Form.TheVariants.{Text}
 use Rattle.ssh_review_files.specs.declared.asking.ReviewKind.{ReviewKind}
-use Rattle.ssh_review_files.specs.FileReviews.{ReviewsFiles, nothing_told, telling, with_file}
+use Rattle.ssh_review_files.specs.FileReviews.{ReviewsFiles, no_lines, telling_review, with_file}
 use Rattle.ssh_review_files.specs.Spelled.{ReviewAsked, RespondsToReview, form_of, review_kind_of, review_spelled, usual_minimum}
 use Rattle.ssh_words.specs.declared.options.OptionName.TheVariants as option
 use Rattle.ssh_words.specs.Spelling.{RespondsTo, names_needed, or_fault, value, value_or}
@@ -42,7 +42,7 @@ review_responds view spelled kind form asked asking names o t res is same h =
     (subst (λ (a : Asking). IfTells o (λ s. IfOk res (λ r. ReviewsFiles kind form a names s t (view r)))) same h)
 
 reviewed-same : (q : ReviewAsked) (a b : SourceState) (u : Option SourceState) (r : Response) → Alike a b → ReviewsFiles q.kind q.form q.asking q.names a u r → ReviewsFiles q.kind q.form q.asking q.names b u r
-reviewed-same q a b u r e (told, h, is) = (told, files_same with_file (telling q.kind q.form q.asking) nothing_told q.names a b u told e h, is)
+reviewed-same q a b u r e (told, h, is) = (told, files_same with_file (telling_review q.kind q.form q.asking) no_lines q.names a b u told e h, is)
 
 -- sources that are alike have the same reviews
 pub reviews_same : (rows : List Row) (a b : SourceState) (u : Option SourceState) (r : Response) → Alike a b → RespondsToReview rows a u r → RespondsToReview rows b u r

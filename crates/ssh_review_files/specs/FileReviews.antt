@@ -15,18 +15,18 @@ use Rattle.ssh_host_review.specs.Reviews.{known_review}
 use Rattle.ssh_review_files.specs.declared.asking.ReviewKind.{ReviewKind}
 use Rattle.ssh_review_files.specs.declared.asking.ReviewKind.TheVariants.{Auth, Known}
 use Rattle.ssh_review_files.specs.declared.files.Told.{Told}
-use Rattle.ssh_review_files.specs.Totals.{nothing, status_of, with_review}
+use Rattle.ssh_review_files.specs.Totals.{nothing, total_status, with_review}
 
 -- lines, and what the files that they tell of come to
 pub record Lines : Type 0 where
   pub total : Total
   pub text : List ℕ
 
-abbrev pub told_seen : Told → Lines
-told_seen t = record { total = t.total; text = t.text.items }
+abbrev pub lines_seen : Told → Lines
+lines_seen t = record { total = t.total; text = t.text.items }
 
-abbrev pub nothing_told : Lines
-nothing_told = record { total = nothing; text = [] }
+abbrev pub no_lines : Lines
+no_lines = record { total = nothing; text = [] }
 
 -- what is told so far, with the review of one more file
 abbrev pub with_file : Lines → Review → Lines
@@ -43,20 +43,20 @@ review_over kind form asking name None = fault_review form name Unread
 review_over kind form asking name (Some file) = review_of kind form asking name file
 
 -- the review of a file of this name that gives no bytes, where memory was not refused
-abbrev pub IsUnread : Form → List ℕ → ReadError → Review → Type 0
-IsUnread form name read.Memory r = ⊥
-IsUnread form name read.TooLong r = r ≡ fault_review form name TooLong
-IsUnread form name read.Missing r = r ≡ fault_review form name Unread
-IsUnread form name read.Failed r = r ≡ fault_review form name Unread
+abbrev pub IsUnreadReview : Form → List ℕ → ReadError → Review → Type 0
+IsUnreadReview form name read.Memory r = ⊥
+IsUnreadReview form name read.TooLong r = r ≡ fault_review form name TooLong
+IsUnreadReview form name read.Missing r = r ≡ fault_review form name Unread
+IsUnreadReview form name read.Failed r = r ≡ fault_review form name Unread
 
 -- one of which a read fails has the fault A9 too
-abbrev pub telling : ReviewKind → Form → Asking → Telling Review
-telling kind form asking = record { of_bytes = review_over kind form asking; of_fault = λ name. fault_review form name Unread }
+abbrev pub telling_review : ReviewKind → Form → Asking → Telling Review
+telling_review kind form asking = record { of_bytes = review_over kind form asking; of_fault = λ name. fault_review form name Unread }
 
 -- the reviews, and the line of what all come to
-abbrev pub told_response : Form → Lines → Response
-told_response form told = record { status = status_of told.total; text = told.text ++ total_line form told.total }
+abbrev pub review_response : Form → Lines → Response
+review_response form told = record { status = total_status told.total; text = told.text ++ total_line form told.total }
 
 abbrev pub ReviewsFiles : ReviewKind → Form → Asking → List (List ℕ) → SourceState → Option SourceState → Response → Type 0
 ReviewsFiles kind form asking names s t r =
-    (told : Lines) × TellsFiles with_file (telling kind form asking) nothing_told names s t told × (r ≡ told_response form told)
+    (told : Lines) × TellsFiles with_file (telling_review kind form asking) no_lines names s t told × (r ≡ review_response form told)

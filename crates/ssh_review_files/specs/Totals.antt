@@ -35,5 +35,5 @@ with_review total r = record {
 }
 
 -- 2 where a file could not be reviewed, else 1 where something is to be mended
-abbrev pub status_of : Total → ℕ
-status_of total = if nat_lt 0 total.faults then 2 else if nat_lt 0 total.counts.findings then 1 else 0
+abbrev pub total_status : Total → ℕ
+total_status total = if nat_lt 0 total.faults then 2 else if nat_lt 0 total.counts.findings then 1 else 0

@@ -7,17 +7,17 @@ ghost use Rattle.ssh_inputs.specs.SourceState.{IfTells};
 ghost use Rattle.ssh_print.specs.ResponseView.{response};
 ghost use Rattle.ssh_review.specs.Reviews.{review};
 ghost use Rattle.ssh_review_files.specs.FileReviews.{
-  IsUnread,
+  IsUnreadReview,
   ReviewsFiles,
-  nothing_told,
+  no_lines,
   review_of,
-  telling,
-  told_seen,
+  telling_review,
+  lines_seen,
   with_file,
 };
 
 use crate::asking::ReviewKind;
-use crate::total::{NOTHING, status_of, with_review};
+use crate::total::{NOTHING, total_status, with_review};
 use ssh_findings::Asked;
 use ssh_host_review::review_known;
 use ssh_inputs::{Files, ReadError, read_whole};
@@ -39,7 +39,7 @@ fn review_unread(
     name: &[u8],
     fault: ReadError,
 ) -> Result<Reviewed, AllocError>
-    ensures { IfOk result (λ r. IsUnread form name.now fault (review r)) }
+    ensures { IfOk result (λ r. IsUnreadReview form name.now fault (review r)) }
 {
     match fault {
         ReadError::Memory => Err(AllocError),
@@ -76,7 +76,7 @@ fn review_file<F: Files>(
     files: &mut F,
 ) -> Result<Reviewed, AllocError>
     ensures { IfTells (F.source_state files.old) (λ s. IfOk result (λ r.
-        TellsFile (telling kind form (asking_of asked.entry.now)) name.now s (F.source_state files.new)
+        TellsFile (telling_review kind form (asking_of asked.entry.now)) name.now s (F.source_state files.new)
         (review r))) }
 {
     match read_whole(alloc, files, name) {
@@ -95,8 +95,8 @@ fn tell_files<F: Files>(
     files: &mut F,
 ) -> Result<Told, AllocError>
     ensures { IfTells (F.source_state files.old) (λ s. IfOk result (λ told.
-        TellsFiles with_file (telling kind form (asking_of asked.entry.now)) nothing_told
-        (map (λ name. name.now) names.now) s (F.source_state files.new) (told_seen told))) }
+        TellsFiles with_file (telling_review kind form (asking_of asked.entry.now)) no_lines
+        (map (λ name. name.now) names.now) s (F.source_state files.new) (lines_seen told))) }
 {
     let mut total = NOTHING;
     let mut text = Vec::new(alloc);
@@ -124,7 +124,7 @@ pub fn review_files<F: Files>(
 {
     let told = tell_files(alloc, kind, form, asked, names, files)?;
     let line = total_line(alloc, form, &told.total)?;
-    let status = status_of(&told.total);
+    let status = total_status(&told.total);
     let mut text = told.text;
     text.extend_from_slice(&line)?;
     Ok(Response { status, text })

@@ -2,7 +2,7 @@
 
 ghost use Rattle.std.specs.Prelude.{◌≡◌};
 ghost use Rattle.ssh_review.specs.Reviews.{review};
-ghost use Rattle.ssh_review_files.specs.Totals.{fault_count, nothing, status_of, with_counts, with_review};
+ghost use Rattle.ssh_review_files.specs.Totals.{fault_count, nothing, total_status, with_counts, with_review};
 
 use ssh_print::{DONE, FAULT};
 use ssh_review::{Counts, FileFault, Reviewed, Total};
@@ -50,8 +50,8 @@ pub fn with_review(total: Total, reviewed: &Reviewed) -> Total
 }
 
 /// The status: 2 where a file could not be reviewed, else 1 where something is to be mended.
-pub fn status_of(total: &Total) -> u8
-    ensures { result ≡ status_of total.now }
+pub fn total_status(total: &Total) -> u8
+    ensures { result ≡ total_status total.now }
 {
     if total.faults > 0 {
         FAULT

@@ -9,9 +9,10 @@ use Rattle.ssh_findings.specs.declared.finding.Finding.{Finding}
 use Rattle.ssh_held_keys.specs.declared.held.HeldKey.{HeldKey}
 use Rattle.ssh_findings.specs.Findings.{code_of}
 use Rattle.ssh_review_json.specs.Fields.{field_name, moment_or_null, null_field, number_field, number_or_null, text_field, text_or_null}
-use Rattle.ssh_review_json.specs.Findings.{after_comma, code_object, finding_object, findings_end, findings_list}
+use Rattle.ssh_review_json.specs.Findings.{with_comma, code_object, finding_object, findings_end, findings_list}
 use Rattle.ssh_review_json.specs.Objects.{empty_fields, entry_object, fingerprint_text, grant_fields, held_fields, is_word, key_fields, no_key_fields, object_head, owner_fields, unreadable_object}
-use Rattle.ssh_review_json.specs.OneLine.{AreBytes, AreBytesIfAny, HaveByteValues, IsHeldOfBytes, IsOfBytes, are_printable, is_line}
+use Rattle.ssh_offers.specs.FirstRefusal.{AreBytes}
+use Rattle.ssh_review_json.specs.OneLine.{AreBytesIfAny, HaveByteValues, IsHeldOfBytes, IsOfBytes, are_printable, is_line}
 use Rattle.ssh_review_json.specs.OptionsText.{options_text}
 use Rattle.ssh_review_json.proofs.PrintableLemmas.{ArePrintable, bytes-append, bytes-from_printable, decimal-printable, join, line-from, signed-printable, string-printable, word}
 use Rattle.ssh_review_json.proofs.WordLemmas.{code-printable, detail-printable, kind-printable, options-bytes, rights-printable}
@@ -57,7 +58,7 @@ object-printable {code} {said} h k =
 finding-printable : (f : Finding) → ArePrintable (finding_object f)
 finding-printable f = object-printable (code-printable (code_of f)) (detail-printable f)
 
-others-printable : (found : List Finding) → ArePrintable (flat_map after_comma found)
+others-printable : (found : List Finding) → ArePrintable (flat_map with_comma found)
 others-printable [] = word [] refl
 others-printable (f ∷ found) = join (join (word (codes ",") refl) (finding-printable f)) (others-printable found)
 

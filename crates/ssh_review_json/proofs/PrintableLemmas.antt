@@ -6,7 +6,8 @@ use Rattle.std.specs.Fmt.{decimal, digit_glyph, digits, digits_onto, signed_deci
 use Rattle.std.proofs.lemmas.Bool.{and_from, le-leb, lt-ltb, ltb-true}
 use Rattle.std.proofs.lemmas.List.Folds.{list_all-append}
 use Rattle.ssh_print.specs.Texts.{escaped_text, escaped_byte, hex_digit, hex_pair, hex_text, is_plain}
-use Rattle.ssh_review_json.specs.OneLine.{AreBytes, are_printable, is_line, is_printable}
+use Rattle.ssh_offers.specs.FirstRefusal.{AreBytes}
+use Rattle.ssh_review_json.specs.OneLine.{are_printable, is_line, is_printable}
 use Rattle.ssh_review_json.specs.Strings.{json_text, quoted_byte}
 
 -- A text is printable. As a record, so that a proof finds the text.

@@ -29,7 +29,8 @@ use Rattle.ssh_findings.specs.declared.finding.Finding.{Finding}
 use Rattle.ssh_findings.specs.declared.finding.Finding.TheVariants as finding
 use Rattle.ssh_findings.specs.Codes.{code_text}
 use Rattle.ssh_review_json.specs.Details.{cause_detail, detail_of}
-use Rattle.ssh_review_json.specs.OneLine.{AreBytes, HaveByteValues, are_printable, is_printable}
+use Rattle.ssh_offers.specs.FirstRefusal.{AreBytes}
+use Rattle.ssh_review_json.specs.OneLine.{HaveByteValues, are_printable, is_printable}
 use Rattle.ssh_review_json.specs.OptionsText.{options_text}
 use Rattle.ssh_review_json.specs.RightsWords.{rights_words, without_space}
 use Rattle.ssh_review_json.proofs.PrintableLemmas.{ArePrintable, bytes-append, bytes-from_printable, decimal-printable, join, word}

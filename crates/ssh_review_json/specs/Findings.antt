@@ -15,13 +15,13 @@ code_object code said = codes "{\"code\":" ++ json_text code ++ text_field (code
 abbrev pub finding_object : Finding → List ℕ
 finding_object f = code_object (code_text (code_of f)) (detail_of f)
 
-abbrev pub after_comma : Finding → List ℕ
-after_comma f = 44 ∷ finding_object f
+abbrev pub with_comma : Finding → List ℕ
+with_comma f = 44 ∷ finding_object f
 
 -- the objects with commas between them
 abbrev pub findings_list : List Finding → List ℕ
 findings_list [] = []
-findings_list (f ∷ others) = finding_object f ++ flat_map after_comma others
+findings_list (f ∷ others) = finding_object f ++ flat_map with_comma others
 
 -- the last field of a record, and the end of its line
 abbrev pub findings_end : List Finding → List ℕ

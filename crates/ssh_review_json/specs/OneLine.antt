@@ -1,6 +1,7 @@
 -- Lines of printable ASCII (RFC 20), and what is known of the texts that are printed.
-use Rattle.std.specs.Prelude.{◌<◌, ◌&&◌, ◌==◌, ℕ, Bool, false, List, [], ◌∷◌, length, nat_le, nat_lt, Option, Some, None, if◌then◌else◌}
+use Rattle.std.specs.Prelude.{◌&&◌, ◌==◌, ℕ, Bool, false, List, [], ◌∷◌, length, nat_le, nat_lt, Option, Some, None, if◌then◌else◌}
 use Rattle.std.specs.List.{AllByRecursion, list_all}
+use Rattle.ssh_offers.specs.FirstRefusal.{AreBytes}
 use Rattle.ssh_options.specs.AuthOption.{AuthOption, Switch, Setting}
 use Rattle.ssh_rights.specs.declared.rights.Carried.{Carried}
 use Rattle.ssh_findings.specs.declared.facts.Facts.{Facts}
@@ -19,9 +20,6 @@ is_line [] = false
 is_line (c ∷ cs) = if is_printable c then is_line cs else (c == 10 && length cs == 0)
 
 -- ---- texts of bytes
-
-abbrev pub AreBytes : List ℕ → Type 0
-AreBytes text = AllByRecursion (λ c. c < 256) text
 
 abbrev pub AreBytesIfAny : Option (List ℕ) → Type 0
 AreBytesIfAny None = Unit {0}

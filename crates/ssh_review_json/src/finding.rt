@@ -3,7 +3,7 @@
 ghost use Rattle.std.specs.Prelude.{◌≡◌, ◌++◌, OnOk};
 ghost use Rattle.std.specs.List.{flat_map};
 ghost use Rattle.ssh_review_json.specs.Findings.{
-  after_comma,
+  with_comma,
   code_object,
   finding_object,
   findings_end,
@@ -44,7 +44,7 @@ fn push_finding_object(alloc: Global, out: &mut Vec<u8>, finding: Finding) -> Re
 
 /// The objects of findings, each after a comma.
 fn push_others(alloc: Global, out: &mut Vec<u8>, found: &[Finding]) -> Result<(), AllocError>
-    ensures { OnOk result (out.new.items ≡ out.old.items ++ flat_map after_comma found.now) }
+    ensures { OnOk result (out.new.items ≡ out.old.items ++ flat_map with_comma found.now) }
 {
     for finding in found {
         out.push(b',')?;

@@ -7,14 +7,8 @@ ghost use Rattle.ssh_findings.specs.declared.facts.Facts.{Facts};
 ghost use Rattle.ssh_findings.specs.declared.finding.Finding.{Finding};
 ghost use Rattle.ssh_held_keys.specs.declared.held.HeldKey.{HeldKey};
 ghost use Rattle.ssh_review_json.specs.Objects.{entry_object, unreadable_object};
-ghost use Rattle.ssh_review_json.specs.OneLine.{
-  AreBytes,
-  HaveByteValues,
-  IsHeldOfBytes,
-  IsOfBytes,
-  are_printable,
-  is_line,
-};
+ghost use Rattle.ssh_offers.specs.FirstRefusal.{AreBytes};
+ghost use Rattle.ssh_review_json.specs.OneLine.{HaveByteValues, IsHeldOfBytes, IsOfBytes, are_printable, is_line};
 ghost use Rattle.ssh_review_json.specs.Strings.{json_text, read_string};
 
 /// A reader of JSON takes a string for the text that is printed of the bytes, and goes on after it: the

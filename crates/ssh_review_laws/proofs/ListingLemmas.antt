@@ -43,7 +43,7 @@ use Rattle.ssh_findings.specs.Moments.{earlier, is_past, least_of}
 use Rattle.ssh_findings.proofs.ShadowLemmas.{named, no_principals, no_sources}
 use Rattle.sha2.specs.Sha256.{sha256}
 use Rattle.ssh_review.specs.declared.form.Form.{Form}
-use Rattle.ssh_review.specs.Lines.{counts_of, held_of, line_record, records_of}
+use Rattle.ssh_review.specs.Lines.{counts_of, held_by_line, line_record, records_of}
 use Rattle.ssh_review.specs.Forms.{end_line}
 use Rattle.ssh_review.specs.Reviews.{whole_review}
 use Rattle.ssh_review_laws.specs.Listing.{HasRecord, IsListed, entries_of}
@@ -69,7 +69,7 @@ recorded form asking name file line n k e number stands spells =
     let all = numbered 1 (lines_of file) in
     let before = records_of form asking name [] (take k all) in
     let earlier = entries_of asking (take k all) in
-    let after = records_of form asking name (earlier ++ held_of asking (1 + k, auth_line line)) (drop (suc k) all) in
+    let after = records_of form asking name (earlier ++ held_by_line asking (1 + k, auth_line line)) (drop (suc k) all) in
     let parts : records_of form asking name [] all ≡ before ++ (line_record form asking name earlier (1 + k, line) (auth_line line) ++ after) =
     ap (records_of form asking name []) (split_at 1 k (lines_of file) line stands) ∙ records_after form asking name [] (take k all) ((1 + k, line) ∷ drop (suc k) all) in
     let here : records_of form asking name [] all ≡ before ++ (line_record form asking name earlier (n, line) (Entry e) ++ after) =

@@ -10,7 +10,7 @@ use Rattle.ssh_lines.specs.declared.entry.AuthLine.TheVariants.{Blank, Comment, 
 use Rattle.ssh_findings.specs.Asking.{Asking}
 use Rattle.ssh_findings.specs.Earlier.{Held, held_entry}
 use Rattle.ssh_review.specs.declared.form.Form.{Form}
-use Rattle.ssh_review.specs.Lines.{held_of, line_record, records_of}
+use Rattle.ssh_review.specs.Lines.{held_by_line, line_record, records_of}
 use Rattle.ssh_review_laws.specs.Listing.{entries_of}
 
 pub records_after : (form : Form) (asking : Asking) (name : List ℕ) (earlier : List Held) (first rest : List (ℕ × List ℕ))
@@ -18,7 +18,7 @@ pub records_after : (form : Form) (asking : Asking) (name : List ℕ) (earlier :
     ≡ records_of form asking name earlier first ++ records_of form asking name (earlier ++ entries_of asking first) rest
 records_after form asking name earlier [] rest = ap (λ e. records_of form asking name e rest) (sym (append-nil earlier))
 records_after form asking name earlier (line ∷ first) rest =
-    let held = held_of asking (line.0, auth_line line.1) in
+    let held = held_by_line asking (line.0, auth_line line.1) in
     let told = line_record form asking name earlier line (auth_line line.1) in
     ap (λ more. told ++ more) (records_after form asking name (earlier ++ held) first rest
     ∙ ap (λ e. records_of form asking name (earlier ++ held) first ++ records_of form asking name e rest) (append_assoc earlier held (entries_of asking first)))
@@ -45,7 +45,7 @@ here-or-later asking test x lines e d true spells h rest =
 here-or-later asking test x lines e d false spells h rest = later asking x lines d (rest h)
 
 by-line : (asking : Asking) (test : Held → Bool) (x : ℕ × List ℕ) (lines : List (ℕ × List ℕ)) (d : Held) (l : AuthLine) → auth_line x.1 ≡ l
-    → find test (held_of asking (x.0, l) ++ entries_of asking lines) ≡ Some d
+    → find test (held_by_line asking (x.0, l) ++ entries_of asking lines) ≡ Some d
     → (find test (entries_of asking lines) ≡ Some d → IsOfLine asking lines d) → IsOfLine asking (x ∷ lines) d
 by-line asking test x lines d Blank is h rest = later asking x lines d (rest h)
 by-line asking test x lines d Comment is h rest = later asking x lines d (rest h)

@@ -17,7 +17,7 @@ use Rattle.ssh_review.specs.declared.counts.Counts.{Counts}
 use Rattle.ssh_review.specs.declared.form.Form.{Form}
 use Rattle.ssh_review.specs.Counting.{no_counts, plus}
 use Rattle.ssh_review.specs.Forms.{unreadable_record}
-use Rattle.ssh_review.specs.Lines.{counts_of, held_of, line_counts, line_findings, line_record, records_of}
+use Rattle.ssh_review.specs.Lines.{counts_of, held_by_line, line_counts, line_findings, line_record, records_of}
 
 -- ---- what a review uses of a line: what it says, and of one that cannot be read the key on it
 
@@ -69,27 +69,27 @@ record-is form asking name earlier n line (Unreadable cause) = refl
 records-by : Form → Asking → List ℕ → List Held → ℕ → List Said → List ℕ
 records-by form asking name earlier n [] = []
 records-by form asking name earlier n (s ∷ more) =
-    record-by form asking name earlier n s ++ records-by form asking name (earlier ++ held_of asking (n, s.0)) (n + 1) more
+    record-by form asking name earlier n s ++ records-by form asking name (earlier ++ held_by_line asking (n, s.0)) (n + 1) more
 
 records-are : (form : Form) (asking : Asking) (name : List ℕ) (earlier : List Held) (n : ℕ) (lines : List (List ℕ))
     → records_of form asking name earlier (numbered n lines) ≡ records-by form asking name earlier n (map said lines)
 unfolding records-by
 records-are form asking name earlier n [] = refl
 records-are form asking name earlier n (line ∷ lines) =
-    ap (λ told. told ++ records_of form asking name (earlier ++ held_of asking (n, auth_line line)) (numbered (n + 1) lines))
+    ap (λ told. told ++ records_of form asking name (earlier ++ held_by_line asking (n, auth_line line)) (numbered (n + 1) lines))
     (record-is form asking name earlier n line (auth_line line))
     ∙ ap (λ more. record-by form asking name earlier n (said line) ++ more)
-    (records-are form asking name (earlier ++ held_of asking (n, auth_line line)) (n + 1) lines)
+    (records-are form asking name (earlier ++ held_by_line asking (n, auth_line line)) (n + 1) lines)
 
 counts-by : Asking → List Held → ℕ → List Said → Counts
 counts-by asking earlier n [] = no_counts
-counts-by asking earlier n (s ∷ more) = plus (line_counts asking earlier s.0) (counts-by asking (earlier ++ held_of asking (n, s.0)) (n + 1) more)
+counts-by asking earlier n (s ∷ more) = plus (line_counts asking earlier s.0) (counts-by asking (earlier ++ held_by_line asking (n, s.0)) (n + 1) more)
 
 counts-are : (asking : Asking) (earlier : List Held) (n : ℕ) (lines : List (List ℕ)) → counts_of asking earlier (numbered n lines) ≡ counts-by asking earlier n (map said lines)
 unfolding counts-by
 counts-are asking earlier n [] = refl
 counts-are asking earlier n (line ∷ lines) =
-    ap (plus (line_counts asking earlier (auth_line line))) (counts-are asking (earlier ++ held_of asking (n, auth_line line)) (n + 1) lines)
+    ap (plus (line_counts asking earlier (auth_line line))) (counts-are asking (earlier ++ held_by_line asking (n, auth_line line)) (n + 1) lines)
 
 -- ---- the canonical file
 

@@ -18,12 +18,12 @@ use Rattle.ssh_findings.specs.EntryFindings.{names_nobody, permits_bad}
 use Rattle.ssh_findings.specs.Facts.{facts_of}
 use Rattle.ssh_findings.specs.Moments.{is_past}
 use Rattle.ssh_review.specs.declared.form.Form.{Form}
-use Rattle.ssh_review.specs.Lines.{held_of, line_record}
+use Rattle.ssh_review.specs.Lines.{held_by_line, line_record}
 use Rattle.ssh_review.specs.Reviews.{whole_review}
 
 -- the entries of these lines, each with its number
 abbrev pub entries_of : Asking → List (ℕ × List ℕ) → List Held
-entries_of asking lines = flat_map (λ line. held_of asking (line.0, auth_line line.1)) lines
+entries_of asking lines = flat_map (λ line. held_by_line asking (line.0, auth_line line.1)) lines
 
 -- those of the lines before line n
 abbrev pub entries_before : Asking → List ℕ → ℕ → List Held

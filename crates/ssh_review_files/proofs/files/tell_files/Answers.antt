@@ -3,12 +3,12 @@ use Rattle.std.proofs.lemmas.List.{at_drop_more, drop_all}
 use Rattle.ssh_findings.specs.Asking.{asking_of}
 use Rattle.ssh_inputs.proofs.TurnLemmas.{leads_end, leads_next}
 use Rattle.ssh_review.specs.Reviews.{review}
-use Rattle.ssh_review_files.specs.FileReviews.{nothing_told, telling, with_file}
+use Rattle.ssh_review_files.specs.FileReviews.{no_lines, telling_review, with_file}
 use Rattle.ssh_review_files.proofs.files.tell_files.Goals as goal
 
 pub loop-name-preserved : goal.loop-name-preserved
 loop-name-preserved g c =
-    leads_next with_file (telling c.args.kind c.args.form (asking_of c.args.asked.now)) nothing_told (map (λ name. name.now) c.args.names.now) _
+    leads_next with_file (telling_review c.args.kind c.args.form (asking_of c.args.asked.now)) no_lines (map (λ name. name.now) c.args.names.now) _
     (map (λ name. name.now) (drop c.loop-name.name-index c.args.names.now)) (map (λ name. name.now) (drop (c.loop-name.name-index + 1) c.args.names.now))
     (g.F.Files.source_state c.args.files.now) (g.F.Files.source_state c.loop-name.files) (g.F.Files.source_state c.review_file.new.files)
     (record { total = c.loop-name.total; text = c.loop-name.text.items }) (review c.in_ok-reviewed.reviewed)
@@ -17,7 +17,7 @@ loop-name-preserved g c =
 
 pub returns : goal.returns
 returns g c =
-    leads_end with_file (telling c.args.kind c.args.form (asking_of c.args.asked.now)) nothing_told (map (λ name. name.now) c.args.names.now)
+    leads_end with_file (telling_review c.args.kind c.args.form (asking_of c.args.asked.now)) no_lines (map (λ name. name.now) c.args.names.now)
     (map (λ name. name.now) (drop c.loop-name.name-index c.args.names.now))
     (g.F.Files.source_state c.args.files.now) (g.F.Files.source_state c.loop-name.files) (record { total = c.loop-name.total; text = c.loop-name.text.items })
     (ap (map (λ name. name.now)) (drop_all c.loop-name.name-index c.args.names.now c.loop-name-test.false)) c.loop-name.invariant

@@ -2,10 +2,10 @@ use Rattle.std.proofs.Common.{drop, map}
 use Rattle.ssh_findings.specs.Asking.{asking_of}
 use Rattle.ssh_inputs.proofs.TurnLemmas.{Leads}
 use Rattle.ssh_inputs.specs.SourceState.{IfTells}
-use Rattle.ssh_review_files.specs.FileReviews.{nothing_told, telling, with_file}
+use Rattle.ssh_review_files.specs.FileReviews.{no_lines, telling_review, with_file}
 use Rattle.ssh_review_files.proofs.files.tell_files.Given as goal
 
 abbrev pub invariant-loop-name : goal.invariant-loop-name
 invariant-loop-name g l =
-    IfTells (g.F.Files.source_state l.fn.files) (λ s. Leads with_file (telling l.kind l.form (asking_of l.asked)) nothing_told (map (λ name. name.now) l.names) s
+    IfTells (g.F.Files.source_state l.fn.files) (λ s. Leads with_file (telling_review l.kind l.form (asking_of l.asked)) no_lines (map (λ name. name.now) l.names) s
     (map (λ name. name.now) (drop l.name-index l.names)) (g.F.Files.source_state l.files) (record { total = l.total; text = l.text.items }))
