@@ -54,15 +54,15 @@ def written(folder, name, lines):
 
 
 class Made(Certificate):
-    """A login with a certificate of these principals, and critical options with this name and this text."""
+    """A login with a certificate of these principals, critical options and extensions, each a name and its data."""
 
-    def __init__(self, principals=(b"ann",), critical=()):
+    def __init__(self, principals=(b"ann",), critical=(), extensions=()):
         super().__init__(inputs.SIGNER)
         names = b"".join(string(name) for name in principals)
-        options = b"".join(string(name) + string(data) for name, data in critical)
+        options, more = (string(b"".join(string(name) + string(data) for name, data in pairs)) for pairs in (critical, extensions))
         front = inputs.CERTIFICATE[:108] + (1).to_bytes(8, "big") + (1).to_bytes(4, "big") + string(b"bench")
         times = bytes(8) + b"\xff" * 8
-        self.issued = front + string(names) + times + string(options) + string(b"") + string(b"") + string(inputs.SIGNER)
+        self.issued = front + string(names) + times + options + more + string(b"") + string(inputs.SIGNER)
         self.offered = self.issued + string(inputs.SIGNATURE)
 
 

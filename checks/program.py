@@ -23,6 +23,7 @@ import base64
 import fcntl
 import hashlib
 import hmac
+import itertools
 import os
 import pathlib
 import re
@@ -35,6 +36,7 @@ import threading
 HERE = pathlib.Path(__file__).resolve().parent
 sys.dont_write_bytecode = True
 sys.path.insert(0, str(HERE.parent / "bench"))
+import hurt
 import inputs
 from rewrite import kind_of, loosened
 
@@ -110,6 +112,10 @@ FILES = {
     "loose keys": f"  PTY,Restrict  ssh-ed25519\t{KEY}  me \r\n#  x",
     "loose hosts": f"h,g\tssh-ed25519  {KEY}\r\n@revoked  *  ssh-ed25519 {KEY}\n",
     "loose names": f"# c\r\nH,g\tssh-ed25519  {KEY}\r\n@revoked  h ssh-ed25519 {KEY}\n",
+    "key.pub": f"ssh-ed25519 {KEY} me@home\nssh-ed25519 {OTHER_KEY}\n",
+    "bare key": KEY,
+    "returned key": f" \tssh-ed25519  {KEY}\r\n",
+    "signature": SIGNATURE + "\n",
     "salts": SALTS,
     "long salts": SALTS + "k",
     "empty": "",
@@ -164,12 +170,14 @@ class Program:
 
 
 def login(trust, vouch=None, **other):
+    """The words of a login; a value that is None is left out."""
     given = {"offer": KEY, "signature": SIGNATURE, "algorithm": "ssh-ed25519", "session": "01020304", "user": "ann"}
     given.update({"address": "192.0.2.1", "now": "150"}, **other)
     return words("login", trust, vouch, given)
 
 
 def host(trust, vouch=None, **other):
+    """The same of a host's key."""
     given = {"offer": KEY, "signature": SIGNATURE, "hash": "01020304", "host": "h", "port": "22", "now": "150"}
     given.update(other)
     return words("host", trust, vouch, given)
@@ -177,7 +185,8 @@ def host(trust, vouch=None, **other):
 
 def words(subcommand, trust, vouch, given):
     files = ["--file", trust] + (["--vouch", vouch] if vouch is not None else [])
-    return [subcommand, *files, *(word for name, value in given.items() for word in ("--" + name, value))]
+    options = (("--" + name.replace("_", "-"), value) for name, value in given.items() if value is not None)
+    return [subcommand, *files, *itertools.chain.from_iterable(options)]
 
 
 def sshsig(body, message, vouch=None, namespace="file"):
@@ -256,6 +265,31 @@ def rows():
     yield sshsig("-", "message", "file vouched"), VOUCHED, 0, SSHSIG
     yield sshsig("body", "-", "-"), VOUCHED, 0, FILE_TRIPLE.encode() + b"\n" + SIGNED_MESSAGE
     yield login("\u00e9\\", "vouched"), GRANTED, 0
+    # an offer and a signature in files: one place of each, the first line of a file, which is read before the values are
+    # judged, the offer's first; the option that gives no value is named
+    for name in ("key.pub", "bare key", "returned key"):
+        yield login("keys", "vouched", offer=None, offer_file=name), GRANTED, 0
+        yield host("hosts", "host vouched", offer=None, offer_file=name), TRUSTED, 0
+    in_files = {"offer": None, "signature": None, "offer_file": "key.pub", "signature_file": "signature"}
+    yield login("keys", "vouched", **in_files), GRANTED, 0
+    yield host("hosts", "host vouched", **in_files), TRUSTED, 0
+    yield login("other keys", "vouched", **in_files), NO_LINE, 1
+    yield login("keys", "vouched", **{**in_files, "offer_file": "-"}), GRANTED, 0, keys
+    yield login("keys", "vouched", **{**in_files, "signature_file": "-"}), GRANTED, 0, SIGNATURE.encode()
+    yield login("-", "vouched", **{**in_files, "offer_file": "-"}), NO_LINE, 1, keys + keys
+    yield login("keys", "vouched", offer_file="key.pub"), "fault usage\n", 2
+    yield login("keys", "vouched", signature_file="missing"), "fault usage\n", 2
+    yield login("keys", "vouched", offer=None), "fault usage\n", 2
+    yield host("hosts", "host vouched", signature=None), "fault usage\n", 2
+    for name in ("missing", ".", "/dev/zero"):
+        yield login("keys", "vouched", offer=None, offer_file=name), f"fault file {name}\n", 2
+        yield login("keys", "missing", **{**in_files, "signature_file": name}), f"fault file {name}\n", 2
+        yield host("hosts", "host vouched", offer=None, offer_file=name, signature=None, signature_file="bad vouch"), f"fault file {name}\n", 2
+    yield login("keys", "missing", **{**in_files, "offer_file": "bad vouch"}), "fault value offer-file\n", 2
+    yield login("keys", "missing", **{**in_files, "signature_file": "bad vouch"}, session="0"), "fault value signature-file\n", 2
+    yield login("keys", "missing", **in_files, session="0"), "fault value session\n", 2
+    yield login("keys", "vouched", offer=None, offer_file="empty"), "fault A1 K1 V1 0\n", 2
+    yield login("keys", "vouched", signature=None, signature_file="empty"), "fault value signature-file\n", 2
     # files that are not there, whatever standard input has
     for name in ("missing", "", "keys/missing", "missing/", "\u00e8\\"):
         told = "".join(f"\\x{byte:02x}" if byte == 0x5C or byte > 0x7E else chr(byte) for byte in name.encode())
@@ -453,6 +487,23 @@ def vouching_rows(program, tally):
     (program.room / "large").unlink()
 
 
+def longest_row(program, tally):
+    """A certificate of 262,144 bytes, which no word holds: it is judged, and one byte more is not."""
+    made = hurt.Made(extensions=[(b"long@example.com", b"")])
+    room = 262_144 - len(made.offered)
+    for more in (0, 1):
+        long = hurt.Made(extensions=[(b"long@example.com", bytes(room + more))])
+        (program.room / "long.pub").write_text(f"ssh-ed25519-cert-v01@openssh.com {inputs.b64(long.offered)} me\n")
+        (program.room / "authority").write_text("cert-authority " + hurt.AUTHORITY_LINE)
+        asked = [*long.words(hurt.Asked("authority"), "empty")]
+        at = asked.index("--offer")
+        asked[at : at + 2] = ["--offer-file", "long.pub"]
+        status, answer, _ = program.run(asked)
+        wanted = (2, b"fault A1 C9") if more else (1, b"denied N6 0")
+        tally.check(f"a certificate of {len(long.offered)} bytes", (status, answer.split(b"\n")[0][:11]), wanted)
+        tally.check("its length", len(long.offered), 262_144 + more)
+
+
 def bench_rows(program, tally):
     """The bench's files of 100,000 lines, spelled loosely: written anew they are the bench's, and that is its own."""
     for kind in ("options", "names"):
@@ -602,7 +653,7 @@ def long_text_rows(program, tally):
         tally.check(f"a long text, of which {wants} bytes are read", (ended, got == wanted[:wants]), ((status, b""), True))
 
 
-ROWS = (answer_rows, size_rows, input_rows, endless_rows, star_rows, streamed_rows, vouching_rows, bench_rows, keygen_rows, hashing_rows, writer_rows, long_text_rows)
+ROWS = (answer_rows, size_rows, input_rows, endless_rows, star_rows, streamed_rows, vouching_rows, longest_row, bench_rows, keygen_rows, hashing_rows, writer_rows, long_text_rows)
 
 
 # ---- the other checks

@@ -74,6 +74,12 @@ def changed(words, **values):
     return new
 
 
+def in_file(words, option, name):
+    """The words with a text in the file of this name in the place of this option's own."""
+    at = words.index("--" + option)
+    return [*words[:at], f"--{option}-file", name, *words[at + 2 :]]
+
+
 def all_vouched(words, line):
     """Standard input that vouches for all that this login is told to verify, over a file of this line."""
     (_, answer), _ = run(words, b"\n" + line)
@@ -98,6 +104,9 @@ def login_rows(words, vouched, key):
         zoned = changed(words, now=now) + ["--zone", "CET-1CEST,M3.5.0,M10.5.0/3"]
         yield f"expiry time at {now}", zoned, vouched + b"\n\n" + dated
     many = b"\n".join(100 * [b"# " + key])
+    for option in ("offer", "signature"):
+        yield f"a missing file of the {option}", in_file(words, option, "missing"), vouched + b"\n\n" + key
+    yield "an offer in a file", in_file(words, "offer", "-"), key
     yield "a long file", words, vouched + b"\n\n" + many + b"\n" + key
     yield "a long file without the key", words, b"\n" + many
 

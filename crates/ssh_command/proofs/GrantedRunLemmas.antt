@@ -7,9 +7,12 @@ use Rattle.jiff.specs.Types.{TimeZone}
 use Rattle.ssh_wire.specs.Reading.{◌>>=◌}
 use Rattle.ssh_offers.specs.declared.query.EmptyPrincipals.TheVariants.{Any}
 use Rattle.ssh_offers.specs.Query.{HostCheck, Login as LoginAsked}
-use Rattle.ssh_print.specs.Responses.{Response, usage_response, value_response}
-use Rattle.ssh_inputs.specs.SourceState.{IfTells, SourceState}
-use Rattle.ssh_inputs.specs.Values.{empty_principals_of, number_below, zone_text, ReadsZone}
+use Rattle.ssh_print.specs.Responses.{Response, no_file_response, usage_response, value_response}
+use Rattle.ssh_inputs.specs.SourceState.{IfTells, SourceState, bytes_at}
+use Rattle.ssh_inputs.specs.Loading.{within_limit}
+use Rattle.base64.specs.Engines.{standard}
+use Rattle.base64.specs.GeneralPurpose.{decoded_of}
+use Rattle.ssh_inputs.specs.Values.{empty_principals_of, hex_bytes, number_below, zone_text, ReadsZone}
 use Rattle.ssh_words.specs.declared.options.OptionName.{OptionName}
 use Rattle.ssh_words.specs.declared.options.OptionName.TheVariants as option
 use Rattle.ssh_words.specs.declared.subcommand.Subcommand.TheVariants.{Host, Login}
@@ -18,11 +21,13 @@ use Rattle.ssh_questions.specs.Audits.{Audits, Deciding, IsAuditFault, IsVouchRe
 use Rattle.ssh_words.specs.CommandLine.{Request, request_of}
 use Rattle.ssh_command.specs.Account.{Account}
 use Rattle.ssh_command.specs.GrantedRuns.{AsksFor, GrantsHost, GrantsLogin}
-use Rattle.ssh_command.specs.Printing.{Prints}
+use Rattle.ssh_command.specs.Printing.{WritesResponse}
 use Rattle.ssh_command.specs.Granting.{HostGranted, TrustsBytes, LoginGranted}
-use Rattle.ssh_questions.specs.Hosts.{RespondsToHost, host_spelled}
-use Rattle.ssh_questions.specs.Logins.{RespondsToLogin, login_spelled}
+use Rattle.ssh_questions.specs.Hosts.{RespondsToHost, RespondsToHostKey, host_spelled}
+use Rattle.ssh_questions.specs.Logins.{RespondsInZone, RespondsToLogin, login_spelled}
+use Rattle.ssh_questions.specs.Texts.{IsTextReadFault, IsTextsReadFault, OptionTexts, RespondsByTexts, after_text, after_texts, text_at, text_in, texts_at}
 use Rattle.ssh_words.specs.Options.{option_word}
+use Rattle.ssh_words.specs.Texts.{OptionText, TextPlace, TextPlaces, spelled_by, text_places}
 use Rattle.ssh_command.specs.Requests.{Answers, RespondsBy, request_words, source_of}
 use Rattle.ssh_words.specs.Spelling.{RespondsTo, audit_files, given, needed, or_fault, read_or, value, value_or}
 use Rattle.ssh_command.proofs.GrantingLemmas.{host_granted, login_granted}
@@ -62,11 +67,14 @@ value-faulty spells o rows = step-faulty (needed o rows) _ (needed-faulty o rows
 optional-faulty : {A : Type 0} (absent : A) (spells : Text → Option A) (o : OptionName) (rows : List Row) → IsFaulty (value_or absent spells o rows)
 optional-faulty absent spells o rows = fault-faulty o (read_or absent spells (given o rows))
 
-login-faulty : (rows : List Row) (zone : Option TimeZone) → IsFaulty (login_spelled rows zone)
+spelled-faulty : {A : Type 0} (spells : Text → Option A) (t : OptionText) → IsFaulty (spelled_by spells t)
+spelled-faulty spells t = fault-faulty t.option (spells t.text)
+
+login-faulty : (rows : List Row) (zone : Option TimeZone) (x : OptionTexts) → IsFaulty (login_spelled rows zone x)
 unfolding login_spelled
-login-faulty rows zone =
-    step-faulty _ _ (value-faulty _ option.Offer rows) (λ offered.
-    step-faulty _ _ (value-faulty _ option.Signature rows) (λ signature.
+login-faulty rows zone x =
+    step-faulty _ _ (spelled-faulty (decoded_of standard) x.offer) (λ offered.
+    step-faulty _ _ (spelled-faulty hex_bytes x.signature) (λ signature.
     step-faulty _ _ (value-faulty _ option.Session rows) (λ session.
     step-faulty _ _ (value-faulty _ option.User rows) (λ user.
     step-faulty _ _ (value-faulty _ option.Now rows) (λ now.
@@ -76,17 +84,30 @@ login-faulty rows zone =
     step-faulty _ _ (needed-faulty option.Algorithm rows) (λ algorithm.
     step-faulty _ _ (needed-faulty option.Address rows) (λ address. none-faulty _))))))))))
 
-host-faulty : (rows : List Row) → IsFaulty (host_spelled rows)
+host-faulty : (rows : List Row) (x : OptionTexts) → IsFaulty (host_spelled rows x)
 unfolding host_spelled
-host-faulty rows =
-    step-faulty _ _ (value-faulty _ option.Offer rows) (λ offered.
-    step-faulty _ _ (value-faulty _ option.Signature rows) (λ signature.
+host-faulty rows x =
+    step-faulty _ _ (spelled-faulty (decoded_of standard) x.offer) (λ offered.
+    step-faulty _ _ (spelled-faulty hex_bytes x.signature) (λ signature.
     step-faulty _ _ (value-faulty _ option.Hash rows) (λ exchange_hash.
     step-faulty _ _ (value-faulty _ option.Port rows) (λ port.
     step-faulty _ _ (value-faulty _ option.Now rows) (λ now.
     step-faulty _ _ (optional-faulty Any empty_principals_of option.EmptyPrincipals rows) (λ empty_principals.
     step-faulty _ _ (optional-faulty 0 (number_below (2 ^ 32)) option.RsaMinimum rows) (λ rsa_minimum.
     step-faulty _ _ (needed-faulty option.Host rows) (λ host. none-faulty _))))))))
+
+line-faulty : (f : OptionText) (bytes : Option (List ℕ)) → IsFaulty (text_in f bytes)
+line-faulty f None r h = sym (status-of (no_file_response f.text) r (err-same (no_file_response f.text) r h))
+line-faulty f (Some bytes) r h = none-faulty _ r h
+
+text-faulty : (p : TextPlace) (s : SourceState) → IsFaulty (text_at p s)
+text-faulty (TextPlace.in_word t) s = none-faulty _
+text-faulty (TextPlace.in_file f) s = line-faulty f (within_limit (bytes_at s f.text))
+
+texts-faulty : (p : TextPlaces) (s : SourceState) → IsFaulty (texts_at p s)
+texts-faulty p s =
+    step-faulty _ _ (text-faulty p.offer s) (λ offer.
+    step-faulty _ _ (text-faulty p.signature (after_text p.offer s)) (λ signature. none-faulty _))
 
 -- ---- answers that are faults
 
@@ -98,35 +119,72 @@ no-fault : (by : Deciding) (f : AuditFiles) (s : SourceState) (t : Option Source
 no-fault by f s t r (inl fault) h = vouch-fault f.vouch s t r fault h
 no-fault by f s t r (inr (vouched, told, fault)) h = let two = status-of r _ fault.2 in absurd (omega (arith, two, h))
 
+text-fault : (p : TextPlace) (s : SourceState) (t : Option SourceState) (r : Response) → IsTextReadFault p s t r → r.status ≡ 0 → ⊥
+text-fault (TextPlace.in_word x) s t r fault h = fault
+text-fault (TextPlace.in_file f) s t r fault h = let two = status-of r _ fault.1 in absurd (omega (arith, two, h))
+
+texts-fault : (p : TextPlaces) (s : SourceState) (t : Option SourceState) (r : Response) → IsTextsReadFault p s t r → r.status ≡ 0 → ⊥
+texts-fault p s t r (inl fault) h = text-fault p.offer s t r fault h
+texts-fault p s t r (inr (offer, at, fault)) h = text-fault p.signature (after_text p.offer s) t r fault h
+
+-- where what is answered by texts has the status 0, these are texts that stand there
+record ByTexts (responds : OptionTexts → SourceState → Option SourceState → Response → Type 0) (p : TextPlaces) (s : SourceState) (t : Option SourceState) (r : Response) : Type 0 where
+  texts : OptionTexts
+  taken : texts_at p s ≡ Ok texts
+  answered : responds texts (after_texts p s) t r
+
+texts-over : (responds : OptionTexts → SourceState → Option SourceState → Response → Type 0) (p : TextPlaces) (s : SourceState) (t : Option SourceState) (r : Response) (told : Result OptionTexts Response)
+    → texts_at p s ≡ told → RespondsTo (λ x s. responds x (after_texts p s)) told s t r → r.status ≡ 0 → ByTexts responds p s t r
+texts-over responds p s t r (Err e) at h zero =
+    let two = texts-faulty p s e at in
+    let same = status-of r e h.1 in
+    absurd (omega (arith, two, same, zero))
+texts-over responds p s t r (Ok x) at h zero = record { texts = x; taken = at; answered = h }
+
+by-texts : (responds : OptionTexts → SourceState → Option SourceState → Response → Type 0) (p : TextPlaces) (s : SourceState) (t : Option SourceState) (r : Response)
+    → RespondsByTexts responds p s t r → r.status ≡ 0 → ByTexts responds p s t r
+by-texts responds p s t r (inl fault) zero = absurd (texts-fault p s t r fault zero)
+by-texts responds p s t r (inr h) zero = texts-over responds p s t r (texts_at p s) refl h zero
+
+-- the texts stand at these places
+with-places : (responds : TextPlaces → SourceState → Option SourceState → Response → Type 0) (rows : List Row) (p : TextPlaces) (s : SourceState) (t : Option SourceState) (r : Response)
+    → text_places rows ≡ Ok p → RespondsTo responds (text_places rows) s t r → responds p s t r
+with-places responds rows p s t r e h = subst (λ (x : Result TextPlaces Response). RespondsTo responds x s t r) e h
+
 -- ---- a response with the status 0
 
-login-in : (rows : List Row) (told : Option TimeZone) (f : AuditFiles) (s : SourceState) (t : Option SourceState) (r : Response) → TrustsBytes f s
-    → ReadsZone (zone_text (given option.Zone rows)) told → (q : Result LoginAsked Response) → login_spelled rows told ≡ q
-    → RespondsTo (λ q. Audits (login_by q) f) q s t r → r.status ≡ 0 → GrantsLogin rows f s r
-login-in rows told f s t r bytes read (Err e) spelled h zero =
-    let two = login-faulty rows told e spelled in
+login-in : (rows : List Row) (told : Option TimeZone) (p : TextPlaces) (x : OptionTexts) (f : AuditFiles) (s : SourceState) (t : Option SourceState) (r : Response) → TrustsBytes f (after_texts p s)
+    → ReadsZone (zone_text (given option.Zone rows)) told → texts_at p s ≡ Ok x → (q : Result LoginAsked Response) → login_spelled rows told x ≡ q
+    → RespondsTo (λ q. Audits (login_by q) f) q (after_texts p s) t r → r.status ≡ 0 → GrantsLogin rows p f s r
+login-in rows told p x f s t r bytes read at (Err e) spelled h zero =
+    let two = login-faulty rows told x e spelled in
     let same = status-of r e h.1 in
     absurd (omega (arith, two, same, zero))
-login-in rows told f s t r bytes read (Ok q) spelled (inr fault) zero = absurd (no-fault (login_by q) f s t r fault zero)
-login-in rows told f s t r bytes read (Ok q) spelled (inl (none, e)) zero = record {
+login-in rows told p x f s t r bytes read at (Ok q) spelled (inr fault) zero = absurd (no-fault (login_by q) f (after_texts p s) t r fault zero)
+login-in rows told p x f s t r bytes read at (Ok q) spelled (inl (none, e)) zero = record {
   zone = told;
   read = read;
+  texts = x;
+  taken = at;
   asked = q;
   spelled = spelled;
-  granted = subst (λ (x : Response). LoginGranted q f s x) (sym e) (login_granted q f s bytes (sym (status-of r _ e) ∙ zero));
+  granted = subst (λ (y : Response). LoginGranted q f (after_texts p s) y) (sym e) (login_granted q f (after_texts p s) bytes (sym (status-of r _ e) ∙ zero));
 }
 
-host-in : (rows : List Row) (f : AuditFiles) (s : SourceState) (t : Option SourceState) (r : Response) → TrustsBytes f s
-    → (q : Result HostCheck Response) → host_spelled rows ≡ q → RespondsTo (λ q. Audits (host_by q) f) q s t r → r.status ≡ 0 → GrantsHost rows f s r
-host-in rows f s t r bytes (Err e) spelled h zero =
-    let two = host-faulty rows e spelled in
+host-in : (rows : List Row) (p : TextPlaces) (x : OptionTexts) (f : AuditFiles) (s : SourceState) (t : Option SourceState) (r : Response) → TrustsBytes f (after_texts p s)
+    → texts_at p s ≡ Ok x → (q : Result HostCheck Response) → host_spelled rows x ≡ q
+    → RespondsTo (λ q. Audits (host_by q) f) q (after_texts p s) t r → r.status ≡ 0 → GrantsHost rows p f s r
+host-in rows p x f s t r bytes at (Err e) spelled h zero =
+    let two = host-faulty rows x e spelled in
     let same = status-of r e h.1 in
     absurd (omega (arith, two, same, zero))
-host-in rows f s t r bytes (Ok q) spelled (inr fault) zero = absurd (no-fault (host_by q) f s t r fault zero)
-host-in rows f s t r bytes (Ok q) spelled (inl (none, e)) zero = record {
+host-in rows p x f s t r bytes at (Ok q) spelled (inr fault) zero = absurd (no-fault (host_by q) f (after_texts p s) t r fault zero)
+host-in rows p x f s t r bytes at (Ok q) spelled (inl (none, e)) zero = record {
+  texts = x;
+  taken = at;
   asked = q;
   spelled = spelled;
-  granted = subst (λ (x : Response). HostGranted q f s x) (sym e) (host_granted q f s bytes (sym (status-of r _ e) ∙ zero));
+  granted = subst (λ (y : Response). HostGranted q f (after_texts p s) y) (sym e) (host_granted q f (after_texts p s) bytes (sym (status-of r _ e) ∙ zero));
 }
 
 -- the files of the audit are these
@@ -143,14 +201,19 @@ responds-to words q s t r e (inl (inl responds)) h =
 responds-to words q s t r e (inl (inr (line, none, usage))) h = let two = status-of r _ usage in absurd (omega (arith, two, h))
 responds-to words q s t r e (inr memory) h = let two = status-of r _ memory in absurd (omega (arith, two, h))
 
-login-by : (rows : List Row) (f : AuditFiles) (s : SourceState) (t : Option SourceState) (r : Response) → audit_files rows ≡ Ok f → TrustsBytes f s
-    → RespondsToLogin rows s t r → r.status ≡ 0 → GrantsLogin rows f s r
-login-by rows f s t r e bytes (zone, read, h) zero =
-    login-in rows zone f s t r bytes read (login_spelled rows zone) refl (with-files (λ f. RespondsTo (λ q. Audits (login_by q) f) (login_spelled rows zone)) rows f s t r e h) zero
+login-by : (rows : List Row) (p : TextPlaces) (f : AuditFiles) (s : SourceState) (t : Option SourceState) (r : Response) → text_places rows ≡ Ok p → audit_files rows ≡ Ok f
+    → TrustsBytes f (after_texts p s) → RespondsToLogin rows s t r → r.status ≡ 0 → GrantsLogin rows p f s r
+login-by rows p f s t r places e bytes (zone, read, h) zero =
+    let by = by-texts (RespondsInZone rows zone) p s t r (with-places (RespondsByTexts (RespondsInZone rows zone)) rows p s t r places h) zero in
+    login-in rows zone p by.texts f s t r bytes read by.taken (login_spelled rows zone by.texts) refl
+    (with-files (λ f. RespondsTo (λ q. Audits (login_by q) f) (login_spelled rows zone by.texts)) rows f (after_texts p s) t r e by.answered) zero
 
-host-by : (rows : List Row) (f : AuditFiles) (s : SourceState) (t : Option SourceState) (r : Response) → audit_files rows ≡ Ok f → TrustsBytes f s
-    → RespondsToHost rows s t r → r.status ≡ 0 → GrantsHost rows f s r
-host-by rows f s t r e bytes h zero = host-in rows f s t r bytes (host_spelled rows) refl (with-files (λ f. RespondsTo (λ q. Audits (host_by q) f) (host_spelled rows)) rows f s t r e h) zero
+host-by : (rows : List Row) (p : TextPlaces) (f : AuditFiles) (s : SourceState) (t : Option SourceState) (r : Response) → text_places rows ≡ Ok p → audit_files rows ≡ Ok f
+    → TrustsBytes f (after_texts p s) → RespondsToHost rows s t r → r.status ≡ 0 → GrantsHost rows p f s r
+host-by rows p f s t r places e bytes h zero =
+    let by = by-texts (RespondsToHostKey rows) p s t r (with-places (RespondsByTexts (RespondsToHostKey rows)) rows p s t r places h) zero in
+    host-in rows p by.texts f s t r bytes by.taken (host_spelled rows by.texts) refl
+    (with-files (λ f. RespondsTo (λ q. Audits (host_by q) f) (host_spelled rows by.texts)) rows f (after_texts p s) t r e by.answered) zero
 
 abbrev login-request : List Row → Request
 login-request rows = record { subcommand = Login; rows = rows }
@@ -158,43 +221,41 @@ login-request rows = record { subcommand = Login; rows = rows }
 abbrev host-request : List Row → Request
 host-request rows = record { subcommand = Host; rows = rows }
 
-login_run : (words : List (List ℕ)) (rows : List Row) (f : AuditFiles) (s : SourceState) (t : Option SourceState) (r : Response)
-    → request_of (request_words words s) ≡ Some (login-request rows) → audit_files rows ≡ Ok f
-    → TrustsBytes f (source_of words s) → Answers words s t r → r.status ≡ 0 → GrantsLogin rows f (source_of words s) r
-login_run words rows f s t r e files bytes answers zero =
-    login-by rows f (source_of words s) t r files bytes (responds-to words (Some (login-request rows)) s t r e answers zero) zero
+login_run : (words : List (List ℕ)) (rows : List Row) (p : TextPlaces) (f : AuditFiles) (s : SourceState) (t : Option SourceState) (r : Response)
+    → AsksFor Login words s rows p f → Answers words s t r → r.status ≡ 0 → GrantsLogin rows p f (source_of words s) r
+login_run words rows p f s t r asks answers zero =
+    login-by rows p f (source_of words s) t r asks.texts asks.files asks.bytes (responds-to words (Some (login-request rows)) s t r asks.request answers zero) zero
 
-host_run : (words : List (List ℕ)) (rows : List Row) (f : AuditFiles) (s : SourceState) (t : Option SourceState) (r : Response)
-    → request_of (request_words words s) ≡ Some (host-request rows) → audit_files rows ≡ Ok f
-    → TrustsBytes f (source_of words s) → Answers words s t r → r.status ≡ 0 → GrantsHost rows f (source_of words s) r
-host_run words rows f s t r e files bytes answers zero =
-    host-by rows f (source_of words s) t r files bytes (responds-to words (Some (host-request rows)) s t r e answers zero) zero
+host_run : (words : List (List ℕ)) (rows : List Row) (p : TextPlaces) (f : AuditFiles) (s : SourceState) (t : Option SourceState) (r : Response)
+    → AsksFor Host words s rows p f → Answers words s t r → r.status ≡ 0 → GrantsHost rows p f (source_of words s) r
+host_run words rows p f s t r asks answers zero =
+    host-by rows p f (source_of words s) t r asks.texts asks.files asks.bytes (responds-to words (Some (host-request rows)) s t r asks.request answers zero) zero
 
 -- ---- a run
 
-ends-well : (old new : Option Account) (r : Response) (status : ℕ) → Prints old new r status → status ≡ 0 → r.status ≡ 0
+ends-well : (old new : Option Account) (r : Response) (status : ℕ) → WritesResponse old new r status → status ≡ 0 → r.status ≡ 0
 ends-well old new r status (inl (taken, same)) zero = sym same ∙ zero
 ends-well old new r status (inr (broken, two)) zero = absurd (omega (arith, two, zero))
 
 abbrev Answered : List (List ℕ) → Option SourceState → Option Account → Option Account → ℕ → SourceState → Type 0
-Answered words t old new status s = (r : Response) × Answers words s t r × Prints old new r status
+Answered words t old new status s = (r : Response) × Answers words s t r × WritesResponse old new r status
 
 pub login_granted_run : (words : List (List ℕ)) (o t : Option SourceState) (old new : Option Account) (status : ℕ)
     → IfTells o (Answered words t old new status)
-    → IfTells o (λ s. (rows : List Row) (f : AuditFiles) → AsksFor Login words s rows f → status ≡ 0
-    → (r : Response) × GrantsLogin rows f (source_of words s) r × Prints old new r status)
+    → IfTells o (λ s. (rows : List Row) (p : TextPlaces) (f : AuditFiles) → AsksFor Login words s rows p f → status ≡ 0
+    → (r : Response) × GrantsLogin rows p f (source_of words s) r × WritesResponse old new r status)
 login_granted_run words None t old new status h = tt
-login_granted_run words (Some s) t old new status h = λ few rows f asks zero.
+login_granted_run words (Some s) t old new status h = λ few rows p f asks zero.
     let told = h few in
     let well = ends-well old new told.0 status told.2 zero in
-    (told.0, login_run words rows f s t told.0 asks.request asks.files asks.bytes told.1 well, told.2)
+    (told.0, login_run words rows p f s t told.0 asks told.1 well, told.2)
 
 pub host_granted_run : (words : List (List ℕ)) (o t : Option SourceState) (old new : Option Account) (status : ℕ)
     → IfTells o (Answered words t old new status)
-    → IfTells o (λ s. (rows : List Row) (f : AuditFiles) → AsksFor Host words s rows f → status ≡ 0
-    → (r : Response) × GrantsHost rows f (source_of words s) r × Prints old new r status)
+    → IfTells o (λ s. (rows : List Row) (p : TextPlaces) (f : AuditFiles) → AsksFor Host words s rows p f → status ≡ 0
+    → (r : Response) × GrantsHost rows p f (source_of words s) r × WritesResponse old new r status)
 host_granted_run words None t old new status h = tt
-host_granted_run words (Some s) t old new status h = λ few rows f asks zero.
+host_granted_run words (Some s) t old new status h = λ few rows p f asks zero.
     let told = h few in
     let well = ends-well old new told.0 status told.2 zero in
-    (told.0, host_run words rows f s t told.0 asks.request asks.files asks.bytes told.1 well, told.2)
+    (told.0, host_run words rows p f s t told.0 asks told.1 well, told.2)

@@ -19,22 +19,23 @@ use Rattle.ssh_words.specs.declared.error.CommandError.TheVariants.{Usage, Value
 use Rattle.ssh_words.specs.declared.options.OptionName.TheVariants as option
 use Rattle.ssh_words.specs.declared.subcommand.Subcommand.{Subcommand}
 use Rattle.ssh_words.specs.declared.subcommand.Subcommand.TheVariants.{Show, Login, Host, Sshsig, Rewrite, Hash, Admits, Trusts, Review, Explain}
-use Rattle.ssh_questions.specs.Audits.{Audits, host_by, login_by}
 use Rattle.ssh_words.specs.CommandLine.{Request, request_of}
 use Rattle.ssh_answers.specs.Admissions.{AsksKey}
 use Rattle.ssh_command.specs.Hashings.{Hashes}
-use Rattle.ssh_questions.specs.Hosts.{host_spelled}
+use Rattle.ssh_questions.specs.Hosts.{RespondsToHostKey}
 use Rattle.ssh_answers.specs.Keys.{admits_spelled, trusts_spelled}
-use Rattle.ssh_questions.specs.Logins.{login_spelled}
+use Rattle.ssh_questions.specs.Logins.{RespondsInZone}
+use Rattle.ssh_questions.specs.Texts.{RespondsByTexts}
+use Rattle.ssh_questions.proofs.TextLemmas.{host-same, login-same, texts-same}
+use Rattle.ssh_words.specs.Texts.{text_places}
 use Rattle.ssh_command.specs.Requests.{Responds, RespondsBy, RespondsIn}
 use Rattle.ssh_command.specs.Responding.{IsUsageOf}
 use Rattle.ssh_command.specs.Rewritings.{RewritesFile, new_file, rewrite_kind}
 use Rattle.ssh_command.specs.Shows.{ShowsFile}
 use Rattle.ssh_command.specs.Sshsigs.{Signs}
-use Rattle.ssh_words.specs.Spelling.{IsToldAs, RespondsTo, audit_files, needed, sshsig_question, value}
+use Rattle.ssh_words.specs.Spelling.{IsToldAs, RespondsTo, needed, sshsig_question, value}
 use Rattle.ssh_words.specs.WordsView.{IfAnswered}
 use Rattle.ssh_answers.proofs.AdmissionLemmas.{key-same}
-use Rattle.ssh_questions.proofs.AuditLemmas.{audits-same}
 use Rattle.ssh_review_files.proofs.SpelledLemmas.{reviews_same}
 use Rattle.ssh_words.proofs.AnsweredLemmas.{spelled_same}
 use Rattle.ssh_words.proofs.CommandLineLemmas.{no_request}
@@ -53,12 +54,12 @@ subcommand-same Show rows a b u r e h =
 subcommand-same Login rows a b u r e (zone, read, h) = (
   zone,
   read,
-  spelled_same (λ f. RespondsTo (λ q. Audits (login_by q) f) (login_spelled rows zone)) (audit_files rows) a b u r e
-      (λ f. spelled_same (λ q. Audits (login_by q) f) (login_spelled rows zone) a b u r e (λ q. audits-same (login_by q) f a b u r e)) h,
+  spelled_same (RespondsByTexts (RespondsInZone rows zone)) (text_places rows) a b u r e
+      (λ p. texts-same (RespondsInZone rows zone) (login-same rows zone) p a b u r e) h,
 )
 subcommand-same Host rows a b u r e h =
-    spelled_same (λ f. RespondsTo (λ q. Audits (host_by q) f) (host_spelled rows)) (audit_files rows) a b u r e
-    (λ f. spelled_same (λ q. Audits (host_by q) f) (host_spelled rows) a b u r e (λ q. audits-same (host_by q) f a b u r e)) h
+    spelled_same (RespondsByTexts (RespondsToHostKey rows)) (text_places rows) a b u r e
+    (λ p. texts-same (RespondsToHostKey rows) (host-same rows) p a b u r e) h
 subcommand-same Sshsig rows a b u r e h = spelled_same Signs (sshsig_question rows) a b u r e (λ q. signs-same q a b u r e) h
 subcommand-same Rewrite rows a b u r e h =
     spelled_same (λ kind. RespondsTo (RewritesFile (new_file kind)) (needed option.File rows)) (value rewrite_kind option.Kind rows) a b u r e

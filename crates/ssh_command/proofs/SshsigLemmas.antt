@@ -23,7 +23,7 @@ use Rattle.ssh_command.specs.declared.digest.MessageDigest.{MessageDigest}
 use Rattle.ssh_command.specs.Responding.{SignsBody, SignsClaim, SignsMessage, SignsVouched}
 use Rattle.ssh_command.proofs.DigestLemmas.{digest_answers}
 use Rattle.ssh_command.proofs.PartLemmas.{claim_front}
-use Rattle.ssh_command.specs.Sshsigs.{IsContentFault, IsSignatureFault, Signs, body_over, body_response, claim_answer, claim_over, claim_response, message_response, signature_response, vouched_over}
+use Rattle.ssh_command.specs.Sshsigs.{IsContentFault, IsSshsigReadFault, Signs, body_over, body_response, claim_answer, claim_over, claim_response, message_response, signature_response, vouched_over}
 use Rattle.ssh_questions.proofs.AuditLemmas.{left_by, told_by, vouch_fault-same, vouch_read_failed}
 use Rattle.ssh_inputs.proofs.SourceLemmas.{Alike, alike-same, file-alike, left-alike, left-none, none-failed, one-failed, over_limit, whole-alike}
 use Rattle.ssh_questions.proofs.SourceLemmas.{vouched-same, vouching-alike}
@@ -61,7 +61,7 @@ content_fault-same w a b u r e (inr (body, told, fault)) = inr (
   (one-failed (after_whole a w.body) (after_whole b w.body) u w.message (whole-alike a b w.body e) fault.0, fault.1),
 )
 
-signature_fault-same : (w : SshsigQuestion) (a b : SourceState) (u : Option SourceState) (r : Shown) → Alike a b → IsSignatureFault w a u r → IsSignatureFault w b u r
+signature_fault-same : (w : SshsigQuestion) (a b : SourceState) (u : Option SourceState) (r : Shown) → Alike a b → IsSshsigReadFault w a u r → IsSshsigReadFault w b u r
 signature_fault-same w a b u r e (inl h) = inl (vouch_fault-same w.vouch a b u r e h)
 signature_fault-same w a b u r e (inr (vouched, told, fault)) = inr (
   vouched,

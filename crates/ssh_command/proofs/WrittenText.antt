@@ -3,7 +3,7 @@ use Rattle.std.proofs.Common.{◌≡◌, ◌∙◌, ◌++◌, ℕ, List, Option,
 use Rattle.std.specs.Prelude.{if◌then◌else◌}
 use Rattle.std.proofs.lemmas.List.{append_assoc}
 use Rattle.ssh_command.specs.Account.{Account, NoneFailed, failing, takes_nothing, taking, where_told}
-use Rattle.ssh_command.specs.Printing.{Takes}
+use Rattle.ssh_command.specs.Printing.{TakesUpTo}
 
 -- after a write that says that it took n bytes
 abbrev pub counted : ℕ → List ℕ → Option Account → Option Account
@@ -19,7 +19,7 @@ taken_twice None a b = refl
 taken_twice (Some x) a b = ap (λ l. Some (record x { taken = l })) (append_assoc x.taken a b)
 
 -- more of the text is taken
-pub more : (o p q : Option Account) (text rest left : List ℕ) (n : ℕ) → Takes o p text rest → rest ≡ take n rest ++ left → (n ≡ 0 → ⊥) → q ≡ counted n rest p → Takes o q text left
+pub more : (o p q : Option Account) (text rest left : List ℕ) (n : ℕ) → TakesUpTo o p text rest → rest ≡ take n rest ++ left → (n ≡ 0 → ⊥) → q ≡ counted n rest p → TakesUpTo o q text left
 more o p q text rest left n w cut some h = record {
   front = w.front ++ take n rest;
   parts = w.parts ∙ (ap (λ r. w.front ++ r) cut ∙ sym (append_assoc w.front (take n rest) left));

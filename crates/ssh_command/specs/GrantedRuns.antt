@@ -14,24 +14,31 @@ use Rattle.ssh_command.specs.Granting.{HostGranted, TrustsBytes, LoginGranted}
 use Rattle.ssh_command.specs.Requests.{request_words, source_of}
 use Rattle.ssh_questions.specs.Hosts.{host_spelled}
 use Rattle.ssh_questions.specs.Logins.{login_spelled}
+use Rattle.ssh_questions.specs.Texts.{OptionTexts, after_texts, texts_at}
 use Rattle.ssh_words.specs.Spelling.{audit_files, given}
+use Rattle.ssh_words.specs.Texts.{TextPlaces, text_places}
 
--- the words ask this of these files, and the trust file is of bytes
-pub record AsksFor (subcommand : Subcommand) (words : List (List ℕ)) (s : SourceState) (rows : List Row) (f : AuditFiles) : Type 0 where
+-- the words ask this of these files, by texts that stand there, and the trust file is of bytes
+pub record AsksFor (subcommand : Subcommand) (words : List (List ℕ)) (s : SourceState) (rows : List Row) (places : TextPlaces) (f : AuditFiles) : Type 0 where
   pub request : request_of (request_words words s) ≡ Some (record { subcommand = subcommand; rows = rows })
+  pub texts : text_places rows ≡ Ok places
   pub files : audit_files rows ≡ Ok f
-  pub bytes : TrustsBytes f (source_of words s)
+  pub bytes : TrustsBytes f (after_texts places (source_of words s))
 
--- the options spell this login, in the zone of its text, and the files grant it
-pub record GrantsLogin (rows : List Row) (f : AuditFiles) (s : SourceState) (r : Response) : Type 0 where
+-- the options spell this login, in the zone of its text and by the texts that stand there, and after these the files grant it
+pub record GrantsLogin (rows : List Row) (places : TextPlaces) (f : AuditFiles) (s : SourceState) (r : Response) : Type 0 where
   pub zone : Option TimeZone
   pub read : ReadsZone (zone_text (given option.Zone rows)) zone
+  pub texts : OptionTexts
+  pub taken : texts_at places s ≡ Ok texts
   pub asked : Login
-  pub spelled : login_spelled rows zone ≡ Ok asked
-  pub granted : LoginGranted asked f s r
+  pub spelled : login_spelled rows zone texts ≡ Ok asked
+  pub granted : LoginGranted asked f (after_texts places s) r
 
--- the options spell this host's key, and the files grant it
-pub record GrantsHost (rows : List Row) (f : AuditFiles) (s : SourceState) (r : Response) : Type 0 where
+-- the options spell this host's key by the texts that stand there, and after these the files grant it
+pub record GrantsHost (rows : List Row) (places : TextPlaces) (f : AuditFiles) (s : SourceState) (r : Response) : Type 0 where
+  pub texts : OptionTexts
+  pub taken : texts_at places s ≡ Ok texts
   pub asked : HostCheck
-  pub spelled : host_spelled rows ≡ Ok asked
-  pub granted : HostGranted asked f s r
+  pub spelled : host_spelled rows texts ≡ Ok asked
+  pub granted : HostGranted asked f (after_texts places s) r

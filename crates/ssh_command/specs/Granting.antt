@@ -1,11 +1,10 @@
 -- What an answer with status 0 to a login and to a host's key stands on (this project's rule).
-use Rattle.std.specs.Prelude.{◌≡◌, ◌<◌, ℕ, List, Some, None, Ok}
-use Rattle.std.specs.List.{AllByRecursion}
+use Rattle.std.specs.Prelude.{◌≡◌, ℕ, List, Some, None, Ok}
 use Rattle.ssh_lines.specs.AuthEntry.{AuthEntry}
 use Rattle.ssh_lines.specs.KnownEntry.{KnownEntry}
 use Rattle.ssh_offers.specs.declared.query.Signed.{Signed}
 use Rattle.ssh_offers.specs.Evidence.{host_evidence, login_evidence}
-use Rattle.ssh_offers.specs.FirstRefusal.{IsHostClaim, IsLoginClaim}
+use Rattle.ssh_offers.specs.FirstRefusal.{AreBytes, IsHostClaim, IsLoginClaim}
 use Rattle.ssh_offers.specs.HostClaim.{HostClaim}
 use Rattle.ssh_offers.specs.LoginClaim.{LoginClaim}
 use Rattle.ssh_offers.specs.Query.{HostCheck, Login}
@@ -20,19 +19,15 @@ use Rattle.ssh_inputs.specs.SourceState.{SourceState, bytes_at}
 use Rattle.ssh_words.specs.Asked.{AuditFiles}
 use Rattle.ssh_questions.specs.Audits.{after_vouching, vouched_in}
 
--- each number is a byte
-abbrev pub IsOfBytes : List ℕ → Type 0
-IsOfBytes text = AllByRecursion (λ c. c < 256) text
-
 -- the trust file, where it is there, is of bytes
 abbrev pub TrustsBytes : AuditFiles → SourceState → Type 0
-TrustsBytes f s = (file : List ℕ) → bytes_at (after_vouching f.vouch s) f.trust ≡ Some file → IsOfBytes file
+TrustsBytes f s = (file : List ℕ) → bytes_at (after_vouching f.vouch s) f.trust ≡ Some file → AreBytes file
 
 -- The vouch file vouches for these, the trust file has these bytes, and a line of it is one to grant the login at; this is printed.
 pub record LoginGranted (q : Login) (f : AuditFiles) (s : SourceState) (r : Response) : Type 0 where
   pub claim : LoginClaim
   -- It is what the blobs of the offer and of the signature spell, which are of bytes.
-  pub claimed : IsOfBytes q.offered → IsOfBytes q.signature → IsLoginClaim q claim
+  pub claimed : AreBytes q.offered → AreBytes q.signature → IsLoginClaim q claim
   pub vouched : List Signed
   pub told : vouched_in f.vouch s ≡ Ok vouched
   pub file : List ℕ
@@ -48,7 +43,7 @@ pub record LoginGranted (q : Login) (f : AuditFiles) (s : SourceState) (r : Resp
 -- the same of a host's key, for which no rights are printed
 pub record HostGranted (q : HostCheck) (f : AuditFiles) (s : SourceState) (r : Response) : Type 0 where
   pub claim : HostClaim
-  pub claimed : IsOfBytes q.offered → IsOfBytes q.signature → IsHostClaim q claim
+  pub claimed : AreBytes q.offered → AreBytes q.signature → IsHostClaim q claim
   pub vouched : List Signed
   pub told : vouched_in f.vouch s ≡ Ok vouched
   pub file : List ℕ

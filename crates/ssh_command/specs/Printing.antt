@@ -4,7 +4,7 @@ use Rattle.ssh_command.specs.Account.{Account, failing, taking, where_told}
 use Rattle.ssh_print.specs.Responses.{Response}
 
 -- the text was taken up to this rest, and no write failed
-pub record Takes (old new : Option Account) (text rest : List ℕ) : Type 0 where
+pub record TakesUpTo (old new : Option Account) (text rest : List ℕ) : Type 0 where
   pub front : List ℕ
   pub parts : text ≡ front ++ rest
   pub told : new ≡ where_told (λ a. taking a front) old
@@ -18,5 +18,5 @@ pub record Breaks (old new : Option Account) (text : List ℕ) : Type 0 where
   pub told : new ≡ where_told (λ a. failing (taking a front)) old
 
 -- the whole text was taken, no write failed, and the status is the response's; or a write failed after a proper front of the text, and the status is 2
-abbrev pub Prints : Option Account → Option Account → Response → ℕ → Type 0
-Prints old new r status = ((new ≡ where_told (λ a. taking a r.text) old) × (status ≡ r.status)) ⊎ (Breaks old new r.text × (status ≡ 2))
+abbrev pub WritesResponse : Option Account → Option Account → Response → ℕ → Type 0
+WritesResponse old new r status = ((new ≡ where_told (λ a. taking a r.text) old) × (status ≡ r.status)) ⊎ (Breaks old new r.text × (status ≡ 2))

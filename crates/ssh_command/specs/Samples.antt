@@ -15,6 +15,7 @@ use Rattle.ssh_words.specs.declared.options.OptionName.TheVariants as option
 use Rattle.ssh_words.specs.Options.{option_word}
 use Rattle.ssh_questions.specs.Hosts.{host_spelled}
 use Rattle.ssh_questions.specs.Logins.{login_spelled}
+use Rattle.ssh_questions.specs.Texts.{OptionTexts, text_in, text_on}
 
 -- the kinds that `show` knows
 abbrev pub ShowKinds : Type 0
@@ -42,12 +43,17 @@ row o text = record {
   reading = reading.AsWritten;
 }
 
+-- the texts of an offer and of its signature, which words give
+abbrev texts : Text → Text → OptionTexts
+texts offer signature = record {
+  offer = record { option = option.Offer; text = offer };
+  signature = record { option = option.Signature; text = signature };
+}
+
 -- the options of a login, of which these are read
-abbrev login_values : Text → Text → Text → Text → List Row
-login_values offer signature session now =
+abbrev login_values : Text → Text → List Row
+login_values session now =
     row option.File (codes "f")
-    ∷ row option.Offer offer
-    ∷ row option.Signature signature
     ∷ row option.Algorithm (codes "ssh-ed25519")
     ∷ row option.Session session
     ∷ row option.User (codes "ann")
@@ -72,7 +78,7 @@ login_in zone empty bits = record {
 }
 
 abbrev pub LoginSpelled : TimeZone → Type 0
-LoginSpelled zone = login_spelled (login_values (codes "AAEC") (codes "0aFF") (codes "01020304") (codes "150")) (Some zone) ≡ Ok (login_in zone Any 0)
+LoginSpelled zone = login_spelled (login_values (codes "01020304") (codes "150")) (Some zone) (texts (codes "AAEC") (codes "0aFF")) ≡ Ok (login_in zone Any 0)
 
 pub login_is_spelled : (zone : TimeZone) → LoginSpelled zone
 unfolding login_spelled base64_on_literals
@@ -80,14 +86,14 @@ login_is_spelled zone = refl
 
 -- the same with the two options on certificates and on keys
 abbrev asked_never : Text → Text → List Row
-asked_never empty bits = login_values (codes "AAEC") (codes "0aFF") (codes "01020304") (codes "150")
+asked_never empty bits = login_values (codes "01020304") (codes "150")
     ++ row option.EmptyPrincipals empty ∷ row option.RsaMinimum bits ∷ []
 
 -- whom a certificate without principals is for and how long an RSA key has to be, and texts that say neither
 abbrev pub LoginAsksMore : TimeZone → Type 0
-LoginAsksMore zone = (login_spelled (asked_never (codes "never") (codes "02048")) (Some zone) ≡ Ok (login_in zone Never 2048))
-    × (login_spelled (asked_never (codes "Never") (codes "2k")) (Some zone) ≡ no_value (codes "empty-principals"))
-    × (login_spelled (asked_never (codes "any") (codes "4294967296")) (Some zone) ≡ no_value (codes "rsa-minimum"))
+LoginAsksMore zone = (login_spelled (asked_never (codes "never") (codes "02048")) (Some zone) (texts (codes "AAEC") (codes "0aFF")) ≡ Ok (login_in zone Never 2048))
+    × (login_spelled (asked_never (codes "Never") (codes "2k")) (Some zone) (texts (codes "AAEC") (codes "0aFF")) ≡ no_value (codes "empty-principals"))
+    × (login_spelled (asked_never (codes "any") (codes "4294967296")) (Some zone) (texts (codes "AAEC") (codes "0aFF")) ≡ no_value (codes "rsa-minimum"))
 
 pub login_asks_more : (zone : TimeZone) → LoginAsksMore zone
 unfolding login_spelled base64_on_literals
@@ -95,23 +101,34 @@ login_asks_more zone = (refl, refl, refl)
 
 -- the first value that is none is told, in the order of the options: here each is none from one of them on
 abbrev pub LoginValuesInOrder : Type 0
-LoginValuesInOrder = (login_spelled (login_values (codes "AAE") (codes "0") (codes "0") (codes "-")) None ≡ no_value (codes "offer"))
-    × (login_spelled (login_values (codes "AAEC") (codes "0") (codes "0") (codes "-")) None ≡ no_value (codes "signature"))
-    × (login_spelled (login_values (codes "AAEC") (codes "-") (codes "0") (codes "-")) None ≡ no_value (codes "session"))
-    × (login_spelled (login_values (codes "AAEC") (codes "-") (codes "00") (codes "-")) None ≡ no_value (codes "now"))
-    × (login_spelled (login_values (codes "AAEC") (codes "-") (codes "00") (codes "0")) None ≡ no_value (codes "zone"))
-    × (login_spelled (asked_never (codes "-") (codes "4294967296")) None ≡ no_value (codes "zone"))
+LoginValuesInOrder = (login_spelled (login_values (codes "0") (codes "-")) None (texts (codes "AAE") (codes "0")) ≡ no_value (codes "offer"))
+    × (login_spelled (login_values (codes "0") (codes "-")) None (texts (codes "AAEC") (codes "0")) ≡ no_value (codes "signature"))
+    × (login_spelled (login_values (codes "0") (codes "-")) None (texts (codes "AAEC") (codes "-")) ≡ no_value (codes "session"))
+    × (login_spelled (login_values (codes "00") (codes "-")) None (texts (codes "AAEC") (codes "-")) ≡ no_value (codes "now"))
+    × (login_spelled (login_values (codes "00") (codes "0")) None (texts (codes "AAEC") (codes "-")) ≡ no_value (codes "zone"))
+    × (login_spelled (asked_never (codes "-") (codes "4294967296")) None (texts (codes "AAEC") (codes "0aFF")) ≡ no_value (codes "zone"))
 
 pub login_values_in_order : LoginValuesInOrder
 unfolding login_spelled base64_on_literals
 login_values_in_order = (refl, refl, refl, refl, refl, refl)
 
+-- The text of an option in a file: the second field of its first line, or the one field; and a file that is not there.
+abbrev pub TextsOfFiles : Type 0
+TextsOfFiles = (text_on (codes "ssh-ed25519 AAEC ann@example") ≡ codes "AAEC")
+    × (text_on (codes "AAEC\r") ≡ codes "AAEC")
+    × (text_on (codes " AAEC ") ≡ codes "AAEC")
+    × (text_on [] ≡ [])
+    × (text_in (record { option = option.OfferFile; text = codes "k" }) (Some (codes "ssh-ed25519 AAEC\nssh-ed25519 AAED\n"))
+    ≡ Ok (record { option = option.OfferFile; text = codes "AAEC" }))
+    × (text_in (record { option = option.OfferFile; text = codes "k" }) None ≡ Err (record { status = 2; text = codes "fault file k\n" }))
+
+pub texts_of_files : TextsOfFiles
+texts_of_files = (refl, refl, refl, refl, refl, refl)
+
 -- the options of a host's key, of which these are read
-abbrev host_values : Text → Text → Text → Text → Text → List Row
-host_values offer signature hash port now =
+abbrev host_values : Text → Text → Text → List Row
+host_values hash port now =
     row option.File (codes "f")
-    ∷ row option.Offer offer
-    ∷ row option.Signature signature
     ∷ row option.Hash hash
     ∷ row option.Host (codes "h")
     ∷ row option.Port port
@@ -120,13 +137,13 @@ host_values offer signature hash port now =
 
 -- a host's key that is spelled, and the first value that is none
 abbrev pub HostValuesInOrder : Type 0
-HostValuesInOrder = (host_spelled (host_values (codes "AAEC") (codes "-") (codes "01020304") (codes "022") (codes "150"))
+HostValuesInOrder = (host_spelled (host_values (codes "01020304") (codes "022") (codes "150")) (texts (codes "AAEC") (codes "-"))
     ≡ Ok (record { offered = 0 ∷ 1 ∷ 2 ∷ []; signature = []; exchange_hash = 1 ∷ 2 ∷ 3 ∷ 4 ∷ []; host = codes "h"; port = 22; now = 150; empty_principals = Any; rsa_minimum = 0 }))
-    × (host_spelled (host_values (codes "AAE") (codes "0") (codes "0") (codes "65536") (codes "-")) ≡ no_value (codes "offer"))
-    × (host_spelled (host_values (codes "AAEC") (codes "0") (codes "0") (codes "65536") (codes "-")) ≡ no_value (codes "signature"))
-    × (host_spelled (host_values (codes "AAEC") (codes "00") (codes "0") (codes "65536") (codes "-")) ≡ no_value (codes "hash"))
-    × (host_spelled (host_values (codes "AAEC") (codes "00") (codes "00") (codes "65536") (codes "-")) ≡ no_value (codes "port"))
-    × (host_spelled (host_values (codes "AAEC") (codes "00") (codes "00") (codes "65535") (codes "-")) ≡ no_value (codes "now"))
+    × (host_spelled (host_values (codes "0") (codes "65536") (codes "-")) (texts (codes "AAE") (codes "0")) ≡ no_value (codes "offer"))
+    × (host_spelled (host_values (codes "0") (codes "65536") (codes "-")) (texts (codes "AAEC") (codes "0")) ≡ no_value (codes "signature"))
+    × (host_spelled (host_values (codes "0") (codes "65536") (codes "-")) (texts (codes "AAEC") (codes "00")) ≡ no_value (codes "hash"))
+    × (host_spelled (host_values (codes "00") (codes "65536") (codes "-")) (texts (codes "AAEC") (codes "00")) ≡ no_value (codes "port"))
+    × (host_spelled (host_values (codes "00") (codes "65535") (codes "-")) (texts (codes "AAEC") (codes "00")) ≡ no_value (codes "now"))
 
 pub host_values_in_order : HostValuesInOrder
 unfolding host_spelled base64_on_literals

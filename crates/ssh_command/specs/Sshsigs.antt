@@ -64,13 +64,13 @@ IsContentFault w s t r = IsFileFault w.body s t r
     ⊎ ((body : List ℕ) × (within_limit (bytes_at s w.body) ≡ Some body) × IsFileFault w.message (after_whole s w.body) t r)
 
 -- the vouch file's read failed; or, after it told its signatures, one of the others
-abbrev pub IsSignatureFault : SshsigQuestion → SourceState → Option SourceState → Response → Type 0
-IsSignatureFault w s t r = IsVouchReadFault w.vouch s t r
+abbrev pub IsSshsigReadFault : SshsigQuestion → SourceState → Option SourceState → Response → Type 0
+IsSshsigReadFault w s t r = IsVouchReadFault w.vouch s t r
     ⊎ ((vouched : List Signed) × (vouched_in w.vouch s ≡ Ok vouched) × IsContentFault w (after_vouching w.vouch s) t r)
 
 -- the response is the answer, and no read failed; or one failed, and it is the fault of the file that was read
 abbrev pub Signs : SshsigQuestion → SourceState → Option SourceState → Response → Type 0
-Signs w s t r = (NoReadFailed s t × (r ≡ signature_response w s)) ⊎ IsSignatureFault w s t r
+Signs w s t r = (NoReadFailed s t × (r ≡ signature_response w s)) ⊎ IsSshsigReadFault w s t r
 
 -- ---- words
 

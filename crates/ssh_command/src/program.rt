@@ -6,9 +6,10 @@ ghost use Rattle.ssh_command.specs.Account.{NoneFailed};
 ghost use Rattle.ssh_print.specs.Responses.{Response as Shown};
 ghost use Rattle.ssh_command.specs.GrantedRuns.{AsksFor, GrantsHost, GrantsLogin};
 ghost use Rattle.ssh_command.specs.Requests.{Answers, source_of, words_response};
-ghost use Rattle.ssh_command.specs.Printing.{Prints};
+ghost use Rattle.ssh_command.specs.Printing.{WritesResponse};
 ghost use Rattle.ssh_inputs.specs.SourceState.{IfTells};
 ghost use Rattle.ssh_words.specs.Asked.{AuditFiles};
+ghost use Rattle.ssh_words.specs.Texts.{TextPlaces};
 ghost use Rattle.ssh_words.specs.declared.subcommand.Subcommand.TheVariants.{Host, Login};
 
 use crate::respond::respond;
@@ -23,7 +24,7 @@ use std::convert::AsStr;
 /// Nothing is written after that.
 fn put_out<W: Sink>(writer: &mut W, text: &[u8], status: u8) -> u8
     requires { NoneFailed (W.account writer.old) }
-    ensures { Prints (W.account writer.old) (W.account writer.new)
+    ensures { WritesResponse (W.account writer.old) (W.account writer.new)
         (record { status = status; text = text.now }) result }
 {
     let mut rest = text;
@@ -46,7 +47,7 @@ fn answer<S: AsStr, F: Files, W: Sink>(
 ) -> u8
     requires { NoneFailed (W.account writer.old) }
     ensures { IfTells (F.source_state files.old) (λ s. (r : Shown) × Answers (map S.text words.now) s (F.source_state files.new) r
-        × Prints (W.account writer.old) (W.account writer.new) r result) }
+        × WritesResponse (W.account writer.old) (W.account writer.new) r result) }
 {
     match respond(alloc, words, files) {
         Ok(response) => put_out(writer, response.text.as_slice(), response.status),
@@ -69,20 +70,22 @@ pub fn run<S: AsStr, F: Files, W: Sink>(
     // or a proper front of it, after which a write failed, with status 2. The answer is the defined
     // one, or out of memory, or after a failed read that read's own fault.
     ensures answers { IfTells (F.source_state files.old) (λ s. (r : Shown) × Answers (map S.text words.now) s (F.source_state files.new) r
-        × Prints (W.account writer.old) (W.account writer.new) r result) }
+        × WritesResponse (W.account writer.old) (W.account writer.new) r result) }
     // Status 0 to a login is a grant: a line of the trust file admits the offer, all its conditions
     // hold, and the vouch file vouches for all that it rests on. That was printed.
-    ensures login { IfTells (F.source_state files.old) (λ s. (rows : List Row) (f : AuditFiles)
-        → AsksFor Login (map S.text words.now) s rows f
+    ensures login { IfTells (F.source_state files.old) (λ s. (rows : List Row)
+        (places : TextPlaces) (f : AuditFiles)
+        → AsksFor Login (map S.text words.now) s rows places f
         → result ≡ 0
-        → (r : Shown) × GrantsLogin rows f (source_of (map S.text words.now) s) r
-        × Prints (W.account writer.old) (W.account writer.new) r result) }
+        → (r : Shown) × GrantsLogin rows places f (source_of (map S.text words.now) s) r
+        × WritesResponse (W.account writer.old) (W.account writer.new) r result) }
     // So it is of a host's key, which moreover no line of the file revokes.
-    ensures host { IfTells (F.source_state files.old) (λ s. (rows : List Row) (f : AuditFiles)
-        → AsksFor Host (map S.text words.now) s rows f
+    ensures host { IfTells (F.source_state files.old) (λ s. (rows : List Row)
+        (places : TextPlaces) (f : AuditFiles)
+        → AsksFor Host (map S.text words.now) s rows places f
         → result ≡ 0
-        → (r : Shown) × GrantsHost rows f (source_of (map S.text words.now) s) r
-        × Prints (W.account writer.old) (W.account writer.new) r result) }
+        → (r : Shown) × GrantsHost rows places f (source_of (map S.text words.now) s) r
+        × WritesResponse (W.account writer.old) (W.account writer.new) r result) }
 {
     answer(alloc, words, files, writer)
 }
@@ -101,7 +104,7 @@ fn fault_text<'a>(fault: WordsError) -> &'a [u8]
 /// refused, and returns the status 2.
 pub fn refuse<W: Sink>(fault: WordsError, writer: &mut W) -> u8
     requires { NoneFailed (W.account writer.old) }
-    ensures { Prints (W.account writer.old) (W.account writer.new) (words_response fault) result }
+    ensures { WritesResponse (W.account writer.old) (W.account writer.new) (words_response fault) result }
 {
     put_out(writer, fault_text(fault), FAULT)
 }

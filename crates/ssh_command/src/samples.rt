@@ -20,6 +20,7 @@ ghost use Rattle.ssh_command.specs.Samples.{
   LoginSpelled,
   LoginValuesInOrder,
   ShowKinds,
+  TextsOfFiles,
 };
 
 /// What files tell and leave, what is printed as one, and which fault is told where there are two.
@@ -37,6 +38,7 @@ fn files_as_told()
 /// Which values texts spell, and which fault is told where more than one spells none.
 fn values_as_read()
     ensures shown { ShowKinds }
+    ensures texts { TextsOfFiles }
     ensures login { (zone : Zone) → LoginSpelled zone }
     ensures login_more { (zone : Zone) → LoginAsksMore zone }
     ensures login_order { LoginValuesInOrder }

@@ -14,7 +14,7 @@ use Rattle.ssh_print.specs.Responses.{Response as Shown, decision_response}
 use Rattle.ssh_trust.specs.Answer.{Gives, OfClaim, RefusesAs, if_short}
 use Rattle.ssh_questions.specs.Audits.{Deciding, answer_over, or_vouch_fault}
 use Rattle.ssh_questions.specs.FileAnswers.{AuditsFile, AuditsVouched}
-use Rattle.ssh_questions.specs.Resting.{RestsOn, VouchAlike, first_resting, kept_by, kept_of, second_resting, sought_in}
+use Rattle.ssh_questions.specs.Resting.{RestsOn, VouchAlike, first_resting, kept_by, evidence_found, second_resting, sought_in}
 use Rattle.ssh_questions.proofs.ChosenLemmas.{told}
 
 -- ---- what is sought
@@ -76,7 +76,7 @@ two-alike x y vouched false true one two = (other y x vouched two one, (first-vo
 two-alike x y vouched false false one two = (one, (two, tt))
 
 kept-alike : (evidence vouched : List Signed) (found : Found) → length evidence ≤ 2 → AreFound (first_resting evidence) (second_resting evidence) vouched found
-    → VouchAlike (kept_of evidence found) vouched evidence
+    → VouchAlike (evidence_found evidence found) vouched evidence
 kept-alike [] vouched found few are = tt
 kept-alike (x ∷ []) vouched found few are = one-alike x vouched found.first found.second are.0 are.1
 kept-alike (x ∷ y ∷ []) vouched found few are = two-alike x y vouched found.first found.second are.0 are.1
@@ -85,13 +85,13 @@ kept-alike (x ∷ y ∷ z ∷ more) vouched found few are = absurd (omega (arith
 -- ---- what is answered
 
 answer-same : (by : Deciding) (rests : Result (List Signed) AuditError) (vouched : List Signed) (found : Found) (file : Option (List ℕ)) → RestsOn by rests
-    → AreFound (first_resting (sought_in rests)) (second_resting (sought_in rests)) vouched found → answer_over by (kept_of (sought_in rests) found) file ≡ answer_over by vouched file
+    → AreFound (first_resting (sought_in rests)) (second_resting (sought_in rests)) vouched found → answer_over by (evidence_found (sought_in rests) found) file ≡ answer_over by vouched file
 answer-same (Err e) rests vouched found None rest are = refl
 answer-same (Err e) rests vouched found (Some file) rest are = refl
 answer-same (Ok decision) (Err e) vouched found file rest are = absurd rest
 answer-same (Ok decision) (Ok evidence) vouched found None rest are = refl
 answer-same (Ok decision) (Ok evidence) vouched found (Some file) rest are =
-    ap (if_short file) (rest.1 file (kept_of evidence found) vouched (kept-alike evidence vouched found rest.0 are))
+    ap (if_short file) (rest.1 file (evidence_found evidence found) vouched (kept-alike evidence vouched found rest.0 are))
 
 audits-all : (by : Deciding) (name : List ℕ) (a b : List Signed) (s : SourceState) (u : Option SourceState) (r : Shown) → answer_over by a (bytes_at s name) ≡ answer_over by b (bytes_at s name)
     → AuditsFile by name a s u r → AuditsFile by name b s u r
@@ -100,14 +100,14 @@ audits-all by name a b s u r same (inr h) = inr h
 
 audits-told : (by : Deciding) (rests : Result (List Signed) AuditError) (found : Found) (name file : List ℕ) (s : SourceState) (u : Option SourceState) (r : Shown) → RestsOn by rests
     → TellsOf (first_resting (sought_in rests)) (second_resting (sought_in rests)) file (Ok found)
-    → AuditsFile by name (kept_of (sought_in rests) found) s u r → AuditsVouched by name (or_vouch_fault (vouched_of file)) s u r
+    → AuditsFile by name (evidence_found (sought_in rests) found) s u r → AuditsVouched by name (or_vouch_fault (vouched_of file)) s u r
 audits-told by rests found name file s u r rest (vouched, read, are) h =
     rw read
-    (audits-all by name (kept_of (sought_in rests) found) vouched s u r (answer-same by rests vouched found (bytes_at s name) rest are) h)
+    (audits-all by name (evidence_found (sought_in rests) found) vouched s u r (answer-same by rests vouched found (bytes_at s name) rest are) h)
 
 -- the response by what was found is the one by all that is vouched for
 pub found_responds : {R E : Type 0} (view : R → Shown) (by : Deciding) (rests : Result (List Signed) AuditError) (evidence kept : List Signed) (found : Found) (name file : List ℕ)
-    (o u : Option SourceState) (res : Result R E) → RestsOn by rests → evidence ≡ sought_in rests → kept ≡ kept_of evidence found
+    (o u : Option SourceState) (res : Result R E) → RestsOn by rests → evidence ≡ sought_in rests → kept ≡ evidence_found evidence found
     → TellsOf (first_resting evidence) (second_resting evidence) file (Ok found)
     → IfTells o (λ s. IfOk res (λ r. AuditsFile by name kept s u (view r)))
     → IfTells o (λ s. IfOk res (λ r. AuditsVouched by name (or_vouch_fault (vouched_of file)) s u (view r)))
@@ -115,4 +115,4 @@ found_responds view by rests evidence kept found name file None u res rest is ke
 found_responds view by rests evidence kept found name file (Some s) u (Err e) rest is keeps tells h = λ counts. tt
 found_responds view by rests evidence kept found name file (Some s) u (Ok r) rest is keeps tells h = λ counts.
     audits-told by rests found name file s u (view r) rest (subst (λ e. TellsOf (first_resting e) (second_resting e) file (Ok found)) is tells)
-    (subst (λ e. AuditsFile by name (kept_of e found) s u (view r)) is (subst (λ k. AuditsFile by name k s u (view r)) keeps (h counts)))
+    (subst (λ e. AuditsFile by name (evidence_found e found) s u (view r)) is (subst (λ k. AuditsFile by name k s u (view r)) keeps (h counts)))

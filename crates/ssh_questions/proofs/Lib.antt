@@ -1,5 +1,6 @@
 pub mod SourceLemmas
 pub mod AuditLemmas
+pub mod TextLemmas
 mod ChosenLemmas
 mod OthersLemmas
 mod QuestionLemmas

@@ -16,14 +16,16 @@ use Rattle.ssh_words.specs.Asked.{AuditFiles}
 use Rattle.ssh_questions.specs.Audits.{Audits, login_by}
 use Rattle.ssh_questions.specs.Logins.{RespondsInZone, login_spelled}
 use Rattle.ssh_words.specs.Spelling.{RespondsTo, audit_files, given, needed, or_fault, value, value_or}
+use Rattle.ssh_words.specs.Texts.{spelled_by}
+use Rattle.ssh_questions.specs.Texts.{OptionTexts}
 use Rattle.ssh_words.proofs.AnsweredLemmas.{spelled_so}
 
 -- ---- values
 
 -- the login of these values
-pub login_is_spelled : (rows : List Row) (told : Option TimeZone) (offered signature session user : List ℕ) (now : ℕ) (zone : TimeZone) (empty : EmptyPrincipals) (bits : ℕ) (algorithm address : List ℕ)
-    → value (decoded_of standard) option.Offer rows ≡ Ok offered
-    → value hex_bytes option.Signature rows ≡ Ok signature
+pub login_is_spelled : (rows : List Row) (told : Option TimeZone) (texts : OptionTexts) (offered signature session user : List ℕ) (now : ℕ) (zone : TimeZone) (empty : EmptyPrincipals) (bits : ℕ) (algorithm address : List ℕ)
+    → spelled_by (decoded_of standard) texts.offer ≡ Ok offered
+    → spelled_by hex_bytes texts.signature ≡ Ok signature
     → value short_hex option.Session rows ≡ Ok session
     → value short_bytes option.User rows ≡ Ok user
     → value (number_below (2 ^ 64)) option.Now rows ≡ Ok now
@@ -32,7 +34,7 @@ pub login_is_spelled : (rows : List Row) (told : Option TimeZone) (offered signa
     → value_or 0 (number_below (2 ^ 32)) option.RsaMinimum rows ≡ Ok bits
     → needed option.Algorithm rows ≡ Ok algorithm
     → needed option.Address rows ≡ Ok address
-    → login_spelled rows told ≡ Ok (record {
+    → login_spelled rows told texts ≡ Ok (record {
       offered = offered;
       signature = signature;
       algorithm = algorithm;
@@ -46,21 +48,21 @@ pub login_is_spelled : (rows : List Row) (told : Option TimeZone) (offered signa
       rsa_minimum = bits;
     })
 unfolding login_spelled
-login_is_spelled rows told offered signature session user now zone empty bits algorithm address a b c d e f g h i j = rw (a, b, c, d, e, f, g, h, i, j) refl
+login_is_spelled rows told texts offered signature session user now zone empty bits algorithm address a b c d e f g h i j = rw (a, b, c, d, e, f, g, h, i, j) refl
 
 -- ---- answers
 
-login-by : (rows : List Row) (told : Option TimeZone) (f : AuditFiles) (p q : Login) (s : SourceState) (t : Option SourceState) (r : Shown) → audit_files rows ≡ Ok f
-    → login_spelled rows told ≡ Ok q → p ≡ q → Audits (login_by p) f s t r → RespondsInZone rows told s t r
-login-by rows told f p q s t r files spelled same h =
-    spelled_so (λ names. RespondsTo (λ login. Audits (login_by login) names) (login_spelled rows told)) (audit_files rows) f s t r files
-    (spelled_so (λ login. Audits (login_by login) f) (login_spelled rows told) q s t r spelled (subst (λ (x : Login). Audits (login_by x) f s t r) same h))
+login-by : (rows : List Row) (told : Option TimeZone) (texts : OptionTexts) (f : AuditFiles) (p q : Login) (s : SourceState) (t : Option SourceState) (r : Shown) → audit_files rows ≡ Ok f
+    → login_spelled rows told texts ≡ Ok q → p ≡ q → Audits (login_by p) f s t r → RespondsInZone rows told texts s t r
+login-by rows told texts f p q s t r files spelled same h =
+    spelled_so (λ names. RespondsTo (λ login. Audits (login_by login) names) (login_spelled rows told texts)) (audit_files rows) f s t r files
+    (spelled_so (λ login. Audits (login_by login) f) (login_spelled rows told texts) q s t r spelled (subst (λ (x : Login). Audits (login_by x) f s t r) same h))
 
 -- what is answered to the login that the options spell is answered to the options
-pub login_responds : {R E : Type 0} (view : R → Shown) (rows : List Row) (told : Option TimeZone) (f : AuditFiles) (p q : Login) (o t : Option SourceState) (res : Result R E)
-    → audit_files rows ≡ Ok f → login_spelled rows told ≡ Ok q → p ≡ q
+pub login_responds : {R E : Type 0} (view : R → Shown) (rows : List Row) (told : Option TimeZone) (texts : OptionTexts) (f : AuditFiles) (p q : Login) (o t : Option SourceState) (res : Result R E)
+    → audit_files rows ≡ Ok f → login_spelled rows told texts ≡ Ok q → p ≡ q
     → IfTells o (λ s. IfOk res (λ r. Audits (login_by p) f s t (view r)))
-    → IfTells o (λ s. IfOk res (λ r. RespondsInZone rows told s t (view r)))
-login_responds view rows told f p q None t res files spelled same h = tt
-login_responds view rows told f p q (Some s) t (Err x) files spelled same h = λ counts. tt
-login_responds view rows told f p q (Some s) t (Ok r) files spelled same h = λ counts. login-by rows told f p q s t (view r) files spelled same (h counts)
+    → IfTells o (λ s. IfOk res (λ r. RespondsInZone rows told texts s t (view r)))
+login_responds view rows told texts f p q None t res files spelled same h = tt
+login_responds view rows told texts f p q (Some s) t (Err x) files spelled same h = λ counts. tt
+login_responds view rows told texts f p q (Some s) t (Ok r) files spelled same h = λ counts. login-by rows told texts f p q s t (view r) files spelled same (h counts)

@@ -12,12 +12,14 @@ use Rattle.ssh_print.specs.Responses.{Response}
 use Rattle.ssh_words.specs.declared.options.OptionName.TheVariants as option
 use Rattle.ssh_questions.specs.Audits.{Audits, host_by}
 use Rattle.ssh_words.specs.Spelling.{RespondsTo, audit_files, needed, value, value_or}
+use Rattle.ssh_words.specs.Texts.{spelled_by, text_places}
+use Rattle.ssh_questions.specs.Texts.{OptionTexts, RespondsByTexts}
 
--- the host's key that the options spell, or the first value that is none, in this order
-unfoldable pub host_spelled : List Row → Result HostCheck Response
-host_spelled rows = do
-  offered ← value (decoded_of standard) option.Offer rows
-  signature ← value hex_bytes option.Signature rows
+-- the host's key that the options spell, the texts being read; or the first value that is none, in this order
+unfoldable pub host_spelled : List Row → OptionTexts → Result HostCheck Response
+host_spelled rows texts = do
+  offered ← spelled_by (decoded_of standard) texts.offer
+  signature ← spelled_by hex_bytes texts.signature
   exchange_hash ← value hex_bytes option.Hash rows
   port ← value (number_below (2 ^ 16)) option.Port rows
   now ← value (number_below (2 ^ 64)) option.Now rows
@@ -35,6 +37,10 @@ host_spelled rows = do
     rsa_minimum = rsa_minimum;
   })
 
--- what the files answer to the host's key that is spelled
+-- what the files answer to the host's key that is spelled by these texts
+abbrev pub RespondsToHostKey : List Row → OptionTexts → SourceState → Option SourceState → Response → Type 0
+RespondsToHostKey rows texts = RespondsTo (λ files. RespondsTo (λ check. Audits (host_by check) files) (host_spelled rows texts)) (audit_files rows)
+
+-- the same by the texts that words or files give
 abbrev pub RespondsToHost : List Row → SourceState → Option SourceState → Response → Type 0
-RespondsToHost rows = RespondsTo (λ files. RespondsTo (λ check. Audits (host_by check) files) (host_spelled rows)) (audit_files rows)
+RespondsToHost rows = RespondsTo (RespondsByTexts (RespondsToHostKey rows)) (text_places rows)

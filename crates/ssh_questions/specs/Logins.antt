@@ -13,12 +13,14 @@ use Rattle.ssh_print.specs.Responses.{Response}
 use Rattle.ssh_words.specs.declared.options.OptionName.TheVariants as option
 use Rattle.ssh_questions.specs.Audits.{Audits, login_by}
 use Rattle.ssh_words.specs.Spelling.{RespondsTo, audit_files, given, needed, or_fault, value, value_or}
+use Rattle.ssh_words.specs.Texts.{spelled_by, text_places}
+use Rattle.ssh_questions.specs.Texts.{OptionTexts, RespondsByTexts}
 
--- the login that the options spell, the zone being read; or the first value that is none, in this order
-unfoldable pub login_spelled : List Row → Option TimeZone → Result Login Response
-login_spelled rows zone = do
-  offered ← value (decoded_of standard) option.Offer rows
-  signature ← value hex_bytes option.Signature rows
+-- the login that the options spell, the zone and the texts being read; or the first value that is none, in this order
+unfoldable pub login_spelled : List Row → Option TimeZone → OptionTexts → Result Login Response
+login_spelled rows zone texts = do
+  offered ← spelled_by (decoded_of standard) texts.offer
+  signature ← spelled_by hex_bytes texts.signature
   session ← value short_hex option.Session rows
   user ← value short_bytes option.User rows
   now ← value (number_below (2 ^ 64)) option.Now rows
@@ -41,10 +43,11 @@ login_spelled rows zone = do
     rsa_minimum = rsa_minimum;
   })
 
--- what the files answer to the login that is spelled in this zone
-abbrev pub RespondsInZone : List Row → Option TimeZone → SourceState → Option SourceState → Response → Type 0
-RespondsInZone rows zone = RespondsTo (λ files. RespondsTo (λ login. Audits (login_by login) files) (login_spelled rows zone)) (audit_files rows)
+-- what the files answer to the login that is spelled in this zone by these texts
+abbrev pub RespondsInZone : List Row → Option TimeZone → OptionTexts → SourceState → Option SourceState → Response → Type 0
+RespondsInZone rows zone texts = RespondsTo (λ files. RespondsTo (λ login. Audits (login_by login) files) (login_spelled rows zone texts)) (audit_files rows)
 
--- the same in the zone of the option's text
+-- the same in the zone of the option's text, by the texts that words or files give
 abbrev pub RespondsToLogin : List Row → SourceState → Option SourceState → Response → Type 0
-RespondsToLogin rows s t r = (zone : Option TimeZone) × ReadsZone (zone_text (given option.Zone rows)) zone × RespondsInZone rows zone s t r
+RespondsToLogin rows s t r = (zone : Option TimeZone) × ReadsZone (zone_text (given option.Zone rows)) zone
+    × RespondsTo (RespondsByTexts (RespondsInZone rows zone)) (text_places rows) s t r

@@ -38,5 +38,5 @@ kept_by true false evidence = take 1 evidence
 kept_by false true evidence = drop 1 evidence
 kept_by false false evidence = []
 
-abbrev pub kept_of : List Signed → Found → List Signed
-kept_of evidence found = kept_by found.first found.second evidence
+abbrev pub evidence_found : List Signed → Found → List Signed
+evidence_found evidence found = kept_by found.first found.second evidence

@@ -12,7 +12,7 @@ ghost use Rattle.ssh_questions.specs.FileAnswers.{
   is_memory,
 };
 ghost use Rattle.ssh_questions.specs.Resting.{RestsOn, first_resting, second_resting, sought_in};
-ghost use Rattle.ssh_words.specs.AskedView.{names_of};
+ghost use Rattle.ssh_words.specs.AskedView.{files_seen};
 ghost use Rattle.ssh_inputs.specs.Seeking.{TellsOf};
 ghost use Rattle.ssh_print.specs.ResponseView.{response};
 ghost use Rattle.ssh_inputs.specs.Loading.{KeepsOthers};
@@ -142,9 +142,9 @@ fn respond_sought<Q: Question, F: Files>(
 ) -> Result<Response, AllocError>
     requires evidence { evidence.now ≡ sought_in (Q.rests_on question.now) }
     requires rests { RestsOn (Q.decides question.now) (Q.rests_on question.now) }
-    requires vouch { (names_of names.now).vouch ≡ Some name.now }
+    requires vouch { (files_seen names.now).vouch ≡ Some name.now }
     ensures { IfTells (F.source_state files.old) (λ s. IfOk result (λ r.
-        Audits (Q.decides question.entry.now) (names_of names.entry.now) s
+        Audits (Q.decides question.entry.now) (files_seen names.entry.now) s
         (F.source_state files.new) (response r))) }
 {
     let (first, second) = first_two(evidence);
@@ -162,7 +162,7 @@ pub fn respond_question<Q: Question, F: Files>(
     files: &mut F,
 ) -> Result<Response, AllocError>
     ensures { IfTells (F.source_state files.old) (λ s. IfOk result (λ r.
-        Audits (Q.decides question.entry.now) (names_of names.entry.now) s
+        Audits (Q.decides question.entry.now) (files_seen names.entry.now) s
         (F.source_state files.new) (response r))) }
 {
     match names.vouch {

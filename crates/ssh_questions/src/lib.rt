@@ -6,6 +6,7 @@ mod chosen;
 mod host;
 mod login;
 mod question;
+mod texts;
 mod vouching;
 
 pub use audit::{decide_by_file, is_memory, unread};

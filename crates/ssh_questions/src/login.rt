@@ -3,11 +3,13 @@
 ghost use Rattle.std.specs.Prelude.{option_map};
 ghost use Rattle.jiff.specs.Words.{plain_zone};
 ghost use Rattle.ssh_questions.specs.Logins.{RespondsInZone, RespondsToLogin};
+ghost use Rattle.ssh_questions.specs.TextsView.{texts_seen};
 ghost use Rattle.ssh_words.specs.WordsView.{IfAnswered, rows_in};
 ghost use Rattle.ssh_inputs.specs.SourceState.{IfTells};
 
 use crate::audit::respond_question;
 use crate::question::LoginQuestion;
+use crate::texts::{NoText, TakenTexts, take_texts};
 use jiff::tz::TimeZone;
 use ssh_inputs::{Files, zone_of};
 use ssh_offers::LoginQuery;
@@ -15,21 +17,22 @@ use ssh_print::Response;
 use ssh_words::{CommandError, OptionName, Words};
 use std::alloc::Global;
 
-/// The response to a login, where the zone is read.
+/// The response to a login, where the zone and the texts are read.
 #[tactic(auto, unfolding(crate::specs::Logins::login_spelled))]
 fn respond_in_zone<F: Files>(
     alloc: Global,
     words: &Words<'_>,
     zone: Option<TimeZone<'static>>,
+    texts: &TakenTexts<'_>,
     files: &mut F,
 ) -> Result<Response, CommandError>
     ensures { IfTells (F.source_state files.old) (λ s. IfAnswered result (λ r.
-        RespondsInZone (rows_in words.now) (option_map plain_zone zone.entry) s
+        RespondsInZone (rows_in words.now) (option_map plain_zone zone.entry) (texts_seen texts.now) s
         (F.source_state files.new) r)) }
 {
     let names = words.audit_files()?;
-    let offered = words.base64(alloc, OptionName::Offer)?;
-    let signature = words.hex(alloc, OptionName::Signature)?;
+    let offered = texts.offer.base64(alloc)?;
+    let signature = texts.signature.hex(alloc)?;
     let session = words.short_hex(alloc, OptionName::Session)?;
     let user = words.short_text(OptionName::User)?;
     let now = words.number(OptionName::Now)?;
@@ -65,5 +68,10 @@ pub fn respond_login<F: Files>(
         RespondsToLogin (rows_in words.now) s (F.source_state files.new) r)) }
 {
     let zone = zone_of(words.given(OptionName::Zone));
-    respond_in_zone(alloc, words, zone, files)
+    let places = words.text_places()?;
+    match take_texts(alloc, &places, files) {
+        Ok(texts) => respond_in_zone(alloc, words, zone, &texts, files),
+        Err(NoText::Told(response)) => Ok(response),
+        Err(NoText::Memory) => Err(CommandError::Memory),
+    }
 }

@@ -2,7 +2,7 @@
 
 ghost use Rattle.std.specs.Prelude.{◌≡◌, IfOk};
 ghost use Rattle.ssh_inputs.specs.Seeking.{sought_of};
-ghost use Rattle.ssh_questions.specs.Resting.{RestsOn, first_resting, kept_of, second_resting, sought_in};
+ghost use Rattle.ssh_questions.specs.Resting.{RestsOn, first_resting, evidence_found, second_resting, sought_in};
 
 use crate::question::Question;
 use ssh_inputs::Found;
@@ -35,7 +35,7 @@ pub fn first_two(evidence: &[Signed]) -> (Option<&Signed>, Option<&Signed>)
 
 /// Those of two signatures that were found.
 pub fn kept(evidence: &[Signed], found: Found) -> &[Signed]
-    ensures { result.now ≡ kept_of evidence.now found }
+    ensures { result.now ≡ evidence_found evidence.now found }
 {
     let (first, second) = evidence.split_at(evidence.len().min(1));
     match (found.first, found.second) {

@@ -1,5 +1,5 @@
 -- From values that were read, and what is answered to them, to what is answered to the options that spell them.
-use Rattle.std.proofs.Common.{◌≡◌, ℕ, List, Option, Some, None, Result, Ok, Err, option_map, subst, sym}
+use Rattle.std.proofs.Common.{◌≡◌, List, Option, Some, None, Result, Ok, Err, option_map, subst, sym}
 use Rattle.std.specs.Option.{ok_or}
 use Rattle.std.specs.Prelude.{IfOk}
 use Rattle.clap.specs.Words.{Row}

@@ -5,8 +5,8 @@ use Rattle.ssh_words.specs.declared.asked.AuditFiles.{AuditFiles}
 use Rattle.ssh_words.specs.declared.asked.SshsigQuestion.{SshsigQuestion}
 
 -- the names, without where they lie in memory
-abbrev pub names_of : AuditFiles → FileNames
-names_of f = record { trust = f.trust.now; vouch = option_map (λ s. s.now) f.vouch }
+abbrev pub files_seen : AuditFiles → FileNames
+files_seen f = record { trust = f.trust.now; vouch = option_map (λ s. s.now) f.vouch }
 
 abbrev pub question_of : SshsigQuestion → Question
 question_of q = record { body = q.body.now; message = q.message.now; namespace = q.namespace.now; vouch = option_map (λ s. s.now) q.vouch }

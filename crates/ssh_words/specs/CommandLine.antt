@@ -8,7 +8,7 @@ use Rattle.clap.specs.Simple.{on_top}
 use Rattle.ssh_words.specs.declared.options.Needed.{Needed}
 use Rattle.ssh_words.specs.declared.options.OptionName.{OptionName}
 use Rattle.ssh_words.specs.declared.subcommand.Subcommand.{Subcommand}
-use Rattle.ssh_words.specs.Options.{is_required, names_id, names_of, option_word, options_of, subcommand_name, subcommand_named, subcommands}
+use Rattle.ssh_words.specs.Options.{is_required, names_id, subcommand_operands, option_word, subcommand_options, subcommand_name, subcommand_named, subcommands}
 
 -- ---- what clap is given
 
@@ -30,15 +30,15 @@ with_names a None = a
 with_names a (Some needed) = with_rule a (names_rule needed)
 
 unfoldable pub subcommand_app : Subcommand → App
-subcommand_app c = with_names (with_options (new_app (subcommand_name c)) (options_of c)) (names_of c)
+subcommand_app c = with_names (with_options (new_app (subcommand_name c)) (subcommand_options c)) (subcommand_operands c)
 
 -- a command of these subcommands
 abbrev pub with_subcommands : App → List Subcommand → App
 with_subcommands = fold (λ a c. with_subcommand a (subcommand_app c).top)
 
 -- the program's command line: the words begin with a subcommand, which has to be there
-abbrev pub command_line : App
-command_line = on_top (λ s. record s { no_binary_name = true; subcommand_required = true }) (with_subcommands (new_app (codes "ssh_audit")) subcommands)
+abbrev pub program_app : App
+program_app = on_top (λ s. record s { no_binary_name = true; subcommand_required = true }) (with_subcommands (new_app (codes "ssh_audit")) subcommands)
 
 -- ---- what the words ask for
 
@@ -52,8 +52,8 @@ request_in p = option_map (λ c. record { subcommand = c; rows = p.1 }) (subcomm
 
 -- the request of words with these faults: none, where there is one
 abbrev pub spelled : List Text → List ErrorKind → Option Request
-spelled words [] = option_and_then request_in (subcommand_of command_line words)
+spelled words [] = option_and_then request_in (subcommand_of program_app words)
 spelled words (k ∷ ks) = None
 
 abbrev pub request_of : List Text → Option Request
-request_of words = spelled words (fault_of command_line words)
+request_of words = spelled words (fault_of program_app words)

@@ -3,6 +3,8 @@ pub mod CommandLine
 pub mod Asked
 pub mod AskedView
 pub mod Spelling
+pub mod Texts
+pub mod TextsView
 pub mod Usage
 pub mod WordsView
 pub mod Samples

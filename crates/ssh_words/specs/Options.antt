@@ -15,7 +15,9 @@ abbrev pub option_word : OptionName → Text
 option_word option.Kind = codes "kind"
 option_word option.File = codes "file"
 option_word option.Offer = codes "offer"
+option_word option.OfferFile = codes "offer-file"
 option_word option.Signature = codes "signature"
+option_word option.SignatureFile = codes "signature-file"
 option_word option.Algorithm = codes "algorithm"
 option_word option.Session = codes "session"
 option_word option.User = codes "user"
@@ -62,33 +64,34 @@ abbrev pub subcommand_named : Text → Option Subcommand
 subcommand_named name = find (λ c. bytes_eq (subcommand_name c) name) subcommands
 
 -- the options of a subcommand, and which of them have to be given
-abbrev pub options_of : Subcommand → List (OptionName × Needed)
-options_of Show = (option.Kind, Required) ∷ (option.File, Required) ∷ []
-options_of Login = (option.File, Required) ∷ (option.Offer, Required) ∷ (option.Signature, Required) ∷ (option.Algorithm, Required)
-    ∷ (option.Session, Required) ∷ (option.User, Required) ∷ (option.Address, Required) ∷ (option.Now, Required)
+abbrev pub subcommand_options : Subcommand → List (OptionName × Needed)
+subcommand_options Show = (option.Kind, Required) ∷ (option.File, Required) ∷ []
+subcommand_options Login = (option.File, Required) ∷ (option.Offer, Optional) ∷ (option.OfferFile, Optional) ∷ (option.Signature, Optional)
+    ∷ (option.SignatureFile, Optional) ∷ (option.Algorithm, Required) ∷ (option.Session, Required) ∷ (option.User, Required) ∷ (option.Address, Required) ∷ (option.Now, Required)
     ∷ (option.Host, Optional) ∷ (option.Zone, Optional) ∷ (option.Vouch, Optional)
     ∷ (option.EmptyPrincipals, Optional) ∷ (option.RsaMinimum, Optional) ∷ []
-options_of Host = (option.File, Required) ∷ (option.Offer, Required) ∷ (option.Signature, Required) ∷ (option.Hash, Required)
+subcommand_options Host = (option.File, Required) ∷ (option.Offer, Optional) ∷ (option.OfferFile, Optional) ∷ (option.Signature, Optional)
+    ∷ (option.SignatureFile, Optional) ∷ (option.Hash, Required)
     ∷ (option.Host, Required) ∷ (option.Port, Required) ∷ (option.Now, Required) ∷ (option.Vouch, Optional)
     ∷ (option.EmptyPrincipals, Optional) ∷ (option.RsaMinimum, Optional) ∷ []
-options_of Sshsig = (option.Body, Required) ∷ (option.Message, Required) ∷ (option.Namespace, Required) ∷ (option.Vouch, Optional) ∷ []
-options_of Rewrite = (option.Kind, Required) ∷ (option.File, Required) ∷ []
-options_of Hash = (option.File, Required) ∷ (option.Salts, Required) ∷ []
-options_of Admits = (option.Key, Required) ∷ (option.User, Required) ∷ (option.Address, Required) ∷ (option.Now, Required)
+subcommand_options Sshsig = (option.Body, Required) ∷ (option.Message, Required) ∷ (option.Namespace, Required) ∷ (option.Vouch, Optional) ∷ []
+subcommand_options Rewrite = (option.Kind, Required) ∷ (option.File, Required) ∷ []
+subcommand_options Hash = (option.File, Required) ∷ (option.Salts, Required) ∷ []
+subcommand_options Admits = (option.Key, Required) ∷ (option.User, Required) ∷ (option.Address, Required) ∷ (option.Now, Required)
     ∷ (option.Host, Optional) ∷ (option.Zone, Optional) ∷ (option.EmptyPrincipals, Optional) ∷ (option.RsaMinimum, Optional) ∷ []
-options_of Trusts = (option.Key, Required) ∷ (option.Host, Required) ∷ (option.Now, Required) ∷ (option.Port, Optional)
+subcommand_options Trusts = (option.Key, Required) ∷ (option.Host, Required) ∷ (option.Now, Required) ∷ (option.Port, Optional)
     ∷ (option.EmptyPrincipals, Optional) ∷ (option.RsaMinimum, Optional) ∷ []
-options_of Review = (option.Kind, Required) ∷ (option.Now, Required) ∷ (option.Zone, Optional) ∷ (option.RsaMinimum, Optional)
+subcommand_options Review = (option.Kind, Required) ∷ (option.Now, Required) ∷ (option.Zone, Optional) ∷ (option.RsaMinimum, Optional)
     ∷ (option.Findings, Optional) ∷ (option.Form, Optional) ∷ []
-options_of Explain = []
+subcommand_options Explain = []
 
 -- whether words without a dash are names, of files or of codes, and whether one has to be there at least
-abbrev pub names_of : Subcommand → Option Needed
-names_of Admits = Some Required
-names_of Trusts = Some Required
-names_of Review = Some Required
-names_of Explain = Some Optional
-names_of c = None
+abbrev pub subcommand_operands : Subcommand → Option Needed
+subcommand_operands Admits = Some Required
+subcommand_operands Trusts = Some Required
+subcommand_operands Review = Some Required
+subcommand_operands Explain = Some Optional
+subcommand_operands c = None
 
 -- what such words are called
 abbrev pub names_id : Text

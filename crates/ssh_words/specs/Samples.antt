@@ -1,17 +1,21 @@
 -- Worked words, as the definitions read them (this project's rules).
-use Rattle.std.specs.Prelude.{◌≡◌, ◌++◌, true, false, List, [], ◌∷◌, codes, Option, Some, None, map, option_and_then, option_map, refl}
+use Rattle.std.specs.Prelude.{◌≡◌, ◌++◌, true, false, List, [], ◌∷◌, codes, Option, Some, None, Result, Ok, Err, map, option_and_then, option_map, refl}
 use Rattle.clap.proofs.OnLiterals.{clap_on_literals}
 use Rattle.clap.specs.Words.{Text}
+use Rattle.ssh_print.specs.Responses.{Response, usage_response}
+use Rattle.ssh_words.specs.declared.options.OptionName.{OptionName}
+use Rattle.ssh_words.specs.declared.options.OptionName.TheVariants as option
 use Rattle.ssh_words.specs.declared.subcommand.Subcommand.{Subcommand}
 use Rattle.ssh_words.specs.declared.subcommand.Subcommand.TheVariants.{Show, Login, Host, Sshsig, Rewrite, Hash, Admits, Trusts, Review, Explain}
 use Rattle.ssh_words.specs.CommandLine.{request_of, subcommand_app}
-use Rattle.ssh_words.specs.Options.{options_of}
+use Rattle.ssh_words.specs.Options.{subcommand_options}
 use Rattle.ssh_words.specs.Spelling.{given, names_given}
+use Rattle.ssh_words.specs.Texts.{TextPlace, TextPlaces, text_places}
 use Rattle.ssh_words.specs.Usage.{asks_usage, usage_line}
 
 -- the subcommand that words ask for, and what they give to each of its options, in the order of the table
 abbrev asked : List Text → Option (Subcommand × List (Option Text))
-asked words = option_map (λ q. (q.subcommand, map (λ row. given row.0 q.rows) (options_of q.subcommand))) (request_of words)
+asked words = option_map (λ q. (q.subcommand, map (λ row. given row.0 q.rows) (subcommand_options q.subcommand))) (request_of words)
 
 abbrev login_needed : List Text
 login_needed = codes "login" ∷ codes "--file" ∷ codes "f" ∷ codes "--offer" ∷ codes "o" ∷ codes "--signature" ∷ codes "s" ∷ codes "--algorithm" ∷ codes "a"
@@ -24,8 +28,8 @@ login_more = codes "--rsa-minimum" ∷ codes "r" ∷ codes "--zone" ∷ codes "z
 abbrev login_asked : List (Option Text) → Option (Subcommand × List (Option Text))
 login_asked more = Some (
   Login,
-  Some (codes "f") ∷ Some (codes "o") ∷ Some (codes "s") ∷ Some (codes "a") ∷ Some (codes "e") ∷ Some (codes "u") ∷ Some (codes "d") ∷ Some (codes "n")
-      ∷ more,
+  Some (codes "f") ∷ Some (codes "o") ∷ None ∷ Some (codes "s") ∷ None ∷ Some (codes "a") ∷ Some (codes "e") ∷ Some (codes "u") ∷ Some (codes "d")
+      ∷ Some (codes "n") ∷ more,
 )
 
 -- the options of `login`, of which the last five may be left out
@@ -45,7 +49,7 @@ host_needed = codes "host" ∷ codes "--port" ∷ codes "p" ∷ codes "--file" �
 abbrev host_asked : List (Option Text) → Option (Subcommand × List (Option Text))
 host_asked more = Some (
   Host,
-  Some (codes "f") ∷ Some (codes "o") ∷ Some (codes "s") ∷ Some (codes "x") ∷ Some (codes "h") ∷ Some (codes "p") ∷ Some (codes "n") ∷ more,
+  Some (codes "f") ∷ Some (codes "o") ∷ None ∷ Some (codes "s") ∷ None ∷ Some (codes "x") ∷ Some (codes "h") ∷ Some (codes "p") ∷ Some (codes "n") ∷ more,
 )
 
 -- those of `host`, in any order
@@ -56,6 +60,30 @@ HostsAsked = (asked host_needed ≡ host_asked (None ∷ None ∷ None ∷ []))
 pub hosts_asked : HostsAsked
 unfolding subcommand_app clap_on_literals
 hosts_asked = (refl, refl)
+
+-- where the texts of an offer and of its signature stand, by the words of a host's key
+abbrev texts_asked : List Text → Option (Result TextPlaces Response)
+texts_asked words = option_map (λ q. text_places q.rows) (request_of (codes "host" ∷ codes "--port" ∷ codes "p" ∷ codes "--file" ∷ codes "f"
+    ∷ codes "--hash" ∷ codes "x" ∷ codes "--host" ∷ codes "h" ∷ codes "--now" ∷ codes "n" ∷ words))
+
+abbrev word_of : OptionName → Text → TextPlace
+word_of o text = TextPlace.in_word (record { option = o; text = text })
+
+abbrev file_of : OptionName → Text → TextPlace
+file_of o name = TextPlace.in_file (record { option = o; text = name })
+
+-- each in a word or in a file, and neither in both nor in none
+abbrev pub TextsAsked : Type 0
+TextsAsked = (texts_asked (codes "--offer" ∷ codes "o" ∷ codes "--signature" ∷ codes "s" ∷ [])
+    ≡ Some (Ok (record { offer = word_of option.Offer (codes "o"); signature = word_of option.Signature (codes "s") })))
+    × (texts_asked (codes "--signature" ∷ codes "s" ∷ codes "--offer-file" ∷ codes "a.pub" ∷ [])
+    ≡ Some (Ok (record { offer = file_of option.OfferFile (codes "a.pub"); signature = word_of option.Signature (codes "s") })))
+    × (texts_asked (codes "--offer-file" ∷ codes "a.pub" ∷ codes "--offer" ∷ codes "o" ∷ codes "--signature-file" ∷ codes "s" ∷ []) ≡ Some (Err usage_response))
+    × (texts_asked (codes "--offer" ∷ codes "o" ∷ []) ≡ Some (Err usage_response))
+
+pub texts_are_asked : TextsAsked
+unfolding subcommand_app clap_on_literals
+texts_are_asked = (refl, refl, refl, refl)
 
 -- those of the other commands
 abbrev pub OthersAsked : Type 0

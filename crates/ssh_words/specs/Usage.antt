@@ -8,7 +8,7 @@ use Rattle.ssh_words.specs.declared.options.Needed.{Needed}
 use Rattle.ssh_words.specs.declared.options.Needed.TheVariants.{Required, Optional}
 use Rattle.ssh_words.specs.declared.options.OptionName.{OptionName}
 use Rattle.ssh_words.specs.declared.subcommand.Subcommand.{Subcommand}
-use Rattle.ssh_words.specs.Options.{names_id, names_of, option_word, options_of, subcommand_name, subcommands}
+use Rattle.ssh_words.specs.Options.{names_id, subcommand_operands, option_word, subcommand_options, subcommand_name, subcommands}
 
 -- brackets stand around what may be left out, and a space before it
 abbrev pub opened : Needed → Text
@@ -30,7 +30,7 @@ usage_names (Some needed) = opened needed ++ names_id ++ codes ".." ++ closed ne
 
 -- the line of a subcommand, which ends with an LF
 unfoldable pub usage_line : Subcommand → Text
-usage_line c = codes "ssh_audit " ++ subcommand_name c ++ flat_map usage_option (options_of c) ++ usage_names (names_of c) ++ codes "\n"
+usage_line c = codes "ssh_audit " ++ subcommand_name c ++ flat_map usage_option (subcommand_options c) ++ usage_names (subcommand_operands c) ++ codes "\n"
 
 -- the lines of all, in the order of the table
 unfoldable pub usage_lines : Text

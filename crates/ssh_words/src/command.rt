@@ -3,7 +3,7 @@
 ghost use Rattle.std.specs.Prelude.{◌≡◌, IfOk};
 ghost use Rattle.clap.specs.Words.{app_of, with_rule, with_subcommand};
 ghost use Rattle.ssh_words.specs.CommandLine.{
-  command_line,
+  program_app,
   names_rule,
   option_rule,
   subcommand_app,
@@ -109,7 +109,7 @@ fn with_subcommands<'a>(
 
 /// The program's command line.
 pub fn program<'a>(alloc: Global) -> Result<Command<'a>, AllocError>
-    ensures { IfOk result (λ c. app_of c ≡ command_line) }
+    ensures { IfOk result (λ c. app_of c ≡ program_app) }
 {
     let command = Command::new(alloc, "ssh_audit");
     let command = with_subcommands(alloc, command, Subcommand::all())?;

@@ -11,6 +11,7 @@ mod parsing;
 mod request;
 mod samples;
 mod subcommand;
+mod texts;
 mod usage;
 mod words;
 
@@ -20,5 +21,6 @@ pub use options::{Needed, OptionName};
 pub use parsing::parse;
 pub use request::{Request, WordsError};
 pub use subcommand::{OptionRow, Subcommand};
+pub use texts::{TextPlace, TextPlaces};
 pub use usage::{asks_usage, usage_lines};
 pub use words::Words;

@@ -1,11 +1,18 @@
 //! The options of the subcommands.
 
-ghost use Rattle.std.specs.Prelude.{◌≡◌};
+ghost use Rattle.std.specs.Prelude.{◌≡◌, ◌≢◌, false};
 ghost use Rattle.std.specs.Option.{ok_or};
-ghost use Rattle.ssh_words.specs.declared.error.CommandError.TheVariants.{Value};
+ghost use Rattle.base64.specs.Engines.{standard};
+ghost use Rattle.base64.specs.GeneralPurpose.{decoded_of};
+ghost use Rattle.ssh_inputs.specs.Values.{has_pairs, hex_bytes};
+ghost use Rattle.ssh_words.specs.declared.error.CommandError.TheVariants.{Memory, Value};
 ghost use Rattle.ssh_words.specs.Options.{is_required, option_word};
+ghost use Rattle.ssh_words.specs.Spelling.{or_fault};
+ghost use Rattle.ssh_words.specs.WordsView.{Spells};
 
 use crate::error::CommandError;
+use ssh_inputs::{decode, read_hex};
+use std::alloc::Global;
 
 /// An option, which takes a value.
 #[derive(Clone, Copy, Debug, PartialEq, Eq)]
@@ -13,7 +20,9 @@ pub enum OptionName {
     Kind,
     File,
     Offer,
+    OfferFile,
     Signature,
+    SignatureFile,
     Algorithm,
     Session,
     User,
@@ -44,7 +53,9 @@ impl OptionName {
             OptionName::Kind => "kind",
             OptionName::File => "file",
             OptionName::Offer => "offer",
+            OptionName::OfferFile => "offer-file",
             OptionName::Signature => "signature",
+            OptionName::SignatureFile => "signature-file",
             OptionName::Algorithm => "algorithm",
             OptionName::Session => "session",
             OptionName::User => "user",
@@ -72,6 +83,24 @@ impl OptionName {
         ensures { result ≡ ok_or value (Value self) }
     {
         value.ok_or(CommandError::Value(self))
+    }
+
+    /// The bytes that a text of this option is the base64 of.
+    pub fn base64(self, alloc: Global, text: &[u8]) -> Result<Vec<u8>, CommandError>
+        ensures { Spells (λ v. v.items) (or_fault self (decoded_of standard text.now)) result }
+    {
+        let bytes = decode(alloc, text)?;
+        self.or_fault(bytes)
+    }
+
+    /// The bytes that a text of this option spells in hexadecimal.
+    pub fn hex(self, alloc: Global, text: &[u8]) -> Result<Vec<u8>, CommandError>
+        ensures value { Spells (λ v. v.items) (or_fault self (hex_bytes text.now)) result }
+        // Only pairs of digits take memory.
+        ensures spare { has_pairs text.now ≡ false → result ≢ Err Memory }
+    {
+        let bytes = read_hex(alloc, text)?;
+        self.or_fault(bytes)
     }
 }
 

@@ -6,6 +6,7 @@ ghost use Rattle.ssh_words.specs.Samples.{
   LoginsAsked,
   OthersAsked,
   ReviewsAsked,
+  TextsAsked,
   UsageTold,
   WordsRefused,
 };
@@ -14,6 +15,7 @@ ghost use Rattle.ssh_words.specs.Samples.{
 fn words_as_asked()
     ensures logins { LoginsAsked }
     ensures hosts { HostsAsked }
+    ensures texts { TextsAsked }
     ensures keys { KeysAsked }
     ensures others { OthersAsked }
     ensures reviews { ReviewsAsked }

@@ -2,8 +2,8 @@
 
 ghost use Rattle.std.specs.Prelude.{◌≡◌};
 ghost use Rattle.ssh_words.specs.Options.{
-  names_of,
-  options_of,
+  subcommand_operands,
+  subcommand_options,
   subcommand_name,
   subcommand_named,
   subcommands,
@@ -45,10 +45,12 @@ const SUBCOMMANDS: [Subcommand; 10] = [
 
 const SHOW: [OptionRow; 2] = [(OptionName::Kind, Required), (OptionName::File, Required)];
 
-const LOGIN: [OptionRow; 13] = [
+const LOGIN: [OptionRow; 15] = [
     (OptionName::File, Required),
-    (OptionName::Offer, Required),
-    (OptionName::Signature, Required),
+    (OptionName::Offer, Optional),
+    (OptionName::OfferFile, Optional),
+    (OptionName::Signature, Optional),
+    (OptionName::SignatureFile, Optional),
     (OptionName::Algorithm, Required),
     (OptionName::Session, Required),
     (OptionName::User, Required),
@@ -61,10 +63,12 @@ const LOGIN: [OptionRow; 13] = [
     (OptionName::RsaMinimum, Optional),
 ];
 
-const HOST: [OptionRow; 10] = [
+const HOST: [OptionRow; 12] = [
     (OptionName::File, Required),
-    (OptionName::Offer, Required),
-    (OptionName::Signature, Required),
+    (OptionName::Offer, Optional),
+    (OptionName::OfferFile, Optional),
+    (OptionName::Signature, Optional),
+    (OptionName::SignatureFile, Optional),
     (OptionName::Hash, Required),
     (OptionName::Host, Required),
     (OptionName::Port, Required),
@@ -152,7 +156,7 @@ impl Subcommand {
 
     /// Its options.
     pub fn options(self) -> &'static [OptionRow]
-        ensures { result.now ≡ options_of self }
+        ensures { result.now ≡ subcommand_options self }
     {
         match self {
             Subcommand::Show => &SHOW,
@@ -171,7 +175,7 @@ impl Subcommand {
     /// Whether its words without a dash are names, of files or of codes, and whether one has to be
     /// there at least.
     pub fn names(self) -> Option<Needed>
-        ensures { result ≡ names_of self }
+        ensures { result ≡ subcommand_operands self }
     {
         match self {
             Subcommand::Admits | Subcommand::Trusts | Subcommand::Review => Some(Required),

@@ -10,11 +10,8 @@ ghost use Rattle.std.specs.Prelude.{
   map,
   option_map,
   IfOk,
-  None,
 };
-ghost use Rattle.base64.specs.Engines.{standard};
-ghost use Rattle.base64.specs.GeneralPurpose.{decoded_of};
-ghost use Rattle.ssh_words.specs.AskedView.{names_of, question_of};
+ghost use Rattle.ssh_words.specs.AskedView.{files_seen, question_of};
 ghost use Rattle.ssh_words.specs.Spelling.{
   audit_files,
   given,
@@ -27,6 +24,8 @@ ghost use Rattle.ssh_words.specs.Spelling.{
   value,
   value_or,
 };
+ghost use Rattle.ssh_words.specs.Texts.{text_place, text_places};
+ghost use Rattle.ssh_words.specs.TextsView.{place_seen, places_seen};
 ghost use Rattle.ssh_words.specs.WordsView.{Spells, rows_in};
 ghost use Rattle.ssh_inputs.specs.Values.{
   empty_principals_of,
@@ -42,10 +41,10 @@ ghost use Rattle.ssh_words.specs.declared.options.OptionName.TheVariants as opti
 use crate::asked::{AuditFiles, SshsigQuestion};
 use crate::error::CommandError;
 use crate::options::OptionName;
+use crate::texts::{TextPlace, TextPlaces};
 use clap::ArgMatches;
 use ssh_inputs::{
-    decode, is_short, read_bits, read_empty_principals, read_hex, read_number, read_port,
-    read_short_hex,
+    is_short, read_bits, read_empty_principals, read_hex, read_number, read_port, read_short_hex,
 };
 use ssh_offers::EmptyPrincipals;
 use std::alloc::Global;
@@ -92,18 +91,6 @@ impl<'a> Words<'a> {
         ensures { Spells (λ s. s.now) (needed option (rows_in self.now)) result }
     {
         self.given(option).ok_or(CommandError::Usage)
-    }
-
-    /// The bytes that the text is the base64 of.
-    pub fn base64(&self, alloc: Global, option: OptionName) -> Result<Vec<u8>, CommandError>
-        ensures value { Spells (λ v. v.items) (value (decoded_of standard) option
-            (rows_in self.now)) result }
-        // An option that is not given takes no memory.
-        ensures spare { given option (rows_in self.now) ≡ None → result ≢ Err Memory }
-    {
-        let text = self.given(option).ok_or(CommandError::Usage)?;
-        let bytes = decode(alloc, text.as_bytes())?;
-        option.or_fault(bytes)
     }
 
     /// The bytes that the text spells in hexadecimal.
@@ -198,9 +185,31 @@ impl<'a> Words<'a> {
         OptionName::RsaMinimum.or_fault(read)
     }
 
+    /// Where the text stands that one option gives as a word, and the other as the name of a file. One
+    /// of them has to be given, and not both.
+    fn text_place(&self, word: OptionName, file: OptionName) -> Result<TextPlace<'a>, CommandError>
+        ensures { Spells place_seen (text_place word file (rows_in self.now)) result }
+    {
+        match (self.given(word), self.given(file)) {
+            (Some(text), None) => Ok(TextPlace::Word(word, text)),
+            (None, Some(name)) => Ok(TextPlace::File(file, name)),
+            _ => Err(CommandError::Usage),
+        }
+    }
+
+    /// Where the texts of an offer and of its signature stand, each of them in a word or in a file.
+    pub fn text_places(&self) -> Result<TextPlaces<'a>, CommandError>
+        ensures { Spells places_seen (text_places (rows_in self.now)) result }
+    {
+        Ok(TextPlaces {
+            offer: self.text_place(OptionName::Offer, OptionName::OfferFile)?,
+            signature: self.text_place(OptionName::Signature, OptionName::SignatureFile)?,
+        })
+    }
+
     /// The names of the files of an audit.
     pub fn audit_files(&self) -> Result<AuditFiles<'a>, CommandError>
-        ensures { Spells names_of (audit_files (rows_in self.now)) result }
+        ensures { Spells files_seen (audit_files (rows_in self.now)) result }
     {
         Ok(AuditFiles {
             trust: self.needed(OptionName::File)?,

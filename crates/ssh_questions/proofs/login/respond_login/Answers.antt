@@ -1,14 +1,34 @@
 use Rattle.std.proofs.Common.{List, Option, option_map, subst, ℕ}
 use Rattle.jiff.specs.Words.{plain_zone}
 use Rattle.ssh_inputs.specs.Values.{ReadsZone, zone_text}
+use Rattle.ssh_words.specs.Spelling.{RespondsTo}
+use Rattle.ssh_words.specs.Texts.{text_places}
+use Rattle.ssh_words.specs.TextsView.{places_seen}
 use Rattle.ssh_words.specs.WordsView.{rows_in}
 use Rattle.ssh_words.proofs.AnsweredLemmas.{zone_responds}
 use Rattle.ssh_questions.specs.Logins.{RespondsInZone}
+use Rattle.ssh_questions.specs.Texts.{RespondsByTexts}
+use Rattle.ssh_questions.proofs.TextLemmas.{login-same, text_told, texts_answered, zone_told}
 use Rattle.ssh_questions.proofs.login.respond_login.Goals as goal
 
-pub returns : goal.returns
-returns g c =
-    zone_responds (RespondsInZone (rows_in c.args.words.now)) (rows_in c.args.words.now) (option_map plain_zone c.zone_of-zone.result)
+pub returns-in-Ok : goal.returns-in-Ok
+returns-in-Ok g c =
+    let rows = rows_in c.args.words.now in
+    let told = option_map plain_zone c.zone_of-zone.result in
+    zone_responds (λ zone. RespondsTo (RespondsByTexts (RespondsInZone rows zone)) (text_places rows)) rows told
     (g.F.Files.source_state c.args.files.now) (g.F.Files.source_state c.respond_in_zone.new.files) c.respond_in_zone.result
-    (subst (λ (o : Option (List ℕ)). ReadsZone (zone_text o) (option_map plain_zone c.zone_of-zone.result)) c.given.ensures c.zone_of-zone.ensures)
-    c.respond_in_zone.ensures
+    (subst (λ (o : Option (List ℕ)). ReadsZone (zone_text o) told) c.given.ensures c.zone_of-zone.ensures)
+    (texts_answered (RespondsInZone rows told) (login-same rows told) (text_places rows) (places_seen c.in_ok-places.places)
+    (g.F.Files.source_state c.args.files.now) (g.F.Files.source_state c.take_texts.new.files) (g.F.Files.source_state c.respond_in_zone.new.files)
+    c.in-Ok.texts c.respond_in_zone.result c.in_ok-places.ensures c.in-Ok.ensures c.respond_in_zone.ensures)
+
+pub returns-in-Err-Told : goal.returns-in-Err-Told
+returns-in-Err-Told g c =
+    let rows = rows_in c.args.words.now in
+    let told = option_map plain_zone c.zone_of-zone.result in
+    let read = subst (λ (o : Option (List ℕ)). ReadsZone (zone_text o) told) c.given.ensures c.zone_of-zone.ensures in
+    rw c.in-Err-Told.response-is (zone_told (λ zone. RespondsTo (RespondsByTexts (RespondsInZone rows zone)) (text_places rows)) rows told
+    (g.F.Files.source_state c.args.files.now) (g.F.Files.source_state c.take_texts.new.files) c.in-Err-Told.response read
+    (text_told (RespondsInZone rows told) (text_places rows) (places_seen c.in_ok-places.places)
+    (g.F.Files.source_state c.args.files.now) (g.F.Files.source_state c.take_texts.new.files)
+    c.in-Err-Told.response c.in_ok-places.ensures (rw c.in-Err-Told.field-0-is at c.in-Err-Told.ensures)))
