@@ -115,6 +115,7 @@ FILES = {
     "key.pub": f"ssh-ed25519 {KEY} me@home\nssh-ed25519 {OTHER_KEY}\n",
     "bare key": KEY,
     "returned key": f" \tssh-ed25519  {KEY}\r\n",
+    "no base64": "ssh-ed25519 AAA!\n",
     "signature": SIGNATURE + "\n",
     "salts": SALTS,
     "long salts": SALTS + "k",
@@ -285,7 +286,7 @@ def rows():
         yield login("keys", "vouched", offer=None, offer_file=name), f"fault file {name}\n", 2
         yield login("keys", "missing", **{**in_files, "signature_file": name}), f"fault file {name}\n", 2
         yield host("hosts", "host vouched", offer=None, offer_file=name, signature=None, signature_file="bad vouch"), f"fault file {name}\n", 2
-    yield login("keys", "missing", **{**in_files, "offer_file": "bad vouch"}), "fault value offer-file\n", 2
+    yield login("keys", "missing", **{**in_files, "offer_file": "no base64"}), "fault value offer-file\n", 2
     yield login("keys", "missing", **{**in_files, "signature_file": "bad vouch"}, session="0"), "fault value signature-file\n", 2
     yield login("keys", "missing", **in_files, session="0"), "fault value session\n", 2
     yield login("keys", "vouched", offer=None, offer_file="empty"), "fault A1 K1 V1 0\n", 2
