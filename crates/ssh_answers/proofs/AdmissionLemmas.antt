@@ -9,12 +9,12 @@ use Rattle.ssh_inputs.specs.declared.read.ReadError.TheVariants as fault
 use Rattle.ssh_offers.specs.declared.error.AuditError.{AuditError}
 use Rattle.ssh_offers.specs.declared.error.AuditError.TheVariants.{Offer, Signature, WrongAlgorithm, WeakSignature, CertSignature, Address, FileTooLong, Memory, Read, Failed, Body, Salts}
 use Rattle.ssh_offers.specs.declared.query.Signed.{Signed}
-use Rattle.ssh_trust.specs.Answer.{Gives, OfClaim, RefusesAs}
+use Rattle.ssh_trust.specs.Answer.{GivesOrMemory, OfClaim, RefusesAs}
 use Rattle.ssh_trust.specs.declared.decision.Decision.{Decision}
 use Rattle.ssh_print.specs.Responses.{Response as Shown, refused_response}
 use Rattle.ssh_show.specs.declared.error.ShowError.{ShowError}
 use Rattle.ssh_show.specs.declared.error.ShowError.TheVariants as show
-use Rattle.ssh_show.specs.Offering.{Offered, offer_in}
+use Rattle.ssh_show.specs.Offering.{Offered, shown_offer_in}
 use Rattle.ssh_show.specs.Showing.{IsFaultOfShow, show_fault_response}
 use Rattle.ssh_show.specs.ShownLines.{Finds}
 use Rattle.ssh_show.proofs.TopLineLemmas.{line-offered}
@@ -42,18 +42,18 @@ file_told who by evidence name (Some s) t answer told spared is keeps h = λ cou
 
 -- ---- what is asked of the files
 
-given-same : (e given : List Signed) → Gives (Ok e) (Ok given) → given ≡ e
+given-same : (e given : List Signed) → GivesOrMemory (Ok e) (Ok given) → given ≡ e
 given-same e given h = (let same : Ok e ≡ Ok given = h in cc)
 
 asks-told : (who : Party) (by : Deciding) (rests : Result (List Signed) AuditError) (evidence : List Signed) (names : List (List ℕ)) (s : SourceState) (t : Option SourceState) (told : ToldLines) (r : Shown)
-    → RefusesAs rests (Ok evidence) → OfClaim rests (λ e. Gives (Ok e) (Ok evidence)) → r ≡ told_response told
+    → RefusesAs rests (Ok evidence) → OfClaim rests (λ e. GivesOrMemory (Ok e) (Ok evidence)) → r ≡ told_response told
     → TellsFiles told_both (telling who by evidence) nothing_told names s t told → AsksBy who by rests names s t r
 asks-told who by (Err e) evidence names s t told r refused given is h = cc
 asks-told who by (Ok e) evidence names s t told r refused given is h =
     (told, subst (λ (x : List Signed). TellsFiles told_both (telling who by x) nothing_told names s t told) (given-same e evidence given) h, is)
 
 pub asks_told : {R : Type 0} (view : R → Shown) (who : Party) (by : Deciding) (rests : Result (List Signed) AuditError) (evidence : List Signed) (names : List (List ℕ)) (o t : Option SourceState)
-    (told : ToldLines) (r : R) → RefusesAs rests (Ok evidence) → OfClaim rests (λ e. Gives (Ok e) (Ok evidence)) → view r ≡ told_response told
+    (told : ToldLines) (r : R) → RefusesAs rests (Ok evidence) → OfClaim rests (λ e. GivesOrMemory (Ok e) (Ok evidence)) → view r ≡ told_response told
     → IfTells o (λ s. TellsFiles told_both (telling who by evidence) nothing_told names s t told) → IfTells o (λ s. AsksBy who by rests names s t (view r))
 asks_told view who by rests evidence names None t told r refused given is h = tt
 asks_told view who by rests evidence names (Some s) t told r refused given is h = λ counts. asks-told who by rests evidence names s t told (view r) refused given is (h counts)
@@ -61,7 +61,7 @@ asks_told view who by rests evidence names (Some s) t told r refused given is h 
 err-same : {A B : Type 0} (a b : B) → ◌≡◌ {A = Result A B} (Err a) (Err b) → a ≡ b
 err-same a b h = cc
 
-never-refused : (e : List Signed) (error : AuditError) → is_memory {A = List Signed} (Err error) ≡ false → Gives (Ok e) (Err error) → ⊥
+never-refused : (e : List Signed) (error : AuditError) → is_memory {A = List Signed} (Err error) ≡ false → GivesOrMemory (Ok e) (Err error) → ⊥
 never-refused e (Offer x) spared h = cc
 never-refused e (Signature x) spared h = cc
 never-refused e WrongAlgorithm spared h = cc
@@ -76,13 +76,13 @@ never-refused e (Body x) spared h = cc
 never-refused e Salts spared h = cc
 
 asks-refused : (who : Party) (by : Deciding) (rests : Result (List Signed) AuditError) (error : AuditError) (names : List (List ℕ)) (s : SourceState) (r : Shown)
-    → RefusesAs {A = List Signed} rests (Err error) → OfClaim rests (λ e. Gives (Ok e) (Err error)) → is_memory {A = List Signed} (Err error) ≡ false → r ≡ refused_response error
+    → RefusesAs {A = List Signed} rests (Err error) → OfClaim rests (λ e. GivesOrMemory (Ok e) (Err error)) → is_memory {A = List Signed} (Err error) ≡ false → r ≡ refused_response error
     → AsksBy who by rests names s (Some s) r
 asks-refused who by (Err e) error names s r refused given spared is = (refl, is ∙ ap refused_response (err-same error e refused))
 asks-refused who by (Ok e) error names s r refused given spared is = absurd (never-refused e error spared given)
 
 pub asks_refused : {R E : Type 0} (view : R → Shown) (who : Party) (by : Deciding) (rests : Result (List Signed) AuditError) (error : AuditError) (names : List (List ℕ)) (o : Option SourceState) (res : Result R E)
-    → RefusesAs {A = List Signed} rests (Err error) → OfClaim rests (λ e. Gives (Ok e) (Err error)) → is_memory {A = List Signed} (Err error) ≡ false → IfOk res (λ r. view r ≡ refused_response error)
+    → RefusesAs {A = List Signed} rests (Err error) → OfClaim rests (λ e. GivesOrMemory (Ok e) (Err error)) → is_memory {A = List Signed} (Err error) ≡ false → IfOk res (λ r. view r ≡ refused_response error)
     → IfTells o (λ s. IfOk res (λ r. AsksBy who by rests names s o (view r)))
 asks_refused view who by rests error names None res refused given spared is = tt
 asks_refused view who by rests error names (Some s) (Err x) refused given spared is = λ counts. tt
@@ -90,9 +90,9 @@ asks_refused view who by rests error names (Some s) (Ok r) refused given spared 
 
 -- ---- the key's file
 
-pub offer_asked : {R E : Type 0} (view : R → Shown) (asks : Offered → KeyAsking) (file : List ℕ) (offer : Offered) (names : List (List ℕ)) (o t : Option SourceState) (res : Result R E) → offer_in file ≡ Ok offer
+pub offer_asked : {R E : Type 0} (view : R → Shown) (asks : Offered → KeyAsking) (file : List ℕ) (offer : Offered) (names : List (List ℕ)) (o t : Option SourceState) (res : Result R E) → shown_offer_in file ≡ Ok offer
     → IfTells o (λ s. IfOk res (λ r. AsksFiles (asks offer) names s t (view r)))
-    → IfTells o (λ s. IfOk res (λ r. AsksOffer asks (or_shown_fault (offer_in file)) names s t (view r)))
+    → IfTells o (λ s. IfOk res (λ r. AsksOffer asks (or_shown_fault (shown_offer_in file)) names s t (view r)))
 offer_asked view asks file offer names o t res is h =
     subst (λ (x : Result Offered ShowError). IfTells o (λ s. IfOk res (λ r. AsksOffer asks (or_shown_fault x) names s t (view r)))) (sym is) h
 
@@ -103,15 +103,15 @@ unoffered seen read (show.Cert e) r finds is = (finds, is)
 unoffered seen read (show.Body e) r finds is = (finds, is)
 unoffered seen read show.Memory r finds is = absurd is
 
-unasked : {V : Type 0} (seen : V → Offered) (asks : Offered → KeyAsking) (file : List ℕ) (error : ShowError) (names : List (List ℕ)) (s : SourceState) (r : Shown) → Finds seen (offer_in file) (Err error) → IsFaultOfShow error r
-    → AsksOffer asks (or_shown_fault (offer_in file)) names s (Some s) r
+unasked : {V : Type 0} (seen : V → Offered) (asks : Offered → KeyAsking) (file : List ℕ) (error : ShowError) (names : List (List ℕ)) (s : SourceState) (r : Shown) → Finds seen (shown_offer_in file) (Err error) → IsFaultOfShow error r
+    → AsksOffer asks (or_shown_fault (shown_offer_in file)) names s (Some s) r
 unasked seen asks file error names s r finds is =
-    let none = unoffered seen (offer_in file) error r finds is in
+    let none = unoffered seen (shown_offer_in file) error r finds is in
     subst (λ (x : Result Offered ShowError). AsksOffer asks (or_shown_fault x) names s (Some s) r) (sym none.0) (refl, none.1)
 
 pub offer_unasked : {R E V : Type 0} (view : R → Shown) (seen : V → Offered) (asks : Offered → KeyAsking) (file : List ℕ) (error : ShowError) (names : List (List ℕ)) (o : Option SourceState) (res : Result R E)
-    → Finds seen (offer_in file) (Err error) → IfOk res (λ r. IsFaultOfShow error (view r))
-    → IfTells o (λ s. IfOk res (λ r. AsksOffer asks (or_shown_fault (offer_in file)) names s o (view r)))
+    → Finds seen (shown_offer_in file) (Err error) → IfOk res (λ r. IsFaultOfShow error (view r))
+    → IfTells o (λ s. IfOk res (λ r. AsksOffer asks (or_shown_fault (shown_offer_in file)) names s o (view r)))
 offer_unasked view seen asks file error names None res finds is = tt
 offer_unasked view seen asks file error names (Some s) (Err x) finds is = λ counts. tt
 offer_unasked view seen asks file error names (Some s) (Ok r) finds is = λ counts. unasked seen asks file error names s (view r) finds is
@@ -125,7 +125,7 @@ key-by asks key names s m t o r is keeps none h =
 pub key_asked : {R E : Type 0} (view : R → Shown) (asks : Offered → KeyAsking) (key line read : List ℕ) (names : List (List ℕ)) (o u t : Option SourceState) (res : Result R E) → read ≡ line
     → IfTells o (λ s. ((file : List ℕ) × (within_limit (bytes_at s key) ≡ Some file) × (line ≡ top_line file)) × IsLeft s (after_whole s key) u)
     → IfTells o (λ s. KeepsOthers key s u)
-    → IfTells u (λ m. IfOk res (λ r. AsksOffer asks (or_shown_fault (offer_in read)) names m t (view r)))
+    → IfTells u (λ m. IfOk res (λ r. AsksOffer asks (or_shown_fault (shown_offer_in read)) names m t (view r)))
     → IfTells o (λ s. IfOk res (λ r. AsksKey asks key names s t (view r)))
 key_asked view asks key line read names None u t res is loads keeps h = tt
 key_asked view asks key line read names (Some s) None t res is loads keeps h = λ counts. absurd ((loads counts).1)
@@ -135,7 +135,7 @@ key_asked view asks key line read names (Some s) (Some m) t (Ok r) is loads keep
     let file = load.0.0 in
     let none : m.failures ≡ s.failures = left-none s (after_whole s key) (Some m) load.1 in
     let tells : m.failures < most_failures = subst (λ (n : ℕ). n < most_failures) (sym none) counts in
-    let same : offer_in read ≡ offer_in file = ap offer_in (is ∙ load.0.2) ∙ line-offered file in
+    let same : shown_offer_in read ≡ shown_offer_in file = ap shown_offer_in (is ∙ load.0.2) ∙ line-offered file in
     key-by asks key names s m t (Some file) (view r) load.0.1 (keeps counts) none
     (subst (λ (x : Result Offered ShowError). AsksOffer asks (or_shown_fault x) names m t (view r)) same (h tells))
 

@@ -9,7 +9,7 @@ use Rattle.ssh_inputs.specs.SourceState.{SourceState, bytes_at}
 use Rattle.ssh_inputs.specs.Loading.{KeepsOthers, NoReadFailed, within_limit}
 use Rattle.ssh_inputs.specs.FilesInTurn.{Telling, TellsFiles}
 use Rattle.ssh_print.specs.Responses.{Response, no_file_response, refused_response}
-use Rattle.ssh_show.specs.Offering.{Offered, offer_in}
+use Rattle.ssh_show.specs.Offering.{Offered, shown_offer_in}
 use Rattle.ssh_show.specs.declared.error.ShowError.{ShowError}
 use Rattle.ssh_show.specs.Showing.{show_fault_response}
 use Rattle.ssh_admission.specs.declared.text.Party.{Party}
@@ -88,7 +88,7 @@ or_shown_fault (Err e) = Err (show_fault_response e)
 -- the offer in the key's file, or the answer that it has none
 abbrev pub offer_or_fault : List ℕ → Option (List ℕ) → Result Offered Response
 offer_or_fault key None = Err (no_file_response key)
-offer_or_fault key (Some file) = or_shown_fault (offer_in file)
+offer_or_fault key (Some file) = or_shown_fault (shown_offer_in file)
 
 abbrev pub AsksOffer : (Offered → KeyAsking) → Result Offered Response → List (List ℕ) → SourceState → Option SourceState → Response → Type 0
 AsksOffer asks (Err fault) names s t r = NoReadFailed s t × (r ≡ fault)

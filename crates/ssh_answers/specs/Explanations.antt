@@ -3,7 +3,7 @@ use Rattle.std.specs.Prelude.{◌≡◌, ◌++◌, ℕ, List, [], Option, Some, 
 use Rattle.std.specs.List.{flat_map}
 use Rattle.clap.specs.Words.{Row}
 use Rattle.ssh_explain.specs.Table.{table}
-use Rattle.ssh_explain.specs.Explaining.{code_text, first_unknown, row_text}
+use Rattle.ssh_explain.specs.Explaining.{code_line, first_unknown_code, row_text}
 use Rattle.ssh_inputs.specs.SourceState.{SourceState}
 use Rattle.ssh_inputs.specs.Loading.{NoReadFailed}
 use Rattle.ssh_print.specs.Responses.{Response, value_response}
@@ -16,13 +16,13 @@ usage_after names = if asks_usage names then usage_lines else []
 
 -- the lines of these codes, in their order, and after them those of `usage`; or the fault of a code that is unknown
 abbrev pub explained_by : Option ℕ → List (List ℕ) → Response
-explained_by None names = record { status = 0; text = flat_map code_text names ++ usage_after names }
+explained_by None names = record { status = 0; text = flat_map code_line names ++ usage_after names }
 explained_by (Some place) names = value_response (codes "code")
 
 -- without a code, the lines of all
 abbrev pub explained : Option (List (List ℕ)) → Response
 explained None = record { status = 0; text = flat_map row_text table }
-explained (Some names) = explained_by (first_unknown names) names
+explained (Some names) = explained_by (first_unknown_code names) names
 
 -- no file is read
 abbrev pub RespondsToExplain : List Row → SourceState → Option SourceState → Response → Type 0

@@ -2,7 +2,7 @@
 
 ghost use Rattle.std.specs.Prelude.{◌≡◌, ◌++◌, IfOk, map};
 ghost use Rattle.ssh_answers.specs.Explanations.{explained, explained_by, usage_after};
-ghost use Rattle.ssh_explain.specs.Explaining.{first_unknown};
+ghost use Rattle.ssh_explain.specs.Explaining.{first_unknown_code};
 ghost use Rattle.ssh_print.specs.ResponseView.{response};
 ghost use Rattle.ssh_words.specs.Spelling.{names_given};
 ghost use Rattle.ssh_words.specs.WordsView.{rows_in};
@@ -29,7 +29,7 @@ fn explain_usage(alloc: Global, codes: &[&str], lines: Vec<u8>) -> Result<Respon
 /// The response to these codes.
 fn explain_codes(alloc: Global, codes: &[&str]) -> Result<Response, AllocError>
     ensures { IfOk result (λ r. response r
-        ≡ explained_by (first_unknown (map (λ code. code.now) codes.now))
+        ≡ explained_by (first_unknown_code (map (λ code. code.now) codes.now))
         (map (λ code. code.now) codes.now)) }
 {
     match explain(alloc, codes) {

@@ -10,7 +10,7 @@ ghost use Rattle.ssh_answers.specs.Admissions.{
 };
 ghost use Rattle.ssh_inputs.specs.SourceState.{IfTells};
 ghost use Rattle.ssh_print.specs.ResponseView.{response};
-ghost use Rattle.ssh_show.specs.Offering.{Offered, offer_in, offer_seen};
+ghost use Rattle.ssh_show.specs.Offering.{Offered, shown_offer_in, offer_seen};
 
 use ssh_inputs::{Files, read_top_line};
 use ssh_print::Response;
@@ -45,7 +45,7 @@ fn ask_line<K: KeyQuestion, F: Files>(
     files: &mut F,
 ) -> Result<Response, AllocError>
     ensures { IfTells (F.source_state files.old) (λ s. IfOk result (λ r.
-        AsksOffer (K.asks question.entry.now) (or_shown_fault (offer_in line.now))
+        AsksOffer (K.asks question.entry.now) (or_shown_fault (shown_offer_in line.now))
         (map (λ name. name.now) names.now) s (F.source_state files.new) (response r))) }
 {
     match read_offer(alloc, line) {

@@ -20,7 +20,7 @@ use Rattle.ssh_keys.specs.PublicKey.{PublicKey, key_blob, IsKey}
 use Rattle.ssh_keys.proofs.KeyFaults.{key_fault}
 use Rattle.ssh_bodies.specs.declared.error.BodyError.{BodyError}
 use Rattle.ssh_bodies.specs.declared.error.BodyError.TheVariants as errors
-use Rattle.ssh_bodies.specs.BodyReading.{of_wire, of_key, magic_at, key_at}
+use Rattle.ssh_bodies.specs.BodyReading.{as_body_error, of_key, magic_at, key_at}
 use Rattle.ssh_wire.specs.Stands.{Stands, NoNumber, NoString}
 use Rattle.ssh_bodies.proofs.Steps.{after_step, step_err, err_is, of_wire_ok, of_key_ok, of_wire_err, of_key_err}
 
@@ -44,30 +44,30 @@ stands row Fits fields bytes v is after fits r =
 
 -- ---- numbers and strings
 
-pub number_fault : (at : Position) (e : BodyError) → of_wire (number_at w32 at) ≡ Err e → (e ≡ errors.Wire (record { place = at.place; cause = Short })) × NoNumber at.rest
+pub number_fault : (at : Position) (e : BodyError) → as_body_error (number_at w32 at) ≡ Err e → (e ≡ errors.Wire (record { place = at.place; cause = Short })) × NoNumber at.rest
 number_fault at e h =
     let w = of_wire_err (number_at w32 at) e h in
     let is : record { place = at.place; cause = Short } ≡ w.0 = test_err (ltb (length at.rest) (byte_len w32)) (record { place = at.place; cause = Short }) w.0 (from_be_bytes w32 (take (byte_len w32) at.rest), advance at (byte_len w32)) w.1 in
     (sym w.2 ∙ ap (λ (x : WireError). errors.Wire x) (sym is), λ b. refused_none uint32 (λ n. n < 2 ^ 32) (number_at w32) (number_again w32 (2 ^ 32) wide32) at w.0 w.1 b.value b.rest b.fits b.begins)
 
-pub text_fault : (at : Position) (e : BodyError) → of_wire (string_at at) ≡ Err e → (e ≡ errors.Wire (record { place = at.place; cause = Short })) × NoString at.rest
+pub text_fault : (at : Position) (e : BodyError) → as_body_error (string_at at) ≡ Err e → (e ≡ errors.Wire (record { place = at.place; cause = Short })) × NoString at.rest
 text_fault at e h =
     let w = of_wire_err (string_at at) e h in
     (sym w.2 ∙ ap (λ (x : WireError). errors.Wire x) (string_is_short at w.0 w.1), λ b. refused_none string (λ text. length text < 2 ^ 32) string_at string_again at w.0 w.1 b.value b.rest b.fits b.begins)
 
-pub number_took : (at : Position) (n : ℕ × Position) → IsBytes at.rest → of_wire (number_at w32 at) ≡ Ok n → Took at (uint32 n.0) n.1 × (n.0 < 2 ^ 32)
+pub number_took : (at : Position) (n : ℕ × Position) → IsBytes at.rest → as_body_error (number_at w32 at) ≡ Ok n → Took at (uint32 n.0) n.1 × (n.0 < 2 ^ 32)
 number_took at n fits e = number_takes w32 (2 ^ 32) wide32 at n.0 n.1 fits (of_wire_ok (number_at w32 at) n e)
 
-pub text_took : (at : Position) (text : List ℕ × Position) → IsBytes at.rest → of_wire (string_at at) ≡ Ok text → Took at (string text.0) text.1 × (length text.0 < 2 ^ 32)
+pub text_took : (at : Position) (text : List ℕ × Position) → IsBytes at.rest → as_body_error (string_at at) ≡ Ok text → Took at (string text.0) text.1 × (length text.0 < 2 ^ 32)
 text_took at text fits e = string_takes at text.0 text.1 fits (of_wire_ok (string_at at) text e)
 
 pub text_back : (text : List ℕ) (place : ℕ) (rest : List ℕ) → length text < 2 ^ 32
-    → of_wire (string_at (record { place = place; rest = string text ++ rest })) ≡ Ok (text, record { place = place + length (string text); rest = rest })
-text_back text place rest lt = ap (λ (r : Read (List ℕ)). of_wire r) (string_again text place rest lt)
+    → as_body_error (string_at (record { place = place; rest = string text ++ rest })) ≡ Ok (text, record { place = place + length (string text); rest = rest })
+text_back text place rest lt = ap (λ (r : Read (List ℕ)). as_body_error r) (string_again text place rest lt)
 
 pub number_back : (n place : ℕ) (rest : List ℕ) → n < 2 ^ 32
-    → of_wire (number_at w32 (record { place = place; rest = uint32 n ++ rest })) ≡ Ok (n, record { place = place + length (uint32 n); rest = rest })
-number_back n place rest lt = ap (λ (r : Read ℕ). of_wire r) (number_again w32 (2 ^ 32) wide32 n place rest lt)
+    → as_body_error (number_at w32 (record { place = place; rest = uint32 n ++ rest })) ≡ Ok (n, record { place = place + length (uint32 n); rest = rest })
+number_back n place rest lt = ap (λ (r : Read ℕ). as_body_error r) (number_again w32 (2 ^ 32) wide32 n place rest lt)
 
 -- ---- magic bytes
 
@@ -131,7 +131,7 @@ skip_stands before at i n e is lt le h = byte_stands at e (omega (arith, lt, le,
 pub key_took : (at : Position) (key : PublicKey × Position) → IsBytes at.rest → key_at at ≡ Ok key → Took at (string (key_blob key.0)) key.1 × IsKey key.0
 unfolding key_at
 key_took at key fits e =
-    after_step (of_wire (string_at at)) _ key e (λ blob read_blob e1.
+    after_step (as_body_error (string_at at)) _ key e (λ blob read_blob e1.
     after_step (of_key (key_in blob.0)) _ key e1 (λ found read_key e2.
     let t = text_took at blob fits read_blob in
     let is = key_takes blob.0 found (string_fits at blob.0 blob.1 fits t.0) (of_key_ok (key_in blob.0) found read_key) in
@@ -150,10 +150,10 @@ pub record BadKey (at : Position) (e : BodyError) : Type 0 where
   pub stands : at.rest ≡ string blob ++ rest
   pub cause : (k : _) × (errors.Key k ≡ e) × IsFirstFault blob k
 
-pub key_fails : {P : Type 0} (at : Position) (e : BodyError) → IsBytes at.rest → key_at at ≡ Err e → (of_wire (string_at at) ≡ Err e → P) → (BadKey at e → P) → P
+pub key_fails : {P : Type 0} (at : Position) (e : BodyError) → IsBytes at.rest → key_at at ≡ Err e → (as_body_error (string_at at) ≡ Err e → P) → (BadKey at e → P) → P
 unfolding key_at
 key_fails at e fits h short bad =
-    step_err (of_wire (string_at at)) _ e h (λ first. short first) (λ blob read_blob h1.
+    step_err (as_body_error (string_at at)) _ e h (λ first. short first) (λ blob read_blob h1.
     step_err (of_key (key_in blob.0)) _ e h1 (λ second.
     let t = text_took at blob fits read_blob in
     let k = of_key_err (key_in blob.0) e second in

@@ -13,7 +13,7 @@ use Rattle.ssh_keys.specs.Signature.{signature_blob, signature_in}
 use Rattle.ssh_bodies.specs.declared.error.BodyError.{BodyError}
 use Rattle.ssh_bodies.specs.declared.error.BodyError.TheVariants as errors
 use Rattle.ssh_bodies.specs.declared.hash.HashName.{HashName}
-use Rattle.ssh_bodies.specs.BodyReading.{of_key, of_wire, wants}
+use Rattle.ssh_bodies.specs.BodyReading.{of_key, as_body_error, body_wants}
 use Rattle.ssh_bodies.specs.PrivateKey.{PrivateBody, public_of, is_private_in_range, private_blob, IsPrivateBody}
 use Rattle.ssh_bodies.specs.PrivateMaking.{range_fault, private_from}
 use Rattle.ssh_bodies.specs.Sshsig.{Sshsig, sshsig_blob, IsSshsig}
@@ -26,8 +26,8 @@ pub private_from_takes : (v found : PrivateBody) → v.check < 2 ^ 32 → privat
 unfolding private_from
 private_from_takes v found check h =
     after_step (of_key (key_from (public_of v.key))) _ found h (λ key read_key h1.
-    after_step (wants (is_private_in_range v.key) (range_fault v.key)) _ found h1 (λ u1 in_range h2.
-    after_step (wants (nat_le (length (private_blob v)) longest) errors.TooLong) _ found h2 (λ u2 short h3.
+    after_step (body_wants (is_private_in_range v.key) (range_fault v.key)) _ found h1 (λ u1 in_range h2.
+    after_step (body_wants (nat_le (length (private_blob v)) longest) errors.TooLong) _ found h2 (λ u2 short h3.
     let same : v ≡ found = ok_is {E = BodyError} v found h3 in
     let whole : IsPrivateBody v = record {
       check = check;
@@ -43,8 +43,8 @@ unfolding private_from
 private_from_again v is =
     let few : nat_le (length (private_blob v)) longest ≡ true = le-leb (length (private_blob v)) longest is.length in
     then_step _ _ _ _ (ap of_key (key_from_again (public_of v.key) is.public))
-    (then_step _ _ _ _ (ap (λ (b : Bool). wants b (range_fault v.key)) is.private)
-    (then_step _ _ _ _ (ap (λ (b : Bool). wants b errors.TooLong) few) refl))
+    (then_step _ _ _ _ (ap (λ (b : Bool). body_wants b (range_fault v.key)) is.private)
+    (then_step _ _ _ _ (ap (λ (b : Bool). body_wants b errors.TooLong) few) refl))
 
 -- what is made of the fields of a body is that body
 pub private_from_only : (v found : PrivateBody) → private_from v ≡ Ok found → IsPrivateBody v → found ≡ v
@@ -60,10 +60,10 @@ pub sshsig_from_takes : (key_text namespace reserved : List ℕ) (hash : HashNam
 unfolding sshsig_from
 sshsig_from_takes key_text namespace reserved hash signature_text v key_fits signature_fits h =
     after_step (of_key (key_in key_text)) _ v h (λ key read_key h1.
-    after_step (wants (ltb 0 (length namespace)) errors.EmptyNamespace) _ v h1 (λ u1 some h2.
-    after_step (of_wire (signature_in signature_text)) _ v h2 (λ signature read_signature h3.
+    after_step (body_wants (ltb 0 (length namespace)) errors.EmptyNamespace) _ v h1 (λ u1 some h2.
+    after_step (as_body_error (signature_in signature_text)) _ v h2 (λ signature read_signature h3.
     let made = sshsig_with key namespace reserved hash signature in
-    after_step (wants (nat_le (length (sshsig_blob made)) longest) errors.TooLong) _ v h3 (λ u2 short h4.
+    after_step (body_wants (nat_le (length (sshsig_blob made)) longest) errors.TooLong) _ v h3 (λ u2 short h4.
     let is_key = key_takes key_text key key_fits (of_key_ok (key_in key_text) key read_key) in
     let is_signature = signature_takes signature_text signature signature_fits (of_wire_ok (signature_in signature_text) signature read_signature) in
     subst (λ (y : Sshsig). IsSshsigWith key_text namespace reserved hash signature_text y) (ok_is {E = BodyError} made v h4) (record {
@@ -85,9 +85,9 @@ unfolding sshsig_from
 with_again v is =
     let few : nat_le (length (sshsig_blob v)) longest ≡ true = le-leb (length (sshsig_blob v)) longest is.length in
     then_step _ _ _ _ (ap of_key (key_again v.key is.key))
-    (then_step _ _ _ _ (ap (λ (b : Bool). wants b errors.EmptyNamespace) (not_empty v.namespace is.namespace))
-    (then_step _ _ _ _ (ap of_wire (signature_again v.signature is.signature))
-    (then_step _ _ _ _ (ap (λ (b : Bool). wants b errors.TooLong) few) refl)))
+    (then_step _ _ _ _ (ap (λ (b : Bool). body_wants b errors.EmptyNamespace) (not_empty v.namespace is.namespace))
+    (then_step _ _ _ _ (ap as_body_error (signature_again v.signature is.signature))
+    (then_step _ _ _ _ (ap (λ (b : Bool). body_wants b errors.TooLong) few) refl)))
   where
     not_empty : (text : List ℕ) → text ≢ [] → ltb 0 (length text) ≡ true
     not_empty [] some = absurd (some refl)

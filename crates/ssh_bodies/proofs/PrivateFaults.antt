@@ -15,7 +15,7 @@ use Rattle.ssh_wire.specs.Laws.{fine}
 use Rattle.ssh_keys.specs.PublicKey.{PublicKey, ed25519, longest, IsKey}
 use Rattle.ssh_bodies.specs.declared.error.BodyError.{BodyError}
 use Rattle.ssh_bodies.specs.declared.error.BodyError.TheVariants as errors
-use Rattle.ssh_bodies.specs.BodyReading.{of_wire, wants, magic_at, key_at, last_at}
+use Rattle.ssh_bodies.specs.BodyReading.{as_body_error, body_wants, magic_at, key_at, last_at}
 use Rattle.ssh_bodies.specs.PrivateFault.{PrivateStands, InSection, IsPrivateFault}
 use Rattle.ssh_bodies.specs.PrivateKey.{PrivateBody, private_magic, private_row}
 use Rattle.ssh_bodies.specs.PrivateReading.{not_encrypted_at, section_start, body_at, private_in}
@@ -63,21 +63,21 @@ encrypted cipher kdf options unlike all =
 header_fails : (bytes : List ℕ) (at : Position) (e : BodyError) → IsBytes at.rest → PrivateStands 1 bytes at.place at.rest → not_encrypted_at at ≡ Err e → IsPrivateFault bytes e
 unfolding not_encrypted_at
 header_fails bytes at e fits s h =
-    step_err (of_wire (string_at at)) _ e h (λ bad.
+    step_err (as_body_error (string_at at)) _ e h (λ bad.
     missing [] at bad s (omega arith) (let z : at.place ≡ at.place + 0 = omega arith in z)) (λ cipher read_cipher h1.
     let t_cipher = text_took at cipher fits read_cipher in
-    step_err (of_wire (string_at cipher.1)) _ e h1 (λ bad.
+    step_err (as_body_error (string_at cipher.1)) _ e h1 (λ bad.
     missing (cipher.0 ∷ []) cipher.1 bad (subst (λ (r : List ℕ). PrivateStands 1 bytes at.place r) (t_cipher.0.parts ∙ ap (λ (t : List ℕ). t ++ (cipher.1).rest) (sym (append-nil (string cipher.0)))) s) (omega arith)
     (t_cipher.0.place ∙ ap (λ (t : List ℕ). at.place + length t) (sym (append-nil (string cipher.0))))) (λ kdf read_kdf h2.
     let t_kdf = text_took cipher.1 kdf t_cipher.0.rest_fits read_kdf in
     let two : at.rest ≡ string cipher.0 ++ (string kdf.0 ++ (kdf.1).rest) = t_cipher.0.parts ∙ ap (λ (t : List ℕ). string cipher.0 ++ t) t_kdf.0.parts in
     let joined : string cipher.0 ++ (string kdf.0 ++ (kdf.1).rest) ≡ (string cipher.0 ++ (string kdf.0 ++ [])) ++ (kdf.1).rest =
     ap (λ (t : List ℕ). string cipher.0 ++ t) (ap (λ (t : List ℕ). t ++ (kdf.1).rest) (sym (append-nil (string kdf.0)))) ∙ sym (append_assoc (string cipher.0) (string kdf.0 ++ []) (kdf.1).rest) in
-    step_err (of_wire (string_at kdf.1)) _ e h2 (λ bad.
+    step_err (as_body_error (string_at kdf.1)) _ e h2 (λ bad.
     missing (cipher.0 ∷ kdf.0 ∷ []) kdf.1 bad (subst (λ (r : List ℕ). PrivateStands 1 bytes at.place r) (two ∙ joined) s) (omega arith)
     (omega (arith, t_cipher.0.place, t_kdf.0.place, length-append (string cipher.0) (string kdf.0 ++ []), length-append (string kdf.0) []))) (λ options read_options h3.
     let t_options = text_took kdf.1 options t_kdf.0.rest_fits read_options in
-    step_err (wants (bytes_eq cipher.0 (codes "none") && (bytes_eq kdf.0 (codes "none") && eqb (length options.0) 0)) errors.Encrypted) _ e h3 (λ bad.
+    step_err (body_wants (bytes_eq cipher.0 (codes "none") && (bytes_eq kdf.0 (codes "none") && eqb (length options.0) 0)) errors.Encrypted) _ e h3 (λ bad.
     let f = wants_err (bytes_eq cipher.0 (codes "none") && (bytes_eq kdf.0 (codes "none") && eqb (length options.0) 0)) errors.Encrypted e bad in
     subst (λ (x : BodyError). IsPrivateFault bytes x) f.1 (record {
       place = at.place;
@@ -89,7 +89,7 @@ header_fails bytes at e fits s h =
       encrypted = encrypted cipher.0 kdf.0 options.0 f.0;
     })) (λ u plain h4. absurd (let none : fine {E = BodyError} (u, options.1) ≡ Err e = h4 in cc)))))
   where
-    missing : (texts : List (List ℕ)) (here : Position) → of_wire (string_at here) ≡ Err e → PrivateStands 1 bytes at.place (flat_map string texts ++ here.rest) → length texts ≤ 2 → here.place ≡ at.place + length (flat_map string texts) → IsPrivateFault bytes e
+    missing : (texts : List (List ℕ)) (here : Position) → as_body_error (string_at here) ≡ Err e → PrivateStands 1 bytes at.place (flat_map string texts ++ here.rest) → length texts ≤ 2 → here.place ≡ at.place + length (flat_map string texts) → IsPrivateFault bytes e
     missing texts here bad stood few far =
         let f = text_fault here e bad in
         subst (λ (x : BodyError). IsPrivateFault bytes x) (sym f.0) (inl (refl, inl (record { texts = texts; few = few; first = at.place; rest = here.rest; stands = stood; at = far; none = f.1 })))
@@ -108,11 +108,11 @@ body_fault bytes e fits short h =
     let p = not_encrypted_took magic.1 plain t_magic.rest_fits read_plain in
     let plain_fits = (run_took (string (codes "none") ∷ string (codes "none") ∷ string [] ∷ []) magic.1 plain.1 t_magic.rest_fits p).rest_fits in
     let s4 : PrivateStands 4 bytes (plain.1).place (plain.1).rest = stands private_row FitsRow 4 bytes some_row some_key plain.1 fits (magic.1, t_magic, p) in
-    step_err (of_wire (number_at w32 plain.1)) _ e h2 (λ bad.
+    step_err (as_body_error (number_at w32 plain.1)) _ e h2 (λ bad.
     let f = number_fault plain.1 e bad in
     subst (λ (x : BodyError). IsPrivateFault bytes x) (sym f.0) (inl (refl, inr (inl ((plain.1).rest, s4, f.1))))) (λ count read_count h3.
     let t_count = number_took plain.1 count plain_fits read_count in
-    step_err (wants (eqb count.0 1) errors.KeyCount) _ e h3 (λ bad.
+    step_err (body_wants (eqb count.0 1) errors.KeyCount) _ e h3 (λ bad.
     let f = wants_err (eqb count.0 1) errors.KeyCount e bad in
     subst (λ (x : BodyError). IsPrivateFault bytes x) f.1 ((plain.1).place, count.0, (count.1).rest, subst (λ (r : List ℕ). PrivateStands 4 bytes (plain.1).place r) t_count.0.parts s4, t_count.1, eqb-false count.0 1 f.0)) (λ u1 is_one h4.
     let one : count.0 ≡ 1 = eqb-true count.0 1 (wants_ok (eqb count.0 1) errors.KeyCount u1 is_one) in
@@ -127,7 +127,7 @@ body_fault bytes e fits short h =
     (magic.1, t_magic, (p.0, p.1, (p.2.0, p.2.1, (p.2.2.0, p.2.2.1, (count.1, subst (λ (q : Position). Took q (uint32 1) count.1) (sym p.2.2.2) t_one, (public.1, t_public.0, refl)))))) in
     let s6 : PrivateStands 6 bytes (public.1).place (public.1).rest = stands private_row FitsRow 6 bytes (public.0, []) t_public.1 public.1 fits run6 in
     step_err (section_start public.1) _ e h5 (λ bad.
-    step_err (of_wire (string_at public.1)) _ e bad (λ first. let f = text_fault public.1 e first in subst (λ (x : BodyError). IsPrivateFault bytes x) (sym f.0) (inl (refl, inr (inr (inr ((public.1).rest, s6, f.1)))))) (λ text read_text g1.
+    step_err (as_body_error (string_at public.1)) _ e bad (λ first. let f = text_fault public.1 e first in subst (λ (x : BodyError). IsPrivateFault bytes x) (sym f.0) (inl (refl, inr (inr (inr ((public.1).rest, s6, f.1)))))) (λ text read_text g1.
     let t_text = text_took public.1 text t_public.0.rest_fits read_text in
     let run7 : Run (private_row (public.0, text.0)) (start bytes) text.1 =
     (magic.1, t_magic, (p.0, p.1, (p.2.0, p.2.1, (p.2.2.0, p.2.2.1, (count.1, subst (λ (q : Position). Took q (uint32 1) count.1) (sym p.2.2.2) t_one, (public.1, t_public.0, (text.1, t_text.0, refl))))))) in
@@ -137,7 +137,7 @@ body_fault bytes e fits short h =
     subst (λ (x : BodyError). IsPrivateFault bytes x) f.1 ((text.1).place, (text.1).rest, s7, some_more (text.1).rest f.0)) (λ u2 is_last g2.
     let nothing : (text.1).rest ≡ [] = no_rest (text.1).rest (wants_ok (eqb (length (text.1).rest) 0) errors.Trailing u2 is_last) in
     let whole : (public.1).rest ≡ string text.0 = t_text.0.parts ∙ ap (λ (r : List ℕ). string text.0 ++ r) nothing ∙ append-nil (string text.0) in
-    step_err (wants (eqb (length text.0 % 8) 0) errors.NotMultipleOfEight) _ e g2 (λ odd.
+    step_err (body_wants (eqb (length text.0 % 8) 0) errors.NotMultipleOfEight) _ e g2 (λ odd.
     let f = wants_err (eqb (length text.0 % 8) 0) errors.NotMultipleOfEight e odd in
     subst (λ (x : BodyError). IsPrivateFault bytes x) f.1 ((public.1).place, text.0, subst (λ (r : List ℕ). PrivateStands 6 bytes (public.1).place r) whole s6, eqb-false (length text.0 % 8) 0 f.0))
     (λ u3 even g3. absurd (let none : fine {E = BodyError} (tt, record { place = (public.1).place + 4; rest = text.0 }) ≡ Err e = g3 in cc))))) (λ in_section read_inside h6.

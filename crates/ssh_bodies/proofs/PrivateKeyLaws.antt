@@ -17,7 +17,7 @@ use Rattle.ssh_keys.specs.PublicKey.{PublicKey, rsa, p256, p384, p521, ed25519, 
 use Rattle.ssh_keys.proofs.SignatureLaws.{byte_takes}
 use Rattle.ssh_bodies.specs.declared.error.BodyError.{BodyError}
 use Rattle.ssh_bodies.specs.declared.error.BodyError.TheVariants as errors
-use Rattle.ssh_bodies.specs.BodyReading.{ReadBody, of_wire, positive_at}
+use Rattle.ssh_bodies.specs.BodyReading.{ReadBody, as_body_error, body_positive_at}
 use Rattle.ssh_bodies.specs.PrivateKey.{PrivateKey, private_rsa, private_p256, private_p384, private_p521, private_ed25519, private_sk_p256, private_sk_ed25519, public_of, private_fields, is_private_in_range}
 use Rattle.ssh_bodies.specs.PrivateReading.{RsaNumbers, rsa_at, OnCurve, curve_at, ed25519_at, KeyHandle, handle_at, on_curve_at, private_at}
 use Rattle.ssh_bodies.proofs.Steps.{after_step, then_step, of_wire_ok}
@@ -26,18 +26,18 @@ use Rattle.ssh_bodies.proofs.Rows.{onto, place_after, at_row, Short}
 
 -- ---- numbers above zero
 
-pub positive_took : (at : Position) (n : ℕ × Position) → IsBytes at.rest → positive_at at ≡ Ok n → Took at (mpint n.0) n.1 × (ltb 0 n.0 ≡ true)
-unfolding positive_at
+pub positive_took : (at : Position) (n : ℕ × Position) → IsBytes at.rest → body_positive_at at ≡ Ok n → Took at (mpint n.0) n.1 × (ltb 0 n.0 ≡ true)
+unfolding body_positive_at
 positive_took at n fits e =
-    after_step (of_wire (mpint_at at)) _ n e (λ found read_number e1.
+    after_step (as_body_error (mpint_at at)) _ n e (λ found read_number e1.
     let g = guard_ok (eqb found.0 0) (errors.Wire (record { place = at.place; cause = Value })) found n e1 in
     let t = mpint_takes at found.0 found.1 fits (of_wire_ok (mpint_at at) found read_number) in
     let some : ltb 0 found.0 ≡ true = lt-ltb 0 found.0 (let ne : found.0 ≡ 0 → ⊥ = eqb-false found.0 0 g.0 in omega arith) in
     subst (λ (y : ℕ × Position). Took at (mpint y.0) y.1 × (ltb 0 y.0 ≡ true)) g.1 (t.0, some))
 
 pub positive_back : (n place : ℕ) (rest : List ℕ) → ltb 0 n ≡ true → length (mpint n) < 2 ^ 32 + 4
-    → positive_at (record { place = place; rest = mpint n ++ rest }) ≡ Ok (n, record { place = place + length (mpint n); rest = rest })
-unfolding positive_at
+    → body_positive_at (record { place = place; rest = mpint n ++ rest }) ≡ Ok (n, record { place = place + length (mpint n); rest = rest })
+unfolding body_positive_at
 positive_back n place rest some short =
     let above : 0 < n = ltb-true 0 n some in
     let not_zero : eqb n 0 ≡ false = ne_eqb n 0 (λ e. omega arith) in
@@ -45,7 +45,7 @@ positive_back n place rest some short =
     rw (mpint_again n place rest lt, not_zero) refl
 
 field_back : (text : List ℕ) (place : ℕ) (rest : List ℕ) → length (string text) < 2 ^ 32 + 4
-    → of_wire (string_at (record { place = place; rest = string text ++ rest })) ≡ Ok (text, record { place = place + length (string text); rest = rest })
+    → as_body_error (string_at (record { place = place; rest = string text ++ rest })) ≡ Ok (text, record { place = place + length (string text); rest = rest })
 field_back text place rest short = text_back text place rest (omega (arith, short))
 
 -- ---- an RSA key
@@ -60,12 +60,12 @@ record TookRsa (at : Position) (k : RsaNumbers) (after : Position) : Type 0 wher
 rsa_took : (at : Position) (k : RsaNumbers × Position) → IsBytes at.rest → rsa_at at ≡ Ok k → TookRsa at k.0 k.1
 unfolding rsa_at
 rsa_took at k fits e0 =
-    after_step (positive_at at) _ k e0 (λ n read_n e1.
-    after_step (positive_at n.1) _ k e1 (λ e read_e e2.
-    after_step (positive_at e.1) _ k e2 (λ d read_d e3.
-    after_step (positive_at d.1) _ k e3 (λ c read_c e4.
-    after_step (positive_at c.1) _ k e4 (λ p read_p e5.
-    after_step (positive_at p.1) _ k e5 (λ q read_q e6.
+    after_step (body_positive_at at) _ k e0 (λ n read_n e1.
+    after_step (body_positive_at n.1) _ k e1 (λ e read_e e2.
+    after_step (body_positive_at e.1) _ k e2 (λ d read_d e3.
+    after_step (body_positive_at d.1) _ k e3 (λ c read_c e4.
+    after_step (body_positive_at c.1) _ k e4 (λ p read_p e5.
+    after_step (body_positive_at p.1) _ k e5 (λ q read_q e6.
     let t_n = positive_took at n fits read_n in
     let t_e = positive_took n.1 e t_n.0.rest_fits read_e in
     let t_d = positive_took e.1 d t_e.0.rest_fits read_d in
@@ -110,9 +110,9 @@ record TookCurve (at : Position) (k : OnCurve) (after : Position) : Type 0 where
 curve_took : (at : Position) (k : OnCurve × Position) → IsBytes at.rest → curve_at at ≡ Ok k → TookCurve at k.0 k.1
 unfolding curve_at
 curve_took at k fits e0 =
-    after_step (of_wire (string_at at)) _ k e0 (λ curve read_curve e1.
-    after_step (of_wire (string_at curve.1)) _ k e1 (λ point read_point e2.
-    after_step (positive_at point.1) _ k e2 (λ scalar read_scalar e3.
+    after_step (as_body_error (string_at at)) _ k e0 (λ curve read_curve e1.
+    after_step (as_body_error (string_at curve.1)) _ k e1 (λ point read_point e2.
+    after_step (body_positive_at point.1) _ k e2 (λ scalar read_scalar e3.
     let t_curve = text_took at curve fits read_curve in
     let t_point = text_took curve.1 point t_curve.0.rest_fits read_point in
     let t_scalar = positive_took point.1 scalar t_point.0.rest_fits read_scalar in
@@ -143,16 +143,16 @@ record TookHandle (at : Position) (k : KeyHandle) (after : Position) : Type 0 wh
   run : Run (handle_fields k) at after
   flags : k.flags < 256
 
-byte_took : (at : Position) (b : ℕ × Position) → IsBytes at.rest → of_wire (byte_at at) ≡ Ok b → Took at (b.0 ∷ []) b.1 × (b.0 < 256)
+byte_took : (at : Position) (b : ℕ × Position) → IsBytes at.rest → as_body_error (byte_at at) ≡ Ok b → Took at (b.0 ∷ []) b.1 × (b.0 < 256)
 byte_took at b fits e = byte_takes at.place at.rest b.0 b.1 fits (of_wire_ok (byte_at at) b e)
 
 handle_took : (at : Position) (k : KeyHandle × Position) → IsBytes at.rest → handle_at at ≡ Ok k → TookHandle at k.0 k.1
 unfolding handle_at
 handle_took at k fits e0 =
-    after_step (of_wire (string_at at)) _ k e0 (λ application read_application e1.
-    after_step (of_wire (byte_at application.1)) _ k e1 (λ flags read_flags e2.
-    after_step (of_wire (string_at flags.1)) _ k e2 (λ handle read_handle e3.
-    after_step (of_wire (string_at handle.1)) _ k e3 (λ reserved read_reserved e4.
+    after_step (as_body_error (string_at at)) _ k e0 (λ application read_application e1.
+    after_step (as_body_error (byte_at application.1)) _ k e1 (λ flags read_flags e2.
+    after_step (as_body_error (string_at flags.1)) _ k e2 (λ handle read_handle e3.
+    after_step (as_body_error (string_at handle.1)) _ k e3 (λ reserved read_reserved e4.
     let t_application = text_took at application fits read_application in
     let t_flags = byte_took application.1 flags t_application.0.rest_fits read_flags in
     let t_handle = text_took flags.1 handle t_flags.0.rest_fits read_handle in
@@ -221,8 +221,8 @@ ed25519_private_took : (a : List ℕ) (at : Position) (k : (PrivateKey × Bool) 
 unfolding private_at ed25519_at
 ed25519_private_took a at k fits h same =
     after_step (ed25519_at at) _ k h (λ r read_r h1.
-    after_step (of_wire (string_at at)) _ r read_r (λ public read_public g1.
-    after_step (of_wire (string_at public.1)) _ r g1 (λ secret read_secret g2.
+    after_step (as_body_error (string_at at)) _ r read_r (λ public read_public g1.
+    after_step (as_body_error (string_at public.1)) _ r g1 (λ secret read_secret g2.
     let t_public = text_took at public fits read_public in
     let t_secret = text_took public.1 secret t_public.0.rest_fits read_secret in
     let pair : (List ℕ × List ℕ) × Position = ((public.0, secret.0), secret.1) in
@@ -256,8 +256,8 @@ private_took (p384 q) at k fits h same = on_curve_took (codes "nistp384") q priv
 private_took (p521 q) at k fits h same = on_curve_took (codes "nistp521") q private_p521 (p521 q) at k fits (λ d. refl) (λ d. refl) (λ d. refl) h same
 private_took (ed25519 a) at k fits h same = ed25519_private_took a at k fits h same
 private_took (sk_p256 q s) at k fits h same =
-    after_step (of_wire (string_at at)) _ k h (λ curve read_curve h1.
-    after_step (of_wire (string_at curve.1)) _ k h1 (λ point read_point h2.
+    after_step (as_body_error (string_at at)) _ k h (λ curve read_curve h1.
+    after_step (as_body_error (string_at curve.1)) _ k h1 (λ point read_point h2.
     after_step (handle_at point.1) _ k h2 (λ r read_r h3.
     let t_curve = text_took at curve fits read_curve in
     let t_point = text_took curve.1 point t_curve.0.rest_fits read_point in
@@ -273,7 +273,7 @@ private_took (sk_p256 q s) at k fits h same =
       in_range = lt-ltb (r.0).flags 256 t.flags;
     }))))
 private_took (sk_ed25519 a s) at k fits h same =
-    after_step (of_wire (string_at at)) _ k h (λ public read_public h1.
+    after_step (as_body_error (string_at at)) _ k h (λ public read_public h1.
     after_step (handle_at public.1) _ k h1 (λ r read_r h2.
     let t_public = text_took at public fits read_public in
     let t = handle_took public.1 r t_public.0.rest_fits read_r in
@@ -315,8 +315,8 @@ private_half (ed25519 a) at k h same =
     let both = and_ok (bytes_eq r.0.0 a) (eqb (length r.0.1) 64 && bytes_eq (drop 32 r.0.1) a) (ap (λ (y : (PrivateKey × Bool) × Position). y.0.1) is ∙ same) in
     ap (λ (y : (PrivateKey × Bool) × Position). public_of y.0.0) (sym is) ∙ ap (λ (x : List ℕ). ed25519 x) (same_bytes r.0.0 a both.0))
 private_half (sk_p256 q s) at k h same =
-    after_step (of_wire (string_at at)) _ k h (λ curve read_curve h1.
-    after_step (of_wire (string_at curve.1)) _ k h1 (λ point read_point h2.
+    after_step (as_body_error (string_at at)) _ k h (λ curve read_curve h1.
+    after_step (as_body_error (string_at curve.1)) _ k h1 (λ point read_point h2.
     after_step (handle_at point.1) _ k h2 (λ r read_r h3.
     let made : (PrivateKey × Bool) × Position = ((private_sk_p256 point.0 (r.0).application (r.0).flags (r.0).key_handle (r.0).reserved, bytes_eq curve.0 (codes "nistp256") && (bytes_eq point.0 q && bytes_eq (r.0).application s)), r.1) in
     let is : made ≡ k = ok_is {E = BodyError} made k h3 in
@@ -324,7 +324,7 @@ private_half (sk_p256 q s) at k h same =
     let second = and_ok (bytes_eq point.0 q) (bytes_eq (r.0).application s) first.1 in
     ap (λ (y : (PrivateKey × Bool) × Position). public_of y.0.0) (sym is) ∙ ap (λ (x : List ℕ). sk_p256 x (r.0).application) (same_bytes point.0 q second.0) ∙ ap (λ (x : List ℕ). sk_p256 q x) (same_bytes (r.0).application s second.1))))
 private_half (sk_ed25519 a s) at k h same =
-    after_step (of_wire (string_at at)) _ k h (λ public read_public h1.
+    after_step (as_body_error (string_at at)) _ k h (λ public read_public h1.
     after_step (handle_at public.1) _ k h1 (λ r read_r h2.
     let made : (PrivateKey × Bool) × Position = ((private_sk_ed25519 public.0 (r.0).application (r.0).flags (r.0).key_handle (r.0).reserved, bytes_eq public.0 a && bytes_eq (r.0).application s), r.1) in
     let is : made ≡ k = ok_is {E = BodyError} made k h2 in

@@ -17,7 +17,7 @@ use Rattle.ssh_keys.specs.Names.{key_name_of}
 use Rattle.ssh_keys.specs.PublicKey.{PublicKey, kind_of, key_blob, longest, IsKey}
 use Rattle.ssh_bodies.specs.declared.error.BodyError.{BodyError}
 use Rattle.ssh_bodies.specs.declared.error.BodyError.TheVariants as errors
-use Rattle.ssh_bodies.specs.BodyReading.{of_wire, wants, magic_at, key_at, last_at}
+use Rattle.ssh_bodies.specs.BodyReading.{as_body_error, body_wants, magic_at, key_at, last_at}
 use Rattle.ssh_bodies.specs.PrivateKey.{PrivateBody, public_of, private_fields, is_private_in_range, padding, section_front, section, private_magic, private_row, body_padded, least_padding, private_blob, IsPrivateBody, IsPadded, IsPrivateBlob}
 use Rattle.ssh_bodies.specs.PrivateReading.{private_at, is_padding, section_at, not_encrypted_at, section_start, body_at, private_in}
 use Rattle.ssh_bodies.proofs.Steps.{after_step, then_step, stop_step, wants_ok, joins}
@@ -45,15 +45,15 @@ reassociate a b c d e f =
 pub section_took : (public : PublicKey) (at : Position) (v : PrivateBody) → IsBytes at.rest → section_at public at ≡ Ok v → IsSection public at.rest v
 unfolding section_at section_front
 section_took public at v fits h =
-    after_step (of_wire (number_at w32 at)) _ v h (λ check read_check h1.
-    after_step (of_wire (number_at w32 check.1)) _ v h1 (λ again read_again h2.
-    after_step (wants (eqb check.0 again.0) errors.CheckMismatch) _ v h2 (λ u1 is_same h3.
-    after_step (of_wire (string_at again.1)) _ v h3 (λ name read_name h4.
-    after_step (wants (bytes_eq name.0 (key_name_of (kind_of public))) errors.PublicMismatch) _ v h4 (λ u2 is_named h5.
+    after_step (as_body_error (number_at w32 at)) _ v h (λ check read_check h1.
+    after_step (as_body_error (number_at w32 check.1)) _ v h1 (λ again read_again h2.
+    after_step (body_wants (eqb check.0 again.0) errors.CheckMismatch) _ v h2 (λ u1 is_same h3.
+    after_step (as_body_error (string_at again.1)) _ v h3 (λ name read_name h4.
+    after_step (body_wants (bytes_eq name.0 (key_name_of (kind_of public))) errors.PublicMismatch) _ v h4 (λ u2 is_named h5.
     after_step (private_at public name.1) _ v h5 (λ key read_key h6.
-    after_step (wants key.0.1 errors.PublicMismatch) _ v h6 (λ u3 is_half h7.
-    after_step (of_wire (string_at key.1)) _ v h7 (λ comment read_comment h8.
-    after_step (wants (is_padding (comment.1).rest) errors.Padding) _ v h8 (λ u4 padded h9.
+    after_step (body_wants key.0.1 errors.PublicMismatch) _ v h6 (λ u3 is_half h7.
+    after_step (as_body_error (string_at key.1)) _ v h7 (λ comment read_comment h8.
+    after_step (body_wants (is_padding (comment.1).rest) errors.Padding) _ v h8 (λ u4 padded h9.
     let t_check = number_took at check fits read_check in
     let t_again = number_took check.1 again t_check.0.rest_fits read_again in
     let same : again.0 ≡ check.0 = sym (eqb-true check.0 again.0 (wants_ok (eqb check.0 again.0) errors.CheckMismatch u1 is_same)) in
@@ -118,12 +118,12 @@ section_back v count place check_lt is_key in_range few short =
     ap (λ (b : List ℕ). section_at (public_of v.key) (record { place = place; rest = b })) whole
     ∙ then_step _ _ _ _ (number_back v.check place r1 check_lt)
     (then_step _ _ _ _ (number_back v.check p1 r2 check_lt)
-    (then_step _ _ _ _ (ap (λ (b : Bool). wants b errors.CheckMismatch) same)
+    (then_step _ _ _ _ (ap (λ (b : Bool). body_wants b errors.CheckMismatch) same)
     (then_step _ _ _ _ (text_back name p2 r3 (name_short (kind_of (public_of v.key))))
-    (then_step _ _ _ _ (ap (λ (b : Bool). wants b errors.PublicMismatch) named)
+    (then_step _ _ _ _ (ap (λ (b : Bool). body_wants b errors.PublicMismatch) named)
     (then_step _ _ _ _ (private_back v.key p3 r4 is_key.in_range in_range fields_short)
     (then_step _ _ _ _ (text_back v.comment p4 r5 comment_lt)
-    (then_step _ _ _ _ (ap (λ (b : Bool). wants b errors.Padding) (is_padding-padding count few))
+    (then_step _ _ _ _ (ap (λ (b : Bool). body_wants b errors.Padding) (is_padding-padding count few))
     refl)))))))
   where
     equal_check : (n : ℕ) → eqb n n ≡ true
@@ -138,10 +138,10 @@ section_back v count place check_lt is_key in_range few short =
 pub not_encrypted_took : (at : Position) (k : Unit {0} × Position) → IsBytes at.rest → not_encrypted_at at ≡ Ok k → Run (string (codes "none") ∷ string (codes "none") ∷ string [] ∷ []) at k.1
 unfolding not_encrypted_at
 not_encrypted_took at k fits h =
-    after_step (of_wire (string_at at)) _ k h (λ cipher read_cipher h1.
-    after_step (of_wire (string_at cipher.1)) _ k h1 (λ kdf read_kdf h2.
-    after_step (of_wire (string_at kdf.1)) _ k h2 (λ options read_options h3.
-    after_step (wants (bytes_eq cipher.0 (codes "none") && (bytes_eq kdf.0 (codes "none") && eqb (length options.0) 0)) errors.Encrypted) _ k h3 (λ u plain h4.
+    after_step (as_body_error (string_at at)) _ k h (λ cipher read_cipher h1.
+    after_step (as_body_error (string_at cipher.1)) _ k h1 (λ kdf read_kdf h2.
+    after_step (as_body_error (string_at kdf.1)) _ k h2 (λ options read_options h3.
+    after_step (body_wants (bytes_eq cipher.0 (codes "none") && (bytes_eq kdf.0 (codes "none") && eqb (length options.0) 0)) errors.Encrypted) _ k h3 (λ u plain h4.
     let t_cipher = text_took at cipher fits read_cipher in
     let t_kdf = text_took cipher.1 kdf t_cipher.0.rest_fits read_kdf in
     let t_options = text_took kdf.1 options t_kdf.0.rest_fits read_options in
@@ -173,9 +173,9 @@ pub record TookSection (at : Position) (inside : Position) : Type 0 where
 pub section_start_took : (at : Position) (k : Unit {0} × Position) → IsBytes at.rest → section_start at ≡ Ok k → TookSection at k.1
 unfolding section_start
 section_start_took at k fits h =
-    after_step (of_wire (string_at at)) _ k h (λ text read_text h1.
+    after_step (as_body_error (string_at at)) _ k h (λ text read_text h1.
     after_step (last_at text.1) _ k h1 (λ u1 is_last h2.
-    after_step (wants (eqb (length text.0 % 8) 0) errors.NotMultipleOfEight) _ k h2 (λ u2 is_whole h3.
+    after_step (body_wants (eqb (length text.0 % 8) 0) errors.NotMultipleOfEight) _ k h2 (λ u2 is_whole h3.
     let t = text_took at text fits read_text in
     subst (λ (y : Unit {0} × Position). TookSection at y.1) (ok_is {E = BodyError} (tt, record { place = at.place + 4; rest = text.0 }) k h3) (record {
       after = text.1;
@@ -190,7 +190,7 @@ section_start_back : (text : List ℕ) (place : ℕ) → length text < 2 ^ 32 �
 unfolding section_start
 section_start_back text place lt whole =
     then_step _ _ _ _ (text_back text place [] lt)
-    (ap (λ (n : ℕ). wants (eqb n 0) errors.NotMultipleOfEight >>= λ u. fine (tt, record { place = place + 4; rest = text })) whole)
+    (ap (λ (n : ℕ). body_wants (eqb n 0) errors.NotMultipleOfEight >>= λ u. fine (tt, record { place = place + 4; rest = text })) whole)
 
 -- ---- a whole body
 
@@ -208,8 +208,8 @@ unfolding body_at
 lays bytes v fits h =
     after_step (magic_at private_magic (start bytes)) _ v h (λ magic read_magic h1.
     after_step (not_encrypted_at magic.1) _ v h1 (λ plain read_plain h2.
-    after_step (of_wire (number_at w32 plain.1)) _ v h2 (λ count read_count h3.
-    after_step (wants (eqb count.0 1) errors.KeyCount) _ v h3 (λ u1 is_one h4.
+    after_step (as_body_error (number_at w32 plain.1)) _ v h2 (λ count read_count h3.
+    after_step (body_wants (eqb count.0 1) errors.KeyCount) _ v h3 (λ u1 is_one h4.
     after_step (key_at count.1) _ v h4 (λ public read_public h5.
     after_step (section_start public.1) _ v h5 (λ inside read_inside h6.
     let t_magic = magic_took private_magic (start bytes) magic fits read_magic in
@@ -263,8 +263,8 @@ pub public_refuses : (bytes : List ℕ) (magic plain : Unit {0} × Position) (co
 unfolding body_at
 public_refuses bytes magic plain count e m p n one k =
     then_step _ _ _ _ m (then_step _ _ _ _ p
-    (then_step _ _ _ _ (ap (λ (r : Read ℕ). of_wire r) n)
-    (then_step _ _ _ _ (ap (λ (n : ℕ). wants (eqb n 1) errors.KeyCount) one)
+    (then_step _ _ _ _ (ap (λ (r : Read ℕ). as_body_error r) n)
+    (then_step _ _ _ _ (ap (λ (n : ℕ). body_wants (eqb n 1) errors.KeyCount) one)
     (stop_step _ _ e k))))
 
 pub start_refuses : (bytes : List ℕ) (magic plain : Unit {0} × Position) (count : ℕ × Position) (public : PublicKey × Position) (e : BodyError) → magic_at private_magic (start bytes) ≡ Ok magic
@@ -272,8 +272,8 @@ pub start_refuses : (bytes : List ℕ) (magic plain : Unit {0} × Position) (cou
 unfolding body_at
 start_refuses bytes magic plain count public e m p n one k s =
     then_step _ _ _ _ m (then_step _ _ _ _ p
-    (then_step _ _ _ _ (ap (λ (r : Read ℕ). of_wire r) n)
-    (then_step _ _ _ _ (ap (λ (n : ℕ). wants (eqb n 1) errors.KeyCount) one)
+    (then_step _ _ _ _ (ap (λ (r : Read ℕ). as_body_error r) n)
+    (then_step _ _ _ _ (ap (λ (n : ℕ). body_wants (eqb n 1) errors.KeyCount) one)
     (then_step _ _ _ _ k (stop_step _ _ e s)))))
 
 pub section_refuses : (bytes : List ℕ) (magic plain : Unit {0} × Position) (count : ℕ × Position) (public : PublicKey × Position) (inside : Unit {0} × Position) (e : BodyError)
@@ -282,8 +282,8 @@ pub section_refuses : (bytes : List ℕ) (magic plain : Unit {0} × Position) (c
 unfolding body_at
 section_refuses bytes magic plain count public inside e m p n one k s t =
     then_step _ _ _ _ m (then_step _ _ _ _ p
-    (then_step _ _ _ _ (ap (λ (r : Read ℕ). of_wire r) n)
-    (then_step _ _ _ _ (ap (λ (n : ℕ). wants (eqb n 1) errors.KeyCount) one)
+    (then_step _ _ _ _ (ap (λ (r : Read ℕ). as_body_error r) n)
+    (then_step _ _ _ _ (ap (λ (n : ℕ). body_wants (eqb n 1) errors.KeyCount) one)
     (then_step _ _ _ _ k (then_step _ _ _ _ s t)))))
 
 -- ---- a body is one of what is read
@@ -315,7 +315,7 @@ lays_again v count is few padded short =
     let r1 = uint32 1 ++ (string (key_blob (public_of v.key)) ++ (string text ++ [])) in
     let front_short : length (section_front v) ≤ longest = omega (arith, short, body_length v count) in
     let text_lt : length text < 2 ^ 32 = omega (arith, short, body_length v count, section_length v count) in
-    then_step (not_encrypted_at (record { place = 15; rest = string (codes "none") ++ (string (codes "none") ++ (string [] ++ r1)) })) _ (λ plain. of_wire (number_at w32 plain.1) >>= λ count. wants (eqb count.0 1) errors.KeyCount >>= λ u. key_at count.1 >>= λ public. section_start public.1 >>= λ inside. section_at public.0 inside.1) _ (not_encrypted_back 15 r1)
+    then_step (not_encrypted_at (record { place = 15; rest = string (codes "none") ++ (string (codes "none") ++ (string [] ++ r1)) })) _ (λ plain. as_body_error (number_at w32 plain.1) >>= λ count. body_wants (eqb count.0 1) errors.KeyCount >>= λ u. key_at count.1 >>= λ public. section_start public.1 >>= λ inside. section_at public.0 inside.1) _ (not_encrypted_back 15 r1)
     (then_step _ _ _ _ (number_back 1 35 (string (key_blob (public_of v.key)) ++ (string text ++ [])) (omega arith))
     (then_step (key_at (record { place = 39; rest = string (key_blob (public_of v.key)) ++ (string text ++ []) })) _ (λ public. section_start public.1 >>= λ inside. section_at public.0 inside.1) _ (key_back (public_of v.key) 39 (string text ++ []) is.public)
     (then_step _ _ _ _ (section_start_back text (39 + length (string (key_blob (public_of v.key)))) text_lt padded)

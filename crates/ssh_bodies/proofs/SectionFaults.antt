@@ -23,10 +23,10 @@ use Rattle.ssh_keys.specs.PublicKey.{PublicKey, rsa, p256, p384, p521, ed25519, 
 use Rattle.ssh_keys.proofs.SignatureLaws.{byte_takes}
 use Rattle.ssh_bodies.specs.declared.error.BodyError.{BodyError}
 use Rattle.ssh_bodies.specs.declared.error.BodyError.TheVariants as errors
-use Rattle.ssh_bodies.specs.BodyReading.{ReadBody, of_wire, positive_at, wants}
+use Rattle.ssh_bodies.specs.BodyReading.{ReadBody, as_body_error, body_positive_at, body_wants}
 use Rattle.ssh_bodies.specs.PrivateKey.{PrivateKey, private_rsa, private_p256, private_p384, private_p521, private_ed25519, private_sk_p256, private_sk_ed25519, PrivateBody, public_of, private_fields, is_private_in_range, padding}
 use Rattle.ssh_bodies.specs.PrivateReading.{rsa_at, curve_at, ed25519_at, handle_at, private_at, is_padding, section_at}
-use Rattle.ssh_bodies.specs.SectionFault.{section_row, IsBodyOf, SectionStands, NoCheck, NoText, Sort, number, text, byte, sorts_of, IsField, AreFields, IsMissing, StopsShort, IsSectionFault}
+use Rattle.ssh_bodies.specs.SectionFault.{section_row, IsBodyOf, SectionStands, NoCheck, NoSectionText, SectionFieldSort, number, text, byte, section_sorts_of, IsField, AreFields, IsMissing, StopsShort, IsSectionFault}
 use Rattle.ssh_bodies.proofs.Steps.{after_step, step_err, err_is, of_wire_ok, of_wire_err, wants_ok, wants_err, joins}
 use Rattle.ssh_bodies.proofs.Fields.{Run, run_took, number_fault, text_fault, number_took, text_took}
 use Rattle.ssh_bodies.proofs.PrivateKeyLaws.{positive_took, private_took, private_back}
@@ -36,18 +36,18 @@ use Rattle.ssh_bodies.proofs.Rows.{onto-is, place_after, at_row, are_short}
 -- ---- a field that cannot be taken
 
 -- no field of the sort begins here
-record Missing (sort : Sort) (at : Position) (e : BodyError) : Type 0 where
+record Missing (sort : SectionFieldSort) (at : Position) (e : BodyError) : Type 0 where
   cause : WireCause
   is : errors.Wire (record { place = at.place; cause = cause }) ≡ e
   missing : IsMissing cause sort at.rest
 
-text_missing : (at : Position) (e : BodyError) → of_wire (string_at at) ≡ Err e → Missing text at e
+text_missing : (at : Position) (e : BodyError) → as_body_error (string_at at) ≡ Err e → Missing text at e
 text_missing at e h = let f = text_fault at e h in record { cause = Short; is = sym f.0; missing = f.1 }
 
-byte_missing : (at : Position) (e : BodyError) → of_wire (byte_at at) ≡ Err e → Missing byte at e
+byte_missing : (at : Position) (e : BodyError) → as_body_error (byte_at at) ≡ Err e → Missing byte at e
 byte_missing at e h = go at.rest h
   where
-    go : (rest : List ℕ) → of_wire (byte_at (record { place = at.place; rest = rest })) ≡ Err e → Missing byte (record { place = at.place; rest = rest }) e
+    go : (rest : List ℕ) → as_body_error (byte_at (record { place = at.place; rest = rest })) ≡ Err e → Missing byte (record { place = at.place; rest = rest }) e
     go [] f = record { cause = Short; is = err_is {A = ℕ × Position} (errors.Wire (record { place = at.place; cause = Short })) e f; missing = (refl, refl) }
     go (b ∷ rest) f = absurd cc
 
@@ -82,16 +82,16 @@ zero_spelled : (rest : List ℕ) → mpint 0 ++ rest ≡ string [] ++ rest
 unfolding mpint_bytes
 zero_spelled rest = refl
 
-number_missing : (at : Position) (e : BodyError) → IsBytes at.rest → positive_at at ≡ Err e → Missing number at e
-unfolding positive_at
+number_missing : (at : Position) (e : BodyError) → IsBytes at.rest → body_positive_at at ≡ Err e → Missing number at e
+unfolding body_positive_at
 number_missing at e fits h =
-    step_err (of_wire (mpint_at at)) _ e h (λ bad.
+    step_err (as_body_error (mpint_at at)) _ e h (λ bad.
     let w = of_wire_err (mpint_at at) e bad in
     let a = mpint_missing at w.0 fits w.1 in
     record { cause = (w.0).cause; is = ap (λ (p : ℕ). errors.Wire (record { place = p; cause = (w.0).cause })) (sym a.0) ∙ w.2; missing = a.1 })
     (λ n read_n h1. zero n read_n (eqb n.0 0) refl h1)
   where
-    zero : (n : ℕ × Position) → of_wire (mpint_at at) ≡ Ok n → (b : Bool) → eqb n.0 0 ≡ b → cond b (Err (errors.Wire (record { place = at.place; cause = Value }))) (Ok n) ≡ Err e → Missing number at e
+    zero : (n : ℕ × Position) → as_body_error (mpint_at at) ≡ Ok n → (b : Bool) → eqb n.0 0 ≡ b → cond b (Err (errors.Wire (record { place = at.place; cause = Value }))) (Ok n) ≡ Err e → Missing number at e
     zero n read_n true is_zero f =
         let t = mpint_takes at n.0 n.1 fits (of_wire_ok (mpint_at at) n read_n) in
         let none : n.0 ≡ 0 = eqb-true n.0 0 is_zero in
@@ -105,24 +105,24 @@ number_missing at e fits h =
 -- ---- fields in turn
 
 -- some fields stand, and one is missing
-record Failed (sorts : List Sort) (at : Position) (e : BodyError) : Type 0 where
+record Failed (sorts : List SectionFieldSort) (at : Position) (e : BodyError) : Type 0 where
   place : ℕ
   cause : WireCause
   is : errors.Wire (record { place = at.place + place; cause = cause }) ≡ e
   stops : StopsShort sorts at.rest place cause
 
 -- all fields stand, up to here
-record Stood (sorts : List Sort) (at after : Position) : Type 0 where
+record Stood (sorts : List SectionFieldSort) (at after : Position) : Type 0 where
   fields : List (List ℕ)
   are : AreFields sorts fields
   took : Took at (concat fields) after
 
 -- what reading gives: fields of these sorts, or the first one that is missing
-record Walks {A : Type 0} (sorts : List Sort) (at : Position) (r : ReadBody A) : Type 0 where
+record Walks {A : Type 0} (sorts : List SectionFieldSort) (at : Position) (r : ReadBody A) : Type 0 where
   fails : (e : BodyError) → r ≡ Err e → Failed sorts at e
   stood : (k : A × Position) → r ≡ Ok k → Stood sorts at k.1
 
-failed_here : (sort : Sort) (sorts : List Sort) (at : Position) (e : BodyError) → Missing sort at e → Failed (sort ∷ sorts) at e
+failed_here : (sort : SectionFieldSort) (sorts : List SectionFieldSort) (at : Position) (e : BodyError) → Missing sort at e → Failed (sort ∷ sorts) at e
 failed_here sort sorts at e m =
     let here : at.place + 0 ≡ at.place = omega arith in
     record {
@@ -132,7 +132,7 @@ failed_here sort sorts at e m =
       stops = record { before = []; sort = sort; after = sorts; row = refl; fields = []; are = tt; rest = at.rest; begins = refl; at = refl; missing = m.missing };
     }
 
-failed_later : (sort : Sort) (sorts : List Sort) (at middle : Position) (field : List ℕ) (e : BodyError) → IsField sort field → Took at field middle → Failed sorts middle e → Failed (sort ∷ sorts) at e
+failed_later : (sort : SectionFieldSort) (sorts : List SectionFieldSort) (at middle : Position) (field : List ℕ) (e : BodyError) → IsField sort field → Took at field middle → Failed sorts middle e → Failed (sort ∷ sorts) at e
 failed_later sort sorts at middle field e is_field t f =
     let s = f.stops in
     let far : at.place + (length field + f.place) ≡ middle.place + f.place = omega (arith, t.place) in
@@ -144,7 +144,7 @@ failed_later sort sorts at middle field e is_field t f =
         before = sort ∷ s.before;
         sort = s.sort;
         after = s.after;
-        row = ap (λ (r : List Sort). sort ∷ r) s.row;
+        row = ap (λ (r : List SectionFieldSort). sort ∷ r) s.row;
         fields = field ∷ s.fields;
         are = (is_field, s.are);
         rest = s.rest;
@@ -154,33 +154,33 @@ failed_later sort sorts at middle field e is_field t f =
       };
     }
 
-stood_later : (sort : Sort) (sorts : List Sort) (at middle after : Position) (field : List ℕ) → IsField sort field → Took at field middle → Stood sorts middle after → Stood (sort ∷ sorts) at after
+stood_later : (sort : SectionFieldSort) (sorts : List SectionFieldSort) (at middle after : Position) (field : List ℕ) → IsField sort field → Took at field middle → Stood sorts middle after → Stood (sort ∷ sorts) at after
 stood_later sort sorts at middle after field is_field t s = record { fields = field ∷ s.fields; are = (is_field, s.are); took = Took-then at middle after field (concat s.fields) t s.took }
 
-walk_text : {B : Type 0} (sorts : List Sort) (at : Position) (f : List ℕ × Position → ReadBody B) → IsBytes at.rest
-    → ((x : List ℕ × Position) → IsBytes (x.1).rest → Walks sorts x.1 (f x)) → Walks (text ∷ sorts) at (of_wire (string_at at) >>= f)
+walk_text : {B : Type 0} (sorts : List SectionFieldSort) (at : Position) (f : List ℕ × Position → ReadBody B) → IsBytes at.rest
+    → ((x : List ℕ × Position) → IsBytes (x.1).rest → Walks sorts x.1 (f x)) → Walks (text ∷ sorts) at (as_body_error (string_at at) >>= f)
 walk_text sorts at f fits next = record {
-  fails = λ e h. step_err (of_wire (string_at at)) f e h (λ bad. failed_here text sorts at e (text_missing at e bad))
+  fails = λ e h. step_err (as_body_error (string_at at)) f e h (λ bad. failed_here text sorts at e (text_missing at e bad))
       (λ x read g. let t = (text_took at x fits read).0 in failed_later text sorts at x.1 (string x.0) e (x.0, refl) t ((next x t.rest_fits).fails e g));
-  stood = λ k h. after_step (of_wire (string_at at)) f k h
+  stood = λ k h. after_step (as_body_error (string_at at)) f k h
       (λ x read g. let t = (text_took at x fits read).0 in stood_later text sorts at x.1 k.1 (string x.0) (x.0, refl) t ((next x t.rest_fits).stood k g));
 }
 
-walk_number : {B : Type 0} (sorts : List Sort) (at : Position) (f : ℕ × Position → ReadBody B) → IsBytes at.rest
-    → ((x : ℕ × Position) → IsBytes (x.1).rest → Walks sorts x.1 (f x)) → Walks (number ∷ sorts) at (positive_at at >>= f)
+walk_number : {B : Type 0} (sorts : List SectionFieldSort) (at : Position) (f : ℕ × Position → ReadBody B) → IsBytes at.rest
+    → ((x : ℕ × Position) → IsBytes (x.1).rest → Walks sorts x.1 (f x)) → Walks (number ∷ sorts) at (body_positive_at at >>= f)
 walk_number sorts at f fits next = record {
-  fails = λ e h. step_err (positive_at at) f e h (λ bad. failed_here number sorts at e (number_missing at e fits bad))
+  fails = λ e h. step_err (body_positive_at at) f e h (λ bad. failed_here number sorts at e (number_missing at e fits bad))
       (λ x read g. let t = positive_took at x fits read in failed_later number sorts at x.1 (mpint x.0) e (x.0, ltb-true 0 x.0 t.1, refl) t.0 ((next x t.0.rest_fits).fails e g));
-  stood = λ k h. after_step (positive_at at) f k h
+  stood = λ k h. after_step (body_positive_at at) f k h
       (λ x read g. let t = positive_took at x fits read in stood_later number sorts at x.1 k.1 (mpint x.0) (x.0, ltb-true 0 x.0 t.1, refl) t.0 ((next x t.0.rest_fits).stood k g));
 }
 
-walk_byte : {B : Type 0} (sorts : List Sort) (at : Position) (f : ℕ × Position → ReadBody B) → IsBytes at.rest
-    → ((x : ℕ × Position) → IsBytes (x.1).rest → Walks sorts x.1 (f x)) → Walks (byte ∷ sorts) at (of_wire (byte_at at) >>= f)
+walk_byte : {B : Type 0} (sorts : List SectionFieldSort) (at : Position) (f : ℕ × Position → ReadBody B) → IsBytes at.rest
+    → ((x : ℕ × Position) → IsBytes (x.1).rest → Walks sorts x.1 (f x)) → Walks (byte ∷ sorts) at (as_body_error (byte_at at) >>= f)
 walk_byte sorts at f fits next = record {
-  fails = λ e h. step_err (of_wire (byte_at at)) f e h (λ bad. failed_here byte sorts at e (byte_missing at e bad))
+  fails = λ e h. step_err (as_body_error (byte_at at)) f e h (λ bad. failed_here byte sorts at e (byte_missing at e bad))
       (λ x read g. let t = (byte_takes at.place at.rest x.0 x.1 fits (of_wire_ok (byte_at at) x read)).0 in failed_later byte sorts at x.1 (x.0 ∷ []) e (x.0, refl) t ((next x t.rest_fits).fails e g));
-  stood = λ k h. after_step (of_wire (byte_at at)) f k h
+  stood = λ k h. after_step (as_body_error (byte_at at)) f k h
       (λ x read g. let t = (byte_takes at.place at.rest x.0 x.1 fits (of_wire_ok (byte_at at) x read)).0 in stood_later byte sorts at x.1 k.1 (x.0 ∷ []) (x.0, refl) t ((next x t.rest_fits).stood k g));
 }
 
@@ -191,7 +191,7 @@ walk_end {A} x at fits = record {
 }
 
 -- the same fields, with another value of them
-walk_map : {A B : Type 0} (sorts : List Sort) (at : Position) (r : ReadBody A) (f : A × Position → ReadBody B) → ((x : A × Position) → (y : B) × (f x ≡ Ok (y, x.1))) → Walks sorts at r → Walks sorts at (r >>= f)
+walk_map : {A B : Type 0} (sorts : List SectionFieldSort) (at : Position) (r : ReadBody A) (f : A × Position → ReadBody B) → ((x : A × Position) → (y : B) × (f x ≡ Ok (y, x.1))) → Walks sorts at r → Walks sorts at (r >>= f)
 walk_map {A} {B} sorts at r f same w = record {
   fails = λ e h. step_err r f e h (λ bad. w.fails e bad) (λ x read g. absurd (let y = same x in let none : fine {E = BodyError} (y.0, x.1) ≡ Err e = sym y.1 ∙ g in cc));
   stood = λ k h. after_step r f k h (λ x read g. let y = same x in subst (λ (z : B × Position). Stood sorts at z.1) (ok_is {E = BodyError} (y.0, x.1) k (sym y.1 ∙ g)) (w.stood x read));
@@ -228,7 +228,7 @@ handle_walk at fits =
     walk_text _ flags.1 _ flags_fits (λ handle handle_fits.
     walk_text _ handle.1 _ handle_fits (λ reserved reserved_fits. walk_end _ reserved.1 reserved_fits))))
 
-private_walk : (public : PublicKey) (at : Position) → IsBytes at.rest → Walks (sorts_of (kind_of public)) at (private_at public at)
+private_walk : (public : PublicKey) (at : Position) → IsBytes at.rest → Walks (section_sorts_of (kind_of public)) at (private_at public at)
 unfolding private_at
 private_walk (rsa e n) at fits = walk_map _ at (rsa_at at) _ (λ k. (_, refl)) (rsa_walk at fits)
 private_walk (p256 q) at fits = walk_map _ at (curve_at at) _ (λ k. (_, refl)) (curve_walk at fits)
@@ -289,7 +289,7 @@ up public fields v is at here fits r =
     record { place = length (concat (take fields (section_row v))); stands = record { value = v; fits = is; begins = t.parts; at = refl }; far = t.place }
 
 short_fault : (public : PublicKey) (at : Position) (e : BodyError) (place here : ℕ) → e ≡ errors.Wire (record { place = here; cause = Short }) → here ≡ at.place + place
-    → NoCheck public at.rest place ⊎ NoText public at.rest place → IsSectionFault public at.place at.rest e
+    → NoCheck public at.rest place ⊎ NoSectionText public at.rest place → IsSectionFault public at.place at.rest e
 short_fault public at e place here is far none = subst (λ (x : BodyError). IsSectionFault public at.place at.rest x) (sym is) (place, far, inl (refl, none))
 
 other_name : (a b : List ℕ) → bytes_eq a b ≡ false → a ≢ b
@@ -310,12 +310,12 @@ section_fault public at e fits public_range short h =
     let of : (n : ℕ) → n < 2 ^ 32 → IsBodyOf public (v n) = λ n lt. record { check = lt; half = some.1; in_range = some.2 } in
     let s0 : SectionStands public 0 at.rest 0 at.rest = record { value = v 0; fits = of 0 (omega arith); begins = refl; at = refl } in
     let start_at : at.place ≡ at.place + 0 = omega arith in
-    step_err (of_wire (number_at w32 at)) _ e h (λ bad. let f = number_fault at e bad in short_fault public at e 0 at.place f.0 start_at (inl (at.rest, inl s0, f.1))) (λ check read_check h1.
+    step_err (as_body_error (number_at w32 at)) _ e h (λ bad. let f = number_fault at e bad in short_fault public at e 0 at.place f.0 start_at (inl (at.rest, inl s0, f.1))) (λ check read_check h1.
     let t_check = number_took at check fits read_check in
     let u1 = up public 1 (v check.0) (of check.0 t_check.1) at check.1 fits (check.1, t_check.0, refl) in
-    step_err (of_wire (number_at w32 check.1)) _ e h1 (λ bad. let f = number_fault check.1 e bad in short_fault public at e u1.place (check.1).place f.0 u1.far (inl ((check.1).rest, inr u1.stands, f.1))) (λ again read_again h2.
+    step_err (as_body_error (number_at w32 check.1)) _ e h1 (λ bad. let f = number_fault check.1 e bad in short_fault public at e u1.place (check.1).place f.0 u1.far (inl ((check.1).rest, inr u1.stands, f.1))) (λ again read_again h2.
     let t_again = number_took check.1 again t_check.0.rest_fits read_again in
-    step_err (wants (eqb check.0 again.0) errors.CheckMismatch) _ e h2 (λ bad.
+    step_err (body_wants (eqb check.0 again.0) errors.CheckMismatch) _ e h2 (λ bad.
     let f = wants_err (eqb check.0 again.0) errors.CheckMismatch e bad in
     let row = take 1 (section_row (v check.0)) in
     let t = run_took row at check.1 fits (check.1, t_check.0, refl) in
@@ -325,9 +325,9 @@ section_fault public at e fits public_range short h =
     let same : again.0 ≡ check.0 = sym (eqb-true check.0 again.0 (wants_ok (eqb check.0 again.0) errors.CheckMismatch ok1 is_same)) in
     let t_same : Took check.1 (uint32 check.0) again.1 = subst (λ (n : ℕ). Took check.1 (uint32 n) again.1) same t_again.0 in
     let u2 = up public 2 (v check.0) (of check.0 t_check.1) at again.1 fits (check.1, t_check.0, (again.1, t_same, refl)) in
-    step_err (of_wire (string_at again.1)) _ e h3 (λ bad. let f = text_fault again.1 e bad in short_fault public at e u2.place (again.1).place f.0 u2.far (inr ((again.1).rest, inl u2.stands, f.1))) (λ name read_name h4.
+    step_err (as_body_error (string_at again.1)) _ e h3 (λ bad. let f = text_fault again.1 e bad in short_fault public at e u2.place (again.1).place f.0 u2.far (inr ((again.1).rest, inl u2.stands, f.1))) (λ name read_name h4.
     let t_name = text_took again.1 name t_same.rest_fits read_name in
-    step_err (wants (bytes_eq name.0 (key_name_of (kind_of public))) errors.PublicMismatch) _ e h4 (λ bad.
+    step_err (body_wants (bytes_eq name.0 (key_name_of (kind_of public))) errors.PublicMismatch) _ e h4 (λ bad.
     let f = wants_err (bytes_eq name.0 (key_name_of (kind_of public))) errors.PublicMismatch e bad in
     subst told f.1 (inl (u2.place, name.0, (name.1).rest, subst (λ (r : List ℕ). SectionStands public 2 at.rest u2.place r) t_name.0.parts u2.stands, other_name name.0 (key_name_of (kind_of public)) f.0))) (λ ok2 is_named h5.
     let named : name.0 ≡ key_name_of (kind_of public) = (bytes_eq-Decides name.0 (key_name_of (kind_of public))).0 (wants_ok (bytes_eq name.0 (key_name_of (kind_of public))) errors.PublicMismatch ok2 is_named) in
@@ -339,7 +339,7 @@ section_fault public at e fits public_range short h =
     let f = walk.fails e bad in
     let far : (name.1).place + f.place ≡ at.place + (u3.place + f.place) = omega (arith, u3.far) in
     subst told f.is (u3.place + f.place, far, inr (record { first = u3.place; fields = (name.1).rest; stands = u3.stands; inner = f.place; at = refl; stops = f.stops }))) (λ key read_key h6.
-    step_err (wants key.0.1 errors.PublicMismatch) _ e h6 (λ bad.
+    step_err (body_wants key.0.1 errors.PublicMismatch) _ e h6 (λ bad.
     let f = wants_err key.0.1 errors.PublicMismatch e bad in
     let s = walk.stood key read_key in
     let inner_short : length (name.1).rest ≤ longest = omega (arith, short, ap length (u3.stands).begins, length-append (concat (take 3 (section_row (u3.stands).value))) (name.1).rest) in
@@ -355,10 +355,10 @@ section_fault public at e fits public_range short h =
     let w : List ℕ → PrivateBody = λ comment. record { check = check.0; key = key.0.0; comment = comment } in
     let of_key : (comment : List ℕ) → IsBodyOf public (w comment) = λ comment. record { check = t_check.1; half = t_key.half; in_range = t_key.in_range } in
     let u4 = up public 4 (w []) (of_key []) at key.1 fits (check.1, t_check.0, (again.1, t_same, (name.1, name_for key.0.0 t_key.half, (key.1, t_key.took, refl)))) in
-    step_err (of_wire (string_at key.1)) _ e h7 (λ bad. let f = text_fault key.1 e bad in short_fault public at e u4.place (key.1).place f.0 u4.far (inr ((key.1).rest, inr u4.stands, f.1))) (λ comment read_comment h8.
+    step_err (as_body_error (string_at key.1)) _ e h7 (λ bad. let f = text_fault key.1 e bad in short_fault public at e u4.place (key.1).place f.0 u4.far (inr ((key.1).rest, inr u4.stands, f.1))) (λ comment read_comment h8.
     let t_comment = text_took key.1 comment t_key.took.rest_fits read_comment in
     let u5 = up public 5 (w comment.0) (of_key comment.0) at comment.1 fits (check.1, t_check.0, (again.1, t_same, (name.1, name_for key.0.0 t_key.half, (key.1, t_key.took, (comment.1, t_comment.0, refl))))) in
-    step_err (wants (is_padding (comment.1).rest) errors.Padding) _ e h8 (λ bad.
+    step_err (body_wants (is_padding (comment.1).rest) errors.Padding) _ e h8 (λ bad.
     let f = wants_err (is_padding (comment.1).rest) errors.Padding e bad in
     subst told f.1 (u5.place, (comment.1).rest, u5.stands, no_padding (comment.1).rest f.0))
     (λ ok4 padded h9. absurd (let none : fine {A = PrivateBody} {E = BodyError} (record { check = check.0; key = key.0.0; comment = comment.0 }) ≡ Err e = h9 in cc))))))))))

@@ -20,9 +20,9 @@ use Rattle.ssh_bodies.specs.declared.error.BodyError.{BodyError}
 use Rattle.ssh_bodies.specs.declared.error.BodyError.TheVariants as errors
 use Rattle.ssh_bodies.specs.declared.hash.HashName.{HashName}
 use Rattle.ssh_bodies.specs.declared.hash.HashName.TheVariants.{Sha256, Sha512}
-use Rattle.ssh_bodies.specs.BodyReading.{of_wire, of_inner, wants, magic_at, key_at, last_at}
+use Rattle.ssh_bodies.specs.BodyReading.{as_body_error, of_inner, body_wants, magic_at, key_at, last_at}
 use Rattle.ssh_bodies.specs.Sshsig.{Sshsig, sshsig_magic, hash_name, sshsig_row, sshsig_blob, IsSshsig, IsSshsigBlob}
-use Rattle.ssh_bodies.specs.SshsigReading.{hash_from, signature_at, sshsig_at, sshsig_in}
+use Rattle.ssh_bodies.specs.SshsigReading.{hash_from, sshsig_signature_at, sshsig_at, sshsig_in}
 use Rattle.ssh_bodies.proofs.Steps.{after_step, then_step, stop_step, wants_ok}
 use Rattle.ssh_bodies.proofs.Fields.{run_took, number_took, text_took, number_back, text_back, magic_took, magic_back, key_took, key_back}
 
@@ -32,10 +32,10 @@ pub of_inner_ok : {A : Type 0} (place : ℕ) (r : Result A WireError) (y : A) �
 of_inner_ok place (Ok x) y e = ap (λ (z : _). Ok z) (ok_is {E = BodyError} x y e)
 of_inner_ok place (Err d) y e = absurd cc
 
-pub signature_took : (at : Position) (s : Signature × Position) → IsBytes at.rest → signature_at at ≡ Ok s → Took at (string (signature_blob s.0)) s.1 × IsSignature s.0
-unfolding signature_at
+pub signature_took : (at : Position) (s : Signature × Position) → IsBytes at.rest → sshsig_signature_at at ≡ Ok s → Took at (string (signature_blob s.0)) s.1 × IsSignature s.0
+unfolding sshsig_signature_at
 signature_took at s fits e =
-    after_step (of_wire (string_at at)) _ s e (λ blob read_blob e1.
+    after_step (as_body_error (string_at at)) _ s e (λ blob read_blob e1.
     after_step (of_inner (at.place + 4) (signature_in blob.0)) _ s e1 (λ found read_signature e2.
     let t = text_took at blob fits read_blob in
     let is = signature_takes blob.0 found (string_fits at blob.0 blob.1 fits t.0) (of_inner_ok (at.place + 4) (signature_in blob.0) found read_signature) in
@@ -43,8 +43,8 @@ signature_took at s fits e =
     (subst (λ (text : List ℕ). Took at (string text) blob.1) is.spelled t.0, is.is_signature)))
 
 pub signature_back : (s : Signature) (place : ℕ) (rest : List ℕ) → IsSignature s
-    → signature_at (record { place = place; rest = string (signature_blob s) ++ rest }) ≡ Ok (s, record { place = place + length (string (signature_blob s)); rest = rest })
-unfolding signature_at
+    → sshsig_signature_at (record { place = place; rest = string (signature_blob s) ++ rest }) ≡ Ok (s, record { place = place + length (string (signature_blob s)); rest = rest })
+unfolding sshsig_signature_at
 signature_back s place rest is =
     then_step _ _ _ _ (text_back (signature_blob s) place rest (omega (arith, is.length)))
     (then_step _ _ _ _ (ap (λ (r : Result Signature WireError). of_inner (place + 4) r) (signature_again s is)) refl)
@@ -94,15 +94,15 @@ lays : (bytes : List ℕ) (v : Sshsig) → IsBytes bytes → sshsig_at (start by
 unfolding sshsig_at
 lays bytes v fits e =
     after_step (magic_at sshsig_magic (start bytes)) _ v e (λ magic read_magic e1.
-    after_step (of_wire (number_at w32 magic.1)) _ v e1 (λ version read_version e2.
-    after_step (wants (eqb version.0 1) errors.Version) _ v e2 (λ u1 is_one e3.
+    after_step (as_body_error (number_at w32 magic.1)) _ v e1 (λ version read_version e2.
+    after_step (body_wants (eqb version.0 1) errors.Version) _ v e2 (λ u1 is_one e3.
     after_step (key_at version.1) _ v e3 (λ key read_key e4.
-    after_step (of_wire (string_at key.1)) _ v e4 (λ namespace read_namespace e5.
-    after_step (wants (ltb 0 (length namespace.0)) errors.EmptyNamespace) _ v e5 (λ u2 is_some e6.
-    after_step (of_wire (string_at namespace.1)) _ v e6 (λ reserved read_reserved e7.
-    after_step (of_wire (string_at reserved.1)) _ v e7 (λ name read_name e8.
+    after_step (as_body_error (string_at key.1)) _ v e4 (λ namespace read_namespace e5.
+    after_step (body_wants (ltb 0 (length namespace.0)) errors.EmptyNamespace) _ v e5 (λ u2 is_some e6.
+    after_step (as_body_error (string_at namespace.1)) _ v e6 (λ reserved read_reserved e7.
+    after_step (as_body_error (string_at reserved.1)) _ v e7 (λ name read_name e8.
     after_step (hash_from name.0) _ v e8 (λ hash read_hash e9.
-    after_step (signature_at name.1) _ v e9 (λ signature read_signature e10.
+    after_step (sshsig_signature_at name.1) _ v e9 (λ signature read_signature e10.
     after_step (last_at signature.1) _ v e10 (λ u3 read_end e11.
     let t_magic = magic_took sshsig_magic (start bytes) magic fits read_magic in
     let t_version = number_took magic.1 version t_magic.rest_fits read_version in
@@ -132,24 +132,24 @@ pub key_refuses : (bytes : List ℕ) (magic : Unit {0} × Position) (version : �
 unfolding sshsig_at
 key_refuses bytes magic version e m v one k =
     then_step _ _ _ _ m
-    (then_step _ _ _ _ (ap (λ (r : Read ℕ). of_wire r) v)
-    (then_step _ _ _ _ (ap (λ (n : ℕ). wants (eqb n 1) errors.Version) one)
+    (then_step _ _ _ _ (ap (λ (r : Read ℕ). as_body_error r) v)
+    (then_step _ _ _ _ (ap (λ (n : ℕ). body_wants (eqb n 1) errors.Version) one)
     (stop_step _ _ e k)))
 
 pub signature_refuses : (bytes : List ℕ) (magic : Unit {0} × Position) (version : ℕ × Position) (key : PublicKey × Position) (namespace reserved name : List ℕ × Position) (hash : HashName) (e : BodyError)
     → magic_at sshsig_magic (start bytes) ≡ Ok magic → number_at w32 magic.1 ≡ Ok version → version.0 ≡ 1 → key_at version.1 ≡ Ok key
     → string_at key.1 ≡ Ok namespace → 0 < length namespace.0 → string_at namespace.1 ≡ Ok reserved → string_at reserved.1 ≡ Ok name → hash_from name.0 ≡ Ok hash
-    → signature_at name.1 ≡ Err e → sshsig_at (start bytes) ≡ Err e
+    → sshsig_signature_at name.1 ≡ Err e → sshsig_at (start bytes) ≡ Err e
 unfolding sshsig_at
 signature_refuses bytes magic version key namespace reserved name hash e m v one k n some r t h s =
     then_step _ _ _ _ m
-    (then_step _ _ _ _ (ap (λ (r : Read ℕ). of_wire r) v)
-    (then_step _ _ _ _ (ap (λ (n : ℕ). wants (eqb n 1) errors.Version) one)
+    (then_step _ _ _ _ (ap (λ (r : Read ℕ). as_body_error r) v)
+    (then_step _ _ _ _ (ap (λ (n : ℕ). body_wants (eqb n 1) errors.Version) one)
     (then_step _ _ _ _ k
-    (then_step _ _ _ _ (ap (λ (r : Read (List ℕ)). of_wire r) n)
-    (then_step _ _ _ _ (ap (λ (b : Bool). wants b errors.EmptyNamespace) (lt-ltb 0 (length namespace.0) some))
-    (then_step _ _ _ _ (ap (λ (r : Read (List ℕ)). of_wire r) r)
-    (then_step _ _ _ _ (ap (λ (r : Read (List ℕ)). of_wire r) t)
+    (then_step _ _ _ _ (ap (λ (r : Read (List ℕ)). as_body_error r) n)
+    (then_step _ _ _ _ (ap (λ (b : Bool). body_wants b errors.EmptyNamespace) (lt-ltb 0 (length namespace.0) some))
+    (then_step _ _ _ _ (ap (λ (r : Read (List ℕ)). as_body_error r) r)
+    (then_step _ _ _ _ (ap (λ (r : Read (List ℕ)). as_body_error r) t)
     (then_step _ _ _ _ h
     (stop_step _ _ e s)))))))))
 
@@ -203,20 +203,20 @@ strings_short v is = are_short v is.length
 abbrev from_key : Position → Result Sshsig BodyError
 from_key at = do
   key ← key_at at
-  namespace ← of_wire (string_at key.1)
-  _ ← wants (ltb 0 (length namespace.0)) errors.EmptyNamespace
-  reserved ← of_wire (string_at namespace.1)
-  name ← of_wire (string_at reserved.1)
+  namespace ← as_body_error (string_at key.1)
+  _ ← body_wants (ltb 0 (length namespace.0)) errors.EmptyNamespace
+  reserved ← as_body_error (string_at namespace.1)
+  name ← as_body_error (string_at reserved.1)
   hash ← hash_from name.0
-  signature ← signature_at name.1
+  signature ← sshsig_signature_at name.1
   _ ← last_at signature.1
   Ok (record { key = key.0; namespace = namespace.0; reserved = reserved.0; hash = hash; signature = signature.0 })
 
 abbrev after_version : ℕ × Position → Result Sshsig BodyError
-after_version version = wants (eqb version.0 1) errors.Version >>= λ u. from_key version.1
+after_version version = body_wants (eqb version.0 1) errors.Version >>= λ u. from_key version.1
 
 abbrev after_magic : Unit {0} × Position → Result Sshsig BodyError
-after_magic magic = of_wire (number_at w32 magic.1) >>= after_version
+after_magic magic = as_body_error (number_at w32 magic.1) >>= after_version
 
 lays_again : (v : Sshsig) → IsKey v.key → v.namespace ≢ [] → IsSignature v.signature → length (concat (sshsig_row v)) ≤ longest → sshsig_at (start (concat (sshsig_row v))) ≡ Ok v
 unfolding sshsig_at
@@ -235,10 +235,10 @@ lays_again v is_key some is_signature short =
     let p5 = p4 + length (string v.reserved) in
     let p6 = p5 + length (string (hash_name v.hash)) in
     then_step (magic_at sshsig_magic (start (concat (sshsig_row v)))) (tt, record { place = p1; rest = r1 }) after_magic (Ok v) (magic_back sshsig_magic 0 r1)
-    (then_step (of_wire (number_at w32 (record { place = p1; rest = r1 }))) (1, record { place = p2; rest = r2 }) after_version (Ok v) (number_back 1 p1 r2 (omega arith))
+    (then_step (as_body_error (number_at w32 (record { place = p1; rest = r1 }))) (1, record { place = p2; rest = r2 }) after_version (Ok v) (number_back 1 p1 r2 (omega arith))
     (then_step _ _ _ _ (key_back v.key p2 r3 is_key)
     (then_step _ _ _ _ (text_back v.namespace p3 r4 lengths.0)
-    (then_step _ _ _ _ (ap (λ (b : Bool). wants b errors.EmptyNamespace) (text_some v.namespace some))
+    (then_step _ _ _ _ (ap (λ (b : Bool). body_wants b errors.EmptyNamespace) (text_some v.namespace some))
     (then_step _ _ _ _ (text_back v.reserved p4 r5 lengths.1)
     (then_step _ _ _ _ (text_back (hash_name v.hash) p5 r6 (name_short v.hash))
     (then_step _ _ _ _ (named_hash v.hash)

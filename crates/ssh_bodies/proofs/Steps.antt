@@ -6,7 +6,7 @@ use Rattle.ssh_wire.specs.Laws.{ok_is}
 use Rattle.ssh_keys.specs.declared.error.KeyError.{KeyError}
 use Rattle.ssh_bodies.specs.declared.error.BodyError.{BodyError}
 use Rattle.ssh_bodies.specs.declared.error.BodyError.TheVariants as errors
-use Rattle.ssh_bodies.specs.BodyReading.{of_wire, of_key, wants}
+use Rattle.ssh_bodies.specs.BodyReading.{as_body_error, of_key, body_wants}
 
 -- a step that did not fail, and what follows it
 pub after_step : {A B E P : Type 0} (r : Result A E) (f : A → Result B E) (y : B) → (r >>= f) ≡ Ok y → ((x : A) → r ≡ Ok x → f x ≡ Ok y → P) → P
@@ -29,7 +29,7 @@ stop_step r f e h = ap (λ (q : Result _ _). q >>= f) h
 pub err_is : {A : Type 0} (d e : BodyError) → (let r : Result A BodyError = Err d in r) ≡ Err e → d ≡ e
 err_is d e h = cc
 
-pub of_wire_ok : {A : Type 0} (r : Result A WireError) (y : A) → of_wire r ≡ Ok y → r ≡ Ok y
+pub of_wire_ok : {A : Type 0} (r : Result A WireError) (y : A) → as_body_error r ≡ Ok y → r ≡ Ok y
 of_wire_ok (Ok x) y e = ap (λ (z : _). Ok z) (ok_is {E = BodyError} x y e)
 of_wire_ok (Err d) y e = absurd cc
 
@@ -37,7 +37,7 @@ pub of_key_ok : {A : Type 0} (r : Result A KeyError) (y : A) → of_key r ≡ Ok
 of_key_ok (Ok x) y e = ap (λ (z : _). Ok z) (ok_is {E = BodyError} x y e)
 of_key_ok (Err d) y e = absurd cc
 
-pub of_wire_err : {A : Type 0} (r : Result A WireError) (e : BodyError) → of_wire r ≡ Err e → (w : WireError) × (r ≡ Err w) × (errors.Wire w ≡ e)
+pub of_wire_err : {A : Type 0} (r : Result A WireError) (e : BodyError) → as_body_error r ≡ Err e → (w : WireError) × (r ≡ Err w) × (errors.Wire w ≡ e)
 of_wire_err (Ok x) e h = absurd cc
 of_wire_err {A} (Err w) e h = (w, refl, err_is {A = A} (errors.Wire w) e h)
 
@@ -45,11 +45,11 @@ pub of_key_err : {A : Type 0} (r : Result A KeyError) (e : BodyError) → of_key
 of_key_err (Ok x) e h = absurd cc
 of_key_err {A} (Err k) e h = (k, refl, err_is {A = A} (errors.Key k) e h)
 
-pub wants_ok : (b : Bool) (d : BodyError) (u : Unit {0}) → wants b d ≡ Ok u → b ≡ true
+pub wants_ok : (b : Bool) (d : BodyError) (u : Unit {0}) → body_wants b d ≡ Ok u → b ≡ true
 wants_ok true d u e = refl
 wants_ok false d u e = absurd cc
 
-pub wants_err : (b : Bool) (d e : BodyError) → wants b d ≡ Err e → (b ≡ false) × (d ≡ e)
+pub wants_err : (b : Bool) (d e : BodyError) → body_wants b d ≡ Err e → (b ≡ false) × (d ≡ e)
 wants_err true d e h = absurd cc
 wants_err false d e h = (refl, err_is {A = Unit {0}} d e h)
 

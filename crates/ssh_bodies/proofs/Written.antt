@@ -5,7 +5,7 @@ use Rattle.std.proofs.lemmas.List.{append-nil, length-append, take-take, take_at
 use Rattle.ssh_wire.specs.Spelling.{string, uint32}
 use Rattle.ssh_keys.specs.PublicKey.{key_blob}
 use Rattle.ssh_keys.specs.Signature.{signature_blob}
-use Rattle.ssh_bodies.specs.Writing.{Keeps}
+use Rattle.ssh_wire.specs.Fronts.{Keeps}
 use Rattle.ssh_bodies.specs.Sshsig.{Sshsig, sshsig_magic, hash_name, digest_of, sshsig_blob, signed_bytes}
 
 -- four texts after a first one

@@ -16,9 +16,9 @@ abbrev pub ReadBody : Type 0 → Type 0
 ReadBody A = Result (A × Position) BodyError
 
 -- a fault of a value is one of the body's
-abbrev pub of_wire : {A : Type 0} → Result A WireError → Result A BodyError
-of_wire (Ok x) = Ok x
-of_wire (Err e) = Err (errors.Wire e)
+abbrev pub as_body_error : {A : Type 0} → Result A WireError → Result A BodyError
+as_body_error (Ok x) = Ok x
+as_body_error (Err e) = Err (errors.Wire e)
 
 -- a fault of the public key is one of the body's
 abbrev pub of_key : {A : Type 0} → Result A KeyError → Result A BodyError
@@ -31,9 +31,9 @@ of_inner place (Ok x) = Ok x
 of_inner place (Err e) = Err (errors.Wire (record { place = place + e.place; cause = e.cause }))
 
 -- a test that must hold
-abbrev pub wants : Bool → BodyError → Result (Unit {0}) BodyError
-wants true e = Ok tt
-wants false e = Err e
+abbrev pub body_wants : Bool → BodyError → Result (Unit {0}) BodyError
+body_wants true e = Ok tt
+body_wants false e = Err e
 
 -- the magic bytes
 abbrev pub magic_at : List ℕ → Position → ReadBody (Unit {0})
@@ -42,16 +42,16 @@ magic_at magic at = if bytes_eq (take (length magic) at.rest) magic then Ok (tt,
 -- a public key, whose places count from its own first byte
 unfoldable pub key_at : Position → ReadBody PublicKey
 key_at at = do
-  blob ← of_wire (string_at at)
+  blob ← as_body_error (string_at at)
   key ← of_key (key_in blob.0)
   Ok (key, blob.1)
 
 -- a number above zero
-unfoldable pub positive_at : Position → ReadBody ℕ
-positive_at at = do
-  n ← of_wire (mpint_at at)
+unfoldable pub body_positive_at : Position → ReadBody ℕ
+body_positive_at at = do
+  n ← as_body_error (mpint_at at)
   if n.0 == 0 then Err (errors.Wire (record { place = at.place; cause = Value })) else Ok n
 
 -- no byte is left in the body
 abbrev pub last_at : Position → Result (Unit {0}) BodyError
-last_at at = wants (length at.rest == 0) errors.Trailing
+last_at at = body_wants (length at.rest == 0) errors.Trailing

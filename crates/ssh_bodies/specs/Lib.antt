@@ -13,4 +13,3 @@ pub mod SectionFault
 pub mod PrivateFault
 pub mod PrivateOf
 pub mod PrivateMaking
-pub mod Writing

@@ -6,7 +6,7 @@ use Rattle.ssh_keys.specs.KeyReading.{key_from}
 use Rattle.ssh_keys.specs.PublicKey.{longest}
 use Rattle.ssh_bodies.specs.declared.error.BodyError.{BodyError}
 use Rattle.ssh_bodies.specs.declared.error.BodyError.TheVariants as errors
-use Rattle.ssh_bodies.specs.BodyReading.{of_key, wants}
+use Rattle.ssh_bodies.specs.BodyReading.{of_key, body_wants}
 use Rattle.ssh_bodies.specs.PrivateKey.{PrivateKey, private_ed25519, PrivateBody, public_of, is_private_in_range, private_blob}
 
 -- secret fields that are out of their ranges: an Ed25519 secret is not the public key's, or a number is zero
@@ -18,6 +18,6 @@ range_fault key = errors.Wire (record { place = 0; cause = Value })
 unfoldable pub private_from : PrivateBody → Result PrivateBody BodyError
 private_from v = do
   _ ← of_key (key_from (public_of v.key))
-  _ ← wants (is_private_in_range v.key) (range_fault v.key)
-  _ ← wants (nat_le (length (private_blob v)) longest) errors.TooLong
+  _ ← body_wants (is_private_in_range v.key) (range_fault v.key)
+  _ ← body_wants (nat_le (length (private_blob v)) longest) errors.TooLong
   Ok v

@@ -8,7 +8,7 @@ use Rattle.ssh_keys.specs.Names.{key_name_of}
 use Rattle.ssh_keys.specs.PublicKey.{PublicKey, rsa, p256, p384, p521, ed25519, sk_p256, sk_ed25519, kind_of, longest}
 use Rattle.ssh_bodies.specs.declared.error.BodyError.{BodyError}
 use Rattle.ssh_bodies.specs.declared.error.BodyError.TheVariants as errors
-use Rattle.ssh_bodies.specs.BodyReading.{ReadBody, of_wire, wants, magic_at, key_at, positive_at, last_at}
+use Rattle.ssh_bodies.specs.BodyReading.{ReadBody, as_body_error, body_wants, magic_at, key_at, body_positive_at, last_at}
 use Rattle.ssh_bodies.specs.PrivateKey.{PrivateKey, private_rsa, private_p256, private_p384, private_p521, private_ed25519, private_sk_p256, private_sk_ed25519, PrivateBody, padding, private_magic}
 
 -- the numbers of an RSA key
@@ -22,12 +22,12 @@ pub record RsaNumbers : Type 0 where
 
 unfoldable pub rsa_at : Position → ReadBody RsaNumbers
 rsa_at at = do
-  n ← positive_at at
-  e ← positive_at n.1
-  d ← positive_at e.1
-  c ← positive_at d.1
-  p ← positive_at c.1
-  q ← positive_at p.1
+  n ← body_positive_at at
+  e ← body_positive_at n.1
+  d ← body_positive_at e.1
+  c ← body_positive_at d.1
+  p ← body_positive_at c.1
+  q ← body_positive_at p.1
   Ok (record { modulus = n.0; exponent = e.0; private_exponent = d.0; coefficient = c.0; prime1 = p.0; prime2 = q.0 }, q.1)
 
 -- the fields of a key on a curve
@@ -38,16 +38,16 @@ pub record OnCurve : Type 0 where
 
 unfoldable pub curve_at : Position → ReadBody OnCurve
 curve_at at = do
-  curve ← of_wire (string_at at)
-  point ← of_wire (string_at curve.1)
-  scalar ← positive_at point.1
+  curve ← as_body_error (string_at at)
+  point ← as_body_error (string_at curve.1)
+  scalar ← body_positive_at point.1
   Ok (record { curve = curve.0; point = point.0; scalar = scalar.0 }, scalar.1)
 
 -- the fields of an Ed25519 key
 unfoldable pub ed25519_at : Position → ReadBody (List ℕ × List ℕ)
 ed25519_at at = do
-  public ← of_wire (string_at at)
-  secret ← of_wire (string_at public.1)
+  public ← as_body_error (string_at at)
+  secret ← as_body_error (string_at public.1)
   Ok ((public.0, secret.0), secret.1)
 
 -- what a body keeps of a security key
@@ -59,10 +59,10 @@ pub record KeyHandle : Type 0 where
 
 unfoldable pub handle_at : Position → ReadBody KeyHandle
 handle_at at = do
-  application ← of_wire (string_at at)
-  flags ← of_wire (byte_at application.1)
-  key_handle ← of_wire (string_at flags.1)
-  reserved ← of_wire (string_at key_handle.1)
+  application ← as_body_error (string_at at)
+  flags ← as_body_error (byte_at application.1)
+  key_handle ← as_body_error (string_at flags.1)
+  reserved ← as_body_error (string_at key_handle.1)
   Ok (record { application = application.0; flags = flags.0; key_handle = key_handle.0; reserved = reserved.0 }, reserved.1)
 
 -- a private key, and whether its public fields are those of the public key and its strings have their lengths
@@ -86,12 +86,12 @@ private_at (ed25519 a) at = do
   k ← ed25519_at at
   Ok ((private_ed25519 k.0.0 k.0.1, bytes_eq k.0.0 a && ((length k.0.1 == 64) && bytes_eq (drop 32 k.0.1) a)), k.1)
 private_at (sk_p256 q s) at = do
-  curve ← of_wire (string_at at)
-  point ← of_wire (string_at curve.1)
+  curve ← as_body_error (string_at at)
+  point ← as_body_error (string_at curve.1)
   k ← handle_at point.1
   Ok ((private_sk_p256 point.0 (k.0).application (k.0).flags (k.0).key_handle (k.0).reserved, bytes_eq curve.0 (codes "nistp256") && (bytes_eq point.0 q && bytes_eq (k.0).application s)), k.1)
 private_at (sk_ed25519 a s) at = do
-  public ← of_wire (string_at at)
+  public ← as_body_error (string_at at)
   k ← handle_at public.1
   Ok ((private_sk_ed25519 public.0 (k.0).application (k.0).flags (k.0).key_handle (k.0).reserved, bytes_eq public.0 a && bytes_eq (k.0).application s), k.1)
 
@@ -102,32 +102,32 @@ is_padding rest = nat_le (length rest) 254 && bytes_eq rest (padding (length res
 -- the private section, which is to be this public key's
 unfoldable pub section_at : PublicKey → Position → Result PrivateBody BodyError
 section_at public at = do
-  check ← of_wire (number_at w32 at)
-  again ← of_wire (number_at w32 check.1)
-  _ ← wants (check.0 == again.0) errors.CheckMismatch
-  name ← of_wire (string_at again.1)
-  _ ← wants (bytes_eq name.0 (key_name_of (kind_of public))) errors.PublicMismatch
+  check ← as_body_error (number_at w32 at)
+  again ← as_body_error (number_at w32 check.1)
+  _ ← body_wants (check.0 == again.0) errors.CheckMismatch
+  name ← as_body_error (string_at again.1)
+  _ ← body_wants (bytes_eq name.0 (key_name_of (kind_of public))) errors.PublicMismatch
   key ← private_at public name.1
-  _ ← wants key.0.1 errors.PublicMismatch
-  comment ← of_wire (string_at key.1)
-  _ ← wants (is_padding (comment.1).rest) errors.Padding
+  _ ← body_wants key.0.1 errors.PublicMismatch
+  comment ← as_body_error (string_at key.1)
+  _ ← body_wants (is_padding (comment.1).rest) errors.Padding
   Ok (record { check = check.0; key = key.0.0; comment = comment.0 })
 
 -- no cipher, no key derivation and no options for it
 unfoldable pub not_encrypted_at : Position → ReadBody (Unit {0})
 not_encrypted_at at = do
-  cipher ← of_wire (string_at at)
-  kdf ← of_wire (string_at cipher.1)
-  options ← of_wire (string_at kdf.1)
-  _ ← wants (bytes_eq cipher.0 (codes "none") && (bytes_eq kdf.0 (codes "none") && (length options.0 == 0))) errors.Encrypted
+  cipher ← as_body_error (string_at at)
+  kdf ← as_body_error (string_at cipher.1)
+  options ← as_body_error (string_at kdf.1)
+  _ ← body_wants (bytes_eq cipher.0 (codes "none") && (bytes_eq kdf.0 (codes "none") && (length options.0 == 0))) errors.Encrypted
   Ok (tt, options.1)
 
 -- Where the last string of the bytes has its text, which is a multiple of 8 long.
 unfoldable pub section_start : Position → ReadBody (Unit {0})
 section_start at = do
-  text ← of_wire (string_at at)
+  text ← as_body_error (string_at at)
   _ ← last_at text.1
-  _ ← wants (length text.0 % 8 == 0) errors.NotMultipleOfEight
+  _ ← body_wants (length text.0 % 8 == 0) errors.NotMultipleOfEight
   Ok (tt, record { place = at.place + 4; rest = text.0 })
 
 -- a body that is short enough
@@ -135,8 +135,8 @@ unfoldable pub body_at : Position → Result PrivateBody BodyError
 body_at at = do
   magic ← magic_at private_magic at
   plain ← not_encrypted_at magic.1
-  count ← of_wire (number_at w32 plain.1)
-  _ ← wants (count.0 == 1) errors.KeyCount
+  count ← as_body_error (number_at w32 plain.1)
+  _ ← body_wants (count.0 == 1) errors.KeyCount
   public ← key_at count.1
   inside ← section_start public.1
   section_at public.0 inside.1

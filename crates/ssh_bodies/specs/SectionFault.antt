@@ -35,8 +35,8 @@ abbrev pub NoCheck : PublicKey → List ℕ → ℕ → Type 0
 NoCheck public section place = (rest : List ℕ) × (SectionStands public 0 section place rest ⊎ SectionStands public 1 section place rest) × NoNumber rest
 
 -- the type name or the comment does not begin
-abbrev pub NoText : PublicKey → List ℕ → ℕ → Type 0
-NoText public section place = (rest : List ℕ) × (SectionStands public 2 section place rest ⊎ SectionStands public 4 section place rest) × NoString rest
+abbrev pub NoSectionText : PublicKey → List ℕ → ℕ → Type 0
+NoSectionText public section place = (rest : List ℕ) × (SectionStands public 2 section place rest ⊎ SectionStands public 4 section place rest) × NoString rest
 
 -- the second check number is another than the first
 abbrev pub ChecksDiffer : PublicKey → List ℕ → Type 0
@@ -53,45 +53,45 @@ NoPadding public section = (place : ℕ) × (rest : List ℕ) × SectionStands p
 -- ---- the fields of the private key
 
 -- a sort of field: a number above zero, any string, a byte
-pub data Sort : Type 0 where
-  number : Sort
-  text : Sort
-  byte : Sort
+pub data SectionFieldSort : Type 0 where
+  number : SectionFieldSort
+  text : SectionFieldSort
+  byte : SectionFieldSort
 
 -- the row of fields after the type name (PROTOCOL.key)
-abbrev pub sorts_of : KeyKind → List Sort
-sorts_of Rsa = number ∷ number ∷ number ∷ number ∷ number ∷ number ∷ []
-sorts_of P256 = text ∷ text ∷ number ∷ []
-sorts_of P384 = text ∷ text ∷ number ∷ []
-sorts_of P521 = text ∷ text ∷ number ∷ []
-sorts_of Ed25519 = text ∷ text ∷ []
-sorts_of SkP256 = text ∷ text ∷ text ∷ byte ∷ text ∷ text ∷ []
-sorts_of SkEd25519 = text ∷ text ∷ byte ∷ text ∷ text ∷ []
+abbrev pub section_sorts_of : KeyKind → List SectionFieldSort
+section_sorts_of Rsa = number ∷ number ∷ number ∷ number ∷ number ∷ number ∷ []
+section_sorts_of P256 = text ∷ text ∷ number ∷ []
+section_sorts_of P384 = text ∷ text ∷ number ∷ []
+section_sorts_of P521 = text ∷ text ∷ number ∷ []
+section_sorts_of Ed25519 = text ∷ text ∷ []
+section_sorts_of SkP256 = text ∷ text ∷ text ∷ byte ∷ text ∷ text ∷ []
+section_sorts_of SkEd25519 = text ∷ text ∷ byte ∷ text ∷ text ∷ []
 
 -- the bytes are one field of this sort
-abbrev pub IsField : Sort → List ℕ → Type 0
+abbrev pub IsField : SectionFieldSort → List ℕ → Type 0
 IsField number field = (n : ℕ) × (0 < n) × (field ≡ mpint n)
 IsField text field = (bytes : List ℕ) × (field ≡ string bytes)
 IsField byte field = (b : ℕ) × (field ≡ b ∷ [])
 
 -- one field of each sort, whatever it holds
-abbrev pub AreFields : List Sort → List (List ℕ) → Type 0
+abbrev pub AreFields : List SectionFieldSort → List (List ℕ) → Type 0
 AreFields [] [] = Unit {0}
 AreFields (sort ∷ sorts) (field ∷ fields) = IsField sort field × AreFields sorts fields
 AreFields [] (field ∷ fields) = ⊥
 AreFields (sort ∷ sorts) [] = ⊥
 
 -- why no field of this sort begins the rest: as with the number or the string of a public key; no byte is left
-abbrev pub IsMissing : WireCause → Sort → List ℕ → Type 0
+abbrev pub IsMissing : WireCause → SectionFieldSort → List ℕ → Type 0
 IsMissing cause number rest = keys.IsUnread cause keys.number rest
 IsMissing cause text rest = keys.IsUnread cause keys.text rest
 IsMissing cause byte rest = (cause ≡ Short) × (rest ≡ [])
 
 -- fields of the first sorts stand, up to the place, and no field of the next sort begins there
-pub record StopsShort (sorts : List Sort) (bytes : List ℕ) (place : ℕ) (cause : WireCause) : Type 0 where
-  pub before : List Sort
-  pub sort : Sort
-  pub after : List Sort
+pub record StopsShort (sorts : List SectionFieldSort) (bytes : List ℕ) (place : ℕ) (cause : WireCause) : Type 0 where
+  pub before : List SectionFieldSort
+  pub sort : SectionFieldSort
+  pub after : List SectionFieldSort
   pub row : sorts ≡ before ++ sort ∷ after
   pub fields : List (List ℕ)
   pub are : AreFields before fields
@@ -101,13 +101,13 @@ pub record StopsShort (sorts : List Sort) (bytes : List ℕ) (place : ℕ) (caus
   pub missing : IsMissing cause sort rest
 
 -- the type name stands, and after it some of the fields of its kind, up to one that does not begin
-pub record InKey (public : PublicKey) (section : List ℕ) (place : ℕ) (cause : WireCause) : Type 0 where
+pub record InSectionKey (public : PublicKey) (section : List ℕ) (place : ℕ) (cause : WireCause) : Type 0 where
   pub first : ℕ
   pub fields : List ℕ
   pub stands : SectionStands public 3 section first fields
   pub inner : ℕ
   pub at : place ≡ first + inner
-  pub stops : StopsShort (sorts_of (kind_of public)) fields inner cause
+  pub stops : StopsShort (section_sorts_of (kind_of public)) fields inner cause
 
 -- All fields of the kind stand, and they are those of no private key with this public half: a public field
 -- is another, or an Ed25519 secret is not 64 bytes with the public key at their end.
@@ -116,14 +116,14 @@ pub record OtherKey (public : PublicKey) (section : List ℕ) : Type 0 where
   pub fields : List (List ℕ)
   pub rest : List ℕ
   pub stands : SectionStands public 3 section place (concat fields ++ rest)
-  pub are : AreFields (sorts_of (kind_of public)) fields
+  pub are : AreFields (section_sorts_of (kind_of public)) fields
   pub none : (key : PrivateKey) → public_of key ≡ public → IsTrue (is_private_in_range key) → fields ≢ private_fields key
 
 -- ---- the first fault
 
 -- a value cannot be taken, at its place in the section
 abbrev pub IsValueFault : PublicKey → List ℕ → ℕ → WireCause → Type 0
-IsValueFault public section place cause = ((cause ≡ Short) × (NoCheck public section place ⊎ NoText public section place)) ⊎ InKey public section place cause
+IsValueFault public section place cause = ((cause ≡ Short) × (NoCheck public section place ⊎ NoSectionText public section place)) ⊎ InSectionKey public section place cause
 
 -- Each field before stands in its range, and this one does not. (So many bytes stand before the section.)
 abbrev pub IsSectionFault : PublicKey → ℕ → List ℕ → BodyError → Type 0

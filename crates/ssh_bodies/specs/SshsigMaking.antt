@@ -7,7 +7,7 @@ use Rattle.ssh_keys.specs.Signature.{Signature, signature_blob, signature_in}
 use Rattle.ssh_bodies.specs.declared.error.BodyError.{BodyError}
 use Rattle.ssh_bodies.specs.declared.error.BodyError.TheVariants as errors
 use Rattle.ssh_bodies.specs.declared.hash.HashName.{HashName}
-use Rattle.ssh_bodies.specs.BodyReading.{of_key, of_wire, wants}
+use Rattle.ssh_bodies.specs.BodyReading.{of_key, as_body_error, body_wants}
 use Rattle.ssh_bodies.specs.Sshsig.{Sshsig, sshsig_blob, IsSshsig}
 
 -- a file signature with these fields, its key and its signature by their blobs, which has a body
@@ -27,7 +27,7 @@ sshsig_with key namespace reserved hash signature = record { key = key; namespac
 unfoldable pub sshsig_from : List ℕ → List ℕ → List ℕ → HashName → List ℕ → Result Sshsig BodyError
 sshsig_from key_text namespace reserved hash signature_text = do
   key ← of_key (key_in key_text)
-  _ ← wants (nat_lt 0 (length namespace)) errors.EmptyNamespace
-  signature ← of_wire (signature_in signature_text)
-  _ ← wants (nat_le (length (sshsig_blob (sshsig_with key namespace reserved hash signature))) longest) errors.TooLong
+  _ ← body_wants (nat_lt 0 (length namespace)) errors.EmptyNamespace
+  signature ← as_body_error (signature_in signature_text)
+  _ ← body_wants (nat_le (length (sshsig_blob (sshsig_with key namespace reserved hash signature))) longest) errors.TooLong
   Ok (sshsig_with key namespace reserved hash signature)

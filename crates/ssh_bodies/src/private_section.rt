@@ -7,7 +7,7 @@ ghost use Rattle.ssh_wire.specs.Reading.{Gives, Reads};
 ghost use Rattle.ssh_keys.specs.Curves.{curve_name_of};
 ghost use Rattle.ssh_keys.specs.KeyOf.{key_of};
 ghost use Rattle.ssh_keys.specs.View.{public_key};
-ghost use Rattle.ssh_bodies.specs.BodyReading.{positive_at};
+ghost use Rattle.ssh_bodies.specs.BodyReading.{body_positive_at};
 ghost use Rattle.ssh_bodies.specs.PrivateFrom.{private_key};
 ghost use Rattle.ssh_bodies.specs.PrivateKey.{padding};
 ghost use Rattle.ssh_bodies.specs.PrivateReading.{
@@ -54,9 +54,9 @@ struct HandlePart<'a> {
 }
 
 /// Takes a number above zero.
-#[tactic(auto, unfolding(crate::specs::BodyReading::positive_at))]
+#[tactic(auto, unfolding(crate::specs::BodyReading::body_positive_at))]
 fn take_positive<'a>(cursor: &mut Cursor<'a>) -> Result<Mpint<'a>, BodyError>
-    ensures { Reads number_of positive_at cursor.old result cursor.new }
+    ensures { Reads number_of body_positive_at cursor.old result cursor.new }
 {
     let place = cursor.place();
     let number = cursor.take_mpint()?;

@@ -14,7 +14,7 @@ ghost use Rattle.ssh_bodies.specs.PrivateKey.{
   section_front,
 };
 ghost use Rattle.ssh_bodies.specs.PrivateOf.{private_body};
-ghost use Rattle.ssh_bodies.specs.Writing.{Keeps};
+ghost use Rattle.ssh_wire.specs.Fronts.{Keeps};
 
 use crate::private::{NO_OPTIONS, NONE, PRIVATE_MAGIC};
 use crate::private_fields::PrivateFields;

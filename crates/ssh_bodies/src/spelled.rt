@@ -3,7 +3,7 @@
 ghost use Rattle.std.specs.Prelude.{◌≡◌, ◌≤◌, ◌∷◌, [], ◌++◌, ℕ, List, length, OnOk, OnErr};
 ghost use Rattle.ssh_wire.specs.Spelling.{string, uint32};
 ghost use Rattle.ssh_keys.specs.PublicKey.{longest};
-ghost use Rattle.ssh_bodies.specs.Writing.{Keeps};
+ghost use Rattle.ssh_wire.specs.Fronts.{Keeps};
 
 use ssh_wire::{Wire, put_string};
 use std::alloc::AllocError;

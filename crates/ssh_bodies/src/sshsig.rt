@@ -6,7 +6,7 @@ ghost use Rattle.ssh_wire.specs.Reading.{Gives, Reads};
 ghost use Rattle.ssh_keys.specs.Signature.{signature_of, signature_blob as spelled_signature};
 ghost use Rattle.ssh_bodies.specs.Sshsig.{Sshsig, IsSshsigBlob, sshsig_magic};
 ghost use Rattle.ssh_bodies.specs.SshsigFault.{IsSshsigFault};
-ghost use Rattle.ssh_bodies.specs.SshsigReading.{signature_at, sshsig_at, sshsig_in};
+ghost use Rattle.ssh_bodies.specs.SshsigReading.{sshsig_signature_at, sshsig_at, sshsig_in};
 ghost use Rattle.ssh_bodies.specs.SshsigOf.{sshsig_of};
 
 use crate::error::BodyError;
@@ -20,9 +20,9 @@ use ssh_wire::{Cursor, WireError};
 pub(crate) const SSHSIG_MAGIC: &[u8] = b"SSHSIG";
 
 /// Takes the signature, and gives its blob too.
-#[tactic(auto, unfolding(crate::specs::SshsigReading::signature_at))]
+#[tactic(auto, unfolding(crate::specs::SshsigReading::sshsig_signature_at))]
 fn take_signature<'a>(cursor: &mut Cursor<'a>) -> Result<(SignatureView<'a>, &'a [u8]), BodyError>
-    ensures exact { Reads (λ signature. signature_of signature.0) signature_at cursor.old result
+    ensures exact { Reads (λ signature. signature_of signature.0) sshsig_signature_at cursor.old result
         cursor.new }
     ensures spelled { IfOk result
         (λ signature. signature.1.now ≡ spelled_signature (signature_of signature.0)) }

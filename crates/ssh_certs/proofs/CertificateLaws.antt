@@ -24,7 +24,7 @@ use Rattle.ssh_keys.proofs.SignatureLaws.{signature_takes, signature_again}
 use Rattle.ssh_certs.specs.declared.error.CertError.{CertError}
 use Rattle.ssh_certs.specs.declared.error.CertError.TheVariants as errors
 use Rattle.ssh_certs.specs.Certificate.{Certificate, CertOption, packed_names, packed_options, rest_row, signed_row, signed_part, certificate_blob, IsCertificate, IsCertificateBlob}
-use Rattle.ssh_certs.specs.CertificateReading.{as_fault, of_wire, kind_from, names_at, options_at, signer_fault, option_at, signer_at, signature_at, certificate_at, certificate_in}
+use Rattle.ssh_certs.specs.CertificateReading.{as_fault, as_cert_error, certified_kind_from, names_at, options_at, signer_fault, cert_option_at, signer_at, cert_signature_at, certificate_at, certificate_in}
 use Rattle.ssh_certs.proofs.Items.{FitsString, FitsOption, string_item, option_item, spelled_option}
 use Rattle.ssh_certs.proofs.PackedLists.{as_fault_ok, packed_takes, packed_again, all_fit}
 
@@ -67,19 +67,19 @@ find_some p (y ∷ ys) x e = go (λ f. find_some p ys x f) (p y) refl e
     go deep true h f = let same : y ≡ x = cc in ap p (sym same) ∙ h
     go deep false h f = deep f
 
-class_certificate : (a b : Option KeyKind) (r : Bool) (kind : KeyKind) → kind_from (class_by a b r) ≡ Ok kind → b ≡ Some kind
+class_certificate : (a b : Option KeyKind) (r : Bool) (kind : KeyKind) → certified_kind_from (class_by a b r) ≡ Ok kind → b ≡ Some kind
 class_certificate (Some k) b r kind e = absurd cc
 class_certificate None (Some k) r kind e = cc
 class_certificate None None true kind e = absurd cc
 class_certificate None None false kind e = absurd cc
 
-pub kind_named : (name : List ℕ) (kind : KeyKind) → kind_from (class_of name) ≡ Ok kind → name ≡ certificate_name_of kind
+pub kind_named : (name : List ℕ) (kind : KeyKind) → certified_kind_from (class_of name) ≡ Ok kind → name ≡ certificate_name_of kind
 unfolding certificate_kind
 kind_named name kind e =
     sym ((bytes_eq-Decides (certificate_name_of kind) name).0 (find_some (λ k. bytes_eq (certificate_name_of k) name) kinds kind
     (class_certificate (plain_kind name) (certificate_kind name) (bytes_eq name (codes "ssh-dss")) kind e)))
 
-pub named_kind : (kind : KeyKind) → kind_from (class_of (certificate_name_of kind)) ≡ Ok kind
+pub named_kind : (kind : KeyKind) → certified_kind_from (class_of (certificate_name_of kind)) ≡ Ok kind
 unfolding plain_kind certificate_kind
 named_kind Rsa = refl
 named_kind P256 = refl
@@ -94,7 +94,7 @@ named_kind SkEd25519 = refl
 pub signer_takes : (at : Position) (key : PublicKey) (after : Position) → IsBytes at.rest → signer_at at ≡ Ok (key, after) → Took at (string (key_blob key)) after × IsKey key
 unfolding signer_at
 signer_takes at key after fits e =
-    let a = bind_ok (of_wire (string_at at)) (λ blob. as_fault signer_fault (key_in blob.0) >>= λ key. fine (key, blob.1)) (key, after) e in
+    let a = bind_ok (as_cert_error (string_at at)) (λ blob. as_fault signer_fault (key_in blob.0) >>= λ key. fine (key, blob.1)) (key, after) e in
     let b = bind_ok (as_fault signer_fault (key_in a.0.0)) (λ key. fine (key, a.0.1)) (key, after) a.2 in
     let t = string_takes at a.0.0 a.0.1 fits (as_fault_ok errors.Wire (string_at at) a.0 a.1) in
     let is = key_takes a.0.0 b.0 (string_fits at a.0.0 a.0.1 fits t.0) (as_fault_ok signer_fault (key_in a.0.0) b.0 b.1) in
@@ -106,10 +106,10 @@ signer_again : (key : PublicKey) (place : ℕ) (rest : List ℕ) → IsKey key
 unfolding signer_at
 signer_again key place rest is = rw (string_again (key_blob key) place rest (omega (arith, is.length)), key_again key is) refl
 
-pub signature_at_takes : (at : Position) (s : Signature) (after : Position) → IsBytes at.rest → signature_at at ≡ Ok (s, after) → Took at (string (signature_blob s)) after × IsSignature s
-unfolding signature_at
+pub signature_at_takes : (at : Position) (s : Signature) (after : Position) → IsBytes at.rest → cert_signature_at at ≡ Ok (s, after) → Took at (string (signature_blob s)) after × IsSignature s
+unfolding cert_signature_at
 signature_at_takes at s after fits e =
-    let a = bind_ok (of_wire (string_at at)) (λ blob. as_fault errors.Signature (signature_in blob.0) >>= λ s. fine (s, blob.1)) (s, after) e in
+    let a = bind_ok (as_cert_error (string_at at)) (λ blob. as_fault errors.Signature (signature_in blob.0) >>= λ s. fine (s, blob.1)) (s, after) e in
     let b = bind_ok (as_fault errors.Signature (signature_in a.0.0)) (λ s. fine (s, a.0.1)) (s, after) a.2 in
     let t = string_takes at a.0.0 a.0.1 fits (as_fault_ok errors.Wire (string_at at) a.0 a.1) in
     let is = signature_takes a.0.0 b.0 (string_fits at a.0.0 a.0.1 fits t.0) (as_fault_ok errors.Signature (signature_in a.0.0) b.0 b.1) in
@@ -117,8 +117,8 @@ signature_at_takes at s after fits e =
     (subst (λ (text : List ℕ). Took at (string text) a.0.1) is.spelled t.0, is.is_signature)
 
 signature_at_again : (s : Signature) (place : ℕ) (rest : List ℕ) → IsSignature s
-    → signature_at (record { place = place; rest = string (signature_blob s) ++ rest }) ≡ Ok (s, record { place = place + length (string (signature_blob s)); rest = rest })
-unfolding signature_at
+    → cert_signature_at (record { place = place; rest = string (signature_blob s) ++ rest }) ≡ Ok (s, record { place = place + length (string (signature_blob s)); rest = rest })
+unfolding cert_signature_at
 signature_at_again s place rest is = rw (string_again (signature_blob s) place rest (omega (arith, is.length)), signature_again s is) refl
 
 -- ---- a whole blob
@@ -150,22 +150,22 @@ joins x e g = e ∙ ap (λ (t : List ℕ). x ++ t) g
 lays : (bytes : List ℕ) (c : Certificate) → IsBytes bytes → certificate_at (start bytes) ≡ Ok c → Lays bytes c
 unfolding certificate_at
 lays bytes c fits e =
-    after_step (of_wire (string_at (start bytes))) _ c e (λ name read_name e1.
-    after_step (kind_from (class_of name.0)) _ c e1 (λ kind read_kind e2.
-    after_step (of_wire (string_at name.1)) _ c e2 (λ nonce read_nonce e3.
+    after_step (as_cert_error (string_at (start bytes))) _ c e (λ name read_name e1.
+    after_step (certified_kind_from (class_of name.0)) _ c e1 (λ kind read_kind e2.
+    after_step (as_cert_error (string_at name.1)) _ c e2 (λ nonce read_nonce e3.
     after_step (as_fault errors.Key (fields_at kind nonce.1)) _ c e3 (λ key read_key e4.
-    after_step (of_wire (number_at w64 key.1)) _ c e4 (λ serial read_serial e5.
-    after_step (of_wire (number_at w32 serial.1)) _ c e5 (λ kind_number read_kind_number e6.
-    after_step (of_wire (string_at kind_number.1)) _ c e6 (λ key_id read_key_id e7.
+    after_step (as_cert_error (number_at w64 key.1)) _ c e4 (λ serial read_serial e5.
+    after_step (as_cert_error (number_at w32 serial.1)) _ c e5 (λ kind_number read_kind_number e6.
+    after_step (as_cert_error (string_at kind_number.1)) _ c e6 (λ key_id read_key_id e7.
     after_step (names_at key_id.1) _ c e7 (λ principals read_principals e8.
-    after_step (of_wire (number_at w64 principals.1)) _ c e8 (λ after read_after e9.
-    after_step (of_wire (number_at w64 after.1)) _ c e9 (λ before read_before e10.
+    after_step (as_cert_error (number_at w64 principals.1)) _ c e8 (λ after read_after e9.
+    after_step (as_cert_error (number_at w64 after.1)) _ c e9 (λ before read_before e10.
     after_step (options_at before.1) _ c e10 (λ critical read_critical e11.
     after_step (options_at critical.1) _ c e11 (λ extensions read_extensions e12.
-    after_step (of_wire (string_at extensions.1)) _ c e12 (λ reserved read_reserved e13.
+    after_step (as_cert_error (string_at extensions.1)) _ c e12 (λ reserved read_reserved e13.
     after_step (signer_at reserved.1) _ c e13 (λ signer read_signer e14.
-    after_step (signature_at signer.1) _ c e14 (λ signature read_signature e15.
-    after_step (of_wire (end_at signature.1)) _ c e15 (λ u read_end e16.
+    after_step (cert_signature_at signer.1) _ c e14 (λ signature read_signature e15.
+    after_step (as_cert_error (end_at signature.1)) _ c e15 (λ u read_end e16.
     let t_name = string_takes (start bytes) name.0 name.1 fits (as_fault_ok errors.Wire (string_at (start bytes)) name read_name) in
     let t_nonce = string_takes name.1 nonce.0 nonce.1 t_name.0.rest_fits (as_fault_ok errors.Wire (string_at name.1) nonce read_nonce) in
     let t_key = fields_take kind nonce.1 key.0 key.1 t_nonce.0.rest_fits (as_fault_ok errors.Key (fields_at kind nonce.1) key read_key) in
@@ -175,8 +175,8 @@ lays bytes c fits e =
     let t_principals = packed_takes string FitsString string_at string_item errors.Principals key_id.1 principals.0 principals.1 t_key_id.0.rest_fits read_principals in
     let t_after = number_takes w64 (2 ^ 64) wide64 principals.1 after.0 after.1 t_principals.rest_fits (as_fault_ok errors.Wire (number_at w64 principals.1) after read_after) in
     let t_before = number_takes w64 (2 ^ 64) wide64 after.1 before.0 before.1 t_after.0.rest_fits (as_fault_ok errors.Wire (number_at w64 after.1) before read_before) in
-    let t_critical = packed_takes spelled_option FitsOption option_at option_item errors.Options before.1 critical.0 critical.1 t_before.0.rest_fits read_critical in
-    let t_extensions = packed_takes spelled_option FitsOption option_at option_item errors.Options critical.1 extensions.0 extensions.1 t_critical.rest_fits read_extensions in
+    let t_critical = packed_takes spelled_option FitsOption cert_option_at option_item errors.Options before.1 critical.0 critical.1 t_before.0.rest_fits read_critical in
+    let t_extensions = packed_takes spelled_option FitsOption cert_option_at option_item errors.Options critical.1 extensions.0 extensions.1 t_critical.rest_fits read_extensions in
     let t_reserved = string_takes extensions.1 reserved.0 reserved.1 t_extensions.rest_fits (as_fault_ok errors.Wire (string_at extensions.1) reserved read_reserved) in
     let t_signer = signer_takes reserved.1 signer.0 signer.1 t_reserved.0.rest_fits read_signer in
     let t_signature = signature_at_takes signer.1 signature.0 signature.1 t_signer.0.rest_fits read_signature in
@@ -308,19 +308,19 @@ lays_again c is short =
     let p12 = p11 + length extensions in
     let p13 = p12 + length (string c.reserved) in
     let p14 = p13 + length (string (key_blob c.signer)) in
-    then_step _ _ _ _ (ap (λ (r : Read (List ℕ)). of_wire r) (string_again name 0 r2 (text_lt name r2 short)))
+    then_step _ _ _ _ (ap (λ (r : Read (List ℕ)). as_cert_error r) (string_again name 0 r2 (text_lt name r2 short)))
     (then_step _ _ _ _ (named_kind (kind_of c.key))
-    (then_step _ _ _ _ (ap (λ (r : Read (List ℕ)). of_wire r) (string_again c.nonce p2 r3 (text_lt c.nonce r3 s2)))
+    (then_step _ _ _ _ (ap (λ (r : Read (List ℕ)). as_cert_error r) (string_again c.nonce p2 r3 (text_lt c.nonce r3 s2)))
     (then_step _ _ _ _ (ap (λ (r : ReadKey PublicKey). as_fault errors.Key r) (fields_again c.key p3 r4 is.key (front fields r4 s3)))
-    (then_step _ _ _ _ (ap (λ (r : Read ℕ). of_wire r) (number_again w64 (2 ^ 64) wide64 c.serial p4 r5 is.serial))
-    (then_step _ _ _ _ (ap (λ (r : Read ℕ). of_wire r) (number_again w32 (2 ^ 32) wide32 c.kind_number p5 r6 is.kind_number))
-    (then_step _ _ _ _ (ap (λ (r : Read (List ℕ)). of_wire r) (string_again c.key_id p6 r7 (text_lt c.key_id r7 s6)))
+    (then_step _ _ _ _ (ap (λ (r : Read ℕ). as_cert_error r) (number_again w64 (2 ^ 64) wide64 c.serial p4 r5 is.serial))
+    (then_step _ _ _ _ (ap (λ (r : Read ℕ). as_cert_error r) (number_again w32 (2 ^ 32) wide32 c.kind_number p5 r6 is.kind_number))
+    (then_step _ _ _ _ (ap (λ (r : Read (List ℕ)). as_cert_error r) (string_again c.key_id p6 r7 (text_lt c.key_id r7 s6)))
     (then_step _ _ _ _ (packed_again string FitsString string_at string_item errors.Principals c.principals p7 r8 (names_fit c.principals r8 s7) (text_lt (packed_names c.principals) r8 s7))
-    (then_step _ _ _ _ (ap (λ (r : Read ℕ). of_wire r) (number_again w64 (2 ^ 64) wide64 c.after p8 r9 is.after))
-    (then_step _ _ _ _ (ap (λ (r : Read ℕ). of_wire r) (number_again w64 (2 ^ 64) wide64 c.before p9 r10 is.before))
-    (then_step _ _ _ _ (packed_again spelled_option FitsOption option_at option_item errors.Options c.critical p10 r11 (options_fit c.critical r11 s10) (text_lt (packed_options c.critical) r11 s10))
-    (then_step _ _ _ _ (packed_again spelled_option FitsOption option_at option_item errors.Options c.extensions p11 r12 (options_fit c.extensions r12 s11) (text_lt (packed_options c.extensions) r12 s11))
-    (then_step _ _ _ _ (ap (λ (r : Read (List ℕ)). of_wire r) (string_again c.reserved p12 r13 (text_lt c.reserved r13 s12)))
+    (then_step _ _ _ _ (ap (λ (r : Read ℕ). as_cert_error r) (number_again w64 (2 ^ 64) wide64 c.after p8 r9 is.after))
+    (then_step _ _ _ _ (ap (λ (r : Read ℕ). as_cert_error r) (number_again w64 (2 ^ 64) wide64 c.before p9 r10 is.before))
+    (then_step _ _ _ _ (packed_again spelled_option FitsOption cert_option_at option_item errors.Options c.critical p10 r11 (options_fit c.critical r11 s10) (text_lt (packed_options c.critical) r11 s10))
+    (then_step _ _ _ _ (packed_again spelled_option FitsOption cert_option_at option_item errors.Options c.extensions p11 r12 (options_fit c.extensions r12 s11) (text_lt (packed_options c.extensions) r12 s11))
+    (then_step _ _ _ _ (ap (λ (r : Read (List ℕ)). as_cert_error r) (string_again c.reserved p12 r13 (text_lt c.reserved r13 s12)))
     (then_step _ _ _ _ (signer_again c.signer p13 r14 is.signer)
     (then_step _ _ _ _ (signature_at_again c.signature p14 [] is.signature)
     refl))))))))))))))

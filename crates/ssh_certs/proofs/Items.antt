@@ -13,7 +13,7 @@ use Rattle.ssh_wire.specs.Fronts.{IsBytes, Took}
 use Rattle.ssh_wire.specs.Laws.{Took-then, bind_ok, ok_is, fine, string_takes, string_again}
 use Rattle.ssh_wire.proofs.RowLemmas.{bind_err, string_place}
 use Rattle.ssh_certs.specs.Certificate.{CertOption}
-use Rattle.ssh_certs.specs.CertificateReading.{items_within, items_in, option_at}
+use Rattle.ssh_certs.specs.CertificateReading.{items_within, items_in, cert_option_at}
 use Rattle.ssh_certs.specs.Packed.{without_items}
 
 -- an item that is read as it is spelled, takes bytes, and is refused within its text
@@ -42,7 +42,7 @@ spelled_option o = string o.name ++ string o.value
 abbrev pub FitsOption : CertOption → Type 0
 FitsOption o = FitsString o.name × FitsString o.value
 
-option_takes : (at : Position) (o : CertOption) (after : Position) → IsBytes at.rest → option_at at ≡ Ok (o, after) → Took at (spelled_option o) after × FitsOption o
+option_takes : (at : Position) (o : CertOption) (after : Position) → IsBytes at.rest → cert_option_at at ≡ Ok (o, after) → Took at (spelled_option o) after × FitsOption o
 option_takes at o after fits e =
     let a = bind_ok (string_at at) (λ name. string_at name.1 >>= λ value. fine (record { name = name.0; value = value.0 }, value.1)) (o, after) e in
     let b = bind_ok (string_at a.0.1) (λ value. fine (record { name = a.0.0; value = value.0 }, value.1)) (o, after) a.2 in
@@ -55,16 +55,16 @@ abbrev option_read : CertOption → ℕ → List ℕ → Read CertOption
 option_read o place rest = Ok (o, record { place = place; rest = rest })
 
 option_again : (o : CertOption) (place : ℕ) (rest : List ℕ) → FitsOption o
-    → option_at (record { place = place; rest = spelled_option o ++ rest }) ≡ Ok (o, record { place = place + length (spelled_option o); rest = rest })
+    → cert_option_at (record { place = place; rest = spelled_option o ++ rest }) ≡ Ok (o, record { place = place + length (spelled_option o); rest = rest })
 option_again o place rest fits =
     let far : place + length (string o.name) + length (string o.value) ≡ place + length (spelled_option o) = omega (arith, length-append (string o.name) (string o.value)) in
-    ap (λ (b : List ℕ). option_at (record { place = place; rest = b })) (append_assoc (string o.name) (string o.value) rest)
+    ap (λ (b : List ℕ). cert_option_at (record { place = place; rest = b })) (append_assoc (string o.name) (string o.value) rest)
     ∙ rw (string_again o.name place (string o.value ++ rest) fits.0, string_again o.value (place + length (string o.name)) rest fits.1) (ap (λ (k : ℕ). option_read o k rest) far)
 
 abbrev with_name : List ℕ → List ℕ × Position → Read CertOption
 with_name name value = Ok (record { name = name; value = value.0 }, value.1)
 
-option_within : (at : Position) (e : WireError) → IsBytes at.rest → option_at at ≡ Err e → e.place ≤ at.place + length at.rest
+option_within : (at : Position) (e : WireError) → IsBytes at.rest → cert_option_at at ≡ Err e → e.place ≤ at.place + length at.rest
 option_within at e fits h =
     elim (bind_err (string_at at) (λ name. string_at name.1 >>= with_name name.0) e h) [
       | inl first ↦ omega (arith, string_place at e first)
@@ -80,7 +80,7 @@ option_within at e fits h =
           | inr y ↦ absurd (let no : with_name name y.0 ≡ Err e = y.2 in cc)
         ]
 
-pub option_item : IsItem spelled_option FitsOption option_at
+pub option_item : IsItem spelled_option FitsOption cert_option_at
 option_item = record {
   takes = option_takes;
   again = option_again;

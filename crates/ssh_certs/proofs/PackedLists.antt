@@ -12,7 +12,7 @@ use Rattle.ssh_wire.specs.Reading.{◌>>=◌, Read, fault, number_at, string_at}
 use Rattle.ssh_wire.specs.Fronts.{IsBytes, Took}
 use Rattle.ssh_wire.specs.Laws.{bind_ok, guard_ok, ok_is, fine, string_takes, string_again, string_fits}
 use Rattle.ssh_certs.specs.declared.error.CertError.{CertError}
-use Rattle.ssh_certs.specs.CertificateReading.{as_fault, of_wire, items_in, packed_at}
+use Rattle.ssh_certs.specs.CertificateReading.{as_fault, as_cert_error, items_in, packed_at}
 use Rattle.ssh_certs.specs.Packed.{without_items}
 use Rattle.ssh_certs.proofs.Items.{IsItem, items_take, items_again}
 
@@ -59,7 +59,7 @@ module _ {A : Type 0} (spelling : A → List ℕ) (Fits : A → Type 0) (item : 
   unfolding packed_at
   packed_takes at xs after fits e =
       let inner = λ (text : List ℕ × Position). as_fault (λ e. list_fault (at.place + 4 + e.place)) (items_in item text.0) in
-      let a = bind_ok (of_wire (string_at at)) (λ text. inner text >>= λ items. fine (items, text.1)) (xs, after) e in
+      let a = bind_ok (as_cert_error (string_at at)) (λ text. inner text >>= λ items. fine (items, text.1)) (xs, after) e in
       let b = bind_ok (inner a.0) (λ items. fine (items, a.0.1)) (xs, after) a.2 in
       let read = as_fault_ok (λ e. list_fault (at.place + 4 + e.place)) (items_in item a.0.0) b.0 b.1 in
       let t = string_takes at a.0.0 a.0.1 fits (as_fault_ok _ (string_at at) a.0 a.1) in

@@ -10,7 +10,7 @@ use Rattle.ssh_keys.specs.PublicKey.{kind_of, fields_of, key_blob}
 use Rattle.ssh_keys.specs.Signature.{signature_of, signature_blob}
 use Rattle.ssh_certs.specs.declared.parts.CertParts.{CertParts}
 use Rattle.ssh_certs.specs.Certificate.{certificate_blob, packed_names, packed_options}
-use Rattle.ssh_certs.specs.Packed.{option_of}
+use Rattle.ssh_certs.specs.Packed.{option_in_packed}
 use Rattle.ssh_certs.specs.Parts.{certificate_of_parts}
 use Rattle.ssh_certs.proofs.CertificateLaws.{laid_out_is}
 use Rattle.ssh_certs.proofs.Items.{spelled_option}
@@ -32,10 +32,10 @@ pub row_spells : (v : CertParts) (name : List ℕ) → name ≡ certificate_name
     → spelled_parts v name (names_in v.principals.now) (options_in v.critical.now) (options_in v.extensions.now) ≡ certificate_blob (certificate_of_parts v)
 row_spells v name named =
     let names : names_in v.principals.now ≡ packed_names (map (λ n. n.now) v.principals.now) = sym (flat_map-map string (λ n. n.now) v.principals.now) in
-    let critical : options_in v.critical.now ≡ packed_options (map option_of v.critical.now) = sym (flat_map-map spelled_option option_of v.critical.now) in
-    let extensions : options_in v.extensions.now ≡ packed_options (map option_of v.extensions.now) = sym (flat_map-map spelled_option option_of v.extensions.now) in
+    let critical : options_in v.critical.now ≡ packed_options (map option_in_packed v.critical.now) = sym (flat_map-map spelled_option option_in_packed v.critical.now) in
+    let extensions : options_in v.extensions.now ≡ packed_options (map option_in_packed v.extensions.now) = sym (flat_map-map spelled_option option_in_packed v.extensions.now) in
     ap (λ (n : List ℕ). spelled_parts v n (names_in v.principals.now) (options_in v.critical.now) (options_in v.extensions.now)) named
     ∙ ap (λ (n : List ℕ). spelled_parts v (certificate_name_of (kind_of (key_of v.key))) n (options_in v.critical.now) (options_in v.extensions.now)) names
     ∙ ap (λ (n : List ℕ). spelled_parts v (certificate_name_of (kind_of (key_of v.key))) (packed_names (map (λ n. n.now) v.principals.now)) n (options_in v.extensions.now)) critical
-    ∙ ap (λ (n : List ℕ). spelled_parts v (certificate_name_of (kind_of (key_of v.key))) (packed_names (map (λ n. n.now) v.principals.now)) (packed_options (map option_of v.critical.now)) n) extensions
+    ∙ ap (λ (n : List ℕ). spelled_parts v (certificate_name_of (kind_of (key_of v.key))) (packed_names (map (λ n. n.now) v.principals.now)) (packed_options (map option_in_packed v.critical.now)) n) extensions
     ∙ sym (laid_out_is (certificate_of_parts v))

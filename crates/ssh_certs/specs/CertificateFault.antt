@@ -19,23 +19,23 @@ use Rattle.ssh_certs.specs.declared.error.CertError.TheVariants as errors
 use Rattle.ssh_certs.specs.Certificate.{Certificate, CertOption, packed_names, packed_options, rest_row, certificate_blob}
 
 -- a sort of field: a number of eight bytes, one of four, any string, packed names, packed options, a plain key, a signature
-pub data Sort : Type 0 where
-  long : Sort
-  short : Sort
-  text : Sort
-  names : Sort
-  options : Sort
-  signer : Sort
-  signature : Sort
+pub data CertificateFieldSort : Type 0 where
+  long : CertificateFieldSort
+  short : CertificateFieldSort
+  text : CertificateFieldSort
+  names : CertificateFieldSort
+  options : CertificateFieldSort
+  signer : CertificateFieldSort
+  signature : CertificateFieldSort
 
 -- the row of fields after the public key: serial, kind, key id, principals, after, before, critical options,
 -- extensions, reserved, signature key, signature
-abbrev pub sorts : List Sort
+abbrev pub sorts : List CertificateFieldSort
 sorts = long ∷ short ∷ text ∷ names ∷ long ∷ long ∷ options ∷ options ∷ text ∷ signer ∷ signature ∷ []
 
 -- the type name, the nonce and the fields of the public key, one after the other
-abbrev pub front_of : Certificate → List ℕ
-front_of c = string (certificate_name_of (kind_of c.key)) ++ (string c.nonce ++ concat (fields_of c.key))
+abbrev pub certificate_front : Certificate → List ℕ
+certificate_front c = string (certificate_name_of (kind_of c.key)) ++ (string c.nonce ++ concat (fields_of c.key))
 
 -- the fields after the public key
 abbrev pub tail_of : Certificate → List (List ℕ)
@@ -52,7 +52,7 @@ pub record IsInRange (c : Certificate) : Type 0 where
   pub signature : IsSignature c.signature
 
 -- no value of this sort begins the rest
-abbrev pub IsCut : Sort → List ℕ → Type 0
+abbrev pub IsCut : CertificateFieldSort → List ℕ → Type 0
 IsCut long rest = NoLongNumber rest
 IsCut short rest = NoNumber rest
 IsCut field rest = NoString rest
@@ -77,26 +77,26 @@ pub record OptionIsCut (inner : ℕ) (packed : List ℕ) : Type 0 where
 
 -- What is wrong with a field of this sort at this place. Of packed lists the fault's own place is told; places of
 -- the signature key and of the signature count from their own first byte.
-abbrev pub IsWrong : CertError → Sort → List ℕ → ℕ → Type 0
-IsWrong (errors.Wire e) field rest place = (e.place ≡ place) × (e.cause ≡ Short) × IsCut field rest
-IsWrong (errors.Principals p) names rest place = (inner : ℕ) × (p ≡ place + 4 + inner) × BeginsString (NameIsCut inner) rest
-IsWrong (errors.Options p) options rest place = (inner : ℕ) × (p ≡ place + 4 + inner) × BeginsString (OptionIsCut inner) rest
-IsWrong (errors.Signer e) signer rest place = (e ≢ key_errors.IsCertificate) × BeginsString (λ blob. IsFirstFault blob e) rest
-IsWrong errors.ChainedSigner signer rest place = BeginsString (λ blob. IsFirstFault blob key_errors.IsCertificate) rest
-IsWrong (errors.Signature e) signature rest place = BeginsString (λ blob. IsSignatureFault blob e) rest
-IsWrong e field rest place = ⊥
+abbrev pub IsWrongField : CertError → CertificateFieldSort → List ℕ → ℕ → Type 0
+IsWrongField (errors.Wire e) field rest place = (e.place ≡ place) × (e.cause ≡ Short) × IsCut field rest
+IsWrongField (errors.Principals p) names rest place = (inner : ℕ) × (p ≡ place + 4 + inner) × BeginsString (NameIsCut inner) rest
+IsWrongField (errors.Options p) options rest place = (inner : ℕ) × (p ≡ place + 4 + inner) × BeginsString (OptionIsCut inner) rest
+IsWrongField (errors.Signer e) signer rest place = (e ≢ key_errors.IsCertificate) × BeginsString (λ blob. IsFirstFault blob e) rest
+IsWrongField errors.ChainedSigner signer rest place = BeginsString (λ blob. IsFirstFault blob key_errors.IsCertificate) rest
+IsWrongField (errors.Signature e) signature rest place = BeginsString (λ blob. IsSignatureFault blob e) rest
+IsWrongField e field rest place = ⊥
 
 -- the fields up to one after the public key stand, and this one is wrong
 pub record InTail (bytes : List ℕ) (e : CertError) : Type 0 where
   pub value : Certificate
   pub fits : IsInRange value
-  pub before : List Sort
-  pub sort : Sort
-  pub after : List Sort
+  pub before : List CertificateFieldSort
+  pub sort : CertificateFieldSort
+  pub after : List CertificateFieldSort
   pub row : sorts ≡ before ++ sort ∷ after
   pub rest : List ℕ
-  pub begins : bytes ≡ front_of value ++ (concat (take (length before) (tail_of value)) ++ rest)
-  pub wrong : IsWrong e sort rest (length (front_of value) + length (concat (take (length before) (tail_of value))))
+  pub begins : bytes ≡ certificate_front value ++ (concat (take (length before) (tail_of value)) ++ rest)
+  pub wrong : IsWrongField e sort rest (length (certificate_front value) + length (concat (take (length before) (tail_of value))))
 
 -- the type name and the nonce stand, and a public field is wrong; places count in the whole blob
 pub record InKey (bytes : List ℕ) (e : KeyError) : Type 0 where
@@ -124,25 +124,25 @@ pub record IsLonger (bytes : List ℕ) (place : ℕ) : Type 0 where
 abbrev pub IsOtherName : List ℕ → Type 0
 IsOtherName name = (kind : KeyKind) → name ≢ certificate_name_of kind
 
-abbrev pub IsWireFault : List ℕ → ℕ → WireCause → Type 0
-IsWireFault bytes place Trailing = IsLonger bytes place
-IsWireFault bytes place Short = HeadIsCut bytes place ⊎ InTail bytes (errors.Wire (record { place = place; cause = Short }))
-IsWireFault bytes place cause = ⊥
+abbrev pub IsCertificateWireFault : List ℕ → ℕ → WireCause → Type 0
+IsCertificateWireFault bytes place Trailing = IsLonger bytes place
+IsCertificateWireFault bytes place Short = HeadIsCut bytes place ⊎ InTail bytes (errors.Wire (record { place = place; cause = Short }))
+IsCertificateWireFault bytes place cause = ⊥
 
 -- one statement for each cause of bytes that are within the limit
-abbrev pub IsFaultWithin : List ℕ → CertError → Type 0
-IsFaultWithin bytes (errors.Wire e) = IsWireFault bytes e.place e.cause
-IsFaultWithin bytes (errors.Key e) = InKey bytes e
-IsFaultWithin bytes errors.UnknownType = BeginsString IsOtherName bytes
-IsFaultWithin bytes (errors.Signer e) = InTail bytes (errors.Signer e)
-IsFaultWithin bytes errors.ChainedSigner = InTail bytes errors.ChainedSigner
-IsFaultWithin bytes (errors.Principals p) = InTail bytes (errors.Principals p)
-IsFaultWithin bytes (errors.Options p) = InTail bytes (errors.Options p)
-IsFaultWithin bytes (errors.Signature e) = InTail bytes (errors.Signature e)
-IsFaultWithin bytes errors.TooLong = ⊥
+abbrev pub IsCertificateFaultWithin : List ℕ → CertError → Type 0
+IsCertificateFaultWithin bytes (errors.Wire e) = IsCertificateWireFault bytes e.place e.cause
+IsCertificateFaultWithin bytes (errors.Key e) = InKey bytes e
+IsCertificateFaultWithin bytes errors.UnknownType = BeginsString IsOtherName bytes
+IsCertificateFaultWithin bytes (errors.Signer e) = InTail bytes (errors.Signer e)
+IsCertificateFaultWithin bytes errors.ChainedSigner = InTail bytes errors.ChainedSigner
+IsCertificateFaultWithin bytes (errors.Principals p) = InTail bytes (errors.Principals p)
+IsCertificateFaultWithin bytes (errors.Options p) = InTail bytes (errors.Options p)
+IsCertificateFaultWithin bytes (errors.Signature e) = InTail bytes (errors.Signature e)
+IsCertificateFaultWithin bytes errors.TooLong = ⊥
 
 -- The first fault: the bytes pass the limit; or they are within it, and each field before stands in its
 -- range, and this one does not; or all fields stand, and bytes are left at the place.
 abbrev pub IsCertificateFault : List ℕ → CertError → Type 0
 IsCertificateFault bytes errors.TooLong = longest < length bytes
-IsCertificateFault bytes e = (length bytes ≤ longest) × IsFaultWithin bytes e
+IsCertificateFault bytes e = (length bytes ≤ longest) × IsCertificateFaultWithin bytes e

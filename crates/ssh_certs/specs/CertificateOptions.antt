@@ -38,9 +38,9 @@ abbrev pub has_formed : CertificateOption → Certificate → Bool
 has_formed option c = list_any (is_formed option) (list_for option c)
 
 -- the text of the first such option, where its data is one string
-abbrev pub text_of : CertificateOption → Certificate → Option (List ℕ)
-text_of option c = option_and_then one_string (option_in (certificate_option_name option) (list_for option c))
+abbrev pub text_of_option : CertificateOption → Certificate → Option (List ℕ)
+text_of_option option c = option_and_then one_string (option_in (certificate_option_name option) (list_for option c))
 
 -- the command that the certificate forces
 abbrev pub forced_by_certificate : Certificate → Option (List ℕ)
-forced_by_certificate c = text_of ForceCommand c
+forced_by_certificate c = text_of_option ForceCommand c

@@ -23,11 +23,11 @@ as_fault f (Ok x) = Ok x
 as_fault f (Err e) = Err (f e)
 
 -- the kind of key whose certificates have this type name
-abbrev pub kind_from : NameClass → Result KeyKind CertError
-kind_from (CertificateOf kind) = Ok kind
-kind_from (Plain kind) = Err errors.UnknownType
-kind_from Retired = Err errors.UnknownType
-kind_from Other = Err errors.UnknownType
+abbrev pub certified_kind_from : NameClass → Result KeyKind CertError
+certified_kind_from (CertificateOf kind) = Ok kind
+certified_kind_from (Plain kind) = Err errors.UnknownType
+certified_kind_from Retired = Err errors.UnknownType
+certified_kind_from Other = Err errors.UnknownType
 
 -- Items one after the other to the end of the bytes. (An item takes bytes, so that as many turns as
 -- there are bytes suffice.)
@@ -43,8 +43,8 @@ abbrev pub items_in : {A : Type 0} → (Position → Read A) → List ℕ → Re
 items_in item text = items_within item (length text) (start text)
 
 -- an option's name and its data
-abbrev pub option_at : Position → Read CertOption
-option_at at = do
+abbrev pub cert_option_at : Position → Read CertOption
+cert_option_at at = do
   name ← string_at at
   value ← string_at name.1
   Ok (record { name = name.0; value = value.0 }, value.1)
@@ -54,13 +54,13 @@ abbrev pub ReadCert : Type 0 → Type 0
 ReadCert A = Result (A × Position) CertError
 
 -- a fault of a value is one of the certificate's
-abbrev pub of_wire : {A : Type 0} → Result A WireError → Result A CertError
-of_wire r = as_fault errors.Wire r
+abbrev pub as_cert_error : {A : Type 0} → Result A WireError → Result A CertError
+as_cert_error r = as_fault errors.Wire r
 
 -- a packed list; a string in it that passes the end is told by its place in the whole blob
 unfoldable pub packed_at : {A : Type 0} → (Position → Read A) → (ℕ → CertError) → Position → ReadCert (List A)
 packed_at item list_fault at = do
-  text ← of_wire (string_at at)
+  text ← as_cert_error (string_at at)
   items ← as_fault (λ e. list_fault (at.place + 4 + e.place)) (items_in item text.0)
   Ok (items, text.1)
 
@@ -70,7 +70,7 @@ names_at at = packed_at string_at errors.Principals at
 
 -- the critical options, or the extensions
 abbrev pub options_at : Position → ReadCert (List CertOption)
-options_at at = packed_at option_at errors.Options at
+options_at at = packed_at cert_option_at errors.Options at
 
 -- a certificate cannot sign
 abbrev pub signer_fault : KeyError → CertError
@@ -80,36 +80,36 @@ signer_fault e = errors.Signer e
 -- the signature key, a plain key's blob, whose places count from its own first byte
 unfoldable pub signer_at : Position → ReadCert PublicKey
 signer_at at = do
-  blob ← of_wire (string_at at)
+  blob ← as_cert_error (string_at at)
   key ← as_fault signer_fault (key_in blob.0)
   Ok (key, blob.1)
 
 -- the signature, whose places count from its own first byte
-unfoldable pub signature_at : Position → ReadCert Signature
-signature_at at = do
-  blob ← of_wire (string_at at)
+unfoldable pub cert_signature_at : Position → ReadCert Signature
+cert_signature_at at = do
+  blob ← as_cert_error (string_at at)
   signature ← as_fault errors.Signature (signature_in blob.0)
   Ok (signature, blob.1)
 
 -- a blob that is short enough
 unfoldable pub certificate_at : Position → Result Certificate CertError
 certificate_at at = do
-  name ← of_wire (string_at at)
-  kind ← kind_from (class_of name.0)
-  nonce ← of_wire (string_at name.1)
+  name ← as_cert_error (string_at at)
+  kind ← certified_kind_from (class_of name.0)
+  nonce ← as_cert_error (string_at name.1)
   key ← as_fault errors.Key (fields_at kind nonce.1)
-  serial ← of_wire (number_at w64 key.1)
-  kind_number ← of_wire (number_at w32 serial.1)
-  key_id ← of_wire (string_at kind_number.1)
+  serial ← as_cert_error (number_at w64 key.1)
+  kind_number ← as_cert_error (number_at w32 serial.1)
+  key_id ← as_cert_error (string_at kind_number.1)
   principals ← names_at key_id.1
-  after ← of_wire (number_at w64 principals.1)
-  before ← of_wire (number_at w64 after.1)
+  after ← as_cert_error (number_at w64 principals.1)
+  before ← as_cert_error (number_at w64 after.1)
   critical ← options_at before.1
   extensions ← options_at critical.1
-  reserved ← of_wire (string_at extensions.1)
+  reserved ← as_cert_error (string_at extensions.1)
   signer ← signer_at reserved.1
-  signature ← signature_at signer.1
-  _ ← of_wire (end_at signature.1)
+  signature ← cert_signature_at signer.1
+  _ ← as_cert_error (end_at signature.1)
   Ok (record {
     nonce = nonce.0;
     key = key.0;

@@ -3,15 +3,15 @@ use Rattle.std.specs.Prelude.{ℕ, List}
 use Rattle.ssh_certs.specs.declared.packed.Principals.{Principals}
 use Rattle.ssh_certs.specs.declared.packed.CertOptions.{CertOptions}
 use Rattle.ssh_certs.specs.Certificate.{CertOption, packed_names, packed_options}
-use Rattle.ssh_certs.specs.Packed.{names_of, options_of}
+use Rattle.ssh_certs.specs.Packed.{names_in_packed, options_in_packed}
 
 -- the principals that are still to come
 abbrev pub principals_left : Principals → List (List ℕ)
-principals_left names = names_of names.packed.now
+principals_left names = names_in_packed names.packed.now
 
 -- the options that are still to come
 abbrev pub options_left : CertOptions → List CertOption
-options_left options = options_of options.packed.now
+options_left options = options_in_packed options.packed.now
 
 -- the string that packs those principals
 abbrev pub packed_names_left : Principals → List ℕ

@@ -4,19 +4,19 @@ use Rattle.std.specs.Borrow.{Bor}
 use Rattle.std.specs.Result.{result_unwrap_or}
 use Rattle.ssh_wire.specs.Reading.{string_at}
 use Rattle.ssh_certs.specs.Certificate.{CertOption}
-use Rattle.ssh_certs.specs.CertificateReading.{items_in, option_at}
+use Rattle.ssh_certs.specs.CertificateReading.{items_in, cert_option_at}
 
 -- the names that a packed list spells
-abbrev pub names_of : List ℕ → List (List ℕ)
-names_of packed = result_unwrap_or (items_in string_at packed) []
+abbrev pub names_in_packed : List ℕ → List (List ℕ)
+names_in_packed packed = result_unwrap_or (items_in string_at packed) []
 
 -- the options that a packed list spells
-abbrev pub options_of : List ℕ → List CertOption
-options_of packed = result_unwrap_or (items_in option_at packed) []
+abbrev pub options_in_packed : List ℕ → List CertOption
+options_in_packed packed = result_unwrap_or (items_in cert_option_at packed) []
 
 -- an option by its name and its data
-abbrev pub option_of : Bor (List ℕ) × Bor (List ℕ) → CertOption
-option_of o = record { name = o.0.now; value = o.1.now }
+abbrev pub option_in_packed : Bor (List ℕ) × Bor (List ℕ) → CertOption
+option_in_packed o = record { name = o.0.now; value = o.1.now }
 
 -- whether reading came to the end, without what was read
 abbrev pub without_items : {A E : Type 0} → Result A E → Result (Unit {0}) E

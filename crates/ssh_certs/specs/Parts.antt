@@ -4,7 +4,7 @@ use Rattle.ssh_keys.specs.KeyOf.{key_of}
 use Rattle.ssh_keys.specs.Signature.{signature_of}
 use Rattle.ssh_certs.specs.declared.parts.CertParts.{CertParts}
 use Rattle.ssh_certs.specs.Certificate.{Certificate}
-use Rattle.ssh_certs.specs.Packed.{option_of}
+use Rattle.ssh_certs.specs.Packed.{option_in_packed}
 
 -- each part is the field of its name
 abbrev pub certificate_of_parts : CertParts → Certificate
@@ -17,8 +17,8 @@ certificate_of_parts v = record {
   principals = map (λ name. name.now) v.principals.now;
   after = v.after;
   before = v.before;
-  critical = map option_of v.critical.now;
-  extensions = map option_of v.extensions.now;
+  critical = map option_in_packed v.critical.now;
+  extensions = map option_in_packed v.extensions.now;
   reserved = v.reserved.now;
   signer = key_of v.signer;
   signature = signature_of v.signature;

@@ -5,7 +5,7 @@ ghost use Rattle.ssh_wire.specs.Reading.{string_at};
 ghost use Rattle.ssh_keys.specs.KeyOf.{key_of};
 ghost use Rattle.ssh_keys.specs.PublicKey.{key_blob};
 ghost use Rattle.ssh_keys.specs.Signature.{signature_of, signature_blob};
-ghost use Rattle.ssh_certs.specs.CertificateReading.{items_in, option_at};
+ghost use Rattle.ssh_certs.specs.CertificateReading.{items_in, cert_option_at};
 
 use ssh_keys::{KeyFields, KeyView, SignatureView};
 
@@ -28,8 +28,8 @@ pub(crate) struct CertFields<'a> {
     pub(crate) signature: SignatureView<'a>,
     pub(crate) raw_signature: &'a [u8],
     ghost principals_read: { IsOk (items_in string_at principals.now) },
-    ghost critical_read: { IsOk (items_in option_at critical.now) },
-    ghost extensions_read: { IsOk (items_in option_at extensions.now) },
+    ghost critical_read: { IsOk (items_in cert_option_at critical.now) },
+    ghost extensions_read: { IsOk (items_in cert_option_at extensions.now) },
     ghost signer_spelled: { raw_signer.now ≡ key_blob (key_of signer) },
     ghost signature_spelled: { raw_signature.now ≡ signature_blob (signature_of signature) },
 }

@@ -9,7 +9,7 @@ ghost use Rattle.ssh_certs.specs.CertificateOptions.{
   has_option,
   list_for,
   option_in,
-  text_of,
+  text_of_option,
 };
 ghost use Rattle.ssh_certs.specs.Left.{options_left};
 
@@ -75,7 +75,7 @@ impl<'a> CertView<'a> {
 
     /// The text of the first such option, where its data is one string.
     pub fn text_of(&self, option: CertificateOption) -> Option<&'a [u8]>
-        ensures { option_copied result ≡ text_of option (certificate_of self.now) }
+        ensures { option_copied result ≡ text_of_option option (certificate_of self.now) }
     {
         let data = option_in(option.name(), self.list_for(option))?;
         one_string(data)

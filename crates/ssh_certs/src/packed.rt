@@ -17,8 +17,8 @@ ghost use Rattle.std.specs.Iterator.{YieldsFirstRef, YieldsFirstBy, item_count};
 ghost use Rattle.std.specs.Str.{bytes_eq};
 ghost use Rattle.ssh_wire.specs.Reading.{Reads, string_at};
 ghost use Rattle.ssh_certs.specs.Certificate.{packed_names, packed_options};
-ghost use Rattle.ssh_certs.specs.CertificateReading.{items_in, option_at};
-ghost use Rattle.ssh_certs.specs.Packed.{names_of, options_of, option_of, without_items};
+ghost use Rattle.ssh_certs.specs.CertificateReading.{items_in, cert_option_at};
+ghost use Rattle.ssh_certs.specs.Packed.{names_in_packed, options_in_packed, option_in_packed, without_items};
 
 use ssh_wire::{Cursor, WireError};
 
@@ -35,7 +35,7 @@ impl<'a> Principals<'a> {
     /// The principals that are packed into this string.
     pub(crate) fn new(packed: &'a [u8]) -> Self
         requires { IsOk (items_in string_at packed.now) }
-        ensures { principals_left result ≡ names_of packed.entry.now }
+        ensures { principals_left result ≡ names_in_packed packed.entry.now }
     {
         Principals { packed }
     }
@@ -88,7 +88,7 @@ impl Eq for Principals<'_> {
 #[derive(Debug, Drop)]
 pub struct CertOptions<'a> {
     packed: &'a [u8],
-    ghost is_read: { IsOk (items_in option_at packed.now) },
+    ghost is_read: { IsOk (items_in cert_option_at packed.now) },
 }
 
 impl<'a> CertOptions<'a> {
@@ -96,8 +96,8 @@ impl<'a> CertOptions<'a> {
 
     /// The options that are packed into this string.
     pub(crate) fn new(packed: &'a [u8]) -> Self
-        requires { IsOk (items_in option_at packed.now) }
-        ensures { options_left result ≡ options_of packed.entry.now }
+        requires { IsOk (items_in cert_option_at packed.now) }
+        ensures { options_left result ≡ options_in_packed packed.entry.now }
     {
         CertOptions { packed }
     }
@@ -108,7 +108,7 @@ impl<'a> Iterator for CertOptions<'a> {
 
     type Item = (&'a [u8], &'a [u8]);
 
-    ghost next_gives = { YieldsFirstBy option_of options_left };
+    ghost next_gives = { YieldsFirstBy option_in_packed options_left };
 
     ghost remaining = { item_count options_left };
 
@@ -151,19 +151,19 @@ fn equal_names(a: &[u8], b: &[u8]) -> bool
     requires a { IsOk (items_in string_at a.now) }
     requires b { IsOk (items_in string_at b.now) }
     ensures packed { result
-        ≡ bytes_eq (packed_names (names_of a.now)) (packed_names (names_of b.now)) }
-    ensures same { IsTrue result ↔ (names_of a.now ≡ names_of b.now) }
+        ≡ bytes_eq (packed_names (names_in_packed a.now)) (packed_names (names_in_packed b.now)) }
+    ensures same { IsTrue result ↔ (names_in_packed a.now ≡ names_in_packed b.now) }
 {
     *a == *b
 }
 
 /// Packed options are equal where their strings are.
 fn equal_options(a: &[u8], b: &[u8]) -> bool
-    requires a { IsOk (items_in option_at a.now) }
-    requires b { IsOk (items_in option_at b.now) }
+    requires a { IsOk (items_in cert_option_at a.now) }
+    requires b { IsOk (items_in cert_option_at b.now) }
     ensures packed { result
-        ≡ bytes_eq (packed_options (options_of a.now)) (packed_options (options_of b.now)) }
-    ensures same { IsTrue result ↔ (options_of a.now ≡ options_of b.now) }
+        ≡ bytes_eq (packed_options (options_in_packed a.now)) (packed_options (options_in_packed b.now)) }
+    ensures same { IsTrue result ↔ (options_in_packed a.now ≡ options_in_packed b.now) }
 {
     *a == *b
 }
@@ -171,8 +171,8 @@ fn equal_options(a: &[u8], b: &[u8]) -> bool
 /// The first name, and what is packed after it.
 fn split_name(packed: &[u8]) -> Option<(&[u8], &[u8])>
     requires { IsOk (items_in string_at packed.now) }
-    ensures first { MatchOption result (names_of packed.now ≡ [])
-        (λ x. names_of packed.now ≡ x.0.now ∷ names_of x.1.now) }
+    ensures first { MatchOption result (names_in_packed packed.now ≡ [])
+        (λ x. names_in_packed packed.now ≡ x.0.now ∷ names_in_packed x.1.now) }
     ensures read { IfSome result (λ x. IsOk (items_in string_at x.1.now)) }
 {
     let mut cursor = Cursor::new(packed);
@@ -184,10 +184,10 @@ fn split_name(packed: &[u8]) -> Option<(&[u8], &[u8])>
 
 /// The first option, and what is packed after it.
 fn split_option(packed: &[u8]) -> Option<((&[u8], &[u8]), &[u8])>
-    requires { IsOk (items_in option_at packed.now) }
-    ensures first { MatchOption result (options_of packed.now ≡ [])
-        (λ x. options_of packed.now ≡ option_of x.0 ∷ options_of x.1.now) }
-    ensures read { IfSome result (λ x. IsOk (items_in option_at x.1.now)) }
+    requires { IsOk (items_in cert_option_at packed.now) }
+    ensures first { MatchOption result (options_in_packed packed.now ≡ [])
+        (λ x. options_in_packed packed.now ≡ option_in_packed x.0 ∷ options_in_packed x.1.now) }
+    ensures read { IfSome result (λ x. IsOk (items_in cert_option_at x.1.now)) }
 {
     let mut cursor = Cursor::new(packed);
     match take_option(&mut cursor) {
@@ -198,7 +198,7 @@ fn split_option(packed: &[u8]) -> Option<((&[u8], &[u8]), &[u8])>
 
 /// Takes an option: its name, then its data.
 fn take_option<'a>(cursor: &mut Cursor<'a>) -> Result<(&'a [u8], &'a [u8]), WireError>
-    ensures { Reads option_of option_at cursor.old result cursor.new }
+    ensures { Reads option_in_packed cert_option_at cursor.old result cursor.new }
 {
     let name = cursor.take_string()?;
     let value = cursor.take_string()?;
@@ -219,7 +219,7 @@ pub(crate) fn check_principals(packed: &[u8]) -> Result<(), WireError>
 
 /// Reads packed options to their end.
 pub(crate) fn check_options(packed: &[u8]) -> Result<(), WireError>
-    ensures exact { result ≡ without_items (items_in option_at packed.now) }
+    ensures exact { result ≡ without_items (items_in cert_option_at packed.now) }
     ensures within { IfErr result (λ e. e.place ≤ length packed.now) }
 {
     let mut cursor = Cursor::new(packed);

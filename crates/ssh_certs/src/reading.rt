@@ -12,19 +12,19 @@ ghost use Rattle.ssh_keys.specs.View.{public_key};
 ghost use Rattle.ssh_certs.specs.Certificate.{Certificate, IsCertificateBlob};
 ghost use Rattle.ssh_certs.specs.CertificateReading.{
   as_fault,
-  kind_from,
+  certified_kind_from,
   names_at,
   options_at,
   signer_at,
-  signature_at,
+  cert_signature_at,
   items_in,
-  option_at,
+  cert_option_at,
   certificate_at,
   certificate_in,
 };
 ghost use Rattle.ssh_certs.specs.CertificateFault.{IsCertificateFault};
 ghost use Rattle.ssh_certs.specs.CertificateOf.{certificate_of};
-ghost use Rattle.ssh_certs.specs.Packed.{names_of, options_of};
+ghost use Rattle.ssh_certs.specs.Packed.{names_in_packed, options_in_packed};
 ghost use Rattle.ssh_certs.specs.View.{certificate_from};
 
 use crate::error::CertError;
@@ -39,7 +39,7 @@ use ssh_wire::Cursor;
 
 /// The kind of key whose certificates have this type name.
 fn kind_named(name: &[u8]) -> Result<KeyKind, CertError>
-    ensures { result ≡ kind_from (class_of name.now) }
+    ensures { result ≡ certified_kind_from (class_of name.now) }
 {
     match name_class(name) {
         NameClass::Certificate(kind) => Ok(kind),
@@ -50,7 +50,7 @@ fn kind_named(name: &[u8]) -> Result<KeyKind, CertError>
 /// Takes packed principals.
 #[tactic(auto, unfolding(crate::specs::CertificateReading::packed_at))]
 fn take_principals<'a>(cursor: &mut Cursor<'a>) -> Result<&'a [u8], CertError>
-    ensures exact { Reads (λ packed. names_of packed.now) names_at cursor.old result cursor.new }
+    ensures exact { Reads (λ packed. names_in_packed packed.now) names_at cursor.old result cursor.new }
     ensures read { IfOk result (λ packed. IsOk (items_in string_at packed.now)) }
 {
     let packed = cursor.take_string()?;
@@ -64,9 +64,9 @@ fn take_principals<'a>(cursor: &mut Cursor<'a>) -> Result<&'a [u8], CertError>
 /// Takes packed options.
 #[tactic(auto, unfolding(crate::specs::CertificateReading::packed_at))]
 fn take_options<'a>(cursor: &mut Cursor<'a>) -> Result<&'a [u8], CertError>
-    ensures exact { Reads (λ packed. options_of packed.now) options_at cursor.old result
+    ensures exact { Reads (λ packed. options_in_packed packed.now) options_at cursor.old result
         cursor.new }
-    ensures read { IfOk result (λ packed. IsOk (items_in option_at packed.now)) }
+    ensures read { IfOk result (λ packed. IsOk (items_in cert_option_at packed.now)) }
 {
     let packed = cursor.take_string()?;
     let first = cursor.place() - packed.len();
@@ -91,9 +91,9 @@ fn take_signer<'a>(cursor: &mut Cursor<'a>) -> Result<(KeyView<'a>, &'a [u8]), C
 }
 
 /// Takes the signature, and gives its blob too.
-#[tactic(auto, unfolding(crate::specs::CertificateReading::signature_at))]
+#[tactic(auto, unfolding(crate::specs::CertificateReading::cert_signature_at))]
 fn take_signature<'a>(cursor: &mut Cursor<'a>) -> Result<(SignatureView<'a>, &'a [u8]), CertError>
-    ensures exact { Reads (λ signature. signature_of signature.0) signature_at cursor.old result
+    ensures exact { Reads (λ signature. signature_of signature.0) cert_signature_at cursor.old result
         cursor.new }
     ensures spelled { IfOk result
         (λ signature. signature.1.now ≡ signature_blob (signature_of signature.0)) }

@@ -5,7 +5,8 @@ ghost use Rattle.std.specs.List.{concat};
 ghost use Rattle.ssh_keys.specs.KeyOf.{key_of};
 ghost use Rattle.ssh_keys.specs.PublicKey.{fields_of, key_blob, longest};
 ghost use Rattle.ssh_keys.specs.Signature.{IsSignature, signature_of, signature_blob};
-ghost use Rattle.ssh_certs.specs.Writing.{capped, Keeps};
+ghost use Rattle.ssh_certs.specs.Writing.{capped};
+ghost use Rattle.ssh_wire.specs.Fronts.{Keeps};
 
 use crate::spelled::{Spelled, put_all, put_len, put_packed, total_len};
 use ssh_keys::{Curve, KeyFields, KeyView, SignatureView, write_key, write_signature};

@@ -4,7 +4,8 @@ ghost use Rattle.std.specs.Prelude.{◌≡◌, ◌≤◌, ◌<◌, ◌^◌, ◌+
 ghost use Rattle.std.specs.List.{flat_map};
 ghost use Rattle.ssh_wire.specs.Spelling.{string, uint32};
 ghost use Rattle.ssh_keys.specs.PublicKey.{longest};
-ghost use Rattle.ssh_certs.specs.Writing.{capped, Keeps};
+ghost use Rattle.ssh_certs.specs.Writing.{capped};
+ghost use Rattle.ssh_wire.specs.Fronts.{Keeps};
 
 use ssh_wire::{Wire, put_string};
 use std::alloc::AllocError;

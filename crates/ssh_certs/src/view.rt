@@ -179,14 +179,14 @@ impl PartialEq for CertView<'_> {
     ghost use Rattle.std.specs.Cmp.{on_per, partial_equiv_from_equiv};
     ghost use Rattle.std.specs.Cmp.Lexicographic.{nat_list_eq_equiv};
     ghost use Rattle.std.specs.Str.{bytes_eq};
-    ghost use Rattle.ssh_certs.specs.CertificateOf.{certificate_of, blob_of};
+    ghost use Rattle.ssh_certs.specs.CertificateOf.{certificate_of, certificate_blob_of};
 
-    ghost eq = { λ a b. bytes_eq (blob_of a) (blob_of b) };
+    ghost eq = { λ a b. bytes_eq (certificate_blob_of a) (certificate_blob_of b) };
 
-    ghost laws = { on_per blob_of (partial_equiv_from_equiv nat_list_eq_equiv) };
+    ghost laws = { on_per certificate_blob_of (partial_equiv_from_equiv nat_list_eq_equiv) };
 
     fn eq(&self, other: &Self) -> bool
-        ensures blobs { result ≡ bytes_eq (blob_of self.now) (blob_of other.now) }
+        ensures blobs { result ≡ bytes_eq (certificate_blob_of self.now) (certificate_blob_of other.now) }
         ensures same { IsTrue result ↔ (certificate_of self.now ≡ certificate_of other.now) }
     {
         *self.blob == *other.blob
@@ -196,7 +196,7 @@ impl PartialEq for CertView<'_> {
 impl Eq for CertView<'_> {
     ghost use Rattle.std.specs.Cmp.{on_equiv};
     ghost use Rattle.std.specs.Cmp.Lexicographic.{nat_list_eq_equiv};
-    ghost use Rattle.ssh_certs.specs.CertificateOf.{blob_of};
+    ghost use Rattle.ssh_certs.specs.CertificateOf.{certificate_blob_of};
 
-    ghost laws = { on_equiv blob_of nat_list_eq_equiv };
+    ghost laws = { on_equiv certificate_blob_of nat_list_eq_equiv };
 }

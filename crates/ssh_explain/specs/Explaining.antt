@@ -11,12 +11,12 @@ text_if None = []
 text_if (Some row) = row_text row
 
 -- the line of a code, if it has a row
-abbrev pub code_text : List ℕ → List ℕ
-code_text code = text_if (row_of code)
+abbrev pub code_line : List ℕ → List ℕ
+code_line code = text_if (row_of code)
 
 abbrev pub is_unknown : List ℕ → Bool
 is_unknown code = is_none (row_of code)
 
 -- the place of the first code that has no row
-abbrev pub first_unknown : List (List ℕ) → Option ℕ
-first_unknown names = position is_unknown names
+abbrev pub first_unknown_code : List (List ℕ) → Option ℕ
+first_unknown_code names = position is_unknown names

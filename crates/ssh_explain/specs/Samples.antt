@@ -1,12 +1,12 @@
 -- Worked examples of the definitions: lines of codes, and that each row of the table is the row of its own code.
 use Rattle.std.specs.Prelude.{◌≡◌, [], ◌∷◌, codes, map, Some, refl}
 use Rattle.ssh_explain.specs.Table.{answers, bodies, certificates, faults, fields, findings, keys, lines, reasons, row_of, table}
-use Rattle.ssh_explain.specs.Explaining.{code_text, first_unknown, row_text}
+use Rattle.ssh_explain.specs.Explaining.{code_line, first_unknown_code, row_text}
 
 abbrev pub LinesShown : Type 0
 LinesShown =
-    (code_text (codes "N3") ≡ codes "N3: no line admits the offer - read the reasons\n")
-    × (code_text (codes "K4") ≡ codes "K4: the type is a certificate's - a plain key is wanted here\n")
+    (code_line (codes "N3") ≡ codes "N3: no line admits the offer - read the reasons\n")
+    × (code_line (codes "K4") ≡ codes "K4: the type is a certificate's - a plain key is wanted here\n")
 
 pub lines_shown : LinesShown
 unfolding row_of table answers reasons lines findings faults keys row_text
@@ -15,7 +15,7 @@ lines_shown = (refl, refl)
 -- the first of two codes that no row has
 abbrev pub UnknownShown : Type 0
 UnknownShown =
-    first_unknown (codes "N3" ∷ codes "n3" ∷ codes "G2" ∷ []) ≡ Some 1
+    first_unknown_code (codes "N3" ∷ codes "n3" ∷ codes "G2" ∷ []) ≡ Some 1
 
 pub unknown_shown : UnknownShown
 unfolding row_of table answers reasons lines findings faults keys certificates fields bodies

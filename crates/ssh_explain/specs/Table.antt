@@ -5,15 +5,15 @@ use Rattle.std.specs.Borrow.{Bor}
 use Rattle.ssh_explain.specs.declared.row.Row.{Row}
 use Rattle.ssh_explain.specs.declared.table.TheConstants.{ANSWERS, REASONS, LINES, FINDINGS, FAULTS, KEYS, CERTIFICATES, FIELDS, BODIES}
 
--- what is said of a code: the code, the sentence that says what it means, and what to do about it
+-- what is told_row of a code: the code, the sentence that says what it means, and what to do about it
 pub record Told : Type 0 where
   pub code : List ℕ
   pub sentence : List ℕ
   pub remedy : List ℕ
 
 -- the same of a row that is handed out
-abbrev pub said : Row → Told
-said row = record { code = row.code.now; sentence = row.sentence.now; remedy = row.remedy.now }
+abbrev pub told_row : Row → Told
+told_row row = record { code = row.code.now; sentence = row.sentence.now; remedy = row.remedy.now }
 
 -- the same of three texts in memory
 abbrev pub told : Bor (List ℕ) × Bor (List ℕ) × Bor (List ℕ) → Told

@@ -13,8 +13,8 @@ ghost use Rattle.std.specs.Prelude.{
 };
 ghost use Rattle.std.specs.List.{flat_map};
 ghost use Rattle.ssh_explain.specs.declared.explaining.ExplainError.TheVariants.{Memory};
-ghost use Rattle.ssh_explain.specs.Explaining.{code_text, first_unknown, is_unknown, row_text};
-ghost use Rattle.ssh_explain.specs.Table.{said, table, told};
+ghost use Rattle.ssh_explain.specs.Explaining.{code_line, first_unknown_code, is_unknown, row_text};
+ghost use Rattle.ssh_explain.specs.Table.{told_row, table, told};
 
 use crate::row::{Row, row_from, row_of};
 use crate::sections::sections;
@@ -41,7 +41,7 @@ impl From<AllocError> for ExplainError {
 /// there.
 #[tactic(auto, unfolding(crate::specs::Explaining::row_text))]
 fn push_row(out: &mut Vec<u8>, row: Row) -> Result<(), AllocError>
-    ensures { OnOk result (out.new.items ≡ out.old.items ++ row_text (said row)) }
+    ensures { OnOk result (out.new.items ≡ out.old.items ++ row_text (told_row row)) }
 {
     out.extend_from_slice(row.code.as_bytes())?;
     out.extend_from_slice(b": ")?;
@@ -79,13 +79,13 @@ fn is_unknown(code: &str) -> bool
 }
 
 fn first_unknown(codes: &[&str]) -> Option<usize>
-    ensures { result ≡ first_unknown (map (λ code. code.now) codes.now) }
+    ensures { result ≡ first_unknown_code (map (λ code. code.now) codes.now) }
 {
     codes.iter().position(|code| is_unknown(code))
 }
 
 fn push_code(out: &mut Vec<u8>, code: &str) -> Result<(), AllocError>
-    ensures { OnOk result (out.new.items ≡ out.old.items ++ code_text code.now) }
+    ensures { OnOk result (out.new.items ≡ out.old.items ++ code_line code.now) }
 {
     if let Some(row) = row_of(code) {
         push_row(out, row)?;
@@ -95,7 +95,7 @@ fn push_code(out: &mut Vec<u8>, code: &str) -> Result<(), AllocError>
 
 fn push_codes(out: &mut Vec<u8>, codes: &[&str]) -> Result<(), AllocError>
     ensures text { OnOk result (out.new.items ≡ out.old.items
-        ++ flat_map code_text (map (λ code. code.now) codes.now)) }
+        ++ flat_map code_line (map (λ code. code.now) codes.now)) }
     ensures spare { length codes.now ≡ 0 → IsOk result }
 {
     for code in codes {
@@ -107,9 +107,9 @@ fn push_codes(out: &mut Vec<u8>, codes: &[&str]) -> Result<(), AllocError>
 /// The lines of these codes, in their order; or which one has no row, whatever memory does.
 pub fn explain(alloc: Global, codes: &[&str]) -> Result<Vec<u8>, ExplainError>
     ensures text { IfOk result (λ text. text.items
-        ≡ flat_map code_text (map (λ code. code.now) codes.now)) }
+        ≡ flat_map code_line (map (λ code. code.now) codes.now)) }
     ensures unknown { (k : ℕ) → result ≡ Err (ExplainError.Unknown k)
-        ↔ first_unknown (map (λ code. code.now) codes.now) ≡ Some k }
+        ↔ first_unknown_code (map (λ code. code.now) codes.now) ≡ Some k }
     ensures spare { length codes.now ≡ 0 → IsOk result }
 {
     if let Some(index) = first_unknown(codes) {

@@ -1,12 +1,12 @@
 //! Rows of the table, and how one is found.
 
 ghost use Rattle.std.specs.Prelude.{◌≡◌, find, map, option_map};
-ghost use Rattle.ssh_explain.specs.Table.{is_of, row_of, said, told};
+ghost use Rattle.ssh_explain.specs.Table.{is_of, row_of, told_row, told};
 
 use crate::sections::sections;
 use crate::table::Texts;
 
-/// What is said of a printed code.
+/// What is told_row of a printed code.
 #[derive(Clone, Copy, Debug)]
 pub struct Row {
     /// The code, or the word that stands for it.
@@ -19,7 +19,7 @@ pub struct Row {
 
 /// A row that stands in the source as three texts.
 pub(crate) fn row_from(texts: Texts) -> Row
-    ensures { said result ≡ told texts.entry }
+    ensures { told_row result ≡ told texts.entry }
 {
     Row {
         code: texts.0,
@@ -36,7 +36,7 @@ fn texts_in(section: &[Texts], code: &str) -> Option<Texts>
 
 /// The row of this code, byte for byte, if there is one.
 pub fn row_of(code: &str) -> Option<Row>
-    ensures { option_map said result ≡ row_of code.now }
+    ensures { option_map told_row result ≡ row_of code.now }
 {
     for section in sections() {
         if let Some(texts) = texts_in(section, code) {

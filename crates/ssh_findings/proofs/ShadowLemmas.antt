@@ -26,7 +26,7 @@ use Rattle.ssh_rules.proofs.AdmissionLemmas.{of-source}
 use Rattle.ssh_keys.specs.PublicKey.{key_blob}
 use Rattle.ssh_keys.proofs.KeyLaws.{find_some}
 use Rattle.std.proofs.lemmas.Slice.Eq.{bytes_eq-Decides}
-use Rattle.ssh_findings.specs.Earlier.{Held, held_entry, is_free, is_same, shadow}
+use Rattle.ssh_findings.specs.Earlier.{Held, held_entry, is_free, is_of_key, shadow}
 use Rattle.ssh_findings.specs.EntryFindings.{has_name_in, names_nobody, permits_bad}
 use Rattle.ssh_findings.specs.Facts.{facts_of}
 use Rattle.ssh_findings.specs.Lists.{says_name}
@@ -126,7 +126,7 @@ unlisted false found d h = (refl, h)
 
 -- by the tests
 tested : (zone : TimeZone) (e d : AuthEntry) (n : ℕ) (claim : LoginClaim)
-    → is_same (key_blob e.key) (is_authority e) (held_entry zone n d) ≡ true → is_free (facts_of zone d) ≡ true
+    → is_of_key (key_blob e.key) (is_authority e) (held_entry zone n d) ≡ true → is_free (facts_of zone d) ≡ true
     → (is_authority e && is_some (setting Principals e.options)) ≡ false → AdmitsLogin e claim → AdmitsLogin d claim
 unfolding facts_of
 tested zone e d n claim same unlimited alone a =
@@ -142,9 +142,9 @@ pub named : (zone : TimeZone) (earlier : List Held) (e d : AuthEntry) (n : ℕ) 
     → shadow earlier (key_blob e.key) (facts_of zone e) ≡ Some (held_entry zone n d) → AdmitsLogin e claim → AdmitsLogin d claim
 unfolding shadow facts_of
 named zone earlier e d n claim h a =
-    let test : Held → Bool = λ x. is_same (key_blob e.key) (is_authority e) x && is_free x.facts in
+    let test : Held → Bool = λ x. is_of_key (key_blob e.key) (is_authority e) x && is_free x.facts in
     let found = unlisted (is_authority e && is_some (setting Principals e.options)) (find test earlier) (held_entry zone n d) h in
-    let passed = and_parts (is_same (key_blob e.key) (is_authority e) (held_entry zone n d)) (is_free (facts_of zone d))
+    let passed = and_parts (is_of_key (key_blob e.key) (is_authority e) (held_entry zone n d)) (is_free (facts_of zone d))
     (find_some test earlier (held_entry zone n d) found.1) in
     tested zone e d n claim passed.0 passed.1 found.0 a
 

@@ -25,8 +25,8 @@ abbrev pub held_entry : TimeZone → ℕ → AuthEntry → Held
 held_entry zone n e = record { line = n; blob = key_blob e.key; facts = facts_of zone e }
 
 -- an entry of the same key, and an authority where that is asked
-abbrev pub is_same : List ℕ → Bool → Held → Bool
-is_same blob is_authority d =
+abbrev pub is_of_key : List ℕ → Bool → Held → Bool
+is_of_key blob is_authority d =
     bytes_eq d.blob blob && (if is_authority then d.facts.is_authority else not d.facts.is_authority)
 
 -- an entry lets its key in whenever, from wherever, and an authority for whatever command and for whomever it may be
@@ -38,7 +38,7 @@ is_free f =
 unfoldable pub shadow : List Held → List ℕ → Facts → Option Held
 shadow earlier blob f =
     if f.is_authority && is_some f.principals then None
-    else find (λ d. is_same blob f.is_authority d && is_free d.facts) earlier
+    else find (λ d. is_of_key blob f.is_authority d && is_free d.facts) earlier
 
 -- a command is forced, and another line forces none or another
 abbrev pub has_other_command : Option (List ℕ) → Option (List ℕ) → Bool
@@ -114,4 +114,4 @@ repeat_of (Some first) (Some free) f =
 
 -- F2 to F4: what earlier entries make of an entry with this blob
 unfoldable pub repeat_after : List Held → List ℕ → Facts → Option Finding
-repeat_after earlier blob f = repeat_of (find (λ d. is_same blob f.is_authority d) earlier) (shadow earlier blob f) f
+repeat_after earlier blob f = repeat_of (find (λ d. is_of_key blob f.is_authority d) earlier) (shadow earlier blob f) f

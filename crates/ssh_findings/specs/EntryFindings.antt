@@ -11,7 +11,7 @@ use Rattle.ssh_findings.specs.Asking.{Asking, is_told}
 use Rattle.ssh_findings.specs.Earlier.{Held, repeat_after}
 use Rattle.ssh_findings.specs.Findings.{code_of}
 use Rattle.ssh_findings.specs.Lists.{has_empty_name, has_name, is_bad_list, is_for_any_address}
-use Rattle.ssh_findings.specs.Moments.{is_past}
+use Rattle.ssh_findings.specs.Moments.{is_known_past}
 
 -- a finding, where it holds and its code is told
 unfoldable pub told_if : Asking → Bool → Finding → List Finding
@@ -44,7 +44,7 @@ names_nobody f = f.is_authority && is_some f.principals && not (has_name_in f.pr
 abbrev pub condition_findings : Asking → Facts → List Finding
 condition_findings asking f =
     short_findings asking f.bits
-    ++ told_if asking (is_past asking.now f.until) finding.Expired
+    ++ told_if asking (is_known_past asking.now f.until) finding.Expired
     ++ told_if asking (permits_bad f.from) finding.BadSources
     ++ told_if asking (names_nobody f) finding.NoPrincipal
 

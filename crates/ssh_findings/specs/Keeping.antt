@@ -8,7 +8,7 @@ use Rattle.ssh_findings.specs.declared.earlier.Earlier.{Earlier}
 use Rattle.ssh_findings.specs.declared.earlier.Free.{Free}
 use Rattle.ssh_findings.specs.declared.earlier.Kept.{Kept}
 use Rattle.ssh_findings.specs.declared.facts.Facts.{Facts}
-use Rattle.ssh_findings.specs.Earlier.{Held, given_of, is_free, is_same}
+use Rattle.ssh_findings.specs.Earlier.{Held, given_of, is_free, is_of_key}
 
 -- an entry that is free, by its line and what it gives
 abbrev pub free_on : ℕ → Facts → Option Free
@@ -21,8 +21,8 @@ free_of d = record { line = d.line; given = given_of d.facts }
 abbrev pub kept_of : List ℕ → Bool → List Held → Option Kept
 kept_of blob is_authority held =
     option_map
-    (λ first. record { first = first.line; free = option_map free_of (find (λ d. is_same blob is_authority d && is_free d.facts) held) })
-    (find (λ d. is_same blob is_authority d) held)
+    (λ first. record { first = first.line; free = option_map free_of (find (λ d. is_of_key blob is_authority d && is_free d.facts) held) })
+    (find (λ d. is_of_key blob is_authority d) held)
 
 -- the same once one more entry of the key follows
 abbrev pub kept_after : Option Kept → ℕ → Facts → Kept
@@ -38,7 +38,7 @@ abbrev pub kept_at : Earlier → List ℕ → Bool → Option Kept
 kept_at earlier blob is_authority = if is_authority then kept_in earlier.authorities blob else kept_in earlier.plain blob
 
 -- What is kept is right for these entries: it has of each key what is kept of them.
-pub record StandsFor (earlier : Earlier) (held : List Held) : Type 0 where
+pub record RemembersEntries (earlier : Earlier) (held : List Held) : Type 0 where
   pub plain : (blob : List ℕ) → kept_in earlier.plain blob ≡ kept_of blob false held
   pub authorities : (blob : List ℕ) → kept_in earlier.authorities blob ≡ kept_of blob true held
 

@@ -26,6 +26,6 @@ abbrev pub has_local_time : List (List ℕ) → Bool
 has_local_time texts = list_any (λ text. not (ends_with 90 text)) texts
 
 -- a moment is past once it is over; none is never past
-abbrev pub is_past : ℕ → Option ℤ → Bool
-is_past now None = false
-is_past now (Some moment) = not (le_z (pos now) moment)
+abbrev pub is_known_past : ℕ → Option ℤ → Bool
+is_known_past now None = false
+is_known_past now (Some moment) = not (le_z (pos now) moment)

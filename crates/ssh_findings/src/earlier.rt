@@ -25,9 +25,9 @@ ghost use Rattle.std.specs.Prelude.{
   option_map,
 };
 ghost use Rattle.ssh_byte_maps.specs.Entries.{IsUnchanged, sum_of};
-ghost use Rattle.ssh_findings.specs.Earlier.{Held, is_same, repeat_after, repeat_of, shadow};
+ghost use Rattle.ssh_findings.specs.Earlier.{Held, is_of_key, repeat_after, repeat_of, shadow};
 ghost use Rattle.ssh_findings.specs.Keeping.{
-  StandsFor,
+  RemembersEntries,
   free_of,
   free_on,
   kept_after,
@@ -140,7 +140,7 @@ fn repeat_by(kept: &Kept, facts: &Facts) -> Finding
 impl Earlier {
     /// What is kept where no entry stands before. No memory is taken.
     pub fn new(alloc: Global) -> Earlier
-        ensures stands { StandsFor result [] }
+        ensures stands { RemembersEntries result [] }
         ensures bytes { bytes_kept result ≡ 0 }
         ensures keys { keys_kept result ≡ 0 }
     {
@@ -174,7 +174,7 @@ impl Earlier {
     /// The number of the earlier line that lets the key of a line in, whatever the line says.
     pub fn shadow_line(&self, blob: &[u8], facts: &Facts) -> Option<u64>
         ensures { (held : List Held)
-            → StandsFor self.now held
+            → RemembersEntries self.now held
             → result ≡ option_map (λ d. d.line) (shadow held blob.now facts.now) }
     {
         match self.shadow(blob, facts) {
@@ -186,7 +186,7 @@ impl Earlier {
     /// F2 to F4: what the entries make of an entry with this blob.
     pub(crate) fn repeat(&self, blob: &[u8], facts: &Facts) -> Option<Finding>
         ensures { (held : List Held)
-            → StandsFor self.now held
+            → RemembersEntries self.now held
             → result ≡ repeat_after held blob.now facts.now }
     {
         match self.kept(blob, facts.is_authority) {
@@ -205,19 +205,19 @@ impl Earlier {
         facts: Facts,
     ) -> Result<(), AllocError>
         ensures ok { OnOk result ((held : List Held)
-            → StandsFor self.old held
-            → StandsFor self.new (held ++ record { line = line; blob = blob.now; facts = facts } ∷ [])) }
+            → RemembersEntries self.old held
+            → RemembersEntries self.new (held ++ record { line = line; blob = blob.now; facts = facts } ∷ [])) }
         // So what is held is no more than the blobs and the commands of the entries, and a place for
         // each, however a file repeats them.
         ensures bytes { OnOk result
             (bytes_kept self.new ≤ bytes_kept self.old + entry_bytes blob.now facts) }
         ensures keys { OnOk result (keys_kept self.new ≤ keys_kept self.old + 1) }
         ensures err { OnErr result ((held : List Held)
-            → StandsFor self.old held
-            → StandsFor self.new held) }
+            → RemembersEntries self.old held
+            → RemembersEntries self.new held) }
         ensures spare { (held : List Held)
-            → StandsFor self.old held
-            → IsSome (find (λ d. is_same blob.now facts.is_authority d) held)
+            → RemembersEntries self.old held
+            → IsSome (find (λ d. is_of_key blob.now facts.is_authority d) held)
             → IsOk result }
     {
         if facts.is_authority {

@@ -3,7 +3,7 @@
 ghost use Rattle.std.specs.Prelude.{◌≡◌, ◌++◌, [], List, IfOk, IsOk, OnOk};
 ghost use Rattle.ssh_findings.specs.Asking.{asking_of};
 ghost use Rattle.ssh_findings.specs.Earlier.{Held};
-ghost use Rattle.ssh_findings.specs.Keeping.{StandsFor};
+ghost use Rattle.ssh_findings.specs.Keeping.{RemembersEntries};
 ghost use Rattle.ssh_findings.specs.EntryFindings.{
   condition_findings,
   entry_findings,
@@ -224,11 +224,11 @@ pub fn entry_findings(
     facts: &Facts,
 ) -> Result<Vec<Finding>, AllocError>
     ensures value { IfOk result (λ found. (held : List Held)
-        → StandsFor earlier.now held
+        → RemembersEntries earlier.now held
         → found.items ≡ entry_findings (asking_of asked.entry.now) held blob.now facts.now) }
     // Only what is told takes memory: where nothing is, that is answered whatever memory does.
     ensures spare { (held : List Held)
-        → StandsFor earlier.now held
+        → RemembersEntries earlier.now held
         → entry_findings (asking_of asked.entry.now) held blob.now facts.now ≡ []
         → IsOk result }
 {

@@ -4,7 +4,7 @@ ghost use Rattle.std.specs.Prelude.{◌≡◌, IfOk};
 ghost use Rattle.jiff.specs.Words.{plain_zone};
 ghost use Rattle.ssh_options.specs.Settings.{settings};
 ghost use Rattle.ssh_options.specs.declared.option.ValueName.TheVariants.{ExpiryTime};
-ghost use Rattle.ssh_findings.specs.Moments.{earlier, has_local_time, is_past, until};
+ghost use Rattle.ssh_findings.specs.Moments.{earlier, has_local_time, is_known_past, until};
 
 use jiff::tz::TimeZone;
 use ssh_expiry::expiry;
@@ -57,7 +57,7 @@ pub(crate) fn has_local_time(alloc: Global, entry: &AuthEntryView<'_>) -> Result
 
 /// Whether a moment is past.
 pub(crate) fn is_past(now: u64, moment: Option<i64>) -> bool
-    ensures { result ≡ is_past now moment }
+    ensures { result ≡ is_known_past now moment }
 {
     match moment {
         None => false,

@@ -30,12 +30,12 @@ neighbours words = zip words (drop 1 words)
 abbrev pub is_letter : ℕ → Bool
 is_letter c = is_ascii_alphanumeric c || ((c == 43) || (c == 47))
 
-abbrev pub is_padding : ℕ → Bool
-is_padding c = c == 61
+abbrev pub is_base64_padding : ℕ → Bool
+is_base64_padding c = c == 61
 
 -- the longest front of a word that is base64 letters followed by padding
 abbrev pub base64_front : List ℕ → List ℕ
-base64_front word = take (prefix_len is_letter word + prefix_len is_padding (drop (prefix_len is_letter word) word)) word
+base64_front word = take (prefix_len is_letter word + prefix_len is_base64_padding (drop (prefix_len is_letter word) word)) word
 
 -- the key that is read, if one is
 abbrev pub key_if_read : Result KeyPart LineCause → Option PublicKey

@@ -24,7 +24,7 @@ ghost use Rattle.ssh_held_keys.specs.HeldKey.{
   held_key,
   held_of,
   is_letter,
-  is_padding,
+  is_base64_padding,
   key_if_read,
   key_in_words,
   neighbours,
@@ -110,7 +110,7 @@ fn letters_len(text: &[u8]) -> usize
 
 /// How many `=` signs stand at the front.
 fn padding_len(text: &[u8]) -> usize
-    ensures value { result ≡ prefix_len is_padding text.now }
+    ensures value { result ≡ prefix_len is_base64_padding text.now }
     ensures within { result ≤ length text.now }
 {
     for (i, byte) in text.iter().enumerate() {

@@ -13,19 +13,19 @@ use Rattle.ssh_host_findings.specs.Earlier.{other_line, revokes_blob, revoking, 
 use Rattle.ssh_host_findings.specs.Items.{has_item, is_plain}
 use Rattle.ssh_host_findings.specs.Least.{least_line, lesser, line_if}
 use Rattle.ssh_host_findings.specs.Maps.{least_other, line_at, other_of_kind}
-use Rattle.ssh_host_findings.specs.StandsFor.{KeepsKeys, StandsFor, has_names, names_other, says_named}
+use Rattle.ssh_host_findings.specs.StandsFor.{KeepsKeys, RemembersLines, has_names, names_other, says_named}
 use Rattle.ssh_host_findings.proofs.LeastLemmas.{grown, kept, least_none, least_or, least_same, lesser_assoc, lesser_none}
 
 -- ---- what is found
 
-pub trusting_found : (m : EarlierHosts) (lines : List HostLine) (bytes : List ℕ) → StandsFor m lines
+pub trusting_found : (m : EarlierHosts) (lines : List HostLine) (bytes : List ℕ) → RemembersLines m lines
     → lesser (line_at m.hosts bytes) (line_at m.authorities bytes) ≡ trusting_line lines bytes
 trusting_found m lines bytes s =
     ap (λ o. lesser o (line_at m.authorities bytes)) (s.hosts bytes)
     ∙ ap (lesser (least_line (trusts_blob false bytes) lines)) (s.authorities bytes)
     ∙ sym (least_or (trusts_blob false bytes) (trusts_blob true bytes) lines)
 
-pub same_found : (m : EarlierHosts) (lines : List HostLine) (blob : List ℕ) (f : HostFacts) → StandsFor m lines
+pub same_found : (m : EarlierHosts) (lines : List HostLine) (blob : List ℕ) (f : HostFacts) → RemembersLines m lines
     → cond f.is_authority (line_at m.authorities blob) (line_at m.hosts blob) ≡ same_line lines blob f
 same_found m lines blob f s = go f.is_authority
   where
@@ -75,7 +75,7 @@ shared-is kind list (Trusts other is_authority others) c =
     any-guarded (not is_authority) (same_kind other kind) c (λ x. has_item x others) (pieces_left list)
 shared-is kind list Revokes c = none-any c (pieces_left list)
 
-pub least_found : (m : EarlierHosts) (lines : List HostLine) (kind : KeyKind) (blob : List ℕ) (items : List (List ℕ)) → StandsFor m lines
+pub least_found : (m : EarlierHosts) (lines : List HostLine) (kind : KeyKind) (blob : List ℕ) (items : List (List ℕ)) → RemembersLines m lines
     → least_other m.named kind blob items ≡ least_line (λ d. list_any (λ x. names_other kind x blob d) items) lines
 least_found m lines kind blob [] s = sym (least_none lines)
 least_found m lines kind blob (x ∷ xs) s =
@@ -83,7 +83,7 @@ least_found m lines kind blob (x ∷ xs) s =
     ∙ ap (lesser (least_line (names_other kind x blob) lines)) (least_found m lines kind blob xs s)
     ∙ sym (least_or (names_other kind x blob) (λ d. list_any (λ y. names_other kind y blob d) xs) lines)
 
-pub other_found : (m : EarlierHosts) (lines : List HostLine) (kind : KeyKind) (blob : List ℕ) (list : Option (List ℕ)) → StandsFor m lines
+pub other_found : (m : EarlierHosts) (lines : List HostLine) (kind : KeyKind) (blob : List ℕ) (list : Option (List ℕ)) → RemembersLines m lines
     → least_other m.named kind blob (pieces_left list) ≡ least_line (trusts_other kind list blob) lines
 other_found m lines kind blob list s =
     least_found m lines kind blob (pieces_left list) s
@@ -91,7 +91,7 @@ other_found m lines kind blob list s =
     (λ d. shared-is kind list d.says (not (bytes_eq d.blob blob))))
 
 pub other_line_found : (m : EarlierHosts) (lines : List HostLine) (blob : List ℕ) (f : HostFacts) (list : Option (List ℕ))
-    → f.is_authority ≡ false → f.list ≡ list → StandsFor m lines
+    → f.is_authority ≡ false → f.list ≡ list → RemembersLines m lines
     → least_other m.named f.kind blob (pieces_left list) ≡ other_line lines blob f
 other_line_found m lines blob f list role same s =
     other_found m lines f.kind blob list s
@@ -117,8 +117,8 @@ one-more old new test lines d more stands on blob =
     (more blob ∙ if-line (bytes_eq d.blob blob) (line_at old blob) d.line ∙ ap (λ b. lesser (line_at old blob) (line_if b d.line)) (sym (on blob)))
 
 pub one_more_revocation : (m : EarlierHosts) (revoked : LeastLines) (n : ℕ) (bytes : List ℕ) (lines : List HostLine)
-    → HasOneMore m.revoked revoked bytes n → StandsFor m lines
-    → StandsFor (record { hosts = m.hosts; authorities = m.authorities; revoked = revoked; named = m.named }) (lines ++ revoking n bytes ∷ [])
+    → HasOneMore m.revoked revoked bytes n → RemembersLines m lines
+    → RemembersLines (record { hosts = m.hosts; authorities = m.authorities; revoked = revoked; named = m.named }) (lines ++ revoking n bytes ∷ [])
 one_more_revocation m revoked n bytes lines more s = record {
   hosts = λ blob. kept _ (trusts_blob false blob) lines (revoking n bytes) (s.hosts blob) refl;
   authorities = λ blob. kept _ (trusts_blob true blob) lines (revoking n bytes) (s.authorities blob) refl;
@@ -127,8 +127,8 @@ one_more_revocation m revoked n bytes lines more s = record {
 }
 
 pub one_more_authority : (m : EarlierHosts) (authorities : LeastLines) (n : ℕ) (blob : List ℕ) (f : HostFacts) (lines : List HostLine)
-    → f.is_authority ≡ true → HasOneMore m.authorities authorities blob n → StandsFor m lines
-    → StandsFor (record { hosts = m.hosts; authorities = authorities; revoked = m.revoked; named = m.named }) (lines ++ trusting n blob f ∷ [])
+    → f.is_authority ≡ true → HasOneMore m.authorities authorities blob n → RemembersLines m lines
+    → RemembersLines (record { hosts = m.hosts; authorities = authorities; revoked = m.revoked; named = m.named }) (lines ++ trusting n blob f ∷ [])
 one_more_authority m authorities n own f lines role more s = record {
   hosts = λ blob. kept _ (trusts_blob false blob) lines (trusting n own f) (s.hosts blob) (ap (λ b. not b && bytes_eq own blob) role);
   authorities =
@@ -147,8 +147,8 @@ HasOneMoreKey old new kind list n own =
     ≡ lesser (other_of_kind old k item blob) (line_if ((same_kind kind k && has_item item list) && not (bytes_eq own blob)) n)
 
 pub one_more_host : (m : EarlierHosts) (hosts : LeastLines) (named : KindKeys) (n : ℕ) (blob : List ℕ) (f : HostFacts) (lines : List HostLine)
-    → f.is_authority ≡ false → HasOneMore m.hosts hosts blob n → HasOneMoreKey m.named named f.kind f.list n blob → StandsFor m lines
-    → StandsFor (record { hosts = hosts; authorities = m.authorities; revoked = m.revoked; named = named }) (lines ++ trusting n blob f ∷ [])
+    → f.is_authority ≡ false → HasOneMore m.hosts hosts blob n → HasOneMoreKey m.named named f.kind f.list n blob → RemembersLines m lines
+    → RemembersLines (record { hosts = hosts; authorities = m.authorities; revoked = m.revoked; named = named }) (lines ++ trusting n blob f ∷ [])
 one_more_host m hosts named n own f lines role more keys s = record {
   hosts =
       one-more m.hosts hosts (trusts_blob false) lines (trusting n own f) more s.hosts
@@ -164,7 +164,7 @@ one_more_host m hosts named n own f lines role more keys s = record {
 -- what stands for lines, by the same look-ups
 pub stands_still : (old new : EarlierHosts) (lines : List HostLine) → KeepsKeys old new
     → ((kind : KeyKind) (item blob : List ℕ) → other_of_kind new.named kind item blob ≡ other_of_kind old.named kind item blob)
-    → StandsFor old lines → StandsFor new lines
+    → RemembersLines old lines → RemembersLines new lines
 stands_still old new lines keys named s = record {
   hosts = λ blob. keys.hosts blob ∙ s.hosts blob;
   authorities = λ blob. keys.authorities blob ∙ s.authorities blob;

@@ -5,14 +5,14 @@ use Rattle.ssh_host_findings.specs.declared.finding.HostFinding.{HostFinding}
 use Rattle.ssh_host_findings.specs.declared.finding.HostFinding.TheVariants as finding
 
 -- the code by which it is told
-abbrev pub code_of : HostFinding → Code
-code_of (finding.Unreadable cause) = code.Unreadable
-code_of (finding.ShortKey bits) = code.ShortKey
-code_of finding.MarkerTab = code.ReadOtherwise
-code_of finding.BlindRevocation = code.BlindRevocation
-code_of (finding.OtherKey line) = code.OtherKey
-code_of (finding.TrustedAndRevoked line) = code.TrustedAndRevoked
-code_of finding.PatternHosts = code.PatternHosts
-code_of finding.EveryHost = code.EveryHost
-code_of finding.NamesInClear = code.NamesInClear
-code_of (finding.SameHostKey line) = code.SameHostKey
+abbrev pub host_code_of : HostFinding → Code
+host_code_of (finding.Unreadable cause) = code.Unreadable
+host_code_of (finding.ShortKey bits) = code.ShortKey
+host_code_of finding.MarkerTab = code.ReadOtherwise
+host_code_of finding.BlindRevocation = code.BlindRevocation
+host_code_of (finding.OtherKey line) = code.OtherKey
+host_code_of (finding.TrustedAndRevoked line) = code.TrustedAndRevoked
+host_code_of finding.PatternHosts = code.PatternHosts
+host_code_of finding.EveryHost = code.EveryHost
+host_code_of finding.NamesInClear = code.NamesInClear
+host_code_of (finding.SameHostKey line) = code.SameHostKey

@@ -6,37 +6,37 @@ use Rattle.ssh_host_findings.specs.declared.facts.HostFacts.{HostFacts}
 use Rattle.ssh_host_findings.specs.declared.finding.HostFinding.{HostFinding}
 use Rattle.ssh_host_findings.specs.declared.finding.HostFinding.TheVariants as finding
 use Rattle.ssh_host_findings.specs.Earlier.{other_line, revoking_line, same_line, trusting_line}
-use Rattle.ssh_host_findings.specs.Findings.{code_of}
+use Rattle.ssh_host_findings.specs.Findings.{host_code_of}
 use Rattle.ssh_host_findings.specs.Items.{has_pattern, names_all}
 use Rattle.ssh_host_findings.specs.HostLines.{HostLine}
 
 -- a finding, where it holds and its code is told
-unfoldable pub told_if : Asking → Bool → HostFinding → List HostFinding
-told_if asking holds f = if holds && is_told asking (code_of f) then f ∷ [] else []
+unfoldable pub host_told_if : Asking → Bool → HostFinding → List HostFinding
+host_told_if asking holds f = if holds && is_told asking (host_code_of f) then f ∷ [] else []
 
 -- F5: an RSA key with fewer bits than are asked for
-abbrev pub short_findings : Asking → Option ℕ → List HostFinding
-short_findings asking None = []
-short_findings asking (Some bits) = told_if asking (nat_lt bits asking.rsa_minimum) (finding.ShortKey bits)
+abbrev pub host_short_findings : Asking → Option ℕ → List HostFinding
+host_short_findings asking None = []
+host_short_findings asking (Some bits) = host_told_if asking (nat_lt bits asking.rsa_minimum) (finding.ShortKey bits)
 
 -- F11, F12 and F21: of a line that is named, if one is
 abbrev pub other_findings : Asking → Option ℕ → List HostFinding
 other_findings asking None = []
-other_findings asking (Some line) = told_if asking true (finding.OtherKey line)
+other_findings asking (Some line) = host_told_if asking true (finding.OtherKey line)
 
 abbrev pub revoked_findings : Asking → Option ℕ → List HostFinding
 revoked_findings asking None = []
-revoked_findings asking (Some line) = told_if asking true (finding.TrustedAndRevoked line)
+revoked_findings asking (Some line) = host_told_if asking true (finding.TrustedAndRevoked line)
 
 abbrev pub same_findings : Asking → Option ℕ → List HostFinding
 same_findings asking None = []
-same_findings asking (Some line) = told_if asking true (finding.SameHostKey line)
+same_findings asking (Some line) = host_told_if asking true (finding.SameHostKey line)
 
 -- F5 and F8: a short key; a tab after the marker
-abbrev pub reading_findings : Asking → HostFacts → List HostFinding
-reading_findings asking f =
-    short_findings asking f.bits
-    ++ told_if asking f.has_marker_tab finding.MarkerTab
+abbrev pub host_reading_findings : Asking → HostFacts → List HostFinding
+host_reading_findings asking f =
+    host_short_findings asking f.bits
+    ++ host_told_if asking f.has_marker_tab finding.MarkerTab
 
 -- one key for all hosts that a pattern names
 abbrev pub is_for_pattern : HostFacts → Bool
@@ -53,14 +53,14 @@ is_in_clear f = not f.is_authority && is_some f.list
 -- F13, F14 and F20: by the names
 abbrev pub name_findings : Asking → HostFacts → List HostFinding
 name_findings asking f =
-    told_if asking (is_for_pattern f) finding.PatternHosts
-    ++ told_if asking (is_for_all f) finding.EveryHost
-    ++ told_if asking (is_in_clear f) finding.NamesInClear
+    host_told_if asking (is_for_pattern f) finding.PatternHosts
+    ++ host_told_if asking (is_for_all f) finding.EveryHost
+    ++ host_told_if asking (is_in_clear f) finding.NamesInClear
 
 -- what is found of an entry that says this, by the lines of F11, F12 and F21, and told
 unfoldable pub findings_by : Asking → HostFacts → Option ℕ → Option ℕ → Option ℕ → List HostFinding
 findings_by asking f other revoked same =
-    reading_findings asking f
+    host_reading_findings asking f
     ++ other_findings asking other
     ++ revoked_findings asking revoked
     ++ name_findings asking f
@@ -77,8 +77,8 @@ revocation_findings asking earlier bytes = revoked_findings asking (trusting_lin
 
 -- what is found of a revocation that cannot be read, and told: F10
 abbrev pub blind_findings : Asking → List HostFinding
-blind_findings asking = told_if asking true finding.BlindRevocation
+blind_findings asking = host_told_if asking true finding.BlindRevocation
 
 -- what is found of a line that cannot be read, and told: F1
 abbrev pub unreadable_host_findings : Asking → LineCause → List HostFinding
-unreadable_host_findings asking cause = told_if asking true (finding.Unreadable cause)
+unreadable_host_findings asking cause = host_told_if asking true (finding.Unreadable cause)

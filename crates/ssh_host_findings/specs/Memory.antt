@@ -11,15 +11,15 @@ use Rattle.ssh_host_findings.specs.declared.named.NamedKeys.{NamedKeys}
 use Rattle.ssh_host_findings.specs.Items.{is_plain}
 
 -- the bytes of a text for which a line is kept
-abbrev pub text_bytes : List ℕ → ℕ → ℕ
-text_bytes text line = length text
+abbrev pub line_text_bytes : List ℕ → ℕ → ℕ
+line_text_bytes text line = length text
 
 -- the bytes of a name, and of the blob of its first key
 abbrev pub name_bytes : List ℕ → FirstKey → ℕ
 name_bytes item first = length item + length first.blob
 
 abbrev pub texts_bytes : LeastLines → ℕ
-texts_bytes m = sum_of text_bytes m.lines
+texts_bytes m = sum_of line_text_bytes m.lines
 
 abbrev pub names_bytes : NamedKeys → ℕ
 names_bytes m = sum_of name_bytes m.keys
@@ -31,8 +31,8 @@ kinds_bytes m =
     + names_bytes m.sk_ed25519
 
 -- the bytes that are kept of all lines
-abbrev pub bytes_kept : EarlierHosts → ℕ
-bytes_kept m = texts_bytes m.hosts + texts_bytes m.authorities + texts_bytes m.revoked + kinds_bytes m.named
+abbrev pub host_bytes_kept : EarlierHosts → ℕ
+host_bytes_kept m = texts_bytes m.hosts + texts_bytes m.authorities + texts_bytes m.revoked + kinds_bytes m.named
 
 -- the bytes of the plain items of a list, with a key's blob for each
 abbrev pub items_bytes : List ℕ → List (List ℕ) → ℕ
@@ -40,5 +40,5 @@ items_bytes blob [] = 0
 items_bytes blob (item ∷ items) = (if is_plain item then length item + length blob else 0) + items_bytes blob items
 
 -- the bytes that are kept of an entry at most
-abbrev pub entry_bytes : List ℕ → HostFacts → ℕ
-entry_bytes blob f = length blob + (if f.is_authority then 0 else items_bytes blob (pieces_left f.list))
+abbrev pub host_entry_bytes : List ℕ → HostFacts → ℕ
+host_entry_bytes blob f = length blob + (if f.is_authority then 0 else items_bytes blob (pieces_left f.list))

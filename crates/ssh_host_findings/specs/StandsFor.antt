@@ -19,7 +19,7 @@ says_named kind item Revokes = false
 abbrev pub names_other : KeyKind → List ℕ → List ℕ → HostLine → Bool
 names_other kind item blob d = says_named kind item d.says && not (bytes_eq d.blob blob)
 
-pub record StandsFor (m : EarlierHosts) (lines : List HostLine) : Type 0 where
+pub record RemembersLines (m : EarlierHosts) (lines : List HostLine) : Type 0 where
   pub hosts : (blob : List ℕ) → line_at m.hosts blob ≡ least_line (trusts_blob false blob) lines
   pub authorities : (blob : List ℕ) → line_at m.authorities blob ≡ least_line (trusts_blob true blob) lines
   pub revoked : (blob : List ℕ) → line_at m.revoked blob ≡ least_line (revokes_blob blob) lines

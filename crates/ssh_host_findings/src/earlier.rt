@@ -26,8 +26,8 @@ ghost use Rattle.ssh_host_findings.specs.Earlier.{
   trusting_line,
 };
 ghost use Rattle.ssh_host_findings.specs.Maps.{least_other};
-ghost use Rattle.ssh_host_findings.specs.Memory.{bytes_kept, entry_bytes};
-ghost use Rattle.ssh_host_findings.specs.StandsFor.{KeepsKeys, KeepsName, StandsFor, has_names};
+ghost use Rattle.ssh_host_findings.specs.Memory.{host_bytes_kept, host_entry_bytes};
+ghost use Rattle.ssh_host_findings.specs.StandsFor.{KeepsKeys, KeepsName, RemembersLines, has_names};
 ghost use Rattle.ssh_keys.specs.declared.kind.KeyKind.{KeyKind as Kind};
 
 use crate::facts::HostFacts;
@@ -51,8 +51,8 @@ pub struct EarlierHosts {
 impl EarlierHosts {
     /// No lines. No memory is taken.
     pub fn new(alloc: Global) -> EarlierHosts
-        ensures stands { StandsFor result [] }
-        ensures bytes { bytes_kept result ≡ 0 }
+        ensures stands { RemembersLines result [] }
+        ensures bytes { host_bytes_kept result ≡ 0 }
     {
         EarlierHosts {
             hosts: LeastLines::new(alloc),
@@ -71,16 +71,16 @@ impl EarlierHosts {
         blob: &[u8],
         facts: &HostFacts,
     ) -> Result<(), AllocError>
-        ensures ok { OnOk result ((lines : List HostLine) → StandsFor self.old lines
-            → StandsFor self.new (lines ++ trusting line blob.now facts.now ∷ [])) }
+        ensures ok { OnOk result ((lines : List HostLine) → RemembersLines self.old lines
+            → RemembersLines self.new (lines ++ trusting line blob.now facts.now ∷ [])) }
         // So of an entry no more is held than its blob, and each plain name of its list with the blob.
         ensures bytes { OnOk result
-            (bytes_kept self.new ≤ bytes_kept self.old + entry_bytes blob.now facts.now) }
+            (host_bytes_kept self.new ≤ host_bytes_kept self.old + host_entry_bytes blob.now facts.now) }
         ensures keys { OnErr result (KeepsKeys self.old self.new) }
         ensures names { OnErr result ((kind : Kind) (item : List ℕ) → KeepsName self.old.named self.new.named
             facts.now.kind facts.now.list line blob.now kind item) }
         ensures err { OnErr result (has_names facts.now ≡ false
-            → (lines : List HostLine) → StandsFor self.old lines → StandsFor self.new lines) }
+            → (lines : List HostLine) → RemembersLines self.old lines → RemembersLines self.new lines) }
     {
         if facts.is_authority {
             self.authorities.keep(alloc, blob, line)?;
@@ -98,11 +98,11 @@ impl EarlierHosts {
         line: u64,
         bytes: &[u8],
     ) -> Result<(), AllocError>
-        ensures ok { OnOk result ((lines : List HostLine) → StandsFor self.old lines
-            → StandsFor self.new (lines ++ revoking line bytes.now ∷ [])) }
-        ensures bytes { OnOk result (bytes_kept self.new ≤ bytes_kept self.old + length bytes.now) }
-        ensures err { OnErr result ((lines : List HostLine) → StandsFor self.old lines
-            → StandsFor self.new lines) }
+        ensures ok { OnOk result ((lines : List HostLine) → RemembersLines self.old lines
+            → RemembersLines self.new (lines ++ revoking line bytes.now ∷ [])) }
+        ensures bytes { OnOk result (host_bytes_kept self.new ≤ host_bytes_kept self.old + length bytes.now) }
+        ensures err { OnErr result ((lines : List HostLine) → RemembersLines self.old lines
+            → RemembersLines self.new lines) }
     {
         self.revoked.keep(alloc, bytes, line)?;
         Ok(())
@@ -110,7 +110,7 @@ impl EarlierHosts {
 
     /// The least line that revokes this blob.
     pub(crate) fn revoking_line(&self, blob: &[u8]) -> Option<u64>
-        ensures { (lines : List HostLine) → StandsFor self.now lines
+        ensures { (lines : List HostLine) → RemembersLines self.now lines
             → result ≡ revoking_line lines blob.now }
     {
         self.revoked.line(blob)
@@ -118,7 +118,7 @@ impl EarlierHosts {
 
     /// The least line that trusts the key with these bytes.
     pub(crate) fn trusting_line(&self, bytes: &[u8]) -> Option<u64>
-        ensures { (lines : List HostLine) → StandsFor self.now lines
+        ensures { (lines : List HostLine) → RemembersLines self.now lines
             → result ≡ trusting_line lines bytes.now }
     {
         lesser(self.hosts.line(bytes), self.authorities.line(bytes))
@@ -126,7 +126,7 @@ impl EarlierHosts {
 
     /// The least line with the same key as an entry.
     pub(crate) fn same_line(&self, blob: &[u8], facts: &HostFacts) -> Option<u64>
-        ensures { (lines : List HostLine) → StandsFor self.now lines
+        ensures { (lines : List HostLine) → RemembersLines self.now lines
             → result ≡ same_line lines blob.now facts.now }
     {
         if facts.is_authority {
@@ -152,7 +152,7 @@ impl EarlierHosts {
 
     /// The least line with another key of its kind for a name of an entry.
     pub(crate) fn other_line(&self, blob: &[u8], facts: &HostFacts) -> Option<u64>
-        ensures { (lines : List HostLine) → StandsFor self.now lines
+        ensures { (lines : List HostLine) → RemembersLines self.now lines
             → result ≡ other_line lines blob.now facts.now }
     {
         if facts.is_authority {

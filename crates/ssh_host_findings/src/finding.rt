@@ -1,7 +1,7 @@
 //! What is found of a line.
 
 ghost use Rattle.std.specs.Prelude.{◌≡◌};
-ghost use Rattle.ssh_host_findings.specs.Findings.{code_of};
+ghost use Rattle.ssh_host_findings.specs.Findings.{host_code_of};
 
 use ssh_findings::Code;
 use ssh_options::LineCause;
@@ -34,7 +34,7 @@ pub enum HostFinding {
 impl HostFinding {
     /// The code by which it is told.
     pub fn code(self) -> Code
-        ensures { result ≡ code_of self }
+        ensures { result ≡ host_code_of self }
     {
         match self {
             HostFinding::Unreadable(_) => Code::Unreadable,

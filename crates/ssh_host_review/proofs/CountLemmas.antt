@@ -11,9 +11,9 @@ use Rattle.ssh_host_findings.specs.declared.facts.HostFacts.{HostFacts}
 use Rattle.ssh_host_findings.specs.declared.finding.HostFinding.{HostFinding}
 use Rattle.ssh_host_findings.specs.declared.finding.HostFinding.TheVariants as finding
 use Rattle.ssh_host_findings.specs.Earlier.{other_line, revoking_line, same_line, trusting_line}
-use Rattle.ssh_host_findings.specs.Findings.{code_of}
+use Rattle.ssh_host_findings.specs.Findings.{host_code_of}
 use Rattle.ssh_host_findings.specs.HostFacts.{host_facts_of}
-use Rattle.ssh_host_findings.specs.HostFindings.{findings_by, host_entry_findings, name_findings, other_findings, reading_findings, revocation_findings, revoked_findings, same_findings, short_findings, told_if}
+use Rattle.ssh_host_findings.specs.HostFindings.{findings_by, host_entry_findings, name_findings, other_findings, host_reading_findings, revocation_findings, revoked_findings, same_findings, host_short_findings, host_told_if}
 use Rattle.ssh_host_findings.specs.HostLines.{HostLine}
 use Rattle.ssh_review.specs.declared.counts.Counts.{Counts}
 use Rattle.ssh_review.specs.Counting.{plus}
@@ -22,15 +22,15 @@ use Rattle.ssh_host_review.specs.Lines.{host_counts_of, host_kept_of, host_line_
 
 -- ---- findings of a line
 
-told-short : (asking : Asking) (holds : Bool) (f : HostFinding) → length (told_if asking holds f) ≤ 1
-unfolding told_if
-told-short asking holds f = go (holds && is_told asking (code_of f))
+told-short : (asking : Asking) (holds : Bool) (f : HostFinding) → length (host_told_if asking holds f) ≤ 1
+unfolding host_told_if
+told-short asking holds f = go (holds && is_told asking (host_code_of f))
   where
     go : (b : Bool) → length (cond b (f ∷ []) []) ≤ 1
     go true = omega arith
     go false = omega arith
 
-short-short : (asking : Asking) (bits : Option ℕ) → length (short_findings asking bits) ≤ 1
+short-short : (asking : Asking) (bits : Option ℕ) → length (host_short_findings asking bits) ≤ 1
 short-short asking None = omega arith
 short-short asking (Some bits) = told-short asking _ _
 
@@ -49,7 +49,7 @@ same-short asking (Some line) = told-short asking true _
 both : (a b : List HostFinding) (m n : ℕ) → length a ≤ m → length b ≤ n → length (a ++ b) ≤ m + n
 both a b m n h k = omega (arith, h, k, length-append a b)
 
-readings-short : (asking : Asking) (f : HostFacts) → length (reading_findings asking f) ≤ 2
+readings-short : (asking : Asking) (f : HostFacts) → length (host_reading_findings asking f) ≤ 2
 readings-short asking f = both _ _ 1 1 (short-short asking f.bits) (told-short asking _ _)
 
 names-short : (asking : Asking) (f : HostFacts) → length (name_findings asking f) ≤ 3

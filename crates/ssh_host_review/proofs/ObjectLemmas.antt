@@ -5,7 +5,7 @@ use Rattle.std.specs.List.{flat_map}
 use Rattle.ssh_held_keys.specs.declared.held.HeldKey.{HeldKey}
 use Rattle.ssh_host_findings.specs.declared.facts.HostFacts.{HostFacts}
 use Rattle.ssh_host_findings.specs.declared.finding.HostFinding.{HostFinding}
-use Rattle.ssh_host_findings.specs.Findings.{code_of}
+use Rattle.ssh_host_findings.specs.Findings.{host_code_of}
 use Rattle.ssh_offers.specs.FirstRefusal.{AreBytes}
 use Rattle.ssh_review_json.specs.OneLine.{IsHeldOfBytes, are_printable, is_line}
 use Rattle.ssh_review_json.proofs.ObjectLemmas.{head-printable, held-printable, is-printable, key-printable, null-printable, object-printable, said-printable, text-printable}
@@ -19,7 +19,7 @@ use Rattle.ssh_host_review.proofs.TextLemmas.{detail-printable}
 -- ---- findings
 
 finding-printable : (f : HostFinding) → ArePrintable (host_finding_object f)
-finding-printable f = object-printable (code-printable (code_of f)) (detail-printable f)
+finding-printable f = object-printable (code-printable (host_code_of f)) (detail-printable f)
 
 others-printable : (found : List HostFinding) → ArePrintable (flat_map host_after_comma found)
 others-printable [] = word [] refl

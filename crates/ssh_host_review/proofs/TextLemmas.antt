@@ -8,7 +8,7 @@ use Rattle.ssh_held_keys.specs.declared.held.HeldKey.{HeldKey}
 use Rattle.ssh_host_findings.specs.declared.facts.HostFacts.{HostFacts}
 use Rattle.ssh_host_findings.specs.declared.finding.HostFinding.{HostFinding}
 use Rattle.ssh_host_findings.specs.declared.finding.HostFinding.TheVariants as finding
-use Rattle.ssh_host_findings.specs.Findings.{code_of}
+use Rattle.ssh_host_findings.specs.Findings.{host_code_of}
 use Rattle.ssh_offers.specs.FirstRefusal.{AreBytes}
 use Rattle.ssh_review_json.specs.OneLine.{are_printable}
 use Rattle.ssh_review_json.proofs.PrintableLemmas.{ArePrintable, decimal-printable, escaped-printable, join, word}
@@ -49,7 +49,7 @@ sentence-printable (finding.SameHostKey line) = join (word (codes "the same host
 
 finding-shown : (f : HostFinding) → AreShown (host_finding_line f)
 finding-shown f =
-    let head = finding-head-printable (code_text (code_of f)) (host_detail_of f) (code-printable (code_of f)) (detail-printable f) in
+    let head = finding-head-printable (code_text (host_code_of f)) (host_detail_of f) (code-printable (host_code_of f)) (detail-printable f) in
     add (seen (join head (sentence-printable f))) (show (codes "\n") refl)
 
 findings-shown : (found : List HostFinding) → AreShown (flat_map host_finding_line found)

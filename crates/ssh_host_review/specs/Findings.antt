@@ -3,12 +3,12 @@ use Rattle.std.specs.Prelude.{◌++◌, ◌∷◌, [], ℕ, List, codes}
 use Rattle.std.specs.List.{flat_map}
 use Rattle.ssh_findings.specs.Codes.{code_text}
 use Rattle.ssh_host_findings.specs.declared.finding.HostFinding.{HostFinding}
-use Rattle.ssh_host_findings.specs.Findings.{code_of}
+use Rattle.ssh_host_findings.specs.Findings.{host_code_of}
 use Rattle.ssh_review_json.specs.Findings.{code_object}
 use Rattle.ssh_host_review.specs.Details.{host_detail_of}
 
 abbrev pub host_finding_object : HostFinding → List ℕ
-host_finding_object f = code_object (code_text (code_of f)) (host_detail_of f)
+host_finding_object f = code_object (code_text (host_code_of f)) (host_detail_of f)
 
 abbrev pub host_after_comma : HostFinding → List ℕ
 host_after_comma f = 44 ∷ host_finding_object f

@@ -4,7 +4,7 @@ use Rattle.std.specs.Fmt.{decimal}
 use Rattle.ssh_findings.specs.Codes.{code_text}
 use Rattle.ssh_host_findings.specs.declared.finding.HostFinding.{HostFinding}
 use Rattle.ssh_host_findings.specs.declared.finding.HostFinding.TheVariants as finding
-use Rattle.ssh_host_findings.specs.Findings.{code_of}
+use Rattle.ssh_host_findings.specs.Findings.{host_code_of}
 use Rattle.ssh_review.specs.Sentences.{finding_head, short_sentence, unreadable_sentence}
 use Rattle.ssh_host_review.specs.Details.{host_detail_of}
 
@@ -23,4 +23,4 @@ host_sentence_of (finding.SameHostKey line) = codes "the same host key stands on
 
 -- the line of a finding
 abbrev pub host_finding_line : HostFinding → List ℕ
-host_finding_line f = finding_head (code_text (code_of f)) (host_detail_of f) ++ host_sentence_of f ++ codes "\n"
+host_finding_line f = finding_head (code_text (host_code_of f)) (host_detail_of f) ++ host_sentence_of f ++ codes "\n"

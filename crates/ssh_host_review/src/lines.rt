@@ -6,7 +6,7 @@ ghost use Rattle.ssh_lines.specs.KnownSeen.{known_seen};
 ghost use Rattle.ssh_text.specs.Text.{file_limit, lines_of, numbered};
 ghost use Rattle.ssh_findings.specs.Asking.{asking_of};
 ghost use Rattle.ssh_host_findings.specs.HostLines.{HostLine};
-ghost use Rattle.ssh_host_findings.specs.StandsFor.{StandsFor};
+ghost use Rattle.ssh_host_findings.specs.StandsFor.{RemembersLines};
 ghost use Rattle.ssh_host_review.specs.Lines.{
   host_counts_of,
   host_kept_of,
@@ -42,13 +42,13 @@ fn push_entry_line(
     earlier: &mut EarlierHosts,
     out: &mut Vec<u8>,
 ) -> Result<Counts, AllocError>
-    ensures text { OnOk result ((lines : List HostLine) → StandsFor earlier.old lines
+    ensures text { OnOk result ((lines : List HostLine) → RemembersLines earlier.old lines
         → out.new.items ≡ out.old.items ++ host_line_record form (asking_of asked.entry.now)
         place.entry.now.name.now lines place.entry.now.number line.now (KnownLine.Entry entry.now)) }
-    ensures counts { IfOk result (λ counts. (lines : List HostLine) → StandsFor earlier.old lines
+    ensures counts { IfOk result (λ counts. (lines : List HostLine) → RemembersLines earlier.old lines
         → counts ≡ host_line_counts (asking_of asked.entry.now) lines line.now (KnownLine.Entry entry.now)) }
-    ensures kept { OnOk result ((lines : List HostLine) → StandsFor earlier.old lines
-        → StandsFor earlier.new (lines ++ host_kept_of
+    ensures kept { OnOk result ((lines : List HostLine) → RemembersLines earlier.old lines
+        → RemembersLines earlier.new (lines ++ host_kept_of
         place.entry.now.number line.now (KnownLine.Entry entry.now))) }
 {
     let facts = HostFacts::read(alloc, line, entry)?;
@@ -76,13 +76,13 @@ fn push_revoked_line(
     earlier: &mut EarlierHosts,
     out: &mut Vec<u8>,
 ) -> Result<Counts, AllocError>
-    ensures text { OnOk result ((lines : List HostLine) → StandsFor earlier.old lines
+    ensures text { OnOk result ((lines : List HostLine) → RemembersLines earlier.old lines
         → out.new.items ≡ out.old.items ++ host_line_record form (asking_of asked.entry.now)
         place.entry.now.name.now lines place.entry.now.number [] (KnownLine.Revoked bytes.now)) }
-    ensures counts { IfOk result (λ counts. (lines : List HostLine) → StandsFor earlier.old lines
+    ensures counts { IfOk result (λ counts. (lines : List HostLine) → RemembersLines earlier.old lines
         → counts ≡ host_line_counts (asking_of asked.entry.now) lines [] (KnownLine.Revoked bytes.now)) }
-    ensures kept { OnOk result ((lines : List HostLine) → StandsFor earlier.old lines
-        → StandsFor earlier.new (lines ++ host_kept_of
+    ensures kept { OnOk result ((lines : List HostLine) → RemembersLines earlier.old lines
+        → RemembersLines earlier.new (lines ++ host_kept_of
         place.entry.now.number [] (KnownLine.Revoked bytes.now))) }
 {
     let found = revocation_findings(alloc, asked, earlier, bytes)?;
@@ -165,13 +165,13 @@ fn push_line(
     earlier: &mut EarlierHosts,
     out: &mut Vec<u8>,
 ) -> Result<Counts, AllocError>
-    ensures text { OnOk result ((lines : List HostLine) → StandsFor earlier.old lines
+    ensures text { OnOk result ((lines : List HostLine) → RemembersLines earlier.old lines
         → out.new.items ≡ out.old.items ++ host_line_record form (asking_of asked.entry.now)
         place.entry.now.name.now lines place.entry.now.number line.now (known_seen view.now)) }
-    ensures counts { IfOk result (λ counts. (lines : List HostLine) → StandsFor earlier.old lines
+    ensures counts { IfOk result (λ counts. (lines : List HostLine) → RemembersLines earlier.old lines
         → counts ≡ host_line_counts (asking_of asked.entry.now) lines line.now (known_seen view.now)) }
-    ensures kept { OnOk result ((lines : List HostLine) → StandsFor earlier.old lines
-        → StandsFor earlier.new (lines ++ host_kept_of
+    ensures kept { OnOk result ((lines : List HostLine) → RemembersLines earlier.old lines
+        → RemembersLines earlier.new (lines ++ host_kept_of
         place.entry.now.number line.now (known_seen view.now))) }
 {
     match view {

@@ -12,7 +12,7 @@ use Rattle.ssh_inputs.specs.Parts.{cut_at_line}
 use Rattle.ssh_inputs.specs.Values.{hex_bytes, hex_value, pair_value, pair_values, prepend}
 use Rattle.ssh_inputs.specs.VouchFile.{cut_at_space, has_space, is_skipped, signed_of, three_fields, triple_of}
 use Rattle.ssh_inputs.specs.Words.{is_space}
-use Rattle.ssh_inputs.specs.Seekers.{cut_rest, field_rest, fields_after, fields_rest, from_place, in_field_rest, is_sought, is_start, key_of, line_verdict, lines_rest, message_of, next_number, or_found, place_rest, rest_in_field, same_value, signature_of, unless_fault, value_rest, value_with, with_verdict}
+use Rattle.ssh_inputs.specs.Seekers.{cut_rest, field_rest, fields_after, fields_rest, from_place, in_field_rest, is_sought, is_start, key_sought, triple_verdict, lines_rest, message_of, next_number, or_found, place_rest, rest_in_field, same_value, signature_sought, unless_fault, value_rest, value_with, with_verdict}
 use Rattle.ssh_inputs.specs.Seeking.{sought_of}
 use Rattle.ssh_inputs.specs.declared.seeker.Digits.{Digits}
 use Rattle.ssh_inputs.specs.declared.seeker.Digits.TheVariants.{Nothing, Dash}
@@ -186,7 +186,7 @@ fields-triple : (q : Bool) (k m g line : List ℕ) → fields_rest Nothing q k (
 unfolding three_fields
 fields-triple q k m g line = first-cut q k m g (cut_at_space line)
 
-sought-same : (sought : Option Signed) (o : Option Signed) → option_map (is_sought sought) o ≡ option_map (same_as (is_some sought) (key_of sought) (message_of sought) (signature_of sought)) o
+sought-same : (sought : Option Signed) (o : Option Signed) → option_map (is_sought sought) o ≡ option_map (same_as (is_some sought) (key_sought sought) (message_of sought) (signature_sought sought)) o
 sought-same None None = refl
 sought-same (Some s) None = refl
 sought-same None (Some signed) = refl
@@ -194,18 +194,18 @@ sought-same (Some s) (Some signed) = refl
 
 -- a line from its first field on
 line-fields : (sought : Option Signed) (line : List ℕ) → is_skipped line ≡ false
-    → line_verdict sought line ≡ fields_rest Nothing (is_some sought) (key_of sought) (fields_after Key sought) line
+    → triple_verdict sought line ≡ fields_rest Nothing (is_some sought) (key_sought sought) (fields_after Key sought) line
 line-fields sought line kept =
     rw kept
     (sought-same sought (triple_of line)
-    ∙ sym (fields-triple (is_some sought) (key_of sought) (message_of sought) (signature_of sought) line))
+    ∙ sym (fields-triple (is_some sought) (key_sought sought) (message_of sought) (signature_sought sought) line))
 
 given-same : (sought : Option (Bor Signed)) → is_some sought ≡ is_some (sought_of sought)
 given-same None = refl
 given-same (Some signed) = refl
 
 pub line_begun : (sought : Option (Bor Signed)) (field : Field) (line : List ℕ) → is_skipped line ≡ false → field.name ≡ Key → field.digits ≡ Nothing
-    → field.equal ≡ is_some sought → field.left.now ≡ key_of (sought_of sought) → line_verdict (sought_of sought) line ≡ in_field_rest (sought_of sought) field line
+    → field.equal ≡ is_some sought → field.left.now ≡ key_sought (sought_of sought) → triple_verdict (sought_of sought) line ≡ in_field_rest (sought_of sought) field line
 line_begun sought field line kept name digits equal left = rw (name, digits, equal, left, given-same sought) (line-fields (sought_of sought) line kept)
 
 -- ---- lines

@@ -10,17 +10,17 @@ use Rattle.ssh_inputs.specs.Loading.{LoadsPart, within_limit}
 use Rattle.ssh_inputs.specs.SourceState.{IfTells, SourceState}
 use Rattle.ssh_inputs.specs.VouchFile.{is_skipped, triple_of, vouched_from, vouched_of, with_signed}
 use Rattle.ssh_inputs.specs.Seekers.{both, is_sought, lines_rest, next_number, or_found, with_verdict}
-use Rattle.ssh_inputs.specs.Seeking.{TellsOf, is_among}
+use Rattle.ssh_inputs.specs.Seeking.{TellsOf, is_sought_among}
 use Rattle.ssh_inputs.specs.declared.seek.Found.{Found}
 use Rattle.ssh_inputs.proofs.SeekerLemmas.{none_found}
 
 -- ---- one signature
 
 abbrev seek : Option Signed → Result (List Signed) ℕ → Result Bool ℕ
-seek sought (Ok vouched) = Ok (is_among sought vouched)
+seek sought (Ok vouched) = Ok (is_sought_among sought vouched)
 seek sought (Err n) = Err n
 
-none-among : (sought : Option Signed) → ◌≡◌ {A = Result Bool ℕ} (Ok false) (Ok (is_among sought []))
+none-among : (sought : Option Signed) → ◌≡◌ {A = Result Bool ℕ} (Ok false) (Ok (is_sought_among sought []))
 none-among None = refl
 none-among (Some signed) = refl
 

@@ -58,8 +58,8 @@ pub numbers_read : NumbersRead
 numbers_read = (refl, refl, refl, refl, refl, refl, refl)
 
 -- one more than the last, no digit, a sign, a blank, other digits
-abbrev pub NumbersRefused : Type 0
-NumbersRefused = (number_below (2 ^ 64) (codes "18446744073709551616") ≡ None)
+abbrev pub NumberTextsRefused : Type 0
+NumberTextsRefused = (number_below (2 ^ 64) (codes "18446744073709551616") ≡ None)
     × (number_below (2 ^ 64) [] ≡ None)
     × (number_below (2 ^ 64) (codes "+150") ≡ None)
     × (number_below (2 ^ 64) (codes "-1") ≡ None)
@@ -71,7 +71,7 @@ NumbersRefused = (number_below (2 ^ 64) (codes "18446744073709551616") ≡ None)
     × (number_below (2 ^ 16) (codes "65558") ≡ None)
     × (number_below (2 ^ 32) (codes "4294967296") ≡ None)
 
-pub numbers_refused : NumbersRefused
+pub numbers_refused : NumberTextsRefused
 numbers_refused = (refl, refl, refl, refl, refl, refl, refl, refl, refl, refl, refl)
 
 -- two words, in lower case

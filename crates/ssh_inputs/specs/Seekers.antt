@@ -25,22 +25,22 @@ abbrev pub is_sought : Option Signed → Signed → Bool
 is_sought None signed = false
 is_sought (Some sought) signed = is_same signed sought
 
-abbrev pub key_of : Option Signed → List ℕ
-key_of None = []
-key_of (Some sought) = sought.key
+abbrev pub key_sought : Option Signed → List ℕ
+key_sought None = []
+key_sought (Some sought) = sought.key
 
 abbrev pub message_of : Option Signed → List ℕ
 message_of None = []
 message_of (Some sought) = sought.message
 
-abbrev pub signature_of : Option Signed → List ℕ
-signature_of None = []
-signature_of (Some sought) = sought.signature
+abbrev pub signature_sought : Option Signed → List ℕ
+signature_sought None = []
+signature_sought (Some sought) = sought.signature
 
 -- the sought fields after this one
 abbrev pub fields_after : FieldName → Option Signed → List (List ℕ)
-fields_after Key sought = message_of sought ∷ signature_of sought ∷ []
-fields_after Message sought = signature_of sought ∷ []
+fields_after Key sought = message_of sought ∷ signature_sought sought ∷ []
+fields_after Message sought = signature_sought sought ∷ []
 fields_after Signature sought = []
 
 -- ---- a field
@@ -82,8 +82,8 @@ fields_rest digits equal left (next ∷ more) text =
     option_and_then (λ cut. option_and_then (λ same. fields_rest Nothing same next more cut.1) (field_rest digits equal left cut.0)) (cut_at_space text)
 
 -- whether a line is the triple that is sought; none where it is no triple, nor skipped
-abbrev pub line_verdict : Option Signed → List ℕ → Option Bool
-line_verdict sought line = if is_skipped line then Some false else option_map (is_sought sought) (triple_of line)
+abbrev pub triple_verdict : Option Signed → List ℕ → Option Bool
+triple_verdict sought line = if is_skipped line then Some false else option_map (is_sought sought) (triple_of line)
 
 -- the same in a field, which has the others after it
 abbrev pub in_field_rest : Option Signed → Field → List ℕ → Option Bool
@@ -91,7 +91,7 @@ in_field_rest sought field text = fields_rest field.digits field.equal field.lef
 
 -- the same of what is left of a line
 abbrev pub place_rest : Option Signed → Place → List ℕ → Option Bool
-place_rest sought Start text = line_verdict sought text
+place_rest sought Start text = triple_verdict sought text
 place_rest sought Comment text = Some false
 place_rest sought Broken text = None
 place_rest sought (InField field) text = in_field_rest sought field text
@@ -120,7 +120,7 @@ with_verdict (Some found) n rest = or_found found rest
 -- whether one of the lines from line n on is what is sought, or the first that is no triple
 abbrev pub lines_rest : Option Signed → ℕ → List (List ℕ) → Result Bool ℕ
 lines_rest sought n [] = Ok false
-lines_rest sought n (line ∷ lines) = with_verdict (line_verdict sought line) n (lines_rest sought (next_number n) lines)
+lines_rest sought n (line ∷ lines) = with_verdict (triple_verdict sought line) n (lines_rest sought (next_number n) lines)
 
 -- the same of what is left of line n, and of the lines after it
 abbrev pub cut_rest : Option Signed → ℕ → Place → List ℕ × List ℕ → Result Bool ℕ

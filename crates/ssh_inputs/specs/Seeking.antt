@@ -11,13 +11,13 @@ abbrev pub sought_of : Option (Bor Signed) → Option Signed
 sought_of sought = option_map (λ s. s.now) sought
 
 -- whether what is sought is among these signatures: where nothing is sought, nothing is found
-abbrev pub is_among : Option Signed → List Signed → Bool
-is_among None vouched = false
-is_among (Some signed) vouched = is_vouched vouched signed
+abbrev pub is_sought_among : Option Signed → List Signed → Bool
+is_sought_among None vouched = false
+is_sought_among (Some signed) vouched = is_vouched vouched signed
 
 -- which of two signatures are among these
 abbrev pub AreFound : Option Signed → Option Signed → List Signed → Found → Type 0
-AreFound first second vouched found = (found.first ≡ is_among first vouched) × (found.second ≡ is_among second vouched)
+AreFound first second vouched found = (found.first ≡ is_sought_among first vouched) × (found.second ≡ is_sought_among second vouched)
 
 -- what a vouch file with these bytes tells of two signatures: which of them it vouches for, or its first line that spells no triple
 abbrev pub TellsOf : Option Signed → Option Signed → List ℕ → Result Found ℕ → Type 0

@@ -76,8 +76,8 @@ with_failure s = record s { failures = min (s.failures + 1) most_failures; faile
 
 -- a read gave the n bytes at the front of `buf` and took them off the chosen file, none only at its end; or it failed, and was counted.
 -- Where nothing is chosen it fails
-abbrev pub Reads : {E : Type 0} → SourceState → SourceState → Result ℕ E → List ℕ → Type 0
-Reads old new r buf = MatchResult r
+abbrev pub ReadsPiece : {E : Type 0} → SourceState → SourceState → Result ℕ E → List ℕ → Type 0
+ReadsPiece old new r buf = MatchResult r
     (λ n. (left_of old ≡ take n buf ++ left_of new) × (new ≡ left_with old.chosen old (left_of new))
     × (n ≡ 0 → 0 < length buf → left_of new ≡ []) × (old.chosen ≡ nothing → ⊥))
     (λ _. new ≡ with_failure old)
@@ -87,7 +87,7 @@ abbrev pub ReadsKnown : {E : Type 0} → Option SourceState → Option SourceSta
 ReadsKnown None None r buf = ⊤
 ReadsKnown None (Some t) r buf = ⊥
 ReadsKnown (Some s) None r buf = ⊥
-ReadsKnown (Some s) (Some t) r buf = Reads s t r buf
+ReadsKnown (Some s) (Some t) r buf = ReadsPiece s t r buf
 
 abbrev pub ChoosesKnown : Option SourceState → Option SourceState → List ℕ → Type 0
 ChoosesKnown None new name = ⊤

@@ -6,7 +6,7 @@ ghost use Rattle.ssh_inputs.specs.Samples.{
   HexRead,
   HexRefused,
   NumbersRead,
-  NumbersRefused,
+  NumberTextsRefused,
   PartsRead,
   SaltsRead,
   VouchFilesRead,
@@ -20,7 +20,7 @@ fn values_as_read()
     ensures hex { HexRead }
     ensures no_hex { HexRefused }
     ensures numbers { NumbersRead }
-    ensures no_numbers { NumbersRefused }
+    ensures no_numbers { NumberTextsRefused }
     ensures zones { ZoneTexts }
     ensures empty_principals { EmptyPrincipalsRead }
     ensures salts { SaltsRead }

@@ -23,14 +23,14 @@ ghost use Rattle.ssh_inputs.specs.Seeking.{sought_of};
 ghost use Rattle.ssh_inputs.specs.Seekers.{
   in_field_rest,
   is_start,
-  key_of,
+  key_sought,
   lines_rest,
   message_of,
   place_rest,
   rest_in_field,
   same_value,
   seeker_rest,
-  signature_of,
+  signature_sought,
   value_after,
   value_rest,
   value_with,
@@ -176,7 +176,7 @@ fn field_end(field: Field<'_>) -> Option<bool>
 }
 
 fn key_of(sought: Option<&Signed>) -> &[u8]
-    ensures { result.now ≡ key_of (sought_of sought.entry) }
+    ensures { result.now ≡ key_sought (sought_of sought.entry) }
 {
     match sought {
         Some(signed) => signed.key.as_slice(),
@@ -194,7 +194,7 @@ fn message_of(sought: Option<&Signed>) -> &[u8]
 }
 
 fn signature_of(sought: Option<&Signed>) -> &[u8]
-    ensures { result.now ≡ signature_of (sought_of sought.entry) }
+    ensures { result.now ≡ signature_sought (sought_of sought.entry) }
 {
     match sought {
         Some(signed) => signed.signature.as_slice(),
@@ -207,7 +207,7 @@ fn first_field(sought: Option<&Signed>) -> Field<'_>
     ensures name { result.name ≡ Key }
     ensures digits { result.digits ≡ Nothing }
     ensures equal { result.equal ≡ is_some sought.entry }
-    ensures left { result.left.now ≡ key_of (sought_of sought.entry) }
+    ensures left { result.left.now ≡ key_sought (sought_of sought.entry) }
 {
     Field {
         name: FieldName::Key,

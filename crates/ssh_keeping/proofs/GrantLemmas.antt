@@ -28,7 +28,7 @@ use Rattle.ssh_trust.specs.declared.decision.Decision.TheVariants.{Granted}
 use Rattle.ssh_trust.specs.Answer.{host_answer}
 use Rattle.ssh_trust.specs.Candidate.{admits, candidate_of, first_admitted, reasons_of}
 use Rattle.ssh_trust.specs.HostDecision.{host_decision, host_decision_by, revocation_cause}
-use Rattle.ssh_trust.specs.HostScan.{first_number, host_line_verdict, host_scan_of, is_blind, number_at, revokes_by}
+use Rattle.ssh_trust.specs.HostScan.{first_number, host_line_verdict, host_scan_of, is_blind, admitting_number, revokes_by}
 use Rattle.ssh_keeping.specs.Grants.{FindsShared, Grants, IsBlind, IsRevoked}
 use Rattle.ssh_trust.proofs.CandidateLemmas.{AreBytes}
 use Rattle.ssh_keeping.proofs.RewritingLemmas.{host-within}
@@ -124,7 +124,7 @@ abbrev first_blind : List ℕ → Option ℕ
 first_blind file = first_number is_blind 1 (lines_of file)
 
 abbrev candidate : HostClaim → List ℕ → Option ℕ
-candidate claim file = option_map number_at (candidate_of (map (host_line_verdict claim) (lines_of file)))
+candidate claim file = option_map admitting_number (candidate_of (map (host_line_verdict claim) (lines_of file)))
 
 abbrev reasons : HostClaim → List ℕ → List (ℕ × Reason)
 reasons claim file = reasons_of (map (host_line_verdict claim) (lines_of file))
@@ -138,7 +138,7 @@ blind-some file = some-number may_revoke 1 (lines_of file)
 admits-some : (claim : HostClaim) (file : List ℕ)
     → is_some (candidate claim file) ≡ list_any (admitting claim) (known_facts file)
 admits-some claim file =
-    some-mapped number_at (candidate_of (map (host_line_verdict claim) (lines_of file))) ∙ some-admitted claim 1 (lines_of file)
+    some-mapped admitting_number (candidate_of (map (host_line_verdict claim) (lines_of file))) ∙ some-admitted claim 1 (lines_of file)
 
 ClearFacts : List KnownLine → HostClaim → List Signed → Type 0
 ClearFacts facts claim vouched =

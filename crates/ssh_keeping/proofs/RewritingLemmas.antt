@@ -22,7 +22,7 @@ use Rattle.ssh_trust.specs.declared.host_scan.HostScan.{HostScan}
 use Rattle.ssh_trust.specs.Answer.{host_answer, login_answer}
 use Rattle.ssh_trust.specs.LoginDecision.{candidate_at, decision_of, login_decision, verdicts}
 use Rattle.ssh_trust.specs.HostDecision.{host_decision, host_decision_of}
-use Rattle.ssh_trust.specs.HostScan.{first_number, host_scan_of, is_blind, number_at, revokes_by}
+use Rattle.ssh_trust.specs.HostScan.{first_number, host_scan_of, is_blind, admitting_number, revokes_by}
 use Rattle.ssh_trust.specs.Scan.{scan_of}
 use Rattle.ssh_trust.proofs.CandidateLemmas.{AreBytes}
 
@@ -67,7 +67,7 @@ blind-by-facts file = first-by-facts may_revoke known_line 1 (lines_of file)
 
 scan_by_facts : HostClaim → List KnownLine → HostScan
 scan_by_facts claim facts = record {
-  admission = scan_of number_at (map (host_verdict claim) facts);
+  admission = scan_of admitting_number (map (host_verdict claim) facts);
   revoked = first_said (revokes_offer claim.offer) 1 facts;
   blind = first_said may_revoke 1 facts;
 }

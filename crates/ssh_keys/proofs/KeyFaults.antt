@@ -25,10 +25,10 @@ use Rattle.ssh_keys.specs.declared.error.KeyError.TheVariants as errors
 use Rattle.ssh_keys.specs.declared.kind.KeyKind.{KeyKind}
 use Rattle.ssh_keys.specs.declared.kind.KeyKind.TheVariants.{Rsa, P256, P384, P521, Ed25519, SkP256, SkEd25519}
 use Rattle.ssh_keys.specs.Curves.{curve_name_of, point_len_of}
-use Rattle.ssh_keys.specs.FieldFaults.{Sort, number, curve, point, public, text, sorts_of, IsWrong, IsOfKind, IsFieldFault}
+use Rattle.ssh_keys.specs.FieldFaults.{KeyFieldSort, number, curve, point, public, text, sorts_of, IsWrong, IsOfKind, IsFieldFault}
 use Rattle.ssh_keys.specs.FirstFault.{AreShort, IsSpelled, IsUnknownName, IsFaultWithin, InFields, IsFirstFault}
 use Rattle.ssh_keys.proofs.KeyLaws.{of_wire_ok, wants_ok, kind_named, find_some, positive_takes, point_takes, public_takes, fields_take}
-use Rattle.ssh_keys.specs.KeyReading.{ReadKey, of_wire, wants, kind_from, positive_at, point_at, public_at, fields_at, blob_at, key_in}
+use Rattle.ssh_keys.specs.KeyReading.{ReadKey, as_key_error, wants, kind_from, positive_at, point_at, public_at, fields_at, blob_at, key_in}
 use Rattle.ssh_keys.specs.Names.{key_name_of, certificate_name_of, class_of, class_by, plain_kind, certificate_kind, kinds}
 use Rattle.ssh_keys.specs.PublicKey.{PublicKey, rsa, p256, p384, p521, ed25519, sk_p256, sk_ed25519, kind_of, fields_of, key_blob_row, is_point, longest}
 
@@ -37,7 +37,7 @@ use Rattle.ssh_keys.specs.PublicKey.{PublicKey, rsa, p256, p384, p521, ed25519, 
 err_is : {A : Type 0} (d e : KeyError) → (let r : Result A KeyError = Err d in r) ≡ Err e → d ≡ e
 err_is d e h = cc
 
-of_wire_err : {A : Type 0} (r : Result A WireError) (e : KeyError) → of_wire r ≡ Err e → (w : WireError) × (r ≡ Err w) × (errors.Wire w ≡ e)
+of_wire_err : {A : Type 0} (r : Result A WireError) (e : KeyError) → as_key_error r ≡ Err e → (w : WireError) × (r ≡ Err w) × (errors.Wire w ≡ e)
 of_wire_err (Ok x) e h = absurd cc
 of_wire_err {A} (Err w) e h = (w, refl, err_is {A = A} (errors.Wire w) e h)
 
@@ -64,7 +64,7 @@ looked_err {A} {B} r f e h = elim (bind_err r (λ x. fine (f x)) e h) [ inl refu
 no_string : (at : Position) (w : WireError) → string_at at ≡ Err w → NoString at.rest
 no_string at w h = λ b. refused_none string (λ t. length t < 2 ^ 32) string_at string_again at w h b.value b.rest b.fits b.begins
 
-string_wrong : (sort : Sort) (at : Position) (e : KeyError) → of_wire (string_at at) ≡ Err e → IsWrong e sort at.rest at.place
+string_wrong : (sort : KeyFieldSort) (at : Position) (e : KeyError) → as_key_error (string_at at) ≡ Err e → IsWrong e sort at.rest at.place
 string_wrong sort at e h =
     let w = of_wire_err (string_at at) e h in
     let is = string_is_short at w.0 w.1 in
@@ -72,7 +72,7 @@ string_wrong sort at e h =
     subst (λ (x : KeyError). IsWrong x sort at.rest at.place) (ap (λ (x : WireError). errors.Wire x) (sym is) ∙ w.2) here
 
 -- the string that was read begins the rest
-begins_string : (Is : List ℕ → Type 0) (at after : Position) (t : List ℕ) → IsBytes at.rest → of_wire (string_at at) ≡ Ok (t, after) → Is t → BeginsString Is at.rest
+begins_string : (Is : List ℕ → Type 0) (at after : Position) (t : List ℕ) → IsBytes at.rest → as_key_error (string_at at) ≡ Ok (t, after) → Is t → BeginsString Is at.rest
 begins_string Is at after t fits h is = record { text = t; is = is; more = after.rest; begins = (string_takes at t after fits (of_wire_ok (string_at at) (t, after) h)).0.parts }
 
 -- a fault of a value, as a read that tells it
@@ -98,7 +98,7 @@ unfolding mpint_at
 mpint_wrong at w fits h =
     let last = λ (t : List ℕ × Position). cond (not (is_least t.0)) (fault at MpintNotMinimal) (cond (not (is_not_negative t.0)) (fault at MpintNegative) (let x : Read ℕ = Ok (natural t.0, t.1) in x)) in
     elim (bind_err (string_at at) last w h) [
-      | inl first ↦ string_wrong number at (errors.Wire w) (ap of_wire first)
+      | inl first ↦ string_wrong number at (errors.Wire w) (ap as_key_error first)
       | inr x ↦ no_number at x.0.0 x.0.1 w (string_takes at x.0.0 x.0.1 fits x.1).0.parts (is_least x.0.0) (is_not_negative x.0.0) refl refl x.2
     ]
 
@@ -109,7 +109,7 @@ zero_spelled rest = refl
 number_wrong : (at : Position) (e : KeyError) → IsBytes at.rest → positive_at at ≡ Err e → IsWrong e number at.rest at.place
 unfolding positive_at
 number_wrong at e fits h =
-    elim (bind_err (of_wire (mpint_at at)) (λ n. cond (eqb n.0 0) (Err (errors.Wire (record { place = at.place; cause = Value }))) (Ok n)) e h) [
+    elim (bind_err (as_key_error (mpint_at at)) (λ n. cond (eqb n.0 0) (Err (errors.Wire (record { place = at.place; cause = Value }))) (Ok n)) e h) [
       | inl first ↦
           (let w = of_wire_err (mpint_at at) e first in
           subst (λ (x : KeyError). IsWrong x number at.rest at.place) w.2 (mpint_wrong at w.0 fits w.1))
@@ -124,7 +124,7 @@ number_wrong at e fits h =
 public_wrong : (at : Position) (e : KeyError) → IsBytes at.rest → public_at at ≡ Err e → IsWrong e public at.rest at.place
 unfolding public_at
 public_wrong at e fits h =
-    elim (bind_err (of_wire (string_at at)) (λ a. cond (eqb (length a.0) 32) (fine a) (Err errors.Length)) e h) [
+    elim (bind_err (as_key_error (string_at at)) (λ a. cond (eqb (length a.0) 32) (fine a) (Err errors.Length)) e h) [
       | inl first ↦ string_wrong public at e first
       | inr x ↦
           (let z = unmet (eqb (length x.0.0) 32) errors.Length e x.0 x.2 in
@@ -142,11 +142,11 @@ point_wrong : (c : Curve) (at : Position) (e : KeyError) → IsBytes at.rest →
 unfolding point_at
 point_wrong c at e fits h =
     let last = λ (q : List ℕ × Position). cond (is_point (point_len_of c) q.0) (fine q) (Err errors.Point) in
-    elim (bind_err (of_wire (string_at at)) (λ name. wants (bytes_eq name.0 (curve_name_of c)) errors.Curve >>= λ u. of_wire (string_at name.1) >>= last) e h) [
+    elim (bind_err (as_key_error (string_at at)) (λ name. wants (bytes_eq name.0 (curve_name_of c)) errors.Curve >>= λ u. as_key_error (string_at name.1) >>= last) e h) [
       | inl first ↦ inl (string_wrong (curve c) at e first)
       | inr x ↦
           (let t = string_takes at x.0.0 x.0.1 fits (of_wire_ok (string_at at) x.0 x.1) in
-          elim (bind_err (wants (bytes_eq x.0.0 (curve_name_of c)) errors.Curve) (λ u. of_wire (string_at x.0.1) >>= last) e x.2) [
+          elim (bind_err (wants (bytes_eq x.0.0 (curve_name_of c)) errors.Curve) (λ u. as_key_error (string_at x.0.1) >>= last) e x.2) [
             | inl w ↦
                 (let z = unmet_wants (bytes_eq x.0.0 (curve_name_of c)) errors.Curve e w in
                 let other : x.0.0 ≢ curve_name_of c = λ same. let equal : bytes_eq x.0.0 (curve_name_of c) ≡ true = (bytes_eq-Decides x.0.0 (curve_name_of c)).1 same in let clash : true ≡ false = sym equal ∙ z.0 in cc in
@@ -162,9 +162,9 @@ point_wrong c at e fits h =
           ])
     ]
   where
-    end_wrong : (next : Position) → IsBytes next.rest → (of_wire (string_at next) >>= λ (q : List ℕ × Position). cond (is_point (point_len_of c) q.0) (fine q) (Err errors.Point)) ≡ Err e → IsWrong e (point c) next.rest next.place
+    end_wrong : (next : Position) → IsBytes next.rest → (as_key_error (string_at next) >>= λ (q : List ℕ × Position). cond (is_point (point_len_of c) q.0) (fine q) (Err errors.Point)) ≡ Err e → IsWrong e (point c) next.rest next.place
     end_wrong next next_fits g =
-        elim (bind_err (of_wire (string_at next)) (λ (q : List ℕ × Position). cond (is_point (point_len_of c) q.0) (fine q) (Err errors.Point)) e g) [
+        elim (bind_err (as_key_error (string_at next)) (λ (q : List ℕ × Position). cond (is_point (point_len_of c) q.0) (fine q) (Err errors.Point)) e g) [
           | inl first ↦ string_wrong (point c) next e first
           | inr x ↦
               (let z = unmet (is_point (point_len_of c) x.0.0) errors.Point e x.0 x.2 in
@@ -174,7 +174,7 @@ point_wrong c at e fits h =
 -- ---- the fields of a kind
 
 -- the first field is wrong
-first_wrong : (kind : KeyKind) (sort : Sort) (after : List Sort) → sorts_of kind ≡ sort ∷ after → (value : PublicKey) → IsOfKind kind value → (at : Position) (e : KeyError)
+first_wrong : (kind : KeyKind) (sort : KeyFieldSort) (after : List KeyFieldSort) → sorts_of kind ≡ sort ∷ after → (value : PublicKey) → IsOfKind kind value → (at : Position) (e : KeyError)
     → IsWrong e sort at.rest at.place → IsFieldFault kind at.place at.rest e
 first_wrong kind sort after row value fits at e wrong = record {
   before = [];
@@ -188,7 +188,7 @@ first_wrong kind sort after row value fits at e wrong = record {
 }
 
 -- the fields before stand, and this one is wrong
-later_wrong : (kind : KeyKind) (before : List Sort) (sort : Sort) (after : List Sort) → sorts_of kind ≡ before ++ sort ∷ after → (value : PublicKey) → IsOfKind kind value → (at next : Position) (e : KeyError) (front : List ℕ)
+later_wrong : (kind : KeyKind) (before : List KeyFieldSort) (sort : KeyFieldSort) (after : List KeyFieldSort) → sorts_of kind ≡ before ++ sort ∷ after → (value : PublicKey) → IsOfKind kind value → (at next : Position) (e : KeyError) (front : List ℕ)
     → concat (take (length before) (fields_of value)) ≡ front → at.rest ≡ front ++ next.rest → next.place ≡ at.place + length front
     → IsWrong e sort next.rest next.place → IsFieldFault kind at.place at.rest e
 later_wrong kind before sort after row value fits at next e front is parts far wrong = record {
@@ -209,7 +209,7 @@ some_point c = 4 ∷ replicate (point_len_of c - 1) 0
 abbrev some_public : List ℕ
 some_public = replicate 32 0
 
-point_fault : (kind : KeyKind) (c : Curve) (more : List Sort) → sorts_of kind ≡ curve c ∷ point c ∷ more → (value : PublicKey) → IsOfKind kind value → concat (take 1 (fields_of value)) ≡ string (curve_name_of c)
+point_fault : (kind : KeyKind) (c : Curve) (more : List KeyFieldSort) → sorts_of kind ≡ curve c ∷ point c ∷ more → (value : PublicKey) → IsOfKind kind value → concat (take 1 (fields_of value)) ≡ string (curve_name_of c)
     → (at : Position) (e : KeyError) → IsBytes at.rest → point_at (curve_name_of c) (point_len_of c) at ≡ Err e → IsFieldFault kind at.place at.rest e
 point_fault kind c more row value is front at e fits h =
     elim (point_wrong c at e fits h) [
@@ -240,20 +240,20 @@ fields_fault Ed25519 at e fits h =
     first_wrong Ed25519 public [] refl (ed25519 some_public) (record { of = refl; in_range = refl }) at e (public_wrong at e fits (looked_err (public_at at) (λ a. (ed25519 a.0, a.1)) e h))
 fields_fault SkP256 at e fits h =
     let name = curve_name_of Nistp256 in
-    elim (bind_err (point_at name (point_len_of Nistp256) at) (λ q. of_wire (string_at q.1) >>= λ s. fine (sk_p256 q.0 s.0, s.1)) e h) [
+    elim (bind_err (point_at name (point_len_of Nistp256) at) (λ q. as_key_error (string_at q.1) >>= λ s. fine (sk_p256 q.0 s.0, s.1)) e h) [
       | inl first ↦ point_fault SkP256 Nistp256 (text ∷ []) refl (sk_p256 (some_point Nistp256) []) (record { of = refl; in_range = refl }) (append-nil (string (curve_name_of Nistp256))) at e fits first
       | inr x ↦
           (let t = point_takes name (point_len_of Nistp256) at x.0.0 x.0.1 fits x.1 in
-          let last = looked_err (of_wire (string_at x.0.1)) (λ s. (sk_p256 x.0.0 s.0, s.1)) e x.2 in
+          let last = looked_err (as_key_error (string_at x.0.1)) (λ s. (sk_p256 x.0.0 s.0, s.1)) e x.2 in
           later_wrong SkP256 (curve Nistp256 ∷ point Nistp256 ∷ []) text [] refl (sk_p256 x.0.0 []) (record { of = refl; in_range = t.1 }) at x.0.1 e (string name ++ string x.0.0)
           (ap (λ (r : List ℕ). string name ++ r) (append-nil (string x.0.0))) t.0.parts t.0.place (string_wrong text x.0.1 e last))
     ]
 fields_fault SkEd25519 at e fits h =
-    elim (bind_err (public_at at) (λ a. of_wire (string_at a.1) >>= λ s. fine (sk_ed25519 a.0 s.0, s.1)) e h) [
+    elim (bind_err (public_at at) (λ a. as_key_error (string_at a.1) >>= λ s. fine (sk_ed25519 a.0 s.0, s.1)) e h) [
       | inl first ↦ first_wrong SkEd25519 public (text ∷ []) refl (sk_ed25519 some_public []) (record { of = refl; in_range = refl }) at e (public_wrong at e fits first)
       | inr x ↦
           (let t = public_takes at x.0.0 x.0.1 fits x.1 in
-          let last = looked_err (of_wire (string_at x.0.1)) (λ s. (sk_ed25519 x.0.0 s.0, s.1)) e x.2 in
+          let last = looked_err (as_key_error (string_at x.0.1)) (λ s. (sk_ed25519 x.0.0 s.0, s.1)) e x.2 in
           later_wrong SkEd25519 (public ∷ []) text [] refl (sk_ed25519 x.0.0 []) (record { of = refl; in_range = t.1 }) at x.0.1 e (string x.0.0) (append-nil (string x.0.0)) t.0.parts t.0.place (string_wrong text x.0.1 e last))
     ]
 
@@ -330,7 +330,7 @@ within bytes errors.TooLong i = absurd i.fault.wrong
 
 -- bytes after the last field
 goes_on : (bytes : List ℕ) (e : KeyError) (key : PublicKey) (rest : List ℕ) (place : ℕ) → IsSpelled key → bytes ≡ string (key_name_of (kind_of key)) ++ (concat (fields_of key) ++ rest)
-    → place ≡ length (string (key_name_of (kind_of key))) + length (concat (fields_of key)) → of_wire (end_at (record { place = place; rest = rest })) ≡ Err e → IsFaultWithin bytes e
+    → place ≡ length (string (key_name_of (kind_of key))) + length (concat (fields_of key)) → as_key_error (end_at (record { place = place; rest = rest })) ≡ Err e → IsFaultWithin bytes e
 goes_on bytes e key [] place is parts far h = absurd cc
 goes_on bytes e key (b ∷ rest) place is parts far h =
     let name = string (key_name_of (kind_of key)) in
@@ -351,21 +351,21 @@ fields_short (field ∷ fields) few = (omega (arith, few, length-append field (c
 blob_fault : (bytes : List ℕ) (e : KeyError) → IsBytes bytes → length bytes ≤ longest → blob_at (start bytes) ≡ Err e → IsFaultWithin bytes e
 unfolding blob_at
 blob_fault bytes e fits few h =
-    elim (bind_err (of_wire (string_at (start bytes))) (λ name. kind_from (class_of name.0) >>= λ kind. fields_at kind name.1 >>= λ key. of_wire (end_at key.1) >>= λ u. fine key.0) e h) [
+    elim (bind_err (as_key_error (string_at (start bytes))) (λ name. kind_from (class_of name.0) >>= λ kind. fields_at kind name.1 >>= λ key. as_key_error (end_at key.1) >>= λ u. fine key.0) e h) [
       | inl first ↦
           (let w = of_wire_err (string_at (start bytes)) e first in
           let is : errors.Wire (record { place = 0; cause = Short }) ≡ e = ap (λ (x : WireError). errors.Wire x) (sym (string_is_short (start bytes) w.0 w.1)) ∙ w.2 in
           subst (λ (x : KeyError). IsFaultWithin bytes x) is (inl (refl, no_string (start bytes) w.0 w.1)))
       | inr x ↦
           (let t = string_takes (start bytes) x.0.0 x.0.1 fits (of_wire_ok (string_at (start bytes)) x.0 x.1) in
-          elim (bind_err (kind_from (class_of x.0.0)) (λ kind. fields_at kind x.0.1 >>= λ key. of_wire (end_at key.1) >>= λ u. fine key.0) e x.2) [
+          elim (bind_err (kind_from (class_of x.0.0)) (λ kind. fields_at kind x.0.1 >>= λ key. as_key_error (end_at key.1) >>= λ u. fine key.0) e x.2) [
             | inl k ↦ name_wrong bytes x.0.0 (x.0.1).rest t.0.parts (plain_kind x.0.0) (certificate_kind x.0.0) (bytes_eq x.0.0 (codes "ssh-dss")) refl refl refl e k
             | inr k ↦
                 (let same : x.0.0 ≡ key_name_of k.0 = kind_named x.0.0 k.0 k.1 in
                 let parts : bytes ≡ string (key_name_of k.0) ++ (x.0.1).rest = t.0.parts ∙ ap (λ (n : List ℕ). string n ++ (x.0.1).rest) same in
                 let far : (x.0.1).place ≡ length (string (key_name_of k.0)) = t.0.place ∙ ap (λ (n : List ℕ). 0 + length (string n)) same ∙ zero-add (length (string (key_name_of k.0))) in
                 let less : length (x.0.1).rest < 2 ^ 32 = omega (arith, few, ap length t.0.parts, length-append (string x.0.0) (x.0.1).rest) in
-                elim (bind_err (fields_at k.0 x.0.1) (λ key. of_wire (end_at key.1) >>= λ u. fine key.0) e k.2) [
+                elim (bind_err (fields_at k.0 x.0.1) (λ key. as_key_error (end_at key.1) >>= λ u. fine key.0) e k.2) [
                   | inl f ↦
                       within bytes e (record {
                         kind = k.0;
@@ -375,7 +375,7 @@ blob_fault bytes e fits few h =
                       })
                   | inr f ↦
                       (let took = fields_take k.0 x.0.1 f.0.0 f.0.1 t.0.rest_fits f.1 in
-                      let refused : of_wire (end_at f.0.1) ≡ Err e = elim (bind_err (of_wire (end_at f.0.1)) (λ u. fine f.0.0) e f.2) [ inl r ↦ r | inr y ↦ absurd (let none : fine {E = KeyError} f.0.0 ≡ Err e = y.2 in cc) ] in
+                      let refused : as_key_error (end_at f.0.1) ≡ Err e = elim (bind_err (as_key_error (end_at f.0.1)) (λ u. fine f.0.0) e f.2) [ inl r ↦ r | inr y ↦ absurd (let none : fine {E = KeyError} f.0.0 ≡ Err e = y.2 in cc) ] in
                       let name : string (key_name_of k.0) ≡ string (key_name_of (kind_of f.0.0)) = ap (λ (kind : KeyKind). string (key_name_of kind)) (sym took.kind) in
                       let short = fields_short (fields_of f.0.0) (omega (arith, less, ap length took.took.parts, length-append (concat (fields_of f.0.0)) (f.0.1).rest)) in
                       goes_on bytes e f.0.0 (f.0.1).rest (f.0.1).place (record { in_range = took.in_range; short = short })

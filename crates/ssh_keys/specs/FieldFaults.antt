@@ -14,16 +14,16 @@ use Rattle.ssh_keys.specs.Curves.{curve_name_of, point_len_of}
 use Rattle.ssh_keys.specs.PublicKey.{PublicKey, kind_of, fields_of, is_point, is_in_range}
 
 -- a sort of field: a number above zero, the name of a curve, a point of it, a public key of 32 bytes, any string
-pub data Sort : Type 0 where
-  number : Sort
-  curve : Curve → Sort
-  point : Curve → Sort
-  public : Sort
-  text : Sort
+pub data KeyFieldSort : Type 0 where
+  number : KeyFieldSort
+  curve : Curve → KeyFieldSort
+  point : Curve → KeyFieldSort
+  public : KeyFieldSort
+  text : KeyFieldSort
 
 -- the row of fields after the type name (RFC 4253 section 6.6, RFC 5656 section 3.1, RFC 8709 section 4,
 -- PROTOCOL.u2f)
-abbrev pub sorts_of : KeyKind → List Sort
+abbrev pub sorts_of : KeyKind → List KeyFieldSort
 sorts_of Rsa = number ∷ number ∷ []
 sorts_of P256 = curve Nistp256 ∷ point Nistp256 ∷ []
 sorts_of P384 = curve Nistp384 ∷ point Nistp384 ∷ []
@@ -34,7 +34,7 @@ sorts_of SkEd25519 = public ∷ text ∷ []
 
 -- Why no value can be taken from the rest: no string begins there; a number has a byte that can be left out;
 -- it has none, and is below zero; it is zero.
-abbrev pub IsUnread : WireCause → Sort → List ℕ → Type 0
+abbrev pub IsUnread : WireCause → KeyFieldSort → List ℕ → Type 0
 IsUnread Short sort rest = NoString rest
 IsUnread MpintNotMinimal number rest = BeginsString (λ bytes. is_least bytes ≡ false) rest
 IsUnread MpintNegative number rest = BeginsString (λ bytes. (is_least bytes ≡ true) × (is_not_negative bytes ≡ false)) rest
@@ -43,7 +43,7 @@ IsUnread cause sort rest = ⊥
 
 -- What is wrong with a field of this sort: it is unread, at this place; it is another curve's name; it is no
 -- point of that curve's length; it has not 32 bytes.
-abbrev pub IsWrong : KeyError → Sort → List ℕ → ℕ → Type 0
+abbrev pub IsWrong : KeyError → KeyFieldSort → List ℕ → ℕ → Type 0
 IsWrong (errors.Wire e) sort rest place = (e.place ≡ place) × IsUnread e.cause sort rest
 IsWrong errors.Curve (curve c) rest place = BeginsString (λ name. name ≢ curve_name_of c) rest
 IsWrong errors.Point (point c) rest place = BeginsString (λ q. is_point (point_len_of c) q ≡ false) rest
@@ -58,9 +58,9 @@ pub record IsOfKind (kind : KeyKind) (key : PublicKey) : Type 0 where
 -- The fields before one stand, as those of a key of this kind, and this one is wrong. (So many bytes stand
 -- before the first of them.)
 pub record IsFieldFault (kind : KeyKind) (offset : ℕ) (bytes : List ℕ) (e : KeyError) : Type 0 where
-  pub before : List Sort
-  pub sort : Sort
-  pub after : List Sort
+  pub before : List KeyFieldSort
+  pub sort : KeyFieldSort
+  pub after : List KeyFieldSort
   pub row : sorts_of kind ≡ before ++ sort ∷ after
   pub place : ℕ
   pub rest : List ℕ

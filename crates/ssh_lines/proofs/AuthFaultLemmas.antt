@@ -14,7 +14,7 @@ use Rattle.ssh_options.proofs.ReadOptions.{read_options, text_cut}
 use Rattle.ssh_text.proofs.ReadText.{skipped}
 use Rattle.ssh_text.specs.Text.{body_of, first_word, line_limit, next_field, skip_blanks}
 use Rattle.ssh_lines.specs.declared.entry.AuthLine.TheVariants.{Unreadable}
-use Rattle.ssh_lines.specs.KeyPart.{KeyPart, begins_with_type, is_empty, is_type, key_after_fields, key_part_of, lacks_key}
+use Rattle.ssh_lines.specs.KeyPart.{KeyPart, begins_with_type, has_no_bytes, is_type, key_after_fields, key_part_of, lacks_key}
 use Rattle.ssh_lines.specs.AuthFaults.{HasOptions, IsAuthFault, IsKeyText, after_options, option_field}
 use Rattle.ssh_lines.specs.AuthGrammar.{auth_line, entry_after_options, entry_of, entry_of_key, line_of_front}
 use Rattle.ssh_lines.specs.Front.{LineFront, past_limit, empty, remark, fields, front_of, begins_with}
@@ -49,10 +49,10 @@ key-by : (line text : List ℕ) (lacks : Bool) (cause : LineCause) → AreBytes 
     → lacks_key text ≡ lacks → (if lacks then Err causes.NoKey else key_after_fields text) ≡ Err cause → IsAuthFault cause line
 key-by line text true cause are f t l h =
     let e : causes.NoKey ≡ cause = cc in
-    subst (λ x. IsAuthFault x line) e (text, f, t, missing text (is_empty (first_word text)) (is_empty (field_of text)) refl refl l)
+    subst (λ x. IsAuthFault x line) e (text, f, t, missing text (has_no_bytes (first_word text)) (has_no_bytes (field_of text)) refl refl l)
 key-by line text false cause are f t l h =
     let bytes = IsBytes-from_all (field_of text) (word-bytes (next_field text) (next-bytes text are)) in
-    of-key cause line text f t (there text (is_empty (first_word text)) (is_empty (field_of text)) refl refl l)
+    of-key cause line text f t (there text (has_no_bytes (first_word text)) (has_no_bytes (field_of text)) refl refl l)
     (class-fault text (class_of (first_word text)) cause bytes refl h)
 
 part-fault : (line text : List ℕ) (cause : LineCause) → AreBytes text → HasFields line → IsKeyText line text
@@ -144,7 +144,7 @@ front-by line (fields body) cause are f h =
     let same = front.is in
     let there : HasFields line = record {
       short = front.short;
-      some = is-some (body_of line) (ap is_empty same ∙ front.some);
+      some = is-some (body_of line) (ap has_no_bytes same ∙ front.some);
       comment = ap (begins_with 35) same ∙ front.comment;
     } in
     body-by line (begins_with_type (body_of line)) cause are there refl (ap entry_of same ∙ h)

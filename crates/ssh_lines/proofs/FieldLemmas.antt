@@ -4,7 +4,7 @@ use Rattle.std.proofs.lemmas.Bool.{cases_Bool}
 use Rattle.ssh_text.specs.Text.{is_blank, body_of, first_word, after_word, next_field, without_cr, HasNoBlank}
 use Rattle.ssh_text.proofs.ReadText.{skipped, cr_cut, word-cut}
 use Rattle.ssh_lines.specs.Front.{begins_with}
-use Rattle.ssh_lines.specs.KeyPart.{is_empty}
+use Rattle.ssh_lines.specs.KeyPart.{has_no_bytes}
 use Rattle.ssh_names.proofs.ByteLemmas.{AreBytes, AreBytes-front, AreBytes-back}
 
 pub body-bytes : (line : List ℕ) → AreBytes line → AreBytes (body_of line)
@@ -32,10 +32,10 @@ pub word-begins : (byte : ℕ) (text : List ℕ) → begins_with byte text ≡ f
 word-begins byte [] h = refl
 word-begins byte (c ∷ cs) h = elim (cases_Bool (is_blank c)) [ inl e ↦ rw e refl | inr e ↦ rw e h ]
 
-pub begins-front : (byte : ℕ) (word rest : List ℕ) → is_empty word ≡ false → begins_with byte (word ++ rest) ≡ begins_with byte word
+pub begins-front : (byte : ℕ) (word rest : List ℕ) → has_no_bytes word ≡ false → begins_with byte (word ++ rest) ≡ begins_with byte word
 begins-front byte [] rest e = cc
 begins-front byte (c ∷ cs) rest e = refl
 
-pub some-front : (word rest : List ℕ) → is_empty word ≡ false → is_empty (word ++ rest) ≡ false
+pub some-front : (word rest : List ℕ) → has_no_bytes word ≡ false → has_no_bytes (word ++ rest) ≡ false
 some-front [] rest e = cc
 some-front (c ∷ cs) rest e = refl

@@ -2,7 +2,7 @@
 use Rattle.std.proofs.Common.{◌≡◌, ℕ, ◌≤◌, nat_lt, Bool, true, false, ◌==◌, if◌then◌else◌, List, [], ◌∷◌, length, refl, sym, ap, ◌∙◌, arith}
 use Rattle.std.proofs.lemmas.Bool.{ltb-false, le-ltb}
 use Rattle.ssh_text.specs.Text.{line_limit, body_of}
-use Rattle.ssh_lines.specs.KeyPart.{is_empty}
+use Rattle.ssh_lines.specs.KeyPart.{has_no_bytes}
 use Rattle.ssh_lines.specs.Front.{past_limit, remark, fields, front_of, front_of_body, begins_with}
 use Rattle.ssh_lines.proofs.LengthLemmas.{length_body}
 
@@ -10,7 +10,7 @@ use Rattle.ssh_lines.proofs.LengthLemmas.{length_body}
 pub record FrontFields (line body : List ℕ) : Type 0 where
   pub short : length line ≤ line_limit
   pub is : body_of line ≡ body
-  pub some : is_empty body ≡ false
+  pub some : has_no_bytes body ≡ false
   pub comment : begins_with 35 body ≡ false
 
 remark-by : (c : ℕ) (cs body : List ℕ) (comment : Bool) → (c == 35) ≡ comment → (if comment then remark else fields (c ∷ cs)) ≡ fields body
@@ -18,7 +18,7 @@ remark-by : (c : ℕ) (cs body : List ℕ) (comment : Bool) → (c == 35) ≡ co
 remark-by c cs body true e h = cc
 remark-by c cs body false e h = (cc, e)
 
-body-by : (text body : List ℕ) → front_of_body text ≡ fields body → (text ≡ body) × (is_empty text ≡ false) × (begins_with 35 text ≡ false)
+body-by : (text body : List ℕ) → front_of_body text ≡ fields body → (text ≡ body) × (has_no_bytes text ≡ false) × (begins_with 35 text ≡ false)
 body-by [] body h = cc
 body-by (c ∷ cs) body h = let is = remark-by c cs body (c == 35) refl h in (is.0, refl, is.1)
 
@@ -30,7 +30,7 @@ limit-by line body false l h =
     record {
       short = ltb-false line_limit (length line) l;
       is = is.0;
-      some = ap is_empty (sym is.0) ∙ is.1;
+      some = ap has_no_bytes (sym is.0) ∙ is.1;
       comment = ap (begins_with 35) (sym is.0) ∙ is.2;
     }
 
@@ -46,12 +46,12 @@ fields-length line body h =
     let limit = f.short in
     omega arith
 
-fields-at : (text : List ℕ) → is_empty text ≡ false → begins_with 35 text ≡ false → front_of_body text ≡ fields text
+fields-at : (text : List ℕ) → has_no_bytes text ≡ false → begins_with 35 text ≡ false → front_of_body text ≡ fields text
 fields-at [] s h = cc
 fields-at (c ∷ cs) s h = rw h refl
 
 -- a short line has the fields of its body
-pub front-at : (line body : List ℕ) → length line ≤ line_limit → body_of line ≡ body → is_empty body ≡ false
+pub front-at : (line body : List ℕ) → length line ≤ line_limit → body_of line ≡ body → has_no_bytes body ≡ false
     → begins_with 35 body ≡ false → front_of line ≡ fields body
 front-at line body short is some comment =
     rw (le-ltb line_limit (length line) short, is) (fields-at body some comment)

@@ -16,7 +16,7 @@ use Rattle.ssh_lines.proofs.KeyNames.{class-of_name}
 use Rattle.ssh_text.specs.Text.{is_blank, HasNoBlank, AreBlanks, begins_with_blank, first_word, next_field, skip_blanks, comment_of, without_cr}
 use Rattle.ssh_text.proofs.TextLemmas.{ends_word, skip_blanks-after, skip_blanks-at_word, first_word-at, after_word-at, without_cr-after}
 use Rattle.ssh_names.specs.Names.{base64}
-use Rattle.ssh_lines.specs.KeyPart.{key_part_of, key_by_class, is_empty}
+use Rattle.ssh_lines.specs.KeyPart.{key_part_of, key_by_class, has_no_bytes}
 
 -- ---- base64 has no blanks
 
@@ -70,7 +70,7 @@ name-no_blank Ed25519 = HasNoBlank-from_test (key_name_of Ed25519) refl
 name-no_blank SkP256 = HasNoBlank-from_test (key_name_of SkP256) refl
 name-no_blank SkEd25519 = HasNoBlank-from_test (key_name_of SkEd25519) refl
 
-name-some : (kind : KeyKind) → is_empty (key_name_of kind) ≡ false
+name-some : (kind : KeyKind) → has_no_bytes (key_name_of kind) ≡ false
 name-some Rsa = refl
 name-some P256 = refl
 name-some P384 = refl
@@ -91,19 +91,19 @@ name-same SkEd25519 = refl
 -- ---- the key part
 
 -- no blob is empty
-pub spelling-some : (key : PublicKey) (blob : List ℕ) → key_in blob ≡ Ok key → is_empty blob ≡ false
+pub spelling-some : (key : PublicKey) (blob : List ℕ) → key_in blob ≡ Ok key → has_no_bytes blob ≡ false
 unfolding key_in blob_at string_at
 spelling-some key [] h = cc
 spelling-some key (b ∷ bs) h = refl
 
-pub base64-some : (m : List ℕ) → is_empty m ≡ false → is_empty (base64 m) ≡ false
+pub base64-some : (m : List ℕ) → has_no_bytes m ≡ false → has_no_bytes (base64 m) ≡ false
 unfolding encode_symbols
 base64-some [] h = h
 base64-some (a ∷ []) h = refl
 base64-some (a ∷ b ∷ []) h = refl
 base64-some (a ∷ b ∷ c ∷ rest) h = refl
 
-pub begins-word : (word rest : List ℕ) → is_empty word ≡ false → HasNoBlank word → begins_with_blank (word ++ rest) ≡ false
+pub begins-word : (word rest : List ℕ) → has_no_bytes word ≡ false → HasNoBlank word → begins_with_blank (word ++ rest) ≡ false
 begins-word [] rest e h = cc
 begins-word (c ∷ word) rest e h = h.0
 
@@ -126,7 +126,7 @@ first_field-at word gap rest w e g =
 
 -- the fields of a text of type, base64 and what follows
 after_fields-at : (text word field rest : List ℕ) → first_word text ≡ word → next_field text ≡ field ++ rest
-    → HasNoBlank field → ends_word rest ≡ true → is_empty word ≡ false → is_empty field ≡ false
+    → HasNoBlank field → ends_word rest ≡ true → has_no_bytes word ≡ false → has_no_bytes field ≡ false
     → key_part_of text ≡ key_by_class (class_of word) field rest
 unfolding key_part_of
 after_fields-at text word field rest f n h e w s =
@@ -188,7 +188,7 @@ without_cr-none (c ∷ []) h =
 without_cr-none (c ∷ d ∷ cs) h = ap (λ s. c ∷ s) (without_cr-none (d ∷ cs) (and_parts (is_no_cr c) (list_all is_no_cr (d ∷ cs)) h).1)
 
 -- a CR at the end of a line stands after its base64 field
-pub without_cr-at : (front field tail : List ℕ) → is_empty field ≡ false → list_all is_no_cr field ≡ true
+pub without_cr-at : (front field tail : List ℕ) → has_no_bytes field ≡ false → list_all is_no_cr field ≡ true
     → without_cr (front ++ (field ++ tail)) ≡ front ++ (field ++ without_cr tail)
 without_cr-at front [] tail s h = cc
 without_cr-at front (c ∷ cs) [] s h =

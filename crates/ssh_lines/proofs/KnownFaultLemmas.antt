@@ -31,9 +31,9 @@ use Rattle.ssh_lines.specs.declared.marker.Marker.{Marker}
 use Rattle.ssh_lines.specs.declared.marker.Marker.TheVariants as markers
 use Rattle.ssh_lines.specs.Front.{LineFront, past_limit, empty, remark, fields, front_of, begins_with}
 use Rattle.ssh_names.specs.Names.{base64}
-use Rattle.ssh_lines.specs.KeyPart.{is_empty, lacks_key, key_of_kind, key_of_blob, key_by_class, key_after_fields}
+use Rattle.ssh_lines.specs.KeyPart.{has_no_bytes, lacks_key, key_of_kind, key_of_blob, key_by_class, key_after_fields}
 use Rattle.ssh_lines.specs.KnownFaults.{field_of, IsKeyFault, HasKey, IsTextFault, HasFields, IsText, IsKnownFault}
-use Rattle.ssh_lines.specs.KnownGrammar.{entry_of_key, entry_of_names, entry_of_fields, line_of_entry, line_by_first, line_of_front, names_cause, revoked_by, known_line}
+use Rattle.ssh_lines.specs.KnownGrammar.{known_entry_of_key, entry_of_names, known_entry_of_fields, line_of_entry, line_by_first, known_line_of_front, names_cause, revoked_by, known_line}
 use Rattle.ssh_lines.specs.Markers.{first_field_of}
 use Rattle.ssh_lines.proofs.FieldLemmas.{body-bytes, next-bytes, word-bytes}
 use Rattle.ssh_lines.proofs.FrontLemmas.{front-fields}
@@ -88,21 +88,21 @@ class-fault key (Plain kind) cause are c h = field-fault key kind (decode_of sta
 
 -- ---- names and key
 
-pub is-some : (text : List ℕ) → is_empty text ≡ false → text ≢ []
+pub is-some : (text : List ℕ) → has_no_bytes text ≡ false → text ≢ []
 is-some [] h e = cc
 is-some (c ∷ cs) h e = cc
 
-is-none : (text : List ℕ) → is_empty text ≡ true → text ≡ []
+is-none : (text : List ℕ) → has_no_bytes text ≡ true → text ≡ []
 is-none [] h = refl
 is-none (c ∷ cs) h = cc
 
-pub missing : (key : List ℕ) (word field : Bool) → is_empty (first_word key) ≡ word → is_empty (field_of key) ≡ field → (word || field) ≡ true
+pub missing : (key : List ℕ) (word field : Bool) → has_no_bytes (first_word key) ≡ word → has_no_bytes (field_of key) ≡ field → (word || field) ≡ true
     → (first_word key ≡ []) ⊎ (field_of key ≡ [])
 missing key true field w f h = inl (is-none (first_word key) w)
 missing key false true w f h = inr (is-none (field_of key) f)
 missing key false false w f h = cc
 
-pub there : (key : List ℕ) (word field : Bool) → is_empty (first_word key) ≡ word → is_empty (field_of key) ≡ field → (word || field) ≡ false
+pub there : (key : List ℕ) (word field : Bool) → has_no_bytes (first_word key) ≡ word → has_no_bytes (field_of key) ≡ field → (word || field) ≡ false
     → HasKey key
 there key true field w f h = cc
 there key false true w f h = cc
@@ -133,7 +133,7 @@ of-names faults.EmptyItem text k f = (k, f)
 
 key-by : (text : List ℕ) (marker : Marker) (names : Names) (part : Result KeyPart LineCause) (cause : LineCause) → AreBytes text
     → HasKey (next_field text) → SpellsNames names (first_word text) → key_after_fields (next_field text) ≡ part
-    → entry_of_key marker names part ≡ Err cause → IsTextFault cause text
+    → known_entry_of_key marker names part ≡ Err cause → IsTextFault cause text
 key-by text marker names (Ok part) cause are k n p h = cc
 key-by text marker names (Err e) cause are k n p h =
     let is : e ≡ cause = cc in
@@ -156,20 +156,20 @@ fields-by : (text : List ℕ) (marker : Marker) (lacks : Bool) (cause : LineCaus
 fields-by text marker true cause are l h =
     let is : causes.NoKey ≡ cause = cc in
     let key = next_field text in
-    subst (λ x. IsTextFault x text) is (missing key (is_empty (first_word key)) (is_empty (field_of key)) refl refl l)
+    subst (λ x. IsTextFault x text) is (missing key (has_no_bytes (first_word key)) (has_no_bytes (field_of key)) refl refl l)
 fields-by text marker false cause are l h =
     let key = next_field text in
-    names-by text marker (names_of (first_word text)) cause are (there key (is_empty (first_word key)) (is_empty (field_of key)) refl refl l) refl h
+    names-by text marker (names_of (first_word text)) cause are (there key (has_no_bytes (first_word key)) (has_no_bytes (field_of key)) refl refl l) refl h
 
 entry-by : (read : Result KnownEntry LineCause) (cause : LineCause) → line_of_entry read ≡ Unreadable cause → read ≡ Err cause
 entry-by (Ok entry) cause h = cc
 entry-by (Err e) cause h = cc
 
 text-fault : (text : List ℕ) (marker : Marker) (cause : LineCause) → AreBytes text
-    → line_of_entry (entry_of_fields marker (first_word text) (next_field text)) ≡ Unreadable cause → IsTextFault cause text
-unfolding entry_of_fields
+    → line_of_entry (known_entry_of_fields marker (first_word text) (next_field text)) ≡ Unreadable cause → IsTextFault cause text
+unfolding known_entry_of_fields
 text-fault text marker cause are h =
-    fields-by text marker (lacks_key (next_field text)) cause are refl (entry-by (entry_of_fields marker (first_word text) (next_field text)) cause h)
+    fields-by text marker (lacks_key (next_field text)) cause are refl (entry-by (known_entry_of_fields marker (first_word text) (next_field text)) cause h)
 
 -- ---- the line
 
@@ -207,13 +207,13 @@ first-by line first.CertAuthority cause are k f h =
     (text-fault text markers.CertAuthority cause (next-bytes (body_of line) (body-bytes line are)) h)
 first-by line first.Revoked cause are k f h =
     let field = first_word (next_field (next_field (next_field (body_of line)))) in
-    absurd (no_revocation (is_empty field) (decode_of standard field) cause h)
+    absurd (no_revocation (has_no_bytes field) (decode_of standard field) cause h)
 first-by line first.Unknown cause are k f h =
     let is : causes.Marker ≡ cause = cc in
     let unknown = unknown-first (first_word (body_of line)) f in
     subst (λ x. IsKnownFault x line) is (k, unknown.0, unknown.1, unknown.2)
 
-front-by : (line : List ℕ) (front : LineFront) (cause : LineCause) → AreBytes line → front_of line ≡ front → line_of_front front ≡ Unreadable cause
+front-by : (line : List ℕ) (front : LineFront) (cause : LineCause) → AreBytes line → front_of line ≡ front → known_line_of_front front ≡ Unreadable cause
     → IsKnownFault cause line
 front-by line past_limit cause are f h = cc
 front-by line empty cause are f h = cc
@@ -223,7 +223,7 @@ front-by line (fields body) cause are f h =
     let same = front.is in
     let k : HasFields line = record {
       short = front.short;
-      some = is-some (body_of line) (ap is_empty same ∙ front.some);
+      some = is-some (body_of line) (ap has_no_bytes same ∙ front.some);
       comment = ap (begins_with 35) same ∙ front.comment;
     } in
     first-by line (first_field_of (first_word (body_of line))) cause are k refl

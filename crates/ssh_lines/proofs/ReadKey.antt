@@ -15,7 +15,7 @@ use Rattle.ssh_keys.specs.KeyReading.{key_in}
 use Rattle.ssh_options.specs.declared.cause.LineCause.TheVariants as causes
 use Rattle.ssh_text.specs.Text.{first_word, after_word, next_field, comment_of, begins_with_blank}
 use Rattle.ssh_names.specs.Names.{base64}
-use Rattle.ssh_lines.specs.KeyPart.{KeyPart, is_empty, lacks_key, SpellsKey, key_by_class, key_of_blob, key_of_kind, key_after_fields, key_part_of}
+use Rattle.ssh_lines.specs.KeyPart.{KeyPart, has_no_bytes, lacks_key, SpellsKey, key_by_class, key_of_blob, key_of_kind, key_after_fields, key_part_of}
 use Rattle.ssh_keys.proofs.KeyLaws.{key_takes}
 use Rattle.ssh_names.proofs.DecodedBytes.{decoded-bytes}
 use Rattle.ssh_lines.proofs.KeyNames.{plain-name}
@@ -69,15 +69,15 @@ or-parts true b h = cc
 or-parts false b h = (refl, h)
 
 pub record ReadKey (text : List ℕ) (part : KeyPart) : Type 0 where
-  pub word : is_empty (first_word text) ≡ false
-  pub field : is_empty (first_word (next_field text)) ≡ false
+  pub word : has_no_bytes (first_word text) ≡ false
+  pub field : has_no_bytes (first_word (next_field text)) ≡ false
   pub facts : KeyFacts (first_word text) (first_word (next_field text)) (after_word (next_field text)) part
 
 read-by : (text : List ℕ) (part : KeyPart) (lacks : Bool) → lacks_key text ≡ lacks
     → (if lacks then Err causes.NoKey else key_after_fields text) ≡ Ok part → ReadKey text part
 read-by text part true l h = cc
 read-by text part false l h =
-    let parts = or-parts (is_empty (first_word text)) (is_empty (first_word (next_field text))) l in
+    let parts = or-parts (has_no_bytes (first_word text)) (has_no_bytes (first_word (next_field text))) l in
     record {
       word = parts.0;
       field = parts.1;
@@ -89,7 +89,7 @@ unfolding key_part_of
 key_part-facts text part h = read-by text part (lacks_key text) refl h
 
 -- the gap between two fields is not empty
-pub gap-some : (gap rest : List ℕ) → ends_word (gap ++ rest) ≡ true → begins_with_blank rest ≡ false → is_empty (first_word rest) ≡ false
+pub gap-some : (gap rest : List ℕ) → ends_word (gap ++ rest) ≡ true → begins_with_blank rest ≡ false → has_no_bytes (first_word rest) ≡ false
     → bytes_eq gap [] ≡ false
 gap-some [] [] e b w = cc
 gap-some [] (c ∷ cs) e b w = let f : true ≡ false = sym e ∙ b in cc

@@ -25,9 +25,9 @@ use Rattle.ssh_lines.specs.declared.marker.Marker.{Marker}
 use Rattle.ssh_lines.specs.declared.marker.Marker.TheVariants as markers
 use Rattle.ssh_lines.specs.Front.{LineFront, past_limit, empty, remark, fields, front_of, begins_with}
 use Rattle.ssh_names.specs.Names.{base64}
-use Rattle.ssh_lines.specs.KeyPart.{SpellsKey, is_empty, lacks_key, key_after_fields, key_part_of}
+use Rattle.ssh_lines.specs.KeyPart.{SpellsKey, has_no_bytes, lacks_key, key_after_fields, key_part_of}
 use Rattle.ssh_lines.specs.Markers.{SpellsMarker, authority_marker, first_field_of}
-use Rattle.ssh_lines.specs.KnownGrammar.{SpellsKnown, entry_of_key, entry_of_names, entry_of_fields, line_of_entry, line_by_first, line_of_fields, line_of_front, revoked_by, known_line}
+use Rattle.ssh_lines.specs.KnownGrammar.{SpellsKnown, known_entry_of_key, entry_of_names, known_entry_of_fields, line_of_entry, line_by_first, line_of_fields, known_line_of_front, revoked_by, known_line}
 use Rattle.ssh_lines.proofs.AuthLemmas.{key_text-at, line-without_cr, key-begins}
 use Rattle.ssh_names.proofs.ByteLemmas.{AreBytes}
 use Rattle.ssh_lines.proofs.FieldLemmas.{body-bytes, next-bytes, word-bytes, word-no_blank, word-begins, begins-front, some-front}
@@ -39,7 +39,7 @@ use Rattle.ssh_lines.proofs.ReadKey.{gap-some, key_part-facts, key_part-spells}
 -- ---- names and key
 
 -- a field that says names is not empty
-names-some : (field : List ℕ) (names : Names) → names_of field ≡ Ok names → is_empty field ≡ false
+names-some : (field : List ℕ) (names : Names) → names_of field ≡ Ok names → has_no_bytes field ≡ false
 unfolding names_of
 names-some [] names h = cc
 names-some (c ∷ cs) names h = refl
@@ -63,8 +63,8 @@ record SaysFields (entry : KnownEntry) (field key : List ℕ) : Type 0 where
   part : key_part_of key ≡ Ok (record { key = entry.key; comment = entry.comment })
 
 fields-read : (entry : KnownEntry) (marker : Marker) (field key : List ℕ) → entry.marker ≡ marker → SaysFields entry field key
-    → entry_of_fields marker field key ≡ Ok entry
-unfolding entry_of_fields
+    → known_entry_of_fields marker field key ≡ Ok entry
+unfolding known_entry_of_fields
 fields-read entry marker field key m s =
     let part = part-after key (record { key = entry.key; comment = entry.comment }) s.part in
     rw (part.0, s.names, part.1) (ap (λ x. Ok (record { marker = x; names = entry.names; key = entry.key; comment = entry.comment })) (sym m))
@@ -74,7 +74,7 @@ fields-read entry marker field key m s =
 -- a body within which the entry stands
 record Body (entry : KnownEntry) (body : List ℕ) : Type 0 where
   blank : begins_with_blank body ≡ false
-  some : is_empty body ≡ false
+  some : has_no_bytes body ≡ false
   comment : begins_with 35 body ≡ false
   reads : line_of_fields body ≡ Entry entry
 
@@ -88,11 +88,11 @@ unmarked-body entry names gap key m hash at n g b k s =
     let next : next_field (names ++ gap ++ key) ≡ key = next_field-at names gap key n g b k in
     record {
       blank = ap begins_with_blank right ∙ begins-word names (gap ++ key) some n;
-      some = ap is_empty right ∙ some-front names (gap ++ key) some;
+      some = ap has_no_bytes right ∙ some-front names (gap ++ key) some;
       comment = ap (begins_with 35) right ∙ begins-front 35 names (gap ++ key) some ∙ hash;
       reads = ap (λ f. line_by_first f (first_word (names ++ gap ++ key)) (next_field (names ++ gap ++ key))) (ap first_field_of word ∙ first-names names at)
-          ∙ ap (λ w. line_of_entry (entry_of_fields markers.Unmarked w (next_field (names ++ gap ++ key)))) word
-          ∙ ap (λ t. line_of_entry (entry_of_fields markers.Unmarked names t)) next
+          ∙ ap (λ w. line_of_entry (known_entry_of_fields markers.Unmarked w (next_field (names ++ gap ++ key)))) word
+          ∙ ap (λ t. line_of_entry (known_entry_of_fields markers.Unmarked names t)) next
           ∙ ap line_of_entry (fields-read entry markers.Unmarked names key m s);
     }
 
@@ -113,9 +113,9 @@ authority-body entry space names gap key m e c n g b k s =
       some = refl;
       comment = refl;
       reads = ap (λ f. line_by_first f (first_word body) (next_field body)) (ap first_field_of word ∙ first-authority)
-          ∙ ap (λ t. line_of_entry (entry_of_fields markers.CertAuthority (first_word t) (next_field t))) rest
-          ∙ ap (λ w. line_of_entry (entry_of_fields markers.CertAuthority w (next_field text))) field
-          ∙ ap (λ t. line_of_entry (entry_of_fields markers.CertAuthority names t)) next
+          ∙ ap (λ t. line_of_entry (known_entry_of_fields markers.CertAuthority (first_word t) (next_field t))) rest
+          ∙ ap (λ w. line_of_entry (known_entry_of_fields markers.CertAuthority w (next_field text))) field
+          ∙ ap (λ t. line_of_entry (known_entry_of_fields markers.CertAuthority names t)) next
           ∙ ap line_of_entry (fields-read entry markers.CertAuthority names key m s);
     }
 
@@ -132,7 +132,7 @@ body-line : (entry : KnownEntry) (line front body : List ℕ) → length line �
 unfolding known_line
 body-line entry line front body short f cut b =
     let is : body_of line ≡ body = ap skip_blanks cut ∙ skip_blanks-after front body f ∙ skip_blanks-at_word body b.blank in
-    ap line_of_front (front-at line body short is b.some b.comment) ∙ b.reads
+    ap known_line_of_front (front-at line body short is b.some b.comment) ∙ b.reads
 
 -- A line that spells an entry is read as it.
 pub known_line-spelled : (entry : KnownEntry) (line : List ℕ) → SpellsKnown entry line → known_line line ≡ Entry entry
@@ -161,7 +161,7 @@ record ReadFields (marker : Marker) (field key : List ℕ) (entry : KnownEntry) 
   says : SaysFields entry field key
 
 key-by : (marker : Marker) (field key : List ℕ) (entry : KnownEntry) (names : Names) (part : Result KeyPart LineCause)
-    → lacks_key key ≡ false → names_of field ≡ Ok names → key_after_fields key ≡ part → entry_of_key marker names part ≡ Ok entry
+    → lacks_key key ≡ false → names_of field ≡ Ok names → key_after_fields key ≡ part → known_entry_of_key marker names part ≡ Ok entry
     → ReadFields marker field key entry
 key-by marker field key entry names (Err cause) l n p h = cc
 key-by marker field key entry names (Ok part) l n p h =
@@ -183,11 +183,11 @@ entry-by : (entry : KnownEntry) (read : Result KnownEntry LineCause) → line_of
 entry-by entry (Err cause) h = cc
 entry-by entry (Ok e) h = cc
 
-read-fields : (marker : Marker) (field key : List ℕ) (entry : KnownEntry) → line_of_entry (entry_of_fields marker field key) ≡ Entry entry
+read-fields : (marker : Marker) (field key : List ℕ) (entry : KnownEntry) → line_of_entry (known_entry_of_fields marker field key) ≡ Entry entry
     → ReadFields marker field key entry
-unfolding entry_of_fields
+unfolding known_entry_of_fields
 read-fields marker field key entry h =
-    fields-by marker field key entry (lacks_key key) refl (entry-by entry (entry_of_fields marker field key) h)
+    fields-by marker field key entry (lacks_key key) refl (entry-by entry (known_entry_of_fields marker field key) h)
 
 -- names, blanks and key, with a CR after them or not
 record SpellsFields (entry : KnownEntry) (names text : List ℕ) : Type 0 where
@@ -279,14 +279,14 @@ first-by first.CertAuthority body cr entry bytes is comment f h =
     authority-spells body cr entry bytes is f (read-fields markers.CertAuthority (first_word (next_field body)) (next_field (next_field body)) entry h)
 first-by first.Revoked body cr entry bytes is comment f h =
     let field = first_word (next_field (next_field (next_field body))) in
-    absurd (revoked-no_entry (is_empty field) (decode_of standard field) entry h)
+    absurd (revoked-no_entry (has_no_bytes field) (decode_of standard field) entry h)
 first-by first.Unknown body cr entry bytes is comment f h = cc
 
 record ReadLine (line : List ℕ) (entry : KnownEntry) : Type 0 where
   front : FrontFields line (body_of line)
   reads : line_of_fields (body_of line) ≡ Entry entry
 
-front-by : (line : List ℕ) (entry : KnownEntry) (front : LineFront) → front_of line ≡ front → line_of_front front ≡ Entry entry → ReadLine line entry
+front-by : (line : List ℕ) (entry : KnownEntry) (front : LineFront) → front_of line ≡ front → known_line_of_front front ≡ Entry entry → ReadLine line entry
 front-by line entry past_limit f h = cc
 front-by line entry empty f h = cc
 front-by line entry remark f h = cc

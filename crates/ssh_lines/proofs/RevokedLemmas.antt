@@ -15,9 +15,9 @@ use Rattle.ssh_lines.specs.declared.marker.FirstField.TheVariants as first
 use Rattle.ssh_lines.specs.declared.marker.Marker.TheVariants as markers
 use Rattle.ssh_lines.specs.Front.{LineFront, past_limit, empty, remark, fields, front_of, front_of_body, begins_with}
 use Rattle.ssh_names.specs.Names.{base64}
-use Rattle.ssh_lines.specs.KeyPart.{is_empty}
+use Rattle.ssh_lines.specs.KeyPart.{has_no_bytes}
 use Rattle.ssh_lines.specs.Markers.{revoked_marker, first_field_of}
-use Rattle.ssh_lines.specs.KnownGrammar.{RevokesBytes, Blind, HasNoBytes, fourth_field, entry_of_fields, line_of_entry, line_by_first, line_of_front, revoked_by, revoked_of, known_line}
+use Rattle.ssh_lines.specs.KnownGrammar.{RevokesBytes, Blind, HasNoBytes, fourth_field, known_entry_of_fields, line_of_entry, line_by_first, known_line_of_front, revoked_by, revoked_of, known_line}
 use Rattle.ssh_names.proofs.ByteLemmas.{AreBytes, IsBytes-from_all}
 use Rattle.ssh_names.proofs.DecodedBytes.{decoded-bytes}
 use Rattle.ssh_lines.proofs.FieldLemmas.{body-bytes, next-bytes, word-bytes}
@@ -27,7 +27,7 @@ use Rattle.ssh_lines.proofs.MarkerLemmas.{first-revoked, revoked-first}
 -- ---- the front of a line whose first field is `@revoked`
 
 record BeginsRevoked (body : List ℕ) : Type 0 where
-  some : is_empty body ≡ false
+  some : has_no_bytes body ≡ false
   comment : begins_with 35 body ≡ false
 
 begins-by : (c : ℕ) (cs : List ℕ) (blank : Bool) → is_blank c ≡ blank → (if blank then [] else c ∷ first_word cs) ≡ revoked_marker
@@ -45,18 +45,18 @@ line-revoked : (line : List ℕ) → length line ≤ line_limit → first_word (
 unfolding known_line
 line-revoked line short marker =
     let b = begins-revoked (body_of line) marker in
-    ap line_of_front (front-at line (body_of line) short refl b.some b.comment)
+    ap known_line_of_front (front-at line (body_of line) short refl b.some b.comment)
     ∙ ap (λ f. line_by_first f (first_word (body_of line)) (next_field (body_of line))) (ap first_field_of marker ∙ first-revoked)
 
-some-test : (field : List ℕ) → field ≢ [] → is_empty field ≡ false
+some-test : (field : List ℕ) → field ≢ [] → has_no_bytes field ≡ false
 some-test [] some = absurd (some refl)
 some-test (c ∷ cs) some = refl
 
-some-differs : (field : List ℕ) → is_empty field ≡ false → field ≢ []
+some-differs : (field : List ℕ) → has_no_bytes field ≡ false → field ≢ []
 some-differs [] h e = cc
 some-differs (c ∷ cs) h e = cc
 
-none-is : (field : List ℕ) → is_empty field ≡ true → field ≡ []
+none-is : (field : List ℕ) → has_no_bytes field ≡ true → field ≡ []
 none-is [] h = refl
 none-is (c ∷ cs) h = cc
 
@@ -92,13 +92,13 @@ no_entry (Err cause) = refl
 first-by : (f : FirstField) (field rest : List ℕ) (read : KnownLine) → tells_revocation read ≡ true → line_by_first f field rest ≡ read
     → (f ≡ first.Revoked) × (revoked_of (first_word (next_field (next_field rest))) ≡ read)
 first-by first.Names field rest read t h =
-    let no : true ≡ false = sym t ∙ ap tells_revocation (sym h) ∙ no_entry (entry_of_fields markers.Unmarked field rest) in cc
+    let no : true ≡ false = sym t ∙ ap tells_revocation (sym h) ∙ no_entry (known_entry_of_fields markers.Unmarked field rest) in cc
 first-by first.CertAuthority field rest read t h =
-    let no : true ≡ false = sym t ∙ ap tells_revocation (sym h) ∙ no_entry (entry_of_fields markers.CertAuthority (first_word rest) (next_field rest)) in cc
+    let no : true ≡ false = sym t ∙ ap tells_revocation (sym h) ∙ no_entry (known_entry_of_fields markers.CertAuthority (first_word rest) (next_field rest)) in cc
 first-by first.Unknown field rest read t h = let no : true ≡ false = sym t ∙ ap tells_revocation (sym h) in cc
 first-by first.Revoked field rest read t h = (refl, h)
 
-front-by : (line : List ℕ) (front : LineFront) (read : KnownLine) → front_of line ≡ front → tells_revocation read ≡ true → line_of_front front ≡ read
+front-by : (line : List ℕ) (front : LineFront) (read : KnownLine) → front_of line ≡ front → tells_revocation read ≡ true → known_line_of_front front ≡ read
     → ((front ≡ past_limit) × (read ≡ RevokedUnreadable)) ⊎ ReadRevoked line read
 front-by line past_limit read f t h = inl (refl, sym h)
 front-by line empty read f t h = let no : true ≡ false = sym t ∙ ap tells_revocation (sym h) in cc
@@ -136,7 +136,7 @@ record Spelled (field bytes : List ℕ) : Type 0 where
 decoded-spelled : (field bytes : List ℕ) → IsBytes field → decode_of standard field ≡ Ok bytes → IsBytes bytes × (field ≡ base64 bytes)
 decoded-spelled field bytes are h = (decoded-bytes field bytes are h, decode_of_strict standard field bytes (refl, refl) are h)
 
-bytes-by : (field bytes : List ℕ) (missing : Bool) (decoded : Result (List ℕ) DecodeError) → IsBytes field → is_empty field ≡ missing
+bytes-by : (field bytes : List ℕ) (missing : Bool) (decoded : Result (List ℕ) DecodeError) → IsBytes field → has_no_bytes field ≡ missing
     → decode_of standard field ≡ decoded → revoked_by missing decoded ≡ Revoked bytes → Spelled field bytes
 bytes-by field bytes missing (Err e) are m d h = cc
 bytes-by field bytes true (Ok read) are m d h = cc
@@ -145,7 +145,7 @@ bytes-by field bytes false (Ok read) are m d h =
     let spelled = decoded-spelled field bytes are (d ∙ ap (λ b. Ok b) is) in
     record { some = some-differs field m; bytes_are = spelled.0; spelled = spelled.1 }
 
-no-bytes-by : (field : List ℕ) (missing : Bool) (decoded : Result (List ℕ) DecodeError) → is_empty field ≡ missing
+no-bytes-by : (field : List ℕ) (missing : Bool) (decoded : Result (List ℕ) DecodeError) → has_no_bytes field ≡ missing
     → decode_of standard field ≡ decoded → revoked_by missing decoded ≡ RevokedUnreadable → HasNoBytes field
 no-bytes-by field missing (Err e) m d h =
     inr (λ bytes are spelled.
@@ -153,7 +153,7 @@ no-bytes-by field missing (Err e) m d h =
 no-bytes-by field true (Ok read) m d h = inl (none-is field m)
 no-bytes-by field false (Ok read) m d h = cc
 
-blind-by : (field : List ℕ) (missing : Bool) (decoded : Result (List ℕ) DecodeError) → IsBytes field → is_empty field ≡ missing
+blind-by : (field : List ℕ) (missing : Bool) (decoded : Result (List ℕ) DecodeError) → IsBytes field → has_no_bytes field ≡ missing
     → decode_of standard field ≡ decoded → HasNoBytes field → revoked_by missing decoded ≡ RevokedUnreadable
 blind-by field missing (Err e) are m d none = refl
 blind-by field true (Ok read) are m d none = refl
@@ -168,7 +168,7 @@ read-revokes line bytes are h = by (read-front line (Revoked bytes) refl h)
     by : ((front_of line ≡ past_limit) × (Revoked bytes ≡ RevokedUnreadable)) ⊎ ReadRevoked line (Revoked bytes) → RevokesBytes line bytes
     by (inl (long, e)) = cc
     by (inr r) =
-        let spelled = bytes-by (fourth_field line) bytes (is_empty (fourth_field line)) (decode_of standard (fourth_field line)) (fourth-bytes line are) refl refl r.says in
+        let spelled = bytes-by (fourth_field line) bytes (has_no_bytes (fourth_field line)) (decode_of standard (fourth_field line)) (fourth-bytes line are) refl refl r.says in
         record { short = r.short; marker = r.marker; some = spelled.some; bytes = spelled.bytes_are; spelled = spelled.spelled }
 
 pub long-by : (line : List ℕ) (long : Bool) → nat_lt line_limit (length line) ≡ long → (if long then past_limit else front_of_body (body_of line)) ≡ past_limit
@@ -191,7 +191,7 @@ read-blind line h = by (read-front line RevokedUnreadable refl h)
     by : ((front_of line ≡ past_limit) × (RevokedUnreadable ≡ RevokedUnreadable)) ⊎ ReadRevoked line RevokedUnreadable → Blind line
     by (inl (long, e)) = inl (long-by line (nat_lt line_limit (length line)) refl long)
     by (inr r) =
-        inr (r.marker, no-bytes-by (fourth_field line) (is_empty (fourth_field line)) (decode_of standard (fourth_field line)) refl refl r.says)
+        inr (r.marker, no-bytes-by (fourth_field line) (has_no_bytes (fourth_field line)) (decode_of standard (fourth_field line)) refl refl r.says)
 
 known-long : (line : List ℕ) → line_limit < length line → known_line line ≡ RevokedUnreadable
 unfolding known_line
@@ -202,7 +202,7 @@ marked-by : (line : List ℕ) (long : Bool) → nat_lt line_limit (length line) 
 marked-by line true l are marker none = known-long line (ltb-true line_limit (length line) l)
 marked-by line false l are marker none =
     line-revoked line (ltb-false line_limit (length line) l) marker
-    ∙ blind-by (fourth_field line) (is_empty (fourth_field line)) (decode_of standard (fourth_field line)) (fourth-bytes line are) refl refl none
+    ∙ blind-by (fourth_field line) (has_no_bytes (fourth_field line)) (decode_of standard (fourth_field line)) (fourth-bytes line are) refl refl none
 
 -- A line that may revoke is read as one.
 pub blind-read : (line : List ℕ) → AreBytes line → Blind line → known_line line ≡ RevokedUnreadable

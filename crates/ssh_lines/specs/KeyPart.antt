@@ -31,9 +31,9 @@ SpellsKey key comment text =
 
 -- ---- reading
 
-abbrev pub is_empty : List ℕ → Bool
-is_empty [] = true
-is_empty (c ∷ cs) = false
+abbrev pub has_no_bytes : List ℕ → Bool
+has_no_bytes [] = true
+has_no_bytes (c ∷ cs) = false
 
 abbrev pub is_type : NameClass → Bool
 is_type (Plain kind) = true
@@ -47,7 +47,7 @@ begins_with_type text = is_type (class_of (first_word text))
 
 -- the type or the base64 field is missing
 abbrev pub lacks_key : List ℕ → Bool
-lacks_key text = is_empty (first_word text) || is_empty (first_word (next_field text))
+lacks_key text = has_no_bytes (first_word text) || has_no_bytes (first_word (next_field text))
 
 abbrev pub key_of_kind : KeyKind → List ℕ → Result PublicKey KeyError → Result KeyPart LineCause
 key_of_kind kind comment (Err e) = Err (causes.KeyBlob e)
@@ -68,7 +68,7 @@ key_by_class (Plain kind) field rest = key_of_blob kind (comment_of rest) (decod
 -- the key of a type field, which is of this class, and of what follows it, or the first fault
 abbrev pub key_of_class : NameClass → List ℕ → List ℕ → Result KeyPart LineCause
 key_of_class class word after =
-    if is_empty word || is_empty (first_word (skip_blanks after)) then Err causes.NoKey
+    if has_no_bytes word || has_no_bytes (first_word (skip_blanks after)) then Err causes.NoKey
     else key_by_class class (first_word (skip_blanks after)) (after_word (skip_blanks after))
 
 -- what the text says after NoKey has been tested

@@ -19,7 +19,7 @@ use Rattle.ssh_lines.specs.declared.known.KnownLine.{KnownLine}
 use Rattle.ssh_lines.specs.declared.known.KnownLine.TheVariants.{Blank, Comment, Entry, Revoked, RevokedUnreadable, Unreadable}
 use Rattle.ssh_lines.specs.Front.{LineFront, past_limit, empty, remark, fields, front_of}
 use Rattle.ssh_names.specs.Names.{base64}
-use Rattle.ssh_lines.specs.KeyPart.{SpellsKey, is_empty, lacks_key, key_after_fields}
+use Rattle.ssh_lines.specs.KeyPart.{SpellsKey, has_no_bytes, lacks_key, key_after_fields}
 use Rattle.ssh_lines.specs.Markers.{SpellsMarker, revoked_marker, first_field_of}
 
 -- ---- spelling
@@ -64,19 +64,19 @@ abbrev pub names_cause : NamesError → LineCause
 names_cause faults.HashedName = causes.HashedName
 names_cause faults.EmptyItem = causes.Names
 
-abbrev pub entry_of_key : Marker → Names → Result KeyPart LineCause → Result KnownEntry LineCause
-entry_of_key marker names (Err cause) = Err cause
-entry_of_key marker names (Ok part) =
+abbrev pub known_entry_of_key : Marker → Names → Result KeyPart LineCause → Result KnownEntry LineCause
+known_entry_of_key marker names (Err cause) = Err cause
+known_entry_of_key marker names (Ok part) =
     Ok (record { marker = marker; names = names; key = part.key; comment = part.comment })
 
 abbrev pub entry_of_names : Marker → Result Names NamesError → List ℕ → Result KnownEntry LineCause
 entry_of_names marker (Err fault) key = Err (names_cause fault)
-entry_of_names marker (Ok names) key = entry_of_key marker names (key_after_fields key)
+entry_of_names marker (Ok names) key = known_entry_of_key marker names (key_after_fields key)
 
 -- The entry of a field of names and a text of type, base64 and comment. That type and base64 are there is tested first,
 -- then the names, then the key.
-unfoldable pub entry_of_fields : Marker → List ℕ → List ℕ → Result KnownEntry LineCause
-entry_of_fields marker field key =
+unfoldable pub known_entry_of_fields : Marker → List ℕ → List ℕ → Result KnownEntry LineCause
+known_entry_of_fields marker field key =
     if lacks_key key then Err causes.NoKey else entry_of_names marker (names_of field) key
 
 abbrev pub line_of_entry : Result KnownEntry LineCause → KnownLine
@@ -89,13 +89,13 @@ revoked_by missing (Ok bytes) = if missing then RevokedUnreadable else Revoked b
 
 -- what a line with this fourth field revokes
 abbrev pub revoked_of : List ℕ → KnownLine
-revoked_of field = revoked_by (is_empty field) (decode_of standard field)
+revoked_of field = revoked_by (has_no_bytes field) (decode_of standard field)
 
 -- what the fields after a first one say
 abbrev pub line_by_first : FirstField → List ℕ → List ℕ → KnownLine
-line_by_first first.Names field rest = line_of_entry (entry_of_fields markers.Unmarked field rest)
+line_by_first first.Names field rest = line_of_entry (known_entry_of_fields markers.Unmarked field rest)
 line_by_first first.CertAuthority field rest =
-    line_of_entry (entry_of_fields markers.CertAuthority (first_word rest) (next_field rest))
+    line_of_entry (known_entry_of_fields markers.CertAuthority (first_word rest) (next_field rest))
 line_by_first first.Revoked field rest = revoked_of (first_word (next_field (next_field rest)))
 line_by_first first.Unknown field rest = Unreadable causes.Marker
 
@@ -103,13 +103,13 @@ line_by_first first.Unknown field rest = Unreadable causes.Marker
 abbrev pub line_of_fields : List ℕ → KnownLine
 line_of_fields body = line_by_first (first_field_of (first_word body)) (first_word body) (next_field body)
 
-abbrev pub line_of_front : LineFront → KnownLine
-line_of_front past_limit = RevokedUnreadable
-line_of_front empty = Blank
-line_of_front remark = Comment
-line_of_front (fields body) = line_of_fields body
+abbrev pub known_line_of_front : LineFront → KnownLine
+known_line_of_front past_limit = RevokedUnreadable
+known_line_of_front empty = Blank
+known_line_of_front remark = Comment
+known_line_of_front (fields body) = line_of_fields body
 
 -- What a line says: blank, a comment, an entry, a revocation, or the first fault. A line past the limit may be a
 -- revocation, so it is one that cannot be read.
 unfoldable pub known_line : List ℕ → KnownLine
-known_line line = line_of_front (front_of line)
+known_line line = known_line_of_front (front_of line)

@@ -13,7 +13,7 @@ use Rattle.ssh_lines.specs.declared.known.KnownLine.TheVariants.{Blank, Comment,
 use Rattle.ssh_lines.specs.declared.marker.Marker.{Marker}
 use Rattle.ssh_lines.specs.declared.marker.Marker.TheVariants.{Unmarked, CertAuthority}
 use Rattle.ssh_lines.specs.Markers.{first_field_of}
-use Rattle.ssh_lines.specs.KnownGrammar.{entry_of_fields, known_line}
+use Rattle.ssh_lines.specs.KnownGrammar.{known_entry_of_fields, known_line}
 use Rattle.ssh_lines.specs.Samples.{zero_key, zero_text, zero_line}
 
 -- the blob of that key
@@ -41,7 +41,7 @@ KnownSamplesRead =
     × (known_line (codes " # h " ++ zero_line) ≡ Comment)
 
 pub known_samples_read : KnownSamplesRead
-unfolding known_line entry_of_fields first_field_of names_of hashed_of twenty_bytes_of key_in blob_at fields_at public_at string_at plain_kind certificate_kind base64_on_literals
+unfolding known_line known_entry_of_fields first_field_of names_of hashed_of twenty_bytes_of key_in blob_at fields_at public_at string_at plain_kind certificate_kind base64_on_literals
 known_samples_read = (refl, refl, refl, refl, refl, refl, refl)
 
 -- lines with a fault, in the order of the tests
@@ -69,7 +69,7 @@ KnownFaultsRead =
     × (known_line (codes "h ssh-rsa " ++ zero_text) ≡ Unreadable causes.TypeMismatch)
 
 pub known_faults_read : KnownFaultsRead
-unfolding known_line entry_of_fields first_field_of names_of hashed_of twenty_bytes_of key_in blob_at fields_at public_at string_at plain_kind certificate_kind base64_on_literals
+unfolding known_line known_entry_of_fields first_field_of names_of hashed_of twenty_bytes_of key_in blob_at fields_at public_at string_at plain_kind certificate_kind base64_on_literals
 known_faults_read = (refl, refl, refl, refl, refl, refl, refl, refl, refl, refl, refl, refl, refl, refl, refl, refl, refl, refl, refl, refl)
 
 -- revocations, and lines that may be some
@@ -86,7 +86,7 @@ RevocationsRead =
     × (known_line (codes "# @revoked x") ≡ Comment)
 
 pub revocations_read : RevocationsRead
-unfolding known_line entry_of_fields first_field_of names_of hashed_of twenty_bytes_of key_in blob_at fields_at public_at string_at plain_kind certificate_kind base64_on_literals
+unfolding known_line known_entry_of_fields first_field_of names_of hashed_of twenty_bytes_of key_in blob_at fields_at public_at string_at plain_kind certificate_kind base64_on_literals
 revocations_read = (refl, refl, refl, refl, refl, refl, refl, refl, refl)
 
 -- the longest line, and one byte more
@@ -98,5 +98,5 @@ LongKnownLinesRead =
     × (known_line (replicate 65537 32) ≡ RevokedUnreadable)
 
 pub long_known_lines_read : LongKnownLinesRead
-unfolding known_line entry_of_fields first_field_of names_of hashed_of twenty_bytes_of key_in blob_at fields_at public_at string_at plain_kind certificate_kind base64_on_literals
+unfolding known_line known_entry_of_fields first_field_of names_of hashed_of twenty_bytes_of key_in blob_at fields_at public_at string_at plain_kind certificate_kind base64_on_literals
 long_known_lines_read = (refl, refl, refl, refl)

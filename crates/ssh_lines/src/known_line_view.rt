@@ -9,7 +9,7 @@ ghost use Rattle.ssh_options.specs.declared.cause.LineCause.{LineCause};
 ghost use Rattle.ssh_lines.specs.KeyLimit.{key_limit};
 ghost use Rattle.ssh_lines.specs.KnownFaults.{IsKnownFault};
 ghost use Rattle.ssh_lines.specs.KnownGrammar.{Blind, RevokesBytes, SpellsKnown, known_line};
-ghost use Rattle.ssh_lines.specs.KnownGrammar.{entry_of_fields, line_of_entry, line_of_fields};
+ghost use Rattle.ssh_lines.specs.KnownGrammar.{known_entry_of_fields, line_of_entry, line_of_fields};
 ghost use Rattle.ssh_lines.specs.KnownGrammar.{revoked_of};
 ghost use Rattle.ssh_lines.specs.KnownSeen.{known_seen};
 
@@ -39,7 +39,7 @@ pub enum KnownLineView<'a> {
 }
 
 /// The entry of a field of names and a text of type, base64 and comment.
-#[tactic(auto, unfolding(crate::specs::KnownGrammar::entry_of_fields), using(crate::proofs::LengthLemmas::length_field))]
+#[tactic(auto, unfolding(crate::specs::KnownGrammar::known_entry_of_fields), using(crate::proofs::LengthLemmas::length_field))]
 fn view_fields<'a>(
     marker: Marker,
     field: &'a [u8],
@@ -47,7 +47,7 @@ fn view_fields<'a>(
     buffer: &'a mut [u8],
 ) -> Result<KnownEntryView<'a>, LineCause>
     requires { decoded_estimate (length key.now) ≤ length buffer.old }
-    ensures { Gives (λ e. e) result (entry_of_fields marker field.entry.now key.entry.now) }
+    ensures { Gives (λ e. e) result (known_entry_of_fields marker field.entry.now key.entry.now) }
 {
     let (word, base64, rest) = key_fields(key)?;
     let names = match read_names(field) {

@@ -125,9 +125,9 @@ abbrev pub has_empty_item : List ℕ → Bool
 has_empty_item list = list_any (λ item. is_empty item.text) (items_of list)
 
 -- what the names of a field are, by the hashed name in it, if any
-abbrev pub said : List ℕ → Option HashedName → Names
-said field None = Patterns field
-said field (Some name) = Hashed name.salt name.hash
+abbrev pub names_with : List ℕ → Option HashedName → Names
+names_with field None = Patterns field
+names_with field (Some name) = Hashed name.salt name.hash
 
 -- the hashed name that was read, if any
 abbrev pub names_by_hash : Option HashedName → Result Names NamesError

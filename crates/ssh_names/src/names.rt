@@ -32,13 +32,13 @@ pub struct HostNames<'a> {
 }
 
 impl<'a> Model for HostNames<'a> {
-    ghost use Rattle.ssh_names.specs.Names.{Names, SpellsNames, said};
+    ghost use Rattle.ssh_names.specs.Names.{Names, SpellsNames, names_with};
 
     ghost Value = { Names };
 
-    ghost view = { λ n. said n.text.now n.hashed };
+    ghost view = { λ n. names_with n.text.now n.hashed };
 
-    ghost invariant = { λ n. SpellsNames (said n.text.now n.hashed) n.text.now };
+    ghost invariant = { λ n. SpellsNames (names_with n.text.now n.hashed) n.text.now };
 }
 
 impl<'a> HostNames<'a> {

@@ -7,7 +7,7 @@ use Rattle.std.specs.List.{list_all}
 use Rattle.std.specs.Char.{is_digit, digit_value}
 use Rattle.std.specs.Str.Parse.{digits_value, digits_value_after, AllDigits}
 use Rattle.std.proofs.lemmas.Int.Digits.{digits_value-lt}
-use Rattle.ssh_patterns.specs.Digits.{number_of, below}
+use Rattle.ssh_patterns.specs.Digits.{number_in_radix, below}
 use Rattle.ssh_patterns.specs.AddressReading.{group_of}
 
 -- the number that these digits spell after those of n
@@ -60,14 +60,14 @@ below-by true limit n h = below-small limit n (h refl)
 below-by false limit n h = refl
 
 -- four hexadecimal digits spell less than a group may be
-hexadecimal-fits : (ds : List ℕ) → length ds ≤ 4 → below 65536 (number_of 16 ds) ≡ number_of 16 ds
+hexadecimal-fits : (ds : List ℕ) → length ds ≤ 4 → below 65536 (number_in_radix 16 ds) ≡ number_in_radix 16 ds
 hexadecimal-fits ds few =
     below-by (list_all (λ c. is_digit c 16) ds) 65536 (digits_value 16 ds)
     (λ all. let small = digits_value-lt 16 ds (AllDigits-from 16 ds all) in
     let most : 16 ^ length ds ≤ 16 ^ 4 = pow-le-pow_right (omega arith) few in
     omega arith)
 
-pub group-below : (ds : List ℕ) → 1 ≤ length ds → length ds ≤ 4 → group_of ds ≡ below 65536 (number_of 16 ds)
+pub group-below : (ds : List ℕ) → 1 ≤ length ds → length ds ≤ 4 → group_of ds ≡ below 65536 (number_in_radix 16 ds)
 unfolding group_of
 group-below ds some few =
     rw (le-leb 1 (length ds) some, le-leb (length ds) 4 few) (sym (hexadecimal-fits ds few))

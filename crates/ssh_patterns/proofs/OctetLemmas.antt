@@ -9,7 +9,7 @@ use Rattle.std.proofs.lemmas.Str.Parse.{numerals_by_value, tells_digits}
 use Rattle.ssh_patterns.specs.AddressText.{AreOctets, dotted}
 use Rattle.ssh_patterns.specs.AddressReading.{octet_of, octets_of}
 use Rattle.ssh_patterns.specs.Cut.{cut_at}
-use Rattle.ssh_patterns.specs.Digits.{number_of, decimal_of, below}
+use Rattle.ssh_patterns.specs.Digits.{number_in_radix, decimal_of, below}
 use Rattle.ssh_patterns.proofs.DigitLemmas.{AllDigits-from, below-small}
 use Rattle.ssh_patterns.proofs.CutLemmas.{parts-cut}
 
@@ -17,14 +17,14 @@ pub list_all-from : (radix : ℕ) (ds : List ℕ) → AllDigits radix ds → lis
 list_all-from radix [] h = refl
 list_all-from radix (c ∷ ds) h = rw (lt-ltb (digit_value c) radix h.0) (list_all-from radix ds h.1)
 
-pub number_of-digits : (radix : ℕ) (ds : List ℕ) → AllDigits radix ds → number_of radix ds ≡ Some (digits_value radix ds)
+pub number_of-digits : (radix : ℕ) (ds : List ℕ) → AllDigits radix ds → number_in_radix radix ds ≡ Some (digits_value radix ds)
 number_of-digits radix ds h = rw (list_all-from radix ds h) refl
 
 number-by : (b : Bool) (n m : ℕ) → (if b then Some n else None) ≡ Some m → (b ≡ true) × (n ≡ m)
 number-by true n m h = (refl, cc)
 number-by false n m h = cc
 
-pub number_of-some : (radix : ℕ) (ds : List ℕ) (n : ℕ) → number_of radix ds ≡ Some n → AllDigits radix ds × (digits_value radix ds ≡ n)
+pub number_of-some : (radix : ℕ) (ds : List ℕ) (n : ℕ) → number_in_radix radix ds ≡ Some n → AllDigits radix ds × (digits_value radix ds ≡ n)
 number_of-some radix ds n h =
     let parts = number-by (list_all (λ c. is_digit c radix) ds) (digits_value radix ds) n h in
     (AllDigits-from radix ds parts.0, parts.1)
@@ -81,7 +81,7 @@ one-by true c cs e zero_first h = omega (arith, eqb-true (length cs) 0 e)
 one-by false c cs e zero_first h = let same = eq-eqb c 48 zero_first in absurd (false≢true (sym (ap not same) ∙ h))
 
 lead-by : (b : Bool) (c : ℕ) (cs : List ℕ) (a : ℕ) → ((length cs == 0) || not (c == 48)) ≡ b
-    → (if b then number_of 10 (c ∷ cs) else None) ≡ Some a → IsDecimal (c ∷ cs) a
+    → (if b then number_in_radix 10 (c ∷ cs) else None) ≡ Some a → IsDecimal (c ∷ cs) a
 lead-by true c cs a e h =
     let number = number_of-some 10 (c ∷ cs) a h in
     record {

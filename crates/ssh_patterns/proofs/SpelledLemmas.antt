@@ -8,7 +8,7 @@ use Rattle.std.proofs.lemmas.List.Splits.{join_with_byte-slice_split, length-sli
 use Rattle.ssh_patterns.specs.AddressText.{AreOctets, dotted, dot, colon, IsGroup, AreGroups, AreGroupsAtEnd, before_dotted, pairs}
 use Rattle.ssh_patterns.specs.AddressReading.{group_of, last_groups_of, groups_of_parts, groups_of, octets_of}
 use Rattle.ssh_patterns.specs.Cut.{cut_at}
-use Rattle.ssh_patterns.specs.Digits.{number_of}
+use Rattle.ssh_patterns.specs.Digits.{number_in_radix}
 use Rattle.ssh_patterns.proofs.DigitLemmas.{AllDigits-from}
 use Rattle.ssh_patterns.proofs.CutLemmas.{parts-cut, parts-uncut}
 use Rattle.ssh_patterns.proofs.PartLemmas.{colon_parts, parts-first}
@@ -17,7 +17,7 @@ use Rattle.ssh_patterns.proofs.OctetLemmas.{octets_of-dotted, octets_of-some, nu
 -- ---- one group
 
 group-by : (b : Bool) (text : List ℕ) (g : ℕ) → (nat_le 1 (length text) && nat_le (length text) 4) ≡ b
-    → (if b then number_of 16 text else None) ≡ Some g → IsGroup g text
+    → (if b then number_in_radix 16 text else None) ≡ Some g → IsGroup g text
 group-by true text g e h =
     let bounds = and_parts (nat_le 1 (length text)) (nat_le (length text) 4) e in
     let number = number_of-some 16 text g h in

@@ -5,7 +5,7 @@ use Rattle.ssh_patterns.specs.declared.address.Address.{Address}
 use Rattle.ssh_patterns.specs.declared.address.Address.TheVariants.{V4, V6}
 use Rattle.ssh_patterns.specs.AddressText.{dot, colon, pairs}
 use Rattle.ssh_patterns.specs.Cut.{cut_at}
-use Rattle.ssh_patterns.specs.Digits.{number_of, decimal_of, below, number_to_base}
+use Rattle.ssh_patterns.specs.Digits.{number_in_radix, decimal_of, below, number_to_base}
 
 -- a step, and what comes after it where the step found something
 infixl 10 ◌>>=◌
@@ -30,7 +30,7 @@ octets_of text = do
 
 -- the group that one to four hexadecimal digits spell
 unfoldable pub group_of : List ℕ → Option ℕ
-group_of text = if nat_le 1 (length text) && nat_le (length text) 4 then number_of 16 text else None
+group_of text = if nat_le 1 (length text) && nat_le (length text) 4 then number_in_radix 16 text else None
 
 -- the one group of a text, or the two of four decimal numbers where these may stand
 unfoldable pub last_groups_of : Bool → List ℕ → Option (List ℕ)

@@ -5,13 +5,13 @@ use Rattle.std.specs.Char.{is_digit}
 use Rattle.std.specs.Str.Parse.{digits_value}
 
 -- the number that digits of a radix spell
-abbrev pub number_of : ℕ → List ℕ → Option ℕ
-number_of radix text = if list_all (λ c. is_digit c radix) text then Some (digits_value radix text) else None
+abbrev pub number_in_radix : ℕ → List ℕ → Option ℕ
+number_in_radix radix text = if list_all (λ c. is_digit c radix) text then Some (digits_value radix text) else None
 
 -- the number of a decimal text of at least one digit and without leading zeros
 abbrev pub decimal_of : List ℕ → Option ℕ
 decimal_of [] = None
-decimal_of (c ∷ cs) = if (length cs == 0) || not (c == 48) then number_of 10 (c ∷ cs) else None
+decimal_of (c ∷ cs) = if (length cs == 0) || not (c == 48) then number_in_radix 10 (c ∷ cs) else None
 
 -- the number if it is less than the limit
 abbrev pub below : ℕ → Option ℕ → Option ℕ

@@ -2,7 +2,7 @@
 
 ghost use Rattle.std.specs.Prelude.{◌≡◌, ◌<◌, ◌≤◌, ◌^◌, length, option_map};
 ghost use Rattle.ssh_patterns.specs.Cut.{cut_at};
-ghost use Rattle.ssh_patterns.specs.Digits.{below, number_of, decimal_of};
+ghost use Rattle.ssh_patterns.specs.Digits.{below, number_in_radix, decimal_of};
 
 /// What stands before and after the first place where the mark stands.
 pub(crate) fn split_once<'a>(text: &'a [u8], mark: &[u8]) -> Option<(&'a [u8], &'a [u8])>
@@ -24,7 +24,7 @@ pub(crate) fn number(text: &[u8], radix: u32, limit: u32) -> Option<u32>
     requires small { radix ≤ 16 }
     requires limit { limit ≤ 2 ^ 16 }
     requires some { 0 < limit }
-    ensures { result ≡ below limit (number_of radix text.now) }
+    ensures { result ≡ below limit (number_in_radix radix text.now) }
 {
     let mut number = 0;
     for byte in text {

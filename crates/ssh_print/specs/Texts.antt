@@ -20,12 +20,12 @@ hex_text [] = 45 ∷ []
 hex_text (b ∷ bytes) = flat_map hex_pair (b ∷ bytes)
 
 -- printable ASCII but for the backslash (92)
-abbrev pub is_plain : ℕ → Bool
-is_plain b = nat_le 32 b && (nat_lt b 127 && not (b == 92))
+abbrev pub is_plain_byte : ℕ → Bool
+is_plain_byte b = nat_le 32 b && (nat_lt b 127 && not (b == 92))
 
 -- a byte of a text: a plain one is itself, every other byte is escaped
 abbrev pub escaped_byte : ℕ → List ℕ
-escaped_byte b = if is_plain b then b ∷ [] else 92 ∷ 120 ∷ hex_pair b
+escaped_byte b = if is_plain_byte b then b ∷ [] else 92 ∷ 120 ∷ hex_pair b
 
 abbrev pub escaped_text : List ℕ → List ℕ
 escaped_text text = flat_map escaped_byte text

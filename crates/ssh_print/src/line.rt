@@ -2,7 +2,7 @@
 
 ghost use Rattle.std.specs.Prelude.{◌≡◌, ◌++◌, OnOk, OnErr};
 ghost use Rattle.std.specs.Fmt.{decimal};
-ghost use Rattle.ssh_certs.specs.Writing.{Keeps};
+ghost use Rattle.ssh_wire.specs.Fronts.{Keeps};
 ghost use Rattle.ssh_print.specs.Texts.{text_line, word_line};
 
 use crate::text::{all_or_nothing, push_escaped};

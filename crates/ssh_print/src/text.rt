@@ -3,11 +3,11 @@
 ghost use Rattle.std.specs.Prelude.{◌≡◌, ◌<◌, ◌++◌, length, take, IsOk, OnOk, OnErr};
 ghost use Rattle.std.specs.List.{flat_map};
 ghost use Rattle.std.specs.Fmt.{decimal};
-ghost use Rattle.ssh_certs.specs.Writing.{Keeps};
+ghost use Rattle.ssh_wire.specs.Fronts.{Keeps};
 ghost use Rattle.ssh_print.specs.Texts.{
   hex_digit,
   hex_text,
-  is_plain,
+  is_plain_byte,
   escaped_byte,
   escaped_text,
 };
@@ -57,7 +57,7 @@ pub fn push_hex(out: &mut Vec<u8>, bytes: &[u8]) -> Result<(), AllocError>
 }
 
 fn is_plain(byte: u8) -> bool
-    ensures { result ≡ is_plain byte }
+    ensures { result ≡ is_plain_byte byte }
 {
     byte >= b' ' && byte < 127 && byte != b'\\'
 }

@@ -7,7 +7,7 @@ use Rattle.std.proofs.lemmas.Bool.{lt-ltb, ltb-true}
 use Rattle.std.proofs.lemmas.List.{append-nil, length-append}
 use Rattle.ssh_inputs.specs.SourceState.{Chosen, ChoosesKnown, IfTells, SourceState, bytes_at, choosing, dash, left_of, left_with, most_failures, name_of, named_file, nothing, standard_input}
 use Rattle.ssh_inputs.specs.Loading.{NoReadFailed, OneReadFailed}
-use Rattle.ssh_trust.specs.Answer.{Gives, if_short}
+use Rattle.ssh_trust.specs.Answer.{GivesOrMemory, if_short}
 use Rattle.ssh_text.specs.Text.{file_limit}
 use Rattle.ssh_trust.specs.Reads.{AnswersReader}
 use Rattle.ssh_trust.specs.declared.decision.Decision.{Decision}
@@ -68,7 +68,7 @@ short : (given left : List ℕ) (x y : Decision) (e : AuditError) → if_short g
 short given left x y e h = short-by (nat_lt file_limit (length given)) given left x y e refl h
 
 -- what was returned is the answer, or memory was refused
-pub told : {A : Type 0} (answer result : Result A AuditError) → Gives answer result → (result ≡ Err Memory) ⊎ (result ≡ answer)
+pub told : {A : Type 0} (answer result : Result A AuditError) → GivesOrMemory answer result → (result ≡ Err Memory) ⊎ (result ≡ answer)
 told answer (Ok x) h = inr (sym h)
 told answer (Err (Offer x)) h = inr (sym h)
 told answer (Err (Signature x)) h = inr (sym h)

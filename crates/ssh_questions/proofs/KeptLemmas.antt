@@ -11,7 +11,7 @@ use Rattle.ssh_offers.specs.declared.query.Signed.{Signed}
 use Rattle.ssh_offers.specs.Vouching.{is_vouched}
 use Rattle.ssh_offers.proofs.VouchingLemmas.{any-has, has-any}
 use Rattle.ssh_print.specs.Responses.{Response as Shown, decision_response}
-use Rattle.ssh_trust.specs.Answer.{Gives, OfClaim, RefusesAs, if_short}
+use Rattle.ssh_trust.specs.Answer.{GivesOrMemory, OfClaim, RefusesAs, if_short}
 use Rattle.ssh_questions.specs.Audits.{Deciding, answer_over, or_vouch_fault}
 use Rattle.ssh_questions.specs.FileAnswers.{AuditsFile, AuditsVouched}
 use Rattle.ssh_questions.specs.Resting.{RestsOn, VouchAlike, first_resting, kept_by, evidence_found, second_resting, sought_in}
@@ -19,19 +19,19 @@ use Rattle.ssh_questions.proofs.ChosenLemmas.{told}
 
 -- ---- what is sought
 
-pub sought_given : (rests : Result (List Signed) AuditError) (evidence : List Signed) → RefusesAs rests (Ok evidence) → OfClaim rests (λ e. Gives (Ok e) (Ok evidence))
+pub sought_given : (rests : Result (List Signed) AuditError) (evidence : List Signed) → RefusesAs rests (Ok evidence) → OfClaim rests (λ e. GivesOrMemory (Ok e) (Ok evidence))
     → evidence ≡ sought_in rests
 sought_given (Ok e) evidence refused gives = cc
 sought_given (Err x) evidence refused gives = cc
 
-not-given : (e : List Signed) (x : AuditError) → (x ≡ Memory → ⊥) → Gives (Ok e) (Err x) → ⊥
+not-given : (e : List Signed) (x : AuditError) → (x ≡ Memory → ⊥) → GivesOrMemory (Ok e) (Err x) → ⊥
 not-given e x other gives =
     elim (told (Ok e) (Err x) gives) [
       | inl memory ↦ other cc
       | inr same ↦ cc
     ]
 
-pub sought_none : (rests : Result (List Signed) AuditError) (x : AuditError) → (x ≡ Memory → ⊥) → OfClaim rests (λ e. Gives (Ok e) (Err x)) → [] ≡ sought_in rests
+pub sought_none : (rests : Result (List Signed) AuditError) (x : AuditError) → (x ≡ Memory → ⊥) → OfClaim rests (λ e. GivesOrMemory (Ok e) (Err x)) → [] ≡ sought_in rests
 sought_none (Ok e) x other gives = absurd (not-given e x other gives)
 sought_none (Err y) x other gives = refl
 

@@ -5,7 +5,7 @@ ghost use Rattle.ssh_offers.specs.declared.error.AuditError.{AuditError as Refus
 ghost use Rattle.ssh_offers.specs.declared.error.AuditError.TheVariants.{Read};
 ghost use Rattle.ssh_offers.specs.declared.query.Signed.{Signed as SignedValue};
 ghost use Rattle.ssh_offers.specs.Query.{host_check_of, login_of};
-ghost use Rattle.ssh_trust.specs.Answer.{Gives, OfClaim, RefusesAs};
+ghost use Rattle.ssh_trust.specs.Answer.{GivesOrMemory, OfClaim, RefusesAs};
 ghost use Rattle.ssh_questions.specs.Audits.{
   Deciding,
   DecidesReader,
@@ -37,7 +37,7 @@ pub trait Question {
     fn evidence(&self, alloc: Global) -> Result<Items<Signed>, AuditError>
         ensures refused { RefusesAs (rests_on self.entry.now) result }
         ensures evidence { OfClaim (rests_on self.entry.now)
-            (λ evidence. Gives (Ok evidence) result) }
+            (λ evidence. GivesOrMemory (Ok evidence) result) }
         // Of all that is vouched for a decision takes only which of these signatures are.
         ensures rests { RestsOn (decides self.entry.now) (rests_on self.entry.now) };
 

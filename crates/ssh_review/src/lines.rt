@@ -6,7 +6,7 @@ ghost use Rattle.ssh_lines.specs.LineView.{line_seen};
 ghost use Rattle.ssh_text.specs.Text.{file_limit, lines_of, numbered};
 ghost use Rattle.ssh_findings.specs.Asking.{asking_of};
 ghost use Rattle.ssh_findings.specs.Earlier.{Held};
-ghost use Rattle.ssh_findings.specs.Keeping.{StandsFor};
+ghost use Rattle.ssh_findings.specs.Keeping.{RemembersEntries};
 ghost use Rattle.ssh_findings.specs.Memory.{bytes_kept, keys_kept};
 ghost use Rattle.ssh_review.specs.Lines.{
   counts_of,
@@ -40,13 +40,13 @@ fn push_entry_line(
     earlier: &mut Earlier,
     out: &mut Vec<u8>,
 ) -> Result<Counts, AllocError>
-    ensures text { OnOk result ((held : List Held) → StandsFor earlier.old held
+    ensures text { OnOk result ((held : List Held) → RemembersEntries earlier.old held
         → out.new.items ≡ out.old.items ++ line_record form (asking_of asked.entry.now)
         place.entry.now.name.now held (place.entry.now.number, []) (AuthLine.Entry entry.now)) }
-    ensures counts { IfOk result (λ counts. (held : List Held) → StandsFor earlier.old held
+    ensures counts { IfOk result (λ counts. (held : List Held) → RemembersEntries earlier.old held
         → counts ≡ line_counts (asking_of asked.entry.now) held (AuthLine.Entry entry.now)) }
-    ensures kept { OnOk result ((held : List Held) → StandsFor earlier.old held
-        → StandsFor earlier.new (held ++ held_by_line
+    ensures kept { OnOk result ((held : List Held) → RemembersEntries earlier.old held
+        → RemembersEntries earlier.new (held ++ held_by_line
         (asking_of asked.entry.now) (place.entry.now.number, AuthLine.Entry entry.now))) }
     ensures bytes { OnOk result (bytes_kept earlier.new
         ≤ bytes_kept earlier.old + line_bytes (asking_of asked.entry.now) (AuthLine.Entry entry.now)) }
@@ -112,13 +112,13 @@ fn push_line(
     earlier: &mut Earlier,
     out: &mut Vec<u8>,
 ) -> Result<Counts, AllocError>
-    ensures text { OnOk result ((held : List Held) → StandsFor earlier.old held
+    ensures text { OnOk result ((held : List Held) → RemembersEntries earlier.old held
         → out.new.items ≡ out.old.items ++ line_record form (asking_of asked.entry.now)
         place.entry.now.name.now held (place.entry.now.number, line.now) (line_seen view.now)) }
-    ensures counts { IfOk result (λ counts. (held : List Held) → StandsFor earlier.old held
+    ensures counts { IfOk result (λ counts. (held : List Held) → RemembersEntries earlier.old held
         → counts ≡ line_counts (asking_of asked.entry.now) held (line_seen view.now)) }
-    ensures kept { OnOk result ((held : List Held) → StandsFor earlier.old held
-        → StandsFor earlier.new (held ++ held_by_line
+    ensures kept { OnOk result ((held : List Held) → RemembersEntries earlier.old held
+        → RemembersEntries earlier.new (held ++ held_by_line
         (asking_of asked.entry.now) (place.entry.now.number, line_seen view.now))) }
     ensures bytes { OnOk result (bytes_kept earlier.new
         ≤ bytes_kept earlier.old + line_bytes (asking_of asked.entry.now) (line_seen view.now)) }
@@ -155,12 +155,12 @@ pub fn push_records(
     out: &mut Vec<u8>,
 ) -> Result<Counts, AllocError>
     requires limit { length file.now ≤ file_limit }
-    requires none { StandsFor earlier.old [] }
+    requires none { RemembersEntries earlier.old [] }
     ensures text { OnOk result (out.new.items ≡ out.old.items
         ++ records_of form (asking_of asked.entry.now) name.now [] (numbered 1 (lines_of file.now))) }
     ensures counts { IfOk result (λ counts. counts
         ≡ counts_of (asking_of asked.entry.now) [] (numbered 1 (lines_of file.now))) }
-    ensures kept { OnOk result (StandsFor earlier.new
+    ensures kept { OnOk result (RemembersEntries earlier.new
         (held_lines (asking_of asked.entry.now) (numbered 1 (lines_of file.now)))) }
     // Of each entry its blob and its forced command are kept at most, and a place.
     ensures bytes { OnOk result (bytes_kept earlier.new ≤ bytes_kept earlier.old

@@ -2,13 +2,13 @@
 use Rattle.std.proofs.Common.{◌≡◌, ◌∙◌, ℕ, nat_le, nat_lt, ◌==◌, Bool, true, false, not, ◌&&◌, ◌||◌, cond, List, [], ◌∷◌, ◌++◌, ap, refl}
 use Rattle.std.specs.List.{flat_map, list_all}
 use Rattle.std.proofs.lemmas.Bool.{and_from, and_parts}
-use Rattle.ssh_print.specs.Texts.{escaped_text, hex_pair, is_plain}
+use Rattle.ssh_print.specs.Texts.{escaped_text, hex_pair, is_plain_byte}
 use Rattle.ssh_review_json.specs.Strings.{is_verbatim, quoted_byte}
 
-pub plain_shown : (text : List ℕ) → list_all is_plain text ≡ true → escaped_text text ≡ text
+pub plain_shown : (text : List ℕ) → list_all is_plain_byte text ≡ true → escaped_text text ≡ text
 plain_shown [] h = refl
 plain_shown (c ∷ cs) h =
-    let both = and_parts (is_plain c) (list_all is_plain cs) h in
+    let both = and_parts (is_plain_byte c) (list_all is_plain_byte cs) h in
     ap (λ b. cond b (c ∷ []) (92 ∷ 120 ∷ hex_pair c) ++ escaped_text cs) both.0 ∙ ap (λ bs. c ∷ bs) (plain_shown cs both.1)
 
 verbatim-parts : (low high backslash quote : Bool) → ((low && (high && not backslash)) && not quote) ≡ true
@@ -20,14 +20,14 @@ verbatim-parts true false backslash quote h = cc
 verbatim-parts false high backslash quote h = cc
 
 -- a verbatim byte is plain, and no backslash stands before it
-verbatim-byte : (c : ℕ) → is_verbatim c ≡ true → (is_plain c ≡ true) × ((c == 34 || c == 92) ≡ false)
+verbatim-byte : (c : ℕ) → is_verbatim c ≡ true → (is_plain_byte c ≡ true) × ((c == 34 || c == 92) ≡ false)
 verbatim-byte c h = verbatim-parts (nat_le 32 c) (nat_lt c 127) (c == 92) (c == 34) h
 
-verbatim-plain : (text : List ℕ) → list_all is_verbatim text ≡ true → list_all is_plain text ≡ true
+verbatim-plain : (text : List ℕ) → list_all is_verbatim text ≡ true → list_all is_plain_byte text ≡ true
 verbatim-plain [] h = refl
 verbatim-plain (c ∷ cs) h =
     let both = and_parts (is_verbatim c) (list_all is_verbatim cs) h in
-    and_from (is_plain c) (list_all is_plain cs) (verbatim-byte c both.0).0 (verbatim-plain cs both.1)
+    and_from (is_plain_byte c) (list_all is_plain_byte cs) (verbatim-byte c both.0).0 (verbatim-plain cs both.1)
 
 verbatim-quoted : (text : List ℕ) → list_all is_verbatim text ≡ true → flat_map quoted_byte text ≡ text
 verbatim-quoted [] h = refl

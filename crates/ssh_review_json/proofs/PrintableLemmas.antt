@@ -5,7 +5,7 @@ use Rattle.std.specs.List.{flat_map}
 use Rattle.std.specs.Fmt.{decimal, digit_glyph, digits, digits_onto, signed_decimal}
 use Rattle.std.proofs.lemmas.Bool.{and_from, le-leb, lt-ltb, ltb-true}
 use Rattle.std.proofs.lemmas.List.Folds.{list_all-append}
-use Rattle.ssh_print.specs.Texts.{escaped_text, escaped_byte, hex_digit, hex_pair, hex_text, is_plain}
+use Rattle.ssh_print.specs.Texts.{escaped_text, escaped_byte, hex_digit, hex_pair, hex_text, is_plain_byte}
 use Rattle.ssh_offers.specs.FirstRefusal.{AreBytes}
 use Rattle.ssh_review_json.specs.OneLine.{are_printable, is_line, is_printable}
 use Rattle.ssh_review_json.specs.Strings.{json_text, quoted_byte}
@@ -123,9 +123,9 @@ plain-printable true false z h = h
 plain-printable false y z h = h
 
 escaped-byte-printable : (b : ℕ) → b < 256 → are_printable (escaped_byte b) ≡ true
-escaped-byte-printable b h = go (is_plain b) refl
+escaped-byte-printable b h = go (is_plain_byte b) refl
   where
-    go : (p : Bool) → is_plain b ≡ p → are_printable (cond p (b ∷ []) (92 ∷ 120 ∷ hex_pair b)) ≡ true
+    go : (p : Bool) → is_plain_byte b ≡ p → are_printable (cond p (b ∷ []) (92 ∷ 120 ∷ hex_pair b)) ≡ true
     go true e = and_from (is_printable b) true (plain-printable (nat_le 32 b) (nat_lt b 127) (not (b == 92)) e) refl
     go false e = hex-pair-printable b h
 

@@ -1,7 +1,7 @@
 -- JSON strings of any bytes (RFC 8259, section 7, over the texts that are printed).
 use Rattle.std.specs.Prelude.{◌++◌, ◌∷◌, [], ◌==◌, ◌||◌, ◌&&◌, ℕ, Bool, not, List, Option, Some, None, codes, if◌then◌else◌}
 use Rattle.std.specs.List.{flat_map}
-use Rattle.ssh_print.specs.Texts.{escaped_text, is_plain}
+use Rattle.ssh_print.specs.Texts.{escaped_text, is_plain_byte}
 
 -- a byte of a string: a backslash (92) stands before a quote (34) and before a backslash
 abbrev pub quoted_byte : ℕ → List ℕ
@@ -13,7 +13,7 @@ json_text text = codes "\"" ++ flat_map quoted_byte (escaped_text text) ++ codes
 
 -- a byte that stands in a string as it is: one that is printed so, but for the quote
 abbrev pub is_verbatim : ℕ → Bool
-is_verbatim c = is_plain c && not (c == 34)
+is_verbatim c = is_plain_byte c && not (c == 34)
 
 -- ---- reading
 

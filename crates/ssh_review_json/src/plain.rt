@@ -2,20 +2,20 @@
 
 ghost use Rattle.std.specs.Prelude.{◌≡◌, ◌++◌, OnErr, OnOk};
 ghost use Rattle.std.specs.List.{list_all};
-ghost use Rattle.ssh_print.specs.Texts.{escaped_text, is_plain};
+ghost use Rattle.ssh_print.specs.Texts.{escaped_text, is_plain_byte};
 
 use ssh_print::push_escaped;
 use std::alloc::AllocError;
 
 /// Whether a byte is printed as it is.
 pub(crate) fn is_plain(byte: u8) -> bool
-    ensures { result ≡ is_plain byte }
+    ensures { result ≡ is_plain_byte byte }
 {
     byte >= b' ' && byte < 127 && byte != b'\\'
 }
 
 pub(crate) fn are_plain(text: &[u8]) -> bool
-    ensures { result ≡ list_all is_plain text.now }
+    ensures { result ≡ list_all is_plain_byte text.now }
 {
     text.iter().all(|byte| is_plain(*byte))
 }

@@ -37,9 +37,9 @@ use Rattle.ssh_trust.proofs.CandidateLemmas.{AreBytes, at-place, line-bytes, lin
 use Rattle.ssh_trust.proofs.MeaningLemmas.{LoginReading, login_reading}
 use Rattle.ssh_text.proofs.LineLemmas.{lines_of-are}
 use Rattle.ssh_findings.specs.Asking.{Asking}
-use Rattle.ssh_findings.specs.Earlier.{Held, is_free, is_same, shadow}
+use Rattle.ssh_findings.specs.Earlier.{Held, is_free, is_of_key, shadow}
 use Rattle.ssh_findings.specs.Facts.{facts_of}
-use Rattle.ssh_findings.specs.Moments.{earlier, is_past, least_of}
+use Rattle.ssh_findings.specs.Moments.{earlier, is_known_past, least_of}
 use Rattle.ssh_findings.proofs.ShadowLemmas.{named, no_principals, no_sources}
 use Rattle.sha2.specs.Sha256.{sha256}
 use Rattle.ssh_review.specs.declared.form.Form.{Form}
@@ -91,7 +91,7 @@ unlimited true found d h = cc
 unlimited false found d h = h
 
 shadow-found : (asking : Asking) (lines : List (ℕ × List ℕ)) (e : AuthEntry) (d : Held) → shadow (entries_of asking lines) (key_blob e.key) (facts_of asking.zone e) ≡ Some d
-    → find (λ x. is_same (key_blob e.key) (facts_of asking.zone e).is_authority x && is_free x.facts) (entries_of asking lines) ≡ Some d
+    → find (λ x. is_of_key (key_blob e.key) (facts_of asking.zone e).is_authority x && is_free x.facts) (entries_of asking lines) ≡ Some d
 unfolding shadow
 shadow-found asking lines e d h = unlimited _ _ d h
 
@@ -112,23 +112,23 @@ not-past : (b : Bool) → b ≡ true → not b ≡ false
 not-past true h = refl
 not-past false h = cc
 
-step : (now : ℕ) (least : Option ℤ) (moment : ℤ) (b : Bool) → le_z (pos now) moment ≡ true → is_past now least ≡ false → is_past now (earlier least (Some moment)) ≡ false
+step : (now : ℕ) (least : Option ℤ) (moment : ℤ) (b : Bool) → le_z (pos now) moment ≡ true → is_known_past now least ≡ false → is_known_past now (earlier least (Some moment)) ≡ false
 step now None moment b good so = not-past (le_z (pos now) moment) good
 step now (Some one) moment b good so = either (le_z one moment)
   where
-    either : (c : Bool) → is_past now (cond c (Some one) (Some moment)) ≡ false
+    either : (c : Bool) → is_known_past now (cond c (Some one) (Some moment)) ≡ false
     either true = so
     either false = not-past (le_z (pos now) moment) good
 
-unpast : (q : Login) (least : Option ℤ) (texts : List (List ℕ)) → AllByRecursion (IsUnexpired q) texts → is_past q.now least ≡ false → is_past q.now (least_of q.zone least texts) ≡ false
+unpast : (q : Login) (least : Option ℤ) (texts : List (List ℕ)) → AllByRecursion (IsUnexpired q) texts → is_known_past q.now least ≡ false → is_known_past q.now (least_of q.zone least texts) ≡ false
 unpast q least [] all so = so
 unpast q least (text ∷ texts) ((moment, is, late), all) so =
     unpast q (earlier least (moment_of text q.zone)) texts all
-    (subst (λ (m : Option ℤ). is_past q.now (earlier least m) ≡ false) (sym (moment-only text q.zone moment is))
+    (subst (λ (m : Option ℤ). is_known_past q.now (earlier least m) ≡ false) (sym (moment-only text q.zone moment is))
     (step q.now least moment true ((le_z-decides (pos q.now) moment).1 late) so))
 
 fresh : (asking : Asking) (q : Login) (e : AuthEntry) → AllByRecursion (IsUnexpired q) (settings ExpiryTime e.options) → asking.now ≡ q.now → asking.zone ≡ q.zone
-    → is_past asking.now (facts_of asking.zone e).until ≡ false
+    → is_known_past asking.now (facts_of asking.zone e).until ≡ false
 unfolding facts_of
 fresh asking q e all now zone = rw (now, zone) (unpast q None (settings ExpiryTime e.options) all refl)
 

@@ -16,7 +16,7 @@ use Rattle.ssh_findings.specs.Earlier.{Held, shadow}
 use Rattle.ssh_keys.specs.PublicKey.{key_blob}
 use Rattle.ssh_findings.specs.EntryFindings.{names_nobody, permits_bad}
 use Rattle.ssh_findings.specs.Facts.{facts_of}
-use Rattle.ssh_findings.specs.Moments.{is_past}
+use Rattle.ssh_findings.specs.Moments.{is_known_past}
 use Rattle.ssh_review.specs.declared.form.Form.{Form}
 use Rattle.ssh_review.specs.Lines.{held_by_line, line_record}
 use Rattle.ssh_review.specs.Reviews.{whole_review}
@@ -49,7 +49,7 @@ pub record IsListed (form : Form) (asking : Asking) (name file : List ℕ) (clai
   pub sources : permits_bad (facts_of asking.zone entry).from ≡ false
   pub principals : names_nobody (facts_of asking.zone entry) ≡ false
   -- it has not expired, at the time and in the zone of the login
-  pub unexpired : asking.now ≡ claim.query.now → asking.zone ≡ claim.query.zone → is_past asking.now (facts_of asking.zone entry).until ≡ false
+  pub unexpired : asking.now ≡ claim.query.now → asking.zone ≡ claim.query.zone → is_known_past asking.now (facts_of asking.zone entry).until ≡ false
   -- the rights are what the line leaves to the offer, and of a plain key those that the record tells
   pub left : rights ≡ Some (rights_of entry claim.offer)
   pub told : (key : PublicKey) → claim.offer ≡ plain key → rights ≡ Some (facts_of asking.zone entry).rights

@@ -8,12 +8,12 @@ use Rattle.ssh_rewriting.specs.declared.hash_error.HashError.TheVariants as hash
 use Rattle.ssh_rewriting.specs.HashedFile.{hashed_file, names_hidden}
 
 -- the answer for a file within the limit, or this error
-abbrev pub if_short : {E : Type 0} → E → List ℕ → Result (List ℕ) E → Result (List ℕ) E
-if_short too_long file answer = if nat_lt file_limit (length file) then Err too_long else answer
+abbrev pub if_result_short : {E : Type 0} → E → List ℕ → Result (List ℕ) E → Result (List ℕ) E
+if_result_short too_long file answer = if nat_lt file_limit (length file) then Err too_long else answer
 
 -- the new file, where neither it nor the old one is past the limit
 abbrev pub rewritten : List ℕ → List ℕ → Result (List ℕ) RewriteError
-rewritten old new = if_short rewriting.TooLong old (if_short rewriting.TooLong new (Ok new))
+rewritten old new = if_result_short rewriting.TooLong old (if_result_short rewriting.TooLong new (Ok new))
 
 -- an error of rewriting, as one of hiding names
 abbrev pub hash_error_of : RewriteError → HashError
@@ -32,5 +32,5 @@ if_enough file salts answer = if nat_lt (length salts) (length (names_hidden fil
 -- the file with its names hidden, where it is within the limit, there are salts enough, and the new file is within the limit
 abbrev pub hashed : List ℕ → List (List ℕ) → Result (List ℕ) HashError
 hashed file salts =
-    if_short hashing.TooLong file (if_enough file salts
-    (if_short hashing.TooLong (hashed_file file salts) (Ok (hashed_file file salts))))
+    if_result_short hashing.TooLong file (if_enough file salts
+    (if_result_short hashing.TooLong (hashed_file file salts) (Ok (hashed_file file salts))))

@@ -1,5 +1,4 @@
 pub mod Canonical
-pub mod Kept
 pub mod Facts
 pub mod HashedFile
 pub mod HashedNames

@@ -22,7 +22,7 @@ use Rattle.ssh_lines.specs.Samples.{zero_key, zero_line, zero_text}
 use Rattle.ssh_lines.specs.KeyPart.{key_part_of}
 use Rattle.ssh_lines.specs.AuthGrammar.{auth_line}
 use Rattle.ssh_lines.specs.Markers.{first_field_of}
-use Rattle.ssh_lines.specs.KnownGrammar.{entry_of_fields, known_line}
+use Rattle.ssh_lines.specs.KnownGrammar.{known_entry_of_fields, known_line}
 use Rattle.ssh_rewriting.specs.Canonical.{canonical_auth, canonical_known}
 use Rattle.ssh_rewriting.specs.declared.hash_error.HashError.TheVariants.{TooFewSalts}
 use Rattle.ssh_rewriting.specs.Answer.{hashed, rewritten}
@@ -90,7 +90,7 @@ KnownFilesWritten =
     ++ codes "\n@revoked  h " ++ zero_line ++ codes "\n # a comment\r\nh,,g  " ++ zero_line ++ codes "\n"
 
 pub known_files_written : KnownFilesWritten
-unfolding known_line entry_of_fields first_field_of names_of hashed_of twenty_bytes_of key_in key_blob blob_at fields_at public_at string_at plain_kind certificate_kind base64_on_literals
+unfolding known_line known_entry_of_fields first_field_of names_of hashed_of twenty_bytes_of key_in key_blob blob_at fields_at public_at string_at plain_kind certificate_kind base64_on_literals
 known_files_written = refl
 
 -- ---- files whose names are hidden
@@ -124,5 +124,5 @@ HashedFilesWritten =
     × (hashed [] [] ≡ Ok [])
 
 pub hashed_files_written : HashedFilesWritten
-unfolding known_line entry_of_fields first_field_of names_of hashed_of twenty_bytes_of key_in key_blob blob_at fields_at public_at string_at plain_kind certificate_kind base64_on_literals
+unfolding known_line known_entry_of_fields first_field_of names_of hashed_of twenty_bytes_of key_in key_blob blob_at fields_at public_at string_at plain_kind certificate_kind base64_on_literals
 hashed_files_written = (refl, refl, refl, refl)

@@ -4,7 +4,7 @@ ghost use Rattle.std.specs.Prelude.{◌≡◌, ◌≤◌, ◌++◌, ◌∷◌, l
 ghost use Rattle.ssh_keys.specs.Names.{key_name_of};
 ghost use Rattle.ssh_names.specs.Names.{base64};
 ghost use Rattle.ssh_rewriting.specs.Canonical.{comment_part};
-ghost use Rattle.ssh_rewriting.specs.Kept.{Keeps};
+ghost use Rattle.ssh_wire.specs.Fronts.{Keeps};
 
 use base64::encoded_len;
 use base64::engine::general_purpose::STANDARD;

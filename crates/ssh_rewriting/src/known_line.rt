@@ -2,7 +2,7 @@
 
 ghost use Rattle.std.specs.Prelude.{◌≡◌, ◌++◌, IfOk, OnOk, OnErr};
 ghost use Rattle.ssh_rewriting.specs.Canonical.{canonical_known, line_with_names, marker_part};
-ghost use Rattle.ssh_rewriting.specs.Kept.{Keeps};
+ghost use Rattle.ssh_wire.specs.Fronts.{Keeps};
 
 use crate::key_text::put_key;
 use ssh_lines::{KeyBuffer, KnownEntry, KnownEntryView, Marker};

@@ -5,7 +5,7 @@ ghost use Rattle.std.specs.List.{flat_map};
 ghost use Rattle.ssh_options.specs.OptionText.{escaped};
 ghost use Rattle.ssh_options.specs.OptionsInLine.{option_in_line};
 ghost use Rattle.ssh_rewriting.specs.Canonical.{after_comma, option_text, options_part};
-ghost use Rattle.ssh_rewriting.specs.Kept.{Keeps};
+ghost use Rattle.ssh_wire.specs.Fronts.{Keeps};
 
 use ssh_options::{OptionView, OptionsView, ValueBytes};
 use std::alloc::AllocError;

@@ -18,7 +18,7 @@ use Rattle.ssh_options.specs.Settings.{has_flag, setting}
 use Rattle.ssh_offers.specs.Offer.{Offer, OfCertificate, certified, plain}
 use Rattle.ssh_rights.specs.declared.right.Right.{Right}
 use Rattle.ssh_rights.specs.declared.right.Right.TheVariants.{Port, Agent, X11, Pty, UserRc}
-use Rattle.ssh_rights.specs.Rights.{AreRights, HasRight, OfferForces, command_of, forced_by_offer, has_right, is_on, permit_of, permits, rights_of}
+use Rattle.ssh_rights.specs.Rights.{AreRights, HasRight, OfferForces, command_of, forced_by_offer, has_right, is_on, permit_of, certificate_permits, rights_of}
 use Rattle.ssh_rights.specs.SecurityKeys.{HasSkFlag, IsPresent, OfferAsks, TouchSuffices, VerificationSuffices, has_sk_flag, is_present, is_touch_waived, is_verification_asked, touch_suffices, user_verified, verification_suffices, waives_touch, wants_verification}
 use Rattle.ssh_rights.proofs.RightsLemmas.{is_then_on, on_is}
 
@@ -31,18 +31,18 @@ permit-extends X11 = refl
 permit-extends Pty = refl
 permit-extends UserRc = refl
 
-given : (x : Right) (offer : Offer) → permits x offer ≡ true → OfCertificate (HasExtension (permit_of x)) offer
+given : (x : Right) (offer : Offer) → certificate_permits x offer ≡ true → OfCertificate (HasExtension (permit_of x)) offer
 given x (plain key) h = tt
 given x (certified c) h = extension-of (permit_of x) c (permit-extends x) h
 
-gives : (x : Right) (offer : Offer) → OfCertificate (HasExtension (permit_of x)) offer → permits x offer ≡ true
+gives : (x : Right) (offer : Offer) → OfCertificate (HasExtension (permit_of x)) offer → certificate_permits x offer ≡ true
 gives x (plain key) h = refl
 gives x (certified c) h = of-extension (permit_of x) c (permit-extends x) h
 
 right-is : (x : Right) (e : AuthEntry) (offer : Offer) → (has_right x e.options offer ≡ true) ↔ HasRight x e offer
 right-is x e offer = (
-  λ h. let parts = and_parts (is_on x e.options) (permits x offer) h in (on_is x e.options parts.0, given x offer parts.1),
-  λ h. and_from (is_on x e.options) (permits x offer) (is_then_on x e.options h.0) (gives x offer h.1),
+  λ h. let parts = and_parts (is_on x e.options) (certificate_permits x offer) h in (on_is x e.options parts.0, given x offer parts.1),
+  λ h. and_from (is_on x e.options) (certificate_permits x offer) (is_then_on x e.options h.0) (gives x offer h.1),
 )
 
 -- ---- the command

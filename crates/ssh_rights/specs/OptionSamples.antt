@@ -3,7 +3,7 @@
 use Rattle.std.specs.Prelude.{◌≡◌, ℕ, Bool, true, false, List, [], ◌∷◌, ◌++◌, map, codes, Option, Some, None}
 use Rattle.ssh_certs.specs.declared.certificate_option.CertificateOption.TheVariants.{SourceAddress}
 use Rattle.ssh_certs.specs.Certificate.{CertOption}
-use Rattle.ssh_certs.specs.CertificateOptions.{forced_by_certificate, text_of}
+use Rattle.ssh_certs.specs.CertificateOptions.{forced_by_certificate, text_of_option}
 use Rattle.ssh_options.specs.AuthOption.{AuthOption, Switch}
 use Rattle.ssh_options.specs.declared.option.Flag.TheVariants as flag
 use Rattle.ssh_offers.specs.Offer.{Offer}
@@ -35,8 +35,8 @@ CommandsForced =
     × Forces (option (codes "Force-Command") (short 2 (codes "ls")) ∷ []) None
     × Forces (option (codes "source-address") (short 2 (codes "ls")) ∷ []) None
     × (forced_by_certificate (certificate_with [] (ls_forced ∷ [])) ≡ None)
-    × (text_of SourceAddress (certificate_with (option (codes "source-address") (short 8 (codes "10.0.0.1")) ∷ []) []) ≡ Some (codes "10.0.0.1"))
-    × (text_of SourceAddress (certificate_with (option (codes "source-address") (short 8 (codes "10.0.0.1" ++ 0 ∷ [])) ∷ []) []) ≡ None)
+    × (text_of_option SourceAddress (certificate_with (option (codes "source-address") (short 8 (codes "10.0.0.1")) ∷ []) []) ≡ Some (codes "10.0.0.1"))
+    × (text_of_option SourceAddress (certificate_with (option (codes "source-address") (short 8 (codes "10.0.0.1" ++ 0 ∷ [])) ∷ []) []) ≡ None)
 
 -- the line's command wins over the certificate's
 abbrev pub CommandsChosen : Type 0

@@ -118,12 +118,12 @@ abbrev pub is_on : Right → List AuthOption → Bool
 is_on x options = last_word x true options
 
 -- a certificate has to give the right too
-abbrev pub permits : Right → Offer → Bool
-permits x (plain key) = true
-permits x (certified c) = has_formed (permit_of x) c
+abbrev pub certificate_permits : Right → Offer → Bool
+certificate_permits x (plain key) = true
+certificate_permits x (certified c) = has_formed (permit_of x) c
 
 abbrev pub has_right : Right → List AuthOption → Offer → Bool
-has_right x options offer = is_on x options && permits x offer
+has_right x options offer = is_on x options && certificate_permits x offer
 
 -- the command that a certificate forces
 abbrev pub forced_by_offer : Offer → Option (List ℕ)

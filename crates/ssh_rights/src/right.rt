@@ -8,7 +8,7 @@ ghost use Rattle.ssh_rights.specs.Rights.{
   has_right,
   is_on,
   permit_of,
-  permits,
+  certificate_permits,
   turns_off,
   turns_on,
 };
@@ -93,7 +93,7 @@ impl Right {
 
     /// Whether the offer has it: a certificate by its extension.
     fn is_permitted(self, offer: &Offer<'_>) -> bool
-        ensures { result ≡ permits self (offer_of offer.now) }
+        ensures { result ≡ certificate_permits self (offer_of offer.now) }
     {
         match offer {
             Offer::Plain(_) => true,

@@ -7,7 +7,7 @@ use Rattle.std.proofs.lemmas.Slice.Eq.{bytes_eq-Decides}
 use Rattle.ssh_certs.specs.declared.certificate_option.CertificateOption.{CertificateOption}
 use Rattle.ssh_certs.specs.declared.certificate_option.CertificateOption.TheVariants.{ForceCommand, SourceAddress}
 use Rattle.ssh_certs.specs.Certificate.{Certificate, CertOption}
-use Rattle.ssh_certs.specs.CertificateOptions.{forced_by_certificate, has_option, text_of}
+use Rattle.ssh_certs.specs.CertificateOptions.{forced_by_certificate, has_option, text_of_option}
 use Rattle.ssh_certs.specs.OptionFacts.{AreOnce, IsKnownOption}
 use Rattle.ssh_certs.specs.OptionTable.{critical_named}
 use Rattle.ssh_certs.proofs.OptionFactLemmas.{is-known, known-is, of-text, text-of}
@@ -18,7 +18,7 @@ use Rattle.ssh_patterns.specs.declared.address.Address.{Address}
 use Rattle.ssh_patterns.specs.declared.permit.Permit.TheVariants.{Yes}
 use Rattle.ssh_rules.specs.declared.reason.Reason.TheVariants as reason
 use Rattle.ssh_rules.specs.Admission.{CriticalMet, PermitsAddress, commands_differ, critical_rows}
-use Rattle.ssh_rules.specs.CertificateRules.{first_unknown, fits_known, has_its_form, has_two, is_known, has_repeats, source_by}
+use Rattle.ssh_rules.specs.CertificateRules.{first_unknown, fits_known, has_its_form, has_two, is_known, has_repeats, certificate_source_by}
 use Rattle.ssh_rules.specs.Obstacles.{unknown_row}
 use Rattle.ssh_rules.proofs.SourceLemmas.{address-permitted, permits-address}
 use Rattle.ssh_rules.proofs.Tests.{NoneHolds, each-decides, none-fails, not_off, off, off_not, permitted, when_off, yes_row}
@@ -117,13 +117,13 @@ twice-decides options = none-fails (λ o. has_two o.name options) (λ o. has_two
 
 -- ---- its sources and its command
 
-source-of : (o : Option (List ℕ)) (address : Address) → source_by o address ≡ Yes → (list : List ℕ) → o ≡ Some list → PermitsAddress address list
+source-of : (o : Option (List ℕ)) (address : Address) → certificate_source_by o address ≡ Yes → (list : List ℕ) → o ≡ Some list → PermitsAddress address list
 source-of None address h list e = cc
 source-of (Some found) address h list e =
     let same : found ≡ list = cc in
     rw same at (address-permitted address found h)
 
-of-source : (o : Option (List ℕ)) (address : Address) → ((list : List ℕ) → o ≡ Some list → PermitsAddress address list) → source_by o address ≡ Yes
+of-source : (o : Option (List ℕ)) (address : Address) → ((list : List ℕ) → o ≡ Some list → PermitsAddress address list) → certificate_source_by o address ≡ Yes
 of-source None address h = refl
 of-source (Some list) address h = permits-address address list (h list refl)
 
@@ -152,7 +152,7 @@ met e address c n =
       known = all-known c.critical formed;
       once = once;
       source = of-text SourceAddress c (PermitsAddress address) once
-          (source-of (text_of SourceAddress c) address (permitted reason.CertSourceBad reason.CertSourceRefused _ n.1.1.1.0));
+          (source-of (text_of_option SourceAddress c) address (permitted reason.CertSourceBad reason.CertSourceRefused _ n.1.1.1.0));
       command = of-text ForceCommand c (SameCommand e) once
           (same-command (setting Command e.options) (forced_by_certificate c) (off _ reason.CommandConflict n.1.1.1.1.0));
     }
@@ -166,7 +166,7 @@ met-none e address c m = (
       when_off _ reason.CriticalData (off_not _ ((each-decides has_its_form c.critical).1 (all-formed c.critical m.known))),
       (
         yes_row reason.CertSourceBad reason.CertSourceRefused _
-            (of-source (text_of SourceAddress c) address (text-of SourceAddress c (PermitsAddress address) m.source)),
+            (of-source (text_of_option SourceAddress c) address (text-of SourceAddress c (PermitsAddress address) m.source)),
         (
           when_off _ reason.CommandConflict
               (command-same (setting Command e.options) (forced_by_certificate c) (text-of ForceCommand c (SameCommand e) m.command)),

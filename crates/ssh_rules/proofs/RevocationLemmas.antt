@@ -5,7 +5,7 @@ use Rattle.ssh_options.specs.declared.cause.LineCause.{LineCause}
 use Rattle.ssh_text.specs.Text.{body_of, is_blank, line_limit}
 use Rattle.ssh_lines.specs.Front.{begins_with, front_of_body}
 use Rattle.ssh_lines.specs.KnownEntry.{KnownEntry}
-use Rattle.ssh_lines.specs.KnownGrammar.{known_line, line_of_entry, line_of_front}
+use Rattle.ssh_lines.specs.KnownGrammar.{known_line, line_of_entry, known_line_of_front}
 use Rattle.ssh_lines.specs.Markers.{first_field_of}
 use Rattle.ssh_rules.specs.Revocation.{RevokesNothing, can_revoke}
 
@@ -14,7 +14,7 @@ entry_revokes_nothing (Ok entry) = (λ offer. refl, refl)
 entry_revokes_nothing (Err cause) = (λ offer. refl, refl)
 
 -- where the first field does not begin with `@`, it is names
-body_revokes_nothing : (body : List ℕ) → begins_with 64 body ≡ false → RevokesNothing (line_of_front (front_of_body body))
+body_revokes_nothing : (body : List ℕ) → begins_with 64 body ≡ false → RevokesNothing (known_line_of_front (front_of_body body))
 unfolding first_field_of
 body_revokes_nothing [] h = (λ offer. refl, refl)
 body_revokes_nothing (c ∷ cs) h =

@@ -9,17 +9,17 @@ use Rattle.ssh_patterns.specs.Lists.{cidr_list}
 use Rattle.ssh_certs.specs.declared.certificate_option.CertificateOption.{CertificateOption}
 use Rattle.ssh_certs.specs.declared.certificate_option.CertificateOption.TheVariants.{SourceAddress}
 use Rattle.ssh_certs.specs.Certificate.{Certificate, CertOption}
-use Rattle.ssh_certs.specs.CertificateOptions.{has_option, text_of}
+use Rattle.ssh_certs.specs.CertificateOptions.{has_option, text_of_option}
 use Rattle.ssh_certs.specs.OptionTable.{critical_named, fits}
 use Rattle.ssh_certs.specs.Rules.{no_principals}
 
-abbrev pub source_by : Option (List ℕ) → Address → Permit
-source_by None address = Yes
-source_by (Some list) address = cidr_list list address
+abbrev pub certificate_source_by : Option (List ℕ) → Address → Permit
+certificate_source_by None address = Yes
+certificate_source_by (Some list) address = cidr_list list address
 
 -- what the certificate's own list of sources says of an address
 abbrev pub certificate_source : Certificate → Address → Permit
-certificate_source c address = source_by (text_of SourceAddress c) address
+certificate_source c address = certificate_source_by (text_of_option SourceAddress c) address
 
 -- ---- the critical options that a login knows
 

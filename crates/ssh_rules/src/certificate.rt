@@ -3,7 +3,7 @@
 ghost use Rattle.std.specs.Prelude.{◌≡◌, option_copied, None};
 ghost use Rattle.std.specs.List.{list_all, list_any};
 ghost use Rattle.ssh_certs.specs.CertificateOf.{certificate_of};
-ghost use Rattle.ssh_certs.specs.CertificateOptions.{has_option, text_of};
+ghost use Rattle.ssh_certs.specs.CertificateOptions.{has_option, text_of_option};
 ghost use Rattle.ssh_certs.specs.Left.{options_left};
 ghost use Rattle.ssh_certs.specs.OptionTable.{critical_named, fits};
 ghost use Rattle.ssh_rules.specs.CertificateRules.{

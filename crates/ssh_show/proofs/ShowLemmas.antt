@@ -10,7 +10,7 @@ use Rattle.ssh_show.specs.declared.kind.ShowKind.TheVariants as shown
 use Rattle.ssh_show.specs.declared.error.ShowError.{ShowError}
 use Rattle.ssh_show.specs.Showing.{IsAnswerTo, Shows, cert_on, file_signature_in, key_on, public_half_in, shown_line}
 use Rattle.ssh_show.specs.ShownBodies.{IsHalfText, IsSignatureText}
-use Rattle.ssh_show.specs.ShownTexts.{IsCertText, IsDateText, IsKeyText, cert_lines, clock_text, key_lines}
+use Rattle.ssh_show.specs.ShownTexts.{IsCertText, IsDateText, IsShownKey, cert_lines, clock_text, key_lines}
 use Rattle.ssh_print.specs.Responses.{Response}
 
 -- ---- keys
@@ -29,7 +29,7 @@ one-size (ed25519 public) a b x y = x ∙ sym y
 one-size (sk_p256 point application) a b x y = x ∙ sym y
 one-size (sk_ed25519 public application) a b x y = x ∙ sym y
 
-one-key_text : (key : PublicKey) (comment a b : List ℕ) → IsKeyText key comment a → IsKeyText key comment b → a ≡ b
+one-key_text : (key : PublicKey) (comment a b : List ℕ) → IsShownKey key comment a → IsShownKey key comment b → a ≡ b
 one-key_text key comment a b x y =
     x.lines ∙ ap (λ bits. key_lines key bits comment) (one-size key x.bits y.bits x.size y.size) ∙ sym y.lines
 
@@ -60,7 +60,7 @@ one-response IsTextOf (Err e) a b one h k = h ∙ sym k
 
 pub one-answer : (kind : ShowKind) (file : List ℕ) (a b : Response) → Shows kind file a → Shows kind file b → a ≡ b
 one-answer shown.Key file a b h k =
-    one-response (λ key text. IsKeyText key (comment_field (shown_line file)) text) (key_on (shown_line file)) a b
+    one-response (λ key text. IsShownKey key (comment_field (shown_line file)) text) (key_on (shown_line file)) a b
     (λ key s t x y. one-key_text key (comment_field (shown_line file)) s t x y) h k
 one-answer shown.Cert file a b h k = one-response IsCertText (cert_on (shown_line file)) a b one-cert_text h k
 one-answer shown.Private file a b h k = one-response IsHalfText (public_half_in file) a b (λ v s t x y. x ∙ sym y) h k

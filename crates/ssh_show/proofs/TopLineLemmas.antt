@@ -3,7 +3,7 @@ use Rattle.std.proofs.Common.{◌≡◌, ◌∙◌, ◌==◌, ℕ, Bool, true, f
 use Rattle.std.specs.List.{onto_first}
 use Rattle.ssh_text.specs.Text.{lines_of}
 use Rattle.ssh_inputs.specs.Parts.{top_line}
-use Rattle.ssh_show.specs.Offering.{offer_in}
+use Rattle.ssh_show.specs.Offering.{shown_offer_in}
 use Rattle.ssh_show.specs.Showing.{first_of_lines, shown_line}
 
 first-onto : (c : ℕ) (lines : List (List ℕ)) → first_of_lines (onto_first c lines) ≡ c ∷ first_of_lines lines
@@ -31,6 +31,6 @@ pub line-shown : (file : List ℕ) → shown_line (top_line file) ≡ shown_line
 line-shown file = first-top (top_line file) ∙ (top-again file ∙ sym (first-top file))
 
 -- what a file offers stands on its first line
-pub line-offered : (file : List ℕ) → offer_in (top_line file) ≡ offer_in file
-unfolding offer_in
+pub line-offered : (file : List ℕ) → shown_offer_in (top_line file) ≡ shown_offer_in file
+unfolding shown_offer_in
 line-offered file = rw (line-shown file) refl

@@ -42,8 +42,8 @@ offer_by Retired line = Err (missing_or (base64_field line) RetiredType)
 offer_by Other line = Err (missing_or (base64_field line) KeyType)
 
 -- what the first line of a file offers, or the first fault
-unfoldable pub offer_in : List ℕ → Result Offered ShowError
-offer_in file = offer_by (class_of (type_field (shown_line file))) (shown_line file)
+unfoldable pub shown_offer_in : List ℕ → Result Offered ShowError
+shown_offer_in file = offer_by (class_of (type_field (shown_line file))) (shown_line file)
 
 -- by the class of the type and the base64: there is no blob to read
 abbrev pub HasNoBlob : NameClass → List ℕ → Type 0

@@ -26,7 +26,7 @@ use Rattle.ssh_show.specs.declared.kind.ShowKind.TheVariants as shown
 use Rattle.ssh_show.specs.declared.error.ShowError.{ShowError}
 use Rattle.ssh_show.specs.declared.error.ShowError.TheVariants.{Line, Cert, Body, Memory}
 use Rattle.ssh_show.specs.ShownBodies.{IsHalfText, IsSignatureText, PublicHalf, public_half}
-use Rattle.ssh_show.specs.ShownTexts.{IsCertText, IsKeyText}
+use Rattle.ssh_show.specs.ShownTexts.{IsCertText, IsShownKey}
 use Rattle.ssh_print.specs.Responses.{Response, fault_response, out_of_memory}
 use Rattle.ssh_print.specs.Codes.{body_codes, cert_codes, line_codes}
 
@@ -86,13 +86,13 @@ abbrev pub key_of_type : List ℕ → Result PublicKey KeyError → Result Publi
 key_of_type type (Err e) = Err (Line (KeyBlob e))
 key_of_type type (Ok key) = if bytes_eq (key_name_of (kind_of key)) type then Ok key else Err (Line TypeMismatch)
 
-abbrev pub key_of_blob : List ℕ → Result (List ℕ) ShowError → Result PublicKey ShowError
-key_of_blob type (Err e) = Err e
-key_of_blob type (Ok blob) = key_of_type type (key_in blob)
+abbrev pub shown_key_of_blob : List ℕ → Result (List ℕ) ShowError → Result PublicKey ShowError
+shown_key_of_blob type (Err e) = Err e
+shown_key_of_blob type (Ok blob) = key_of_type type (key_in blob)
 
 -- the key on a line, or the first fault
 unfoldable pub key_on : List ℕ → Result PublicKey ShowError
-key_on line = key_of_blob (type_field line) (blob_of_field (field_fault (base64_field line) (key_type_fault (class_of (type_field line)))) (base64_field line))
+key_on line = shown_key_of_blob (type_field line) (blob_of_field (field_fault (base64_field line) (key_type_fault (class_of (type_field line)))) (base64_field line))
 
 -- a certificate, where its type is the line's
 abbrev pub cert_of_type : List ℕ → Result certs.Certificate CertError → Result certs.Certificate ShowError
@@ -141,7 +141,7 @@ IsAnswerTo IsTextOf (Err e) r = r ≡ show_fault_response e
 
 -- the answer to `show` of a file as this kind
 abbrev pub Shows : ShowKind → List ℕ → Response → Type 0
-Shows shown.Key file r = IsAnswerTo (λ key text. IsKeyText key (comment_field (shown_line file)) text) (key_on (shown_line file)) r
+Shows shown.Key file r = IsAnswerTo (λ key text. IsShownKey key (comment_field (shown_line file)) text) (key_on (shown_line file)) r
 Shows shown.Cert file r = IsAnswerTo IsCertText (cert_on (shown_line file)) r
 Shows shown.Private file r = IsAnswerTo IsHalfText (public_half_in file) r
 Shows shown.Sshsig file r = IsAnswerTo IsSignatureText (file_signature_in file) r

@@ -6,7 +6,7 @@ use Rattle.ssh_keys.specs.PublicKey.{PublicKey, kind_of}
 use Rattle.ssh_bodies.specs.PrivateKey.{PrivateBody, public_of}
 use Rattle.ssh_bodies.specs.Sshsig.{Sshsig, hash_name}
 use Rattle.ssh_print.specs.Texts.{hex_text, text_line, word_line}
-use Rattle.ssh_show.specs.ShownTexts.{comment_line, fingerprint_text}
+use Rattle.ssh_show.specs.ShownTexts.{comment_line, key_fingerprint_text}
 
 -- what is shown of a private key: its public half, the check number and the comment, and no secret
 pub record PublicHalf : Type 0 where
@@ -19,7 +19,7 @@ public_half v = record { key = public_of v.key; check = v.check; comment = v.com
 
 -- the type and the fingerprint of a key
 unfoldable pub key_head : PublicKey → List ℕ
-key_head key = word_line (codes "type ") (key_name_of (kind_of key)) ++ word_line (codes "fingerprint ") (fingerprint_text key)
+key_head key = word_line (codes "type ") (key_name_of (kind_of key)) ++ word_line (codes "fingerprint ") (key_fingerprint_text key)
 
 unfoldable pub half_lines : PublicHalf → List ℕ
 half_lines h = key_head h.key ++ word_line (codes "check ") (decimal h.check) ++ comment_line h.comment

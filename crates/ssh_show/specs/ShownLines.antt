@@ -7,7 +7,7 @@ use Rattle.ssh_show.specs.declared.error.ShowError.TheVariants.{Line, Cert, Body
 use Rattle.ssh_lines.specs.KeyText.{comment_field}
 use Rattle.ssh_show.specs.Showing.{cert_on, file_signature_in, key_on, public_half_in, shown_line}
 use Rattle.ssh_show.specs.ShownBodies.{IsHalfText, IsSignatureText}
-use Rattle.ssh_show.specs.ShownTexts.{IsCertText, IsKeyText}
+use Rattle.ssh_show.specs.ShownTexts.{IsCertText, IsShownKey}
 
 -- a value was read, seen by view, or the first fault was met
 abbrev pub Finds : {X A : Type 0} → (X → A) → Result A ShowError → Result X ShowError → Type 0
@@ -32,7 +32,7 @@ Prints view IsTextOf read (Err Memory) = ⊤
 
 -- the same of a file that is shown as this kind
 abbrev pub PrintsFile : {X : Type 0} → (X → List ℕ) → ShowKind → List ℕ → Result X ShowError → Type 0
-PrintsFile view shown.Key file result = Prints view (λ key text. IsKeyText key (comment_field (shown_line file)) text) (key_on (shown_line file)) result
+PrintsFile view shown.Key file result = Prints view (λ key text. IsShownKey key (comment_field (shown_line file)) text) (key_on (shown_line file)) result
 PrintsFile view shown.Cert file result = Prints view IsCertText (cert_on (shown_line file)) result
 PrintsFile view shown.Private file result = Prints view IsHalfText (public_half_in file) result
 PrintsFile view shown.Sshsig file result = Prints view IsSignatureText (file_signature_in file) result

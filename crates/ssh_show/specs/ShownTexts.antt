@@ -13,8 +13,8 @@ use Rattle.ssh_print.specs.Texts.{escaped_text, hex_text, word_line, text_line}
 -- ---- keys
 
 -- as `ssh-keygen -l` prints it
-abbrev pub fingerprint_text : PublicKey → List ℕ
-fingerprint_text key = codes "SHA256:" ++ fingerprint_of key
+abbrev pub key_fingerprint_text : PublicKey → List ℕ
+key_fingerprint_text key = codes "SHA256:" ++ fingerprint_of key
 
 abbrev pub bits_line : Option ℕ → List ℕ
 bits_line None = []
@@ -28,11 +28,11 @@ abbrev pub key_lines : PublicKey → Option ℕ → List ℕ → List ℕ
 key_lines key bits comment =
     word_line (codes "type ") (key_name_of (kind_of key))
     ++ bits_line bits
-    ++ word_line (codes "fingerprint ") (fingerprint_text key)
+    ++ word_line (codes "fingerprint ") (key_fingerprint_text key)
     ++ comment_line comment
 
 -- what is printed of a key with this comment
-pub record IsKeyText (key : PublicKey) (comment text : List ℕ) : Type 0 where
+pub record IsShownKey (key : PublicKey) (comment text : List ℕ) : Type 0 where
   pub bits : Option ℕ
   pub size : IsRsaSize key bits
   pub lines : text ≡ key_lines key bits comment
@@ -70,13 +70,13 @@ abbrev pub option_line : List ℕ → CertOption → List ℕ
 option_line word option = word_line word (escaped_text option.name ++ codes " " ++ hex_text option.value)
 
 abbrev pub signer_line : PublicKey → List ℕ
-signer_line key = word_line (codes "signer ") (key_name_of (kind_of key) ++ codes " " ++ fingerprint_text key)
+signer_line key = word_line (codes "signer ") (key_name_of (kind_of key) ++ codes " " ++ key_fingerprint_text key)
 
 -- the certificate's type and key, and its signer
 unfoldable pub cert_key_lines : Certificate → List ℕ
 cert_key_lines c =
     word_line (codes "type ") (certificate_name_of (kind_of c.key))
-    ++ word_line (codes "fingerprint ") (fingerprint_text c.key)
+    ++ word_line (codes "fingerprint ") (key_fingerprint_text c.key)
     ++ signer_line c.signer
 
 -- for whom it is

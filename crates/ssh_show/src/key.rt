@@ -7,7 +7,7 @@ ghost use Rattle.ssh_keys.specs.KeyReading.{key_in};
 ghost use Rattle.ssh_lines.specs.KeyText.{comment_field};
 ghost use Rattle.ssh_show.specs.Showing.{key_of_type, key_on, key_type_fault};
 ghost use Rattle.ssh_show.specs.ShownLines.{Finds, Prints};
-ghost use Rattle.ssh_show.specs.ShownTexts.{IsKeyText, bits_line, comment_line, key_lines};
+ghost use Rattle.ssh_show.specs.ShownTexts.{IsShownKey, bits_line, comment_line, key_lines};
 
 use crate::error::ShowError;
 use crate::line::read_blob;
@@ -86,7 +86,7 @@ fn push_key(
 /// What is printed of the key on a line, which is given without its LF.
 #[tactic(auto, unfolding(crate::specs::Showing::key_on))]
 pub fn show_key(alloc: Global, line: &[u8]) -> Result<Vec<u8>, ShowError>
-    ensures { Prints (λ text. text.items) (λ key text. IsKeyText key (comment_field line.now) text)
+    ensures { Prints (λ text. text.items) (λ key text. IsShownKey key (comment_field line.now) text)
         (key_on line.now) result }
 {
     let text = key_text(line);

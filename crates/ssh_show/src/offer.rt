@@ -6,7 +6,7 @@ ghost use Rattle.ssh_show.specs.Offering.{
   TakesNoMemory,
   blob_where,
   missing_or,
-  offer_in,
+  shown_offer_in,
   offer_seen,
 };
 ghost use Rattle.ssh_show.specs.declared.error.ShowError.TheVariants.{Memory};
@@ -73,9 +73,9 @@ fn missing_or(base64: &[u8], cause: LineCause) -> ShowError
 
 /// The key, or the certificate, on the first line of a file: its type, base64 and comment, as
 /// `ssh-keygen` writes a `.pub` and a `-cert.pub` file. The faults are those of `show`.
-#[tactic(auto, unfolding(crate::specs::Offering::offer_in))]
+#[tactic(auto, unfolding(crate::specs::Offering::shown_offer_in))]
 pub fn read_offer(alloc: Global, file: &[u8]) -> Result<OfferedKey, ShowError>
-    ensures value { Finds offer_seen (offer_in file.now) result }
+    ensures value { Finds offer_seen (shown_offer_in file.now) result }
     // Only the blob takes memory: what is told before it is read is told whatever memory does.
     ensures spare { TakesNoMemory file.now → result ≢ Err Memory }
 {

@@ -3,7 +3,7 @@
 ghost use Rattle.std.specs.Prelude.{◌≡◌, ◌++◌, OnOk, codes};
 ghost use Rattle.ssh_keys.specs.KeyOf.{key_of};
 ghost use Rattle.ssh_print.specs.Texts.{word_line};
-ghost use Rattle.ssh_show.specs.ShownTexts.{fingerprint_text};
+ghost use Rattle.ssh_show.specs.ShownTexts.{key_fingerprint_text};
 
 use ssh_keys::{KeyView, fingerprint};
 use std::alloc::{AllocError, Global};
@@ -14,7 +14,7 @@ pub fn push_fingerprint(
     out: &mut Vec<u8>,
     key: &KeyView<'_>,
 ) -> Result<(), AllocError>
-    ensures { OnOk result (out.new.items ≡ out.old.items ++ fingerprint_text (key_of key.now)) }
+    ensures { OnOk result (out.new.items ≡ out.old.items ++ key_fingerprint_text (key_of key.now)) }
 {
     out.extend_from_slice(b"SHA256:")?;
     let digest = fingerprint(alloc, key)?;
@@ -30,7 +30,7 @@ pub fn push_fingerprint_line(
     key: &KeyView<'_>,
 ) -> Result<(), AllocError>
     ensures { OnOk result (out.new.items ≡ out.old.items ++ word_line (codes "fingerprint ")
-        (fingerprint_text (key_of key.now))) }
+        (key_fingerprint_text (key_of key.now))) }
 {
     out.extend_from_slice(b"fingerprint ")?;
     push_fingerprint(alloc, out, key)?;

@@ -2,7 +2,7 @@
 use Rattle.std.proofs.Common.{◌≡◌, ℕ, suc, ◌+◌, ◌-◌, ◌<◌, ◌≤◌, ◌^◌, ◌↔◌, IsTrue, not, zero, Bool, true, false, if◌then◌else◌, inl, inr, List, [], ◌∷◌, ◌++◌, length, refl, sym, ap, ◌∙◌, arith, append_assoc, append-nil}
 use Rattle.std.proofs.lemmas.List.{length-append}
 use Rattle.ssh_text.specs.Text.{lines_of, line_limit}
-use Rattle.ssh_text.specs.Kept.{Kept, Keeps, kept_count}
+use Rattle.ssh_text.specs.Kept.{Kept, KeepsLine, kept_count}
 use Rattle.ssh_text.specs.Scan.{Scan, IsScan, open_count, lines_begun, StandsFor, HasNoNewline, unfinished, with_newlines, IsLastLine}
 use Rattle.ssh_text.proofs.LineLemmas.{lines_of-last}
 use Rattle.ssh_text.proofs.NewlineLemmas.{AreFree, AreFree-push, with_newlines-push, lines_of-after, lines_of-whole, unfinished-after, free-append, length-push, get-last}
@@ -12,7 +12,7 @@ ended_by b line = if b then line ++ 10 ∷ [] else line
 
 -- more bytes of the line that the scanner is in
 pub stands-append : (s : Scan) (new : Kept) (bytes part : List ℕ) → s.ended ≡ false → HasNoNewline part
-    → ((line : List ℕ) → Keeps s.kept line → Keeps new (line ++ part)) → StandsFor s bytes
+    → ((line : List ℕ) → KeepsLine s.kept line → KeepsLine new (line ++ part)) → StandsFor s bytes
     → StandsFor (record { used = s.used + length part; lines = s.lines; kept = new; ended = false; ready = false }) (bytes ++ part)
 stands-append s new bytes part e free k h = record {
   before = h.before;
@@ -30,7 +30,7 @@ stands-append s new bytes part e free k h = record {
 
 -- bytes of the next line
 pub stands-begin : (s : Scan) (new : Kept) (bytes part : List ℕ) → s.ended ≡ true → HasNoNewline part
-    → Keeps new part → StandsFor s bytes
+    → KeepsLine new part → StandsFor s bytes
     → StandsFor (record { used = s.used + length part; lines = s.lines + 1; kept = new; ended = false; ready = false }) (bytes ++ part)
 stands-begin s new bytes part e free k h = record {
   before = h.before ++ h.line ∷ [];
@@ -152,7 +152,7 @@ passed-line s bytes line n m free h e =
     at-last (bytes ++ (line ++ 10 ∷ [])) n b.lines line
     (ap lines_of (passed s bytes line b) ∙ lines_of-whole (b.lines ++ line ∷ []) (AreFree-push b.lines line b.cut free)) (m ∙ b.count)
 
-pub stands-passed : (s : Scan) (new : Kept) (bytes line : List ℕ) (n : ℕ) → n ≡ lines_begun s → HasNoNewline line → Keeps new [] → StandsFor s bytes
+pub stands-passed : (s : Scan) (new : Kept) (bytes line : List ℕ) (n : ℕ) → n ≡ lines_begun s → HasNoNewline line → KeepsLine new [] → StandsFor s bytes
     → length (unfinished bytes) ≡ 0
     → StandsFor (record { used = s.used + (length line + 1); lines = n + 1; kept = new; ended = false; ready = false }) (bytes ++ (line ++ 10 ∷ []))
 stands-passed s new bytes line n m free k h e =

@@ -12,7 +12,7 @@ abbrev pub kept_count : Kept → ℕ
 kept_count kept = if kept.too_long then 1 else length kept.bytes
 
 -- The line is kept whole; exactly past the limit it has the mark, and no byte is kept.
-pub record Keeps (kept : Kept) (line : List ℕ) : Type 0 where
+pub record KeepsLine (kept : Kept) (line : List ℕ) : Type 0 where
   pub mark : (kept.too_long ≡ true) ↔ (line_limit < length line)
   pub whole : kept.too_long ≡ false → kept.bytes ≡ line
   pub none : kept.too_long ≡ true → kept.bytes ≡ []

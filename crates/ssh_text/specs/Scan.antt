@@ -4,7 +4,7 @@ use Rattle.std.specs.List.{list_any, count_by, AllByRecursion}
 use Rattle.ssh_text.specs.declared.scanner.Line.{Line}
 use Rattle.ssh_text.specs.declared.scanner.Line.TheVariants.{Whole, TooLong}
 use Rattle.ssh_text.specs.Text.{lines_of, line_len, line_limit, IsLineAt}
-use Rattle.ssh_text.specs.Kept.{Kept, Keeps, kept_count}
+use Rattle.ssh_text.specs.Kept.{Kept, KeepsLine, kept_count}
 
 -- ---- bytes, cut at their LFs
 
@@ -64,7 +64,7 @@ pub record StandsFor (scan : Scan) (bytes : List ℕ) : Type 0 where
   pub whole : bytes ≡ with_newlines before ++ (if scan.ended then line ++ 10 ∷ [] else line)
   pub used : scan.used ≡ length bytes
   pub lines : scan.lines ≡ length before
-  pub kept : Keeps scan.kept line
+  pub kept : KeepsLine scan.kept line
   -- a line that lacks its LF is ready only if it is not empty
   pub ready : scan.ready ≡ true → (scan.ended ≡ true) ⊎ (0 < length line)
 

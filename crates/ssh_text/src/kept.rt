@@ -17,7 +17,7 @@ ghost use Rattle.std.specs.Prelude.{
   OnErr,
 };
 ghost use Rattle.ssh_text.specs.Text.{line_limit};
-ghost use Rattle.ssh_text.specs.Kept.{Keeps, kept_count};
+ghost use Rattle.ssh_text.specs.Kept.{KeepsLine, kept_count};
 
 use crate::file::LINE_LIMIT;
 use std::alloc::{AllocError, Global};
@@ -46,7 +46,7 @@ impl Model for KeptLine {
 impl KeptLine {
     /// The line that has no bytes.
     pub(crate) fn new(alloc: Global) -> KeptLine
-        ensures keeps { Keeps result [] }
+        ensures keeps { KeepsLine result [] }
         ensures bound { length result.bytes ≤ line_limit }
     {
         KeptLine {
@@ -63,7 +63,7 @@ impl KeptLine {
 
     /// The line has no bytes.
     pub(crate) fn is_empty(&self) -> bool
-        ensures { (line : List ℕ) → Keeps self.now line → (IsTrue result ↔ (length line ≡ 0)) }
+        ensures { (line : List ℕ) → KeepsLine self.now line → (IsTrue result ↔ (length line ≡ 0)) }
     {
         !self.too_long && self.bytes.is_empty()
     }
@@ -77,7 +77,7 @@ impl KeptLine {
 
     /// Begins a line that has no bytes.
     pub(crate) fn clear(&mut self)
-        ensures keeps { Keeps self.new [] }
+        ensures keeps { KeepsLine self.new [] }
         ensures count { kept_count self.new ≡ 0 }
         ensures bound { length self.new.bytes ≤ line_limit }
     {
@@ -88,12 +88,12 @@ impl KeptLine {
     /// Adds bytes to the line. Where memory is refused, it stays as it was.
     pub(crate) fn append(&mut self, part: &[u8]) -> Result<(), AllocError>
         ensures ok { OnOk result
-            ((line : List ℕ) → Keeps self.old line → Keeps self.new (line ++ part.now)) }
+            ((line : List ℕ) → KeepsLine self.old line → KeepsLine self.new (line ++ part.now)) }
         ensures count { OnOk result (kept_count self.new ≤ kept_count self.old + length part.now) }
         ensures bound { length self.new.bytes ≤ line_limit }
         ensures err { OnErr result (self.new ≡ self.old) }
         ensures spare { (line : List ℕ)
-            → Keeps self.old line
+            → KeepsLine self.old line
             → line_limit < length line + length part.now
             → IsOk result }
         ensures nothing { length part.now ≡ 0 → IsOk result }
@@ -112,7 +112,7 @@ impl KeptLine {
 
     /// Begins the next line with these bytes. Where memory is refused, the line before stays.
     pub(crate) fn begin(&mut self, part: &[u8]) -> Result<(), AllocError>
-        ensures ok { OnOk result (Keeps self.new part.now) }
+        ensures ok { OnOk result (KeepsLine self.new part.now) }
         ensures count { OnOk result (kept_count self.new ≤ length part.now) }
         ensures bound { length self.new.bytes ≤ line_limit }
         ensures err { OnErr result (self.new ≡ self.old) }

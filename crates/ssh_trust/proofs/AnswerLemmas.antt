@@ -6,7 +6,7 @@ use Rattle.ssh_text.specs.Text.{file_limit}
 use Rattle.ssh_offers.specs.declared.error.AuditError.{AuditError}
 use Rattle.ssh_offers.specs.declared.error.AuditError.TheVariants.{FileTooLong, Memory}
 use Rattle.ssh_trust.specs.declared.decision.Decision.{Decision}
-use Rattle.ssh_trust.specs.Answer.{Gives, OfClaim, RefusesAs, if_short}
+use Rattle.ssh_trust.specs.Answer.{GivesOrMemory, OfClaim, RefusesAs, if_short}
 
 pub err-inj : {A : Type 0} (e f : AuditError) → ◌≡◌ {A = Result A AuditError} (Err e) (Err f) → e ≡ f
 err-inj e f h = cc
@@ -45,7 +45,7 @@ same-refused A (Err f) e result h same = same ∙ err-same e f (err-inj e f h)
 -- a whole file that was not taken
 pub fed-gives : {A : Type 0} (file : List ℕ) (d : Decision) (e : AuditError)
     → (◌≡◌ {A = Result A AuditError} (Err e) (Err FileTooLong) ↔ file_limit < 0 + length file)
-    → (0 + length file ≤ file_limit → ◌≡◌ {A = Result A AuditError} (Err e) (Err Memory)) → Gives (if_short file d) (Err e)
+    → (0 + length file ≤ file_limit → ◌≡◌ {A = Result A AuditError} (Err e) (Err Memory)) → GivesOrMemory (if_short file d) (Err e)
 fed-gives file d e too_long else_memory =
     elim (cases_Bool (nat_lt file_limit (length file))) [
       | inl t ↦
@@ -59,5 +59,5 @@ fed-gives file d e too_long else_memory =
     ]
 
 -- a decision on a file within the limit
-pub decided-gives : (file : List ℕ) (d x : Decision) → length file ≤ file_limit → x ≡ d → Gives (if_short file d) (Ok x)
+pub decided-gives : (file : List ℕ) (d x : Decision) → length file ≤ file_limit → x ≡ d → GivesOrMemory (if_short file d) (Ok x)
 decided-gives file d x short e = rw (le-ltb file_limit (length file) short, e) refl

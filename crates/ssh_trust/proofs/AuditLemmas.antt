@@ -10,7 +10,7 @@ use Rattle.ssh_text.proofs.PieceLemmas.{adds-none, adds-one, ends-none, ends-one
 use Rattle.ssh_trust.specs.declared.pieces.Pieces.{Pieces}
 use Rattle.ssh_trust.specs.Audit.{HasRead, HasTaken}
 use Rattle.ssh_trust.specs.declared.search.Search.{Search}
-use Rattle.ssh_trust.specs.FileLines.{IsText}
+use Rattle.ssh_trust.specs.FileLines.{IsHandedLine}
 use Rattle.ssh_trust.specs.Findings.{HasFound}
 use Rattle.ssh_trust.specs.Scan.{after_lines}
 use Rattle.ssh_trust.proofs.CandidateLemmas.{AreBytes, bytes-append}
@@ -50,7 +50,7 @@ stands-new Found audit read sound = record {
 pub record Ready (bytes : List ℕ) (number : ℕ) (line : Line) : Type 0 where
   pub text : List ℕ
   pub last : IsLastLine bytes number text
-  pub is : IsText line text
+  pub is : IsHandedLine line text
 
 pub ready : (bytes : List ℕ) (number : ℕ) (line : Line) → IsReadyLine bytes (number, line) → Ready bytes number line
 ready bytes number (Whole text) h = record { text = text.now; last = h.0; is = refl }

@@ -28,7 +28,7 @@ use Rattle.ssh_rules.specs.Verdict.{host_verdict, verdict_by}
 use Rattle.ssh_rules.proofs.HostAdmissionLemmas.{host_where_none, none_where_host}
 use Rattle.ssh_trust.specs.Candidate.{candidate_of, reasons_of}
 use Rattle.ssh_trust.specs.HostDecision.{HoldsAt, HostMeans, IsLeast, RevokesOwn, host_decision, host_decision_by, revocation_cause}
-use Rattle.ssh_trust.specs.HostScan.{first_number, host_line_verdict, host_scan_of, is_blind, number_at, revokes_by}
+use Rattle.ssh_trust.specs.HostScan.{first_number, host_line_verdict, host_scan_of, is_blind, admitting_number, revokes_by}
 use Rattle.ssh_trust.proofs.CandidateLemmas.{AreBytes, Judges, admits-by, at-place, candidate-is, line-bytes, line-of, no-candidate, some-same}
 
 -- ---- a line that admits
@@ -198,7 +198,7 @@ trusts : (file : List ℕ) (claim : HostClaim) (vouched : List Signed) (reasons 
     → first_number (revokes_by claim) 1 (lines_of file) ≡ None → first_number is_blind 1 (lines_of file) ≡ None
     → (c : Option (ℕ × KnownEntry)) → candidate_of (map (host_line_verdict claim) (lines_of file)) ≡ c
     → (u : Option ℕ) → first_unvouched vouched (host_evidence claim) ≡ u
-    → HostMeans file claim vouched (host_decision_by None (option_map number_at c) u reasons (host_evidence claim))
+    → HostMeans file claim vouched (host_decision_by None (option_map admitting_number c) u reasons (host_evidence claim))
 trusts file claim vouched reasons bytes r b None c u v = (
   λ i e grant. no-candidate (host_line_verdict claim) (host-judges claim) file c i e grant.candidate,
   tt,
@@ -228,7 +228,7 @@ means-by : (file : List ℕ) (claim : HostClaim) (vouched : List Signed) (reason
     → (blind : Option ℕ) → first_number is_blind 1 (lines_of file) ≡ blind
     → (u : Option ℕ) → first_unvouched vouched (host_evidence claim) ≡ u
     → HostMeans file claim vouched (host_decision_by (revocation_cause revoked blind)
-    (option_map number_at (candidate_of (map (host_line_verdict claim) (lines_of file)))) u reasons (host_evidence claim))
+    (option_map admitting_number (candidate_of (map (host_line_verdict claim) (lines_of file)))) u reasons (host_evidence claim))
 means-by file claim vouched reasons bytes (Some n) r blind b u v =
     let least = least-at (revokes_by claim) (RevokesOwn claim.offer) (revokes-decides claim) file bytes n r in
     (λ i e grant. grant.unrevoked n least.holds, least, refl)

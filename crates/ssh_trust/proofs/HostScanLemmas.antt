@@ -5,7 +5,7 @@ use Rattle.ssh_offers.specs.HostClaim.{HostClaim}
 use Rattle.ssh_trust.specs.declared.host_scan.HostScan.{HostScan}
 use Rattle.ssh_trust.specs.declared.scan.Scan.{Scan}
 use Rattle.ssh_trust.specs.Scan.{after_lines, scan_of}
-use Rattle.ssh_trust.specs.HostScan.{empty_host_scan, first_number, first_so_far, host_line_verdict, host_scan_line, host_scan_of, is_blind, number_at, revokes_by}
+use Rattle.ssh_trust.specs.HostScan.{empty_host_scan, first_number, first_so_far, host_line_verdict, host_scan_line, host_scan_of, is_blind, admitting_number, revokes_by}
 use Rattle.ssh_trust.proofs.ScanLemmas.{scanned, scanned-scan_of}
 
 -- ---- its three parts
@@ -31,7 +31,7 @@ first-numbered holds n [] = refl
 first-numbered holds n (line ∷ lines) = first-by holds n lines (numbered (n + 1) lines) (holds line) (first-numbered holds (n + 1) lines)
 
 parts : (claim : HostClaim) (s : HostScan) (xs : List (ℕ × List ℕ)) → after_lines (host_scan_line claim) s xs ≡ record {
-  admission = scanned number_at (host_line_verdict claim) s.admission xs;
+  admission = scanned admitting_number (host_line_verdict claim) s.admission xs;
   revoked = first_after s.revoked (revokes_by claim) xs;
   blind = first_after s.blind is_blind xs;
 }
@@ -48,8 +48,8 @@ unfolding host_scan_of host_scan
 host_scanned-all claim file =
     parts claim empty_host_scan (numbered 1 (lines_of file))
     ∙ ap (λ (a : Scan ℕ). host_scan a (first_after None (revokes_by claim) (numbered 1 (lines_of file))) (first_after None is_blind (numbered 1 (lines_of file))))
-    (scanned-scan_of number_at (host_line_verdict claim) file)
-    ∙ ap (λ (r : Option ℕ). host_scan (scan_of number_at (map (host_line_verdict claim) (lines_of file))) r (first_after None is_blind (numbered 1 (lines_of file))))
+    (scanned-scan_of admitting_number (host_line_verdict claim) file)
+    ∙ ap (λ (r : Option ℕ). host_scan (scan_of admitting_number (map (host_line_verdict claim) (lines_of file))) r (first_after None is_blind (numbered 1 (lines_of file))))
     (first-numbered (revokes_by claim) 1 (lines_of file))
-    ∙ ap (λ (b : Option ℕ). host_scan (scan_of number_at (map (host_line_verdict claim) (lines_of file))) (first_number (revokes_by claim) 1 (lines_of file)) b)
+    ∙ ap (λ (b : Option ℕ). host_scan (scan_of admitting_number (map (host_line_verdict claim) (lines_of file))) (first_number (revokes_by claim) 1 (lines_of file)) b)
     (first-numbered is_blind 1 (lines_of file))

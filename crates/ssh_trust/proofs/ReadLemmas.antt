@@ -9,7 +9,7 @@ use Rattle.ssh_offers.specs.declared.error.AuditError.TheVariants.{Offer, Signat
 use Rattle.ssh_trust.specs.declared.decision.Decision.{Decision}
 use Rattle.ssh_trust.specs.declared.pieces.Pieces.{Pieces}
 use Rattle.ssh_trust.specs.declared.search.Search.{Search}
-use Rattle.ssh_trust.specs.Answer.{Gives, RefusesAs, if_short}
+use Rattle.ssh_trust.specs.Answer.{GivesOrMemory, RefusesAs, if_short}
 use Rattle.ssh_text.specs.Text.{file_limit}
 use Rattle.ssh_trust.specs.Audit.{HasRead, HasTaken}
 use Rattle.ssh_trust.specs.Reads.{AnswersReader, HoldsOfRead, IsFedBy, StopsBy, piece_size}
@@ -145,7 +145,7 @@ fed-partly Found audit after bytes piece old now new e h consumed few why =
 -- ---- the answer
 
 stopped : (P : Type 0) (new : Option (List ℕ)) (given : List ℕ) (d : Decision) (e : AuditError) → StopsBy P new (0 + length given) (Err e)
-    → (◌≡◌ {A = Result Decision AuditError} (Err e) (Err Read) → ⊥) → Gives (if_short given d) (Err e)
+    → (◌≡◌ {A = Result Decision AuditError} (Err e) (Err Read) → ⊥) → GivesOrMemory (if_short given d) (Err e)
 stopped P new given d FileTooLong h n = rw (lt-ltb file_limit (length given) (omega (arith, h))) refl
 stopped P new given d Memory h n = tt
 stopped P new given d Read h n = absurd (n refl)
@@ -176,7 +176,7 @@ at-end new (Err e) h = tt
 
 -- an audit that took all that the reader had
 pub answers-whole : (P : List ℕ → Type 0) (old new : Option (List ℕ)) (of_file : List ℕ → Result Decision AuditError) (result : Result Decision AuditError)
-    → (h : IsFedBy P old new 0 (Ok tt)) → ((file : List ℕ) → P file → Gives (of_file file) result) → AnswersReader old new of_file result
+    → (h : IsFedBy P old new 0 (Ok tt)) → ((file : List ℕ) → P file → GivesOrMemory (of_file file) result) → AnswersReader old new of_file result
 answers-whole P old new of_file result h answer = record {
   given = h.given;
   consumed = h.consumed;
@@ -197,7 +197,7 @@ made-claims (Ok claim) audit P h = tt
 made-claims (Err e) audit P h = cc
 
 -- a file's answer is no failed read
-pub answers-not : (file : List ℕ) (d : Decision) → Gives (if_short file d) (Err Read) → ⊥
+pub answers-not : (file : List ℕ) (d : Decision) → GivesOrMemory (if_short file d) (Err Read) → ⊥
 answers-not file d h = elim (cases_Bool (nat_lt file_limit (length file))) [
   | inl t ↦ let bad : ◌≡◌ {A = Result Decision AuditError} (Err FileTooLong) (Err Read) = rw t at h in cc
   | inr f ↦ let bad : ◌≡◌ {A = Result Decision AuditError} (Ok d) (Err Read) = rw f at h in cc

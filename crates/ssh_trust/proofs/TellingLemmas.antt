@@ -35,7 +35,7 @@ use Rattle.ssh_trust.specs.Candidate.{IsFirstAdmitted, admits, before_candidate,
 use Rattle.ssh_trust.specs.LoginDecision.{IsCandidate, candidate_at, cause_by, decision_by, decision_of, line_verdict, login_decision, verdicts}
 use Rattle.ssh_trust.specs.Telling.{AreReasons, HostTells, HostReason, IsPassedOver, IsFirstUnvouched, LoginTells, LoginReason, RisesFrom}
 use Rattle.ssh_trust.specs.HostDecision.{IsHostCandidate, RevokesOwn, host_decision, host_decision_by, revocation_cause}
-use Rattle.ssh_trust.specs.HostScan.{first_number, host_line_verdict, host_scan_of, is_blind, number_at, revokes_by}
+use Rattle.ssh_trust.specs.HostScan.{first_number, host_line_verdict, host_scan_of, is_blind, admitting_number, revokes_by}
 use Rattle.ssh_trust.proofs.CandidateLemmas.{AreBytes, Judges, at-place, candidate-is, line-bytes, line-of, map-at, map-from, no-candidate, some-same, stands-admits}
 use Rattle.ssh_trust.proofs.HostMeaningLemmas.{blind-decides, host-judges, least-at, none-at, revokes-decides}
 use Rattle.ssh_rights.specs.SecurityKeys.{TouchSuffices, VerificationSuffices}
@@ -354,7 +354,7 @@ host-trust-by : (file : List ℕ) (claim : HostClaim) (vouched : List Signed) �
     → first_number (revokes_by claim) 1 (lines_of file) ≡ None → first_number is_blind 1 (lines_of file) ≡ None
     → (c : Option (ℕ × KnownEntry)) → candidate_of (host_verdicts claim file) ≡ c
     → (u : Option ℕ) → first_unvouched vouched (host_evidence claim) ≡ u
-    → HostTells file claim vouched (host_decision_by None (option_map number_at c) u (reasons_of (host_verdicts claim file)) (host_evidence claim))
+    → HostTells file claim vouched (host_decision_by None (option_map admitting_number c) u (reasons_of (host_verdicts claim file)) (host_evidence claim))
 host-trust-by file claim vouched bytes r b None c u v =
     let unrevoked = none-at (revokes_by claim) (RevokesOwn claim.offer) (revokes-decides claim) file bytes r in
     let sighted = none-at is_blind Blind blind-decides file bytes b in
@@ -370,7 +370,7 @@ host-told-by : (file : List ℕ) (claim : HostClaim) (vouched : List Signed) →
     → (revoked : Option ℕ) → first_number (revokes_by claim) 1 (lines_of file) ≡ revoked
     → (blind : Option ℕ) → first_number is_blind 1 (lines_of file) ≡ blind
     → HostTells file claim vouched (host_decision_by (revocation_cause revoked blind)
-    (option_map number_at (candidate_of (host_verdicts claim file))) (first_unvouched vouched (host_evidence claim))
+    (option_map admitting_number (candidate_of (host_verdicts claim file))) (first_unvouched vouched (host_evidence claim))
     (reasons_of (host_verdicts claim file)) (host_evidence claim))
 host-told-by file claim vouched bytes (Some n) r blind b =
     (least-at (revokes_by claim) (RevokesOwn claim.offer) (revokes-decides claim) file bytes n r, host-reasons file claim bytes)

@@ -11,10 +11,10 @@ use Rattle.ssh_trust.specs.HostDecision.{host_decision}
 use Rattle.ssh_text.specs.Text.{file_limit}
 
 -- what a call returned is the answer, unless memory ran out
-abbrev pub Gives : {A : Type 0} → Result A AuditError → Result A AuditError → Type 0
-Gives answer (Ok x) = answer ≡ Ok x
-Gives answer (Err Memory) = ⊤
-Gives answer (Err e) = answer ≡ Err e
+abbrev pub GivesOrMemory : {A : Type 0} → Result A AuditError → Result A AuditError → Type 0
+GivesOrMemory answer (Ok x) = answer ≡ Ok x
+GivesOrMemory answer (Err Memory) = ⊤
+GivesOrMemory answer (Err e) = answer ≡ Err e
 
 -- a refused offer is refused as the definition says, whatever memory does
 abbrev pub RefusesAs : {C A : Type 0} → Result C AuditError → Result A AuditError → Type 0

@@ -12,6 +12,6 @@ pub record StandsAt (file : List ℕ) (i : ℕ) (line : List ℕ) : Type 0 where
   pub stands : slice_get lines (i - 1) ≡ Some line
 
 -- a line that is handed on has these bytes, or is marked, where they are more than a line may have
-abbrev pub IsText : Line → List ℕ → Type 0
-IsText (Whole text) line = text.now ≡ line
-IsText TooLong line = line_limit < length line
+abbrev pub IsHandedLine : Line → List ℕ → Type 0
+IsHandedLine (Whole text) line = text.now ≡ line
+IsHandedLine TooLong line = line_limit < length line

@@ -28,13 +28,13 @@ first_number holds n [] = None
 first_number holds n (line ∷ lines) = if holds line then Some n else first_number holds (n + 1) lines
 
 -- what a line that admits gives: its number
-abbrev pub number_at : ℕ × KnownEntry → ℕ
-number_at c = c.0
+abbrev pub admitting_number : ℕ × KnownEntry → ℕ
+admitting_number c = c.0
 
 -- what a whole file says
 unfoldable pub host_scan_of : HostClaim → List ℕ → HostScan
 host_scan_of claim file = record {
-  admission = scan_of number_at (map (host_line_verdict claim) (lines_of file));
+  admission = scan_of admitting_number (map (host_line_verdict claim) (lines_of file));
   revoked = first_number (revokes_by claim) 1 (lines_of file);
   blind = first_number is_blind 1 (lines_of file);
 }
@@ -52,7 +52,7 @@ first_so_far None n false = None
 
 abbrev pub host_scan_line : HostClaim → HostScan → ℕ × List ℕ → HostScan
 host_scan_line claim s x = record {
-  admission = scan_line number_at (host_line_verdict claim) s.admission x;
+  admission = scan_line admitting_number (host_line_verdict claim) s.admission x;
   revoked = first_so_far s.revoked x.0 (revokes_by claim x.1);
   blind = first_so_far s.blind x.0 (is_blind x.1);
 }

@@ -4,7 +4,7 @@ use Rattle.std.specs.Io.KnownBytes.{Consumes, IsAtEnd}
 use Rattle.ssh_offers.specs.declared.error.AuditError.{AuditError}
 use Rattle.ssh_offers.specs.declared.error.AuditError.TheVariants.{FileTooLong, Memory, Read}
 use Rattle.ssh_trust.specs.declared.decision.Decision.{Decision}
-use Rattle.ssh_trust.specs.Answer.{Gives}
+use Rattle.ssh_trust.specs.Answer.{GivesOrMemory}
 use Rattle.ssh_text.specs.Text.{file_limit}
 
 -- the most bytes of one read (this project's rule)
@@ -18,7 +18,7 @@ pub record AnswersReader (old new : Option (List ℕ)) (of_file : List ℕ → R
   pub consumed : Consumes old new given
   pub bounded : length given ≤ file_limit + piece_size
   pub to_end : OnOk result (IsAtEnd new)
-  pub answer : (result ≡ Err Read → ⊥) → Gives (of_file given) result
+  pub answer : (result ≡ Err Read → ⊥) → GivesOrMemory (of_file given) result
 
 -- the reader gave all that it had, and this is true of the file that those bytes are
 pub record HoldsOfRead (old new : Option (List ℕ)) (Holds : List ℕ → Type 0) : Type 0 where

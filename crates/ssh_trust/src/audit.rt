@@ -25,8 +25,8 @@ ghost use Rattle.ssh_offers.specs.declared.error.AuditError.TheVariants.{
   Read,
 };
 ghost use Rattle.ssh_text.specs.Text.{file_limit};
-ghost use Rattle.ssh_trust.specs.Answer.{Gives, OfClaim, RefusesAs, if_short};
-ghost use Rattle.ssh_trust.specs.Audit.{IsBounded, StandsFor};
+ghost use Rattle.ssh_trust.specs.Answer.{GivesOrMemory, OfClaim, RefusesAs, if_short};
+ghost use Rattle.ssh_trust.specs.Audit.{IsBounded, HasAudited};
 ghost use Rattle.ssh_trust.specs.Reads.{AnswersReader, HoldsOfRead, IsFedBy};
 
 use crate::decision::Decision;
@@ -81,7 +81,7 @@ impl<T: Sought<Said = S> + Drop, S: Listing + Drop> Audit<T, S> {
         ensures refused { RefusesAs (T.claim query.entry.now) result }
         // Else the audit stands for no bytes,
         ensures made { OfClaim (T.claim query.entry.now)
-            (λ claim. IfOk result (λ audit. StandsFor T.claimed T.nothing T.add claim audit [])) }
+            (λ claim. IfOk result (λ audit. HasAudited T.claimed T.nothing T.add claim audit [])) }
         // or memory was refused.
         ensures else_memory { OfClaim (T.claim query.entry.now)
             (λ claim. OnErr result (result ≡ Err Memory)) }
@@ -101,22 +101,22 @@ impl<T: Sought<Said = S> + Drop, S: Listing + Drop> Audit<T, S> {
     pub fn feed(&mut self, piece: &[u8]) -> Result<(), AuditError>
         // The audit stands for the piece too.
         ensures taken { OnOk result ((claim : T.Claim) (bytes : List ℕ)
-            → StandsFor T.claimed T.nothing T.add claim self.old bytes
-            → StandsFor T.claimed T.nothing T.add claim self.new (bytes ++ piece.now)) }
+            → HasAudited T.claimed T.nothing T.add claim self.old bytes
+            → HasAudited T.claimed T.nothing T.add claim self.new (bytes ++ piece.now)) }
         // A7 is answered exactly past the limit,
         ensures too_long { (claim : T.Claim) (bytes : List ℕ)
-            → StandsFor T.claimed T.nothing T.add claim self.old bytes
+            → HasAudited T.claimed T.nothing T.add claim self.old bytes
             → ((result ≡ Err FileTooLong) ↔ (file_limit < length bytes + length piece.now)) }
         // A10 exactly after a refusal,
         ensures failed { (result ≡ Err Failed) ↔ (self.old.failed ≡ true) }
         // and else nothing but out of memory.
         ensures else_memory { (claim : T.Claim) (bytes : List ℕ)
-            → StandsFor T.claimed T.nothing T.add claim self.old bytes
+            → HasAudited T.claimed T.nothing T.add claim self.old bytes
             → length bytes + length piece.now ≤ file_limit
             → OnErr result (result ≡ Err Memory) }
         // A piece of no bytes takes no memory.
         ensures nothing { (claim : T.Claim) (bytes : List ℕ)
-            → StandsFor T.claimed T.nothing T.add claim self.old bytes
+            → HasAudited T.claimed T.nothing T.add claim self.old bytes
             → length piece.now ≡ 0
             → IsOk result }
         // A refusal is for ever.
@@ -136,8 +136,8 @@ impl<T: Sought<Said = S> + Drop, S: Listing + Drop> Audit<T, S> {
         ensures unfailed { (result ≡ Err Read → ⊥) → R.unfailed reader.old reader.new }
         // The audit stands for what the reader gave too.
         ensures fed { (claim : T.Claim) (bytes : List ℕ)
-            → StandsFor T.claimed T.nothing T.add claim self.old bytes
-            → IsFedBy (λ given. StandsFor T.claimed T.nothing T.add claim self.new (bytes ++ given))
+            → HasAudited T.claimed T.nothing T.add claim self.old bytes
+            → IsFedBy (λ given. HasAudited T.claimed T.nothing T.add claim self.new (bytes ++ given))
             (R.left reader.old) (R.left reader.new) (length bytes) result }
         // A refusal is for ever.
         ensures left { OnErr result (self.new.failed ≡ true) }
@@ -154,12 +154,12 @@ impl<T: Sought<Said = S> + Drop, S: Listing + Drop> Audit<T, S> {
         ensures failed { self.failed ≡ true → result ≡ Err Failed }
         // A decision means what is said of it.
         ensures means { (claim : T.Claim) (bytes : List ℕ)
-            → StandsFor T.claimed T.nothing T.add claim self bytes
+            → HasAudited T.claimed T.nothing T.add claim self bytes
             → IfOk result (T.means bytes claim vouched.now) }
         // The whole answer, with cause, reasons and evidence, unless memory was refused.
         ensures answer { (claim : T.Claim) (bytes : List ℕ)
-            → StandsFor T.claimed T.nothing T.add claim self bytes
-            → Gives (if_short bytes (T.decision bytes claim vouched.now)) result }
+            → HasAudited T.claimed T.nothing T.add claim self bytes
+            → GivesOrMemory (if_short bytes (T.decision bytes claim vouched.now)) result }
     {
         let search = self.pieces.finish()?;
         let decision = search.decide(vouched)?;
@@ -178,7 +178,7 @@ impl<T: Sought<Said = S> + Drop, S: Listing + Drop> Audit<T, S> {
         ensures means { OfClaim (T.claim query.entry.now)
             (λ claim. IfOk result (T.means file.now claim vouched.now)) }
         ensures answer { OfClaim (T.claim query.entry.now)
-            (λ claim. Gives (if_short file.now (T.decision file.now claim vouched.now)) result) }
+            (λ claim. GivesOrMemory (if_short file.now (T.decision file.now claim vouched.now)) result) }
     {
         let mut audit = Audit::<T, S>::new(alloc, query)?;
         audit.feed(file)?;

@@ -7,7 +7,7 @@ ghost use Rattle.ssh_lines.specs.KnownSeen.{known_seen};
 ghost use Rattle.ssh_offers.specs.HostClaim.{HostClaim, host_claim};
 ghost use Rattle.ssh_offers.specs.Query.{host_check_of};
 ghost use Rattle.ssh_rules.specs.Revocation.{RevokesNothing};
-ghost use Rattle.ssh_trust.specs.FileLines.{IsText};
+ghost use Rattle.ssh_trust.specs.FileLines.{IsHandedLine};
 ghost use Rattle.ssh_trust.specs.Telling.{HostDecides};
 ghost use Rattle.ssh_trust.specs.HostDecision.{host_decision};
 ghost use Rattle.ssh_trust.specs.HostScan.{empty_host_scan, first_so_far, host_scan_line};
@@ -52,7 +52,7 @@ fn first_so_far(first: Option<u64>, number: u64, holds: bool) -> Option<u64>
 /// What a line says; one that is longer than a line may be is a revocation that cannot be read.
 #[tactic(auto, using(crate::proofs::LongLines::long_known))]
 fn view_of<'a>(line: Line<'a>, buffer: &'a mut KeyBuffer) -> KnownLineView<'a>
-    ensures { (text : List ℕ) → IsText line.entry text → known_seen result ≡ known_line text }
+    ensures { (text : List ℕ) → IsHandedLine line.entry text → known_seen result ≡ known_line text }
 {
     match line {
         Line::Whole(text) => read_known_view(text, buffer),
@@ -63,7 +63,7 @@ fn view_of<'a>(line: Line<'a>, buffer: &'a mut KeyBuffer) -> KnownLineView<'a>
 /// Whether the line can be a revocation.
 fn can_revoke_at(line: Line<'_>) -> bool
     ensures { (text : List ℕ)
-        → IsText line.entry text
+        → IsHandedLine line.entry text
         → result ≡ false
         → RevokesNothing (known_line text) }
 {

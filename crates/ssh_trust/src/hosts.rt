@@ -8,7 +8,7 @@ ghost use Rattle.ssh_offers.specs.HostClaim.{HostClaim, host_claim};
 ghost use Rattle.ssh_offers.specs.Evidence.{host_evidence};
 ghost use Rattle.ssh_trust.specs.Telling.{HostTells};
 ghost use Rattle.ssh_trust.specs.HostDecision.{HostMeans};
-ghost use Rattle.ssh_trust.specs.Answer.{Gives, OfClaim, RefusesAs, host_answer};
+ghost use Rattle.ssh_trust.specs.Answer.{GivesOrMemory, OfClaim, RefusesAs, host_answer};
 ghost use Rattle.ssh_trust.specs.Reads.{AnswersReader, HoldsOfRead};
 
 use crate::audit::HostAudit;
@@ -42,7 +42,7 @@ pub fn host(
         → IfOk result (HostTells file.now claim vouched.now) }
     // The whole answer, with cause, reasons and evidence, unless memory was refused.
     ensures answer { OfClaim (host_claim (host_check_of query.entry.now))
-        (λ claim. Gives (host_answer file.now claim vouched.now) result) }
+        (λ claim. GivesOrMemory (host_answer file.now claim vouched.now) result) }
 {
     HostAudit::of_file(alloc, file, query, vouched)
 }
@@ -95,7 +95,7 @@ pub fn evidence_of_host(alloc: Global, query: &HostQuery<'_>) -> Result<Items<Si
     ensures refused { RefusesAs (host_claim (host_check_of query.entry.now)) result }
     // The evidence, unless memory was refused.
     ensures evidence { OfClaim (host_claim (host_check_of query.entry.now))
-        (λ claim. Gives (Ok (host_evidence claim)) result) }
+        (λ claim. GivesOrMemory (Ok (host_evidence claim)) result) }
 {
     let claim = HostClaimView::read(query)?;
     let evidence = host_evidence(alloc, &claim)?;

@@ -9,7 +9,7 @@ ghost use Rattle.ssh_offers.specs.LoginClaim.{LoginClaim, login_claim};
 ghost use Rattle.ssh_offers.specs.Query.{login_of};
 ghost use Rattle.ssh_trust.specs.Telling.{LoginDecides};
 ghost use Rattle.ssh_trust.specs.LoginDecision.{candidate_at, login_decision, login_scan_line};
-ghost use Rattle.ssh_trust.specs.FileLines.{IsText};
+ghost use Rattle.ssh_trust.specs.FileLines.{IsHandedLine};
 ghost use Rattle.ssh_trust.specs.Scan.{empty_scan};
 
 use crate::decision::Decision;
@@ -58,7 +58,7 @@ fn candidate_at(
 /// What a line says, where it is not longer than a line may be.
 #[tactic(auto, using(crate::proofs::LongLines::long_auth))]
 fn view_of<'a>(line: Line<'a>, buffer: &'a mut KeyBuffer) -> AuthLineView<'a>
-    ensures { (text : List ℕ) → IsText line.entry text → line_seen result ≡ auth_line text }
+    ensures { (text : List ℕ) → IsHandedLine line.entry text → line_seen result ≡ auth_line text }
 {
     match line {
         Line::Whole(text) => read_auth_view(text, buffer),

@@ -8,7 +8,7 @@ ghost use Rattle.ssh_offers.specs.LoginClaim.{LoginClaim, login_claim};
 ghost use Rattle.ssh_offers.specs.Evidence.{login_evidence};
 ghost use Rattle.ssh_trust.specs.LoginDecision.{LoginMeans};
 ghost use Rattle.ssh_trust.specs.Telling.{LoginTells};
-ghost use Rattle.ssh_trust.specs.Answer.{Gives, OfClaim, RefusesAs, login_answer};
+ghost use Rattle.ssh_trust.specs.Answer.{GivesOrMemory, OfClaim, RefusesAs, login_answer};
 ghost use Rattle.ssh_trust.specs.Reads.{AnswersReader, HoldsOfRead};
 
 use crate::audit::LoginAudit;
@@ -45,7 +45,7 @@ pub fn login(
         → IfOk result (LoginTells file.now claim vouched.now) }
     // The whole answer, with cause, reasons and evidence, unless memory was refused.
     ensures answer { OfClaim (login_claim (login_of query.entry.now))
-        (λ claim. Gives (login_answer file.now claim vouched.now) result) }
+        (λ claim. GivesOrMemory (login_answer file.now claim vouched.now) result) }
 {
     LoginAudit::of_file(alloc, file, query, vouched)
 }
@@ -102,7 +102,7 @@ pub fn evidence_of_login(alloc: Global, query: &LoginQuery<'_>) -> Result<Items<
     ensures refused { RefusesAs (login_claim (login_of query.entry.now)) result }
     // The evidence, unless memory was refused.
     ensures evidence { OfClaim (login_claim (login_of query.entry.now))
-        (λ claim. Gives (Ok (login_evidence claim)) result) }
+        (λ claim. GivesOrMemory (Ok (login_evidence claim)) result) }
 {
     let claim = LoginClaimView::read(query)?;
     let evidence = login_evidence(alloc, &claim)?;

@@ -17,7 +17,7 @@ ghost use Rattle.std.specs.List.{AllByRecursion};
 ghost use Rattle.ssh_offers.specs.declared.error.AuditError.TheVariants.{Memory, Read};
 ghost use Rattle.ssh_text.specs.Text.{lines_of, numbered};
 ghost use Rattle.ssh_trust.specs.Answer.{OfClaim, RefusesAs};
-ghost use Rattle.ssh_trust.specs.FileLines.{IsText};
+ghost use Rattle.ssh_trust.specs.FileLines.{IsHandedLine};
 ghost use Rattle.ssh_trust.specs.Findings.{HasFound, IsKept};
 
 use crate::decision::Decision;
@@ -62,7 +62,7 @@ impl<T: Sought<Said = S> + Drop, S: Listing + Drop> Search<T, S> {
     /// Takes the next line, which has this number. Out of memory, what is kept is worth nothing.
     pub(crate) fn take_line(&mut self, number: u64, line: Line<'_>) -> Result<(), AllocError>
         ensures found { OnOk result ((text : List ℕ)
-            → IsText line.entry text
+            → IsHandedLine line.entry text
             → (claim : T.Claim) (lines : List (ℕ × List ℕ))
             → HasFound T.claimed T.nothing T.add claim lines self.old
             → HasFound T.claimed T.nothing T.add claim (lines ++ (number, text) ∷ []) self.new) }

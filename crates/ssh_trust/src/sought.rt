@@ -23,7 +23,7 @@ ghost use Rattle.ssh_text.specs.Text.{lines_of, numbered};
 ghost use Rattle.ssh_trust.specs.declared.decision.Decision.{Decision as DecisionValue};
 ghost use Rattle.ssh_trust.specs.Answer.{OfClaim, RefusesAs};
 ghost use Rattle.ssh_trust.specs.Candidate.{reason_limit};
-ghost use Rattle.ssh_trust.specs.FileLines.{IsText};
+ghost use Rattle.ssh_trust.specs.FileLines.{IsHandedLine};
 ghost use Rattle.ssh_trust.specs.Scan.{after_lines};
 
 use crate::decision::Decision;
@@ -96,7 +96,7 @@ pub trait Sought {
         said: &mut Self::Said,
     ) -> Result<(), AllocError>
         ensures value { OnOk result ((text : List ℕ)
-            → IsText line.entry text
+            → IsHandedLine line.entry text
             → said.new ≡ add (claimed self.now) said.old (number, text)) }
         ensures few { length (Self.Said.reasons said.old) ≤ reason_limit
             → length (Self.Said.reasons said.new) ≤ reason_limit };

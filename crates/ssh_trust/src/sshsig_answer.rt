@@ -3,7 +3,7 @@
 ghost use Rattle.std.specs.Prelude.{◌≡◌, ◌≢◌, IfOk, Ok};
 ghost use Rattle.ssh_offers.specs.FileSignature.{sshsig_claim};
 ghost use Rattle.ssh_offers.specs.FileSignatureView.{sshsig_claim_of};
-ghost use Rattle.ssh_trust.specs.Answer.{Gives, OfClaim, RefusesAs};
+ghost use Rattle.ssh_trust.specs.Answer.{GivesOrMemory, OfClaim, RefusesAs};
 ghost use Rattle.ssh_trust.specs.SshsigAnswer.{SshsigMeans, sshsig_answer, vouched_answer};
 ghost use Rattle.ssh_trust.specs.declared.sshsig_answer.SshsigAnswer.TheVariants.{OtherNamespace};
 
@@ -74,7 +74,7 @@ pub fn sshsig(
     ensures means { IfOk result (SshsigMeans body.now message.now namespace.now vouched.now) }
     // The whole answer, with its evidence, unless memory was refused.
     ensures answer { OfClaim (sshsig_claim body.now)
-        (λ v. Gives (Ok (sshsig_answer v message.now namespace.now vouched.now)) result) }
+        (λ v. GivesOrMemory (Ok (sshsig_answer v message.now namespace.now vouched.now)) result) }
 {
     let claim = SshsigClaimView::read(body)?;
     let answer = answer_claim(alloc, &claim, message, namespace, vouched)?;

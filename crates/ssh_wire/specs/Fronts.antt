@@ -1,11 +1,15 @@
 -- What stands at the front of bytes: the text that was read there, or no value's spelling.
-use Rattle.std.proofs.Common.{◌≡◌, ℕ, ◌+◌, ◌<◌, List, ◌++◌, length, get_or}
+use Rattle.std.proofs.Common.{◌≡◌, ℕ, ◌+◌, ◌<◌, List, ◌++◌, length, take, get_or}
 use Rattle.ssh_wire.specs.declared.error.WireError.{WireError}
 use Rattle.ssh_wire.specs.Position.{Position}
 
 -- each of them is a byte
 abbrev pub IsBytes : List ℕ → Type 0
 IsBytes bytes = (i : ℕ) → get_or bytes i 0 < 256
+
+-- the old bytes are the front of the new ones
+abbrev pub Keeps : List ℕ → List ℕ → Type 0
+Keeps old new = take (length old) new ≡ old
 
 -- the text lies at the first position, and the second one is after it
 pub record Took (before : Position) (text : List ℕ) (after : Position) : Type 0 where

@@ -1,15 +1,15 @@
 use Rattle.std.proofs.Common.{map, rules}
-use Rattle.ssh_explain.specs.Explaining.{first_unknown}
+use Rattle.ssh_explain.specs.Explaining.{first_unknown_code}
 use Rattle.ssh_print.specs.ResponseView.{response}
 use Rattle.ssh_answers.proofs.ExplainLemmas.{known, unknown}
 use Rattle.ssh_answers.proofs.explain.explain_codes.Goals as goal
 
 pub returns-in-Ok : goal.returns-in-Ok
 returns-in-Ok c =
-    known response (first_unknown (map (λ code. code.now) c.args.codes.now)) c.in-Ok.lines c.in-Ok.lines.items (map (λ code. code.now) c.args.codes.now) c.explain_usage.result
+    known response (first_unknown_code (map (λ code. code.now) c.args.codes.now)) c.in-Ok.lines c.in-Ok.lines.items (map (λ code. code.now) c.args.codes.now) c.explain_usage.result
     c.in-Ok.ensures.unknown c.in-Ok.ensures.text c.explain_usage.ensures
 
 pub returns-in-Err-Unknown : goal.returns-in-Err-Unknown
 returns-in-Err-Unknown c =
-    unknown response (first_unknown (map (λ code. code.now) c.args.codes.now)) _ (map (λ code. code.now) c.args.codes.now) c.value_fault.result
+    unknown response (first_unknown_code (map (λ code. code.now) c.args.codes.now)) _ (map (λ code. code.now) c.args.codes.now) c.value_fault.result
     ((c.in-Err-Unknown.ensures.unknown c.in-Err-Unknown.field-0-0).0 (search rules)) c.value_fault.ensures

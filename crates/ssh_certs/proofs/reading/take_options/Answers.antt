@@ -1,5 +1,5 @@
 use Rattle.std.proofs.Common.{arith}
-use Rattle.ssh_certs.specs.CertificateReading.{option_at}
+use Rattle.ssh_certs.specs.CertificateReading.{cert_option_at}
 use Rattle.ssh_certs.specs.declared.error.CertError.TheVariants.{Options}
 use Rattle.ssh_certs.proofs.PackedLists.{string_after, packed_refused}
 use Rattle.ssh_certs.proofs.reading.take_options.Goals as goal
@@ -11,4 +11,4 @@ overflow_sub-first c =
 
 pub returns-in-Err-clause-exact : goal.returns-in-Err-clause-exact
 returns-in-Err-clause-exact c =
-    packed_refused option_at Options c.args.cursor.now c.in_ok-packed.packed.now c.take_string.new.self c.in-Err.e c.place.result c.in_ok-packed.ensures.exact c.in-Err.ensures.exact c.place.ensures
+    packed_refused cert_option_at Options c.args.cursor.now c.in_ok-packed.packed.now c.take_string.new.self c.in-Err.e c.place.result c.in_ok-packed.ensures.exact c.in-Err.ensures.exact c.place.ensures

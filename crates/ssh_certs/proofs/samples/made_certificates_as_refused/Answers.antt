@@ -6,7 +6,7 @@ use Rattle.ssh_keys.specs.PublicKey.{key_blob}
 use Rattle.ssh_keys.specs.KeyReading.{positive_at, point_at, public_at, fields_at, blob_at, key_in}
 use Rattle.ssh_keys.specs.Signature.{signature_blob, sk_at, signature_at, signature_in}
 use Rattle.ssh_certs.specs.Certificate.{signed_part, certificate_blob}
-use Rattle.ssh_certs.specs.CertificateReading.{items_within, packed_at, signer_at, signature_at as certificate_signature_at, certificate_at, certificate_in}
+use Rattle.ssh_certs.specs.CertificateReading.{items_within, packed_at, signer_at, cert_signature_at as certificate_signature_at, certificate_at, certificate_in}
 use Rattle.ssh_certs.proofs.samples.made_certificates_as_refused.Goals as goal
 
 pub returns : goal.returns

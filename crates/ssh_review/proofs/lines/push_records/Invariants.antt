@@ -2,7 +2,7 @@ use Rattle.std.proofs.Common.{◌≡◌, ◌≤◌, ◌+◌, ◌++◌, [], List}
 use Rattle.ssh_text.specs.Text.{lines_of, numbered}
 use Rattle.ssh_findings.specs.Asking.{asking_of}
 use Rattle.ssh_findings.specs.Earlier.{Held}
-use Rattle.ssh_findings.specs.Keeping.{StandsFor}
+use Rattle.ssh_findings.specs.Keeping.{RemembersEntries}
 use Rattle.ssh_findings.specs.Memory.{bytes_kept, keys_kept}
 use Rattle.ssh_review.specs.Counting.{plus}
 use Rattle.ssh_review.specs.Lines.{counts_of, held_lines, records_of}
@@ -12,7 +12,7 @@ use Rattle.ssh_review.proofs.lines.push_records.Given as goal
 abbrev pub invariant-loop-number : goal.invariant-loop-number
 invariant-loop-number l =
     (goal.iterator-loop-number).can_next l.number-iterator × (goal.iterator-loop-number).is_finite l.number-iterator
-    × ((held : List Held) × StandsFor l.earlier held
+    × ((held : List Held) × RemembersEntries l.earlier held
     × (l.out.items ++ records_of l.form (asking_of l.asked) l.name held (numbered (l.number-iterator).0 (lines_of (l.number-iterator).1))
     ≡ l.initial.out.items ++ records_of l.form (asking_of l.asked) l.name [] (numbered 1 (lines_of l.file)))
     × (plus l.counts (counts_of (asking_of l.asked) held (numbered (l.number-iterator).0 (lines_of (l.number-iterator).1)))

@@ -1,6 +1,6 @@
 use Rattle.std.proofs.Common.{◌≡◌, ◌++◌}
 use Rattle.ssh_options.specs.OptionText.{escaped}
-use Rattle.ssh_rewriting.specs.Kept.{Keeps}
+use Rattle.ssh_wire.specs.Fronts.{Keeps}
 use Rattle.ssh_rewriting.proofs.options.put_escaped.Given as goal
 
 abbrev pub invariant-loop-byte : goal.invariant-loop-byte

@@ -1,7 +1,7 @@
 use Rattle.std.proofs.Common.{◌≡◌, ◌++◌}
 use Rattle.std.specs.List.{flat_map}
 use Rattle.ssh_rewriting.specs.Canonical.{after_comma}
-use Rattle.ssh_rewriting.specs.Kept.{Keeps}
+use Rattle.ssh_wire.specs.Fronts.{Keeps}
 use Rattle.ssh_rewriting.proofs.options.put_others.Given as goal
 
 abbrev pub invariant-loop-option : goal.invariant-loop-option
