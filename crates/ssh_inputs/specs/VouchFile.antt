@@ -1,16 +1,13 @@
 -- A vouch file: lines of three hexadecimal fields, parted by one space.
 use Rattle.std.specs.Prelude.{◌∷◌, [], ◌==◌, ◌+◌, ℕ, Bool, true, false, is_some, List, Option, Some, None, Result, Ok, Err, take, drop, option_map, option_and_then, if◌then◌else◌, ◌≡◌, ⊤}
 use Rattle.std.specs.List.{list_any, position}
+use Rattle.ssh_patterns.specs.Cut.{◌>>=◌}
 use Rattle.ssh_offers.specs.declared.query.Signed.{Signed}
 use Rattle.ssh_text.specs.Text.{lines_of}
 use Rattle.ssh_inputs.specs.declared.vouch.VouchError.{VouchError}
 use Rattle.ssh_inputs.specs.declared.vouch.VouchError.TheVariants.{Line, Memory}
 use Rattle.ssh_inputs.specs.Values.{hex_bytes}
 use Rattle.ssh_inputs.specs.Words.{is_space}
-
-infixl 10 ◌>>=◌
-abbrev pub ◌>>=◌ : {A B : Type 0} → Option A → (A → Option B) → Option B
-o >>= f = option_and_then f o
 
 abbrev pub signed_of : Option (List ℕ) → Option (List ℕ) → Option (List ℕ) → Option Signed
 signed_of (Some key) (Some message) (Some signature) = Some (record { key = key; message = message; signature = signature })

@@ -1,11 +1,11 @@
 -- The names of a known_hosts line (sshd(8), SSH_KNOWN_HOSTS FILE FORMAT).
-use Rattle.std.specs.Prelude.{◌≡◌, ◌≢◌, ℕ, Bool, true, false, ◌==◌, if◌then◌else◌, List, [], ◌∷◌, ◌++◌, length, take, drop, codes, bytes_eq, decimal, Option, Some, None, option_and_then, Result, Ok, Err}
+use Rattle.std.specs.Prelude.{◌≡◌, ◌≢◌, ℕ, Bool, true, false, ◌==◌, if◌then◌else◌, List, [], ◌∷◌, ◌++◌, length, take, drop, codes, bytes_eq, decimal, Option, Some, None, Result, Ok, Err}
 use Rattle.std.specs.List.{Any, list_any, AllByRecursion}
 use Rattle.std.specs.Str.{str_to_ascii_lowercase}
 use Rattle.base64.specs.GeneralPurpose.{encode_of, decode_of, IsBytes}
 use Rattle.base64.specs.Engines.{standard}
 use Rattle.base64.specs.declared.decode.DecodeError.{DecodeError}
-use Rattle.ssh_patterns.specs.Cut.{after_mark}
+use Rattle.ssh_patterns.specs.Cut.{◌>>=◌, after_mark}
 use Rattle.ssh_patterns.specs.Lists.{Permits, MatchesInLowerCase, items_of, host_list}
 use Rattle.ssh_patterns.specs.Matching.{is_empty}
 use Rattle.ssh_names.specs.declared.error.NamesError.{NamesError}
@@ -96,11 +96,6 @@ IsNamesFault faults.EmptyItem field =
     (begins_with_bar field ≡ false) × Any (λ item. item.text ≡ []) (items_of field)
 
 -- ---- reading
-
--- a step, and what comes after it where the step found something
-infixl 10 ◌>>=◌
-abbrev pub ◌>>=◌ : {A B : Type 0} → Option A → (A → Option B) → Option B
-found >>= next = option_and_then next found
 
 -- bytes that were decoded, if they are 20
 abbrev pub if_twenty : Result (List ℕ) DecodeError → Option (List ℕ)

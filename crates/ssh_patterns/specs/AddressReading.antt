@@ -1,16 +1,11 @@
 -- The address that a text spells, computed from the text (RFC 4291, section 2.2).
-use Rattle.std.specs.Prelude.{ℕ, ◌+◌, ◌-◌, nat_lt, nat_le, Bool, true, false, ◌&&◌, ◌==◌, if◌then◌else◌, List, [], ◌∷◌, ◌++◌, length, replicate, codes, Option, Some, None, option_and_then, option_map}
+use Rattle.std.specs.Prelude.{ℕ, ◌+◌, ◌-◌, nat_lt, nat_le, Bool, true, false, ◌&&◌, ◌==◌, if◌then◌else◌, List, [], ◌∷◌, ◌++◌, length, replicate, codes, Option, Some, None, option_map}
 use Rattle.std.specs.List.{list_any, slice_split}
 use Rattle.ssh_patterns.specs.declared.address.Address.{Address}
 use Rattle.ssh_patterns.specs.declared.address.Address.TheVariants.{V4, V6}
 use Rattle.ssh_patterns.specs.AddressText.{dot, colon, pairs}
-use Rattle.ssh_patterns.specs.Cut.{cut_at}
+use Rattle.ssh_patterns.specs.Cut.{◌>>=◌, cut_at}
 use Rattle.ssh_patterns.specs.Digits.{number_in_radix, decimal_of, below, number_to_base}
-
--- a step, and what comes after it where the step found something
-infixl 10 ◌>>=◌
-abbrev pub ◌>>=◌ : {A B : Type 0} → Option A → (A → Option B) → Option B
-found >>= next = option_and_then next found
 
 -- the octet of a decimal number
 abbrev pub octet_of : List ℕ → Option ℕ

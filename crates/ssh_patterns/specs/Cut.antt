@@ -1,5 +1,10 @@
 -- Texts that are cut at a mark.
-use Rattle.std.specs.Prelude.{ℕ, ◌==◌, if◌then◌else◌, List, [], ◌∷◌, Option, Some, None, option_map}
+use Rattle.std.specs.Prelude.{ℕ, ◌==◌, if◌then◌else◌, List, [], ◌∷◌, Option, Some, None, option_and_then, option_map}
+
+-- a step, and what comes after it where the step found something (a `do` block of finding wants this name)
+infixl 10 ◌>>=◌
+abbrev pub ◌>>=◌ : {A B : Type 0} → Option A → (A → Option B) → Option B
+found >>= next = option_and_then next found
 
 -- what follows the mark at the front of a text
 abbrev pub after_mark : List ℕ → List ℕ → Option (List ℕ)
