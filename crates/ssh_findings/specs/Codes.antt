@@ -44,10 +44,9 @@ default_codes =
 -- every code, in the order of the numbers
 abbrev pub all_codes : List Code
 all_codes =
-    code.Unreadable ∷ code.SameKey ∷ code.NeverDecides ∷ code.GivesMore ∷ code.ShortKey ∷ code.Expired ∷ code.PermitsNobody
-    ∷ code.ReadOtherwise ∷ code.ForcedButForwards ∷ code.BlindRevocation ∷ code.OtherKey ∷ code.TrustedAndRevoked
-    ∷ code.PatternHosts ∷ code.EveryHost ∷ code.AnyAddress ∷ code.AnyCommand ∷ code.NoExpiry ∷ code.AnyPrincipal
-    ∷ code.NoComment ∷ code.NamesInClear ∷ code.SameHostKey ∷ []
+    default_codes
+    ++ code.AnyAddress ∷ code.AnyCommand ∷ code.NoExpiry ∷ code.AnyPrincipal ∷ code.NoComment ∷ code.NamesInClear
+    ∷ code.SameHostKey ∷ []
 
 -- the first of some codes that is printed so, if one is
 abbrev pub named_in : List Code → List ℕ → Option Code

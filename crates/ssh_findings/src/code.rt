@@ -76,29 +76,12 @@ impl Code {
         Code::SameHostKey,
     ];
 
-    /// The codes that are told where nothing else is asked for: what is wrong under any policy.
-    pub const BY_DEFAULT: [Code; 14] = [
-        Code::Unreadable,
-        Code::SameKey,
-        Code::NeverDecides,
-        Code::GivesMore,
-        Code::ShortKey,
-        Code::Expired,
-        Code::PermitsNobody,
-        Code::ReadOtherwise,
-        Code::ForcedButForwards,
-        Code::BlindRevocation,
-        Code::OtherKey,
-        Code::TrustedAndRevoked,
-        Code::PatternHosts,
-        Code::EveryHost,
-    ];
-
-    /// The codes that are told where nothing else is asked for: F1 to F14.
+    /// The codes that are told where nothing else is asked for: what is wrong under any policy, F1
+    /// to F14.
     pub fn by_default() -> &'static [Code]
         ensures { result.now ≡ default_codes }
     {
-        &Code::BY_DEFAULT
+        &Code::ALL[..14]
     }
 
     /// The code as it is printed.

@@ -7,7 +7,7 @@
 //! something has to be mended:
 //!
 //! ```
-//! let asked = Asked { now, zone, rsa_minimum: 2048, told: &Code::BY_DEFAULT };
+//! let asked = Asked { now, zone, rsa_minimum: 2048, told: Code::by_default() };
 //! let reviewed = review_known(alloc, Form::Text, &asked, name, file)?;
 //! out.extend_from_slice(&reviewed.text)?;
 //! Ok(reviewed.counts.findings > 0)

@@ -13,7 +13,7 @@ fn file_as_reviewed(rt: HostRuntime) -> Result<(), Fail> {
         now: 1_770_000_000,
         zone: &zone,
         rsa_minimum: 2048,
-        told: &Code::BY_DEFAULT,
+        told: Code::by_default(),
     };
     let text = review_auth(rt.alloc(), Form::Text, &asked, b"web1/ann", FILE)?;
     assert_eq!(rt; text.text.as_slice(), TEXT);
@@ -31,7 +31,7 @@ fn odd_bytes_as_reviewed(rt: HostRuntime) -> Result<(), Fail> {
         now: 1_770_000_000,
         zone: &zone,
         rsa_minimum: 2048,
-        told: &Code::BY_DEFAULT,
+        told: Code::by_default(),
     };
     let text = review_auth(rt.alloc(), Form::Text, &asked, b"odd", ODD_FILE)?;
     assert_eq!(rt; text.text.as_slice(), ODD_TEXT);

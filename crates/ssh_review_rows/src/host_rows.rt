@@ -85,7 +85,7 @@ fn file_as_found(rt: HostRuntime) -> Result<(), Fail> {
         now: 0,
         zone: &zone,
         rsa_minimum: 2048,
-        told: &Code::BY_DEFAULT,
+        told: Code::by_default(),
     };
     let text = told(rt.alloc(), &asked, FILE)?;
     assert_eq!(rt;

@@ -57,7 +57,7 @@ fn hosts_as_reviewed(rt: HostRuntime) -> Result<(), Fail> {
         now: 1_770_000_000,
         zone: &zone,
         rsa_minimum: 2048,
-        told: &Code::BY_DEFAULT,
+        told: Code::by_default(),
     };
     let name = b"known/ssh_known_hosts";
     let text = review_known(rt.alloc(), Form::Text, &asked, name, FILE)?;
