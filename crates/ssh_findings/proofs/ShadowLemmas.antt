@@ -1,5 +1,5 @@
 -- Who is let in by a line is let in by an earlier one of the same key that is free; and a bad list lets nobody in.
-use Rattle.std.proofs.Common.{◌≡◌, ◌∙◌, ◌==◌, ◌||◌, ◌&&◌, ◌<◌, ℕ, zero, suc, Bool, true, false, not, cond, List, [], ◌∷◌, Option, Some, None, length, ap, sym, refl, subst, arith}
+use Rattle.std.proofs.Common.{◌≡◌, ◌∙◌, ◌==◌, ◌||◌, ◌&&◌, ◌<◌, ℕ, zero, suc, Bool, true, false, not, cond, List, [], ◌∷◌, Option, Some, None, length, sym, refl, subst, arith}
 use Rattle.std.specs.Prelude.{bytes_eq, find, is_some}
 use Rattle.std.specs.List.{AllByRecursion, list_any, slice_index_or}
 use Rattle.std.proofs.lemmas.Bool.{and_parts, ne_eqb}

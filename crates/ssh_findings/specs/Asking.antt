@@ -1,5 +1,5 @@
 -- What a review is asked for, without where it lies in memory.
-use Rattle.std.specs.Prelude.{ℕ, Bool, List}
+use Rattle.std.specs.Prelude.{ℕ, Bool, nat_lt, if◌then◌else◌, List, Option, Some, None}
 use Rattle.std.specs.List.{list_any}
 use Rattle.jiff.specs.Types.{TimeZone}
 use Rattle.jiff.specs.Words.{plain_zone}
@@ -23,3 +23,8 @@ asking_of a = record { now = a.now; zone = plain_zone a.zone.now; rsa_minimum = 
 -- whether findings of this code are told
 abbrev pub is_told : Asking → Code → Bool
 is_told asking code = list_any (λ c. same_code c code) asking.told
+
+-- the size of an RSA key, if it has one with fewer bits than are asked for
+abbrev pub short_size : Asking → Option ℕ → Option ℕ
+short_size asking None = None
+short_size asking (Some bits) = if nat_lt bits asking.rsa_minimum then Some bits else None

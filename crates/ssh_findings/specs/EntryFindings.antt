@@ -1,5 +1,5 @@
 -- What is found of an entry, in the order of the codes (this project's rule; F8 by what OpenSSH was seen to do).
-use Rattle.std.specs.Prelude.{ℕ, Bool, true, false, not, ◌&&◌, ◌||◌, ◌==◌, nat_lt, if◌then◌else◌, List, [], ◌∷◌, ◌++◌, length, Option, Some, None, is_some}
+use Rattle.std.specs.Prelude.{ℕ, Bool, true, false, not, ◌&&◌, ◌||◌, ◌==◌, List, ◌++◌, length, Option, Some, None, is_some, option_map}
 use Rattle.ssh_keys.specs.declared.kind.KeyKind.{KeyKind}
 use Rattle.ssh_keys.specs.declared.kind.KeyKind.TheVariants as kind
 use Rattle.ssh_options.specs.declared.cause.LineCause.{LineCause}
@@ -7,20 +7,12 @@ use Rattle.ssh_rights.specs.declared.rights.Rights.{Rights}
 use Rattle.ssh_findings.specs.declared.facts.Facts.{Facts}
 use Rattle.ssh_findings.specs.declared.finding.Finding.{Finding}
 use Rattle.ssh_findings.specs.declared.finding.Finding.TheVariants as finding
-use Rattle.ssh_findings.specs.Asking.{Asking, is_told}
+use Rattle.ssh_findings.specs.Asking.{Asking, short_size}
 use Rattle.ssh_findings.specs.Earlier.{Held, repeat_after}
 use Rattle.ssh_findings.specs.Findings.{code_of}
 use Rattle.ssh_findings.specs.Lists.{has_empty_name, has_name, is_bad_list, is_for_any_address}
 use Rattle.ssh_findings.specs.Moments.{is_known_past}
-
--- a finding, where it holds and its code is told
-unfoldable pub told_if : Asking → Bool → Finding → List Finding
-told_if asking holds f = if holds && is_told asking (code_of f) then f ∷ [] else []
-
--- F5: an RSA key with fewer bits than are asked for
-abbrev pub short_findings : Asking → Option ℕ → List Finding
-short_findings asking None = []
-short_findings asking (Some bits) = told_if asking (nat_lt bits asking.rsa_minimum) (finding.ShortKey bits)
+use Rattle.ssh_findings.specs.Telling.{told_if, told_some}
 
 -- a `from` list that permits nobody
 abbrev pub permits_bad : Option (List ℕ) → Bool
@@ -43,10 +35,10 @@ names_nobody f = f.is_authority && is_some f.principals && not (has_name_in f.pr
 -- F5 to F7: a short key; an expiry time that is past; a list that permits nobody
 abbrev pub condition_findings : Asking → Facts → List Finding
 condition_findings asking f =
-    short_findings asking f.bits
-    ++ told_if asking (is_known_past asking.now f.until) finding.Expired
-    ++ told_if asking (permits_bad f.from) finding.BadSources
-    ++ told_if asking (names_nobody f) finding.NoPrincipal
+    told_some code_of asking (option_map finding.ShortKey (short_size asking f.bits))
+    ++ told_if code_of asking (is_known_past asking.now f.until) finding.Expired
+    ++ told_if code_of asking (permits_bad f.from) finding.BadSources
+    ++ told_if code_of asking (names_nobody f) finding.NoPrincipal
 
 abbrev pub is_security_key : KeyKind → Bool
 is_security_key kind.Rsa = false
@@ -60,10 +52,10 @@ is_security_key kind.SkEd25519 = true
 -- F8: `principals` of a plain key; an empty name among others; `verify-required` of a key that cannot; a time without `Z`
 abbrev pub reading_findings : Asking → Facts → List Finding
 reading_findings asking f =
-    told_if asking (not f.is_authority && is_some f.principals) finding.PlainPrincipals
-    ++ told_if asking (f.is_authority && has_empty_in f.principals && has_name_in f.principals) finding.EmptyPrincipal
-    ++ told_if asking (not f.is_authority && f.verify_required && not (is_security_key f.kind)) finding.VerifyIgnored
-    ++ told_if asking f.has_local_time finding.LocalTime
+    told_if code_of asking (not f.is_authority && is_some f.principals) finding.PlainPrincipals
+    ++ told_if code_of asking (f.is_authority && has_empty_in f.principals && has_name_in f.principals) finding.EmptyPrincipal
+    ++ told_if code_of asking (not f.is_authority && f.verify_required && not (is_security_key f.kind)) finding.VerifyIgnored
+    ++ told_if code_of asking f.has_local_time finding.LocalTime
 
 -- F9: a command is forced, and TCP, the agent or X11 may be forwarded
 abbrev pub forces_but_forwards : Rights → Bool
@@ -77,26 +69,21 @@ permits_any (Some list) = is_for_any_address list
 -- F15 to F19: from any address; any command; for ever; for any principal; no comment
 abbrev pub policy_findings : Asking → Facts → List Finding
 policy_findings asking f =
-    told_if asking (not f.is_authority && permits_any f.from) finding.AnyAddress
-    ++ told_if asking (not f.is_authority && not (is_some f.rights.command)) finding.AnyCommand
-    ++ told_if asking (not f.is_authority && not f.has_expiry) finding.NoExpiry
-    ++ told_if asking (f.is_authority && not (is_some f.principals)) finding.AnyPrincipal
-    ++ told_if asking (length f.comment == 0) finding.NoComment
-
--- a finding of what stands on earlier lines, if there is one
-abbrev pub repeat_findings : Asking → Option Finding → List Finding
-repeat_findings asking None = []
-repeat_findings asking (Some f) = told_if asking true f
+    told_if code_of asking (not f.is_authority && permits_any f.from) finding.AnyAddress
+    ++ told_if code_of asking (not f.is_authority && not (is_some f.rights.command)) finding.AnyCommand
+    ++ told_if code_of asking (not f.is_authority && not f.has_expiry) finding.NoExpiry
+    ++ told_if code_of asking (f.is_authority && not (is_some f.principals)) finding.AnyPrincipal
+    ++ told_if code_of asking (length f.comment == 0) finding.NoComment
 
 -- what is found of an entry with this blob, after these entries, and told
 unfoldable pub entry_findings : Asking → List Held → List ℕ → Facts → List Finding
 entry_findings asking earlier blob f =
-    repeat_findings asking (repeat_after earlier blob f)
+    told_some code_of asking (repeat_after earlier blob f)
     ++ condition_findings asking f
     ++ reading_findings asking f
-    ++ told_if asking (not f.is_authority && forces_but_forwards f.rights) finding.ForcedButForwards
+    ++ told_if code_of asking (not f.is_authority && forces_but_forwards f.rights) finding.ForcedButForwards
     ++ policy_findings asking f
 
 -- what is found of a line that cannot be read and told: F1
 abbrev pub unreadable_findings : Asking → LineCause → List Finding
-unreadable_findings asking cause = told_if asking true (finding.Unreadable cause)
+unreadable_findings asking cause = told_if code_of asking true (finding.Unreadable cause)

@@ -1,5 +1,6 @@
 pub mod Codes
 pub mod Asking
+pub mod Telling
 pub mod Lists
 pub mod Moments
 pub mod Facts

@@ -1,7 +1,7 @@
 //! What a review is asked for.
 
 ghost use Rattle.std.specs.Prelude.{◌≡◌};
-ghost use Rattle.ssh_findings.specs.Asking.{asking_of, is_told};
+ghost use Rattle.ssh_findings.specs.Asking.{asking_of, is_told, short_size};
 
 use crate::code::Code;
 use jiff::tz::TimeZone;
@@ -25,5 +25,15 @@ impl Asked<'_> {
         ensures { result ≡ is_told (asking_of self.entry.now) code }
     {
         self.told.contains(&code)
+    }
+
+    /// The size of an RSA key, where it has fewer bits than are asked for. No memory is taken.
+    pub fn short_size(&self, bits: Option<u32>) -> Option<u32>
+        ensures { result ≡ short_size (asking_of self.entry.now) bits }
+    {
+        match bits {
+            Some(bits) if bits < self.rsa_minimum => Some(bits),
+            _ => None,
+        }
     }
 }

@@ -15,9 +15,6 @@ ghost use Rattle.ssh_findings.specs.EntryFindings.{
   permits_any,
   policy_findings,
   reading_findings,
-  repeat_findings,
-  short_findings,
-  told_if,
   unreadable_findings,
 };
 
@@ -27,66 +24,12 @@ use crate::facts::Facts;
 use crate::finding::Finding;
 use crate::list::{Pieces, is_bad_list};
 use crate::moments::is_past;
+use crate::telling::{tell, tell_some};
 use ssh_keys::KeyKind;
 use ssh_options::LineCause;
 use ssh_rights::Rights;
 use ssh_text::Bytes;
 use std::alloc::{AllocError, Global};
-
-/// Adds a finding, where it holds and is to be told.
-#[tactic(auto, unfolding(crate::specs::EntryFindings::told_if))]
-fn tell(
-    found: &mut Vec<Finding>,
-    asked: &Asked<'_>,
-    holds: bool,
-    finding: Finding,
-) -> Result<(), AllocError>
-    ensures value { OnOk result
-        (found.new.items ≡ found.old.items ++ told_if (asking_of asked.entry.now) holds finding) }
-    ensures spare { told_if (asking_of asked.entry.now) holds finding ≡ [] → IsOk result }
-{
-    if holds && asked.tells(finding.code()) {
-        found.push(finding)?;
-    }
-    Ok(())
-}
-
-/// F2 to F4.
-fn tell_repeat(
-    found: &mut Vec<Finding>,
-    asked: &Asked<'_>,
-    repeat: Option<Finding>,
-) -> Result<(), AllocError>
-    ensures value { OnOk result
-        (found.new.items ≡ found.old.items ++ repeat_findings (asking_of asked.entry.now) repeat) }
-    ensures spare { repeat_findings (asking_of asked.entry.now) repeat ≡ [] → IsOk result }
-{
-    match repeat {
-        Some(finding) => tell(found, asked, true, finding),
-        None => Ok(()),
-    }
-}
-
-/// F5.
-fn tell_short(
-    found: &mut Vec<Finding>,
-    asked: &Asked<'_>,
-    bits: Option<u32>,
-) -> Result<(), AllocError>
-    ensures value { OnOk result
-        (found.new.items ≡ found.old.items ++ short_findings (asking_of asked.entry.now) bits) }
-    ensures spare { short_findings (asking_of asked.entry.now) bits ≡ [] → IsOk result }
-{
-    match bits {
-        Some(bits) => tell(
-            found,
-            asked,
-            bits < asked.rsa_minimum,
-            Finding::ShortKey(bits),
-        ),
-        None => Ok(()),
-    }
-}
 
 /// Whether a `from` list permits nobody.
 fn permits_bad(list: &Option<Bytes>) -> bool
@@ -125,7 +68,8 @@ fn tell_conditions(
 {
     let (has_name, _) = names_of(&facts.principals);
     let nobody = facts.is_authority && facts.principals.is_some() && !has_name;
-    tell_short(found, asked, facts.bits)?;
+    let short = asked.short_size(facts.bits).map(Finding::ShortKey);
+    tell_some(found, asked, short)?;
     tell(
         found,
         asked,
@@ -234,7 +178,7 @@ pub fn entry_findings(
 {
     let mut found = Vec::new(alloc);
     let forces = !facts.is_authority && forces_but_forwards(&facts.rights);
-    tell_repeat(&mut found, asked, earlier.repeat(blob, facts))?;
+    tell_some(&mut found, asked, earlier.repeat(blob, facts))?;
     tell_conditions(&mut found, asked, facts)?;
     tell_readings(&mut found, asked, facts)?;
     tell(&mut found, asked, forces, Finding::ForcedButForwards)?;

@@ -1,9 +1,9 @@
 //! What is found of a line.
 
-ghost use Rattle.std.specs.Prelude.{◌≡◌};
 ghost use Rattle.ssh_findings.specs.Findings.{code_of};
 
 use crate::code::Code;
+use crate::telling::Coded;
 use ssh_options::LineCause;
 
 /// What is found of a line.
@@ -47,11 +47,10 @@ pub enum Finding {
     NoComment,
 }
 
-impl Finding {
-    /// The code by which it is told.
-    pub fn code(self) -> Code
-        ensures { result ≡ code_of self }
-    {
+impl Coded for Finding {
+    ghost code = { code_of };
+
+    fn code(self) -> Code {
         match self {
             Finding::Unreadable(_) => Code::Unreadable,
             Finding::SameKey(_) => Code::SameKey,

@@ -25,6 +25,7 @@ mod laws;
 mod list;
 mod moments;
 mod narrower;
+mod telling;
 mod told;
 
 pub use asked::Asked;
@@ -34,4 +35,5 @@ pub use entry::{entry_findings, unreadable_findings};
 pub use facts::{Facts, rsa_size};
 pub use finding::Finding;
 pub use list::Pieces;
+pub use telling::{Coded, tell, tell_some};
 pub use told::parse_codes;

@@ -2,5 +2,4 @@ pub mod TextKeys
 pub mod LeastLemmas
 pub mod EarlierLemmas
 pub mod NameLemmas
-pub mod SpareLemmas
 pub mod LawLemmas

@@ -1,7 +1,8 @@
 -- What is found of a known_hosts line, in the order of the codes (this project's rule; F8 by what OpenSSH was seen to do).
-use Rattle.std.specs.Prelude.{ℕ, Bool, true, not, ◌&&◌, nat_lt, if◌then◌else◌, List, [], ◌∷◌, ◌++◌, Option, Some, None, is_some}
+use Rattle.std.specs.Prelude.{ℕ, Bool, true, not, ◌&&◌, List, ◌++◌, Option, is_some, option_map}
 use Rattle.ssh_options.specs.declared.cause.LineCause.{LineCause}
-use Rattle.ssh_findings.specs.Asking.{Asking, is_told}
+use Rattle.ssh_findings.specs.Asking.{Asking, short_size}
+use Rattle.ssh_findings.specs.Telling.{told_if, told_some}
 use Rattle.ssh_host_findings.specs.declared.facts.HostFacts.{HostFacts}
 use Rattle.ssh_host_findings.specs.declared.finding.HostFinding.{HostFinding}
 use Rattle.ssh_host_findings.specs.declared.finding.HostFinding.TheVariants as finding
@@ -10,33 +11,11 @@ use Rattle.ssh_host_findings.specs.Findings.{host_code_of}
 use Rattle.ssh_host_findings.specs.Items.{has_pattern, names_all}
 use Rattle.ssh_host_findings.specs.HostLines.{HostLine}
 
--- a finding, where it holds and its code is told
-unfoldable pub host_told_if : Asking → Bool → HostFinding → List HostFinding
-host_told_if asking holds f = if holds && is_told asking (host_code_of f) then f ∷ [] else []
-
--- F5: an RSA key with fewer bits than are asked for
-abbrev pub host_short_findings : Asking → Option ℕ → List HostFinding
-host_short_findings asking None = []
-host_short_findings asking (Some bits) = host_told_if asking (nat_lt bits asking.rsa_minimum) (finding.ShortKey bits)
-
--- F11, F12 and F21: of a line that is named, if one is
-abbrev pub other_findings : Asking → Option ℕ → List HostFinding
-other_findings asking None = []
-other_findings asking (Some line) = host_told_if asking true (finding.OtherKey line)
-
-abbrev pub revoked_findings : Asking → Option ℕ → List HostFinding
-revoked_findings asking None = []
-revoked_findings asking (Some line) = host_told_if asking true (finding.TrustedAndRevoked line)
-
-abbrev pub same_findings : Asking → Option ℕ → List HostFinding
-same_findings asking None = []
-same_findings asking (Some line) = host_told_if asking true (finding.SameHostKey line)
-
 -- F5 and F8: a short key; a tab after the marker
 abbrev pub host_reading_findings : Asking → HostFacts → List HostFinding
 host_reading_findings asking f =
-    host_short_findings asking f.bits
-    ++ host_told_if asking f.has_marker_tab finding.MarkerTab
+    told_some host_code_of asking (option_map finding.ShortKey (short_size asking f.bits))
+    ++ told_if host_code_of asking f.has_marker_tab finding.MarkerTab
 
 -- one key for all hosts that a pattern names
 abbrev pub is_for_pattern : HostFacts → Bool
@@ -53,18 +32,23 @@ is_in_clear f = not f.is_authority && is_some f.list
 -- F13, F14 and F20: by the names
 abbrev pub name_findings : Asking → HostFacts → List HostFinding
 name_findings asking f =
-    host_told_if asking (is_for_pattern f) finding.PatternHosts
-    ++ host_told_if asking (is_for_all f) finding.EveryHost
-    ++ host_told_if asking (is_in_clear f) finding.NamesInClear
+    told_if host_code_of asking (is_for_pattern f) finding.PatternHosts
+    ++ told_if host_code_of asking (is_for_all f) finding.EveryHost
+    ++ told_if host_code_of asking (is_in_clear f) finding.NamesInClear
+
+-- F11 and F12: of other lines, where they are named
+abbrev pub line_findings : Asking → Option ℕ → Option ℕ → List HostFinding
+line_findings asking other revoked =
+    told_some host_code_of asking (option_map finding.OtherKey other)
+    ++ told_some host_code_of asking (option_map finding.TrustedAndRevoked revoked)
 
 -- what is found of an entry that says this, by the lines of F11, F12 and F21, and told
 unfoldable pub findings_by : Asking → HostFacts → Option ℕ → Option ℕ → Option ℕ → List HostFinding
 findings_by asking f other revoked same =
     host_reading_findings asking f
-    ++ other_findings asking other
-    ++ revoked_findings asking revoked
+    ++ line_findings asking other revoked
     ++ name_findings asking f
-    ++ same_findings asking same
+    ++ told_some host_code_of asking (option_map finding.SameHostKey same)
 
 -- what is found of an entry with this blob, after these lines, and told
 unfoldable pub host_entry_findings : Asking → List HostLine → List ℕ → HostFacts → List HostFinding
@@ -73,12 +57,12 @@ host_entry_findings asking earlier blob f =
 
 -- what is found of a revocation of these bytes, after these lines, and told: F12
 unfoldable pub revocation_findings : Asking → List HostLine → List ℕ → List HostFinding
-revocation_findings asking earlier bytes = revoked_findings asking (trusting_line earlier bytes)
+revocation_findings asking earlier bytes = told_some host_code_of asking (option_map finding.TrustedAndRevoked (trusting_line earlier bytes))
 
 -- what is found of a revocation that cannot be read, and told: F10
 abbrev pub blind_findings : Asking → List HostFinding
-blind_findings asking = host_told_if asking true finding.BlindRevocation
+blind_findings asking = told_if host_code_of asking true finding.BlindRevocation
 
 -- what is found of a line that cannot be read, and told: F1
 abbrev pub unreadable_host_findings : Asking → LineCause → List HostFinding
-unreadable_host_findings asking cause = host_told_if asking true (finding.Unreadable cause)
+unreadable_host_findings asking cause = told_if host_code_of asking true (finding.Unreadable cause)

@@ -8,12 +8,13 @@ use Rattle.ssh_options.specs.declared.cause.LineCause.TheVariants as causes
 use Rattle.ssh_findings.specs.declared.code.Code.{Code}
 use Rattle.ssh_findings.specs.Asking.{Asking}
 use Rattle.ssh_findings.specs.Codes.{all_codes, default_codes}
+use Rattle.ssh_findings.specs.Telling.{told_if}
 use Rattle.ssh_host_findings.specs.declared.facts.HostFacts.{HostFacts}
 use Rattle.ssh_host_findings.specs.declared.finding.HostFinding.{HostFinding}
 use Rattle.ssh_host_findings.specs.declared.finding.HostFinding.TheVariants as finding
 use Rattle.ssh_host_findings.specs.HostLines.{HostLine}
 use Rattle.ssh_host_findings.specs.Earlier.{revoking, trusting}
-use Rattle.ssh_host_findings.specs.HostFindings.{blind_findings, findings_by, host_entry_findings, revocation_findings, host_told_if, unreadable_host_findings}
+use Rattle.ssh_host_findings.specs.HostFindings.{blind_findings, findings_by, host_entry_findings, revocation_findings, unreadable_host_findings}
 use Rattle.ssh_host_findings.specs.Least.{least_line}
 
 -- a review that tells these codes
@@ -106,7 +107,7 @@ EntriesFound =
     × Found [] two (host Rsa (codes "*")) []
 
 pub entries_found : EntriesFound
-unfolding host_entry_findings findings_by host_told_if least_line
+unfolding host_entry_findings findings_by told_if least_line
 entries_found =
     (refl, refl, refl, refl, refl, refl, refl, refl, refl, refl, refl, refl, refl, refl, refl, refl, refl, refl, refl, refl)
 
@@ -121,5 +122,5 @@ RevocationsFound =
     × (unreadable_host_findings (asking default_codes) causes.Names ≡ finding.Unreadable causes.Names ∷ [])
 
 pub revocations_found : RevocationsFound
-unfolding revocation_findings host_told_if least_line
+unfolding revocation_findings told_if least_line
 revocations_found = (refl, refl, refl, refl, refl, refl)

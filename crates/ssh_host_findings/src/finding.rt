@@ -1,9 +1,8 @@
 //! What is found of a line.
 
-ghost use Rattle.std.specs.Prelude.{◌≡◌};
 ghost use Rattle.ssh_host_findings.specs.Findings.{host_code_of};
 
-use ssh_findings::Code;
+use ssh_findings::{Code, Coded};
 use ssh_options::LineCause;
 
 /// What is found of a line of a known_hosts file.
@@ -31,11 +30,10 @@ pub enum HostFinding {
     SameHostKey(u64),
 }
 
-impl HostFinding {
-    /// The code by which it is told.
-    pub fn code(self) -> Code
-        ensures { result ≡ host_code_of self }
-    {
+impl Coded for HostFinding {
+    ghost code = { host_code_of };
+
+    fn code(self) -> Code {
         match self {
             HostFinding::Unreadable(_) => Code::Unreadable,
             HostFinding::ShortKey(_) => Code::ShortKey,

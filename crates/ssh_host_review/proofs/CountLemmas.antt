@@ -1,64 +1,51 @@
 -- How much a known_hosts file counts at most.
-use Rattle.std.proofs.Common.{◌≡◌, ◌∙◌, ℕ, ◌+◌, ◌≤◌, Bool, true, false, ◌&&◌, cond, List, [], ◌∷◌, ◌++◌, length, sym, ap, length-append, arith}
-use Rattle.std.specs.Prelude.{Option, Some, None}
+use Rattle.std.proofs.Common.{◌≡◌, ◌∙◌, ℕ, ◌+◌, ◌≤◌, Bool, true, List, [], ◌∷◌, ◌++◌, length, sym, ap, length-append, arith}
+use Rattle.std.specs.Prelude.{Option, option_map}
 use Rattle.ssh_keys.specs.PublicKey.{key_blob}
 use Rattle.ssh_lines.specs.declared.known.KnownLine.{KnownLine}
 use Rattle.ssh_lines.specs.declared.known.KnownLine.TheVariants.{Blank, Comment, Entry, Revoked, RevokedUnreadable, Unreadable}
 use Rattle.ssh_lines.specs.KnownGrammar.{known_line}
 use Rattle.ssh_text.specs.Text.{file_limit, lines_of, numbered}
-use Rattle.ssh_findings.specs.Asking.{Asking, is_told}
+use Rattle.ssh_findings.specs.Asking.{Asking}
+use Rattle.ssh_findings.specs.Telling.{told_if, told_some}
 use Rattle.ssh_host_findings.specs.declared.facts.HostFacts.{HostFacts}
 use Rattle.ssh_host_findings.specs.declared.finding.HostFinding.{HostFinding}
 use Rattle.ssh_host_findings.specs.declared.finding.HostFinding.TheVariants as finding
 use Rattle.ssh_host_findings.specs.Earlier.{other_line, revoking_line, same_line, trusting_line}
 use Rattle.ssh_host_findings.specs.Findings.{host_code_of}
 use Rattle.ssh_host_findings.specs.HostFacts.{host_facts_of}
-use Rattle.ssh_host_findings.specs.HostFindings.{findings_by, host_entry_findings, name_findings, other_findings, host_reading_findings, revocation_findings, revoked_findings, same_findings, host_short_findings, host_told_if}
+use Rattle.ssh_host_findings.specs.HostFindings.{findings_by, host_entry_findings, host_reading_findings, line_findings, name_findings, revocation_findings}
 use Rattle.ssh_host_findings.specs.HostLines.{HostLine}
 use Rattle.ssh_review.specs.declared.counts.Counts.{Counts}
 use Rattle.ssh_review.specs.Counting.{plus}
-use Rattle.ssh_review.proofs.LineLemmas.{Fits, Within, both-within, fit, lines-few}
+use Rattle.ssh_review.proofs.LineLemmas.{Fits, Within, both-within, fit, lines-few, some-short, told-short}
 use Rattle.ssh_host_review.specs.Lines.{host_counts_of, host_kept_of, host_line_counts}
 
 -- ---- findings of a line
 
-told-short : (asking : Asking) (holds : Bool) (f : HostFinding) → length (host_told_if asking holds f) ≤ 1
-unfolding host_told_if
-told-short asking holds f = go (holds && is_told asking (host_code_of f))
-  where
-    go : (b : Bool) → length (cond b (f ∷ []) []) ≤ 1
-    go true = omega arith
-    go false = omega arith
+if-short : (asking : Asking) (holds : Bool) (f : HostFinding) → length (told_if host_code_of asking holds f) ≤ 1
+if-short asking holds f = told-short host_code_of asking holds f
 
-short-short : (asking : Asking) (bits : Option ℕ) → length (host_short_findings asking bits) ≤ 1
-short-short asking None = omega arith
-short-short asking (Some bits) = told-short asking _ _
-
-other-short : (asking : Asking) (line : Option ℕ) → length (other_findings asking line) ≤ 1
-other-short asking None = omega arith
-other-short asking (Some line) = told-short asking true _
-
-revoked-short : (asking : Asking) (line : Option ℕ) → length (revoked_findings asking line) ≤ 1
-revoked-short asking None = omega arith
-revoked-short asking (Some line) = told-short asking true _
-
-same-short : (asking : Asking) (line : Option ℕ) → length (same_findings asking line) ≤ 1
-same-short asking None = omega arith
-same-short asking (Some line) = told-short asking true _
+any-short : (asking : Asking) (found : Option HostFinding) → length (told_some host_code_of asking found) ≤ 1
+any-short asking found = some-short host_code_of asking found
 
 both : (a b : List HostFinding) (m n : ℕ) → length a ≤ m → length b ≤ n → length (a ++ b) ≤ m + n
 both a b m n h k = omega (arith, h, k, length-append a b)
 
 readings-short : (asking : Asking) (f : HostFacts) → length (host_reading_findings asking f) ≤ 2
-readings-short asking f = both _ _ 1 1 (short-short asking f.bits) (told-short asking _ _)
+readings-short asking f = both _ _ 1 1 (any-short asking _) (if-short asking _ _)
+
+lines-short : (asking : Asking) (other revoked : Option ℕ) → length (line_findings asking other revoked) ≤ 2
+lines-short asking other revoked =
+    both _ _ 1 1 (any-short asking (option_map finding.OtherKey other)) (any-short asking (option_map finding.TrustedAndRevoked revoked))
 
 names-short : (asking : Asking) (f : HostFacts) → length (name_findings asking f) ≤ 3
-names-short asking f = both _ _ 2 1 (both _ _ 1 1 (told-short asking _ _) (told-short asking _ _)) (told-short asking _ _)
+names-short asking f = both _ _ 2 1 (both _ _ 1 1 (if-short asking _ _) (if-short asking _ _)) (if-short asking _ _)
 
 by-short : (asking : Asking) (f : HostFacts) (other revoked same : Option ℕ) → length (findings_by asking f other revoked same) ≤ 8
 unfolding findings_by
 by-short asking f other revoked same =
-    both _ _ 7 1 (both _ _ 4 3 (both _ _ 3 1 (both _ _ 2 1 (readings-short asking f) (other-short asking other)) (revoked-short asking revoked)) (names-short asking f)) (same-short asking same)
+    both _ _ 7 1 (both _ _ 4 3 (both _ _ 2 2 (readings-short asking f) (lines-short asking other revoked)) (names-short asking f)) (any-short asking (option_map finding.SameHostKey same))
 
 entry-short : (asking : Asking) (earlier : List HostLine) (blob : List ℕ) (f : HostFacts) → length (host_entry_findings asking earlier blob f) ≤ 8
 unfolding host_entry_findings
@@ -66,7 +53,7 @@ entry-short asking earlier blob f = by-short asking f (other_line earlier blob f
 
 revocation-short : (asking : Asking) (earlier : List HostLine) (bytes : List ℕ) → length (revocation_findings asking earlier bytes) ≤ 1
 unfolding revocation_findings
-revocation-short asking earlier bytes = revoked-short asking (trusting_line earlier bytes)
+revocation-short asking earlier bytes = any-short asking (option_map finding.TrustedAndRevoked (trusting_line earlier bytes))
 
 -- ---- lines
 
@@ -78,9 +65,9 @@ line-within asking earlier line (Entry e) =
 line-within asking earlier line (Revoked bytes) =
     record { lines = omega arith; keys = omega arith; unreadable = omega arith; findings = omega (arith, revocation-short asking earlier bytes) }
 line-within asking earlier line RevokedUnreadable =
-    record { lines = omega arith; keys = omega arith; unreadable = omega arith; findings = omega (arith, told-short asking true finding.BlindRevocation) }
+    record { lines = omega arith; keys = omega arith; unreadable = omega arith; findings = omega (arith, if-short asking true finding.BlindRevocation) }
 line-within asking earlier line (Unreadable cause) =
-    record { lines = omega arith; keys = omega arith; unreadable = omega arith; findings = omega (arith, told-short asking true (finding.Unreadable cause)) }
+    record { lines = omega arith; keys = omega arith; unreadable = omega arith; findings = omega (arith, if-short asking true (finding.Unreadable cause)) }
 
 all-within : (asking : Asking) (earlier : List HostLine) (n : ℕ) (lines : List (List ℕ)) → Within (host_counts_of asking earlier (numbered n lines)) (length lines)
 all-within asking earlier n [] = record { lines = omega arith; keys = omega arith; unreadable = omega arith; findings = omega arith }

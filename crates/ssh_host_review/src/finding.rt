@@ -10,6 +10,7 @@ ghost use Rattle.ssh_host_review.specs.Findings.{
 };
 
 use crate::detail::detail;
+use ssh_findings::Coded;
 use ssh_host_findings::HostFinding;
 use ssh_review_json::push_code_object;
 use std::alloc::{AllocError, Global};

@@ -5,6 +5,7 @@ ghost use Rattle.std.specs.Fmt.{decimal};
 ghost use Rattle.ssh_host_review.specs.Sentences.{host_finding_line, host_sentence_of};
 
 use crate::detail::detail;
+use ssh_findings::Coded;
 use ssh_host_findings::HostFinding;
 use ssh_print::push_number;
 use ssh_review::{push_finding_head, push_short_sentence, push_unreadable_sentence};

@@ -7,12 +7,14 @@ use Rattle.ssh_lines.specs.declared.entry.AuthLine.TheVariants.{Blank, Comment, 
 use Rattle.ssh_lines.specs.AuthGrammar.{auth_line}
 use Rattle.ssh_text.specs.Text.{file_limit, lines_of, numbered}
 use Rattle.ssh_review.specs.declared.counts.Counts.{Counts}
+use Rattle.ssh_findings.specs.declared.code.Code.{Code}
 use Rattle.ssh_findings.specs.declared.facts.Facts.{Facts}
 use Rattle.ssh_findings.specs.declared.finding.Finding.{Finding}
 use Rattle.ssh_findings.specs.declared.finding.Finding.TheVariants as finding
 use Rattle.ssh_findings.specs.Asking.{Asking, is_told}
 use Rattle.ssh_review.specs.Counting.{plus}
-use Rattle.ssh_findings.specs.EntryFindings.{condition_findings, entry_findings, forces_but_forwards, policy_findings, reading_findings, repeat_findings, short_findings, told_if}
+use Rattle.ssh_findings.specs.EntryFindings.{condition_findings, entry_findings, forces_but_forwards, policy_findings, reading_findings}
+use Rattle.ssh_findings.specs.Telling.{told_if, told_some}
 use Rattle.ssh_keys.specs.PublicKey.{key_blob}
 use Rattle.ssh_findings.specs.Earlier.{Held, repeat_after}
 use Rattle.ssh_findings.specs.Facts.{facts_of}
@@ -27,53 +29,53 @@ pub record Within (counts : Counts) (n : ℕ) : Type 0 where
   pub unreadable : counts.unreadable ≤ n
   pub findings : counts.findings ≤ 16 * n
 
-told-short : (asking : Asking) (holds : Bool) (f : Finding) → length (told_if asking holds f) ≤ 1
+pub told-short : {F : Type 0} (code : F → Code) (asking : Asking) (holds : Bool) (f : F) → length (told_if code asking holds f) ≤ 1
 unfolding told_if
-told-short asking holds f = go (holds && is_told asking (code_of f))
+told-short code asking holds f = go (holds && is_told asking (code f))
   where
     go : (b : Bool) → length (cond b (f ∷ []) []) ≤ 1
     go true = omega arith
     go false = omega arith
 
-short-short : (asking : Asking) (bits : Option ℕ) → length (short_findings asking bits) ≤ 1
-short-short asking None = omega arith
-short-short asking (Some bits) = told-short asking _ _
+pub some-short : {F : Type 0} (code : F → Code) (asking : Asking) (found : Option F) → length (told_some code asking found) ≤ 1
+some-short code asking None = omega arith
+some-short code asking (Some f) = told-short code asking true f
+
+-- so of entries
+if-short : (asking : Asking) (holds : Bool) (f : Finding) → length (told_if code_of asking holds f) ≤ 1
+if-short asking holds f = told-short code_of asking holds f
 
 -- four and one and more lists of at most one
 four : (a b c d : List Finding) → length a ≤ 1 → length b ≤ 1 → length c ≤ 1 → length d ≤ 1 → length (a ++ b ++ c ++ d) ≤ 4
 four a b c d e f g h = omega (arith, length-append (a ++ b ++ c) d, length-append (a ++ b) c, length-append a b)
 
 conditions-short : (asking : Asking) (f : Facts) → length (condition_findings asking f) ≤ 4
-conditions-short asking f = four _ _ _ _ (short-short asking f.bits) (told-short asking _ _) (told-short asking _ _) (told-short asking _ _)
+conditions-short asking f = four _ _ _ _ (some-short code_of asking _) (if-short asking _ _) (if-short asking _ _) (if-short asking _ _)
 
 readings-short : (asking : Asking) (f : Facts) → length (reading_findings asking f) ≤ 4
-readings-short asking f = four _ _ _ _ (told-short asking _ _) (told-short asking _ _) (told-short asking _ _) (told-short asking _ _)
+readings-short asking f = four _ _ _ _ (if-short asking _ _) (if-short asking _ _) (if-short asking _ _) (if-short asking _ _)
 
 one-more : (a b : List Finding) → length a ≤ 4 → length b ≤ 1 → length (a ++ b) ≤ 5
 one-more a b e f = omega (arith, length-append a b)
 
 policy-short : (asking : Asking) (f : Facts) → length (policy_findings asking f) ≤ 5
 policy-short asking f =
-    one-more _ _ (four _ _ _ _ (told-short asking _ _) (told-short asking _ _) (told-short asking _ _) (told-short asking _ _)) (told-short asking _ _)
-
-repeat-short : (asking : Asking) (repeat : Option Finding) → length (repeat_findings asking repeat) ≤ 1
-repeat-short asking None = omega arith
-repeat-short asking (Some f) = told-short asking true f
+    one-more _ _ (four _ _ _ _ (if-short asking _ _) (if-short asking _ _) (if-short asking _ _) (if-short asking _ _)) (if-short asking _ _)
 
 entry-short : (asking : Asking) (earlier : List Held) (blob : List ℕ) (f : Facts) → length (entry_findings asking earlier blob f) ≤ 16
 unfolding entry_findings
 entry-short asking earlier blob f =
-    let r = repeat-short asking (repeat_after earlier blob f) in
+    let r = some-short code_of asking (repeat_after earlier blob f) in
     let a = conditions-short asking f in
     let b = readings-short asking f in
     let d = policy-short asking f in
     omega (
       arith,
-      length-append (repeat_findings asking (repeat_after earlier blob f) ++ condition_findings asking f ++ reading_findings asking f ++ told_if asking (not f.is_authority && forces_but_forwards f.rights) finding.ForcedButForwards) (policy_findings asking f),
-      length-append (repeat_findings asking (repeat_after earlier blob f) ++ condition_findings asking f ++ reading_findings asking f) (told_if asking (not f.is_authority && forces_but_forwards f.rights) finding.ForcedButForwards),
-      length-append (repeat_findings asking (repeat_after earlier blob f) ++ condition_findings asking f) (reading_findings asking f),
-      length-append (repeat_findings asking (repeat_after earlier blob f)) (condition_findings asking f),
-      told-short asking (not f.is_authority && forces_but_forwards f.rights) finding.ForcedButForwards,
+      length-append (told_some code_of asking (repeat_after earlier blob f) ++ condition_findings asking f ++ reading_findings asking f ++ told_if code_of asking (not f.is_authority && forces_but_forwards f.rights) finding.ForcedButForwards) (policy_findings asking f),
+      length-append (told_some code_of asking (repeat_after earlier blob f) ++ condition_findings asking f ++ reading_findings asking f) (told_if code_of asking (not f.is_authority && forces_but_forwards f.rights) finding.ForcedButForwards),
+      length-append (told_some code_of asking (repeat_after earlier blob f) ++ condition_findings asking f) (reading_findings asking f),
+      length-append (told_some code_of asking (repeat_after earlier blob f)) (condition_findings asking f),
+      if-short asking (not f.is_authority && forces_but_forwards f.rights) finding.ForcedButForwards,
     )
 
 line-within : (asking : Asking) (earlier : List Held) (line : AuthLine) → Within (line_counts asking earlier line) 1
@@ -82,7 +84,7 @@ line-within asking earlier Comment = record { lines = omega arith; keys = omega 
 line-within asking earlier (Entry entry) =
     record { lines = omega arith; keys = omega arith; unreadable = omega arith; findings = omega (arith, entry-short asking earlier (key_blob entry.key) (facts_of asking.zone entry)) }
 line-within asking earlier (Unreadable cause) =
-    record { lines = omega arith; keys = omega arith; unreadable = omega arith; findings = omega (arith, told-short asking true (finding.Unreadable cause)) }
+    record { lines = omega arith; keys = omega arith; unreadable = omega arith; findings = omega (arith, if-short asking true (finding.Unreadable cause)) }
 
 pub both-within : (a b : Counts) (n : ℕ) → Within a 1 → Within b n → Within (plus a b) (suc n)
 both-within a b n v w = record {

@@ -14,7 +14,7 @@ ghost use Rattle.ssh_review.specs.Sentences.{
 };
 
 use ssh_explain::row_of;
-use ssh_findings::Finding;
+use ssh_findings::{Coded, Finding};
 use ssh_options::LineCause;
 use ssh_print::{line_code, push_number};
 use ssh_review_json::detail;

@@ -1,7 +1,7 @@
 //! The worked known_hosts file, line by line.
 
 use jiff::tz::TimeZone;
-use ssh_findings::{Asked, Code};
+use ssh_findings::{Asked, Code, Coded};
 use ssh_host_findings::{
     EarlierHosts, HostFacts, HostFinding, blind_findings, host_entry_findings, revocation_findings,
     unreadable_host_findings,
