@@ -3,3 +3,4 @@ pub mod LeastLemmas
 pub mod EarlierLemmas
 pub mod NameLemmas
 pub mod LawLemmas
+pub mod SumLemmas

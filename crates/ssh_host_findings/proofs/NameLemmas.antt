@@ -13,7 +13,7 @@ use Rattle.ssh_host_findings.specs.Earlier.{same_kind}
 use Rattle.ssh_host_findings.specs.Items.{has_item, is_plain}
 use Rattle.ssh_host_findings.specs.Least.{lesser, line_if}
 use Rattle.ssh_host_findings.specs.Maps.{other_of_kind}
-use Rattle.ssh_host_findings.specs.Memory.{items_bytes}
+use Rattle.ssh_host_findings.specs.Memory.{items_bytes, items_sum}
 use Rattle.ssh_host_findings.specs.StandsFor.{KeepsName}
 use Rattle.ssh_host_findings.proofs.EarlierLemmas.{folded}
 
@@ -114,3 +114,14 @@ bytes_next before after most blob piece ps left e plain h k =
 pub bytes_still : (before most : ℕ) (blob piece : List ℕ) (ps left : List (List ℕ)) → ps ≡ piece ∷ left
     → before + items_bytes blob ps ≤ most → before + items_bytes blob left ≤ most
 bytes_still before most blob piece ps left e k = let all = ap (items_bytes blob) e in omega (arith, all, k)
+
+pub sum_next : (weight : List ℕ → ℕ) (before after most : ℕ) (piece : List ℕ) (ps left : List (List ℕ)) → ps ≡ piece ∷ left → is_plain piece ≡ true
+    → after ≤ before + weight piece → before + items_sum weight ps ≤ most → after + items_sum weight left ≤ most
+sum_next weight before after most piece ps left e plain h k =
+    let all = ap (items_sum weight) e in
+    let own = ap (λ t. cond t (weight piece) 0) plain in
+    omega (arith, all, own, h, k)
+
+pub sum_still : (weight : List ℕ → ℕ) (before most : ℕ) (piece : List ℕ) (ps left : List (List ℕ)) → ps ≡ piece ∷ left
+    → before + items_sum weight ps ≤ most → before + items_sum weight left ≤ most
+sum_still weight before most piece ps left e k = let all = ap (items_sum weight) e in omega (arith, all, k)

@@ -42,3 +42,37 @@ items_bytes blob (item ∷ items) = (if is_plain item then length item + length 
 -- the bytes that are kept of an entry at most
 abbrev pub host_entry_bytes : List ℕ → HostFacts → ℕ
 host_entry_bytes blob f = length blob + (if f.is_authority then 0 else items_bytes blob (pieces_left f.list))
+
+-- whatever is counted of each text that is kept, by the text alone: over those for which a line is kept, and over names
+abbrev pub texts_sum : (List ℕ → ℕ) → LeastLines → ℕ
+texts_sum weight m = sum_of (λ text line. weight text) m.lines
+
+abbrev pub names_sum : (List ℕ → ℕ) → NamedKeys → ℕ
+names_sum weight m = sum_of (λ item first. weight item) m.keys
+
+-- over the names of keys of each kind
+abbrev pub kinds_sum : (List ℕ → ℕ) → KindKeys → ℕ
+kinds_sum weight m =
+    names_sum weight m.rsa + names_sum weight m.p256 + names_sum weight m.p384 + names_sum weight m.p521 + names_sum weight m.ed25519
+    + names_sum weight m.sk_p256 + names_sum weight m.sk_ed25519
+
+-- over all texts that are kept: the blobs of keys, what is revoked, and names
+abbrev pub kept_sum : (List ℕ → ℕ) → EarlierHosts → ℕ
+kept_sum weight m =
+    texts_sum weight m.hosts + texts_sum weight m.authorities + texts_sum weight m.revoked + kinds_sum weight m.named
+
+-- over the plain items of a list
+abbrev pub items_sum : (List ℕ → ℕ) → List (List ℕ) → ℕ
+items_sum weight [] = 0
+items_sum weight (item ∷ items) = (if is_plain item then weight item else 0) + items_sum weight items
+
+-- over the texts of an entry: its blob, and each plain name of its list
+abbrev pub entry_sum : (List ℕ → ℕ) → List ℕ → HostFacts → ℕ
+entry_sum weight blob f = weight blob + (if f.is_authority then 0 else items_sum weight (pieces_left f.list))
+
+-- the bytes of all texts that are kept, and how many there are
+abbrev pub text_bytes_kept : EarlierHosts → ℕ
+text_bytes_kept m = kept_sum (λ text. length text) m
+
+abbrev pub texts_kept : EarlierHosts → ℕ
+texts_kept m = kept_sum (λ text. 1) m

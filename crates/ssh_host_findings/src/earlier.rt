@@ -26,7 +26,7 @@ ghost use Rattle.ssh_host_findings.specs.Earlier.{
   trusting_line,
 };
 ghost use Rattle.ssh_host_findings.specs.Maps.{least_other};
-ghost use Rattle.ssh_host_findings.specs.Memory.{host_bytes_kept, host_entry_bytes};
+ghost use Rattle.ssh_host_findings.specs.Memory.{entry_sum, host_bytes_kept, host_entry_bytes, kept_sum};
 ghost use Rattle.ssh_host_findings.specs.StandsFor.{KeepsKeys, KeepsName, RemembersLines, has_names};
 ghost use Rattle.ssh_keys.specs.declared.kind.KeyKind.{KeyKind as Kind};
 
@@ -53,6 +53,7 @@ impl EarlierHosts {
     pub fn new(alloc: Global) -> EarlierHosts
         ensures stands { RemembersLines result [] }
         ensures bytes { host_bytes_kept result ≡ 0 }
+        ensures sum { (weight : List ℕ → ℕ) → kept_sum weight result ≡ 0 }
     {
         EarlierHosts {
             hosts: LeastLines::new(alloc),
@@ -76,6 +77,10 @@ impl EarlierHosts {
         // So of an entry no more is held than its blob, and each plain name of its list with the blob.
         ensures bytes { OnOk result
             (host_bytes_kept self.new ≤ host_bytes_kept self.old + host_entry_bytes blob.now facts.now) }
+        // Whatever is counted of each text that is held: no more than of the blob and of each plain name. The
+        // names of an entry share one copy of the blob, which is counted for each of them above, and here for none.
+        ensures sum { OnOk result ((weight : List ℕ → ℕ)
+            → kept_sum weight self.new ≤ kept_sum weight self.old + entry_sum weight blob.now facts.now) }
         ensures keys { OnErr result (KeepsKeys self.old self.new) }
         ensures names { OnErr result ((kind : Kind) (item : List ℕ) → KeepsName self.old.named self.new.named
             facts.now.kind facts.now.list line blob.now kind item) }
@@ -101,6 +106,8 @@ impl EarlierHosts {
         ensures ok { OnOk result ((lines : List HostLine) → RemembersLines self.old lines
             → RemembersLines self.new (lines ++ revoking line bytes.now ∷ [])) }
         ensures bytes { OnOk result (host_bytes_kept self.new ≤ host_bytes_kept self.old + length bytes.now) }
+        ensures sum { OnOk result ((weight : List ℕ → ℕ)
+            → kept_sum weight self.new ≤ kept_sum weight self.old + weight bytes.now) }
         ensures err { OnErr result ((lines : List HostLine) → RemembersLines self.old lines
             → RemembersLines self.new lines) }
     {

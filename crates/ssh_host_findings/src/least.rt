@@ -3,7 +3,7 @@
 ghost use Rattle.std.specs.Prelude.{◌≡◌, ◌≤◌, ◌+◌, ℕ, length, List, OnErr, OnOk, None, Some, bytes_eq, if◌then◌else◌};
 ghost use Rattle.ssh_host_findings.specs.Least.{lesser};
 ghost use Rattle.ssh_host_findings.specs.Maps.{line_at};
-ghost use Rattle.ssh_host_findings.specs.Memory.{texts_bytes};
+ghost use Rattle.ssh_host_findings.specs.Memory.{texts_bytes, texts_sum};
 
 use ssh_byte_maps::ByteMap;
 use std::alloc::{AllocError, Global};
@@ -39,6 +39,7 @@ impl LeastLines {
     pub(crate) fn new(alloc: Global) -> LeastLines
         ensures empty { (bytes : List ℕ) → line_at result bytes ≡ None }
         ensures bytes { texts_bytes result ≡ 0 }
+        ensures sum { (weight : List ℕ → ℕ) → texts_sum weight result ≡ 0 }
     {
         LeastLines {
             lines: ByteMap::new(alloc),
@@ -58,6 +59,8 @@ impl LeastLines {
         ensures ok { OnOk result ((other : List ℕ) → line_at self.new other
             ≡ if bytes_eq bytes.now other then lesser (line_at self.old other) (Some line) else line_at self.old other) }
         ensures bytes { OnOk result (texts_bytes self.new ≤ texts_bytes self.old + length bytes.now) }
+        ensures sum { OnOk result ((weight : List ℕ → ℕ)
+            → texts_sum weight self.new ≤ texts_sum weight self.old + weight bytes.now) }
         ensures err { OnErr result
             ((other : List ℕ) → line_at self.new other ≡ line_at self.old other) }
     {

@@ -7,7 +7,7 @@ ghost use Rattle.ssh_host_findings.specs.Items.{has_item};
 ghost use Rattle.ssh_host_findings.specs.Earlier.{same_kind};
 ghost use Rattle.ssh_host_findings.specs.Least.{lesser, line_if};
 ghost use Rattle.ssh_host_findings.specs.Maps.{other_at, other_of_kind};
-ghost use Rattle.ssh_host_findings.specs.Memory.{items_bytes, kinds_bytes, names_bytes};
+ghost use Rattle.ssh_host_findings.specs.Memory.{items_bytes, items_sum, kinds_bytes, kinds_sum, names_bytes, names_sum};
 ghost use Rattle.ssh_host_findings.specs.StandsFor.{KeepsName};
 
 use crate::facts::HostFacts;
@@ -29,6 +29,7 @@ impl NamedKeys {
     fn new(alloc: Global) -> NamedKeys
         ensures empty { (item blob : List ℕ) → other_at result item blob ≡ None }
         ensures bytes { names_bytes result ≡ 0 }
+        ensures sum { (weight : List ℕ → ℕ) → names_sum weight result ≡ 0 }
     {
         NamedKeys {
             keys: ByteMap::new(alloc),
@@ -58,6 +59,8 @@ impl NamedKeys {
             else other_at self.old q b) }
         ensures bytes { OnOk result
             (names_bytes self.new ≤ names_bytes self.old + (length item.now + length blob.now)) }
+        ensures sum { OnOk result ((weight : List ℕ → ℕ)
+            → names_sum weight self.new ≤ names_sum weight self.old + weight item.now) }
         ensures err { OnErr result ((q b : List ℕ) → other_at self.new q b ≡ other_at self.old q b) }
     {
         let first = match self.keys.get(item) {
@@ -88,6 +91,7 @@ impl KindKeys {
     pub(crate) fn new(alloc: Global) -> KindKeys
         ensures empty { (kind : Kind) (item blob : List ℕ) → other_of_kind result kind item blob ≡ None }
         ensures bytes { kinds_bytes result ≡ 0 }
+        ensures sum { (weight : List ℕ → ℕ) → kinds_sum weight result ≡ 0 }
     {
         KindKeys {
             rsa: NamedKeys::new(alloc),
@@ -130,6 +134,8 @@ impl KindKeys {
             else other_of_kind self.old k q b) }
         ensures bytes { OnOk result
             (kinds_bytes self.new ≤ kinds_bytes self.old + (length item.now + length blob.now)) }
+        ensures sum { OnOk result ((weight : List ℕ → ℕ)
+            → kinds_sum weight self.new ≤ kinds_sum weight self.old + weight item.now) }
         ensures err { OnErr result
             ((k : Kind) (q b : List ℕ) → other_of_kind self.new k q b ≡ other_of_kind self.old k q b) }
     {
@@ -158,6 +164,8 @@ impl KindKeys {
             (line_if ((same_kind kind k && has_item q (Some list.now)) && not (bytes_eq blob.now b)) line)) }
         ensures bytes { OnOk result
             (kinds_bytes self.new ≤ kinds_bytes self.old + items_bytes blob.now (pieces list.now)) }
+        ensures sum { OnOk result ((weight : List ℕ → ℕ)
+            → kinds_sum weight self.new ≤ kinds_sum weight self.old + items_sum weight (pieces list.now)) }
         ensures err { OnErr result ((k : Kind) (q : List ℕ)
             → KeepsName self.old self.new kind (Some list.now) line blob.now k q) }
     {
@@ -185,6 +193,8 @@ impl KindKeys {
             ≡ lesser (other_of_kind self.old k q b) (line_if ((same_kind facts.now.kind k && has_item q facts.now.list) && not (bytes_eq blob.now b)) line)) }
         ensures bytes { OnOk result
             (kinds_bytes self.new ≤ kinds_bytes self.old + items_bytes blob.now (pieces_left facts.now.list)) }
+        ensures sum { OnOk result ((weight : List ℕ → ℕ)
+            → kinds_sum weight self.new ≤ kinds_sum weight self.old + items_sum weight (pieces_left facts.now.list)) }
         ensures err { OnErr result ((k : Kind) (q : List ℕ)
             → KeepsName self.old self.new facts.now.kind facts.now.list line blob.now k q) }
         ensures spare { facts.now.list ≡ None → IsOk result }

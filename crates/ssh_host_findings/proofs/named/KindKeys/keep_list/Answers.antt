@@ -7,9 +7,9 @@ use Rattle.ssh_host_findings.specs.Earlier.{same_kind}
 use Rattle.ssh_host_findings.specs.Items.{is_plain}
 use Rattle.ssh_host_findings.specs.Least.{lesser, line_if}
 use Rattle.ssh_host_findings.specs.Maps.{other_of_kind}
-use Rattle.ssh_host_findings.specs.Memory.{kinds_bytes}
+use Rattle.ssh_host_findings.specs.Memory.{kinds_bytes, kinds_sum}
 use Rattle.ssh_host_findings.proofs.EarlierLemmas.{no_key, piece_kept}
-use Rattle.ssh_host_findings.proofs.NameLemmas.{bytes_next, bytes_still, item_passed, left_within, name_kept, name_still, on_err, piece_within}
+use Rattle.ssh_host_findings.proofs.NameLemmas.{bytes_next, bytes_still, item_passed, left_within, name_kept, name_still, on_err, piece_within, sum_next, sum_still}
 use Rattle.ssh_host_findings.proofs.named.KindKeys.keep_list.Goals as goal
 
 pub loop-rest-preserved-in_ok-keep : goal.loop-rest-preserved-in_ok-keep
@@ -30,6 +30,10 @@ loop-rest-preserved-in_ok-keep c = record {
       bytes_next (kinds_bytes c.loop-rest.self) (kinds_bytes c.keep.new.self) _ c.args.blob.now c.first_piece.result.0.now _
       (pieces_left (option_copied c.first_piece.result.1)) c.first_piece.ensures.pieces (sym c.is_plain.ensures ∙ c.if-is_plain.true) c.in_ok-keep.ensures.bytes
       (rw c.in-Some.is at c.loop-rest.invariant.bytes);
+  sum = λ weight.
+      sum_next weight (kinds_sum weight c.loop-rest.self) (kinds_sum weight c.keep.new.self) _ c.first_piece.result.0.now _
+      (pieces_left (option_copied c.first_piece.result.1)) c.first_piece.ensures.pieces (sym c.is_plain.ensures ∙ c.if-is_plain.true) (c.in_ok-keep.ensures.sum weight)
+      (rw c.in-Some.is at c.loop-rest.invariant.sum weight);
   names =
       name_kept c.args.self.now c.loop-rest.self c.keep.new.self c.args.kind c.args.list.now c.args.line c.args.blob.now c.first_piece.result.0.now c.in_ok-keep.ensures.ok
       (piece_within c.args.list.now c.first_piece.result.0.now (Some c.in-Some.pieces.now) (option_copied c.first_piece.result.1) c.first_piece.ensures.pieces
@@ -50,6 +54,9 @@ loop-rest-preserved c = record {
   bytes =
       bytes_still (kinds_bytes c.loop-rest.self) _ c.args.blob.now c.first_piece.result.0.now _ (pieces_left (option_copied c.first_piece.result.1))
       c.first_piece.ensures.pieces (rw c.in-Some.is at c.loop-rest.invariant.bytes);
+  sum = λ weight.
+      sum_still weight (kinds_sum weight c.loop-rest.self) _ c.first_piece.result.0.now _ (pieces_left (option_copied c.first_piece.result.1))
+      c.first_piece.ensures.pieces (rw c.in-Some.is at c.loop-rest.invariant.sum weight);
   names = c.loop-rest.invariant.names;
   within =
       left_within c.args.list.now c.first_piece.result.0.now (Some c.in-Some.pieces.now) (option_copied c.first_piece.result.1) c.first_piece.ensures.pieces

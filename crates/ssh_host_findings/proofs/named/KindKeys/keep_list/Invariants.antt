@@ -5,7 +5,7 @@ use Rattle.ssh_host_findings.specs.Items.{has_item}
 use Rattle.ssh_host_findings.specs.Earlier.{same_kind}
 use Rattle.ssh_host_findings.specs.Least.{lesser, line_if}
 use Rattle.ssh_host_findings.specs.Maps.{other_of_kind}
-use Rattle.ssh_host_findings.specs.Memory.{items_bytes, kinds_bytes}
+use Rattle.ssh_host_findings.specs.Memory.{items_bytes, items_sum, kinds_bytes, kinds_sum}
 use Rattle.ssh_host_findings.specs.StandsFor.{KeepsName}
 use Rattle.ssh_host_findings.proofs.named.KindKeys.keep_list.Given as goal
 
@@ -15,6 +15,7 @@ invariant-loop-rest l = record {
       → lesser (other_of_kind l.self k q b) (line_if ((same_kind l.kind k && has_item q (option_copied l.rest)) && not (bytes_eq l.blob b)) l.line)
       ≡ lesser (other_of_kind l.fn.self k q b) (line_if ((same_kind l.kind k && has_item q (Some l.list)) && not (bytes_eq l.blob b)) l.line);
   bytes : kinds_bytes l.self + items_bytes l.blob (pieces_left (option_copied l.rest)) ≤ kinds_bytes l.fn.self + items_bytes l.blob (pieces l.list);
+  sum : (weight : List ℕ → ℕ) → kinds_sum weight l.self + items_sum weight (pieces_left (option_copied l.rest)) ≤ kinds_sum weight l.fn.self + items_sum weight (pieces l.list);
   names : (k : KeyKind) (q : List ℕ) → KeepsName l.fn.self l.self l.kind (Some l.list) l.line l.blob k q;
   within : (q : List ℕ) → has_item q (option_copied l.rest) ≡ true → has_item q (Some l.list) ≡ true;
 }
