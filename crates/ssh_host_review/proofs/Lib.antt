@@ -4,3 +4,4 @@ pub mod TextLemmas
 pub mod ObjectLemmas
 pub mod ReviewLemmas
 pub mod LoopLemmas
+pub mod MemoryLemmas

@@ -1,5 +1,5 @@
--- The loop over the lines of a file: what is written and counted so far, and what is left.
-use Rattle.std.proofs.Common.{◌≡◌, ◌∙◌, ℕ, ◌+◌, List, ◌∷◌, ◌++◌, refl, sym, ap, append_assoc, arith}
+-- The loop over the lines of a file: what is written, counted and kept so far, and what is left.
+use Rattle.std.proofs.Common.{◌≡◌, ◌∙◌, ℕ, ◌+◌, ◌≤◌, List, ◌∷◌, ◌++◌, refl, sym, ap, append_assoc, arith}
 use Rattle.ssh_lines.specs.declared.known.KnownLine.{KnownLine}
 use Rattle.ssh_lines.specs.KnownGrammar.{known_line}
 use Rattle.ssh_findings.specs.Asking.{Asking}
@@ -7,7 +7,8 @@ use Rattle.ssh_host_findings.specs.HostLines.{HostLine}
 use Rattle.ssh_review.specs.declared.counts.Counts.{Counts}
 use Rattle.ssh_review.specs.declared.form.Form.{Form}
 use Rattle.ssh_review.specs.Counting.{plus}
-use Rattle.ssh_host_review.specs.Lines.{host_counts_of, host_kept_of, host_line_counts, host_line_record, host_records_of}
+use Rattle.ssh_host_review.specs.Lines.{host_counts_of, host_kept_lines, host_kept_of, host_line_counts, host_line_record, host_records_of}
+use Rattle.ssh_host_review.specs.Memory.{over_lines}
 
 pub text-step : (form : Form) (asking : Asking) (name : List ℕ) (lines : List HostLine) (n : ℕ) (line : List ℕ) (said : KnownLine) (now next : List (ℕ × List ℕ)) (out after all : List ℕ)
     → now ≡ (n, line) ∷ next → said ≡ known_line line → after ≡ out ++ host_line_record form asking name lines n line said
@@ -38,3 +39,19 @@ counts-step asking lines n line said now next before told sum all e k f g h =
     ∙ (plus-assoc before (host_line_counts asking lines line said) left
     ∙ (ap (λ told. plus before (plus (host_line_counts asking lines line told) (host_counts_of asking (lines ++ host_kept_of n line told) next))) k
     ∙ (ap (λ rest. plus before (host_counts_of asking lines rest)) (sym e) ∙ h)))
+
+pub kept-step : (lines : List HostLine) (n : ℕ) (line : List ℕ) (said : KnownLine) (now next : List (ℕ × List ℕ)) (all : List HostLine)
+    → now ≡ (n, line) ∷ next → said ≡ known_line line → lines ++ host_kept_lines now ≡ all
+    → (lines ++ host_kept_of n line said) ++ host_kept_lines next ≡ all
+kept-step lines n line said now next all e k h =
+    append_assoc lines (host_kept_of n line said) (host_kept_lines next)
+    ∙ (ap (λ told. lines ++ (host_kept_of n line told ++ host_kept_lines next)) k
+    ∙ (ap (λ rest. lines ++ host_kept_lines rest) (sym e) ∙ h))
+
+pub over-step : (count : List ℕ → KnownLine → ℕ) (n : ℕ) (line : List ℕ) (said : KnownLine) (now next : List (ℕ × List ℕ)) (before after most : ℕ)
+    → now ≡ (n, line) ∷ next → said ≡ known_line line → after ≤ before + count line said
+    → before + over_lines count now ≤ most → after + over_lines count next ≤ most
+over-step count n line said now next before after most e k f h =
+    let all : over_lines count now ≡ count line (known_line line) + over_lines count next = ap (over_lines count) e in
+    let own : count line said ≡ count line (known_line line) = ap (count line) k in
+    omega (arith, all, own, f, h)

@@ -6,4 +6,5 @@ pub mod Objects
 pub mod Forms
 pub mod Counting
 pub mod Lines
+pub mod Memory
 pub mod Reviews

@@ -51,6 +51,11 @@ host_kept_of n line (Revoked bytes) = revoking n bytes ∷ []
 host_kept_of n line RevokedUnreadable = []
 host_kept_of n line (Unreadable cause) = []
 
+-- what later lines are told of lines, each with its number
+abbrev pub host_kept_lines : List (ℕ × List ℕ) → List HostLine
+host_kept_lines [] = []
+host_kept_lines (line ∷ lines) = host_kept_of line.0 line.1 (known_line line.1) ++ host_kept_lines lines
+
 -- the records of lines, each with its number, after these lines
 abbrev pub host_records_of : Form → Asking → List ℕ → List HostLine → List (ℕ × List ℕ) → List ℕ
 host_records_of form asking name earlier [] = []

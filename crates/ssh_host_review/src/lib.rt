@@ -24,4 +24,5 @@ mod record;
 mod review;
 mod sentence;
 
+pub use lines::push_known_records;
 pub use review::review_known;

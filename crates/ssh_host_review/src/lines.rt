@@ -1,20 +1,28 @@
 //! The records of a file's lines.
 
-ghost use Rattle.std.specs.Prelude.{◌≡◌, ◌++◌, [], ◌≤◌, List, IfOk, OnOk, length};
+ghost use Rattle.std.specs.Prelude.{◌≡◌, ◌+◌, ◌*◌, ◌++◌, [], ◌≤◌, ℕ, List, IfOk, OnOk, length};
 ghost use Rattle.ssh_lines.specs.declared.known.KnownLine.{KnownLine};
 ghost use Rattle.ssh_lines.specs.KnownSeen.{known_seen};
-ghost use Rattle.ssh_text.specs.Text.{file_limit, lines_of, numbered};
+ghost use Rattle.ssh_text.specs.Text.{file_limit, line_limit, lines_of, numbered};
 ghost use Rattle.ssh_findings.specs.Asking.{asking_of};
 ghost use Rattle.ssh_host_findings.specs.HostLines.{HostLine};
+ghost use Rattle.ssh_host_findings.specs.Memory.{
+  host_bytes_kept,
+  kept_sum,
+  text_bytes_kept,
+  texts_kept,
+};
 ghost use Rattle.ssh_host_findings.specs.StandsFor.{RemembersLines};
 ghost use Rattle.ssh_host_review.specs.Lines.{
   host_counts_of,
+  host_kept_lines,
   host_kept_of,
   host_line_counts,
   host_line_findings,
   host_line_record,
   host_records_of,
 };
+ghost use Rattle.ssh_host_review.specs.Memory.{host_line_bytes, host_line_sum, over_lines};
 
 use crate::object::{push_bare_object, push_entry_object, push_revoked_object};
 use crate::record::{push_bare_text, push_entry_text, push_revoked_text};
@@ -50,6 +58,10 @@ fn push_entry_line(
     ensures kept { OnOk result ((lines : List HostLine) → RemembersLines earlier.old lines
         → RemembersLines earlier.new (lines ++ host_kept_of
         place.entry.now.number line.now (KnownLine.Entry entry.now))) }
+    ensures bytes { OnOk result (host_bytes_kept earlier.new
+        ≤ host_bytes_kept earlier.old + host_line_bytes line.now (KnownLine.Entry entry.now)) }
+    ensures sum { OnOk result ((weight : List ℕ → ℕ) → kept_sum weight earlier.new
+        ≤ kept_sum weight earlier.old + host_line_sum weight line.now (KnownLine.Entry entry.now)) }
 {
     let facts = HostFacts::read(alloc, line, entry)?;
     let found = host_entry_findings(alloc, asked, earlier, entry.blob(), &facts)?;
@@ -84,6 +96,10 @@ fn push_revoked_line(
     ensures kept { OnOk result ((lines : List HostLine) → RemembersLines earlier.old lines
         → RemembersLines earlier.new (lines ++ host_kept_of
         place.entry.now.number [] (KnownLine.Revoked bytes.now))) }
+    ensures bytes { OnOk result (host_bytes_kept earlier.new
+        ≤ host_bytes_kept earlier.old + host_line_bytes [] (KnownLine.Revoked bytes.now)) }
+    ensures sum { OnOk result ((weight : List ℕ → ℕ) → kept_sum weight earlier.new
+        ≤ kept_sum weight earlier.old + host_line_sum weight [] (KnownLine.Revoked bytes.now)) }
 {
     let found = revocation_findings(alloc, asked, earlier, bytes)?;
     match form {
@@ -173,6 +189,10 @@ fn push_line(
     ensures kept { OnOk result ((lines : List HostLine) → RemembersLines earlier.old lines
         → RemembersLines earlier.new (lines ++ host_kept_of
         place.entry.now.number line.now (known_seen view.now))) }
+    ensures bytes { OnOk result (host_bytes_kept earlier.new
+        ≤ host_bytes_kept earlier.old + host_line_bytes line.now (known_seen view.now)) }
+    ensures sum { OnOk result ((weight : List ℕ → ℕ) → kept_sum weight earlier.new
+        ≤ kept_sum weight earlier.old + host_line_sum weight line.now (known_seen view.now)) }
 {
     match view {
         KnownLineView::Blank | KnownLineView::Comment => Ok(Counts {
@@ -194,28 +214,46 @@ fn push_line(
     }
 }
 
-/// The records of a file's lines, and what they count.
-pub(crate) fn push_lines(
+/// The records of a file's lines, at the end, and what they count. `earlier`, where no line stands yet,
+/// then has of the file's entries and revocations what a later line can need: of each key its blob, and
+/// each plain name, which are no more bytes than the file has. The names of a line share one more copy
+/// of its blob. After an `Err`, which is want of memory, a part of the records may stand there, and some
+/// lines may be kept.
+pub fn push_known_records(
     alloc: Global,
     form: Form,
     asked: &Asked<'_>,
     name: &[u8],
     file: &[u8],
+    earlier: &mut EarlierHosts,
     out: &mut Vec<u8>,
 ) -> Result<Counts, AllocError>
-    requires { length file.now ≤ file_limit }
+    requires limit { length file.now ≤ file_limit }
+    requires none { RemembersLines earlier.old [] }
     ensures text { OnOk result (out.new.items ≡ out.old.items
         ++ host_records_of form (asking_of asked.entry.now) name.now [] (numbered 1 (lines_of file.now))) }
     ensures counts { IfOk result (λ counts. counts
         ≡ host_counts_of (asking_of asked.entry.now) [] (numbered 1 (lines_of file.now))) }
+    ensures kept { OnOk result
+        (RemembersLines earlier.new (host_kept_lines (numbered 1 (lines_of file.now)))) }
+    // Of each entry its blob and its plain names are kept at most; here the blob is counted for each name too.
+    ensures bytes { OnOk result (host_bytes_kept earlier.new
+        ≤ host_bytes_kept earlier.old + over_lines host_line_bytes (numbered 1 (lines_of file.now))) }
+    // So what is kept under its own text, blobs and names, is no more than the file.
+    ensures file_texts { OnOk result
+        (text_bytes_kept earlier.new ≤ text_bytes_kept earlier.old + length file.now) }
+    ensures file_keys { OnOk result
+        (texts_kept earlier.new ≤ texts_kept earlier.old + length file.now) }
+    // With the blob that the names of a line share, counted as if each had its own.
+    ensures file_bytes { OnOk result
+        (host_bytes_kept earlier.new ≤ host_bytes_kept earlier.old + line_limit * length file.now) }
 {
     let mut buffer = KeyBuffer::new(alloc)?;
     let mut counts = Counts::NONE;
-    let mut earlier = EarlierHosts::new(alloc);
     for (number, line) in Lines::new(file) {
         let place = Place { name, number };
         let view = read_known_view(line, &mut buffer);
-        let told = push_line(alloc, form, asked, &place, line, &view, &mut earlier, out)?;
+        let told = push_line(alloc, form, asked, &place, line, &view, earlier, out)?;
         counts = counts.plus(told);
     }
     Ok(counts)

@@ -80,7 +80,7 @@ command-same (Some text) key = refl
 
 -- ---- a blob is shorter than its base64
 
-base64-long : (bytes : List ℕ) → length bytes ≤ length (base64 bytes)
+pub base64-long : (bytes : List ℕ) → length bytes ≤ length (base64 bytes)
 base64-long bytes =
     let whole : length (base64 bytes) ≡ length (encode_symbols standard.encode_table bytes) + length (replicate (padding_len (length bytes)) 61) =
     length-append (encode_symbols standard.encode_table bytes) (replicate (padding_len (length bytes)) 61) in
@@ -116,7 +116,7 @@ line-long asking line (Unreadable cause) h is = omega arith
 
 -- ---- a file and its lines
 
-abbrev pieces_bytes : List (List ℕ) → ℕ
+abbrev pub pieces_bytes : List (List ℕ) → ℕ
 pieces_bytes [] = 0
 pieces_bytes (line ∷ lines) = length line + pieces_bytes lines
 
@@ -124,7 +124,7 @@ onto-bytes : (c : ℕ) (lines : List (List ℕ)) → pieces_bytes (onto_first c 
 onto-bytes c [] = omega arith
 onto-bytes c (line ∷ lines) = omega arith
 
-pieces-short : (file : List ℕ) → pieces_bytes (lines_of file) ≤ length file
+pub pieces-short : (file : List ℕ) → pieces_bytes (lines_of file) ≤ length file
 pieces-short [] = omega arith
 pieces-short (c ∷ cs) = go (c == 10) (pieces-short cs)
   where
