@@ -18,12 +18,15 @@ abbrev pub revoked_record : Form → List ℕ → ℕ → List ℕ → List Host
 revoked_record Text name n bytes found = revoked_text name n bytes found
 revoked_record Json name n bytes found = revoked_object name n bytes found
 
+-- the record of a line of which no more can be told than what it is and the key that stands on it, if there is one
+abbrev pub bare_record : Form → List ℕ → ℕ → List ℕ → Option HeldKey → List HostFinding → List ℕ
+bare_record Text name n is held found = bare_text name n is held found
+bare_record Json name n is held found = bare_object name n is held found
+
 -- the record of a line that may revoke any key and cannot be read
 abbrev pub blind_record : Form → List ℕ → ℕ → List HostFinding → List ℕ
-blind_record Text name n found = bare_text name n (codes "revocation-unreadable") None found
-blind_record Json name n found = bare_object name n (codes "revocation-unreadable") None found
+blind_record form name n found = bare_record form name n (codes "revocation-unreadable") None found
 
 -- the record of a line that cannot be read, with the key that stands on it, if there is one
 abbrev pub host_unreadable_record : Form → List ℕ → ℕ → Option HeldKey → List HostFinding → List ℕ
-host_unreadable_record Text name n held found = bare_text name n (codes "unreadable") held found
-host_unreadable_record Json name n held found = bare_object name n (codes "unreadable") held found
+host_unreadable_record form name n held found = bare_record form name n (codes "unreadable") held found

@@ -13,6 +13,8 @@ ghost use Rattle.ssh_host_findings.specs.Memory.{
   texts_kept,
 };
 ghost use Rattle.ssh_host_findings.specs.StandsFor.{RemembersLines};
+ghost use Rattle.ssh_host_review.specs.Counting.{host_counts_with};
+ghost use Rattle.ssh_host_review.specs.Forms.{bare_record};
 ghost use Rattle.ssh_host_review.specs.Lines.{
   host_counts_of,
   host_kept_lines,
@@ -27,9 +29,9 @@ ghost use Rattle.ssh_host_review.specs.Memory.{host_line_bytes, host_line_sum, o
 use crate::object::{push_bare_object, push_entry_object, push_revoked_object};
 use crate::record::{push_bare_text, push_entry_text, push_revoked_text};
 use ssh_findings::Asked;
-use ssh_held_keys::held_key;
+use ssh_held_keys::{HeldKey, held_key};
 use ssh_host_findings::{
-    EarlierHosts, HostFacts, blind_findings, host_entry_findings, revocation_findings,
+    EarlierHosts, HostFacts, HostFinding, blind_findings, host_entry_findings, revocation_findings,
     unreadable_host_findings,
 };
 use ssh_lines::{KeyBuffer, KnownEntryView, KnownLineView, read_known_view};
@@ -115,6 +117,34 @@ fn push_revoked_line(
     })
 }
 
+/// The record of a line that cannot be read, with what it is and the key that stands on it, if there is
+/// one, and what it counts.
+fn push_bare_line(
+    alloc: Global,
+    form: Form,
+    place: &Place<'_>,
+    is: &[u8],
+    held: Option<HeldKey>,
+    found: &[HostFinding],
+    out: &mut Vec<u8>,
+) -> Result<Counts, AllocError>
+    ensures text { OnOk result (out.new.items ≡ out.old.items
+        ++ bare_record form place.entry.now.name.now place.entry.now.number is.now held found.now) }
+    ensures counts { IfOk result (λ counts. counts
+        ≡ host_counts_with KnownLine.RevokedUnreadable (length found.now)) }
+{
+    match form {
+        Form::Text => push_bare_text(alloc, out, place, is, held, found)?,
+        Form::Json => push_bare_object(alloc, out, place, is, held, found)?,
+    }
+    Ok(Counts {
+        lines: 1,
+        keys: 0,
+        unreadable: 1,
+        findings: found.len() as u64,
+    })
+}
+
 /// The record of a line that may revoke any key and cannot be read, and what it counts.
 fn push_blind_line(
     alloc: Global,
@@ -129,16 +159,15 @@ fn push_blind_line(
         [] [] KnownLine.RevokedUnreadable) }
 {
     let found = blind_findings(alloc, asked)?;
-    match form {
-        Form::Text => push_bare_text(alloc, out, place, b"revocation-unreadable", None, &found)?,
-        Form::Json => push_bare_object(alloc, out, place, b"revocation-unreadable", None, &found)?,
-    }
-    Ok(Counts {
-        lines: 1,
-        keys: 0,
-        unreadable: 1,
-        findings: found.len() as u64,
-    })
+    push_bare_line(
+        alloc,
+        form,
+        place,
+        b"revocation-unreadable",
+        None,
+        &found,
+        out,
+    )
 }
 
 /// The record of a line that cannot be read, and what it counts.
@@ -158,16 +187,7 @@ fn push_unreadable_line(
 {
     let held = held_key(alloc, line)?;
     let found = unreadable_host_findings(alloc, asked, cause)?;
-    match form {
-        Form::Text => push_bare_text(alloc, out, place, b"unreadable", held, &found)?,
-        Form::Json => push_bare_object(alloc, out, place, b"unreadable", held, &found)?,
-    }
-    Ok(Counts {
-        lines: 1,
-        keys: 0,
-        unreadable: 1,
-        findings: found.len() as u64,
-    })
+    push_bare_line(alloc, form, place, b"unreadable", held, &found, out)
 }
 
 /// The record of a line, if it has one, and what it counts.
