@@ -4,12 +4,15 @@
 ghost use Rattle.std.specs.Prelude.{IfOk};
 ghost use Rattle.ssh_keys.specs.Signature.{IsSignature, signature_of};
 
-use crate::compare::same;
+use crate::compare::{apart, same, spliced};
 use ssh_certs::{
     CertError, CertParts, CertView, Time, WriteError, plain_blob, read_cert, write_cert,
 };
 use ssh_keys::{KeyError, KeyFields, KeyView, SignatureView, read_key};
 use ssh_wire::{WireCause, WireError};
+use std::alloc::Global;
+use std::panic::Expect;
+use std::process::Abort;
 use std::test::Fail;
 
 /// A certificate of 213 bytes: an Ed25519 key of 32 zero bytes, in force from 100 up to 200 for
@@ -49,70 +52,68 @@ const MADE: &[u8] =
     \xb3uY\xa5\x84a\xa9V\xdd\xe38M\xcc\x97/\x9e0\xa8\x09\xbe\x13\xc1\xea\xde\x92\x8a\xa7\x12\0\0\0 k\
     \x1aY\xf8%\xa7\xc1\xf9h\xdd\x12\x8a\0 \x8a,q\xd7m\xf1\xf9\xf1K\x80\x1a\xafF[\xa8\xeb\x82\x8e";
 
-fn short(place: usize) -> WireError {
-    WireError {
-        place,
-        cause: WireCause::Short,
-    }
-}
+/// A byte after the certificate, and the cut of a string of which 15 bytes are there.
+const TRAILING: WireError = WireError {
+    place: 213,
+    cause: WireCause::Trailing,
+};
+
+const CUT: WireError = WireError {
+    place: 15,
+    cause: WireCause::Short,
+};
+
+/// The signature key without its last byte, and the signature without its last byte.
+const CUT_SIGNER: &[u8] =
+    b"\0\0\0\x32\0\0\0\x0bssh-ed25519\0\0\0\x20\0\0\0\0\0\0\0\0\0\0\0\0\0\0\0\0\0\0\0\0\0\0\0\0\0\0\0\0\0\0\0";
+
+const CUT_SIGNATURE: &[u8] = b"\0\0\0\x13\0\0\0\x0bssh-ed25519\0\0\0\x01";
 
 /// The certificate with other bytes in place of a part: how many stand in front, the bytes, where
-/// it goes on.
+/// it goes on, and the first fault.
+const FAULTS: [(usize, [&[u8]; 2], usize, CertError); 9] = [
+    (213, [b"\0", b""], 213, CertError::Wire(TRAILING)),
+    (99, [b"\0\0\0\x04", b""], 103, CertError::Principals(99)),
+    (
+        134,
+        [CUT_SIGNER, b""],
+        189,
+        CertError::Signer(KeyError::Wire(CUT)),
+    ),
+    (189, [CUT_SIGNATURE, b""], 213, CertError::Signature(CUT)),
+    (134, [b"\0\0\0\xd5", X0], 189, CertError::ChainedSigner),
+    (
+        122,
+        [b"\0\0\0\x05", b"\0\0\0\x01a"],
+        126,
+        CertError::Options(131),
+    ),
+    (
+        122,
+        [b"\0\0\0\x05", b"\0\0\0\x02a"],
+        126,
+        CertError::Options(126),
+    ),
+    (
+        126,
+        [b"\0\0\0\x0a", b"\0\0\0\x01a\0\0\0\x02b"],
+        130,
+        CertError::Options(135),
+    ),
+    (
+        0,
+        [b"\0\0\0\x0bssh-ed25519", b""],
+        36,
+        CertError::UnknownType,
+    ),
+];
+
 #[test]
-fn refuses_certificates(rt: HostRuntime) -> Result<(), Fail> {
-    let trailing = WireError {
-        place: 213,
-        cause: WireCause::Trailing,
-    };
-    let rows: [(usize, [&[u8]; 2], usize, CertError); 9] = [
-        (213, [b"\0", b""], 213, CertError::Wire(trailing)),
-        (99, [b"\0\0\0\x04", b""], 103, CertError::Principals(99)),
-        (
-            134,
-            [b"\0\0\0\x32", &K1[..50]],
-            189,
-            CertError::Signer(KeyError::Wire(short(15))),
-        ),
-        (
-            189,
-            [b"\0\0\0\x13", &S0[..19]],
-            213,
-            CertError::Signature(short(15)),
-        ),
-        (134, [b"\0\0\0\xd5", X0], 189, CertError::ChainedSigner),
-        (
-            122,
-            [b"\0\0\0\x05", b"\0\0\0\x01a"],
-            126,
-            CertError::Options(131),
-        ),
-        (
-            122,
-            [b"\0\0\0\x05", b"\0\0\0\x02a"],
-            126,
-            CertError::Options(126),
-        ),
-        (
-            126,
-            [b"\0\0\0\x0a", b"\0\0\0\x01a\0\0\0\x02b"],
-            130,
-            CertError::Options(135),
-        ),
-        (
-            0,
-            [b"\0\0\0\x0bssh-ed25519", b""],
-            36,
-            CertError::UnknownType,
-        ),
-    ];
-    for (front, part, back, want) in rows {
-        let mut blob = Vec::from_slice(rt.alloc(), &X0[..front])?;
-        blob.extend_from_slice(part[0])?;
-        blob.extend_from_slice(part[1])?;
-        blob.extend_from_slice(&X0[back..])?;
+fn refuses_certificates(rt: HostRuntime) {
+    for (front, part, back, want) in FAULTS {
+        let blob = spliced(&rt, rt.alloc(), X0, (front, part, back));
         same(&rt, &read_cert(&blob).err(), &Some(want));
     }
-    Ok(())
 }
 
 /// The parts of a certificate with these lists.
@@ -141,28 +142,50 @@ pub(crate) fn parts_of<'a>(
     }
 }
 
-#[test]
-fn writes_what_it_reads(rt: HostRuntime) -> Result<(), Fail> {
-    let view = read_cert(X0)?;
-    let mut out = Vec::new(rt.alloc());
-    write_cert(&parts_of(&view, &[b"ann"], &[], &[]), &mut out)?;
-    same(&rt, &out.as_slice(), &X0);
-    same(&rt, &plain_blob(rt.alloc(), &view)?.as_slice(), &K0);
-    same(&rt, &view.signed_part(), &&X0[..189]);
-    same(&rt, &view.signer_blob(), &K1);
-    same(&rt, &view.signature_blob(), &S0);
-    Ok(())
+/// The blob of the certificate with these parts.
+pub(crate) fn blob_of(rt: &impl Abort, alloc: Global, parts: &CertParts<'_>) -> Vec<u8>
+    requires { IsSignature (signature_of parts.now.signature) }
+{
+    let mut out = Vec::new(alloc);
+    write_cert(parts, &mut out).expect(rt, "a blob");
+    out
+}
+
+/// The certificate with this blob.
+pub(crate) fn cert_of<'a>(rt: &impl Abort, blob: &'a [u8]) -> CertView<'a> {
+    read_cert(blob).expect(rt, "a certificate")
 }
 
 #[test]
-fn reads_what_openssh_makes(rt: HostRuntime) -> Result<(), Fail> {
-    let principals: [&[u8]; 2] = [b"ann", b"bob"];
-    let extensions: [(&[u8], &[u8]); 1] = [(b"permit-pty", b"")];
-    let critical: [(&[u8], &[u8]); 2] = [
-        (b"force-command", b"\0\0\0\x07a \"b\" c"),
-        (b"source-address", b"\0\0\0\x0c192.0.2.0/24"),
-    ];
-    let view = read_cert(MADE)?;
+fn writes_what_it_reads(rt: HostRuntime) {
+    let view = cert_of(&rt, X0);
+    let blob = blob_of(&rt, rt.alloc(), &parts_of(&view, &[b"ann"], &[], &[]));
+    same(&rt, &blob.as_slice(), &X0);
+    same(
+        &rt,
+        &plain_blob(rt.alloc(), &view)
+            .expect(&rt, "memory")
+            .as_slice(),
+        &K0,
+    );
+    same(&rt, &view.signed_part(), &&X0[..189]);
+    same(&rt, &view.signer_blob(), &K1);
+    same(&rt, &view.signature_blob(), &S0);
+}
+
+/// The lists of the certificate that OpenSSH made.
+const PRINCIPALS: [&[u8]; 2] = [b"ann", b"bob"];
+
+const CRITICAL: [(&[u8], &[u8]); 2] = [
+    (b"force-command", b"\0\0\0\x07a \"b\" c"),
+    (b"source-address", b"\0\0\0\x0c192.0.2.0/24"),
+];
+
+const EXTENSIONS: [(&[u8], &[u8]); 1] = [(b"permit-pty", b"")];
+
+#[test]
+fn reads_what_openssh_makes(rt: HostRuntime) {
+    let view = cert_of(&rt, MADE);
     same(
         &rt,
         &(
@@ -174,17 +197,22 @@ fn reads_what_openssh_makes(rt: HostRuntime) -> Result<(), Fail> {
         &(u64::MAX, 1, 100, 200),
     );
     same(&rt, &view.key_id(), &b"ann at home".as_slice());
-    assert!(rt; view.principals().eq(principals));
-    assert!(rt; view.critical().eq(critical));
-    assert!(rt; view.extensions().eq(extensions));
     same(&rt, &view.signed_part(), &&MADE[..477]);
-    let mut out = Vec::new(rt.alloc());
-    write_cert(
-        &parts_of(&view, &principals, &critical, &extensions),
-        &mut out,
-    )?;
-    same(&rt, &out.as_slice(), &MADE);
-    Ok(())
+}
+
+/// Stops the test where a list of the certificate is another than that of these parts.
+fn same_lists(rt: &impl Abort, view: &CertView<'_>, parts: &CertParts<'_>) {
+    assert!(rt; view.principals().eq(parts.principals.iter().copied()));
+    assert!(rt; view.critical().eq(parts.critical.iter().copied()));
+    assert!(rt; view.extensions().eq(parts.extensions.iter().copied()));
+}
+
+#[test]
+fn writes_what_openssh_makes(rt: HostRuntime) {
+    let view = cert_of(&rt, MADE);
+    let parts = parts_of(&view, &PRINCIPALS, &CRITICAL, &EXTENSIONS);
+    same_lists(&rt, &view, &parts);
+    same(&rt, &blob_of(&rt, rt.alloc(), &parts).as_slice(), &MADE);
 }
 
 /// What a caller sees to of an admitted name: the signer, what was signed, and the signature.
@@ -200,18 +228,32 @@ fn admit<'a>(blob: &'a [u8], now: u64, user: &[u8]) -> Result<Option<Admitted<'a
 }
 
 #[test]
-fn runs_the_example(rt: HostRuntime) -> Result<(), Fail> {
-    let signature = SignatureView::from_fields(b"ssh-ed25519", b"\xaa", None)?;
-    let want = (read_key(K1)?, &X0[..189], signature);
-    same(&rt, &admit(X0, 100, b"ann")?, &Some(want));
-    same(&rt, &admit(X0, 200, b"ann")?, &None);
-    same(&rt, &admit(X0, 100, b"bob")?, &None);
-    Ok(())
+fn runs_the_example(rt: HostRuntime) {
+    let want = (
+        read_key(K1).expect(&rt, "a key"),
+        &X0[..189],
+        signature(&rt),
+    );
+    same(
+        &rt,
+        &admit(X0, 100, b"ann").expect(&rt, "a certificate"),
+        &Some(want),
+    );
+    same(
+        &rt,
+        &admit(X0, 200, b"ann").expect(&rt, "a certificate"),
+        &None,
+    );
+    same(
+        &rt,
+        &admit(X0, 100, b"bob").expect(&rt, "a certificate"),
+        &None,
+    );
 }
 
 #[test]
-fn tells_the_time(rt: HostRuntime) -> Result<(), Fail> {
-    let view = read_cert(X0)?;
+fn tells_the_time(rt: HostRuntime) {
+    let view = cert_of(&rt, X0);
     let rows = [
         (0, Time::Early),
         (99, Time::Early),
@@ -223,12 +265,11 @@ fn tells_the_time(rt: HostRuntime) -> Result<(), Fail> {
     for (now, want) in rows {
         assert_eq!(rt; view.in_time(now), want, "at {now}");
     }
-    Ok(())
 }
 
 #[test]
-fn finds_principals(rt: HostRuntime) -> Result<(), Fail> {
-    let view = read_cert(X0)?;
+fn finds_principals(rt: HostRuntime) {
+    let view = cert_of(&rt, X0);
     let rows: [(&[u8], bool); 5] = [
         (b"ann", true),
         (b"an", false),
@@ -239,27 +280,30 @@ fn finds_principals(rt: HostRuntime) -> Result<(), Fail> {
     for (name, want) in rows {
         same(&rt, &view.has_principal(name), &want);
     }
-    Ok(())
+}
+
+/// The signature of one byte.
+fn signature(rt: &impl Abort) -> SignatureView<'static>
+    ensures { IsSignature (signature_of result) }
+{
+    SignatureView::from_fields(b"ssh-ed25519", b"\xaa", None).expect(rt, "a signature")
 }
 
 /// A certificate whose nonce is given and whose other fields were never read.
-fn unread_parts<'a>(
-    nonce: &'a [u8],
-    signature: SignatureView<'a>,
-) -> Result<CertParts<'a>, KeyError>
+fn unread_parts<'a>(rt: &impl Abort, nonce: &'a [u8], signature: SignatureView<'a>) -> CertParts<'a>
     requires { IsSignature (signature_of signature) }
-    ensures { IfOk result (λ parts. IsSignature (signature_of parts.signature)) }
+    ensures { IsSignature (signature_of result.signature) }
 {
     let key = KeyView::from_fields(KeyFields::Ed25519 {
         public: b"abcdefghijklmnopqrstuvwxyz012345",
-    })?;
+    });
     let signer = KeyView::from_fields(KeyFields::SkEd25519 {
         public: b"012345abcdefghijklmnopqrstuvwxyz",
         application: b"ssh:",
-    })?;
-    Ok(CertParts {
+    });
+    CertParts {
         nonce,
-        key,
+        key: key.expect(rt, "a key"),
         serial: 5,
         kind_number: 2,
         key_id: b"host",
@@ -269,58 +313,84 @@ fn unread_parts<'a>(
         critical: &[(b"force-command", b"\0\0\0\x01x")],
         extensions: &[(b"permit-pty", b"")],
         reserved: b"",
-        signer,
+        signer: signer.expect(rt, "a signer"),
         signature,
-    })
+    }
+}
+
+/// The parts of a certificate that were never read, signed by a security key.
+fn never_read(rt: &impl Abort) -> CertParts<'static>
+    ensures { IsSignature (signature_of result.signature) }
+{
+    let algorithm = b"sk-ssh-ed25519@openssh.com";
+    let signature = SignatureView::from_fields(algorithm, b"\xaa", Some((1, 7)));
+    unread_parts(rt, b"n", signature.expect(rt, "a signature"))
 }
 
 /// A certificate made of parts that were never read is read back field by field.
 #[test]
-fn reads_what_was_never_read(rt: HostRuntime) -> Result<(), Fail> {
-    let algorithm = b"sk-ssh-ed25519@openssh.com";
-    let signature = SignatureView::from_fields(algorithm, b"\xaa", Some((1, 7)))?;
-    let parts = unread_parts(b"n", signature)?;
-    let mut out = Vec::new(rt.alloc());
-    write_cert(&parts, &mut out)?;
-    let view = read_cert(&out)?;
-    assert!(rt; view.principals().eq(parts.principals.iter().copied()));
-    assert!(rt; view.critical().eq(parts.critical.iter().copied()));
-    assert!(rt; view.extensions().eq(parts.extensions.iter().copied()));
+fn reads_what_was_never_read(rt: HostRuntime) {
+    let parts = never_read(&rt);
+    let blob = blob_of(&rt, rt.alloc(), &parts);
+    let view = cert_of(&rt, &blob);
+    same_lists(&rt, &view, &parts);
     let back = parts_of(&view, parts.principals, parts.critical, parts.extensions);
     same(&rt, &back, &parts);
-    let (same, other) = (read_cert(&out)?, read_cert(X0)?);
-    assert!(rt; view == same && view != other);
-    assert!(rt; view.principals() == same.principals());
-    assert!(rt; view.principals() != other.principals());
-    assert!(rt; view.critical() == same.critical());
-    assert!(rt; view.critical() != view.extensions());
-    Ok(())
 }
 
-/// The longest blob is written and read, and one byte more is refused by both.
+/// Certificates of one blob are like each other, and unlike that of another.
 #[test]
-fn keeps_the_limit(rt: HostRuntime) -> Result<(), Fail> {
-    let long = vec![in rt.alloc(); 255; 262_145]?;
+fn compares_what_it_reads(rt: HostRuntime) {
+    let blob = blob_of(&rt, rt.alloc(), &never_read(&rt));
+    let (view, like, other) = (cert_of(&rt, &blob), cert_of(&rt, &blob), cert_of(&rt, X0));
+    apart(&rt, &view, &like, &other);
+    apart(
+        &rt,
+        &view.principals(),
+        &like.principals(),
+        &other.principals(),
+    );
+    apart(&rt, &view.critical(), &like.critical(), &view.extensions());
+}
+
+/// How many bytes the longest nonce has of these parts.
+const ROOM: usize = 261_844;
+
+/// Writes the certificate with this nonce.
+fn write_with(rt: &impl Abort, nonce: &[u8], out: &mut Vec<u8>) -> Result<(), WriteError> {
+    write_cert(&unread_parts(rt, nonce, signature(rt)), out)
+}
+
+/// A blob of the most bytes is looked into, and one byte more is not.
+#[test]
+fn keeps_the_limit(rt: HostRuntime) {
+    let long = vec![in rt.alloc(); 255; 262_145].expect(&rt, "memory");
     same(&rt, &read_cert(&long).err(), &Some(CertError::TooLong));
-    same(
-        &rt,
-        &read_cert(&long[1..]).err(),
-        &Some(CertError::Wire(short(0))),
-    );
-    let signature = SignatureView::from_fields(b"ssh-ed25519", b"\xaa", None)?;
+    let cut = CertError::Wire(WireError {
+        place: 0,
+        cause: WireCause::Short,
+    });
+    same(&rt, &read_cert(&long[1..]).err(), &Some(cut));
+}
+
+/// A certificate whose blob would be longer is not written, and nothing of it is.
+#[test]
+fn writes_none_past_the_limit(rt: HostRuntime) {
+    let nonce = vec![in rt.alloc(); 255; ROOM + 1].expect(&rt, "memory");
     let mut out = Vec::new(rt.alloc());
-    write_cert(&unread_parts(b"", signature)?, &mut out)?;
-    let room = 262_144 - out.len();
-    out.clear();
-    same(
-        &rt,
-        &write_cert(&unread_parts(&long[..room + 1], signature)?, &mut out),
-        &Err(WriteError::TooLong),
-    );
-    write_cert(&unread_parts(&long[..room], signature)?, &mut out)?;
+    let written = write_with(&rt, &nonce, &mut out);
+    same(&rt, &written, &Err(WriteError::TooLong));
+    same(&rt, &out.len(), &0);
+}
+
+/// The longest blob is written and read, and one byte more is refused.
+#[test]
+fn reads_the_longest(rt: HostRuntime) {
+    let nonce = vec![in rt.alloc(); 255; ROOM].expect(&rt, "memory");
+    let mut out = Vec::new(rt.alloc());
+    write_with(&rt, &nonce, &mut out).expect(&rt, "memory");
     same(&rt, &out.len(), &262_144);
-    same(&rt, &read_cert(&out)?.nonce().len(), &room);
-    out.push(0)?;
+    same(&rt, &cert_of(&rt, &out).nonce().len(), &ROOM);
+    out.push(0).expect(&rt, "memory");
     same(&rt, &read_cert(&out).err(), &Some(CertError::TooLong));
-    Ok(())
 }

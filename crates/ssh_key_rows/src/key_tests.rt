@@ -7,6 +7,8 @@ use ssh_keys::{
 };
 use ssh_wire::{WireCause, WireError};
 use std::alloc::Global;
+use std::panic::Expect;
+use std::process::Abort;
 use std::test::Fail;
 
 /// An Ed25519 key of 32 zero bytes.
@@ -58,26 +60,50 @@ fn refuses_keys(rt: HostRuntime) {
     }
 }
 
-/// Keys and signatures, read and written back.
+/// The blob of the key.
+pub(crate) fn written(rt: &impl Abort, alloc: Global, view: &KeyView<'_>) -> Vec<u8> {
+    let mut out = Vec::new(alloc);
+    write_key(view, &mut out).expect(rt, "memory");
+    out
+}
+
+/// Keys, read and written back.
 #[test]
-fn writes_what_was_read(rt: HostRuntime) -> Result<(), Fail> {
+fn writes_what_was_read(rt: HostRuntime) {
     for blob in [K0, RSA, SK] {
-        let view = read_key(blob)?;
-        let mut out = Vec::new(rt.alloc());
-        write_key(&view, &mut out)?;
-        same(&rt, &out.as_slice(), &blob);
-        assert!(rt; same_key(&view, &KeyView::from_fields(view.fields())?));
-        let key = Key::read(out)?;
+        let view = read_key(blob).expect(&rt, "a key");
+        same(&rt, &written(&rt, rt.alloc(), &view).as_slice(), &blob);
+        let made = KeyView::from_fields(view.fields()).expect(&rt, "a key");
+        assert!(rt; same_key(&view, &made));
+    }
+}
+
+/// The key that owns a copy of the blob.
+fn owned(rt: &impl Abort, alloc: Global, blob: &[u8]) -> Key {
+    let copy = Vec::from_slice(alloc, blob).expect(rt, "memory");
+    Key::read(copy).expect(rt, "a key")
+}
+
+/// Keys that own their blobs.
+#[test]
+fn owns_what_was_read(rt: HostRuntime) {
+    for blob in [K0, RSA, SK] {
+        let key = owned(&rt, rt.alloc(), blob);
         same(&rt, &key.blob(), &blob);
-        assert!(rt; key.view() == view);
-        assert!(rt; key == Key::read(Vec::from_slice(rt.alloc(), blob)?)?);
+        assert!(rt; key.view() == read_key(blob).expect(&rt, "a key"));
+        assert!(rt; key == owned(&rt, rt.alloc(), blob));
     }
+}
+
+/// Signatures, read and written back.
+#[test]
+fn writes_signatures(rt: HostRuntime) {
     for blob in [S0, SK_SIGNATURE] {
+        let view = read_signature(blob).expect(&rt, "a signature");
         let mut out = Vec::new(rt.alloc());
-        write_signature(&read_signature(blob)?, &mut out)?;
+        write_signature(&view, &mut out).expect(&rt, "memory");
         same(&rt, &out.as_slice(), &blob);
     }
-    Ok(())
 }
 
 /// What the example in the crate's root does.
@@ -114,9 +140,9 @@ fn runs_the_example(rt: HostRuntime) -> Result<(), Fail> {
 
 /// Flags and a counter that do not belong there, none where they do, and a blob that is too long.
 #[test]
-fn refuses_signatures(rt: HostRuntime) -> Result<(), Fail> {
+fn refuses_signatures(rt: HostRuntime) {
     let sk = b"sk-ssh-ed25519@openssh.com";
-    let long = vec![in rt.alloc(); 255; 262_126]?;
+    let long = vec![in rt.alloc(); 255; 262_126].expect(&rt, "memory");
     let rows: [(&[u8], &[u8], Option<(u8, u32)>); 3] = [
         (b"ssh-ed25519", b"a", Some((1, 7))),
         (sk, b"a", None),
@@ -126,25 +152,30 @@ fn refuses_signatures(rt: HostRuntime) -> Result<(), Fail> {
         let view = SignatureView::from_fields(algorithm, bytes, flags);
         same(&rt, &view, &Err(fault(0, WireCause::Value)));
     }
-    let longest = SignatureView::from_fields(b"ssh-ed25519", &long[1..], None)?;
+    let longest = SignatureView::from_fields(b"ssh-ed25519", &long[1..], None).expect(
+        &rt, "fields",
+    );
     same(&rt, &longest.bytes.len(), &262_125);
-    Ok(())
 }
 
 /// Texts of digests, and what is told of keys.
 #[test]
-fn tells_of_keys(rt: HostRuntime) -> Result<(), Fail> {
+fn tells_of_keys(rt: HostRuntime) {
     let digest = [
         0xba, 0x78, 0x16, 0xbf, 0x8f, 0x01, 0xcf, 0xea, 0x41, 0x41, 0x40, 0xde, 0x5d, 0xae, 0x22,
         0x23, 0xb0, 0x03, 0x61, 0xa3, 0x96, 0x17, 0x7a, 0x9c, 0xb4, 0x10, 0xff, 0x61, 0xf2, 0x00,
         0x15, 0xad,
     ];
-    let text = digest_text(rt.alloc(), &digest)?;
+    let text = digest_text(rt.alloc(), &digest).expect(&rt, "memory");
     same(&rt, &&text, &b"ungWv48Bz+pBQUDeXa4iI7ADYaOWF3qctBD/YfIAFa0");
-    let text = fingerprint(rt.alloc(), &read_key(K0)?)?;
+    let text = fingerprint(rt.alloc(), &read_key(K0).expect(&rt, "a key")).expect(&rt, "memory");
     same(&rt, &&text, &b"kmYcvdi2GkPeWxB6XLjrZB8JHsy2Hm8luHMFp9GMvqk");
-    same(&rt, &rsa_bits(&read_key(RSA)?), &Some(8));
-    same(&rt, &rsa_bits(&read_key(K0)?), &None);
+    same(
+        &rt,
+        &rsa_bits(&read_key(RSA).expect(&rt, "a key")),
+        &Some(8),
+    );
+    same(&rt, &rsa_bits(&read_key(K0).expect(&rt, "a key")), &None);
     let short = KeyFields::Ed25519 { public: b"abc" };
     same(
         &rt,
@@ -152,13 +183,12 @@ fn tells_of_keys(rt: HostRuntime) -> Result<(), Fail> {
         &Some(KeyError::Length),
     );
     same(&rt, &fits(KeyKind::Rsa, b"ssh-rsa"), &Fit::Weak);
-    Ok(())
 }
 
 /// The longest blobs that are read, and one byte more.
 #[test]
-fn keeps_the_limit(rt: HostRuntime) -> Result<(), Fail> {
-    let long = vec![in rt.alloc(); 255; 262_145]?;
+fn keeps_the_limit(rt: HostRuntime) {
+    let long = vec![in rt.alloc(); 255; 262_145].expect(&rt, "memory");
     same(&rt, &read_key(&long).err(), &Some(KeyError::TooLong));
     same(
         &rt,
@@ -169,7 +199,6 @@ fn keeps_the_limit(rt: HostRuntime) -> Result<(), Fail> {
     let short = fault(0, WireCause::Short);
     same(&rt, &read_key(longest).err(), &Some(KeyError::Wire(short)));
     same(&rt, &read_signature(longest).err(), &Some(short));
-    Ok(())
 }
 
 /// A security key's Ed25519 key with this application.
@@ -182,16 +211,15 @@ fn sk_key<'a>(public: &'a [u8], application: &'a [u8]) -> Result<KeyView<'a>, Ke
 
 /// A key whose blob is the longest is written and read, and one byte more is refused by both.
 #[test]
-fn reads_the_longest_key(rt: HostRuntime) -> Result<(), Fail> {
+fn reads_the_longest_key(rt: HostRuntime) {
     let public = b"abcdefghijklmnopqrstuvwxyz012345";
-    let long = vec![in rt.alloc(); 255; 262_075]?;
-    same(&rt, &sk_key(public, &long), &Err(KeyError::TooLong));
-    let longest = sk_key(public, &long[1..])?;
-    let mut out = Vec::new(rt.alloc());
-    write_key(&longest, &mut out)?;
+    let long = vec![in rt.alloc(); 255; 262_075].expect(&rt, "memory");
+    let fault = sk_key(public, &long).err();
+    same(&rt, &fault, &Some(KeyError::TooLong));
+    let longest = sk_key(public, &long[1..]).expect(&rt, "a key");
+    let mut out = written(&rt, rt.alloc(), &longest);
     same(&rt, &out.len(), &262_144);
-    assert!(rt; read_key(&out)? == longest);
-    out.push(0)?;
-    same(&rt, &read_key(&out), &Err(KeyError::TooLong));
-    Ok(())
+    assert!(rt; read_key(&out).expect(&rt, "a key") == longest);
+    out.push(0).expect(&rt, "memory");
+    same(&rt, &read_key(&out).err(), &Some(KeyError::TooLong));
 }

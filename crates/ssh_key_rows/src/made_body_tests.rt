@@ -1,9 +1,12 @@
 //! A private body of each kind from outside, and the most padding.
 
-use crate::compare::same;
+use crate::body_tests::private_again;
+use crate::compare::{joined, same};
 use ssh_bodies::{BodyError, PrivateView, read_private, write_private};
 use ssh_keys::KeyKind;
-use std::test::Fail;
+use std::alloc::Global;
+use std::panic::Expect;
+use std::process::Abort;
 
 /// The body of an RSA key of 1024 bits that `ssh-keygen -N ''` of OpenSSH 9.2 made, as the others
 /// below.
@@ -100,65 +103,65 @@ const SK_ED25519: &[u8] =
     \xb4MZ\x11$\xe4#\xc9\x9e \x0f\0\0\0\x04ssh:\x05\0\0\0\x06handle\0\0\0\0\0\0\0\x04made\x01\x02\
     \x03\x04\x05\x06\x07";
 
+/// The bodies of each kind.
+const BODIES: [(&[u8], KeyKind); 7] = [
+    (RSA, KeyKind::Rsa),
+    (P256, KeyKind::P256),
+    (P384, KeyKind::P384),
+    (P521, KeyKind::P521),
+    (ED25519, KeyKind::Ed25519),
+    (SK_P256, KeyKind::SkP256),
+    (SK_ED25519, KeyKind::SkEd25519),
+];
+
 /// A body of each kind, read and written back.
 #[test]
-fn reads_and_writes_each_kind(rt: HostRuntime) -> Result<(), Fail> {
-    let rows: [(&[u8], KeyKind); 7] = [
-        (RSA, KeyKind::Rsa),
-        (P256, KeyKind::P256),
-        (P384, KeyKind::P384),
-        (P521, KeyKind::P521),
-        (ED25519, KeyKind::Ed25519),
-        (SK_P256, KeyKind::SkP256),
-        (SK_ED25519, KeyKind::SkEd25519),
-    ];
-    for (body, kind) in rows {
-        let view = read_private(body)?;
-        same(&rt, &view.public.kind(), &kind);
-        same(&rt, &view.comment, &b"made".as_slice());
-        let mut out = Vec::new(rt.alloc());
-        write_private(&view, &mut out)?;
+fn reads_and_writes_each_kind(rt: HostRuntime) {
+    for (body, kind) in BODIES {
+        let view = read_private(body).expect(&rt, "a private body");
+        let told = (view.public.kind(), view.comment);
+        same(&rt, &told, &(kind, b"made".as_slice()));
+        let out = private_again(&rt, rt.alloc(), body);
         same(&rt, &out.as_slice(), &body);
     }
-    Ok(())
 }
 
 /// A body of each kind, made of its fields.
 #[test]
-fn makes_each_kind(rt: HostRuntime) -> Result<(), Fail> {
-    for body in [RSA, P256, P384, P521, ED25519, SK_P256, SK_ED25519] {
-        let read = read_private(body)?;
-        let made = PrivateView::from_fields(read.check, read.fields, read.comment)?;
+fn makes_each_kind(rt: HostRuntime) {
+    for (body, _) in BODIES {
+        let read = read_private(body).expect(&rt, "a private body");
+        let made = PrivateView::from_fields(read.check, read.fields, read.comment);
         let mut out = Vec::new(rt.alloc());
-        write_private(&made, &mut out)?;
+        write_private(&made.expect(&rt, "a private body"), &mut out).expect(&rt, "memory");
         same(&rt, &out.as_slice(), &body);
     }
-    Ok(())
 }
 
 /// The Ed25519 body with another comment, given with its length before it, and so much padding that
 /// its section has 392 bytes.
-fn padded(rt: &HostRuntime, comment: &[u8]) -> Result<Vec<u8>, Fail> {
-    let mut body = Vec::from_slice(rt.alloc(), &ED25519[..94])?;
-    body.extend_from_slice(b"\0\0\x01\x88")?;
-    body.extend_from_slice(&ED25519[98..225])?;
-    body.extend_from_slice(comment)?;
+fn padded(rt: &impl Abort, alloc: Global, comment: &[u8]) -> Vec<u8> {
+    let parts = [&ED25519[..94], b"\0\0\x01\x88", &ED25519[98..225], comment];
+    let mut body = joined(rt, alloc, &parts);
     for byte in 1..=255 {
         if body.len() < 490 {
-            body.push(byte)?;
+            body.push(byte).expect(rt, "memory");
         }
     }
-    Ok(body)
+    body
 }
 
 /// The most padding that is read, and one byte more.
 #[test]
-fn reads_the_most_padding(rt: HostRuntime) -> Result<(), Fail> {
-    let most = padded(&rt, b"\0\0\0\x07comment")?;
+fn reads_the_most_padding(rt: HostRuntime) {
+    let most = padded(&rt, rt.alloc(), b"\0\0\0\x07comment");
     same(&rt, &most.last(), &Some(&254));
-    same(&rt, &read_private(&most)?.comment, &b"comment".as_slice());
-    let more = padded(&rt, b"\0\0\0\x06commen")?;
+    same(
+        &rt,
+        &read_private(&most).expect(&rt, "a private body").comment,
+        &b"comment".as_slice(),
+    );
+    let more = padded(&rt, rt.alloc(), b"\0\0\0\x06commen");
     same(&rt, &more.last(), &Some(&255));
     same(&rt, &read_private(&more).err(), &Some(BodyError::Padding));
-    Ok(())
 }

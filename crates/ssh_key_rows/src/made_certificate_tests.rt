@@ -1,12 +1,11 @@
 //! Certificates that `ssh-keygen` of OpenSSH 9.2 made over an ECDSA key and over security keys,
 //! signed by RSA and ECDSA keys: whole, cut and with faults.
 
-use crate::certificate_tests::parts_of;
-use crate::compare::same;
-use ssh_certs::{CertError, read_cert, write_cert};
+use crate::certificate_tests::{blob_of, cert_of, parts_of};
+use crate::compare::{Piece, last_start, pieced, same};
+use ssh_certs::{CertError, CertView, read_cert};
 use ssh_keys::{KeyError, KeyKind};
 use ssh_wire::{WireCause, WireError};
-use std::test::Fail;
 
 /// A host's certificate of an ECDSA key on nistp384, signed by an RSA key with SHA-512.
 const HOST: &[u8] =
@@ -105,17 +104,6 @@ const MADE: [Made; 3] = [
     },
 ];
 
-/// Where the last field begins that begins in the first n bytes, or at their end.
-fn last_start(n: usize, starts: &[usize]) -> usize {
-    let mut place = 0;
-    for start in starts {
-        if *start <= n {
-            place = *start;
-        }
-    }
-    place
-}
-
 /// The fault of the certificate cut to n bytes: the field that is cut.
 fn fault_of_cut(n: usize, made: &Made) -> CertError {
     let place = last_start(n, made.starts);
@@ -147,73 +135,92 @@ fn cuts_each_certificate(rt: HostRuntime) {
     }
 }
 
-/// What each certificate says, and that it is written back.
-#[test]
-fn reads_each_certificate(rt: HostRuntime) -> Result<(), Fail> {
-    let rows: [(&[u8], [KeyKind; 2], &[u8], &[&[u8]], &[(&[u8], &[u8])]); 3] = [
-        (
-            HOST,
-            [KeyKind::P384, KeyKind::Rsa],
-            b"srv",
-            &[b"host.example", b"10.0.0.1"],
-            &[],
-        ),
-        (
-            SK_ED25519,
-            [KeyKind::SkEd25519, KeyKind::P521],
-            b"tok",
-            &[b"ann"],
-            &PERMITS,
-        ),
-        (
-            SK_P256,
-            [KeyKind::SkP256, KeyKind::P256],
-            b"tok2",
-            &[b"ann", b"bob"],
-            &PERMITS,
-        ),
-    ];
-    for (blob, kinds, key_id, principals, extensions) in rows {
-        let view = read_cert(blob)?;
-        same(&rt, &[view.key().kind(), view.signer().kind()], &kinds);
-        same(&rt, &view.key_id(), &key_id);
-        same(
-            &rt,
-            &(view.serial(), view.after(), view.before()),
-            &(7, 100, 200),
-        );
-        let mut out = Vec::new(rt.alloc());
-        write_cert(&parts_of(&view, principals, &[], extensions), &mut out)?;
-        same(&rt, &out.as_slice(), &blob);
-    }
-    Ok(())
+/// The kinds of both keys, the name, and the numbers of the certificate.
+fn told_of<'a>(view: &CertView<'a>) -> ([KeyKind; 2], &'a [u8], [u64; 3]) {
+    let kinds = [view.key().kind(), view.signer().kind()];
+    (
+        kinds,
+        view.key_id(),
+        [view.serial(), view.after(), view.before()],
+    )
 }
 
-/// Certificates put together from parts, and the first fault of each.
+/// What a certificate says: its blob, the kinds of both keys, its name, and two lists.
+type Row = (
+    &'static [u8],
+    [KeyKind; 2],
+    &'static [u8],
+    &'static [&'static [u8]],
+    &'static [(&'static [u8], &'static [u8])],
+);
+
+const ROWS: [Row; 3] = [
+    (
+        HOST,
+        [KeyKind::P384, KeyKind::Rsa],
+        b"srv",
+        &[b"host.example", b"10.0.0.1"],
+        &[],
+    ),
+    (
+        SK_ED25519,
+        [KeyKind::SkEd25519, KeyKind::P521],
+        b"tok",
+        &[b"ann"],
+        &PERMITS,
+    ),
+    (
+        SK_P256,
+        [KeyKind::SkP256, KeyKind::P256],
+        b"tok2",
+        &[b"ann", b"bob"],
+        &PERMITS,
+    ),
+];
+
+/// What each certificate says, and that it is written back.
 #[test]
-fn refuses_public_fields(rt: HostRuntime) -> Result<(), Fail> {
-    let rows: [([&[u8]; 3], KeyError); 4] = [
-        (
-            [&HOST[..80], b"\0\0\0\x08nistp256", &HOST[92..]],
-            KeyError::Curve,
-        ),
-        ([&HOST[..92], b"\0\0\0\x5f", &HOST[96..]], KeyError::Point),
-        ([&SK_P256[..95], b"\0\0\0\x01\x04", b""], KeyError::Point),
-        (
-            [
-                b"\0\0\0\x23sk-ssh-ed25519-cert-v01@openssh.com",
-                &HOST[44..],
-                b"",
-            ],
-            KeyError::Length,
-        ),
-    ];
-    for (parts, want) in rows {
-        let mut blob = Vec::new(rt.alloc());
-        for part in parts {
-            blob.extend_from_slice(part)?;
-        }
-        same(&rt, &read_cert(&blob).err(), &Some(CertError::Key(want)));
+fn reads_each_certificate(rt: HostRuntime) {
+    for (blob, kinds, key_id, principals, extensions) in ROWS {
+        let view = cert_of(&rt, blob);
+        same(&rt, &told_of(&view), &(kinds, key_id, [7, 100, 200]));
+        let parts = parts_of(&view, principals, &[], extensions);
+        same(&rt, &blob_of(&rt, rt.alloc(), &parts).as_slice(), &blob);
     }
-    Ok(())
+}
+
+/// Certificates put together from pieces, and the first fault of each.
+const PUBLIC_FIELDS: &[(&[Piece], KeyError)] = &[
+    (
+        &[
+            (HOST, 0, 80),
+            (b"\0\0\0\x08nistp256", 0, 12),
+            (HOST, 92, 579),
+        ],
+        KeyError::Curve,
+    ),
+    (
+        &[(HOST, 0, 92), (b"\0\0\0\x5f", 0, 4), (HOST, 96, 579)],
+        KeyError::Point,
+    ),
+    (
+        &[(SK_P256, 0, 95), (b"\0\0\0\x01\x04", 0, 5), (b"", 0, 0)],
+        KeyError::Point,
+    ),
+    (
+        &[
+            (b"\0\0\0\x23sk-ssh-ed25519-cert-v01@openssh.com", 0, 39),
+            (HOST, 44, 579),
+            (b"", 0, 0),
+        ],
+        KeyError::Length,
+    ),
+];
+
+#[test]
+fn refuses_public_fields(rt: HostRuntime) {
+    for (pieces, want) in PUBLIC_FIELDS {
+        let blob = pieced(&rt, rt.alloc(), pieces);
+        same(&rt, &read_cert(&blob).err(), &Some(CertError::Key(*want)));
+    }
 }

@@ -1,9 +1,10 @@
 //! A key of each kind from outside, whole, cut and with faults.
 
-use crate::compare::same;
-use ssh_keys::{KeyError, KeyKind, KeyView, fingerprint, read_key, write_key};
+use crate::compare::{Piece, last_start, pieced, same};
+use crate::key_tests::written;
+use ssh_keys::{KeyError, KeyKind, KeyView, fingerprint, read_key};
 use ssh_wire::{WireCause, WireError};
-use std::test::Fail;
+use std::panic::Expect;
 
 /// An RSA key of 1024 bits that `ssh-keygen` of OpenSSH 9.2 made, as the others below.
 const RSA: &[u8] =
@@ -50,81 +51,69 @@ const SK_ED25519: &[u8] =
     b"\0\0\0\x1ask-ssh-ed25519@openssh.com\0\0\0 \xa7\xcc\x80i\xd1\xd3P\xb4;K7N\xc3?\x8d\x87_\
     \xb6\xc0z9\xfe\xc3\x12e\xcfO-\xc8l2W\0\0\0\x04ssh:";
 
-/// Where the last field begins that begins in the first n bytes, or at their end.
-fn last_start(n: usize, starts: &[usize]) -> usize {
-    let mut place = 0;
-    for start in starts {
-        if *start <= n {
-            place = *start;
-        }
-    }
-    place
-}
-
-fn fault(place: usize, cause: WireCause) -> KeyError {
-    KeyError::Wire(WireError { place, cause })
-}
-
 /// The first length at which the cut blob is not told as short where its last field begins.
 fn wrong_cut(blob: &[u8], starts: &[usize]) -> Option<usize> {
     for (n, _) in blob.iter().enumerate() {
-        let want = fault(last_start(n, starts), WireCause::Short);
-        if read_key(&blob[..n]).err() != Some(want) {
+        let short = WireError {
+            place: last_start(n, starts),
+            cause: WireCause::Short,
+        };
+        if read_key(&blob[..n]).err() != Some(KeyError::Wire(short)) {
             return Some(n);
         }
     }
     None
 }
 
-/// A key of each kind, read, written back and told by the fingerprint that `ssh-keygen -l` prints.
+/// A key of each kind, and the fingerprint that `ssh-keygen -l` prints.
+const KINDS: [(&[u8], KeyKind, &[u8; 43]); 7] = [
+    (
+        RSA,
+        KeyKind::Rsa,
+        b"TnBG3xgfNoCMDzXUYKTcC7qI9VHAO3QE/iWVL4vTiqc",
+    ),
+    (
+        P256,
+        KeyKind::P256,
+        b"eOUUZLSK4SwvAWSlnF/NX90E9DoifAooOQsnlO0bBVA",
+    ),
+    (
+        P384,
+        KeyKind::P384,
+        b"46hUdm7q9ZZmi+pBelX5H6CBHgqF6E83OwByNXpSn7w",
+    ),
+    (
+        P521,
+        KeyKind::P521,
+        b"OJRJi4eoYd1rTY/MUVg9PCRC9ryQMxjLRbOToIPfUfM",
+    ),
+    (
+        ED25519,
+        KeyKind::Ed25519,
+        b"NLEt0Rpcmf4oWAHT6u1+n0mxAnsuTg93axTVauaOuQ4",
+    ),
+    (
+        SK_P256,
+        KeyKind::SkP256,
+        b"47klnqvATtNZHAvLDxxklWgAl/D2kBBU0GTyOS+mnJY",
+    ),
+    (
+        SK_ED25519,
+        KeyKind::SkEd25519,
+        b"tqvym0GWqVjGZixs2iqg/lSVHTaKTHwUeiXEsQPxenw",
+    ),
+];
+
+/// A key of each kind, read, made of its fields, written back and told by its fingerprint.
 #[test]
-fn reads_each_kind(rt: HostRuntime) -> Result<(), Fail> {
-    let rows: [(&[u8], KeyKind, &[u8; 43]); 7] = [
-        (
-            RSA,
-            KeyKind::Rsa,
-            b"TnBG3xgfNoCMDzXUYKTcC7qI9VHAO3QE/iWVL4vTiqc",
-        ),
-        (
-            P256,
-            KeyKind::P256,
-            b"eOUUZLSK4SwvAWSlnF/NX90E9DoifAooOQsnlO0bBVA",
-        ),
-        (
-            P384,
-            KeyKind::P384,
-            b"46hUdm7q9ZZmi+pBelX5H6CBHgqF6E83OwByNXpSn7w",
-        ),
-        (
-            P521,
-            KeyKind::P521,
-            b"OJRJi4eoYd1rTY/MUVg9PCRC9ryQMxjLRbOToIPfUfM",
-        ),
-        (
-            ED25519,
-            KeyKind::Ed25519,
-            b"NLEt0Rpcmf4oWAHT6u1+n0mxAnsuTg93axTVauaOuQ4",
-        ),
-        (
-            SK_P256,
-            KeyKind::SkP256,
-            b"47klnqvATtNZHAvLDxxklWgAl/D2kBBU0GTyOS+mnJY",
-        ),
-        (
-            SK_ED25519,
-            KeyKind::SkEd25519,
-            b"tqvym0GWqVjGZixs2iqg/lSVHTaKTHwUeiXEsQPxenw",
-        ),
-    ];
-    for (blob, kind, print) in rows {
-        let view = read_key(blob)?;
-        same(&rt, &view.kind(), &kind);
-        let mut out = Vec::new(rt.alloc());
-        write_key(&KeyView::from_fields(view.fields())?, &mut out)?;
-        same(&rt, &out.as_slice(), &blob);
-        same(&rt, &&fingerprint(rt.alloc(), &view)?, &print);
+fn reads_each_kind(rt: HostRuntime) {
+    for (blob, kind, print) in KINDS {
+        let view = read_key(blob).expect(&rt, "a key");
+        let found = fingerprint(rt.alloc(), &view).expect(&rt, "memory");
+        same(&rt, &(view.kind(), found), &(kind, *print));
+        let made = KeyView::from_fields(view.fields()).expect(&rt, "a key");
+        same(&rt, &written(&rt, rt.alloc(), &made).as_slice(), &blob);
     }
-    Ok(())
 }
 
 /// A key of each kind, cut at each byte.
@@ -144,62 +133,105 @@ fn cuts_each_kind(rt: HostRuntime) {
     }
 }
 
-/// Keys put together from parts, and the first fault of each.
+/// Keys put together from pieces, and the first fault of each.
+const CAUSES: &[(&[Piece], KeyError)] = &[
+    // Another kind's curve, no curve's name, the curve before the point.
+    (
+        &[
+            (P256, 0, 23),
+            (b"\0\0\0\x08nistp384", 0, 12),
+            (P256, 35, 104),
+        ],
+        KeyError::Curve,
+    ),
+    (
+        &[
+            (P384, 0, 23),
+            (b"\0\0\0\x08nistp999", 0, 12),
+            (P384, 35, 136),
+        ],
+        KeyError::Curve,
+    ),
+    (
+        &[
+            (P521, 0, 23),
+            (b"\0\0\0\x08nistp256", 0, 12),
+            (P256, 35, 104),
+        ],
+        KeyError::Curve,
+    ),
+    // A point of another curve, coordinates one byte less, the point before the application.
+    (
+        &[(P256, 0, 35), (P384, 35, 136), (b"", 0, 0)],
+        KeyError::Point,
+    ),
+    (
+        &[(P384, 0, 35), (b"\0\0\0\x5f", 0, 4), (P384, 39, 134)],
+        KeyError::Point,
+    ),
+    (
+        &[(P521, 0, 35), (b"\0\0\0\x83", 0, 4), (P521, 39, 170)],
+        KeyError::Point,
+    ),
+    (
+        &[(SK_P256, 0, 50), (b"\0\0\0\x01\x04", 0, 5), (b"", 0, 0)],
+        KeyError::Point,
+    ),
+    // A public key of 31 bytes, and the length before the application.
+    (
+        &[(ED25519, 0, 15), (b"\0\0\0\x1f", 0, 4), (ED25519, 20, 51)],
+        KeyError::Length,
+    ),
+    (
+        &[(SK_ED25519, 0, 30), (b"\0\0\0\x01\x07", 0, 5), (b"", 0, 0)],
+        KeyError::Length,
+    ),
+    // A needless byte before the sign; each number by itself, from the left; zero.
+    (
+        &[(RSA, 0, 11), (b"\0\0\0\x02\xff\x80", 0, 6), (RSA, 18, 151)],
+        KeyError::Wire(WireError {
+            place: 11,
+            cause: WireCause::MpintNotMinimal,
+        }),
+    ),
+    (
+        &[
+            (RSA, 0, 11),
+            (b"\0\0\0\x01\x80", 0, 5),
+            (b"\0\0\0\x02\0\x05", 0, 6),
+        ],
+        KeyError::Wire(WireError {
+            place: 11,
+            cause: WireCause::MpintNegative,
+        }),
+    ),
+    (
+        &[(RSA, 0, 18), (b"\0\0\0\0", 0, 4), (b"", 0, 0)],
+        KeyError::Wire(WireError {
+            place: 18,
+            cause: WireCause::Value,
+        }),
+    ),
+    (
+        &[(P521, 0, 172), (b"\0", 0, 1), (b"", 0, 0)],
+        KeyError::Wire(WireError {
+            place: 172,
+            cause: WireCause::Trailing,
+        }),
+    ),
+    (
+        &[(SK_P256, 0, 127), (SK_P256, 0, 127), (b"", 0, 0)],
+        KeyError::Wire(WireError {
+            place: 127,
+            cause: WireCause::Trailing,
+        }),
+    ),
+];
+
 #[test]
-fn refuses_each_cause(rt: HostRuntime) -> Result<(), Fail> {
-    let rows: [([&[u8]; 3], KeyError); 14] = [
-        // Another kind's curve, no curve's name, the curve before the point.
-        (
-            [&P256[..23], b"\0\0\0\x08nistp384", &P256[35..]],
-            KeyError::Curve,
-        ),
-        (
-            [&P384[..23], b"\0\0\0\x08nistp999", &P384[35..]],
-            KeyError::Curve,
-        ),
-        (
-            [&P521[..23], b"\0\0\0\x08nistp256", &P256[35..]],
-            KeyError::Curve,
-        ),
-        // A point of another curve, coordinates one byte less, the point before the application.
-        ([&P256[..35], &P384[35..], b""], KeyError::Point),
-        (
-            [&P384[..35], b"\0\0\0\x5f", &P384[39..134]],
-            KeyError::Point,
-        ),
-        (
-            [&P521[..35], b"\0\0\0\x83", &P521[39..170]],
-            KeyError::Point,
-        ),
-        ([&SK_P256[..50], b"\0\0\0\x01\x04", b""], KeyError::Point),
-        // A public key of 31 bytes, and the length before the application.
-        (
-            [&ED25519[..15], b"\0\0\0\x1f", &ED25519[20..]],
-            KeyError::Length,
-        ),
-        (
-            [&SK_ED25519[..30], b"\0\0\0\x01\x07", b""],
-            KeyError::Length,
-        ),
-        // A needless byte before the sign; each number by itself, from the left; zero.
-        (
-            [&RSA[..11], b"\0\0\0\x02\xff\x80", &RSA[18..]],
-            fault(11, WireCause::MpintNotMinimal),
-        ),
-        (
-            [&RSA[..11], b"\0\0\0\x01\x80", b"\0\0\0\x02\0\x05"],
-            fault(11, WireCause::MpintNegative),
-        ),
-        ([&RSA[..18], b"\0\0\0\0", b""], fault(18, WireCause::Value)),
-        ([P521, b"\0", b""], fault(172, WireCause::Trailing)),
-        ([SK_P256, SK_P256, b""], fault(127, WireCause::Trailing)),
-    ];
-    for (parts, want) in rows {
-        let mut blob = Vec::new(rt.alloc());
-        for part in parts {
-            blob.extend_from_slice(part)?;
-        }
-        same(&rt, &read_key(&blob).err(), &Some(want));
+fn refuses_each_cause(rt: HostRuntime) {
+    for (pieces, want) in CAUSES {
+        let blob = pieced(&rt, rt.alloc(), pieces);
+        same(&rt, &read_key(&blob).err(), &Some(*want));
     }
-    Ok(())
 }

@@ -5,6 +5,7 @@ ghost use Rattle.std.specs.Prelude.{◌<◌, ◌^◌, length};
 
 use crate::compare::same;
 use ssh_wire::{Cursor, Mpint, Wire, WireCause, WireError};
+use std::panic::Expect;
 use std::test::Fail;
 
 /// Numbers of any size: their least bytes, or the fault at place 0.
@@ -55,20 +56,19 @@ fn refuses_the_longest(rt: HostRuntime) {
 
 /// Each kind of value, written and read back through the trait.
 #[test]
-fn writes_each_value(rt: HostRuntime) -> Result<(), Fail> {
+fn writes_each_value(rt: HostRuntime) {
     let mut out = Vec::new(rt.alloc());
-    let number = Mpint::new(b"\x00\x80").ok_or("least")?;
+    let number = Mpint::new(b"\x00\x80").expect(&rt, "least");
     let row = ((7u32, 8u64), (b"ab".as_slice(), number));
-    row.encode(&mut out)?;
+    row.encode(&mut out).expect(&rt, "memory");
     let wanted = b"\0\0\0\x07\0\0\0\0\0\0\0\x08\0\0\0\x02ab\0\0\0\x02\0\x80";
     same(&rt, &out.as_slice(), &wanted.as_slice());
     let ((small, large), (text, back)) = <((u32, u64), (&[u8], Mpint)) as Wire>::decode(
         &mut Cursor::new(&out),
-    )?;
+    ).expect(&rt, "a value");
     same(&rt, &(small, large), &(7, 8));
     same(&rt, &text, &b"ab".as_slice());
     same(&rt, &back.bytes, &b"\x00\x80".as_slice());
-    Ok(())
 }
 
 fn there_and_back<'a>(text: &[u8], out: &'a mut Vec<u8>) -> Result<(u32, &'a [u8]), Fail>
