@@ -4,6 +4,8 @@
 #![tactic(auto)]
 
 #[cfg(test)]
+mod compare;
+#[cfg(test)]
 mod example_tests;
 #[cfg(test)]
 mod piece_tests;

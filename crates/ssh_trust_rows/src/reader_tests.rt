@@ -1,11 +1,13 @@
 //! Decisions over readers that give a byte at a time, that fail, and that never end.
 
-use crate::tests::{KNOWN, LINE, host_query, query};
+use crate::compare::same;
+use crate::tests::{KNOWN, LINE, host_query, query, told};
 use jiff::tz::TimeZone;
 use ssh_offers::{AuditError, Signed};
-use ssh_trust::{Counted, Decision, evidence_of_host, evidence_of_login, host_from, login_from};
+use ssh_trust::{Counted, evidence_of_host, evidence_of_login, host_from, login_from};
 use std::io;
 use std::io::{Error, ErrorKind, Read};
+use std::panic::Expect;
 use std::test::Fail;
 
 /// Gives the bytes one by one. The read of this number fails, counted from 1.
@@ -52,67 +54,59 @@ impl Read for Endless {
 }
 
 #[test]
-fn counts_failed_reads(rt: HostRuntime) -> Result<(), Fail> {
+fn counts_failed_reads(rt: HostRuntime) {
     let mut buf = [0u8; 4];
     let mut reader = Counted::new(OneByOne::failing_at(b"ab", 2));
-    assert_eq!(rt; reader.failures(), 0);
+    same(&rt, &reader.failures(), &0);
     for (read, failures) in [(Some(1), 0), (None, 1), (Some(1), 1), (Some(0), 1)] {
         assert_eq!(rt; reader.read(&mut buf).ok(), read);
-        assert_eq!(rt; reader.failures(), failures);
+        same(&rt, &reader.failures(), &failures);
     }
-    Ok(())
 }
 
 #[test]
-fn answers_a_login_over_a_reader(rt: HostRuntime) -> Result<(), Fail> {
+fn answers_a_login_over_a_reader(rt: HostRuntime) {
     let alloc = rt.alloc();
     let zone = TimeZone::UTC;
     let query = query(&zone);
-    let evidence = evidence_of_login(alloc, &query)?;
+    let evidence = evidence_of_login(alloc, &query).expect(&rt, "evidence");
     let vouched = evidence.as_slice();
     let mut reader = Counted::new(OneByOne::failing_at(LINE, 0));
-    match login_from(alloc, &mut reader, &query, vouched)? {
-        Decision::Granted { line, .. } => assert_eq!(rt; line, 1),
-        Decision::Denied { .. } => return Err(Fail::new("granted")),
-    }
+    let decision = login_from(alloc, &mut reader, &query, vouched).expect(&rt, "a decision");
+    same(&rt, &told(&decision), &(1, None));
     // The last read is the one that finds the end, after the line that admits.
     for failing in 1..LINE.len().saturating_add(2) {
         let mut reader = Counted::new(OneByOne::failing_at(LINE, failing));
         let answer = login_from(alloc, &mut reader, &query, vouched);
-        assert_eq!(rt; answer.err(), Some(AuditError::Read));
-        assert_eq!(rt; reader.failures(), 1);
+        same(&rt, &answer.err(), &Some(AuditError::Read));
+        same(&rt, &reader.failures(), &1);
     }
-    Ok(())
 }
 
 #[test]
-fn answers_a_host_over_a_reader(rt: HostRuntime) -> Result<(), Fail> {
+fn answers_a_host_over_a_reader(rt: HostRuntime) {
     let alloc = rt.alloc();
     let query = host_query();
-    let evidence = evidence_of_host(alloc, &query)?;
+    let evidence = evidence_of_host(alloc, &query).expect(&rt, "evidence");
     let vouched = evidence.as_slice();
     let mut reader = Counted::new(OneByOne::failing_at(KNOWN, 0));
-    match host_from(alloc, &mut reader, &query, vouched)? {
-        Decision::Granted { line, .. } => assert_eq!(rt; line, 1),
-        Decision::Denied { .. } => return Err(Fail::new("granted")),
-    }
+    let decision = host_from(alloc, &mut reader, &query, vouched).expect(&rt, "a decision");
+    same(&rt, &told(&decision), &(1, None));
     for failing in 1..KNOWN.len().saturating_add(2) {
         let mut reader = Counted::new(OneByOne::failing_at(KNOWN, failing));
         let answer = host_from(alloc, &mut reader, &query, vouched);
-        assert_eq!(rt; answer.err(), Some(AuditError::Read));
-        assert_eq!(rt; reader.failures(), 1);
+        same(&rt, &answer.err(), &Some(AuditError::Read));
+        same(&rt, &reader.failures(), &1);
     }
-    Ok(())
 }
 
 #[test]
-fn leaves_a_reader_that_never_ends(rt: HostRuntime) -> Result<(), Fail> {
+fn leaves_a_reader_that_never_ends(rt: HostRuntime) {
     let zone = TimeZone::UTC;
     let query = query(&zone);
     let none: [Signed; 0] = [];
     let mut reader = Counted::new(Endless);
     let answer = login_from(rt.alloc(), &mut reader, &query, none.as_slice());
-    assert_eq!(rt; answer.err(), Some(AuditError::FileTooLong));
-    assert_eq!(rt; reader.failures(), 0);
-    Ok(())
+    same(&rt, &answer.err(), &Some(AuditError::FileTooLong));
+    same(&rt, &reader.failures(), &0);
 }

@@ -3,6 +3,7 @@
 use ssh_bodies::BodyError;
 use ssh_offers::{AuditError, Signed};
 use ssh_trust::{SshsigAnswer, sshsig};
+use std::panic::Expect;
 use std::test::Fail;
 
 /// A file signature of 111 bytes for the namespace `file`, by the Ed25519 key of 32 zero bytes.
@@ -19,11 +20,11 @@ fn vouches_for_a_file_signature(rt: HostRuntime) -> Result<(), Fail> {
     let none: [Signed; 0] = [];
     let evidence = match sshsig(alloc, SSHSIG, b"abc", b"file", none.as_slice())? {
         SshsigAnswer::NotVouched { evidence } => evidence,
-        _ => return Err(Fail::new("not vouched for")),
+        _ => panic!(rt; "not vouched for"),
     };
     match evidence.as_slice() {
         [signed] => assert_eq!(rt; signed.message.as_slice(), SIGNED),
-        _ => return Err(Fail::new("one piece of evidence")),
+        _ => panic!(rt; "one piece of evidence"),
     }
     match sshsig(alloc, SSHSIG, b"abc", b"file", evidence.as_slice())? {
         SshsigAnswer::Vouched { .. } => Ok(()),
@@ -32,16 +33,15 @@ fn vouches_for_a_file_signature(rt: HostRuntime) -> Result<(), Fail> {
 }
 
 #[test]
-fn refuses_a_file_signature(rt: HostRuntime) -> Result<(), Fail> {
+fn refuses_a_file_signature(rt: HostRuntime) {
     let alloc = rt.alloc();
     let none: [Signed; 0] = [];
-    match sshsig(alloc, SSHSIG, b"abc", b"git", none.as_slice())? {
+    match sshsig(alloc, SSHSIG, b"abc", b"git", none.as_slice()).expect(&rt, "an answer") {
         SshsigAnswer::OtherNamespace => {}
-        _ => return Err(Fail::new("another namespace")),
+        _ => panic!(rt; "another namespace"),
     }
     match sshsig(alloc, b"SSH", b"abc", b"file", none.as_slice()) {
         Err(error) => assert_eq!(rt; error, AuditError::Body(BodyError::Magic)),
-        Ok(_) => return Err(Fail::new("no body")),
+        Ok(_) => panic!(rt; "no body"),
     }
-    Ok(())
 }

@@ -3,12 +3,15 @@
 
 ghost use Rattle.std.specs.Prelude.{◌<◌, ◌^◌, length};
 
+use crate::compare::same;
 use jiff::tz::TimeZone;
 use ssh_offers::{EmptyPrincipals, HostQuery, LoginQuery, Signed};
 use ssh_trust::{
     Cause, Decision, HostAudit, LoginAudit, evidence_of_host, evidence_of_login, host, login,
 };
-use std::alloc::Global;
+use std::alloc::{AllocError, Global};
+use std::panic::Expect;
+use std::process::Abort;
 use std::test::Fail;
 
 /// The blob of the Ed25519 key of 32 zero bytes.
@@ -44,51 +47,48 @@ pub(crate) fn query<'a>(zone: &'a TimeZone<'a>) -> LoginQuery<'a>
     }
 }
 
+/// Compares the evidence with the one piece for this message.
+fn compare_evidence(rt: &impl Abort, evidence: &[Signed], message: &[u8]) {
+    let [signed] = evidence else {
+        panic!(rt; "one piece of evidence");
+    };
+    same(rt, &signed.key.as_slice(), &K0.as_slice());
+    same(rt, &signed.message.as_slice(), &message);
+    same(rt, &signed.signature.as_slice(), &S0.as_slice());
+}
+
 #[test]
-fn grants_what_is_vouched_for(rt: HostRuntime) -> Result<(), Fail> {
+fn grants_what_is_vouched_for(rt: HostRuntime) {
     let alloc = rt.alloc();
     let zone = TimeZone::UTC;
     let query = query(&zone);
-    let evidence = evidence_of_login(alloc, &query)?;
-    let [signed] = evidence.as_slice() else {
-        return Err(Fail::new("one piece of evidence"));
-    };
-    assert_eq!(rt; signed.key.as_slice(), K0.as_slice());
-    assert_eq!(rt; signed.message.as_slice(), M0.as_slice());
-    assert_eq!(rt; signed.signature.as_slice(), S0.as_slice());
-    match login(alloc, LINE, &query, evidence.as_slice())? {
-        Decision::Granted { line, .. } => assert_eq!(rt; line, 1),
-        Decision::Denied { .. } => return Err(Fail::new("granted")),
-    }
+    let evidence = evidence_of_login(alloc, &query).expect(&rt, "evidence");
+    compare_evidence(&rt, evidence.as_slice(), &M0);
+    let decision = login(alloc, LINE, &query, evidence.as_slice()).expect(&rt, "a decision");
+    same(&rt, &told(&decision), &(1, None));
     let none: [Signed; 0] = [];
-    match login(alloc, LINE, &query, none.as_slice())? {
-        Decision::Denied { why, .. } => assert_eq!(rt; why, Cause::NotVouched(0)),
-        Decision::Granted { .. } => return Err(Fail::new("denied")),
-    }
-    Ok(())
+    let decision = login(alloc, LINE, &query, none.as_slice()).expect(&rt, "a decision");
+    same(&rt, &told(&decision), &(0, Some(Cause::NotVouched(0))));
 }
 
 const NOTED: &[u8] =
     b"# me\n\nssh-ed25519 AAAAC3NzaC1lZDI1NTE5AAAAIAAAAAAAAAAAAAAAAAAAAAAAAAAAAAAAAAAAAAAAAAAA me";
 
 #[test]
-fn answers_a_login_in_pieces(rt: HostRuntime) -> Result<(), Fail> {
+fn answers_a_login_in_pieces(rt: HostRuntime) {
     let alloc = rt.alloc();
     let zone = TimeZone::UTC;
     let query = query(&zone);
-    let evidence = evidence_of_login(alloc, &query)?;
+    let evidence = evidence_of_login(alloc, &query).expect(&rt, "evidence");
     for less in [0u8, 2, 39, 99] {
-        let mut audit = LoginAudit::new(alloc, &query)?;
+        let mut audit = LoginAudit::new(alloc, &query).expect(&rt, "an audit");
         for piece in NOTED.chunks(usize::from(less) + 1) {
-            audit.feed(piece)?;
-            audit.feed(b"")?;
+            audit.feed(piece).expect(&rt, "a piece");
+            audit.feed(b"").expect(&rt, "a piece");
         }
-        match audit.finish(evidence.as_slice())? {
-            Decision::Granted { line, .. } => assert_eq!(rt; line, 3),
-            Decision::Denied { .. } => return Err(Fail::new("granted")),
-        }
+        let decision = audit.finish(evidence.as_slice()).expect(&rt, "a decision");
+        same(&rt, &told(&decision), &(3, None));
     }
-    Ok(())
 }
 
 /// A host that offers that key and signed the exchange hash `01020304`.
@@ -115,34 +115,24 @@ const BLIND: &[u8] =
     b"h ssh-ed25519 AAAAC3NzaC1lZDI1NTE5AAAAIAAAAAAAAAAAAAAAAAAAAAAAAAAAAAAAAAAAAAAAAAAA\n@revoked\n";
 
 #[test]
-fn trusts_a_host_that_is_not_revoked(rt: HostRuntime) -> Result<(), Fail> {
+fn trusts_a_host_that_is_not_revoked(rt: HostRuntime) {
     let alloc = rt.alloc();
     let query = host_query();
-    let evidence = evidence_of_host(alloc, &query)?;
-    let [signed] = evidence.as_slice() else {
-        return Err(Fail::new("one piece of evidence"));
-    };
-    assert_eq!(rt; signed.key.as_slice(), K0.as_slice());
-    assert_eq!(rt; signed.message.as_slice(), b"\x01\x02\x03\x04".as_slice());
-    assert_eq!(rt; signed.signature.as_slice(), S0.as_slice());
-    match host(alloc, KNOWN, &query, evidence.as_slice())? {
-        Decision::Granted { line, .. } => assert_eq!(rt; line, 1),
-        Decision::Denied { .. } => return Err(Fail::new("granted")),
-    }
+    let evidence = evidence_of_host(alloc, &query).expect(&rt, "evidence");
+    compare_evidence(&rt, evidence.as_slice(), b"\x01\x02\x03\x04");
+    let decision = host(alloc, KNOWN, &query, evidence.as_slice()).expect(&rt, "a decision");
+    same(&rt, &told(&decision), &(1, None));
     for (file, cause) in [
         (REVOKED, Cause::Revoked(2)),
         (BLIND, Cause::RevocationUnreadable(2)),
     ] {
-        match host(alloc, file, &query, evidence.as_slice())? {
-            Decision::Denied { why, .. } => assert_eq!(rt; why, cause),
-            Decision::Granted { .. } => return Err(Fail::new("denied")),
-        }
+        let decision = host(alloc, file, &query, evidence.as_slice()).expect(&rt, "a decision");
+        same(&rt, &told(&decision), &(0, Some(cause)));
     }
-    Ok(())
 }
 
 /// The line that is granted, or why none is.
-fn told(decision: &Decision) -> (u64, Option<Cause>) {
+pub(crate) fn told(decision: &Decision) -> (u64, Option<Cause>) {
     match decision {
         Decision::Granted { line, .. } => (*line, None),
         Decision::Denied { why, .. } => (0, Some(*why)),
@@ -150,7 +140,7 @@ fn told(decision: &Decision) -> (u64, Option<Cause>) {
 }
 
 /// The lines, after 100,000 empty ones.
-fn far_down(alloc: Global, lines: &[u8]) -> Result<Vec<u8>, Fail> {
+fn far_down(alloc: Global, lines: &[u8]) -> Result<Vec<u8>, AllocError> {
     let mut file = Vec::new(alloc);
     file.resize(100_000, b'\n')?;
     file.extend_from_slice(lines)?;
@@ -158,46 +148,47 @@ fn far_down(alloc: Global, lines: &[u8]) -> Result<Vec<u8>, Fail> {
 }
 
 #[test]
-fn counts_lines_past_a_hundred_thousand(rt: HostRuntime) -> Result<(), Fail> {
+fn counts_lines_past_a_hundred_thousand(rt: HostRuntime) {
     let alloc = rt.alloc();
     let zone = TimeZone::UTC;
     let login_query = query(&zone);
-    let evidence = evidence_of_login(alloc, &login_query)?;
-    let file = far_down(alloc, LINE)?;
-    let decision = login(alloc, &file, &login_query, evidence.as_slice())?;
-    assert_eq!(rt; told(&decision), (100_001, None));
+    let evidence = evidence_of_login(alloc, &login_query).expect(&rt, "evidence");
+    let file = far_down(alloc, LINE).expect(&rt, "memory");
+    let decision = login(alloc, &file, &login_query, evidence.as_slice()).expect(&rt, "a decision");
+    same(&rt, &told(&decision), &(100_001, None));
     let host_query = host_query();
-    let evidence = evidence_of_host(alloc, &host_query)?;
+    let evidence = evidence_of_host(alloc, &host_query).expect(&rt, "evidence");
     for (lines, answer) in [
         (KNOWN, (100_001, None)),
         (REVOKED, (0, Some(Cause::Revoked(100_002)))),
         (BLIND, (0, Some(Cause::RevocationUnreadable(100_002)))),
     ] {
-        let file = far_down(alloc, lines)?;
-        let decision = host(alloc, &file, &host_query, evidence.as_slice())?;
-        assert_eq!(rt; told(&decision), answer);
+        let file = far_down(alloc, lines).expect(&rt, "memory");
+        let decision = host(alloc, &file, &host_query, evidence.as_slice()).expect(
+            &rt,
+            "a decision",
+        );
+        same(&rt, &told(&decision), &answer);
     }
-    Ok(())
 }
 
 #[test]
-fn answers_a_host_in_pieces(rt: HostRuntime) -> Result<(), Fail> {
+fn answers_a_host_in_pieces(rt: HostRuntime) {
     let alloc = rt.alloc();
     let query = host_query();
-    let evidence = evidence_of_host(alloc, &query)?;
+    let evidence = evidence_of_host(alloc, &query).expect(&rt, "evidence");
     for file in [KNOWN, REVOKED, BLIND] {
-        let whole = host(alloc, file, &query, evidence.as_slice())?;
+        let whole = host(alloc, file, &query, evidence.as_slice()).expect(&rt, "a decision");
         for less in 0..file.len() {
-            let mut audit = HostAudit::new(alloc, &query)?;
+            let mut audit = HostAudit::new(alloc, &query).expect(&rt, "an audit");
             for piece in file.chunks(less + 1) {
-                audit.feed(piece)?;
-                audit.feed(b"")?;
+                audit.feed(piece).expect(&rt, "a piece");
+                audit.feed(b"").expect(&rt, "a piece");
             }
-            let decision = audit.finish(evidence.as_slice())?;
-            assert_eq!(rt; told(&decision), told(&whole));
+            let decision = audit.finish(evidence.as_slice()).expect(&rt, "a decision");
+            same(&rt, &told(&decision), &told(&whole));
         }
     }
-    Ok(())
 }
 
 /// What the example in the crate's root does.
