@@ -7,7 +7,7 @@ use ssh_lines::{
 };
 use ssh_rewriting::{canonical_auth_line, canonical_known_line, write_auth_line, write_known_line};
 use std::alloc::{AllocError, Global};
-use std::test::Fail;
+use std::panic::Expect;
 
 /// The base64 of an Ed25519 key of 32 zero bytes.
 const KEY: &[u8] = b"AAAAC3NzaC1lZDI1NTE5AAAAIAAAAAAAAAAAAAAAAAAAAAAAAAAAAAAAAAAAAAAAAAAA";
@@ -23,7 +23,7 @@ fn around(alloc: Global, (front, rest): Around) -> Result<Vec<u8>, AllocError> {
 }
 
 #[test]
-fn writes_auth_lines(rt: HostRuntime) -> Result<(), Fail> {
+fn writes_auth_lines(rt: HostRuntime) {
     let alloc = rt.alloc();
     let rows: [(Around, Around); 4] = [
         (
@@ -46,30 +46,31 @@ fn writes_auth_lines(rt: HostRuntime) -> Result<(), Fail> {
             ),
         ),
     ];
-    let mut buffer = KeyBuffer::new(alloc)?;
+    let mut buffer = KeyBuffer::new(alloc).expect(&rt, "memory");
     for (old, want) in rows {
-        let line = around(alloc, old)?;
-        let want = around(alloc, want)?;
-        let AuthLine::Entry(entry) = read_auth_line(alloc, &line)? else {
-            return Err(Fail::new("an entry"));
+        let line = around(alloc, old).expect(&rt, "memory");
+        let want = around(alloc, want).expect(&rt, "memory");
+        let AuthLine::Entry(entry) = read_auth_line(alloc, &line).expect(&rt, "memory") else {
+            panic!(rt; "an entry");
         };
         same(
             &rt,
-            &canonical_auth_line(alloc, &entry)?.as_slice(),
+            &canonical_auth_line(alloc, &entry)
+                .expect(&rt, "memory")
+                .as_slice(),
             &want.as_slice(),
         );
         let AuthLineView::Entry(entry) = read_auth_view(&line, &mut buffer) else {
-            return Err(Fail::new("an entry in its line"));
+            panic!(rt; "an entry in its line");
         };
         let mut out = Vec::new(alloc);
-        write_auth_line(&entry, &mut out)?;
+        write_auth_line(&entry, &mut out).expect(&rt, "memory");
         same(&rt, &out.as_slice(), &want.as_slice());
     }
-    Ok(())
 }
 
 #[test]
-fn writes_known_lines(rt: HostRuntime) -> Result<(), Fail> {
+fn writes_known_lines(rt: HostRuntime) {
     let alloc = rt.alloc();
     let rows: [(Around, Around); 3] = [
         ((b"h  ssh-ed25519  ", b""), (b"h ssh-ed25519 ", b"")),
@@ -88,26 +89,27 @@ fn writes_known_lines(rt: HostRuntime) -> Result<(), Fail> {
             ),
         ),
     ];
-    let mut buffer = KeyBuffer::new(alloc)?;
+    let mut buffer = KeyBuffer::new(alloc).expect(&rt, "memory");
     for (old, want) in rows {
-        let line = around(alloc, old)?;
-        let want = around(alloc, want)?;
-        let KnownLine::Entry(entry) = read_known_line(alloc, &line)? else {
-            return Err(Fail::new("an entry"));
+        let line = around(alloc, old).expect(&rt, "memory");
+        let want = around(alloc, want).expect(&rt, "memory");
+        let KnownLine::Entry(entry) = read_known_line(alloc, &line).expect(&rt, "memory") else {
+            panic!(rt; "an entry");
         };
         same(
             &rt,
-            &canonical_known_line(alloc, &entry)?.as_slice(),
+            &canonical_known_line(alloc, &entry)
+                .expect(&rt, "memory")
+                .as_slice(),
             &want.as_slice(),
         );
         let KnownLineView::Entry(entry) = read_known_view(&line, &mut buffer) else {
-            return Err(Fail::new("an entry in its line"));
+            panic!(rt; "an entry in its line");
         };
         let mut out = Vec::new(alloc);
-        write_known_line(&entry, &mut out)?;
+        write_known_line(&entry, &mut out).expect(&rt, "memory");
         same(&rt, &out.as_slice(), &want.as_slice());
     }
-    Ok(())
 }
 
 /// What the example in the crate's root does.
@@ -119,10 +121,13 @@ fn anew(alloc: Global, line: &[u8]) -> Result<Option<Vec<u8>>, AllocError> {
 }
 
 #[test]
-fn runs_the_example(rt: HostRuntime) -> Result<(), Fail> {
-    let line = around(rt.alloc(), (b"PTY ssh-ed25519 ", b""))?;
-    let want = around(rt.alloc(), (b"pty ssh-ed25519 ", b""))?;
-    assert!(rt; anew(rt.alloc(), &line)?.is_some_and(|new| new.as_slice() == want.as_slice()));
-    assert!(rt; anew(rt.alloc(), b"# PTY")?.is_none());
-    Ok(())
+fn runs_the_example(rt: HostRuntime) {
+    let line = around(rt.alloc(), (b"PTY ssh-ed25519 ", b"")).expect(&rt, "memory");
+    let want = around(rt.alloc(), (b"pty ssh-ed25519 ", b"")).expect(&rt, "memory");
+    assert!(rt;
+        anew(rt.alloc(), &line)
+            .expect(&rt, "memory")
+            .is_some_and(|new| new.as_slice() == want.as_slice())
+    );
+    assert!(rt; anew(rt.alloc(), b"# PTY").expect(&rt, "memory").is_none());
 }

@@ -4,11 +4,12 @@ use crate::compare::same;
 use jiff::tz::TimeZone;
 use ssh_expiry::expiry;
 use std::alloc::Global;
+use std::panic::Expect;
 use std::test::Fail;
 
 #[test]
-fn converts_expiry_times(rt: HostRuntime) -> Result<(), Fail> {
-    let europe = TimeZone::posix("CET-1CEST,M3.5.0,M10.5.0/3")?;
+fn converts_expiry_times(rt: HostRuntime) {
+    let europe = TimeZone::posix("CET-1CEST,M3.5.0,M10.5.0/3").expect(&rt, "a zone");
     let rows: [(&[u8], Option<i64>); 6] = [
         (b"20240229Z", Some(1_709_164_800)),
         // a fold
@@ -20,9 +21,12 @@ fn converts_expiry_times(rt: HostRuntime) -> Result<(), Fail> {
         (b"2024022924", None),
     ];
     for (text, want) in rows {
-        same(&rt, &expiry(rt.alloc(), text, &europe)?, &want);
+        same(
+            &rt,
+            &expiry(rt.alloc(), text, &europe).expect(&rt, "memory"),
+            &want,
+        );
     }
-    Ok(())
 }
 
 /// What the example in the crate's root does.

@@ -5,14 +5,14 @@ use crate::rewriting_tests::with_keys;
 use ssh_lines::{KeyBuffer, KnownLine, KnownLineView, read_known_line, read_known_view};
 use ssh_rewriting::{HashError, hash_known, hashed_known_line, write_hashed_line};
 use ssh_text::FILE_LIMIT;
-use std::test::Fail;
+use std::panic::Expect;
 
 /// Salts of twenty bytes 01, 02 and 03.
 const SALTS: [[u8; 20]; 3] = [[1; 20], [2; 20], [3; 20]];
 
 /// Hashed names were made by Python's `hmac` and `base64`.
 #[test]
-fn hides_names(rt: HostRuntime) -> Result<(), Fail> {
+fn hides_names(rt: HostRuntime) {
     let alloc = rt.alloc();
     let rows: [(&[u8], usize, &[u8]); 6] = [
         (
@@ -48,45 +48,49 @@ fn hides_names(rt: HostRuntime) -> Result<(), Fail> {
     ];
     for (old, salts, want) in rows {
         let salts = SALTS.get(..salts).unwrap_or(&[]);
-        let new = hash_known(alloc, &with_keys(alloc, old)?, salts)?;
-        same(&rt, &new.as_slice(), &with_keys(alloc, want)?.as_slice());
-        let again = hash_known(alloc, &new, &[])?;
+        let new = hash_known(alloc, &with_keys(alloc, old).expect(&rt, "memory"), salts).expect(
+            &rt, "a file",
+        );
+        same(
+            &rt,
+            &new.as_slice(),
+            &with_keys(alloc, want).expect(&rt, "memory").as_slice(),
+        );
+        let again = hash_known(alloc, &new, &[]).expect(&rt, "a file");
         same(&rt, &again.as_slice(), &new.as_slice());
     }
-    Ok(())
 }
 
 #[test]
-fn writes_one_line(rt: HostRuntime) -> Result<(), Fail> {
+fn writes_one_line(rt: HostRuntime) {
     let alloc = rt.alloc();
-    let line = with_keys(alloc, b"@cert-authority\tx,y  ssh-ed25519 %  c ")?;
+    let line = with_keys(alloc, b"@cert-authority\tx,y  ssh-ed25519 %  c ").expect(&rt, "memory");
     let want = with_keys(
         alloc,
         b"@cert-authority |1|AQEBAQEBAQEBAQEBAQEBAQEBAQE=|iAn0Cdcbw7KbaLXPluOAm015HYA= ssh-ed25519 % c",
-    )?;
-    let KnownLine::Entry(entry) = read_known_line(alloc, &line)? else {
-        return Err(Fail::new("an entry"));
+    )
+    .expect(&rt, "memory");
+    let KnownLine::Entry(entry) = read_known_line(alloc, &line).expect(&rt, "memory") else {
+        panic!(rt; "an entry");
     };
-    let kept = hashed_known_line(alloc, &entry, &SALTS[0], b"a")?;
+    let kept = hashed_known_line(alloc, &entry, &SALTS[0], b"a").expect(&rt, "memory");
     same(&rt, &kept.as_slice(), &want.as_slice());
-    let mut buffer = KeyBuffer::new(alloc)?;
+    let mut buffer = KeyBuffer::new(alloc).expect(&rt, "memory");
     let KnownLineView::Entry(view) = read_known_view(&line, &mut buffer) else {
-        return Err(Fail::new("an entry"));
+        panic!(rt; "an entry");
     };
     let mut written = Vec::new(alloc);
-    write_hashed_line(&view, &SALTS[0], b"a", &mut written)?;
+    write_hashed_line(&view, &SALTS[0], b"a", &mut written).expect(&rt, "memory");
     same(&rt, &written.as_slice(), &want.as_slice());
-    Ok(())
 }
 
 #[test]
-fn refuses_long_files(rt: HostRuntime) -> Result<(), Fail> {
+fn refuses_long_files(rt: HostRuntime) {
     let alloc = rt.alloc();
-    let mut file = with_keys(alloc, b"h ssh-ed25519 %\n")?;
-    file.resize(FILE_LIMIT, b'#')?;
+    let mut file = with_keys(alloc, b"h ssh-ed25519 %\n").expect(&rt, "memory");
+    file.resize(FILE_LIMIT, b'#').expect(&rt, "memory");
     assert!(rt; matches!(hash_known(alloc, &file, &[]), Err(HashError::TooFewSalts)));
     assert!(rt; matches!(hash_known(alloc, &file, &SALTS), Err(HashError::TooLong)));
-    file.push(b'c')?;
+    file.push(b'c').expect(&rt, "memory");
     assert!(rt; matches!(hash_known(alloc, &file, &[]), Err(HashError::TooLong)));
-    Ok(())
 }

@@ -11,7 +11,7 @@ use ssh_options::LineCause;
 use ssh_text::LINE_LIMIT;
 use ssh_wire::{WireCause, WireError};
 use std::alloc::{AllocError, Global};
-use std::test::Fail;
+use std::panic::Expect;
 
 /// An Ed25519 key of 32 zero bytes after its type.
 const KEY: &[u8] =
@@ -35,7 +35,7 @@ fn entry(alloc: Global, front: &[u8]) -> Result<Option<KnownEntry>, AllocError> 
 }
 
 #[test]
-fn refuses_known_lines(rt: HostRuntime) -> Result<(), Fail> {
+fn refuses_known_lines(rt: HostRuntime) {
     let short = KeyError::Wire(WireError {
         place: 0,
         cause: WireCause::Short,
@@ -60,17 +60,17 @@ fn refuses_known_lines(rt: HostRuntime) -> Result<(), Fail> {
         (b"h ssh-rsa AAAA", b"", LineCause::KeyBlob(short)),
     ];
     for (front, rest, want) in rows {
-        let line = joined(rt.alloc(), front, rest)?;
-        let KnownLine::Unreadable(cause) = read_known_line(rt.alloc(), &line)? else {
-            return Err(Fail::new("readable"));
+        let line = joined(rt.alloc(), front, rest).expect(&rt, "memory");
+        let KnownLine::Unreadable(cause) = read_known_line(rt.alloc(), &line).expect(&rt, "memory")
+        else {
+            panic!(rt; "readable");
         };
         same(&rt, &cause, &want);
     }
-    Ok(())
 }
 
 #[test]
-fn names_hosts(rt: HostRuntime) -> Result<(), Fail> {
+fn names_hosts(rt: HostRuntime) {
     let rows: [(&[u8], &[u8], u16, bool); 9] = [
         (b"h ", b"h", 22, true),
         (b"h ", b"H", 22, true),
@@ -83,44 +83,42 @@ fn names_hosts(rt: HostRuntime) -> Result<(), Fail> {
         (HASHED, b"example.org", 2222, false),
     ];
     for (front, host, port, want) in rows {
-        let Some(entry) = entry(rt.alloc(), front)? else {
-            return Err(Fail::new("no entry"));
+        let Some(entry) = entry(rt.alloc(), front).expect(&rt, "memory") else {
+            panic!(rt; "no entry");
         };
-        let name = lookup_name(rt.alloc(), host, port)?;
-        let mut buffer = KeyBuffer::new(rt.alloc())?;
+        let name = lookup_name(rt.alloc(), host, port).expect(&rt, "memory");
+        let mut buffer = KeyBuffer::new(rt.alloc()).expect(&rt, "memory");
         same(
             &rt,
             &names_host(&entry.view(&mut buffer).names(), &name),
             &want,
         );
     }
-    Ok(())
 }
 
 #[test]
-fn reads_a_known_entry(rt: HostRuntime) -> Result<(), Fail> {
-    let line = joined(rt.alloc(), b" @cert-authority\t*.a,b  ", KEY)?;
-    let line = joined(rt.alloc(), &line, b"  x y \r")?;
-    let KnownLine::Entry(entry) = read_known_line(rt.alloc(), &line)? else {
-        return Err(Fail::new("no entry"));
+fn reads_a_known_entry(rt: HostRuntime) {
+    let line = joined(rt.alloc(), b" @cert-authority\t*.a,b  ", KEY).expect(&rt, "memory");
+    let line = joined(rt.alloc(), &line, b"  x y \r").expect(&rt, "memory");
+    let KnownLine::Entry(entry) = read_known_line(rt.alloc(), &line).expect(&rt, "memory") else {
+        panic!(rt; "no entry");
     };
-    let mut buffer = KeyBuffer::new(rt.alloc())?;
+    let mut buffer = KeyBuffer::new(rt.alloc()).expect(&rt, "memory");
     let entry = entry.view(&mut buffer);
     same(&rt, &entry.marker(), &Marker::CertAuthority);
     same(&rt, &entry.names().text(), &b"*.a,b".as_slice());
     same(&rt, &entry.blob().len(), &51);
     same(&rt, &entry.comment(), &b"x y".as_slice());
-    Ok(())
 }
 
 #[test]
-fn reads_a_known_entry_in_its_line(rt: HostRuntime) -> Result<(), Fail> {
-    let mut buffer = KeyBuffer::new(rt.alloc())?;
-    let line = joined(rt.alloc(), HASHED, KEY)?;
-    let line = joined(rt.alloc(), &line, b" note")?;
+fn reads_a_known_entry_in_its_line(rt: HostRuntime) {
+    let mut buffer = KeyBuffer::new(rt.alloc()).expect(&rt, "memory");
+    let line = joined(rt.alloc(), HASHED, KEY).expect(&rt, "memory");
+    let line = joined(rt.alloc(), &line, b" note").expect(&rt, "memory");
     assert!(rt; matches!(read_known_view(b"# x", &mut buffer), KnownLineView::Comment));
     let KnownLineView::Entry(entry) = read_known_view(&line, &mut buffer) else {
-        return Err(Fail::new("no entry"));
+        panic!(rt; "no entry");
     };
     same(&rt, &entry.marker(), &Marker::Unmarked);
     assert!(rt; names_host(&entry.names(), b"example.org"));
@@ -128,12 +126,11 @@ fn reads_a_known_entry_in_its_line(rt: HostRuntime) -> Result<(), Fail> {
     same(&rt, &entry.comment(), &b"note".as_slice());
     same(&rt, &entry.blob().len(), &51);
     assert!(rt; entry.has_blob(entry.blob()) && !entry.has_blob(b"x"));
-    Ok(())
 }
 
 #[test]
-fn tells_revocations(rt: HostRuntime) -> Result<(), Fail> {
-    let mut buffer = KeyBuffer::new(rt.alloc())?;
+fn tells_revocations(rt: HostRuntime) {
+    let mut buffer = KeyBuffer::new(rt.alloc()).expect(&rt, "memory");
     let rows: [(&[u8], &[u8], Option<usize>); 6] = [
         (b"@revoked other ", KEY, Some(51)),
         (b"@revoked |1|x frob AAAA", b"", Some(3)),
@@ -143,37 +140,40 @@ fn tells_revocations(rt: HostRuntime) -> Result<(), Fail> {
         (b"@revoked", b"", None),
     ];
     for (front, rest, want) in rows {
-        let line = joined(rt.alloc(), front, rest)?;
+        let line = joined(rt.alloc(), front, rest).expect(&rt, "memory");
         let len = match read_known_view(&line, &mut buffer) {
             KnownLineView::Revoked(bytes) => Some(bytes.len()),
             KnownLineView::RevokedUnreadable => None,
-            _ => return Err(Fail::new("no revocation")),
+            _ => panic!(rt; "no revocation"),
         };
         same(&rt, &len, &want);
-        let len = match read_known_line(rt.alloc(), &line)? {
+        let len = match read_known_line(rt.alloc(), &line).expect(&rt, "memory") {
             KnownLine::Revoked(bytes) => Some(bytes.as_slice().len()),
             KnownLine::RevokedUnreadable => None,
-            _ => return Err(Fail::new("no revocation")),
+            _ => panic!(rt; "no revocation"),
         };
         same(&rt, &len, &want);
     }
-    Ok(())
 }
 
 #[test]
-fn reads_known_lines_up_to_the_limit(rt: HostRuntime) -> Result<(), Fail> {
-    let mut line = joined(rt.alloc(), b"h ", KEY)?;
-    line.extend_from_slice(b" me")?;
-    line.resize(LINE_LIMIT, b'e')?;
-    assert!(rt; matches!(read_known_line(rt.alloc(), &line)?, KnownLine::Entry(_)));
-    line.push(b'e')?;
+fn reads_known_lines_up_to_the_limit(rt: HostRuntime) {
+    let mut line = joined(rt.alloc(), b"h ", KEY).expect(&rt, "memory");
+    line.extend_from_slice(b" me").expect(&rt, "memory");
+    line.resize(LINE_LIMIT, b'e').expect(&rt, "memory");
     assert!(rt;
         matches!(
-            read_known_line(rt.alloc(), &line)?,
+            read_known_line(rt.alloc(), &line).expect(&rt, "memory"),
+            KnownLine::Entry(_)
+        )
+    );
+    line.push(b'e').expect(&rt, "memory");
+    assert!(rt;
+        matches!(
+            read_known_line(rt.alloc(), &line).expect(&rt, "memory"),
             KnownLine::RevokedUnreadable
         )
     );
-    Ok(())
 }
 
 /// Both lines are kept as entries, and the entries are equal.
@@ -191,9 +191,9 @@ fn are_kept_alike(alloc: Global, line: &[u8], other: &[u8]) -> Result<bool, Allo
 
 /// Entries are equal where marker, names, key and comment are; so are they kept.
 #[test]
-fn tells_entries_apart(rt: HostRuntime) -> Result<(), Fail> {
+fn tells_entries_apart(rt: HostRuntime) {
     let alloc = rt.alloc();
-    let line = joined(alloc, b"h,g ", KEY)?;
+    let line = joined(alloc, b"h,g ", KEY).expect(&rt, "memory");
     for (front, want) in [
         (b"h,g ".as_slice(), true),
         (b" h,g\t".as_slice(), true),
@@ -201,10 +201,14 @@ fn tells_entries_apart(rt: HostRuntime) -> Result<(), Fail> {
         (b"@cert-authority h,g ".as_slice(), false),
         (b"@revoked h,g ".as_slice(), false),
     ] {
-        let other = joined(alloc, front, KEY)?;
-        same(&rt, &are_kept_alike(alloc, &line, &other)?, &want);
-        let mut buffer = KeyBuffer::new(alloc)?;
-        let mut other_buffer = KeyBuffer::new(alloc)?;
+        let other = joined(alloc, front, KEY).expect(&rt, "memory");
+        same(
+            &rt,
+            &are_kept_alike(alloc, &line, &other).expect(&rt, "memory"),
+            &want,
+        );
+        let mut buffer = KeyBuffer::new(alloc).expect(&rt, "memory");
+        let mut other_buffer = KeyBuffer::new(alloc).expect(&rt, "memory");
         let view = read_known_view(&line, &mut buffer);
         same(
             &rt,
@@ -212,5 +216,4 @@ fn tells_entries_apart(rt: HostRuntime) -> Result<(), Fail> {
             &want,
         );
     }
-    Ok(())
 }

@@ -7,7 +7,7 @@ use ssh_options::{Flag, LineCause, OptionView, ValueName};
 use ssh_text::{LINE_LIMIT, Lines};
 use ssh_wire::{WireCause, WireError};
 use std::alloc::{AllocError, Global};
-use std::test::Fail;
+use std::panic::Expect;
 
 /// The base64 of an Ed25519 key of 32 zero bytes.
 const KEY: &[u8] = b"AAAAC3NzaC1lZDI1NTE5AAAAIAAAAAAAAAAAAAAAAAAAAAAAAAAAAAAAAAAAAAAAAAAA";
@@ -30,7 +30,7 @@ fn cause(alloc: Global, line: &[u8]) -> Result<Option<LineCause>, AllocError> {
 }
 
 #[test]
-fn refuses_lines(rt: HostRuntime) -> Result<(), Fail> {
+fn refuses_lines(rt: HostRuntime) {
     let short = KeyError::Wire(WireError {
         place: 0,
         cause: WireCause::Short,
@@ -65,27 +65,30 @@ fn refuses_lines(rt: HostRuntime) -> Result<(), Fail> {
         (b"pty=\"x\",nosuch ", ENTRY, LineCause::OptionValue),
     ];
     for (front, rest, want) in rows {
-        let line = joined(rt.alloc(), front, rest)?;
-        same(&rt, &cause(rt.alloc(), &line)?, &Some(want));
+        let line = joined(rt.alloc(), front, rest).expect(&rt, "memory");
+        same(
+            &rt,
+            &cause(rt.alloc(), &line).expect(&rt, "memory"),
+            &Some(want),
+        );
     }
-    Ok(())
 }
 
 #[test]
-fn reads_an_entry(rt: HostRuntime) -> Result<(), Fail> {
-    let line = joined(rt.alloc(), b"PTY,command=\"a \\\"b\\\" c\" ", ENTRY)?;
-    let line = joined(rt.alloc(), &line, b" x y ")?;
-    let AuthLine::Entry(entry) = read_auth_line(rt.alloc(), &line)? else {
-        return Err(Fail::new("no entry"));
+fn reads_an_entry(rt: HostRuntime) {
+    let line = joined(rt.alloc(), b"PTY,command=\"a \\\"b\\\" c\" ", ENTRY).expect(&rt, "memory");
+    let line = joined(rt.alloc(), &line, b" x y ").expect(&rt, "memory");
+    let AuthLine::Entry(entry) = read_auth_line(rt.alloc(), &line).expect(&rt, "memory") else {
+        panic!(rt; "no entry");
     };
-    let mut buffer = KeyBuffer::new(rt.alloc())?;
+    let mut buffer = KeyBuffer::new(rt.alloc()).expect(&rt, "memory");
     let entry = entry.view(&mut buffer);
     let mut options = entry.options();
     let (
         Some(OptionView::Switch(Flag::Pty)),
         Some(OptionView::Setting(ValueName::Command, value)),
     ) = (options.next(), options.next()) else {
-        return Err(Fail::new("other options"));
+        panic!(rt; "other options");
     };
     assert!(rt; value.is_text(b"a \"b\" c") && options.next().is_none());
     same(&rt, &entry.comment(), &b"x y".as_slice());
@@ -94,21 +97,21 @@ fn reads_an_entry(rt: HostRuntime) -> Result<(), Fail> {
     assert!(rt;
         entry.settings(ValueName::Command).count() == 1 && entry.expiry_texts().count() == 0
     );
-    Ok(())
 }
 
 #[test]
-fn reads_an_entry_in_its_line(rt: HostRuntime) -> Result<(), Fail> {
-    let mut buffer = KeyBuffer::new(rt.alloc())?;
+fn reads_an_entry_in_its_line(rt: HostRuntime) {
+    let mut buffer = KeyBuffer::new(rt.alloc()).expect(&rt, "memory");
     let first = joined(
         rt.alloc(),
         b"from=\"*.a\",pty,command=\"a \\\"b\\\"\" ",
         ENTRY,
-    )?;
-    let first = joined(rt.alloc(), &first, b" x y ")?;
+    )
+    .expect(&rt, "memory");
+    let first = joined(rt.alloc(), &first, b" x y ").expect(&rt, "memory");
     assert!(rt; matches!(read_auth_view(b"# x", &mut buffer), AuthLineView::Comment));
     let AuthLineView::Entry(entry) = read_auth_view(&first, &mut buffer) else {
-        return Err(Fail::new("no entry"));
+        panic!(rt; "no entry");
     };
     assert!(rt; entry.has_flag(Flag::Pty) && !entry.has_flag(Flag::Restrict));
     same(&rt, &entry.comment(), &b"x y".as_slice());
@@ -127,17 +130,19 @@ fn reads_an_entry_in_its_line(rt: HostRuntime) -> Result<(), Fail> {
         assert!(rt; options.next().is_some());
     }
     assert!(rt; options.next().is_none());
-    Ok(())
 }
 
 #[test]
-fn reads_up_to_the_limit(rt: HostRuntime) -> Result<(), Fail> {
-    let mut line = joined(rt.alloc(), ENTRY, b" me")?;
-    line.resize(LINE_LIMIT, b'e')?;
-    same(&rt, &cause(rt.alloc(), &line)?, &None);
-    line.push(b'e')?;
-    same(&rt, &cause(rt.alloc(), &line)?, &Some(LineCause::TooLong));
-    Ok(())
+fn reads_up_to_the_limit(rt: HostRuntime) {
+    let mut line = joined(rt.alloc(), ENTRY, b" me").expect(&rt, "memory");
+    line.resize(LINE_LIMIT, b'e').expect(&rt, "memory");
+    same(&rt, &cause(rt.alloc(), &line).expect(&rt, "memory"), &None);
+    line.push(b'e').expect(&rt, "memory");
+    same(
+        &rt,
+        &cause(rt.alloc(), &line).expect(&rt, "memory"),
+        &Some(LineCause::TooLong),
+    );
 }
 
 /// The lines of sshd(8)'s EXAMPLES, with keys in place of what it leaves out, and a line with every
@@ -184,7 +189,7 @@ fn shown(alloc: Global, line: &[u8]) -> Result<Vec<u8>, AllocError> {
 }
 
 #[test]
-fn reads_the_examples_of_sshd(rt: HostRuntime) -> Result<(), Fail> {
+fn reads_the_examples_of_sshd(rt: HostRuntime) {
     let rows: [&[u8]; 12] = [
         b"comment",
         b"blank",
@@ -199,17 +204,20 @@ fn reads_the_examples_of_sshd(rt: HostRuntime) -> Result<(), Fail> {
         b"cert-authority;no-touch-required;principals=user_a;",
         b"agent-forwarding;cert-authority;no-agent-forwarding;no-port-forwarding;no-pty;no-user-rc;no-X11-forwarding;port-forwarding;pty;no-touch-required;verify-required;restrict;user-rc;X11-forwarding;command=echo \"a b\";environment=LANG=C;expiry-time=20240229;from=*.example.com,!bad;permitlisten=8080;permitopen=[2001:db8::1]:80;principals=a,b;tunnel=0;all of them",
     ];
-    let mut buffer = KeyBuffer::new(rt.alloc())?;
+    let mut buffer = KeyBuffer::new(rt.alloc()).expect(&rt, "memory");
     for ((_number, line), want) in Lines::new(FILE).zip(rows) {
-        same(&rt, &shown(rt.alloc(), line)?.as_slice(), &want);
+        same(
+            &rt,
+            &shown(rt.alloc(), line).expect(&rt, "memory").as_slice(),
+            &want,
+        );
         if let AuthLineView::Entry(entry) = read_auth_view(line, &mut buffer) {
             let mut out = Vec::new(rt.alloc());
-            shown_entry(&entry, &mut out)?;
+            shown_entry(&entry, &mut out).expect(&rt, "memory");
             same(&rt, &out.as_slice(), &want);
         }
     }
     same(&rt, &Lines::new(FILE).count(), &rows.len());
-    Ok(())
 }
 
 /// What the example in the crate's root does.
@@ -226,16 +234,19 @@ fn line_of_blob(alloc: Global, file: &[u8], blob: &[u8]) -> Result<Option<AuthLi
 }
 
 #[test]
-fn runs_the_example(rt: HostRuntime) -> Result<(), Fail> {
+fn runs_the_example(rt: HostRuntime) {
     let blob = b"\0\0\0\x07ssh-rsa\0\0\0\x03\x01\0\x01\0\0\0\x02\0\x80";
-    let found = line_of_blob(rt.alloc(), FILE, blob)?;
+    let found = line_of_blob(rt.alloc(), FILE, blob).expect(&rt, "memory");
     let Some(AuthLine::Entry(entry)) = found else {
-        return Err(Fail::new("no entry"));
+        panic!(rt; "no entry");
     };
-    let mut buffer = KeyBuffer::new(rt.alloc())?;
+    let mut buffer = KeyBuffer::new(rt.alloc()).expect(&rt, "memory");
     assert!(rt; entry.view(&mut buffer).options().next().is_none());
-    assert!(rt; line_of_blob(rt.alloc(), FILE, b"x")?.is_none());
-    Ok(())
+    assert!(rt;
+        line_of_blob(rt.alloc(), FILE, b"x")
+            .expect(&rt, "memory")
+            .is_none()
+    );
 }
 
 /// Both lines are kept as entries, and the entries are equal.
@@ -253,7 +264,7 @@ fn are_kept_alike(alloc: Global, line: &[u8], other: &[u8]) -> Result<bool, Allo
 
 /// Entries are equal where options, key and comment are, and so are lines; so are they kept.
 #[test]
-fn tells_entries_apart(rt: HostRuntime) -> Result<(), Fail> {
+fn tells_entries_apart(rt: HostRuntime) {
     let alloc = rt.alloc();
     for (front, rest, want) in [
         (b"pty ".as_slice(), b" me".as_slice(), true),
@@ -262,11 +273,27 @@ fn tells_entries_apart(rt: HostRuntime) -> Result<(), Fail> {
         (b"pty ".as_slice(), b" you".as_slice(), false),
         (b"# pty ".as_slice(), b" me".as_slice(), false),
     ] {
-        let line = joined(alloc, b"pty ", joined(alloc, ENTRY, b" me")?.as_slice())?;
-        let other = joined(alloc, front, joined(alloc, ENTRY, rest)?.as_slice())?;
-        same(&rt, &are_kept_alike(alloc, &line, &other)?, &want);
-        let mut buffer = KeyBuffer::new(alloc)?;
-        let mut other_buffer = KeyBuffer::new(alloc)?;
+        let line = joined(
+            alloc,
+            b"pty ",
+            joined(alloc, ENTRY, b" me")
+                .expect(&rt, "memory")
+                .as_slice(),
+        )
+        .expect(&rt, "memory");
+        let other = joined(
+            alloc,
+            front,
+            joined(alloc, ENTRY, rest).expect(&rt, "memory").as_slice(),
+        )
+        .expect(&rt, "memory");
+        same(
+            &rt,
+            &are_kept_alike(alloc, &line, &other).expect(&rt, "memory"),
+            &want,
+        );
+        let mut buffer = KeyBuffer::new(alloc).expect(&rt, "memory");
+        let mut other_buffer = KeyBuffer::new(alloc).expect(&rt, "memory");
         let view = read_auth_view(&line, &mut buffer);
         same(
             &rt,
@@ -274,5 +301,4 @@ fn tells_entries_apart(rt: HostRuntime) -> Result<(), Fail> {
             &want,
         );
     }
-    Ok(())
 }

@@ -3,7 +3,7 @@
 use crate::compare::same;
 use ssh_names::{NamesError, hash_name, hmac_sha1, lookup_name, names_host, read_names};
 use std::alloc::{AllocError, Global};
-use std::test::Fail;
+use std::panic::Expect;
 
 /// The names field of a line that `ssh-keygen -H` of OpenSSH 9.2 wrote for `example.org`.
 const KEYGEN_FIELD: &[u8] = b"|1|ob2X9j2RA/u50O6yNLL5zkS5jzg=|dIdk4l2rsiYHS1lwAp73WAnaPnM=";
@@ -39,7 +39,7 @@ fn hex(alloc: Global, digest: &[u8]) -> Result<String, AllocError> {
 
 // RFC 2202, section 3, cases 1 to 7.
 #[test]
-fn hmac_vectors(rt: HostRuntime) -> Result<(), Fail> {
+fn hmac_vectors(rt: HostRuntime) {
     let rows: [(&[u8], &[u8], &str); 7] = [
         (
             &[0x0b; 20],
@@ -83,15 +83,16 @@ fn hmac_vectors(rt: HostRuntime) -> Result<(), Fail> {
     for (key, text, want) in rows {
         same(
             &rt,
-            &hex(rt.alloc(), &hmac_sha1(key, text))?.as_str(),
+            &hex(rt.alloc(), &hmac_sha1(key, text))
+                .expect(&rt, "memory")
+                .as_str(),
             &want,
         );
     }
-    Ok(())
 }
 
 #[test]
-fn keygen_fields(rt: HostRuntime) -> Result<(), Fail> {
+fn keygen_fields(rt: HostRuntime) {
     for (field, host, port, want) in [
         (KEYGEN_FIELD, b"example.org".as_slice(), 22, Ok(true)),
         (KEYGEN_FIELD, b"Example.ORG".as_slice(), 22, Ok(true)),
@@ -106,15 +107,18 @@ fn keygen_fields(rt: HostRuntime) -> Result<(), Fail> {
             Err(NamesError::HashedName),
         ),
     ] {
-        same(&rt, &names(rt.alloc(), field, host, port)?, &want);
+        same(
+            &rt,
+            &names(rt.alloc(), field, host, port).expect(&rt, "memory"),
+            &want,
+        );
     }
-    let field = hash_name(rt.alloc(), &KEYGEN_SALT, b"example.org")?;
+    let field = hash_name(rt.alloc(), &KEYGEN_SALT, b"example.org").expect(&rt, "memory");
     same(&rt, &field.as_slice(), &KEYGEN_FIELD);
-    Ok(())
 }
 
 #[test]
-fn lists(rt: HostRuntime) -> Result<(), Fail> {
+fn lists(rt: HostRuntime) {
     for (field, host, port, want) in [
         (b"!h,*".as_slice(), b"h".as_slice(), 22, Ok(false)),
         (b"!h,*".as_slice(), b"g".as_slice(), 22, Ok(true)),
@@ -134,13 +138,16 @@ fn lists(rt: HostRuntime) -> Result<(), Fail> {
             Err(NamesError::HashedName),
         ),
     ] {
-        same(&rt, &names(rt.alloc(), field, host, port)?, &want);
+        same(
+            &rt,
+            &names(rt.alloc(), field, host, port).expect(&rt, "memory"),
+            &want,
+        );
     }
     let Ok(read) = read_names(b"h,!g") else {
-        return Err(Fail::new("no names"));
+        panic!(rt; "no names");
     };
     same(&rt, &read.again().text(), &b"h,!g".as_slice());
-    Ok(())
 }
 
 /// What the example in the crate's root does.
@@ -154,9 +161,8 @@ fn hides(alloc: Global, salt: &[u8; 20], host: &[u8], port: u16) -> Result<bool,
 }
 
 #[test]
-fn runs_the_example(rt: HostRuntime) -> Result<(), Fail> {
-    assert!(rt; hides(rt.alloc(), &KEYGEN_SALT, b"Example.ORG", 2222)?);
-    Ok(())
+fn runs_the_example(rt: HostRuntime) {
+    assert!(rt; hides(rt.alloc(), &KEYGEN_SALT, b"Example.ORG", 2222).expect(&rt, "memory"));
 }
 
 /// Names are equal where they stand on a line as the same text.

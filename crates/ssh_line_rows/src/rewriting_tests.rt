@@ -4,7 +4,7 @@ use crate::compare::same;
 use ssh_rewriting::{RewriteError, rewrite_auth, rewrite_known};
 use ssh_text::FILE_LIMIT;
 use std::alloc::{AllocError, Global};
-use std::test::Fail;
+use std::panic::Expect;
 
 /// The base64 of an Ed25519 key of 32 zero bytes.
 const KEY: &[u8] = b"AAAAC3NzaC1lZDI1NTE5AAAAIAAAAAAAAAAAAAAAAAAAAAAAAAAAAAAAAAAAAAAAAAAA";
@@ -23,7 +23,7 @@ pub(crate) fn with_keys(alloc: Global, text: &[u8]) -> Result<Vec<u8>, AllocErro
 }
 
 #[test]
-fn rewrites_auth_files(rt: HostRuntime) -> Result<(), Fail> {
+fn rewrites_auth_files(rt: HostRuntime) {
     let alloc = rt.alloc();
     let rows: [(&[u8], &[u8]); 6] = [
         (b"", b""),
@@ -46,15 +46,24 @@ fn rewrites_auth_files(rt: HostRuntime) -> Result<(), Fail> {
         (b"#", b"#\n"),
     ];
     for (old, want) in rows {
-        let new = rewrite_auth(alloc, &with_keys(alloc, old)?)?;
-        same(&rt, &new.as_slice(), &with_keys(alloc, want)?.as_slice());
-        same(&rt, &rewrite_auth(alloc, &new)?.as_slice(), &new.as_slice());
+        let new = rewrite_auth(alloc, &with_keys(alloc, old).expect(&rt, "memory")).expect(
+            &rt, "a file",
+        );
+        same(
+            &rt,
+            &new.as_slice(),
+            &with_keys(alloc, want).expect(&rt, "memory").as_slice(),
+        );
+        same(
+            &rt,
+            &rewrite_auth(alloc, &new).expect(&rt, "a file").as_slice(),
+            &new.as_slice(),
+        );
     }
-    Ok(())
 }
 
 #[test]
-fn rewrites_known_files(rt: HostRuntime) -> Result<(), Fail> {
+fn rewrites_known_files(rt: HostRuntime) {
     let alloc = rt.alloc();
     let rows: [(&[u8], &[u8]); 4] = [
         (b"", b""),
@@ -69,24 +78,28 @@ fn rewrites_known_files(rt: HostRuntime) -> Result<(), Fail> {
         ),
     ];
     for (old, want) in rows {
-        let new = rewrite_known(alloc, &with_keys(alloc, old)?)?;
-        same(&rt, &new.as_slice(), &with_keys(alloc, want)?.as_slice());
+        let new = rewrite_known(alloc, &with_keys(alloc, old).expect(&rt, "memory")).expect(
+            &rt, "a file",
+        );
         same(
             &rt,
-            &rewrite_known(alloc, &new)?.as_slice(),
+            &new.as_slice(),
+            &with_keys(alloc, want).expect(&rt, "memory").as_slice(),
+        );
+        same(
+            &rt,
+            &rewrite_known(alloc, &new).expect(&rt, "a file").as_slice(),
             &new.as_slice(),
         );
     }
-    Ok(())
 }
 
 #[test]
-fn refuses_a_file_that_grows_past_the_limit(rt: HostRuntime) -> Result<(), Fail> {
+fn refuses_a_file_that_grows_past_the_limit(rt: HostRuntime) {
     let alloc = rt.alloc();
-    let file = vec![in alloc; b'#'; FILE_LIMIT]?;
+    let file = vec![in alloc; b'#'; FILE_LIMIT].expect(&rt, "memory");
     assert!(rt; matches!(rewrite_auth(alloc, &file), Err(RewriteError::TooLong)));
     assert!(rt; matches!(rewrite_known(alloc, &file), Err(RewriteError::TooLong)));
-    Ok(())
 }
 
 /// What the example in the crate's root does.
@@ -96,11 +109,10 @@ fn is_canonical(alloc: Global, file: &[u8]) -> Result<bool, RewriteError> {
 }
 
 #[test]
-fn runs_the_example(rt: HostRuntime) -> Result<(), Fail> {
+fn runs_the_example(rt: HostRuntime) {
     let alloc = rt.alloc();
-    let file = with_keys(alloc, b"h ssh-ed25519 %\n# x\n")?;
-    assert!(rt; is_canonical(alloc, &file)?);
-    let file = with_keys(alloc, b"h  ssh-ed25519 %\n# x\n")?;
-    assert!(rt; !is_canonical(alloc, &file)?);
-    Ok(())
+    let file = with_keys(alloc, b"h ssh-ed25519 %\n# x\n").expect(&rt, "memory");
+    assert!(rt; is_canonical(alloc, &file).expect(&rt, "a file"));
+    let file = with_keys(alloc, b"h  ssh-ed25519 %\n# x\n").expect(&rt, "memory");
+    assert!(rt; !is_canonical(alloc, &file).expect(&rt, "a file"));
 }

@@ -3,8 +3,8 @@
 use crate::compare::same;
 use ssh_text::{LINE_LIMIT, Line, Lines, Scanner, skip_blanks, split_word};
 use std::alloc::{AllocError, Global};
+use std::panic::Expect;
 use std::process::Abort;
-use std::test::Fail;
 
 #[test]
 fn numbers_lines(rt: HostRuntime) {
@@ -71,7 +71,7 @@ fn scanned(
 }
 
 #[test]
-fn cuts_anywhere(rt: HostRuntime) -> Result<(), Fail> {
+fn cuts_anywhere(rt: HostRuntime) {
     let rows: [(&[u8], &[u8]); 7] = [
         (b"", b""),
         (b"\n", b"1/"),
@@ -88,26 +88,32 @@ fn cuts_anywhere(rt: HostRuntime) -> Result<(), Fail> {
         for size in 1..10usize {
             same(
                 &rt,
-                &scanned(&rt, rt.alloc(), file, size)?.as_slice(),
+                &scanned(&rt, rt.alloc(), file, size)
+                    .expect(&rt, "a scan")
+                    .as_slice(),
                 &want,
             );
         }
     }
-    Ok(())
 }
 
 #[test]
-fn keeps_lines_up_to_the_limit(rt: HostRuntime) -> Result<(), Fail> {
+fn keeps_lines_up_to_the_limit(rt: HostRuntime) {
     let mut file = Vec::new(rt.alloc());
-    file.resize(LINE_LIMIT, b'a')?;
-    file.extend_from_slice(b"\nb")?;
+    file.resize(LINE_LIMIT, b'a').expect(&rt, "memory");
+    file.extend_from_slice(b"\nb").expect(&rt, "memory");
     let mut wanted = Vec::new(rt.alloc());
-    wanted.push(b'1')?;
-    wanted.resize(LINE_LIMIT + 1, b'a')?;
-    wanted.extend_from_slice(b"/2b/.")?;
-    assert!(rt; scanned(&rt, rt.alloc(), &file, 1000)?.as_slice() == wanted.as_slice());
-    let mut longer = b"a".to_vec(rt.alloc())?;
-    longer.extend_from_slice(&file)?;
+    wanted.push(b'1').expect(&rt, "memory");
+    wanted.resize(LINE_LIMIT + 1, b'a').expect(&rt, "memory");
+    wanted.extend_from_slice(b"/2b/.").expect(&rt, "memory");
+    assert!(rt;
+        scanned(&rt, rt.alloc(), &file, 1000)
+            .expect(&rt, "a scan")
+            .as_slice()
+            == wanted.as_slice()
+    );
+    let mut longer = b"a".to_vec(rt.alloc()).expect(&rt, "memory");
+    longer.extend_from_slice(&file).expect(&rt, "memory");
     for size in [
         1000,
         LINE_LIMIT,
@@ -117,37 +123,36 @@ fn keeps_lines_up_to_the_limit(rt: HostRuntime) -> Result<(), Fail> {
     ] {
         same(
             &rt,
-            &scanned(&rt, rt.alloc(), &longer, size)?.as_slice(),
+            &scanned(&rt, rt.alloc(), &longer, size)
+                .expect(&rt, "a scan")
+                .as_slice(),
             &b"1!/2b/.".as_slice(),
         );
     }
-    Ok(())
 }
 
 #[test]
-fn counts_what_is_used(rt: HostRuntime) -> Result<(), Fail> {
+fn counts_what_is_used(rt: HostRuntime) {
     let mut scanner = Scanner::new(rt.alloc());
-    assert!(rt; scanner.used() == 0 && scanner.feed(b"ab\ncd")? == (3, true));
-    assert!(rt; scanner.used() == 3 && scanner.feed(b"cd")? == (2, false));
+    assert!(rt; scanner.used() == 0 && scanner.feed(b"ab\ncd").expect(&rt, "a piece") == (3, true));
+    assert!(rt; scanner.used() == 3 && scanner.feed(b"cd").expect(&rt, "a piece") == (2, false));
     assert!(rt; scanner.used() == 5 && scanner.finish());
-    Ok(())
 }
 
 #[test]
-fn gives_lines_that_lie_in_the_piece(rt: HostRuntime) -> Result<(), Fail> {
+fn gives_lines_that_lie_in_the_piece(rt: HostRuntime) {
     let mut scanner = Scanner::new(rt.alloc());
     assert!(rt; scanner.used() == 0);
     let first = scanner.whole_line(b"ab\ncd");
     assert!(rt; first.is_some_and(|line| line.0 == 1 && line.1 == b"ab".as_slice()));
     assert!(rt; scanner.used() == 3 && scanner.whole_line(b"cd").is_none());
-    assert!(rt; scanner.used() == 3 && scanner.feed(b"cd")? == (2, false));
+    assert!(rt; scanner.used() == 3 && scanner.feed(b"cd").expect(&rt, "a piece") == (2, false));
     assert!(rt; scanner.used() == 5 && scanner.whole_line(b"\n\n").is_none());
-    assert!(rt; scanner.used() == 5 && scanner.feed(b"\n\n")? == (1, true));
+    assert!(rt; scanner.used() == 5 && scanner.feed(b"\n\n").expect(&rt, "a piece") == (1, true));
     assert!(rt; scanner.used() == 6);
     let third = scanner.whole_line(b"\n");
     assert!(rt; third.is_some_and(|line| line.0 == 3 && line.1.is_empty()));
     assert!(rt; scanner.used() == 7 && !scanner.finish());
-    Ok(())
 }
 
 /// What the example in the crate's root does.
