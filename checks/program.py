@@ -10,9 +10,9 @@ docs/RECIPES.md), codes.py (whether each printed code is in a row), explained.py
 that page says what the source's table says), manual_page.py (the same of docs/ssh_audit.1, with its options),
 closure.py (how much a reviewer has to read), memory_calls.py (whether each call that takes memory is in the table of
 docs/PROOFS.md), refused_growth.py (each growth of memory refused in turn), cut_vectors.py (worked blobs, cut) and
-hostile.py (input that was made to hurt). With --after, as .ci/run starts it, refused_calls.py (each growth of memory of
-the libraries' calls refused in turn) and sanitized.py (random bytes under AddressSanitizer) run too, which need the
-kit's `rt`, and the counts in the last line of LOG, what `rt ci` printed, are added. The last line is 'N passed, M
+hostile.py (input that was made to hurt). With --after, as .ci/run starts it, library_rows.py (worked rows of the
+libraries), refused_calls.py (each growth of memory of the libraries' calls refused in turn) and sanitized.py (random
+bytes under AddressSanitizer) run too, which need the kit's `rt`, and the counts in the last line of LOG, what `rt ci` printed, are added. The last line is 'N passed, M
 failed' for all of them. The status is 0 where nothing failed. What cannot run has failed.
 
 Needs ssh-keygen (Debian: openssh-client), openssl 3, gcc, jq, git, /dev/full, and the built program. It takes some five
@@ -719,7 +719,7 @@ def main():
     for name in ("codes.py", "explained.py", "manual_page.py", "closure.py", "memory_calls.py"):
         other_check(name, tally)
     if asked.after is not None:
-        for name in ("refused_calls.py", "sanitized.py"):
+        for name in ("library_rows.py", "refused_calls.py", "sanitized.py"):
             other_check(name, tally)
         passed, failed = counts_of(asked.after.read_text(errors="replace")) or (0, 1)
         tally.passed += passed

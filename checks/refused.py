@@ -1,5 +1,6 @@
 """Runs tests with each growth of memory refused in turn, in a copy of a repository. Needs the kit's `rt`."""
 import concurrent.futures
+import contextlib
 import itertools
 import os
 import pathlib
@@ -19,6 +20,16 @@ SIDE_BY_SIDE = max(1, min(3, (os.cpu_count() or 2) - 1))
 
 # How a test tells out of memory: by the error of a call, or in words of its own.
 TOLD = ("error: AllocError", "error: Memory", "out of memory")
+
+
+# What no library is: the program and its words, which refused_growth.py runs, and tests.
+NO_LIBRARIES = ("ssh_keeping", "ssh_review_laws", "ssh_words", "ssh_review_files", "ssh_questions", "ssh_answers", "ssh_command", "ssh_audit")
+
+
+def libraries_of(top):
+    """The libraries of the repository, by crates.txt, and the zones of expiry times."""
+    names = [line.split(":")[0] for line in (top / "crates.txt").read_text().splitlines() if ":" in line and line[0] != "#"]
+    return [name for name in names if name not in NO_LIBRARIES and not name.endswith(("_rows", "_row_files"))] + ["jiff"]
 
 
 def answers(crate, index):
@@ -70,19 +81,26 @@ def check(crate, count, every):
     return not idle
 
 
-def check_rows(top, libraries, modules, every):
-    """The same with a crate of these modules, over these libraries, in a copy of the repository. How many rows passed
-    and failed: where one fails, the others are not tried to their end, and none has passed."""
-    count = sum(text.count("#[test]") for text in modules.values())
+@contextlib.contextmanager
+def crate_of_rows(top, libraries, modules):
+    """The folder of a crate of these modules, over these libraries, in a copy of the repository."""
     with tempfile.TemporaryDirectory() as folder:
         copy = pathlib.Path(folder) / "repository"
         shutil.copytree(top, copy, ignore=shutil.ignore_patterns("out", ".git"))
         with open(copy / "crates.txt", "a", encoding="utf-8") as crates:
-            crates.write(f"growths: {' '.join(libraries)}\n")
-        source = copy / "crates" / "growths" / "src"
+            crates.write(f"rows: {' '.join(libraries)}\n")
+        source = copy / "crates" / "rows" / "src"
         source.mkdir(parents=True)
         declared = "".join(f"#[cfg(test)]\nmod {name};\n" for name in sorted(modules))
         (source / "lib.rt").write_text("#![tactic(auto)]\n\n" + declared, encoding="utf-8")
         for name, text in modules.items():
             (source / f"{name}.rt").write_text(text, encoding="utf-8")
-        return (count, 0) if check(source.parent, count, every) else (0, count)
+        yield source.parent
+
+
+def check_rows(top, libraries, modules, every):
+    """The same with a crate of these modules. How many rows passed and failed: where one fails, the others are not tried
+    to their end, and none has passed."""
+    count = sum(text.count("#[test]") for text in modules.values())
+    with crate_of_rows(top, libraries, modules) as crate:
+        return (count, 0) if check(crate, count, every) else (0, count)

@@ -14,26 +14,16 @@ import sys
 
 sys.dont_write_bytecode = True
 import refused_lines
-from refused import check_rows
+from refused import check_rows, libraries_of
 
 HERE = pathlib.Path(__file__).resolve().parent
 GIVEN = [word for word in sys.argv[1:] if word != "--every"]
 TOP = pathlib.Path(GIVEN[0]).resolve() if GIVEN else HERE.parent
 
-# What no library is: the program and its words, which refused_growth.py runs, and tests.
-NO_LIBRARIES = ("ssh_keeping", "ssh_review_laws", "ssh_words", "ssh_review_files", "ssh_questions", "ssh_answers", "ssh_command", "ssh_audit")
-
-
-def libraries():
-    """The libraries of the repository, by crates.txt, and the zones of expiry times."""
-    names = [line.split(":")[0] for line in (TOP / "crates.txt").read_text().splitlines() if ":" in line and line[0] != "#"]
-    return [name for name in names if name not in NO_LIBRARIES and not name.endswith(("_rows", "_row_files"))] + ["jiff"]
-
-
 def main():
     modules = {path.stem: path.read_text() for path in (HERE / "growths").glob("*.rattle")}
     modules |= {"line_rows": refused_lines.line_tests(), "file_rows": refused_lines.file_tests()}
-    passed, failed = check_rows(TOP, libraries(), modules, "--every" in sys.argv)
+    passed, failed = check_rows(TOP, libraries_of(TOP), modules, "--every" in sys.argv)
     print(f"{passed} passed, {failed} failed")
     return 1 if failed else 0
 
