@@ -6,6 +6,7 @@ ghost use Rattle.ssh_wire.specs.Mpint.{number_of};
 ghost use Rattle.ssh_wire.specs.Reading.{Gives, Reads};
 ghost use Rattle.ssh_keys.specs.Curves.{curve_name_of};
 ghost use Rattle.ssh_keys.specs.KeyOf.{key_of};
+ghost use Rattle.ssh_keys.specs.PublicKey.{rsa, ed25519, sk_p256, sk_ed25519};
 ghost use Rattle.ssh_keys.specs.View.{public_key};
 ghost use Rattle.ssh_bodies.specs.BodyReading.{body_positive_at};
 ghost use Rattle.ssh_bodies.specs.PrivateFrom.{private_key};
@@ -18,7 +19,7 @@ ghost use Rattle.ssh_bodies.specs.PrivateReading.{
   private_at,
   is_padding,
 };
-ghost use Rattle.ssh_bodies.specs.PrivateParts.{rsa_numbers, on_curve, handle_of};
+ghost use Rattle.ssh_bodies.specs.PrivateParts.{rsa_numbers, on_curve, handle_of, curve_key};
 
 use crate::error::BodyError;
 use crate::private_fields::PrivateFields;
@@ -143,9 +144,133 @@ pub(crate) fn is_secret_of(public: &[u8], secret: &[u8]) -> bool
     secret.len() == 64 && &secret[32..] == public
 }
 
+/// Takes the fields of an RSA key, and whether the public ones are these.
+#[tactic(auto, unfolding(crate::specs::PrivateReading::private_at))]
+fn take_rsa_key<'a>(
+    wanted_exponent: Mpint<'_>,
+    wanted_modulus: Mpint<'_>,
+    cursor: &mut Cursor<'a>,
+) -> Result<(PrivateFields<'a>, bool), BodyError>
+    ensures { Reads (λ k. (private_key k.0, k.1))
+        (private_at (rsa (number_of wanted_exponent.entry) (number_of wanted_modulus.entry)))
+        cursor.old result cursor.new }
+{
+    let RsaPart {
+        modulus,
+        exponent,
+        private_exponent,
+        coefficient,
+        prime1,
+        prime2,
+    } = take_rsa(cursor)?;
+    let fields = PrivateFields::Rsa {
+        modulus,
+        exponent,
+        private_exponent,
+        coefficient,
+        prime1,
+        prime2,
+    };
+    let same = modulus == wanted_modulus && exponent == wanted_exponent;
+    Ok((fields, same))
+}
+
+/// Takes the fields of a key on this curve, and whether its point is this one.
+#[tactic(auto, unfolding(crate::specs::PrivateReading::private_at))]
+fn take_curve_key<'a>(
+    curve: Curve,
+    wanted: &[u8],
+    cursor: &mut Cursor<'a>,
+) -> Result<(PrivateFields<'a>, bool), BodyError>
+    ensures { Reads (λ k. (private_key k.0, k.1)) (private_at (curve_key curve wanted.entry.now))
+        cursor.old result cursor.new }
+{
+    let part = take_curve(cursor)?;
+    let CurvePart { point, scalar, .. } = part;
+    let fields = match curve {
+        Curve::Nistp256 => PrivateFields::P256 { point, scalar },
+        Curve::Nistp384 => PrivateFields::P384 { point, scalar },
+        Curve::Nistp521 => PrivateFields::P521 { point, scalar },
+    };
+    Ok((fields, is_on_curve(&part, curve, wanted)))
+}
+
+/// Takes the fields of an Ed25519 key, and whether its public key is this one.
+#[tactic(auto, unfolding(crate::specs::PrivateReading::private_at))]
+fn take_ed25519_key<'a>(
+    wanted: &[u8],
+    cursor: &mut Cursor<'a>,
+) -> Result<(PrivateFields<'a>, bool), BodyError>
+    ensures { Reads (λ k. (private_key k.0, k.1)) (private_at (ed25519 wanted.entry.now))
+        cursor.old result cursor.new }
+{
+    let (public, secret) = take_ed25519(cursor)?;
+    let same = public == wanted && is_secret_of(wanted, secret);
+    Ok((PrivateFields::Ed25519 { public, secret }, same))
+}
+
+/// Takes what a body has of a security key on nistp256, and whether point and application are these.
+#[tactic(auto, unfolding(crate::specs::PrivateReading::private_at))]
+fn take_sk_p256_key<'a>(
+    wanted: &[u8],
+    wanted_application: &[u8],
+    cursor: &mut Cursor<'a>,
+) -> Result<(PrivateFields<'a>, bool), BodyError>
+    ensures { Reads (λ k. (private_key k.0, k.1))
+        (private_at (sk_p256 wanted.entry.now wanted_application.entry.now))
+        cursor.old result cursor.new }
+{
+    let curve = cursor.take_string()?;
+    let point = cursor.take_string()?;
+    let HandlePart {
+        application,
+        flags,
+        key_handle,
+        reserved,
+    } = take_handle(cursor)?;
+    let fields = PrivateFields::SkP256 {
+        point,
+        application,
+        flags,
+        key_handle,
+        reserved,
+    };
+    let same = curve == Curve::Nistp256.name()
+        && (point == wanted && application == wanted_application);
+    Ok((fields, same))
+}
+
+/// The same of one over Ed25519.
+#[tactic(auto, unfolding(crate::specs::PrivateReading::private_at))]
+fn take_sk_ed25519_key<'a>(
+    wanted: &[u8],
+    wanted_application: &[u8],
+    cursor: &mut Cursor<'a>,
+) -> Result<(PrivateFields<'a>, bool), BodyError>
+    ensures { Reads (λ k. (private_key k.0, k.1))
+        (private_at (sk_ed25519 wanted.entry.now wanted_application.entry.now))
+        cursor.old result cursor.new }
+{
+    let public = cursor.take_string()?;
+    let HandlePart {
+        application,
+        flags,
+        key_handle,
+        reserved,
+    } = take_handle(cursor)?;
+    let fields = PrivateFields::SkEd25519 {
+        public,
+        application,
+        flags,
+        key_handle,
+        reserved,
+    };
+    let same = public == wanted && application == wanted_application;
+    Ok((fields, same))
+}
+
 /// Takes the fields of the private key that belongs to a public one, and whether their public half
 /// is that one's.
-#[tactic(auto, unfolding(crate::specs::PrivateReading::private_at))]
 pub(crate) fn take_private<'a>(
     public: KeyFields<'_>,
     cursor: &mut Cursor<'a>,
@@ -154,107 +279,16 @@ pub(crate) fn take_private<'a>(
         result cursor.new }
 {
     match public {
-        KeyFields::Rsa {
-            exponent: e,
-            modulus: n,
-        } => {
-            let RsaPart {
-                modulus,
-                exponent,
-                private_exponent,
-                coefficient,
-                prime1,
-                prime2,
-            } = take_rsa(cursor)?;
-            let fields = PrivateFields::Rsa {
-                modulus,
-                exponent,
-                private_exponent,
-                coefficient,
-                prime1,
-                prime2,
-            };
-            Ok((fields, modulus == n && exponent == e))
-        }
-        KeyFields::P256 { point: wanted } => {
-            let part = take_curve(cursor)?;
-            let CurvePart { point, scalar, .. } = part;
-            Ok((
-                PrivateFields::P256 { point, scalar },
-                is_on_curve(&part, Curve::Nistp256, wanted),
-            ))
-        }
-        KeyFields::P384 { point: wanted } => {
-            let part = take_curve(cursor)?;
-            let CurvePart { point, scalar, .. } = part;
-            Ok((
-                PrivateFields::P384 { point, scalar },
-                is_on_curve(&part, Curve::Nistp384, wanted),
-            ))
-        }
-        KeyFields::P521 { point: wanted } => {
-            let part = take_curve(cursor)?;
-            let CurvePart { point, scalar, .. } = part;
-            Ok((
-                PrivateFields::P521 { point, scalar },
-                is_on_curve(&part, Curve::Nistp521, wanted),
-            ))
-        }
-        KeyFields::Ed25519 { public: wanted } => {
-            let (public, secret) = take_ed25519(cursor)?;
-            Ok((
-                PrivateFields::Ed25519 { public, secret },
-                public == wanted && is_secret_of(wanted, secret),
-            ))
-        }
-        KeyFields::SkP256 {
-            point: wanted,
-            application: wanted_application,
-        } => {
-            let curve = cursor.take_string()?;
-            let point = cursor.take_string()?;
-            let HandlePart {
-                application,
-                flags,
-                key_handle,
-                reserved,
-            } = take_handle(cursor)?;
-            let same = curve == Curve::Nistp256.name()
-                && (point == wanted && application == wanted_application);
-            Ok((
-                PrivateFields::SkP256 {
-                    point,
-                    application,
-                    flags,
-                    key_handle,
-                    reserved,
-                },
-                same,
-            ))
-        }
+        KeyFields::Rsa { exponent, modulus } => take_rsa_key(exponent, modulus, cursor),
+        KeyFields::P256 { point } => take_curve_key(Curve::Nistp256, point, cursor),
+        KeyFields::P384 { point } => take_curve_key(Curve::Nistp384, point, cursor),
+        KeyFields::P521 { point } => take_curve_key(Curve::Nistp521, point, cursor),
+        KeyFields::Ed25519 { public } => take_ed25519_key(public, cursor),
+        KeyFields::SkP256 { point, application } => take_sk_p256_key(point, application, cursor),
         KeyFields::SkEd25519 {
-            public: wanted,
-            application: wanted_application,
-        } => {
-            let public = cursor.take_string()?;
-            let HandlePart {
-                application,
-                flags,
-                key_handle,
-                reserved,
-            } = take_handle(cursor)?;
-            let same = public == wanted && application == wanted_application;
-            Ok((
-                PrivateFields::SkEd25519 {
-                    public,
-                    application,
-                    flags,
-                    key_handle,
-                    reserved,
-                },
-                same,
-            ))
-        }
+            public,
+            application,
+        } => { take_sk_ed25519_key(public, application, cursor) }
     }
 }
 

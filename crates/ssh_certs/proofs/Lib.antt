@@ -1,5 +1,6 @@
 pub mod CertificateFaults
 pub mod CertificateLaws
+pub mod PartLaws
 pub mod Items
 pub mod PackedLists
 pub mod RowLaws

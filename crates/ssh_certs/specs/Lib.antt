@@ -7,6 +7,7 @@ pub mod Left
 pub mod Row
 pub mod Rules
 pub mod View
+pub mod CertificateParts
 pub mod Writing
 pub mod CertificateOf
 pub mod OptionData

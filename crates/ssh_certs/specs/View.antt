@@ -9,17 +9,17 @@ use Rattle.ssh_certs.specs.Packed.{names_in_packed, options_in_packed}
 -- the lists are what their packed strings spell
 abbrev pub certificate_from : CertFields → Certificate
 certificate_from v = record {
-  nonce = v.nonce.now;
-  key = public_key v.key;
-  serial = v.serial;
-  kind_number = v.kind_number;
-  key_id = v.key_id.now;
-  principals = names_in_packed v.principals.now;
-  after = v.after;
-  before = v.before;
-  critical = options_in_packed v.critical.now;
-  extensions = options_in_packed v.extensions.now;
-  reserved = v.reserved.now;
+  nonce = v.certified.nonce.now;
+  key = public_key v.certified.key;
+  serial = v.certified.serial;
+  kind_number = v.certified.kind_number;
+  key_id = v.certified.key_id.now;
+  principals = names_in_packed v.terms.principals.now;
+  after = v.terms.after;
+  before = v.terms.before;
+  critical = options_in_packed v.terms.critical.now;
+  extensions = options_in_packed v.terms.extensions.now;
+  reserved = v.terms.reserved.now;
   signer = key_of v.signer;
   signature = signature_of v.signature;
 }

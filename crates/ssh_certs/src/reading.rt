@@ -23,12 +23,19 @@ ghost use Rattle.ssh_certs.specs.CertificateReading.{
   certificate_in,
 };
 ghost use Rattle.ssh_certs.specs.CertificateFault.{IsCertificateFault};
+ghost use Rattle.ssh_certs.specs.CertificateParts.{
+  certified_at,
+  certified_from,
+  terms_at,
+  terms_from,
+  certificate_by_parts,
+};
 ghost use Rattle.ssh_certs.specs.CertificateOf.{certificate_of};
 ghost use Rattle.ssh_certs.specs.Packed.{names_in_packed, options_in_packed};
 ghost use Rattle.ssh_certs.specs.View.{certificate_from};
 
 use crate::error::CertError;
-use crate::fields::CertFields;
+use crate::fields::{CertFields, Certified, Terms};
 use crate::packed::{check_options, check_principals};
 use crate::view::CertView;
 use ssh_keys::{
@@ -105,44 +112,73 @@ fn take_signature<'a>(cursor: &mut Cursor<'a>) -> Result<(SignatureView<'a>, &'a
     }
 }
 
-/// The fields of a certificate whose blob is short enough.
-#[tactic(auto, unfolding(crate::specs::CertificateReading::certificate_at))]
-fn fields_in(blob: &[u8]) -> Result<CertFields<'_>, CertError>
-    ensures { Gives certificate_from result (certificate_at (start blob.now)) }
+/// Takes what is certified.
+#[tactic(auto, unfolding(crate::specs::CertificateParts::certified_at))]
+fn take_certified<'a>(cursor: &mut Cursor<'a>) -> Result<Certified<'a>, CertError>
+    ensures { Reads certified_from certified_at cursor.old result cursor.new }
 {
-    let mut cursor = Cursor::new(blob);
     let kind = kind_named(cursor.take_string()?)?;
     let nonce = cursor.take_string()?;
-    let key = take_fields(kind, &mut cursor).map_err(CertError::Key)?;
+    let key = take_fields(kind, cursor).map_err(CertError::Key)?;
     let serial = cursor.take_u64()?;
     let kind_number = cursor.take_u32()?;
     let key_id = cursor.take_string()?;
-    let principals = take_principals(&mut cursor)?;
-    let after = cursor.take_u64()?;
-    let before = cursor.take_u64()?;
-    let critical = take_options(&mut cursor)?;
-    let extensions = take_options(&mut cursor)?;
-    let reserved = cursor.take_string()?;
-    let (signer, raw_signer) = take_signer(&mut cursor)?;
-    let (signature, raw_signature) = take_signature(&mut cursor)?;
-    cursor.end()?;
-    Ok(CertFields {
+    Ok(Certified {
         nonce,
         key,
         serial,
         kind_number,
         key_id,
+    })
+}
+
+/// Takes its terms.
+#[tactic(auto, unfolding(crate::specs::CertificateParts::terms_at))]
+fn take_terms<'a>(cursor: &mut Cursor<'a>) -> Result<Terms<'a>, CertError>
+    ensures { Reads terms_from terms_at cursor.old result cursor.new }
+{
+    let principals = take_principals(cursor)?;
+    let after = cursor.take_u64()?;
+    let before = cursor.take_u64()?;
+    let critical = take_options(cursor)?;
+    let extensions = take_options(cursor)?;
+    let reserved = cursor.take_string()?;
+    Ok(Terms {
         principals,
         after,
         before,
         critical,
         extensions,
         reserved,
+    })
+}
+
+/// The fields of a certificate whose blob is short enough, part by part.
+#[tactic(auto, unfolding(crate::specs::CertificateParts::certificate_by_parts))]
+fn parts_in(blob: &[u8]) -> Result<CertFields<'_>, CertError>
+    ensures { Gives certificate_from result (certificate_by_parts (start blob.now)) }
+{
+    let mut cursor = Cursor::new(blob);
+    let certified = take_certified(&mut cursor)?;
+    let terms = take_terms(&mut cursor)?;
+    let (signer, raw_signer) = take_signer(&mut cursor)?;
+    let (signature, raw_signature) = take_signature(&mut cursor)?;
+    cursor.end()?;
+    Ok(CertFields {
+        certified,
+        terms,
         signer,
         raw_signer,
         signature,
         raw_signature,
     })
+}
+
+/// The same, field by field.
+fn fields_in(blob: &[u8]) -> Result<CertFields<'_>, CertError>
+    ensures { Gives certificate_from result (certificate_at (start blob.now)) }
+{
+    parts_in(blob)
 }
 
 #[tactic(auto, unfolding(crate::specs::CertificateReading::certificate_in))]
@@ -176,7 +212,7 @@ pub fn read_cert(bytes: &[u8]) -> Result<CertView<'_>, CertError>
     ensures exact { Gives certificate_of result (certificate_in bytes.now) }
 {
     match certificate_fields(bytes) {
-        Ok(fields) => match KeyView::from_fields(fields.key) {
+        Ok(fields) => match KeyView::from_fields(fields.certified.key) {
             Ok(key) => Ok(CertView {
                 blob: bytes,
                 key,

@@ -27,7 +27,7 @@ pub struct CertView<'a> {
     pub(crate) blob: &'a [u8],
     pub(crate) key: KeyView<'a>,
     pub(crate) fields: CertFields<'a>,
-    ghost is_key: { key_of key ≡ public_key fields.key },
+    ghost is_key: { key_of key ≡ public_key fields.certified.key },
     ghost spelled: { IsCertificateBlob (certificate_from fields) blob.now },
 }
 
@@ -42,7 +42,7 @@ impl<'a> CertView<'a> {
     pub fn nonce(&self) -> &'a [u8]
         ensures { result.now ≡ (certificate_of self.now).nonce }
     {
-        self.fields.nonce
+        self.fields.certified.nonce
     }
 
     /// The certified public key.
@@ -56,63 +56,63 @@ impl<'a> CertView<'a> {
     pub fn serial(&self) -> u64
         ensures { result ≡ (certificate_of self.now).serial }
     {
-        self.fields.serial
+        self.fields.certified.serial
     }
 
     /// 1 for a user's certificate, 2 for a host's. No number is refused here.
     pub fn kind_number(&self) -> u32
         ensures { result ≡ (certificate_of self.now).kind_number }
     {
-        self.fields.kind_number
+        self.fields.certified.kind_number
     }
 
     /// The signer's name for the certificate: any bytes.
     pub fn key_id(&self) -> &'a [u8]
         ensures { result.now ≡ (certificate_of self.now).key_id }
     {
-        self.fields.key_id
+        self.fields.certified.key_id
     }
 
     /// The names that the certificate is for, in the order of the blob.
     pub fn principals(&self) -> Principals<'a>
         ensures { principals_left result ≡ (certificate_of self.now).principals }
     {
-        Principals::new(self.fields.principals)
+        Principals::new(self.fields.terms.principals)
     }
 
     /// The first second in force, counted from 1970-01-01 in UTC.
     pub fn after(&self) -> u64
         ensures { result ≡ (certificate_of self.now).after }
     {
-        self.fields.after
+        self.fields.terms.after
     }
 
     /// The first second no longer in force, counted from 1970-01-01 in UTC.
     pub fn before(&self) -> u64
         ensures { result ≡ (certificate_of self.now).before }
     {
-        self.fields.before
+        self.fields.terms.before
     }
 
     /// The options that a verifier must know, in the order of the blob.
     pub fn critical(&self) -> CertOptions<'a>
         ensures { options_left result ≡ (certificate_of self.now).critical }
     {
-        CertOptions::new(self.fields.critical)
+        CertOptions::new(self.fields.terms.critical)
     }
 
     /// The options that a verifier may pass over, in the order of the blob.
     pub fn extensions(&self) -> CertOptions<'a>
         ensures { options_left result ≡ (certificate_of self.now).extensions }
     {
-        CertOptions::new(self.fields.extensions)
+        CertOptions::new(self.fields.terms.extensions)
     }
 
     /// Reserved bytes. They mean nothing.
     pub fn reserved(&self) -> &'a [u8]
         ensures { result.now ≡ (certificate_of self.now).reserved }
     {
-        self.fields.reserved
+        self.fields.terms.reserved
     }
 
     /// The key that signed the certificate.
@@ -157,9 +157,9 @@ impl<'a> CertView<'a> {
     pub fn in_time(&self, now: u64) -> Time
         ensures { result ≡ time_of (certificate_of self.now) now }
     {
-        if now < self.fields.after {
+        if now < self.fields.terms.after {
             Time::Early
-        } else if self.fields.before <= now {
+        } else if self.fields.terms.before <= now {
             Time::Late
         } else {
             Time::Now
