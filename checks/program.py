@@ -4,16 +4,17 @@
 usage: program.py [PROGRAM] [--after LOG]
 
 PROGRAM is crates/ssh_audit/out/ssh_audit where it is left out. After its own rows it starts the checks beside it:
-examples.py (keys, certificates and signatures of ssh-keygen and openssl through examples/), documents.py (the commands
-of README.md and docs/MANUAL.md as they stand), review.py (reviews of random files), recipes.py (the commands of
-docs/RECIPES.md), codes.py (whether each printed code is in a row), explained.py (whether
-that page says what the source's table says), manual_page.py (the same of docs/ssh_audit.1, with its options),
-closure.py (how much a reviewer has to read), memory_calls.py (whether each call that takes memory is in the table of
-docs/PROOFS.md), refused_growth.py (each growth of memory refused in turn), cut_vectors.py (worked blobs, cut) and
-hostile.py (input that was made to hurt). With --after, as .ci/run starts it, library_rows.py (worked rows of the
-libraries), refused_calls.py (each growth of memory of the libraries' calls refused in turn) and sanitized.py (random
-bytes under AddressSanitizer) run too, which need the kit's `rt`, and the counts in the last line of LOG, what `rt ci` printed, are added. The last line is 'N passed, M
-failed' for all of them. The status is 0 where nothing failed. What cannot run has failed.
+worked.py (worked rows of the whole command), examples.py (keys, certificates and signatures of ssh-keygen and openssl
+through examples/), documents.py (the commands of README.md and docs/MANUAL.md as they stand), review.py (reviews of
+random files), recipes.py (the commands of docs/RECIPES.md), codes.py (whether each printed code is in a row),
+explained.py (whether docs/CODES.md says what the source's table says), manual_page.py (the same of docs/ssh_audit.1,
+with its options), closure.py (how much a reviewer has to read), memory_calls.py (whether each call that takes memory is
+in the table of docs/PROOFS.md), refused_growth.py (each growth of memory refused in turn), cut_vectors.py (worked blobs,
+cut) and hostile.py (input that was made to hurt). With --after, as .ci/run starts it, library_rows.py (worked rows of
+the libraries), refused_calls.py (each growth of memory of the libraries' calls refused in turn) and sanitized.py (random
+bytes under AddressSanitizer) run too, which need the kit's `rt`, and the counts in the last line of LOG, what `rt ci`
+printed, are added. The last line is 'N passed, M failed' for all of them. The status is 0 where nothing failed. What
+cannot run has failed.
 
 Needs ssh-keygen (Debian: openssh-client), openssl 3, gcc, jq, git, /dev/full, and the built program. It takes some five
 minutes, without --after.
@@ -705,7 +706,7 @@ def try_all(path, tally):
             except (OSError, subprocess.SubprocessError) as error:
                 tally.check(row.__name__, repr(error), "no error")
     print(f"program.py itself: {tally.passed} passed, {tally.failed} failed", flush=True)
-    for name in ("examples.py", "documents.py", "review.py", "recipes.py", "refused_growth.py", "cut_vectors.py", "hostile.py"):
+    for name in ("worked.py", "examples.py", "documents.py", "review.py", "recipes.py", "refused_growth.py", "cut_vectors.py", "hostile.py"):
         other_check(name, tally, path)
 
 

@@ -1,9 +1,9 @@
-//! The program run over a file and a standard input in memory, for the worked rows: what it prints,
-//! with its status, also where a read or a write fails.
+//! The program run over a file and a standard input in memory: what it prints, with its status, where
+//! a read or a write fails, and where a read gives a byte at a time.
 #![tactic(auto)]
 
 mod printing;
 mod sink;
 mod source;
 
-pub use printing::{printed, printed_by_bytes, printed_failing, printed_refusal, printed_until};
+pub use printing::{printed_by_bytes, printed_failing, printed_refusal, printed_until};

@@ -7,20 +7,8 @@ use ssh_words::WordsError;
 use std::alloc::{AllocError, Global};
 use std::io::ErrorKind;
 
-/// What the program prints for words over a file `f` and standard input, with its status.
-pub fn printed(
-    alloc: Global,
-    words: &[&str],
-    file: &[u8],
-    input: &[u8],
-) -> Result<(u8, Vec<u8>), AllocError> {
-    let mut files = OneFile::new("f", file, input);
-    let mut page = Page::new(alloc);
-    let status = run(alloc, words, &mut files, &mut page);
-    Ok((status, Vec::from_slice(alloc, page.taken())?))
-}
-
-/// The same where the read of this index fails, and every later one.
+/// What the program prints for words over a file `f` and standard input, with its status, where the
+/// read of this index fails, and every later one.
 pub fn printed_failing(
     alloc: Global,
     words: &[&str],

@@ -1,9 +1,6 @@
 //! Trust files that come byte by byte, whole and up to a read that fails.
 
-use crate::host_tests::{K0_TRIPLE as HOST_TRIPLE, host_line};
-use crate::login_tests::{K0_TRIPLE, login_line};
-use crate::tests::joined;
-use crate::tests::keys::{K0, S0};
+use crate::asked::{HOST, HOST_TRIPLE, K0, LOGIN, LOGIN_TRIPLE, joined};
 use ssh_row_files::printed_by_bytes;
 use std::alloc::Global;
 use std::process::Abort;
@@ -42,10 +39,9 @@ fn compare_pieces(
 #[test]
 fn answers_a_login_byte_by_byte(rt: HostRuntime) -> Result<(), Fail> {
     let alloc = rt.alloc();
-    let line = login_line(alloc, &["f", K0, S0, "01020304", "150", "-"])?;
-    let input = joined(alloc, [line.as_str(), K0_TRIPLE, "\n"].as_slice())?;
+    let input = joined(alloc, [LOGIN, LOGIN_TRIPLE, "\n"].as_slice())?;
     let head = "granted line 1\nrights port agent x11 pty rc\nevidence 0 ";
-    let wanted = joined(alloc, [head, K0_TRIPLE, "\n"].as_slice())?;
+    let wanted = joined(alloc, [head, LOGIN_TRIPLE, "\n"].as_slice())?;
     for end in ["", "\n", "\r\n\n#"] {
         let file = joined(alloc, ["ssh-ed25519 ", K0, " me", end].as_slice())?;
         compare_pieces(&rt, alloc, &file, &input, &wanted)?;
@@ -56,8 +52,7 @@ fn answers_a_login_byte_by_byte(rt: HostRuntime) -> Result<(), Fail> {
 #[test]
 fn answers_a_host_byte_by_byte(rt: HostRuntime) -> Result<(), Fail> {
     let alloc = rt.alloc();
-    let line = host_line(alloc, &["f", K0, S0, "01020304", "22", "150", "-"])?;
-    let input = joined(alloc, [line.as_str(), HOST_TRIPLE, "\n"].as_slice())?;
+    let input = joined(alloc, [HOST, HOST_TRIPLE, "\n"].as_slice())?;
     let rows = [
         ("", "granted line 1\n"),
         ("@revoked other ssh-ed25519 ", "denied N1 2\n"),

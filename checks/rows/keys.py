@@ -1,0 +1,28 @@
+"""Keys and signatures of the worked rows."""
+
+# An Ed25519 key of 32 zero bytes.
+K0 = "AAAAC3NzaC1lZDI1NTE5AAAAIAAAAAAAAAAAAAAAAAAAAAAAAAAAAAAAAAAAAAAAAAAA"
+
+# The same with the last byte 1.
+K1 = "AAAAC3NzaC1lZDI1NTE5AAAAIAAAAAAAAAAAAAAAAAAAAAAAAAAAAAAAAAAAAAAAAAAB"
+
+# An RSA key of 8 bits.
+RSA = "AAAAB3NzaC1yc2EAAAADAQABAAAAAgCA"
+
+# An Ed25519 key of 32 zero bytes on a security key, with the application `ssh:`.
+SK = "AAAAGnNrLXNzaC1lZDI1NTE5QG9wZW5zc2guY29tAAAAIAAAAAAAAAAAAAAAAAAAAAAAAAAAAAAAAAAAAAAAAAAAAAAABHNzaDo="
+
+# The name of its type.
+SK_NAME = "sk-ssh-ed25519@openssh.com"
+
+# A signature of `ssh-ed25519`, whose bytes are `aa`.
+S0 = "0000000b7373682d6564323535313900000001aa"
+
+# The same of `ssh-rsa`.
+RSA_SIGNATURE = "000000077373682d72736100000001aa"
+
+# The same of `rsa-sha2-256`.
+RSA_SHA2_SIGNATURE = "0000000c7273612d736861322d32353600000001aa"
+
+# The same of `rsa-sha2-512`.
+RSA_SHA512_SIGNATURE = "0000000c7273612d736861322d35313200000001aa"
