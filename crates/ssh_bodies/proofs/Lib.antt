@@ -10,3 +10,4 @@ pub mod PrivateKeyLaws
 pub mod PrivateLaws
 pub mod SectionFaults
 pub mod PrivateFaults
+pub mod PartLaws

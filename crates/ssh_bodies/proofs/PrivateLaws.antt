@@ -9,7 +9,7 @@ use Rattle.std.proofs.lemmas.List.{append-nil, length-append}
 use Rattle.std.proofs.lemmas.Slice.Eq.{bytes_eq-Decides}
 use Rattle.ssh_wire.specs.Spelling.{string, uint32}
 use Rattle.ssh_wire.specs.Position.{Position, start}
-use Rattle.ssh_wire.specs.Reading.{◌>>=◌, Read, number_at, string_at}
+use Rattle.ssh_wire.specs.Reading.{◌>>=◌, number_at, string_at}
 use Rattle.ssh_wire.specs.Fronts.{IsBytes, Took}
 use Rattle.ssh_wire.specs.Laws.{ok_is, fine, string_fits}
 use Rattle.ssh_keys.proofs.KeyLaws.{and_ok, name_short}
@@ -20,7 +20,7 @@ use Rattle.ssh_bodies.specs.declared.error.BodyError.TheVariants as errors
 use Rattle.ssh_bodies.specs.BodyReading.{as_body_error, body_wants, magic_at, key_at, last_at}
 use Rattle.ssh_bodies.specs.PrivateKey.{PrivateBody, public_of, private_fields, is_private_in_range, padding, section_front, section, private_magic, private_row, body_padded, least_padding, private_blob, IsPrivateBody, IsPadded, IsPrivateBlob}
 use Rattle.ssh_bodies.specs.PrivateReading.{private_at, is_padding, section_at, not_encrypted_at, section_start, body_at, private_in}
-use Rattle.ssh_bodies.proofs.Steps.{after_step, then_step, stop_step, wants_ok, joins}
+use Rattle.ssh_bodies.proofs.Steps.{after_step, then_step, wants_ok, joins}
 use Rattle.ssh_bodies.proofs.Fields.{Run, run_took, number_took, text_took, number_back, text_back, magic_took, key_took, key_back}
 use Rattle.ssh_bodies.proofs.Paddings.{padding-length, padding-seven, least, least_whole, least_few, least_least}
 use Rattle.ssh_bodies.proofs.PrivateKeyLaws.{private_took, private_back}
@@ -251,40 +251,6 @@ least_is_padded v = ap (λ (n : ℕ). n % 8) (section_length v (least_padding v)
 
 pub padded_is_more : (v : PrivateBody) (count : ℕ) → IsPadded v count → least_padding v ≤ count
 padded_is_more v count padded = least_least (length (section_front v)) count (ap (λ (n : ℕ). n % 8) (sym (section_length v count)) ∙ padded)
-
--- ---- where a refusal of an inner part comes
-
-pub plain_refuses : (bytes : List ℕ) (magic : Unit {0} × Position) (e : BodyError) → magic_at private_magic (start bytes) ≡ Ok magic → not_encrypted_at magic.1 ≡ Err e → body_at (start bytes) ≡ Err e
-unfolding body_at
-plain_refuses bytes magic e m p = then_step _ _ _ _ m (stop_step _ _ e p)
-
-pub public_refuses : (bytes : List ℕ) (magic plain : Unit {0} × Position) (count : ℕ × Position) (e : BodyError) → magic_at private_magic (start bytes) ≡ Ok magic → not_encrypted_at magic.1 ≡ Ok plain
-    → number_at w32 plain.1 ≡ Ok count → count.0 ≡ 1 → key_at count.1 ≡ Err e → body_at (start bytes) ≡ Err e
-unfolding body_at
-public_refuses bytes magic plain count e m p n one k =
-    then_step _ _ _ _ m (then_step _ _ _ _ p
-    (then_step _ _ _ _ (ap (λ (r : Read ℕ). as_body_error r) n)
-    (then_step _ _ _ _ (ap (λ (n : ℕ). body_wants (eqb n 1) errors.KeyCount) one)
-    (stop_step _ _ e k))))
-
-pub start_refuses : (bytes : List ℕ) (magic plain : Unit {0} × Position) (count : ℕ × Position) (public : PublicKey × Position) (e : BodyError) → magic_at private_magic (start bytes) ≡ Ok magic
-    → not_encrypted_at magic.1 ≡ Ok plain → number_at w32 plain.1 ≡ Ok count → count.0 ≡ 1 → key_at count.1 ≡ Ok public → section_start public.1 ≡ Err e → body_at (start bytes) ≡ Err e
-unfolding body_at
-start_refuses bytes magic plain count public e m p n one k s =
-    then_step _ _ _ _ m (then_step _ _ _ _ p
-    (then_step _ _ _ _ (ap (λ (r : Read ℕ). as_body_error r) n)
-    (then_step _ _ _ _ (ap (λ (n : ℕ). body_wants (eqb n 1) errors.KeyCount) one)
-    (then_step _ _ _ _ k (stop_step _ _ e s)))))
-
-pub section_refuses : (bytes : List ℕ) (magic plain : Unit {0} × Position) (count : ℕ × Position) (public : PublicKey × Position) (inside : Unit {0} × Position) (e : BodyError)
-    → magic_at private_magic (start bytes) ≡ Ok magic → not_encrypted_at magic.1 ≡ Ok plain → number_at w32 plain.1 ≡ Ok count → count.0 ≡ 1 → key_at count.1 ≡ Ok public
-    → section_start public.1 ≡ Ok inside → section_at public.0 inside.1 ≡ Err e → body_at (start bytes) ≡ Err e
-unfolding body_at
-section_refuses bytes magic plain count public inside e m p n one k s t =
-    then_step _ _ _ _ m (then_step _ _ _ _ p
-    (then_step _ _ _ _ (ap (λ (r : Read ℕ). as_body_error r) n)
-    (then_step _ _ _ _ (ap (λ (n : ℕ). body_wants (eqb n 1) errors.KeyCount) one)
-    (then_step _ _ _ _ k (then_step _ _ _ _ s t)))))
 
 -- ---- a body is one of what is read
 

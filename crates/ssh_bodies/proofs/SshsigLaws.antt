@@ -10,10 +10,10 @@ use Rattle.std.proofs.lemmas.Slice.Eq.{bytes_eq-Decides}
 use Rattle.ssh_wire.specs.declared.error.WireError.{WireError}
 use Rattle.ssh_wire.specs.Spelling.{string, uint32}
 use Rattle.ssh_wire.specs.Position.{Position, start}
-use Rattle.ssh_wire.specs.Reading.{◌>>=◌, Read, number_at, string_at}
+use Rattle.ssh_wire.specs.Reading.{◌>>=◌, number_at, string_at}
 use Rattle.ssh_wire.specs.Fronts.{IsBytes, Took}
 use Rattle.ssh_wire.specs.Laws.{ok_is, string_fits}
-use Rattle.ssh_keys.specs.PublicKey.{PublicKey, key_blob, longest, IsKey}
+use Rattle.ssh_keys.specs.PublicKey.{key_blob, longest, IsKey}
 use Rattle.ssh_keys.specs.Signature.{Signature, signature_blob, IsSignature, signature_in}
 use Rattle.ssh_keys.proofs.SignatureLaws.{signature_takes, signature_again}
 use Rattle.ssh_bodies.specs.declared.error.BodyError.{BodyError}
@@ -23,7 +23,7 @@ use Rattle.ssh_bodies.specs.declared.hash.HashName.TheVariants.{Sha256, Sha512}
 use Rattle.ssh_bodies.specs.BodyReading.{as_body_error, of_inner, body_wants, magic_at, key_at, last_at}
 use Rattle.ssh_bodies.specs.Sshsig.{Sshsig, sshsig_magic, hash_name, sshsig_row, sshsig_blob, IsSshsig, IsSshsigBlob}
 use Rattle.ssh_bodies.specs.SshsigReading.{hash_from, sshsig_signature_at, sshsig_at, sshsig_in}
-use Rattle.ssh_bodies.proofs.Steps.{after_step, then_step, stop_step, wants_ok}
+use Rattle.ssh_bodies.proofs.Steps.{after_step, then_step, wants_ok}
 use Rattle.ssh_bodies.proofs.Fields.{run_took, number_took, text_took, number_back, text_back, magic_took, magic_back, key_took, key_back}
 
 -- ---- fields of a file signature
@@ -124,34 +124,6 @@ lays bytes v fits e =
       namespace = some;
       signature = t_signature.1;
     }))))))))))))
-
--- ---- where a refusal of an inner part comes
-
-pub key_refuses : (bytes : List ℕ) (magic : Unit {0} × Position) (version : ℕ × Position) (e : BodyError) → magic_at sshsig_magic (start bytes) ≡ Ok magic → number_at w32 magic.1 ≡ Ok version → version.0 ≡ 1
-    → key_at version.1 ≡ Err e → sshsig_at (start bytes) ≡ Err e
-unfolding sshsig_at
-key_refuses bytes magic version e m v one k =
-    then_step _ _ _ _ m
-    (then_step _ _ _ _ (ap (λ (r : Read ℕ). as_body_error r) v)
-    (then_step _ _ _ _ (ap (λ (n : ℕ). body_wants (eqb n 1) errors.Version) one)
-    (stop_step _ _ e k)))
-
-pub signature_refuses : (bytes : List ℕ) (magic : Unit {0} × Position) (version : ℕ × Position) (key : PublicKey × Position) (namespace reserved name : List ℕ × Position) (hash : HashName) (e : BodyError)
-    → magic_at sshsig_magic (start bytes) ≡ Ok magic → number_at w32 magic.1 ≡ Ok version → version.0 ≡ 1 → key_at version.1 ≡ Ok key
-    → string_at key.1 ≡ Ok namespace → 0 < length namespace.0 → string_at namespace.1 ≡ Ok reserved → string_at reserved.1 ≡ Ok name → hash_from name.0 ≡ Ok hash
-    → sshsig_signature_at name.1 ≡ Err e → sshsig_at (start bytes) ≡ Err e
-unfolding sshsig_at
-signature_refuses bytes magic version key namespace reserved name hash e m v one k n some r t h s =
-    then_step _ _ _ _ m
-    (then_step _ _ _ _ (ap (λ (r : Read ℕ). as_body_error r) v)
-    (then_step _ _ _ _ (ap (λ (n : ℕ). body_wants (eqb n 1) errors.Version) one)
-    (then_step _ _ _ _ k
-    (then_step _ _ _ _ (ap (λ (r : Read (List ℕ)). as_body_error r) n)
-    (then_step _ _ _ _ (ap (λ (b : Bool). body_wants b errors.EmptyNamespace) (lt-ltb 0 (length namespace.0) some))
-    (then_step _ _ _ _ (ap (λ (r : Read (List ℕ)). as_body_error r) r)
-    (then_step _ _ _ _ (ap (λ (r : Read (List ℕ)). as_body_error r) t)
-    (then_step _ _ _ _ h
-    (stop_step _ _ e s)))))))))
 
 -- ---- a body is the one of what is read
 

@@ -22,10 +22,6 @@ step_err {A} {B} {E} (Err d) f e h here later = let same : d ≡ e = cc in here 
 pub then_step : {A B E : Type 0} (r : Result A E) (x : A) (f : A → Result B E) (y : Result B E) → r ≡ Ok x → f x ≡ y → (r >>= f) ≡ y
 then_step r x f y e g = ap (λ (q : Result _ _). q >>= f) e ∙ g
 
--- a step that fails, whatever follows it
-pub stop_step : {A B E : Type 0} (r : Result A E) (f : A → Result B E) (e : E) → r ≡ Err e → (r >>= f) ≡ Err e
-stop_step r f e h = ap (λ (q : Result _ _). q >>= f) h
-
 pub err_is : {A : Type 0} (d e : BodyError) → (let r : Result A BodyError = Err d in r) ≡ Err e → d ≡ e
 err_is d e h = cc
 

@@ -1,6 +1,7 @@
 pub mod BodyReading
 pub mod Sshsig
 pub mod SshsigReading
+pub mod BodyParts
 pub mod SshsigFault
 pub mod SshsigOf
 pub mod SshsigMaking

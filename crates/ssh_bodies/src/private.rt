@@ -10,9 +10,14 @@ ghost use Rattle.ssh_bodies.specs.PrivateOf.{private_body};
 ghost use Rattle.ssh_bodies.specs.PrivateReading.{
   not_encrypted_at,
   section_start,
-  section_at,
   body_at,
   private_in,
+};
+ghost use Rattle.ssh_bodies.specs.BodyParts.{
+  section_head_at,
+  section_by_parts,
+  body_head_at,
+  body_by_parts,
 };
 
 use crate::error::BodyError;
@@ -62,13 +67,12 @@ fn enter_section(cursor: &mut Cursor<'_>) -> Result<(), BodyError>
     Ok(())
 }
 
-/// The private section, which is to be this public key's.
-#[tactic(auto, unfolding(crate::specs::PrivateReading::section_at))]
-fn section_fields<'a>(
-    public: KeyView<'a>,
-    cursor: &mut Cursor<'a>,
-) -> Result<PrivateView<'a>, BodyError>
-    ensures { Gives private_body result (section_at (key_of public.entry) cursor.old) }
+/// Takes the check numbers of the private section and its type name, which is to be this public
+/// key's.
+#[tactic(auto, unfolding(crate::specs::BodyParts::section_head_at))]
+fn take_section_head(public: KeyView<'_>, cursor: &mut Cursor<'_>) -> Result<u32, BodyError>
+    ensures { Reads (λ check. check) (section_head_at (key_of public.entry)) cursor.old result
+        cursor.new }
 {
     let check = cursor.take_u32()?;
     if cursor.take_u32()? != check {
@@ -77,6 +81,18 @@ fn section_fields<'a>(
     if cursor.take_string()? != public.kind().name() {
         return Err(BodyError::PublicMismatch);
     }
+    Ok(check)
+}
+
+/// The private section, which is to be this public key's.
+#[tactic(auto, unfolding(crate::specs::BodyParts::section_by_parts))]
+fn section_fields<'a>(
+    public: KeyView<'a>,
+    cursor: &mut Cursor<'a>,
+) -> Result<PrivateView<'a>, BodyError>
+    ensures { Gives private_body result (section_by_parts (key_of public.entry) cursor.old) }
+{
+    let check = take_section_head(public, cursor)?;
     let (fields, is_public) = take_private(public.fields(), cursor)?;
     if !is_public {
         return Err(BodyError::PublicMismatch);
@@ -93,21 +109,37 @@ fn section_fields<'a>(
     })
 }
 
-/// What a short private body holds.
-#[tactic(auto, unfolding(crate::specs::PrivateReading::body_at))]
-fn body_fields(body: &[u8]) -> Result<PrivateView<'_>, BodyError>
-    ensures { Gives private_body result (body_at (start body.now)) }
+/// Takes what stands before the public key: the magic bytes, that nothing is encrypted, and that
+/// there is one key.
+#[tactic(auto, unfolding(crate::specs::BodyParts::body_head_at))]
+fn take_body_head(cursor: &mut Cursor<'_>) -> Result<(), BodyError>
+    ensures { Reads (λ u. u) body_head_at cursor.old result cursor.new }
 {
-    let mut cursor = Cursor::new(body);
-    take_magic(PRIVATE_MAGIC, &mut cursor)?;
-    take_not_encrypted(&mut cursor)?;
+    take_magic(PRIVATE_MAGIC, cursor)?;
+    take_not_encrypted(cursor)?;
     if cursor.take_u32()? != 1 {
         return Err(BodyError::KeyCount);
     }
+    Ok(())
+}
+
+/// What a short private body holds, part by part.
+#[tactic(auto, unfolding(crate::specs::BodyParts::body_by_parts))]
+fn body_parts(body: &[u8]) -> Result<PrivateView<'_>, BodyError>
+    ensures { Gives private_body result (body_by_parts (start body.now)) }
+{
+    let mut cursor = Cursor::new(body);
+    take_body_head(&mut cursor)?;
     let (public, _) = take_key(&mut cursor)?;
     enter_section(&mut cursor)?;
-    let view = section_fields(public, &mut cursor)?;
-    Ok(view)
+    section_fields(public, &mut cursor)
+}
+
+/// The same, field by field.
+fn body_fields(body: &[u8]) -> Result<PrivateView<'_>, BodyError>
+    ensures { Gives private_body result (body_at (start body.now)) }
+{
+    body_parts(body)
 }
 
 #[tactic(auto, unfolding(crate::specs::PrivateReading::private_in))]

@@ -8,6 +8,7 @@ ghost use Rattle.ssh_bodies.specs.Sshsig.{Sshsig, IsSshsigBlob, sshsig_magic};
 ghost use Rattle.ssh_bodies.specs.SshsigFault.{IsSshsigFault};
 ghost use Rattle.ssh_bodies.specs.SshsigReading.{sshsig_signature_at, sshsig_at, sshsig_in};
 ghost use Rattle.ssh_bodies.specs.SshsigOf.{sshsig_of};
+ghost use Rattle.ssh_bodies.specs.BodyParts.{sshsig_head_at, sshsig_by_parts};
 
 use crate::error::BodyError;
 use crate::hash::hash_named;
@@ -38,16 +39,25 @@ fn take_signature<'a>(cursor: &mut Cursor<'a>) -> Result<(SignatureView<'a>, &'a
     }
 }
 
-/// The file signature that a short body spells.
-#[tactic(auto, unfolding(crate::specs::SshsigReading::sshsig_at))]
-fn sshsig_fields(body: &[u8]) -> Result<SshsigView<'_>, BodyError>
-    ensures { Gives sshsig_of result (sshsig_at (start body.now)) }
+/// Takes what stands before the key: the magic bytes and the version.
+#[tactic(auto, unfolding(crate::specs::BodyParts::sshsig_head_at))]
+fn take_sshsig_head(cursor: &mut Cursor<'_>) -> Result<(), BodyError>
+    ensures { Reads (λ u. u) sshsig_head_at cursor.old result cursor.new }
 {
-    let mut cursor = Cursor::new(body);
-    take_magic(SSHSIG_MAGIC, &mut cursor)?;
+    take_magic(SSHSIG_MAGIC, cursor)?;
     if cursor.take_u32()? != 1 {
         return Err(BodyError::Version);
     }
+    Ok(())
+}
+
+/// The file signature that a short body spells, part by part.
+#[tactic(auto, unfolding(crate::specs::BodyParts::sshsig_by_parts))]
+fn sshsig_parts(body: &[u8]) -> Result<SshsigView<'_>, BodyError>
+    ensures { Gives sshsig_of result (sshsig_by_parts (start body.now)) }
+{
+    let mut cursor = Cursor::new(body);
+    take_sshsig_head(&mut cursor)?;
     let (key, key_blob) = take_key(&mut cursor)?;
     let namespace = cursor.take_string()?;
     if namespace.is_empty() {
@@ -66,6 +76,13 @@ fn sshsig_fields(body: &[u8]) -> Result<SshsigView<'_>, BodyError>
         signature,
         signature_blob,
     })
+}
+
+/// The same, field by field.
+fn sshsig_fields(body: &[u8]) -> Result<SshsigView<'_>, BodyError>
+    ensures { Gives sshsig_of result (sshsig_at (start body.now)) }
+{
+    sshsig_parts(body)
 }
 
 #[tactic(auto, unfolding(crate::specs::SshsigReading::sshsig_in))]

@@ -33,7 +33,7 @@ InsistsOn option c = Any (λ o. o.name ≡ certificate_option_name option) c.cri
 abbrev pub HasText : CertificateOption → Certificate → List ℕ → Type 0
 HasText option c text = Any (λ o. (o.name ≡ certificate_option_name option) × IsOneString text o.value) c.critical
 
--- no name stands twice (this project's rule)
+-- no name stands twice (PROTOCOL.certkeys)
 abbrev pub AreOnce : List CertOption → Type 0
 AreOnce [] = Unit {0}
 AreOnce (o ∷ options) = AllByRecursion (λ p. p.name ≢ o.name) options × AreOnce options

@@ -53,7 +53,7 @@ abbrev pub HasNoBytes : List ℕ → Type 0
 HasNoBytes field = (field ≡ []) ⊎ ((bytes : List ℕ) → IsBytes bytes → ¬ (field ≡ base64 bytes))
 
 -- The line may revoke any key: it is past the limit, or its first field is `@revoked` and its fourth has no bytes (this
--- project's rule, so that no revocation is lost).
+-- project's rule).
 abbrev pub Blind : List ℕ → Type 0
 Blind line = (line_limit < length line) ⊎ ((first_word (body_of line) ≡ revoked_marker) × HasNoBytes (fourth_field line))
 

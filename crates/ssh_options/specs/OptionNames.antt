@@ -22,7 +22,7 @@ pub record OptionRow : Type 0 where
 abbrev listed : List ℕ → OptionName → Times → OptionRow
 listed name option times = record { name = name; option = option; times = times }
 
--- sshd(8)'s list; that an option may stand only once is this project's rule
+-- sshd(8)'s list; which options may stand only once: OpenSSH's auth-options.c
 abbrev pub options : List OptionRow
 options =
     listed (codes "agent-forwarding") (Switch AgentForwarding) Any

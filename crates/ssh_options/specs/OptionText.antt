@@ -1,4 +1,4 @@
--- The text of options (sshd(8), AUTHORIZED_KEYS FILE FORMAT; `\"` always is the escape, this project's rule).
+-- The text of options (sshd(8), AUTHORIZED_KEYS FILE FORMAT; that `\"` always is the escape: OpenSSH's auth-options.c).
 use Rattle.std.specs.Prelude.{◌≡◌, ℕ, Bool, true, false, not, ◌||◌, ◌&&◌, ◌==◌, if◌then◌else◌, List, [], ◌∷◌, ◌++◌, length, Option, Some, None, option_map, option_and_then, Result, Ok, Err}
 use Rattle.std.specs.List.{onto_first}
 use Rattle.std.specs.Char.{is_ascii_digit, is_ascii_lowercase, is_ascii_uppercase}
