@@ -29,7 +29,7 @@ NO_LIBRARIES = ("ssh_keeping", "ssh_review_laws", "ssh_words", "ssh_review_files
 def libraries_of(top):
     """The libraries of the repository, by crates.txt, and the zones of expiry times."""
     names = [line.split(":")[0] for line in (top / "crates.txt").read_text().splitlines() if ":" in line and line[0] != "#"]
-    return [name for name in names if name not in NO_LIBRARIES and not name.endswith(("_rows", "_row_files"))] + ["jiff"]
+    return [name for name in names if name not in NO_LIBRARIES and not name.endswith("_rows")] + ["jiff"]
 
 
 def answers(crate, index):

@@ -1,7 +1,7 @@
 //! Trust files that come byte by byte, whole and up to a read that fails.
 
 use crate::asked::{HOST, HOST_TRIPLE, K0, LOGIN, LOGIN_TRIPLE, joined};
-use ssh_row_files::printed_by_bytes;
+use crate::printing::printed_by_bytes;
 use std::alloc::Global;
 use std::process::Abort;
 use std::test::Fail;

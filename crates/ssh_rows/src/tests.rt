@@ -1,7 +1,7 @@
 //! What stands after failed reads and writes.
 
 use crate::asked::{K0, LOGIN, LOGIN_TRIPLE, joined};
-use ssh_row_files::{printed_failing, printed_refusal, printed_until};
+use crate::printing::{printed_failing, printed_refusal, printed_until};
 use ssh_words::WordsError;
 use std::alloc::Global;
 use std::io::ErrorKind;

@@ -9,7 +9,7 @@ use std::io::ErrorKind;
 
 /// What the program prints for words over a file `f` and standard input, with its status, where the
 /// read of this index fails, and every later one.
-pub fn printed_failing(
+pub(crate) fn printed_failing(
     alloc: Global,
     words: &[&str],
     file: &[u8],
@@ -23,7 +23,7 @@ pub fn printed_failing(
 }
 
 /// The same where a read gives a byte, and the reads of `f` fail after so many.
-pub fn printed_by_bytes(
+pub(crate) fn printed_by_bytes(
     alloc: Global,
     words: &[&str],
     file: &[u8],
@@ -38,7 +38,7 @@ pub fn printed_by_bytes(
 
 /// What a writer took that takes a byte at a time and whose write of this index fails by an error of
 /// this kind, with the status and the number of writes.
-pub fn printed_until(
+pub(crate) fn printed_until(
     alloc: Global,
     words: &[&str],
     file: &[u8],
@@ -54,7 +54,10 @@ pub fn printed_until(
 }
 
 /// What is printed where the program's own words cannot be read, with the status.
-pub fn printed_refusal(alloc: Global, fault: WordsError) -> Result<(u8, Vec<u8>), AllocError> {
+pub(crate) fn printed_refusal(
+    alloc: Global,
+    fault: WordsError,
+) -> Result<(u8, Vec<u8>), AllocError> {
     let mut page = Page::new(alloc);
     let status = refuse(fault, &mut page);
     Ok((status, Vec::from_slice(alloc, page.taken())?))

@@ -10,14 +10,14 @@ ghost use Rattle.ssh_inputs.specs.SourceState.{
   named_file,
   left_of,
 };
-ghost use Rattle.ssh_row_files.specs.declared.source.Place.TheVariants.{Nowhere, Input, File};
+ghost use Rattle.ssh_rows.specs.declared.source.Place.TheVariants.{Nowhere, Input, File};
 
 use ssh_inputs::Files;
 use std::io::{Error, ErrorKind, Read, Result};
 
 /// What is being read.
 #[derive(Clone, Copy, Debug, PartialEq, Eq)]
-pub enum Place {
+pub(crate) enum Place {
     Nowhere,
     Input,
     File,
@@ -26,7 +26,7 @@ pub enum Place {
 /// One file, and standard input, with counts of chosen files and of failed reads, and the name of
 /// the last that failed.
 #[derive(Drop)]
-pub struct OneFile<'a> {
+pub(crate) struct OneFile<'a> {
     name: &'a str,
     bytes: &'a [u8],
     left: &'a [u8],
@@ -39,7 +39,7 @@ pub struct OneFile<'a> {
 
 impl<'a> OneFile<'a> {
     /// A file of this name, and standard input.
-    pub fn new(name: &'a str, bytes: &'a [u8], input: &'a [u8]) -> Self {
+    pub(crate) fn new(name: &'a str, bytes: &'a [u8], input: &'a [u8]) -> Self {
         OneFile {
             name,
             bytes,
@@ -110,7 +110,7 @@ impl Files for OneFile<'_> {
 
 /// A source whose reads fail from one of them on.
 #[derive(Drop)]
-pub struct FailsAt<'a> {
+pub(crate) struct FailsAt<'a> {
     source: OneFile<'a>,
     index: u64,
     reads: u64,
@@ -118,7 +118,7 @@ pub struct FailsAt<'a> {
 
 impl<'a> FailsAt<'a> {
     /// The source, of which the read of this index fails, and every later one.
-    pub fn new(source: OneFile<'a>, index: u64) -> Self {
+    pub(crate) fn new(source: OneFile<'a>, index: u64) -> Self {
         FailsAt {
             source,
             index,
@@ -176,14 +176,14 @@ impl Files for FailsAt<'_> {
 /// A source that gives a byte at a time, and whose reads of its file fail after so many. It tells
 /// nothing.
 #[derive(Drop)]
-pub struct Sips<'a> {
+pub(crate) struct Sips<'a> {
     source: OneFile<'a>,
     good: u64,
 }
 
 impl<'a> Sips<'a> {
     /// The source, of whose file so many reads are good.
-    pub fn new(source: OneFile<'a>, good: u64) -> Self {
+    pub(crate) fn new(source: OneFile<'a>, good: u64) -> Self {
         Sips { source, good }
     }
 }

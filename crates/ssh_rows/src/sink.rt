@@ -10,14 +10,14 @@ use std::io::{Error, ErrorKind, Result, Write};
 
 /// A writer in memory, with a count of its failed writes.
 #[derive(Drop)]
-pub struct Page {
+pub(crate) struct Page {
     bytes: Vec<u8>,
     failures: u64,
 }
 
 impl Page {
     /// Nothing was written.
-    pub fn new(alloc: Global) -> Self
+    pub(crate) fn new(alloc: Global) -> Self
         ensures { result.failures ≡ 0 }
     {
         Page {
@@ -27,7 +27,7 @@ impl Page {
     }
 
     /// The bytes that were taken.
-    pub fn taken(&self) -> &[u8] {
+    pub(crate) fn taken(&self) -> &[u8] {
         &self.bytes
     }
 }
@@ -65,7 +65,7 @@ impl Sink for Page {
 
 /// A writer that takes a byte at a time, and fails at one of its calls.
 #[derive(Drop)]
-pub struct FailsOnce {
+pub(crate) struct FailsOnce {
     page: Page,
     index: u64,
     calls: u64,
@@ -74,7 +74,7 @@ pub struct FailsOnce {
 
 impl FailsOnce {
     /// The call of this index fails, by an error of this kind.
-    pub fn new(alloc: Global, index: u64, kind: ErrorKind) -> Self
+    pub(crate) fn new(alloc: Global, index: u64, kind: ErrorKind) -> Self
         ensures { result.page.failures ≡ 0 }
     {
         FailsOnce {
@@ -86,12 +86,12 @@ impl FailsOnce {
     }
 
     /// The bytes that were taken.
-    pub fn taken(&self) -> &[u8] {
+    pub(crate) fn taken(&self) -> &[u8] {
         self.page.taken()
     }
 
     /// How many writes were asked for.
-    pub fn calls(&self) -> u64 {
+    pub(crate) fn calls(&self) -> u64 {
         self.calls
     }
 }
