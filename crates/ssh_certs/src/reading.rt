@@ -119,7 +119,10 @@ fn take_certified<'a>(cursor: &mut Cursor<'a>) -> Result<Certified<'a>, CertErro
 {
     let kind = kind_named(cursor.take_string()?)?;
     let nonce = cursor.take_string()?;
-    let key = take_fields(kind, cursor).map_err(CertError::Key)?;
+    let key = match take_fields(kind, cursor) {
+        Ok(key) => key,
+        Err(e) => return Err(CertError::Key(e)),
+    };
     let serial = cursor.take_u64()?;
     let kind_number = cursor.take_u32()?;
     let key_id = cursor.take_string()?;

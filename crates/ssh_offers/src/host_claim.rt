@@ -6,10 +6,11 @@ ghost use Rattle.ssh_offers.specs.OfferView.{offer_of};
 ghost use Rattle.ssh_offers.specs.HostClaim.{fitting_test};
 
 use crate::algorithm::test_signer;
+use crate::blobs::{read_offered, read_signed};
 use crate::error::AuditError;
-use crate::offer::{Offer, read_offer};
+use crate::offer::Offer;
 use crate::query::HostQuery;
-use ssh_keys::{Fit, fits, read_signature};
+use ssh_keys::{Fit, fits};
 
 /// A host's key whose offer and signature were read.
 #[derive(Clone, Copy)]
@@ -54,8 +55,8 @@ impl<'a> HostClaimView<'a> {
         // It is refused for the first that stands against it.
         ensures first { IfErr result (IsHostRefusal (host_check_of query.entry.now)) }
     {
-        let offer = read_offer(query.offered).map_err(AuditError::Offer)?;
-        let signature = read_signature(query.signature).map_err(AuditError::Signature)?;
+        let offer = read_offered(query.offered)?;
+        let signature = read_signed(query.signature)?;
         test_fitting(fits(offer.plain_key().kind(), signature.algorithm))?;
         test_signer(&offer)?;
         Ok(HostClaimView {

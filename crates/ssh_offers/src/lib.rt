@@ -12,6 +12,7 @@
 #![tactic(auto)]
 
 mod algorithm;
+mod blobs;
 mod error;
 mod evidence;
 mod file_evidence;

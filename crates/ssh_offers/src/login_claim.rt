@@ -9,10 +9,11 @@ ghost use Rattle.ssh_offers.specs.OfferView.{offer_of};
 ghost use Rattle.ssh_offers.specs.LoginClaim.{address_test};
 
 use crate::algorithm::{test_pairing, test_signer, wanted_algorithm};
+use crate::blobs::{read_offered, read_signed};
 use crate::error::AuditError;
-use crate::offer::{Offer, read_offer};
+use crate::offer::Offer;
 use crate::query::LoginQuery;
-use ssh_keys::{SignatureView, read_signature};
+use ssh_keys::SignatureView;
 use ssh_patterns::{Address, parse_address};
 
 /// A login whose offer, signature and address were read.
@@ -64,8 +65,8 @@ impl<'a> LoginClaimView<'a> {
         // It is refused for the first that stands against it.
         ensures first { IfErr result (IsLoginRefusal (login_of query.entry.now)) }
     {
-        let offer = read_offer(query.offered).map_err(AuditError::Offer)?;
-        let signature = read_signature(query.signature).map_err(AuditError::Signature)?;
+        let offer = read_offered(query.offered)?;
+        let signature = read_signed(query.signature)?;
         let kind = offer.plain_key().kind();
         let wanted = wanted_algorithm(kind, offer.is_certified(), query.algorithm)?;
         test_pairing(kind, wanted, signature.algorithm)?;

@@ -88,10 +88,14 @@ pub fn read_offer(blob: &[u8]) -> Result<Offer<'_>, OfferError>
     ensures short { IfOk result (λ offer. length blob.now < 2 ^ 32) }
 {
     if is_certificate(blob) {
-        let certificate = read_cert(blob).map_err(OfferError::Certificate)?;
-        Ok(Offer::Certified(certificate))
+        match read_cert(blob) {
+            Ok(certificate) => Ok(Offer::Certified(certificate)),
+            Err(e) => Err(OfferError::Certificate(e)),
+        }
     } else {
-        let key = read_key(blob).map_err(OfferError::Key)?;
-        Ok(Offer::Plain(key))
+        match read_key(blob) {
+            Ok(key) => Ok(Offer::Plain(key)),
+            Err(e) => Err(OfferError::Key(e)),
+        }
     }
 }

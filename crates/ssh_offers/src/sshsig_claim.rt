@@ -35,7 +35,10 @@ impl<'a> SshsigClaimView<'a> {
         // It is refused for the first that stands against it.
         ensures first { IfErr result (IsSshsigRefusal body.now) }
     {
-        let file_signature = read_sshsig(body).map_err(AuditError::Body)?;
+        let file_signature = match read_sshsig(body) {
+            Ok(file_signature) => file_signature,
+            Err(e) => return Err(AuditError::Body(e)),
+        };
         let kind = file_signature.key.kind();
         test_fitting(fits(kind, file_signature.signature.algorithm))?;
         Ok(SshsigClaimView { file_signature })

@@ -77,7 +77,10 @@ fn push_signature(alloc: Global, out: &mut Vec<u8>, view: &SshsigView<'_>) -> Re
 pub fn show_private(alloc: Global, body: &[u8]) -> Result<Vec<u8>, ShowError>
     ensures { Prints (λ text. text.items) IsHalfText (public_half_in body.now) result }
 {
-    let view = read_private(body).map_err(ShowError::Body)?;
+    let view = match read_private(body) {
+        Ok(view) => view,
+        Err(e) => return Err(ShowError::Body(e)),
+    };
     let mut lines = Vec::new(alloc);
     push_half(alloc, &mut lines, &view)?;
     Ok(lines)
@@ -88,7 +91,10 @@ pub fn show_private(alloc: Global, body: &[u8]) -> Result<Vec<u8>, ShowError>
 pub fn show_sshsig(alloc: Global, body: &[u8]) -> Result<Vec<u8>, ShowError>
     ensures { Prints (λ text. text.items) IsSignatureText (file_signature_in body.now) result }
 {
-    let view = read_sshsig(body).map_err(ShowError::Body)?;
+    let view = match read_sshsig(body) {
+        Ok(view) => view,
+        Err(e) => return Err(ShowError::Body(e)),
+    };
     let mut lines = Vec::new(alloc);
     push_signature(alloc, &mut lines, &view)?;
     Ok(lines)

@@ -8,7 +8,6 @@ use Rattle.ssh_offers.specs.declared.error.AuditError.TheVariants.{Signature as 
 use Rattle.ssh_offers.specs.FirstRefusal.{IsFitted, IsOfferBlob, ServesNot, kind_offered}
 use Rattle.ssh_offers.specs.OfferView.{offer_of}
 use Rattle.ssh_offers.specs.Query.{host_check_of}
-use Rattle.ssh_offers.proofs.ClaimLemmas.{passed-on}
 use Rattle.ssh_offers.proofs.host_claim.HostClaimView.read.Goals as goal
 
 pub returns-in_err-signature-clause-first : goal.returns-in_err-signature-clause-first
@@ -24,7 +23,7 @@ returns-in_err-test_fitting-clause-first c =
     let what = offer_of c.in_ok-offer.offer in
     let s = signature_of c.in_ok-signature.signature in
     let offer : IsOfferBlob what c.args.query.now.offered.now = search rules in
-    let signature : IsSignatureBlob s c.args.query.now.signature.now = passed-on c.read_signature.result c.map_err-2.result c.in_ok-signature.signature (λ v. IsSignatureBlob (signature_of v) c.args.query.now.signature.now) _ c.map_err-2.ensures.cases c.in_ok-signature.was c.read_signature.ensures.found in
+    let signature : IsSignatureBlob s c.args.query.now.signature.now = c.in_ok-signature.ensures.found in
     let other : ServesNot (kind_offered what) s.algorithm c.in_err-test_fitting.field-0.0 = search rules in
     rw (p.1, p.2) (inr (inr (inl (what, s, record { offer = offer; signature = signature }, other))))
 
@@ -34,7 +33,7 @@ returns-in_err-test_signer-clause-first c =
     let what = offer_of c.in_ok-offer.offer in
     let s = signature_of c.in_ok-signature.signature in
     let offer : IsOfferBlob what c.args.query.now.offered.now = search rules in
-    let signature : IsSignatureBlob s c.args.query.now.signature.now = passed-on c.read_signature.result c.map_err-2.result c.in_ok-signature.signature (λ v. IsSignatureBlob (signature_of v) c.args.query.now.signature.now) _ c.map_err-2.ensures.cases c.in_ok-signature.was c.read_signature.ensures.found in
+    let signature : IsSignatureBlob s c.args.query.now.signature.now = c.in_ok-signature.ensures.found in
     let serves : fit_of (kind_offered what) s.algorithm ≡ Yes = search rules in
     let fitted : IsFitted (host_check_of c.args.query.now) what s = record { read = record { offer = offer; signature = signature }; serves = serves } in
     let other = c.in_err-test_signer.ensures.other in

@@ -10,7 +10,6 @@ use Rattle.ssh_offers.specs.FirstRefusal.{IsOfferBlob, IsOfferFault, IsPaired, S
 use Rattle.ssh_offers.specs.Offer.{is_certified}
 use Rattle.ssh_offers.specs.OfferView.{offer_of}
 use Rattle.ssh_offers.specs.Query.{login_of}
-use Rattle.ssh_offers.proofs.ClaimLemmas.{passed-on}
 use Rattle.ssh_offers.proofs.login_claim.LoginClaimView.read.Goals as goal
 
 pub returns-in_err-offer-clause-first : goal.returns-in_err-offer-clause-first
@@ -32,7 +31,7 @@ returns-in_err-wanted-clause-first c =
     let what = offer_of c.in_ok-offer.offer in
     let s = signature_of c.in_ok-signature.signature in
     let offer : IsOfferBlob what c.args.query.now.offered.now = search rules in
-    let signature : IsSignatureBlob s c.args.query.now.signature.now = passed-on c.read_signature.result c.map_err-2.result c.in_ok-signature.signature (λ v. IsSignatureBlob (signature_of v) c.args.query.now.signature.now) _ c.map_err-2.ensures.cases c.in_ok-signature.was c.read_signature.ensures.found in
+    let signature : IsSignatureBlob s c.args.query.now.signature.now = c.in_ok-signature.ensures.found in
     let refused : wanted_algorithm (kind_offered what) (is_certified what) c.args.query.now.algorithm.now ≡ Err c.in_err-wanted.field-0.0 = search rules in
     rw (p.1, p.2) (inr (inr (inl (what, s, record { offer = offer; signature = signature }, refused))))
 
@@ -42,7 +41,7 @@ returns-in_err-test_pairing-clause-first c =
     let what = offer_of c.in_ok-offer.offer in
     let s = signature_of c.in_ok-signature.signature in
     let offer : IsOfferBlob what c.args.query.now.offered.now = search rules in
-    let signature : IsSignatureBlob s c.args.query.now.signature.now = passed-on c.read_signature.result c.map_err-2.result c.in_ok-signature.signature (λ v. IsSignatureBlob (signature_of v) c.args.query.now.signature.now) _ c.map_err-2.ensures.cases c.in_ok-signature.was c.read_signature.ensures.found in
+    let signature : IsSignatureBlob s c.args.query.now.signature.now = c.in_ok-signature.ensures.found in
     let asked : wanted_algorithm (kind_offered what) (is_certified what) c.args.query.now.algorithm.now ≡ Ok c.in_ok-wanted.wanted.now = search rules in
     let kind : kind_offered what ≡ c.kind-kind.result = search rules in
     let other = c.in_err-test_pairing.ensures.other in
@@ -54,7 +53,7 @@ returns-in_err-test_signer-clause-first c =
     let what = offer_of c.in_ok-offer.offer in
     let s = signature_of c.in_ok-signature.signature in
     let offer : IsOfferBlob what c.args.query.now.offered.now = search rules in
-    let signature : IsSignatureBlob s c.args.query.now.signature.now = passed-on c.read_signature.result c.map_err-2.result c.in_ok-signature.signature (λ v. IsSignatureBlob (signature_of v) c.args.query.now.signature.now) _ c.map_err-2.ensures.cases c.in_ok-signature.was c.read_signature.ensures.found in
+    let signature : IsSignatureBlob s c.args.query.now.signature.now = c.in_ok-signature.ensures.found in
     let asked : wanted_algorithm (kind_offered what) (is_certified what) c.args.query.now.algorithm.now ≡ Ok s.algorithm = search rules in
     let paired : IsPaired (login_of c.args.query.now) what s = record { read = record { offer = offer; signature = signature }; asked = asked } in
     let other = c.in_err-test_signer.ensures.other in
@@ -66,7 +65,7 @@ returns-in_err-address-clause-first c =
     let what = offer_of c.in_ok-offer.offer in
     let s = signature_of c.in_ok-signature.signature in
     let offer : IsOfferBlob what c.args.query.now.offered.now = search rules in
-    let signature : IsSignatureBlob s c.args.query.now.signature.now = passed-on c.read_signature.result c.map_err-2.result c.in_ok-signature.signature (λ v. IsSignatureBlob (signature_of v) c.args.query.now.signature.now) _ c.map_err-2.ensures.cases c.in_ok-signature.was c.read_signature.ensures.found in
+    let signature : IsSignatureBlob s c.args.query.now.signature.now = c.in_ok-signature.ensures.found in
     let asked : wanted_algorithm (kind_offered what) (is_certified what) c.args.query.now.algorithm.now ≡ Ok s.algorithm = search rules in
     let paired : IsPaired (login_of c.args.query.now) what s = record { read = record { offer = offer; signature = signature }; asked = asked } in
     let serves : SignerServes what = search rules in
@@ -78,7 +77,7 @@ returns-clause-found c =
     let what = offer_of c.in_ok-offer.offer in
     let s = signature_of c.in_ok-signature.signature in
     let offer : IsOfferBlob what c.args.query.now.offered.now = search rules in
-    let signature : IsSignatureBlob s c.args.query.now.signature.now = passed-on c.read_signature.result c.map_err-2.result c.in_ok-signature.signature (λ v. IsSignatureBlob (signature_of v) c.args.query.now.signature.now) _ c.map_err-2.ensures.cases c.in_ok-signature.was c.read_signature.ensures.found in
+    let signature : IsSignatureBlob s c.args.query.now.signature.now = c.in_ok-signature.ensures.found in
     let asked : wanted_algorithm (kind_offered what) (is_certified what) c.args.query.now.algorithm.now ≡ Ok s.algorithm = search rules in
     record {
       query = refl;
