@@ -1,1 +1,3 @@
 mod HexLemmas
+pub mod PlainLemmas
+pub mod ReadingLemmas

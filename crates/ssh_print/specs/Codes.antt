@@ -32,42 +32,72 @@ wire_code wire.Value = codes " V5"
 abbrev pub wire_codes : WireError → List ℕ
 wire_codes e = wire_code e.cause ++ spaced (decimal e.place)
 
+abbrev pub key_code : KeyError → List ℕ
+key_code (key.Wire e) = codes " K1"
+key_code key.UnknownType = codes " K2"
+key_code key.RetiredType = codes " K3"
+key_code key.IsCertificate = codes " K4"
+key_code key.Curve = codes " K5"
+key_code key.Point = codes " K6"
+key_code key.Length = codes " K7"
+key_code key.TooLong = codes " K8"
+
+-- what stands after it
+abbrev pub key_rest : KeyError → List ℕ
+key_rest (key.Wire e) = wire_codes e
+key_rest _ = []
+
 abbrev pub key_codes : KeyError → List ℕ
-key_codes (key.Wire e) = codes " K1" ++ wire_codes e
-key_codes key.UnknownType = codes " K2"
-key_codes key.RetiredType = codes " K3"
-key_codes key.IsCertificate = codes " K4"
-key_codes key.Curve = codes " K5"
-key_codes key.Point = codes " K6"
-key_codes key.Length = codes " K7"
-key_codes key.TooLong = codes " K8"
+key_codes e = key_code e ++ key_rest e
+
+abbrev pub cert_code : CertError → List ℕ
+cert_code (cert.Wire e) = codes " C1"
+cert_code (cert.Key e) = codes " C2"
+cert_code (cert.Signer e) = codes " C3"
+cert_code cert.ChainedSigner = codes " C4"
+cert_code (cert.Principals place) = codes " C5"
+cert_code (cert.Options place) = codes " C6"
+cert_code (cert.Signature e) = codes " C7"
+cert_code cert.UnknownType = codes " C8"
+cert_code cert.TooLong = codes " C9"
+
+-- what stands after it
+abbrev pub cert_rest : CertError → List ℕ
+cert_rest (cert.Wire e) = wire_codes e
+cert_rest (cert.Key e) = key_codes e
+cert_rest (cert.Signer e) = key_codes e
+cert_rest (cert.Principals place) = spaced (decimal place)
+cert_rest (cert.Options place) = spaced (decimal place)
+cert_rest (cert.Signature e) = wire_codes e
+cert_rest _ = []
 
 abbrev pub cert_codes : CertError → List ℕ
-cert_codes (cert.Wire e) = codes " C1" ++ wire_codes e
-cert_codes (cert.Key e) = codes " C2" ++ key_codes e
-cert_codes (cert.Signer e) = codes " C3" ++ key_codes e
-cert_codes cert.ChainedSigner = codes " C4"
-cert_codes (cert.Principals place) = codes " C5" ++ spaced (decimal place)
-cert_codes (cert.Options place) = codes " C6" ++ spaced (decimal place)
-cert_codes (cert.Signature e) = codes " C7" ++ wire_codes e
-cert_codes cert.UnknownType = codes " C8"
-cert_codes cert.TooLong = codes " C9"
+cert_codes e = cert_code e ++ cert_rest e
+
+abbrev pub body_code : BodyError → List ℕ
+body_code body.Magic = codes " B1"
+body_code body.Encrypted = codes " B2"
+body_code body.KeyCount = codes " B3"
+body_code body.CheckMismatch = codes " B4"
+body_code body.Padding = codes " B5"
+body_code body.NotMultipleOfEight = codes " B6"
+body_code body.PublicMismatch = codes " B7"
+body_code body.Version = codes " B8"
+body_code body.EmptyNamespace = codes " B9"
+body_code body.Hash = codes " B10"
+body_code (body.Key e) = codes " B11"
+body_code (body.Wire e) = codes " B12"
+body_code body.Trailing = codes " B13"
+body_code body.TooLong = codes " B14"
+
+-- what stands after it
+abbrev pub body_rest : BodyError → List ℕ
+body_rest (body.Key e) = key_codes e
+body_rest (body.Wire e) = wire_codes e
+body_rest _ = []
 
 abbrev pub body_codes : BodyError → List ℕ
-body_codes body.Magic = codes " B1"
-body_codes body.Encrypted = codes " B2"
-body_codes body.KeyCount = codes " B3"
-body_codes body.CheckMismatch = codes " B4"
-body_codes body.Padding = codes " B5"
-body_codes body.NotMultipleOfEight = codes " B6"
-body_codes body.PublicMismatch = codes " B7"
-body_codes body.Version = codes " B8"
-body_codes body.EmptyNamespace = codes " B9"
-body_codes body.Hash = codes " B10"
-body_codes (body.Key e) = codes " B11" ++ key_codes e
-body_codes (body.Wire e) = codes " B12" ++ wire_codes e
-body_codes body.Trailing = codes " B13"
-body_codes body.TooLong = codes " B14"
+body_codes e = body_code e ++ body_rest e
 
 abbrev pub line_code : LineCause → List ℕ
 line_code line_cause.TooLong = codes "L1"
@@ -146,16 +176,26 @@ abbrev pub offer_codes : OfferError → List ℕ
 offer_codes (offer.Key e) = key_codes e
 offer_codes (offer.Certificate e) = cert_codes e
 
+abbrev pub audit_code : AuditError → List ℕ
+audit_code (error.Offer e) = codes " A1"
+audit_code (error.Signature e) = codes " A2"
+audit_code error.WrongAlgorithm = codes " A3"
+audit_code error.WeakSignature = codes " A4"
+audit_code error.CertSignature = codes " A5"
+audit_code error.Address = codes " A6"
+audit_code error.FileTooLong = codes " A7"
+audit_code error.Memory = codes " A8"
+audit_code error.Read = codes " A9"
+audit_code error.Failed = codes " A10"
+audit_code (error.Body e) = codes " A11"
+audit_code error.Salts = codes " A12"
+
+-- what stands after it
+abbrev pub audit_rest : AuditError → List ℕ
+audit_rest (error.Offer e) = offer_codes e
+audit_rest (error.Signature e) = wire_codes e
+audit_rest (error.Body e) = body_codes e
+audit_rest _ = []
+
 abbrev pub fault_codes : AuditError → List ℕ
-fault_codes (error.Offer e) = codes " A1" ++ offer_codes e
-fault_codes (error.Signature e) = codes " A2" ++ wire_codes e
-fault_codes error.WrongAlgorithm = codes " A3"
-fault_codes error.WeakSignature = codes " A4"
-fault_codes error.CertSignature = codes " A5"
-fault_codes error.Address = codes " A6"
-fault_codes error.FileTooLong = codes " A7"
-fault_codes error.Memory = codes " A8"
-fault_codes error.Read = codes " A9"
-fault_codes error.Failed = codes " A10"
-fault_codes (error.Body e) = codes " A11" ++ body_codes e
-fault_codes error.Salts = codes " A12"
+fault_codes e = audit_code e ++ audit_rest e

@@ -3,11 +3,15 @@
 ghost use Rattle.std.specs.Prelude.{◌≡◌, ◌++◌, IfOk, OnOk};
 ghost use Rattle.std.specs.Fmt.{decimal};
 ghost use Rattle.ssh_print.specs.Codes.{
+  audit_code,
+  body_code,
   body_codes,
   cause_code,
   cause_codes,
+  cert_code,
   cert_codes,
   fault_codes,
+  key_code,
   key_codes,
   line_code,
   line_codes,
@@ -52,24 +56,30 @@ fn push_wire_codes(alloc: Global, out: &mut Vec<u8>, error: WireError) -> Result
     Ok(())
 }
 
+fn key_code(error: KeyError) -> &'static [u8]
+    ensures { result.now ≡ key_code error }
+{
+    match error {
+        KeyError::Wire(_) => b" K1",
+        KeyError::UnknownType => b" K2",
+        KeyError::RetiredType => b" K3",
+        KeyError::IsCertificate => b" K4",
+        KeyError::Curve => b" K5",
+        KeyError::Point => b" K6",
+        KeyError::Length => b" K7",
+        KeyError::TooLong => b" K8",
+    }
+}
+
 /// The codes of a key fault, `K1` to `K8`; after `K1` those of its wire fault.
 fn push_key_codes(alloc: Global, out: &mut Vec<u8>, error: KeyError) -> Result<(), AllocError>
     ensures { OnOk result (out.new.items ≡ out.old.items ++ key_codes error) }
 {
+    out.extend_from_slice(key_code(error))?;
     match error {
-        KeyError::Wire(e) => {
-            out.extend_from_slice(b" K1")?;
-            push_wire_codes(alloc, out, e)?;
-        }
-        KeyError::UnknownType => out.extend_from_slice(b" K2")?,
-        KeyError::RetiredType => out.extend_from_slice(b" K3")?,
-        KeyError::IsCertificate => out.extend_from_slice(b" K4")?,
-        KeyError::Curve => out.extend_from_slice(b" K5")?,
-        KeyError::Point => out.extend_from_slice(b" K6")?,
-        KeyError::Length => out.extend_from_slice(b" K7")?,
-        KeyError::TooLong => out.extend_from_slice(b" K8")?,
+        KeyError::Wire(e) => push_wire_codes(alloc, out, e),
+        _ => Ok(()),
     }
-    Ok(())
 }
 
 /// The code of a line's cause, `L1` to `L16`.
@@ -116,69 +126,66 @@ fn push_place(alloc: Global, out: &mut Vec<u8>, place: usize) -> Result<(), Allo
     Ok(())
 }
 
+fn cert_code(error: CertError) -> &'static [u8]
+    ensures { result.now ≡ cert_code error }
+{
+    match error {
+        CertError::Wire(_) => b" C1",
+        CertError::Key(_) => b" C2",
+        CertError::Signer(_) => b" C3",
+        CertError::ChainedSigner => b" C4",
+        CertError::Principals(_) => b" C5",
+        CertError::Options(_) => b" C6",
+        CertError::Signature(_) => b" C7",
+        CertError::UnknownType => b" C8",
+        CertError::TooLong => b" C9",
+    }
+}
+
 /// The codes of a certificate's fault, `C1` to `C9`; after some those of an inner fault or a place.
 fn push_cert_codes(alloc: Global, out: &mut Vec<u8>, error: CertError) -> Result<(), AllocError>
     ensures { OnOk result (out.new.items ≡ out.old.items ++ cert_codes error) }
 {
+    out.extend_from_slice(cert_code(error))?;
     match error {
-        CertError::Wire(e) => {
-            out.extend_from_slice(b" C1")?;
-            push_wire_codes(alloc, out, e)?;
-        }
-        CertError::Key(e) => {
-            out.extend_from_slice(b" C2")?;
-            push_key_codes(alloc, out, e)?;
-        }
-        CertError::Signer(e) => {
-            out.extend_from_slice(b" C3")?;
-            push_key_codes(alloc, out, e)?;
-        }
-        CertError::ChainedSigner => out.extend_from_slice(b" C4")?,
-        CertError::Principals(place) => {
-            out.extend_from_slice(b" C5")?;
-            push_place(alloc, out, place)?;
-        }
-        CertError::Options(place) => {
-            out.extend_from_slice(b" C6")?;
-            push_place(alloc, out, place)?;
-        }
-        CertError::Signature(e) => {
-            out.extend_from_slice(b" C7")?;
-            push_wire_codes(alloc, out, e)?;
-        }
-        CertError::UnknownType => out.extend_from_slice(b" C8")?,
-        CertError::TooLong => out.extend_from_slice(b" C9")?,
+        CertError::Wire(e) | CertError::Signature(e) => push_wire_codes(alloc, out, e),
+        CertError::Key(e) | CertError::Signer(e) => push_key_codes(alloc, out, e),
+        CertError::Principals(place) | CertError::Options(place) => push_place(alloc, out, place),
+        _ => Ok(()),
     }
-    Ok(())
+}
+
+fn body_code(error: BodyError) -> &'static [u8]
+    ensures { result.now ≡ body_code error }
+{
+    match error {
+        BodyError::Magic => b" B1",
+        BodyError::Encrypted => b" B2",
+        BodyError::KeyCount => b" B3",
+        BodyError::CheckMismatch => b" B4",
+        BodyError::Padding => b" B5",
+        BodyError::NotMultipleOfEight => b" B6",
+        BodyError::PublicMismatch => b" B7",
+        BodyError::Version => b" B8",
+        BodyError::EmptyNamespace => b" B9",
+        BodyError::Hash => b" B10",
+        BodyError::Key(_) => b" B11",
+        BodyError::Wire(_) => b" B12",
+        BodyError::Trailing => b" B13",
+        BodyError::TooLong => b" B14",
+    }
 }
 
 /// The codes of a body's fault, `B1` to `B14`; after `B11` and `B12` those of an inner fault.
 fn push_body_codes(alloc: Global, out: &mut Vec<u8>, error: BodyError) -> Result<(), AllocError>
     ensures { OnOk result (out.new.items ≡ out.old.items ++ body_codes error) }
 {
+    out.extend_from_slice(body_code(error))?;
     match error {
-        BodyError::Magic => out.extend_from_slice(b" B1")?,
-        BodyError::Encrypted => out.extend_from_slice(b" B2")?,
-        BodyError::KeyCount => out.extend_from_slice(b" B3")?,
-        BodyError::CheckMismatch => out.extend_from_slice(b" B4")?,
-        BodyError::Padding => out.extend_from_slice(b" B5")?,
-        BodyError::NotMultipleOfEight => out.extend_from_slice(b" B6")?,
-        BodyError::PublicMismatch => out.extend_from_slice(b" B7")?,
-        BodyError::Version => out.extend_from_slice(b" B8")?,
-        BodyError::EmptyNamespace => out.extend_from_slice(b" B9")?,
-        BodyError::Hash => out.extend_from_slice(b" B10")?,
-        BodyError::Key(e) => {
-            out.extend_from_slice(b" B11")?;
-            push_key_codes(alloc, out, e)?;
-        }
-        BodyError::Wire(e) => {
-            out.extend_from_slice(b" B12")?;
-            push_wire_codes(alloc, out, e)?;
-        }
-        BodyError::Trailing => out.extend_from_slice(b" B13")?,
-        BodyError::TooLong => out.extend_from_slice(b" B14")?,
+        BodyError::Key(e) => push_key_codes(alloc, out, e),
+        BodyError::Wire(e) => push_wire_codes(alloc, out, e),
+        _ => Ok(()),
     }
-    Ok(())
 }
 
 /// The codes of a line's cause, `L1` to `L16`, each after a space.
@@ -218,6 +225,25 @@ fn push_offer_codes(alloc: Global, out: &mut Vec<u8>, error: OfferError) -> Resu
     }
 }
 
+fn audit_code(error: AuditError) -> &'static [u8]
+    ensures { result.now ≡ audit_code error }
+{
+    match error {
+        AuditError::Offer(_) => b" A1",
+        AuditError::Signature(_) => b" A2",
+        AuditError::WrongAlgorithm => b" A3",
+        AuditError::WeakSignature => b" A4",
+        AuditError::CertSignature => b" A5",
+        AuditError::Address => b" A6",
+        AuditError::FileTooLong => b" A7",
+        AuditError::Memory => b" A8",
+        AuditError::Read => b" A9",
+        AuditError::Failed => b" A10",
+        AuditError::Body(_) => b" A11",
+        AuditError::Salts => b" A12",
+    }
+}
+
 /// The codes of a fault.
 pub(crate) fn push_fault_codes(
     alloc: Global,
@@ -226,30 +252,13 @@ pub(crate) fn push_fault_codes(
 ) -> Result<(), AllocError>
     ensures { OnOk result (out.new.items ≡ out.old.items ++ fault_codes error) }
 {
+    out.extend_from_slice(audit_code(error))?;
     match error {
-        AuditError::Offer(e) => {
-            out.extend_from_slice(b" A1")?;
-            push_offer_codes(alloc, out, e)?;
-        }
-        AuditError::Signature(e) => {
-            out.extend_from_slice(b" A2")?;
-            push_wire_codes(alloc, out, e)?;
-        }
-        AuditError::WrongAlgorithm => out.extend_from_slice(b" A3")?,
-        AuditError::WeakSignature => out.extend_from_slice(b" A4")?,
-        AuditError::CertSignature => out.extend_from_slice(b" A5")?,
-        AuditError::Address => out.extend_from_slice(b" A6")?,
-        AuditError::FileTooLong => out.extend_from_slice(b" A7")?,
-        AuditError::Memory => out.extend_from_slice(b" A8")?,
-        AuditError::Read => out.extend_from_slice(b" A9")?,
-        AuditError::Failed => out.extend_from_slice(b" A10")?,
-        AuditError::Body(e) => {
-            out.extend_from_slice(b" A11")?;
-            push_body_codes(alloc, out, e)?;
-        }
-        AuditError::Salts => out.extend_from_slice(b" A12")?,
+        AuditError::Offer(e) => push_offer_codes(alloc, out, e),
+        AuditError::Signature(e) => push_wire_codes(alloc, out, e),
+        AuditError::Body(e) => push_body_codes(alloc, out, e),
+        _ => Ok(()),
     }
-    Ok(())
 }
 
 /// The codes of a fault, each after a space.

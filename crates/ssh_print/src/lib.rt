@@ -5,7 +5,10 @@
 mod answer;
 mod codes;
 mod decision_text;
+mod json_text;
+mod laws;
 mod line;
+mod plain;
 mod response;
 mod samples;
 mod sshsig_text;
@@ -20,7 +23,9 @@ pub use codes::{
     reason_code, reason_codes,
 };
 pub use decision_text::rights_lines;
+pub use json_text::push_json_text;
 pub use line::{push_number_line, push_text_line, push_word_line};
+pub use plain::push_shown;
 pub use response::{DONE, FAULT, Response};
 pub use sshsig_text::sshsig_response;
 pub use text::{push_escaped, push_hex, push_number};

@@ -2,7 +2,7 @@
 use Rattle.std.specs.Prelude.{◌++◌, ℕ, List, codes}
 use Rattle.ssh_print.specs.Texts.{hex_text}
 use Rattle.ssh_review_json.specs.Fields.{null_field, number_field, text_field}
-use Rattle.ssh_review_json.specs.Strings.{json_text}
+use Rattle.ssh_print.specs.Strings.{json_text}
 use Rattle.ssh_review.specs.declared.counts.Counts.{Counts}
 use Rattle.ssh_review.specs.declared.counts.FileFault.{FileFault}
 use Rattle.ssh_review.specs.declared.counts.Total.{Total}

@@ -12,8 +12,8 @@ ghost use Rattle.ssh_review.specs.EndObjects.{
 
 use crate::counts::{Counts, FileFault, Total};
 use crate::end::fault_code;
-use ssh_print::push_hex;
-use ssh_review_json::{push_json_text, push_null_field, push_number_field, push_text_field};
+use ssh_print::{push_hex, push_json_text};
+use ssh_review_json::{push_null_field, push_number_field, push_text_field};
 use std::alloc::{AllocError, Global};
 
 /// Whose end it is.

@@ -8,7 +8,7 @@ use Rattle.std.proofs.lemmas.List.Folds.{list_all-append}
 use Rattle.ssh_print.specs.Texts.{escaped_text, escaped_byte, hex_digit, hex_pair, hex_text, is_plain_byte}
 use Rattle.ssh_offers.specs.FirstRefusal.{AreBytes}
 use Rattle.ssh_review_json.specs.OneLine.{are_printable, is_line, is_printable}
-use Rattle.ssh_review_json.specs.Strings.{json_text, quoted_byte}
+use Rattle.ssh_print.specs.Strings.{json_text, quoted_byte}
 
 -- A text is printable. As a record, so that a proof finds the text.
 pub record ArePrintable (text : List ℕ) : Type 0 where

@@ -1,7 +1,7 @@
 -- Fields of JSON objects (RFC 8259, section 4), each after those before it.
 use Rattle.std.specs.Prelude.{◌++◌, ℕ, ℤ, List, Option, Some, None, codes}
 use Rattle.std.specs.Fmt.{decimal, signed_decimal}
-use Rattle.ssh_review_json.specs.Strings.{json_text}
+use Rattle.ssh_print.specs.Strings.{json_text}
 
 abbrev pub field_name : List ℕ → List ℕ
 field_name name = codes ",\"" ++ name ++ codes "\":"

@@ -6,7 +6,7 @@ use Rattle.ssh_findings.specs.Codes.{code_text}
 use Rattle.ssh_findings.specs.Findings.{code_of}
 use Rattle.ssh_review_json.specs.Details.{detail_of}
 use Rattle.ssh_review_json.specs.Fields.{text_field}
-use Rattle.ssh_review_json.specs.Strings.{json_text}
+use Rattle.ssh_print.specs.Strings.{json_text}
 
 -- a code, and what stands after it
 unfoldable pub code_object : List ℕ → List ℕ → List ℕ

@@ -1,4 +1,3 @@
-pub mod Strings
 pub mod Fields
 pub mod Details
 pub mod Findings

@@ -11,7 +11,7 @@ use Rattle.ssh_review_json.specs.Fields.{moment_or_null, null_field, number_fiel
 use Rattle.ssh_review_json.specs.Findings.{findings_end}
 use Rattle.ssh_review_json.specs.OptionsText.{options_text}
 use Rattle.ssh_review_json.specs.RightsWords.{rights_words}
-use Rattle.ssh_review_json.specs.Strings.{json_text}
+use Rattle.ssh_print.specs.Strings.{json_text}
 
 -- where the line stands, and what it is
 unfoldable pub object_head : List ℕ → ℕ → List ℕ → List ℕ

@@ -11,8 +11,7 @@ ghost use Rattle.ssh_review_json.specs.Fields.{
   text_or_null,
 };
 
-use crate::string::push_json_text;
-use ssh_print::push_number;
+use ssh_print::{push_json_text, push_number};
 use ssh_text::Bytes;
 use std::alloc::{AllocError, Global};
 

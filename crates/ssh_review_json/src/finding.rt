@@ -12,8 +12,8 @@ ghost use Rattle.ssh_review_json.specs.Findings.{
 
 use crate::details::detail;
 use crate::field::push_text_field;
-use crate::string::push_json_text;
 use ssh_findings::{Coded, Finding};
+use ssh_print::push_json_text;
 use std::alloc::{AllocError, Global};
 
 /// The object of a code and of what stands after it, at the end. After an `Err`, which is want of

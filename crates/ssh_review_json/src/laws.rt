@@ -1,22 +1,14 @@
 //! Laws of the definitions, each proved on a function without a body.
 
-ghost use Rattle.std.specs.Prelude.{◌≡◌, ◌++◌, ℕ, true, List, Option, Some};
+ghost use Rattle.std.specs.Prelude.{◌≡◌, ℕ, true, List, Option};
 ghost use Rattle.ssh_options.specs.AuthOption.{AuthOption};
-ghost use Rattle.ssh_print.specs.Texts.{escaped_text};
 ghost use Rattle.ssh_findings.specs.declared.facts.Facts.{Facts};
 ghost use Rattle.ssh_findings.specs.declared.finding.Finding.{Finding};
 ghost use Rattle.ssh_held_keys.specs.declared.held.HeldKey.{HeldKey};
 ghost use Rattle.ssh_review_json.specs.Objects.{entry_object, unreadable_object};
 ghost use Rattle.ssh_offers.specs.FirstRefusal.{AreBytes};
 ghost use Rattle.ssh_review_json.specs.OneLine.{HaveByteValues, IsHeldOfBytes, IsOfBytes, are_printable, is_line};
-ghost use Rattle.ssh_review_json.specs.Strings.{json_text, read_string};
-
-/// A reader of JSON takes a string for the text that is printed of the bytes, and goes on after it: the
-/// string ends nowhere before.
-fn string_rule()
-    ensures { (text rest : List ℕ)
-        → read_string (json_text text ++ rest) ≡ Some (escaped_text text, rest) }
-{}
+ghost use Rattle.ssh_print.specs.Strings.{json_text};
 
 /// Each record is one line of printable ASCII, whatever bytes are told: no byte of a file can break a
 /// reader of lines, or a terminal.

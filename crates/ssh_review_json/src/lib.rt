@@ -17,18 +17,14 @@ mod field;
 mod finding;
 mod laws;
 mod options;
-mod plain;
 mod record;
 mod rights;
-mod string;
 
 pub use details::{cause_detail, detail, number_detail};
 pub use field::{push_null_field, push_number_field, push_text_field};
 pub use finding::push_code_object;
-pub use plain::push_shown;
 pub use record::{
     Place, fingerprint_text, is_word, push_entry_object, push_held_fields, push_key_fields,
     push_object_head, push_unreadable_object,
 };
 pub use rights::push_rights_words;
-pub use string::push_json_text;

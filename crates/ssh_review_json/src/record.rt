@@ -24,11 +24,11 @@ use crate::field::{
 use crate::finding::push_findings_end;
 use crate::options::push_options;
 use crate::rights::push_rights_words;
-use crate::string::push_json_text;
 use ssh_findings::{Facts, Finding};
 use ssh_held_keys::HeldKey;
 use ssh_keys::KeyKind;
 use ssh_options::OptionsView;
+use ssh_print::push_json_text;
 use ssh_rights::Rights;
 use std::alloc::{AllocError, Global};
 

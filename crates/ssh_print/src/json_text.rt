@@ -3,10 +3,10 @@
 ghost use Rattle.std.specs.Prelude.{◌≡◌, ◌++◌, OnOk};
 ghost use Rattle.std.specs.List.{flat_map, list_all};
 ghost use Rattle.ssh_print.specs.Texts.{escaped_text};
-ghost use Rattle.ssh_review_json.specs.Strings.{is_verbatim, json_text, quoted_byte};
+ghost use Rattle.ssh_print.specs.Strings.{is_verbatim, json_text, quoted_byte};
 
 use crate::plain::{are_plain, is_plain};
-use ssh_print::push_escaped;
+use crate::text::push_escaped;
 use std::alloc::{AllocError, Global};
 
 /// A byte of a string: a backslash stands before a quote and before a backslash.

@@ -3,7 +3,7 @@ use Rattle.std.proofs.Common.{◌≡◌, ◌∙◌, ℕ, nat_le, nat_lt, ◌==�
 use Rattle.std.specs.List.{flat_map, list_all}
 use Rattle.std.proofs.lemmas.Bool.{and_from, and_parts}
 use Rattle.ssh_print.specs.Texts.{escaped_text, hex_pair, is_plain_byte}
-use Rattle.ssh_review_json.specs.Strings.{is_verbatim, quoted_byte}
+use Rattle.ssh_print.specs.Strings.{is_verbatim, quoted_byte}
 
 pub plain_shown : (text : List ℕ) → list_all is_plain_byte text ≡ true → escaped_text text ≡ text
 plain_shown [] h = refl

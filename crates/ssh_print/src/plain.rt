@@ -4,7 +4,7 @@ ghost use Rattle.std.specs.Prelude.{◌≡◌, ◌++◌, OnErr, OnOk};
 ghost use Rattle.std.specs.List.{list_all};
 ghost use Rattle.ssh_print.specs.Texts.{escaped_text, is_plain_byte};
 
-use ssh_print::push_escaped;
+use crate::text::push_escaped;
 use std::alloc::AllocError;
 
 /// Whether a byte is printed as it is.
