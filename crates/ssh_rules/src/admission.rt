@@ -130,6 +130,20 @@ fn line_obstacle(
     Ok(permit_obstacle(Reason::SourceBad, Reason::SourceRefused, source))
 }
 
+/// Whether a name of the line's list is a principal of the certificate.
+fn has_listed_principal(
+    alloc: Global,
+    value: &ValueView<'_>,
+    judged: &JudgedCertificate<'_>,
+) -> Result<bool, AllocError>
+    ensures value { IfOk result (λ served.
+        served ≡ serves (Some value.now) judged.now.user judged.now.certificate) }
+    ensures spare { has_quote value.now ≡ false → IsOk result }
+{
+    let list = ValueText::new(alloc, value)?;
+    Ok(has_listed(judged.principals(), list.as_slice()))
+}
+
 /// Whether the certificate is for a principal that is asked for: one of the line's list, or without
 /// a list the user.
 fn has_served_principal(
@@ -144,10 +158,7 @@ fn has_served_principal(
 {
     match entry.settings(ValueName::Principals).next() {
         None => Ok(judged.serves_user()),
-        Some(value) => {
-            let list = ValueText::new(alloc, &value)?;
-            Ok(has_listed(judged.principals(), list.as_slice()))
-        }
+        Some(value) => has_listed_principal(alloc, &value, judged),
     }
 }
 

@@ -1,11 +1,21 @@
 //! What is found of a login's certificate once, since no line changes it.
 
-ghost use Rattle.std.specs.Prelude.{◌≡◌, false, IfOk, IsOk, None, option_copied};
+ghost use Rattle.std.specs.Prelude.{◌≡◌, [], ◌∷◌, false, IfOk, IsOk, None, not, option_copied};
 ghost use Rattle.ssh_certs.specs.CertificateOf.{certificate_of};
+ghost use Rattle.ssh_certs.specs.CertificateOptions.{forced_by_certificate};
+ghost use Rattle.ssh_options.specs.declared.option.ValueName.TheVariants.{Command};
+ghost use Rattle.ssh_options.specs.Settings.{setting};
+ghost use Rattle.ssh_rules.specs.declared.reason.Reason.TheVariants.{
+  CertSourceBad,
+  CertSourceRefused,
+  CommandConflict,
+  CriticalData,
+  CriticalRepeated,
+};
 ghost use Rattle.ssh_rules.specs.Admission.{commands_differ, critical_rows};
-ghost use Rattle.ssh_rules.specs.CertificateRules.{serves};
+ghost use Rattle.ssh_rules.specs.CertificateRules.{certificate_source, serves};
 ghost use Rattle.ssh_rules.specs.Judged.{IsPlainlyJudged, Judged};
-ghost use Rattle.ssh_rules.specs.Obstacles.{first_obstacle};
+ghost use Rattle.ssh_rules.specs.Obstacles.{first_obstacle, permit_row, when};
 ghost use Rattle.ssh_rules.specs.Spare.{is_named};
 
 use crate::certificate::{
@@ -84,6 +94,21 @@ fn commands_differ(line: Option<ValueView<'_>>, own: Option<&[u8]>) -> bool
     }
 }
 
+/// Why the critical options do not stand as they have to: by whether one stands twice, and whether
+/// the data of each has its form.
+fn form_obstacle(repeated: bool, formed: bool) -> Option<Obstacle>
+    ensures { result ≡ first_obstacle (when repeated CriticalRepeated
+        ∷ when (not formed) CriticalData ∷ []) }
+{
+    if repeated {
+        return Some(Obstacle::Listed(Reason::CriticalRepeated));
+    }
+    if !formed {
+        return Some(Obstacle::Listed(Reason::CriticalData));
+    }
+    None
+}
+
 impl<'a> JudgedCertificate<'a> {
     /// What is found of a certificate. Memory is taken for the name of an option that no login
     /// knows, and for the order of the principals.
@@ -137,6 +162,27 @@ impl<'a> JudgedCertificate<'a> {
         &self.principals
     }
 
+    /// Why what the options insist on that a login knows is not met: a list of sources or a forced
+    /// command.
+    fn known_obstacle(&self, entry: &AuthEntryView<'_>) -> Option<Obstacle>
+        ensures { result ≡ first_obstacle (permit_row CertSourceBad CertSourceRefused
+            (certificate_source self.now.certificate self.now.address)
+            ∷ when (commands_differ (setting Command entry.now.options)
+            (forced_by_certificate self.now.certificate)) CommandConflict ∷ []) }
+    {
+        if let Some(obstacle) = permit_obstacle(
+            Reason::CertSourceBad,
+            Reason::CertSourceRefused,
+            self.source,
+        ) {
+            return Some(obstacle);
+        }
+        if commands_differ(entry.settings(ValueName::Command).next(), self.command) {
+            return Some(Obstacle::Listed(Reason::CommandConflict));
+        }
+        None
+    }
+
     /// Why what the certificate insists on is not met by a line.
     pub(crate) fn critical_obstacle(
         &self,
@@ -150,22 +196,9 @@ impl<'a> JudgedCertificate<'a> {
         if let Some(obstacle) = unknown_obstacle(self.unknown.as_ref())? {
             return Ok(Some(obstacle));
         }
-        if self.repeated {
-            return Ok(Some(Obstacle::Listed(Reason::CriticalRepeated)));
-        }
-        if !self.formed {
-            return Ok(Some(Obstacle::Listed(Reason::CriticalData)));
-        }
-        if let Some(obstacle) = permit_obstacle(
-            Reason::CertSourceBad,
-            Reason::CertSourceRefused,
-            self.source,
-        ) {
+        if let Some(obstacle) = form_obstacle(self.repeated, self.formed) {
             return Ok(Some(obstacle));
         }
-        if commands_differ(entry.settings(ValueName::Command).next(), self.command) {
-            return Ok(Some(Obstacle::Listed(Reason::CommandConflict)));
-        }
-        Ok(None)
+        Ok(self.known_obstacle(entry))
     }
 }

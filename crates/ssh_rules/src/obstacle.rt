@@ -3,6 +3,8 @@
 ghost use Rattle.std.specs.Prelude.{◌≡◌, ◌==◌, [], ◌∷◌, IfOk, IsOk, None, not, option_copied};
 ghost use Rattle.ssh_certs.specs.CertificateOf.{certificate_of};
 ghost use Rattle.ssh_certs.specs.Rules.{time_of};
+ghost use Rattle.ssh_keys.specs.Fingerprint.{is_rsa_below};
+ghost use Rattle.ssh_keys.specs.KeyOf.{key_of};
 ghost use Rattle.ssh_offers.specs.OfferView.{offer_of};
 ghost use Rattle.ssh_rules.specs.declared.reason.Reason.TheVariants.{
   PrincipalRefused,
@@ -24,7 +26,7 @@ ghost use Rattle.ssh_rules.specs.Obstacles.{
 use crate::option_name::OptionName;
 use crate::reason::{Obstacle, Reason};
 use ssh_certs::{CertView, Time, no_principals};
-use ssh_keys::rsa_at_least;
+use ssh_keys::{KeyView, rsa_at_least};
 use ssh_offers::{EmptyPrincipals, Offer};
 use ssh_patterns::Permit;
 use std::alloc::AllocError;
@@ -102,15 +104,22 @@ pub(crate) fn principal_obstacle(
     None
 }
 
+/// Whether the key is RSA's and has fewer bits than this.
+fn is_short(bits: u32, key: &KeyView<'_>) -> bool
+    ensures { result ≡ is_rsa_below bits (key_of key.now) }
+{
+    !rsa_at_least(key, bits)
+}
+
 /// Whether a key that the offer rests on is RSA's and has fewer bits than this: the offered one, or
 /// the certificate's signer.
 fn has_short_key(bits: u32, offer: &Offer<'_>) -> bool
     ensures { result ≡ has_short_key bits (offer_of offer.now) }
 {
     match offer {
-        Offer::Plain(key) => !rsa_at_least(key, bits),
+        Offer::Plain(key) => is_short(bits, key),
         Offer::Certified(certificate) => {
-            !rsa_at_least(&certificate.key(), bits) || !rsa_at_least(&certificate.signer(), bits)
+            is_short(bits, &certificate.key()) || is_short(bits, &certificate.signer())
         }
     }
 }

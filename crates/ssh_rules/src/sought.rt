@@ -6,9 +6,9 @@ ghost use Rattle.ssh_keys.specs.PublicKey.{key_blob};
 ghost use Rattle.ssh_offers.specs.ClaimViews.{host_claim_of};
 ghost use Rattle.ssh_offers.specs.Offer.{is_certified, subject};
 ghost use Rattle.ssh_offers.specs.OfferView.{offer_of};
-ghost use Rattle.ssh_offers.specs.Query.{HostCheck, host_check_of};
+ghost use Rattle.ssh_offers.specs.Query.{host_check_of};
 ghost use Rattle.ssh_lines.specs.KnownSeen.{known_seen};
-ghost use Rattle.ssh_rules.specs.HostAdmission.{first_name, looked_up, principal_of};
+ghost use Rattle.ssh_rules.specs.HostAdmission.{first_name, looked_up};
 ghost use Rattle.ssh_rules.specs.Judged.{host_served, host_unknown_name};
 ghost use Rattle.ssh_lines.specs.KnownGrammar.{known_line};
 ghost use Rattle.ssh_rules.specs.Revocation.{
@@ -84,15 +84,22 @@ fn unknown_name(alloc: Global, offer: &Offer<'_>) -> Result<Option<OptionName>, 
     }
 }
 
-/// Whether a certificate is offered that serves for this principal.
-fn has_served(offer: &Offer<'_>, principal: &[u8]) -> bool
-    ensures { (q : HostCheck)
-        → principal.now ≡ principal_of q
-        → result ≡ host_served q (offer_of offer.now) }
+/// The name that the host is looked up by.
+fn looked_up(alloc: Global, query: &HostQuery<'_>) -> Result<Vec<u8>, AllocError>
+    ensures { IfOk result (λ name. name.items ≡ looked_up (host_check_of query.entry.now)) }
 {
-    match offer {
-        Offer::Plain(_) => false,
-        Offer::Certified(certificate) => serves(certificate, principal),
+    lookup_name(alloc, query.host, query.port)
+}
+
+/// Whether a certificate is offered that serves for the host.
+fn has_served(alloc: Global, claim: &HostClaimView<'_>) -> Result<bool, AllocError>
+    ensures { IfOk result (λ served.
+        served ≡ host_served (host_claim_of claim.now).query (host_claim_of claim.now).offer) }
+{
+    let principal = claim.query.host.to_ascii_lowercase(alloc)?;
+    match &claim.offer {
+        Offer::Plain(_) => Ok(false),
+        Offer::Certified(certificate) => Ok(serves(certificate, &principal)),
     }
 }
 
@@ -101,10 +108,9 @@ impl<'a> SoughtHost<'a> {
     pub fn new(alloc: Global, claim: &HostClaimView<'a>) -> Result<SoughtHost<'a>, AllocError>
         ensures { IfOk result (λ sought. sought ≡ host_claim_of claim.now) }
     {
-        let name = lookup_name(alloc, claim.query.host, claim.query.port)?;
-        let principal = claim.query.host.to_ascii_lowercase(alloc)?;
+        let name = looked_up(alloc, &claim.query)?;
+        let serves = has_served(alloc, claim)?;
         let blob = plain_blob(alloc, &claim.offer)?;
-        let serves = has_served(&claim.offer, &principal);
         let unknown = unknown_name(alloc, &claim.offer)?;
         Ok(SoughtHost {
             claim: *claim,
