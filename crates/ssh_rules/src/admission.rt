@@ -9,6 +9,7 @@ ghost use Rattle.ssh_options.specs.declared.option.ValueName.TheVariants.{
 };
 ghost use Rattle.ssh_options.specs.OptionsInPlace.{has_quote};
 ghost use Rattle.ssh_options.specs.Settings.{setting, settings};
+ghost use Rattle.ssh_rules.specs.CertificateForce.{force_rows, user_certificate};
 ghost use Rattle.ssh_rules.specs.CertificateRules.{serves};
 ghost use Rattle.ssh_rules.specs.Obstacles.{first_obstacle};
 ghost use Rattle.ssh_rules.specs.Admission.{
@@ -20,7 +21,6 @@ ghost use Rattle.ssh_rules.specs.Admission.{
   line_source,
   login_obstacle,
   offer_obstacle,
-  user_force_rows,
 };
 ghost use Rattle.ssh_rules.specs.Judged.{judged_of};
 ghost use Rattle.ssh_rules.specs.Spare.{has_escaped, is_about, is_escaped, is_named};
@@ -37,7 +37,7 @@ use crate::sought_login::SoughtLogin;
 use crate::value_text::ValueText;
 use ssh_expiry::expiry;
 use ssh_lines::AuthEntryView;
-use ssh_offers::LoginClaimView;
+use ssh_offers::{LoginClaimView, LoginQuery};
 use ssh_options::{Flag, ValueName, ValueView};
 use ssh_patterns::{Permit, source_list};
 use std::alloc::{AllocError, Global};
@@ -166,15 +166,14 @@ fn has_served_principal(
 fn force_obstacle(
     alloc: Global,
     entry: &AuthEntryView<'_>,
-    sought: &SoughtLogin<'_>,
+    query: &LoginQuery<'_>,
     judged: &JudgedCertificate<'_>,
 ) -> Result<Option<Obstacle>, AllocError>
-    requires { judged_of sought.now ≡ Some judged.now }
     ensures value { IfOk result (λ o.
-        o ≡ first_obstacle (user_force_rows entry.now sought.now.query judged.now.certificate)) }
+        o ≡ first_obstacle (force_rows user_certificate query.entry.now.now query.entry.now.empty_principals
+        (setting Principals entry.now.options) judged.now.user judged.now.certificate)) }
     ensures spare { is_escaped (setting Principals entry.now.options) ≡ false → IsOk result }
 {
-    let query = &sought.claim().query;
     if let Some(obstacle) = period_obstacle(USER_CERTIFICATE, query.now, judged.certificate()) {
         return Ok(Some(obstacle));
     }
@@ -196,7 +195,7 @@ fn certificate_obstacle(
         → is_named (certificate_obstacle entry.now sought.now judged.now.certificate) ≡ false
         → IsOk result }
 {
-    if let Some(obstacle) = force_obstacle(alloc, entry, sought, judged)? {
+    if let Some(obstacle) = force_obstacle(alloc, entry, &sought.claim().query, judged)? {
         return Ok(Some(obstacle));
     }
     judged.critical_obstacle(entry)
