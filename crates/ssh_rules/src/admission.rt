@@ -213,10 +213,7 @@ fn offer_obstacle(
 {
     match sought.judged() {
         None => Ok(None),
-        Some(judged) => {
-            let obstacle = certificate_obstacle(alloc, entry, sought, judged)?;
-            Ok(obstacle)
-        }
+        Some(judged) => certificate_obstacle(alloc, entry, sought, judged),
     }
 }
 

@@ -43,10 +43,7 @@ pub fn host_verdict<'a>(
 {
     match line {
         KnownLineView::Unreadable(why) => Ok(LineVerdict::Skips(Some(Reason::Unreadable(why)))),
-        KnownLineView::Entry(entry) => {
-            let verdict = entry_verdict(entry, sought)?;
-            Ok(verdict)
-        }
+        KnownLineView::Entry(entry) => entry_verdict(entry, sought),
         KnownLineView::Blank
         | KnownLineView::Comment
         | KnownLineView::Revoked(_)

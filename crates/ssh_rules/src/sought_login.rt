@@ -31,28 +31,6 @@ impl<'a> Model for SoughtLogin<'a> {
     ghost invariant = { λ s. s.judged ≡ judged_of (claim_of s.claim) };
 }
 
-/// The certificate of a claim, judged.
-fn judged<'a>(
-    alloc: Global,
-    claim: &LoginClaimView<'a>,
-) -> Result<Option<JudgedCertificate<'a>>, AllocError>
-    ensures value { IfOk result (λ made. made ≡ judged_of (claim_of claim.now)) }
-    ensures spare { IsPlainlySought (claim_of claim.now).offer → IsOk result }
-{
-    match &claim.offer {
-        Offer::Plain(_) => Ok(None),
-        Offer::Certified(certificate) => {
-            let made = JudgedCertificate::new(
-                alloc,
-                certificate,
-                &claim.address,
-                claim.query.user,
-            )?;
-            Ok(Some(made))
-        }
-    }
-}
-
 impl<'a> SoughtLogin<'a> {
     /// What is made of a claim once for all lines. Memory is taken for the name of a critical
     /// option that no login knows, and for the order of the principals. `Err` is out of memory.
@@ -62,7 +40,15 @@ impl<'a> SoughtLogin<'a> {
         // critical options are known.
         ensures spare { IsPlainlySought (claim_of claim.now).offer → IsOk result }
     {
-        let judged = judged(alloc, claim)?;
+        let judged = match &claim.offer {
+            Offer::Plain(_) => None,
+            Offer::Certified(certificate) => Some(JudgedCertificate::new(
+                alloc,
+                certificate,
+                &claim.address,
+                claim.query.user,
+            )?),
+        };
         Ok(SoughtLogin {
             claim: *claim,
             judged,

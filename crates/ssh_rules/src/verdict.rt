@@ -65,9 +65,6 @@ pub fn login_verdict<'a>(
     match line {
         AuthLineView::Blank | AuthLineView::Comment => Ok(LineVerdict::Skips(None)),
         AuthLineView::Unreadable(why) => Ok(LineVerdict::Skips(Some(Reason::Unreadable(why)))),
-        AuthLineView::Entry(entry) => {
-            let verdict = entry_verdict(alloc, entry, sought)?;
-            Ok(verdict)
-        }
+        AuthLineView::Entry(entry) => entry_verdict(alloc, entry, sought),
     }
 }
