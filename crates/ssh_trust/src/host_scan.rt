@@ -1,16 +1,25 @@
 //! What the lines of a known_hosts file say to a host's key: one line after the other. The whole
 //! file counts, for a later line may revoke.
 
-ghost use Rattle.std.specs.Prelude.{◌≡◌, ℕ, false, List, ⊤};
+ghost use Rattle.std.specs.Prelude.{◌≡◌, ◌≤◌, ℕ, false, is_some, length, List, Err, IfOk, OnErr, OnOk, ⊤};
 ghost use Rattle.ssh_lines.specs.KnownGrammar.{known_line};
 ghost use Rattle.ssh_lines.specs.KnownSeen.{known_seen};
+ghost use Rattle.ssh_offers.specs.declared.error.AuditError.TheVariants.{Memory};
+ghost use Rattle.ssh_offers.specs.ClaimViews.{host_claim_of};
 ghost use Rattle.ssh_offers.specs.HostClaim.{HostClaim, host_claim};
 ghost use Rattle.ssh_offers.specs.Query.{host_check_of};
 ghost use Rattle.ssh_rules.specs.Revocation.{RevokesNothing};
 ghost use Rattle.ssh_trust.specs.FileLines.{IsHandedLine};
 ghost use Rattle.ssh_trust.specs.Telling.{HostDecides};
 ghost use Rattle.ssh_trust.specs.HostDecision.{host_decision};
-ghost use Rattle.ssh_trust.specs.HostScan.{empty_host_scan, first_so_far, host_scan_line};
+ghost use Rattle.ssh_trust.specs.HostScan.{
+  admitting_number,
+  empty_host_scan,
+  first_so_far,
+  host_scan_line,
+};
+ghost use Rattle.ssh_trust.specs.Candidate.{reason_limit};
+ghost use Rattle.ssh_trust.specs.Scan.{scan_verdict};
 
 use crate::decision::Decision;
 use crate::host_decide::decide_host;
@@ -36,6 +45,27 @@ pub struct HostScan {
 
 impl Listing for HostScan {
     ghost reasons = { λ s. s.admission.reasons };
+}
+
+impl HostScan {
+    /// Whether a line admits the key.
+    fn is_settled(&self) -> bool
+        ensures { result ≡ is_some self.now.admission.candidate }
+    {
+        self.admission.candidate.is_some()
+    }
+
+    /// Notes whether the line of this number revokes the key or the signer, and whether it may
+    /// revoke any key.
+    fn note(&mut self, number: u64, revokes: bool, blinds: bool)
+        ensures { self.new ≡ record self.old {
+          revoked = first_so_far self.old.revoked number revokes;
+          blind = first_so_far self.old.blind number blinds;
+        } }
+    {
+        self.revoked = first_so_far(self.revoked, number, revokes);
+        self.blind = first_so_far(self.blind, number, blinds);
+    }
 }
 
 /// The first number so far, after one more line.
@@ -73,6 +103,34 @@ fn can_revoke_at(line: Line<'_>) -> bool
     }
 }
 
+/// Takes what the line of this number is to the key, where none before it admits it.
+fn take_verdict(
+    number: u64,
+    verdict: LineVerdict<KnownEntryView<'_>>,
+    said: &mut Scan<u64>,
+) -> Result<(), AllocError>
+    ensures value { OnOk result
+        (said.new ≡ scan_verdict admitting_number said.old number verdict.entry) }
+    ensures few { length said.old.reasons ≤ reason_limit → length said.new.reasons ≤ reason_limit }
+{
+    match verdict {
+        LineVerdict::Admits(_) => {
+            said.candidate = Some(number);
+            Ok(())
+        }
+        LineVerdict::Skips(reason) => said.list(number, reason),
+    }
+}
+
+/// What is sought for a claim.
+fn sought_of<'a>(alloc: Global, claim: &HostClaimView<'a>) -> Result<SoughtHost<'a>, AuditError>
+    ensures value { IfOk result (λ sought. sought ≡ host_claim_of claim.now) }
+    ensures memory { OnErr result (result ≡ Err Memory) }
+{
+    let sought = SoughtHost::new(alloc, claim)?;
+    Ok(sought)
+}
+
 /// The first line that trusts a host's key, and those that revoke it. After the former only
 /// revocations count, so that a line that can be none is not read.
 impl<'a> Sought for SoughtHost<'a> {
@@ -98,8 +156,7 @@ impl<'a> Sought for SoughtHost<'a> {
 
     fn read(alloc: Global, query: &HostQuery<'a>) -> Result<SoughtHost<'a>, AuditError> {
         let claim = HostClaimView::read(query)?;
-        let sought = SoughtHost::new(alloc, &claim)?;
-        Ok(sought)
+        sought_of(alloc, &claim)
     }
 
     fn silence(&self, alloc: Global) -> HostScan {
@@ -118,25 +175,16 @@ impl<'a> Sought for SoughtHost<'a> {
         buffer: &mut KeyBuffer,
         said: &mut HostScan,
     ) -> Result<(), AllocError> {
-        if said.admission.candidate.is_some() && !can_revoke_at(line) {
+        if said.is_settled() && !can_revoke_at(line) {
             return Ok(());
         }
         let view = view_of(line, buffer);
-        said.revoked = first_so_far(said.revoked, number, self.is_revoked_by(&view));
-        said.blind = first_so_far(said.blind, number, may_revoke(&view));
-        if said.admission.candidate.is_some() {
+        said.note(number, self.is_revoked_by(&view), may_revoke(&view));
+        if said.is_settled() {
             return Ok(());
         }
-        match host_verdict(view, self)? {
-            LineVerdict::Admits(_) => {
-                said.admission.candidate = Some(number);
-                Ok(())
-            }
-            LineVerdict::Skips(reason) => {
-                said.admission.list(number, reason)?;
-                Ok(())
-            }
-        }
+        let verdict = host_verdict(view, self)?;
+        take_verdict(number, verdict, &mut said.admission)
     }
 
     fn decide(

@@ -1,16 +1,18 @@
 //! The first line that admits a login, and why the lines before it do not: one line after the
 //! other.
 
-ghost use Rattle.std.specs.Prelude.{◌≡◌, ◌<◌, ◌^◌, ℕ, List, length, IfOk};
+ghost use Rattle.std.specs.Prelude.{◌≡◌, ◌<◌, ◌≤◌, ◌^◌, ℕ, List, length, Err, IfOk, OnErr, OnOk};
 ghost use Rattle.ssh_lines.specs.AuthGrammar.{auth_line};
 ghost use Rattle.ssh_lines.specs.LineView.{line_seen};
+ghost use Rattle.ssh_offers.specs.declared.error.AuditError.TheVariants.{Memory};
 ghost use Rattle.ssh_offers.specs.ClaimViews.{claim_of};
 ghost use Rattle.ssh_offers.specs.LoginClaim.{LoginClaim, login_claim};
 ghost use Rattle.ssh_offers.specs.Query.{login_of};
 ghost use Rattle.ssh_trust.specs.Telling.{LoginDecides};
 ghost use Rattle.ssh_trust.specs.LoginDecision.{candidate_at, login_decision, login_scan_line};
 ghost use Rattle.ssh_trust.specs.FileLines.{IsHandedLine};
-ghost use Rattle.ssh_trust.specs.Scan.{empty_scan};
+ghost use Rattle.ssh_trust.specs.Candidate.{reason_limit};
+ghost use Rattle.ssh_trust.specs.Scan.{empty_scan, scan_verdict};
 
 use crate::decision::Decision;
 use crate::login_decide::decide_login;
@@ -55,6 +57,28 @@ fn candidate_at(
     })
 }
 
+/// Takes what the line of this number is to the login, where none before it admits it.
+fn take_verdict(
+    alloc: Global,
+    number: u64,
+    verdict: LineVerdict<AuthEntryView<'_>>,
+    claim: &LoginClaimView<'_>,
+    said: &mut Scan<Candidate>,
+) -> Result<(), AllocError>
+    ensures value { OnOk result (said.new
+        ≡ scan_verdict (candidate_at (claim_of claim.now)) said.old number verdict.entry) }
+    ensures few { length said.old.reasons ≤ reason_limit → length said.new.reasons ≤ reason_limit }
+{
+    match verdict {
+        LineVerdict::Admits(entry) => {
+            let candidate = candidate_at(alloc, number, &entry, claim)?;
+            said.candidate = Some(candidate);
+            Ok(())
+        }
+        LineVerdict::Skips(reason) => said.list(number, reason),
+    }
+}
+
 /// What a line says, where it is not longer than a line may be.
 #[tactic(auto, using(crate::proofs::LongLines::long_auth))]
 fn view_of<'a>(line: Line<'a>, buffer: &'a mut KeyBuffer) -> AuthLineView<'a>
@@ -64,6 +88,15 @@ fn view_of<'a>(line: Line<'a>, buffer: &'a mut KeyBuffer) -> AuthLineView<'a>
         Line::Whole(text) => read_auth_view(text, buffer),
         Line::TooLong => AuthLineView::Unreadable(LineCause::TooLong),
     }
+}
+
+/// What is sought for a claim.
+fn sought_of<'a>(alloc: Global, claim: &LoginClaimView<'a>) -> Result<SoughtLogin<'a>, AuditError>
+    ensures value { IfOk result (λ sought. sought ≡ claim_of claim.now) }
+    ensures memory { OnErr result (result ≡ Err Memory) }
+{
+    let sought = SoughtLogin::new(alloc, claim)?;
+    Ok(sought)
 }
 
 /// The first line that admits the login. Lines after it change nothing.
@@ -90,8 +123,7 @@ impl<'a> Sought for SoughtLogin<'a> {
 
     fn read(alloc: Global, query: &LoginQuery<'a>) -> Result<SoughtLogin<'a>, AuditError> {
         let claim = LoginClaimView::read(query)?;
-        let sought = SoughtLogin::new(alloc, &claim)?;
-        Ok(sought)
+        sought_of(alloc, &claim)
     }
 
     fn silence(&self, alloc: Global) -> Scan<Candidate> {
@@ -106,20 +138,11 @@ impl<'a> Sought for SoughtLogin<'a> {
         buffer: &mut KeyBuffer,
         said: &mut Scan<Candidate>,
     ) -> Result<(), AllocError> {
-        if said.candidate.is_some() {
+        if said.is_settled() {
             return Ok(());
         }
-        match login_verdict(alloc, view_of(line, buffer), self)? {
-            LineVerdict::Admits(entry) => {
-                let candidate = candidate_at(alloc, number, &entry, self.claim())?;
-                said.candidate = Some(candidate);
-                Ok(())
-            }
-            LineVerdict::Skips(reason) => {
-                said.list(number, reason)?;
-                Ok(())
-            }
-        }
+        let verdict = login_verdict(alloc, view_of(line, buffer), self)?;
+        take_verdict(alloc, number, verdict, self.claim(), said)
     }
 
     fn decide(

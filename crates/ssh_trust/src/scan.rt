@@ -1,6 +1,6 @@
 //! What the lines so far say to an offer, in a state whose size no file makes larger.
 
-ghost use Rattle.std.specs.Prelude.{◌≡◌, ◌≤◌, length, OnOk};
+ghost use Rattle.std.specs.Prelude.{◌≡◌, ◌≤◌, length, nat_lt, is_some, OnOk};
 ghost use Rattle.ssh_trust.specs.Candidate.{reason_limit};
 ghost use Rattle.ssh_trust.specs.Scan.{empty_scan, listed_with};
 
@@ -35,6 +35,20 @@ impl<C> Scan<C> {
         }
     }
 
+    /// Whether a line admits.
+    pub(crate) fn is_settled(&self) -> bool
+        ensures { result ≡ is_some self.now.candidate }
+    {
+        self.candidate.is_some()
+    }
+
+    /// Whether one more reason may be listed.
+    fn has_room(&self) -> bool
+        ensures { result ≡ nat_lt (length self.now.reasons) reason_limit }
+    {
+        self.reasons.len() < REASON_LIMIT
+    }
+
     /// Lists the reason of a line, unless enough is listed.
     pub(crate) fn list(&mut self, number: u64, reason: Option<Reason>) -> Result<(), AllocError>
         ensures value { OnOk result
@@ -43,7 +57,7 @@ impl<C> Scan<C> {
             → length self.new.reasons ≤ reason_limit }
     {
         if let Some(why) = reason
-            && self.reasons.len() < REASON_LIMIT
+            && self.has_room()
         {
             self.reasons.push((number, why))?;
         }

@@ -1,0 +1,5 @@
+use Rattle.std.proofs.Common.{refl}
+use Rattle.ssh_trust.proofs.host_scan.HostScan.note.Goals as goal
+
+pub returns : goal.returns
+returns c = rw (c.first_so_far-self.ensures, c.first_so_far-self-2.ensures) refl
