@@ -1,10 +1,17 @@
 -- The scan of a known_hosts file, line by line.
-use Rattle.std.proofs.Common.{◌≡◌, ◌∙◌, ◌+◌, ℕ, Bool, true, false, cond, List, [], ◌∷◌, map, Option, Some, None, ap, refl}
+use Rattle.std.proofs.Common.{◌≡◌, ◌∙◌, ◌+◌, ℕ, Bool, true, false, cond, List, [], ◌∷◌, map, Option, Some, None, Result, Ok, Err, ap, refl, sym}
+use Rattle.std.specs.Prelude.{OnOk, is_some}
+use Rattle.ssh_lines.specs.KnownEntry.{KnownEntry}
+use Rattle.ssh_lines.specs.declared.known.KnownLine.{KnownLine}
+use Rattle.ssh_lines.specs.KnownGrammar.{known_line}
+use Rattle.ssh_rules.specs.declared.verdict.LineVerdict.{LineVerdict}
+use Rattle.ssh_rules.specs.Revocation.{may_revoke, revokes_offer}
+use Rattle.ssh_rules.specs.Verdict.{host_verdict}
 use Rattle.ssh_text.specs.Text.{lines_of, numbered}
 use Rattle.ssh_offers.specs.HostClaim.{HostClaim}
 use Rattle.ssh_trust.specs.declared.host_scan.HostScan.{HostScan}
 use Rattle.ssh_trust.specs.declared.scan.Scan.{Scan}
-use Rattle.ssh_trust.specs.Scan.{after_lines, scan_of}
+use Rattle.ssh_trust.specs.Scan.{after_lines, scan_of, scan_verdict}
 use Rattle.ssh_trust.specs.HostScan.{empty_host_scan, first_number, first_so_far, host_line_verdict, host_scan_line, host_scan_of, is_blind, admitting_number, revokes_by}
 use Rattle.ssh_trust.proofs.ScanLemmas.{scanned, scanned-scan_of}
 
@@ -53,3 +60,28 @@ host_scanned-all claim file =
     (first-numbered (revokes_by claim) 1 (lines_of file))
     ∙ ap (λ (b : Option ℕ). host_scan (scan_of admitting_number (map (host_line_verdict claim) (lines_of file))) (first_number (revokes_by claim) 1 (lines_of file)) b)
     (first-numbered is_blind 1 (lines_of file))
+
+-- ---- one more line, as it is read
+
+-- after the candidate no more is said
+pub line-noted : (claim : HostClaim) (s new : HostScan) (n : ℕ) (line : List ℕ) (read : KnownLine) (revokes blinds : Bool) → read ≡ known_line line
+    → revokes ≡ revokes_offer claim.offer read → blinds ≡ may_revoke read
+    → new ≡ record s { revoked = first_so_far s.revoked n revokes; blind = first_so_far s.blind n blinds }
+    → is_some new.admission.candidate ≡ true → new ≡ host_scan_line claim s (n, line)
+line-noted claim s new n line read revokes blinds is r b noted settled =
+    let before : is_some s.admission.candidate ≡ true = ap (λ (t : HostScan). is_some t.admission.candidate) (sym noted) ∙ settled in
+    rw (noted, r, b, is, before) refl
+
+-- before it the line's verdict is added
+pub line-judged : (claim : HostClaim) (s new : HostScan) (admission : Scan ℕ) (n : ℕ) (line : List ℕ) (read : KnownLine) (revokes blinds : Bool) (verdict : LineVerdict KnownEntry)
+    → read ≡ known_line line → revokes ≡ revokes_offer claim.offer read → blinds ≡ may_revoke read
+    → new ≡ record s { revoked = first_so_far s.revoked n revokes; blind = first_so_far s.blind n blinds }
+    → is_some new.admission.candidate ≡ false → verdict ≡ host_verdict claim read → admission ≡ scan_verdict admitting_number new.admission n verdict
+    → record { admission = admission; revoked = new.revoked; blind = new.blind } ≡ host_scan_line claim s (n, line)
+line-judged claim s new admission n line read revokes blinds verdict is r b noted none judged added =
+    let before : is_some s.admission.candidate ≡ false = ap (λ (t : HostScan). is_some t.admission.candidate) (sym noted) ∙ none in
+    rw (added, judged, noted, r, b, is, before) refl
+
+pub ok-then : {A E : Type 0} (result : Result A E) (P Q : Type 0) → (P → Q) → OnOk result P → OnOk result Q
+ok-then (Ok x) P Q f h = f h
+ok-then (Err e) P Q f h = tt
