@@ -1,6 +1,6 @@
 -- What a reader gave, read by read, and what is answered on it.
 use Rattle.std.proofs.Common.{◌≡◌, ◌∙◌, ◌+◌, ◌<◌, ◌≤◌, ◌↔◌, ℕ, Bool, true, false, List, [], ◌++◌, length, nat_lt, Option, Some, None, Result, Ok, Err, inl, inr, refl, sym, ap, subst, arith, append-nil, append_assoc}
-use Rattle.std.specs.Prelude.{OnErr, OnOk}
+use Rattle.std.specs.Prelude.{IfOk, OnErr, OnOk}
 use Rattle.std.specs.Io.KnownBytes.{Consumes, IsAtEnd, Keeps}
 use Rattle.std.proofs.lemmas.Bool.{cases_Bool, lt-ltb, ltb-false, ltb-true}
 use Rattle.std.proofs.lemmas.List.{length-append}
@@ -184,6 +184,17 @@ answers-whole P old new of_file result h answer = record {
   to_end = at-end new result h.stops.1;
   answer = λ _. answer h.given h.stops.0;
 }
+
+-- what its decision means
+pub means-whole : (P : List ℕ → Type 0) (old new : Option (List ℕ)) (Means : List ℕ → Decision → Type 0) (result : Result Decision AuditError)
+    → IsFedBy P old new 0 (Ok tt) → ((file : List ℕ) → P file → IfOk result (Means file)) → IfOk result (λ d. HoldsOfRead old new (λ file. Means file d))
+means-whole P old new Means (Ok d) h means = record {
+  given = h.given;
+  consumed = h.consumed;
+  to_end = h.stops.1;
+  holds = means h.given h.stops.0;
+}
+means-whole P old new Means (Err e) h means = tt
 
 -- ---- where no audit was made, or no decision
 

@@ -182,8 +182,7 @@ impl<T: Sought<Said = S> + Drop, S: Listing + Drop> Audit<T, S> {
     {
         let mut audit = Audit::<T, S>::new(alloc, query)?;
         audit.feed(file)?;
-        let decision = audit.finish(vouched)?;
-        Ok(decision)
+        audit.finish(vouched)
     }
 
     /// Answers by what a reader has left.
@@ -208,7 +207,6 @@ impl<T: Sought<Said = S> + Drop, S: Listing + Drop> Audit<T, S> {
     {
         let mut audit = Audit::<T, S>::new(alloc, query)?;
         audit.feed_from(reader)?;
-        let decision = audit.finish(vouched)?;
-        Ok(decision)
+        audit.finish(vouched)
     }
 }

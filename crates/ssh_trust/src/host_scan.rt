@@ -127,8 +127,10 @@ fn sought_of<'a>(alloc: Global, claim: &HostClaimView<'a>) -> Result<SoughtHost<
     ensures value { IfOk result (λ sought. sought ≡ host_claim_of claim.now) }
     ensures memory { OnErr result (result ≡ Err Memory) }
 {
-    let sought = SoughtHost::new(alloc, claim)?;
-    Ok(sought)
+    match SoughtHost::new(alloc, claim) {
+        Ok(sought) => Ok(sought),
+        Err(_) => Err(AuditError::Memory),
+    }
 }
 
 /// The first line that trusts a host's key, and those that revoke it. After the former only

@@ -95,8 +95,10 @@ fn sought_of<'a>(alloc: Global, claim: &LoginClaimView<'a>) -> Result<SoughtLogi
     ensures value { IfOk result (λ sought. sought ≡ claim_of claim.now) }
     ensures memory { OnErr result (result ≡ Err Memory) }
 {
-    let sought = SoughtLogin::new(alloc, claim)?;
-    Ok(sought)
+    match SoughtLogin::new(alloc, claim) {
+        Ok(sought) => Ok(sought),
+        Err(_) => Err(AuditError::Memory),
+    }
 }
 
 /// The first line that admits the login. Lines after it change nothing.

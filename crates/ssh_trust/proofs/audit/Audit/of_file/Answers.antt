@@ -37,22 +37,6 @@ returns-in_err-feed-clause-answer g c =
     (fed-gives c.args.file.now (g.T.Sought.decision c.args.file.now claim c.args.vouched.now) _ (c.in_err-feed.ensures.too_long claim [] stands)
     (c.in_err-feed.ensures.else_memory claim [] stands)))
 
-pub returns-in_err-decision-clause-refused : goal.returns-in_err-decision-clause-refused
-returns-in_err-decision-clause-refused g c = made-refused (g.T.Sought.claim c.args.query.now) c.in_ok-audit.audit _ c.in_ok-audit.ensures.refused
-
-pub returns-in_err-decision-clause-means : goal.returns-in_err-decision-clause-means
-returns-in_err-decision-clause-means g c =
-    let p = err_from_is_err_and c.from_residual-in_err-decision.result c.from_residual-in_err-decision.ensures.1 in
-    of-claim (g.T.Sought.claim c.args.query.now) _ (λ claim is. rw p.1 tt)
-
-pub returns-in_err-decision-clause-answer : goal.returns-in_err-decision-clause-answer
-returns-in_err-decision-clause-answer g c =
-    let p = err_from_is_err_and c.from_residual-in_err-decision.result c.from_residual-in_err-decision.ensures.1 in
-    of-claim (g.T.Sought.claim c.args.query.now) _
-    (λ claim is.
-    let stands = rw is at c.in_ok-audit.ensures.made in
-    rw (p.1, p.2) (c.in_err-decision.ensures.answer claim c.args.file.now (c.in_ok-feed.ensures.taken claim [] stands)))
-
 pub returns-clause-refused : goal.returns-clause-refused
 returns-clause-refused g c = made-refused (g.T.Sought.claim c.args.query.now) c.in_ok-audit.audit _ c.in_ok-audit.ensures.refused
 
@@ -61,11 +45,11 @@ returns-clause-means g c =
     of-claim (g.T.Sought.claim c.args.query.now) _
     (λ claim is.
     let stands = rw is at c.in_ok-audit.ensures.made in
-    c.in_ok-decision.ensures.means claim c.args.file.now (c.in_ok-feed.ensures.taken claim [] stands))
+    c.finish.ensures.means claim c.args.file.now (c.in_ok-feed.ensures.taken claim [] stands))
 
 pub returns-clause-answer : goal.returns-clause-answer
 returns-clause-answer g c =
     of-claim (g.T.Sought.claim c.args.query.now) _
     (λ claim is.
     let stands = rw is at c.in_ok-audit.ensures.made in
-    c.in_ok-decision.ensures.answer claim c.args.file.now (c.in_ok-feed.ensures.taken claim [] stands))
+    c.finish.ensures.answer claim c.args.file.now (c.in_ok-feed.ensures.taken claim [] stands))

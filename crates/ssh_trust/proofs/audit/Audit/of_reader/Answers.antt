@@ -1,7 +1,7 @@
 use Rattle.std.proofs.Common.{◌∙◌, [], refl, sym}
 use Rattle.std.proofs.lemmas.Result.{err_from_is_err_and}
 use Rattle.ssh_trust.proofs.AnswerLemmas.{err-inj, made-refused, of-claim, same-refused}
-use Rattle.ssh_trust.proofs.ReadLemmas.{answers-not, answers-stopped, answers-whole, made-claims, on-claim}
+use Rattle.ssh_trust.proofs.ReadLemmas.{answers-not, answers-stopped, answers-whole, made-claims, means-whole, on-claim}
 use Rattle.ssh_trust.proofs.audit.Audit.of_reader.Goals as goal
 
 pub returns-in_err-audit-clause-refused : goal.returns-in_err-audit-clause-refused
@@ -39,35 +39,13 @@ returns-in_err-feed_from-clause-answer g c =
     rw (p.1, p.2)
     (answers-stopped _ _ _ (λ file. g.T.Sought.decision file claim c.args.vouched.now) _ (c.in_err-feed_from.ensures.fed claim [] stands)))
 
-pub returns-in_err-decision-clause-refused : goal.returns-in_err-decision-clause-refused
-returns-in_err-decision-clause-refused g c = made-refused (g.T.Sought.claim c.args.query.now) c.in_ok-audit.audit _ c.in_ok-audit.ensures.refused
-
-pub returns-in_err-decision-clause-unread : goal.returns-in_err-decision-clause-unread
-returns-in_err-decision-clause-unread g c = made-claims (g.T.Sought.claim c.args.query.now) c.in_ok-audit.audit _ c.in_ok-audit.ensures.refused
-
-pub returns-in_err-decision-clause-read : goal.returns-in_err-decision-clause-read
-returns-in_err-decision-clause-read g c failed =
-    let p = err_from_is_err_and c.from_residual-in_err-decision.result c.from_residual-in_err-decision.ensures.1 in
-    let read = sym p.2 ∙ err-inj _ _ (sym p.1 ∙ failed) in
+pub returns-clause-read : goal.returns-clause-read
+returns-clause-read g c failed =
     absurd (on-claim (g.T.Sought.claim c.args.query.now) c.in_ok-audit.audit c.in_ok-audit.ensures.refused
     (λ claim is.
     let stands = rw is at c.in_ok-audit.ensures.made in
     let fed = c.in_ok-feed_from.ensures.fed claim [] stands in
-    answers-not fed.given (g.T.Sought.decision fed.given claim c.args.vouched.now) (rw read at (c.in_err-decision.ensures.answer claim fed.given fed.stops.0))))
-
-pub returns-in_err-decision-clause-means : goal.returns-in_err-decision-clause-means
-returns-in_err-decision-clause-means g c =
-    let p = err_from_is_err_and c.from_residual-in_err-decision.result c.from_residual-in_err-decision.ensures.1 in
-    of-claim (g.T.Sought.claim c.args.query.now) _ (λ claim is. rw p.1 tt)
-
-pub returns-in_err-decision-clause-answer : goal.returns-in_err-decision-clause-answer
-returns-in_err-decision-clause-answer g c =
-    let p = err_from_is_err_and c.from_residual-in_err-decision.result c.from_residual-in_err-decision.ensures.1 in
-    of-claim (g.T.Sought.claim c.args.query.now) _
-    (λ claim is.
-    let stands = rw is at c.in_ok-audit.ensures.made in
-    rw (p.1, p.2)
-    (answers-whole _ _ _ _ _ (c.in_ok-feed_from.ensures.fed claim [] stands) (λ file k. c.in_err-decision.ensures.answer claim file k)))
+    answers-not fed.given (g.T.Sought.decision fed.given claim c.args.vouched.now) (rw failed at (c.finish.ensures.answer claim fed.given fed.stops.0))))
 
 pub returns-clause-refused : goal.returns-clause-refused
 returns-clause-refused g c = made-refused (g.T.Sought.claim c.args.query.now) c.in_ok-audit.audit _ c.in_ok-audit.ensures.refused
@@ -80,17 +58,12 @@ returns-clause-means g c =
     of-claim (g.T.Sought.claim c.args.query.now) _
     (λ claim is.
     let stands = rw is at c.in_ok-audit.ensures.made in
-    let fed = c.in_ok-feed_from.ensures.fed claim [] stands in
-    record {
-      given = fed.given;
-      consumed = fed.consumed;
-      to_end = fed.stops.1;
-      holds = c.in_ok-decision.ensures.means claim fed.given fed.stops.0;
-    })
+    means-whole _ _ _ (λ file d. g.T.Sought.means file claim c.args.vouched.now d) c.finish.result (c.in_ok-feed_from.ensures.fed claim [] stands)
+    (λ file k. c.finish.ensures.means claim file k))
 
 pub returns-clause-answer : goal.returns-clause-answer
 returns-clause-answer g c =
     of-claim (g.T.Sought.claim c.args.query.now) _
     (λ claim is.
     let stands = rw is at c.in_ok-audit.ensures.made in
-    answers-whole _ _ _ _ _ (c.in_ok-feed_from.ensures.fed claim [] stands) (λ file k. c.in_ok-decision.ensures.answer claim file k))
+    answers-whole _ _ _ _ _ (c.in_ok-feed_from.ensures.fed claim [] stands) (λ file k. c.finish.ensures.answer claim file k))
