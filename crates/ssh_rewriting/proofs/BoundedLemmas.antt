@@ -1,5 +1,5 @@
 -- Lines that are written as long as a file is within its limit: all of them, or a file past the limit.
-use Rattle.std.proofs.Common.{◌≡◌, ℕ, ◌<◌, ◌≤◌, inl, inr, List, [], ◌∷◌, ◌++◌, length, length-append, refl, sym, ap, subst, ◌∙◌, arith, append_assoc, append-nil}
+use Rattle.std.proofs.Common.{◌≡◌, ℕ, ◌<◌, ◌≤◌, false, nat_lt, inl, inr, List, [], ◌∷◌, ◌++◌, length, length-append, refl, sym, ap, subst, ◌∙◌, arith, append_assoc, append-nil}
 use Rattle.std.proofs.lemmas.Bool.{cases_lt, le-ltb, lt-ltb}
 use Rattle.ssh_text.specs.Text.{file_limit}
 use Rattle.ssh_text.specs.Scan.{with_newlines}
@@ -10,6 +10,13 @@ full-line file line h = rw (lt-ltb file_limit (length file) h) refl
 
 open-line : (file line : List ℕ) → length file ≤ file_limit → bounded_line file line ≡ file ++ line ++ 10 ∷ []
 open-line file line h = rw (le-ltb file_limit (length file) h) refl
+
+-- a line and its LF, written after a look at the file
+pub line_written : (file seen line put new : List ℕ) → false ≡ nat_lt file_limit (length seen) → seen ≡ file
+    → put ≡ file ++ line → new ≡ put ++ 10 ∷ [] → new ≡ bounded_line file line
+line_written file seen line put new room same one end =
+    let short : nat_lt file_limit (length file) ≡ false = ap (λ f. nat_lt file_limit (length f)) (sym same) ∙ sym room in
+    rw short (end ∙ ap (λ t. t ++ 10 ∷ []) one)
 
 full-lines : (file : List ℕ) (lines : List (List ℕ)) → file_limit < length file → bounded_lines file lines ≡ file
 full-lines file [] h = refl

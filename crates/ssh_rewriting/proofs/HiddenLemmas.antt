@@ -1,5 +1,5 @@
 -- The lines that hide the names of an entry.
-use Rattle.std.proofs.Common.{◌≡◌, ℕ, ◌+◌, true, false, Bool, nat_le, List, [], ◌∷◌, ◌++◌, length, map, drop, replicate, refl, sym, ap, subst, ◌∙◌, arith, length-append}
+use Rattle.std.proofs.Common.{◌≡◌, ℕ, ◌+◌, ◌≤◌, true, false, Bool, nat_le, List, [], ◌∷◌, ◌++◌, length, map, drop, replicate, refl, sym, ap, subst, ◌∙◌, arith, length-append}
 use Rattle.std.specs.Prelude.{if◌then◌else◌, Some, None}
 use Rattle.std.proofs.lemmas.Bool.{and_parts}
 use Rattle.std.proofs.lemmas.List.{length-map, length-replicate}
@@ -13,7 +13,7 @@ use Rattle.ssh_keys.specs.Names.{key_name_of}
 use Rattle.ssh_keys.specs.PublicKey.{kind_of, key_blob}
 use Rattle.ssh_patterns.specs.Lists.{pieces}
 use Rattle.ssh_names.specs.Names.{base64}
-use Rattle.ssh_names.specs.Names.{Names, Patterns, Hashed, names_text}
+use Rattle.ssh_names.specs.Names.{Names, Patterns, Hashed, list_of, names_text}
 use Rattle.ssh_text.specs.Text.{line_limit}
 use Rattle.ssh_lines.specs.KnownEntry.{KnownEntry}
 use Rattle.ssh_lines.specs.declared.known.KnownLine.{KnownLine}
@@ -59,6 +59,18 @@ hidden-is (known.Revoked bytes) entry h = cc h
 hidden-is known.RevokedUnreadable entry h = cc h
 hidden-is (known.Unreadable cause) entry h = cc h
 
+-- names without a list are hidden already
+pub hidden-already : (names : Names) → None ≡ list_of names → false ≡ are_plain names
+hidden-already (Patterns list) h = cc h
+hidden-already (Hashed salt hash) h = refl
+
+-- plain names are hidden where the line may have as many bytes
+pub plain-hidden : (entry : KnownEntry) (names : Names) (fits : Bool) → true ≡ are_plain names → names ≡ entry.names
+    → fits ≡ nat_le (hashed_length entry) line_limit → fits ≡ is_hidden entry
+plain-hidden entry names fits plain same fitting =
+    let p : are_plain entry.names ≡ true = ap are_plain (sym same) ∙ sym plain in
+    rw p fitting
+
 plain-pieces : (names : Names) → are_plain names ≡ true → lower_names names ≡ map str_to_ascii_lowercase (pieces (names_text names))
 plain-pieces (Patterns list) h = refl
 plain-pieces (Hashed salt hash) h = cc h
@@ -84,19 +96,33 @@ NamesLeft entry all parts given salts old file =
     × (drop (length parts) salts ≡ drop (length all) given)
     × (length salts + length all ≡ length given + length parts)
 
--- one name is hidden by the next salt
-pub names-step : (entry : KnownEntry) (all parts left given salts after : List (List ℕ)) (part lower salt old file new : List ℕ)
-    → parts ≡ part ∷ left → salts ≡ salt ∷ after → lower ≡ str_to_ascii_lowercase part → new ≡ bounded_line file (hashed_line entry salt lower)
-    → NamesLeft entry all parts given salts old file → NamesLeft entry all left given after old new
-names-step entry all parts left given salts after part lower salt old file new some next is put (lines, drops, count) =
-    let now : NamesLeft entry all (part ∷ left) given (salt ∷ after) old file =
-    subst (λ p. NamesLeft entry all p given (salt ∷ after) old file) some (subst (λ s. NamesLeft entry all parts given s old file) next (lines, drops, count)) in
-    let written : new ≡ bounded_line file (hashed_line entry salt (str_to_ascii_lowercase part)) = put ∙ ap (λ n. bounded_line file (hashed_line entry salt n)) is in
-    (ap (λ f. bounded_lines f (lines_of_names entry after left)) written ∙ now.0, now.1, omega (arith, now.2))
-
 no-names : (entry : KnownEntry) (salts : List (List ℕ)) (file : List ℕ) → bounded_lines file (lines_of_names entry salts []) ≡ file
 no-names entry [] file = refl
 no-names entry (salt ∷ salts) file = refl
+
+-- the line that hides one name by the next salt
+pub name-line : (entry : KnownEntry) (salts after : List (List ℕ)) (part lower text salt file new : List ℕ)
+    → salts ≡ salt ∷ after → lower ≡ str_to_ascii_lowercase part → text ≡ lower → new ≡ bounded_line file (hashed_line entry salt text)
+    → new ≡ bounded_lines file (lines_of_names entry salts (part ∷ []))
+name-line entry salts after part lower text salt file new next is same put =
+    put ∙ ap (λ n. bounded_line file (hashed_line entry salt n)) (same ∙ is)
+    ∙ sym (no-names entry after (bounded_line file (hashed_line entry salt (str_to_ascii_lowercase part))))
+    ∙ ap (λ s. bounded_lines file (lines_of_names entry s (part ∷ []))) (sym next)
+
+next-left : (entry : KnownEntry) (all left given salts : List (List ℕ)) (part old file : List ℕ) → 1 ≤ length salts
+    → NamesLeft entry all (part ∷ left) given salts old file
+    → NamesLeft entry all left given (drop 1 salts) old (bounded_lines file (lines_of_names entry salts (part ∷ [])))
+next-left entry all left given [] part old file enough h = absurd (omega (arith, enough))
+next-left entry all left given (salt ∷ after) part old file enough (lines, drops, count) =
+    let one = no-names entry after (bounded_line file (hashed_line entry salt (str_to_ascii_lowercase part))) in
+    (ap (λ f. bounded_lines f (lines_of_names entry after left)) one ∙ lines, drops, omega (arith, count))
+
+-- one name is hidden by the next salt
+pub names-step : (entry : KnownEntry) (all parts left given salts after : List (List ℕ)) (part old file new : List ℕ)
+    → parts ≡ part ∷ left → 1 ≤ length salts → after ≡ drop 1 salts → new ≡ bounded_lines file (lines_of_names entry salts (part ∷ []))
+    → NamesLeft entry all parts given salts old file → NamesLeft entry all left given after old new
+names-step entry all parts left given salts after part old file new some enough next put h =
+    rw (next, put) (next-left entry all left given salts part old file enough (subst (λ p. NamesLeft entry all p given salts old file) some h))
 
 -- no name is left
 pub names-end : (entry : KnownEntry) (all parts given salts : List (List ℕ)) (old file : List ℕ) → parts ≡ []

@@ -14,7 +14,3 @@ pub keeps_on : (old middle more next new : List ℕ) → Keeps old middle → ne
 keeps_on old middle more next new before e after =
     let cut = sym (take-append-drop (length old) middle) ∙ ap (λ (t : List ℕ). t ++ drop (length old) middle) before in
     keeps_more old (drop (length old) middle) middle new cut (keeps_more middle more next new e after)
-
--- what is kept after three texts more
-pub keeps_three : (old a b c one two three new : List ℕ) → one ≡ old ++ a → two ≡ one ++ b → three ≡ two ++ c → Keeps three new → Keeps old new
-keeps_three old a b c one two three new e f g keeps = keeps_more old a one new e (keeps_more one b two new f (keeps_more two c three new g keeps))

@@ -6,6 +6,8 @@ ghost use Rattle.std.specs.Prelude.{
   ◌<◌,
   ◌≤◌,
   nat_le,
+  [],
+  ◌∷◌,
   length,
   map,
   drop,
@@ -146,6 +148,31 @@ fn put_hashed(
     Ok(())
 }
 
+/// Writes the line that hides a name of an entry with the next salt, at the end of a file as long as
+/// it is within the limit, and gives the salts that are left.
+fn put_name<'a>(
+    entry: &KnownEntryView<'_>,
+    name: &[u8],
+    salts: &'a [[u8; 20]],
+    lower: &mut Vec<u8>,
+    new: &mut Vec<u8>,
+) -> Result<&'a [[u8; 20]], HashError>
+    ensures line { OnOk result (new.new.items ≡ bounded_lines new.old.items
+        (map (λ x. hashed_line entry.now x.0 x.1) (zip salts.entry.now
+        (str_to_ascii_lowercase name.now ∷ [])))) }
+    ensures left { IfOk result (λ left. left.now ≡ drop 1 salts.entry.now) }
+    ensures enough { IfOk result (λ left. 1 ≤ length salts.entry.now) }
+    ensures too_few { result ≡ Err TooFewSalts → length salts.entry.now < 1 }
+    ensures no_length { IfErr result (λ e. e ≢ TooLong) }
+{
+    let Some((salt, after)) = salts.split_first() else {
+        return Err(HashError::TooFewSalts);
+    };
+    lower_into(name, lower)?;
+    put_hashed(entry, salt, lower, new)?;
+    Ok(after)
+}
+
 /// Writes the lines that hide the names of an entry, each with the next salt, at the end of a file
 /// as long as it is within the limit, and gives the salts that are left.
 pub(crate) fn put_names<'a>(
@@ -169,12 +196,7 @@ pub(crate) fn put_names<'a>(
     let mut rest = Some(entry.names().text());
     while let Some(list) = rest {
         let (name, left) = first_piece(list);
-        let Some((salt, after)) = salts.split_first() else {
-            return Err(HashError::TooFewSalts);
-        };
-        lower_into(name, lower)?;
-        put_hashed(entry, salt, lower, new)?;
-        salts = after;
+        salts = put_name(entry, name, salts, lower, new)?;
         rest = left;
     }
     Ok(salts)

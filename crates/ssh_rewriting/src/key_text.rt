@@ -1,6 +1,6 @@
 //! The key and the comment of a canonical line.
 
-ghost use Rattle.std.specs.Prelude.{◌≡◌, ◌≤◌, ◌++◌, ◌∷◌, length, OnOk, OnErr};
+ghost use Rattle.std.specs.Prelude.{◌≡◌, ◌≤◌, [], ◌∷◌, ◌++◌, length, OnOk, OnErr};
 ghost use Rattle.ssh_keys.specs.Names.{key_name_of};
 ghost use Rattle.ssh_names.specs.Names.{base64};
 ghost use Rattle.ssh_rewriting.specs.Canonical.{comment_part};
@@ -40,6 +40,16 @@ fn put_comment(comment: &[u8], out: &mut Vec<u8>) -> Result<(), AllocError>
     out.extend_from_slice(comment)
 }
 
+/// Writes a key's type and a space at the end. After an `Err` a part of it may stand there.
+fn put_kind(kind: KeyKind, out: &mut Vec<u8>) -> Result<(), AllocError>
+    ensures ok { OnOk result (out.new.items ≡ out.old.items ++ key_name_of kind ++ 32 ∷ []) }
+    ensures err { OnErr result (Keeps out.old.items out.new.items) }
+{
+    out.extend_from_slice(kind.name())?;
+    out.push(b' ')?;
+    Ok(())
+}
+
 /// Writes type, base64 and comment at the end, parted by one space. After an `Err` a part of them
 /// may stand there.
 pub(crate) fn put_key(
@@ -52,9 +62,7 @@ pub(crate) fn put_key(
         ++ (key_name_of kind ++ 32 ∷ base64 blob.now) ++ comment_part comment.now) }
     ensures err { OnErr result (Keeps out.old.items out.new.items) }
 {
-    out.extend_from_slice(kind.name())?;
-    out.push(b' ')?;
+    put_kind(kind, out)?;
     put_base64(blob, out)?;
-    put_comment(comment, out)?;
-    Ok(())
+    put_comment(comment, out)
 }

@@ -1,6 +1,6 @@
 //! The canonical line of an entry of a known_hosts file.
 
-ghost use Rattle.std.specs.Prelude.{◌≡◌, ◌++◌, IfOk, OnOk, OnErr};
+ghost use Rattle.std.specs.Prelude.{◌≡◌, [], ◌∷◌, ◌++◌, IfOk, OnOk, OnErr};
 ghost use Rattle.ssh_rewriting.specs.Canonical.{canonical_known, line_with_names, marker_part};
 ghost use Rattle.ssh_wire.specs.Fronts.{Keeps};
 
@@ -31,6 +31,19 @@ pub fn canonical_known_line(alloc: Global, entry: &KnownEntry) -> Result<Vec<u8>
     Ok(line)
 }
 
+/// Writes the fields before an entry's key at the end: a marker, if one stands there, and names.
+/// After an `Err` a part of them may stand there.
+fn put_fields(marker: Marker, names: &[u8], out: &mut Vec<u8>) -> Result<(), AllocError>
+    ensures ok { OnOk result (
+        out.new.items ≡ out.old.items ++ marker_part marker ++ names.now ++ 32 ∷ []) }
+    ensures err { OnErr result (Keeps out.old.items out.new.items) }
+{
+    put_marker(marker, out)?;
+    out.extend_from_slice(names)?;
+    out.push(b' ')?;
+    Ok(())
+}
+
 /// Writes an entry's line at the end, with this text as its names. After an `Err` a part of it may
 /// stand there.
 fn put_line_with_names(
@@ -42,11 +55,8 @@ fn put_line_with_names(
         out.new.items ≡ out.old.items ++ line_with_names entry.now names.now) }
     ensures err { OnErr result (Keeps out.old.items out.new.items) }
 {
-    put_marker(entry.marker(), out)?;
-    out.extend_from_slice(names)?;
-    out.push(b' ')?;
-    put_key(entry.key().kind(), entry.blob(), entry.comment(), out)?;
-    Ok(())
+    put_fields(entry.marker(), names, out)?;
+    put_key(entry.key().kind(), entry.blob(), entry.comment(), out)
 }
 
 /// Writes an entry's line at the end, with this text as its names. An `Err` is want of memory, and

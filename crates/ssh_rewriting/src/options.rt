@@ -2,12 +2,13 @@
 
 ghost use Rattle.std.specs.Prelude.{◌≡◌, [], ◌∷◌, ◌++◌, OnOk, OnErr};
 ghost use Rattle.std.specs.List.{flat_map};
+ghost use Rattle.ssh_options.specs.AuthOption.{Setting};
 ghost use Rattle.ssh_options.specs.OptionText.{escaped};
 ghost use Rattle.ssh_options.specs.OptionsInLine.{option_in_line};
 ghost use Rattle.ssh_rewriting.specs.Canonical.{after_comma, option_text, options_part};
 ghost use Rattle.ssh_wire.specs.Fronts.{Keeps};
 
-use ssh_options::{OptionView, OptionsView, ValueBytes};
+use ssh_options::{OptionView, OptionsView, ValueBytes, ValueName};
 use std::alloc::AllocError;
 
 /// Writes a byte of a value at the end, with a backslash before a quote.
@@ -35,6 +36,20 @@ fn put_escaped(value: ValueBytes<'_>, out: &mut Vec<u8>) -> Result<(), AllocErro
     Ok(())
 }
 
+/// Writes the name of a setting and its value between quotes at the end. After an `Err` a part of
+/// them may stand there.
+fn put_setting(name: ValueName, value: ValueBytes<'_>, out: &mut Vec<u8>) -> Result<(), AllocError>
+    ensures ok { OnOk result (
+        out.new.items ≡ out.old.items ++ option_text (Setting name value.entry)) }
+    ensures err { OnErr result (Keeps out.old.items out.new.items) }
+{
+    out.extend_from_slice(name.name())?;
+    out.extend_from_slice(b"=\"")?;
+    put_escaped(value, out)?;
+    out.push(b'"')?;
+    Ok(())
+}
+
 /// Writes an option at the end. After an `Err` a part of it may stand there.
 fn put_option(option: &OptionView<'_>, out: &mut Vec<u8>) -> Result<(), AllocError>
     ensures ok { OnOk result (
@@ -43,13 +58,7 @@ fn put_option(option: &OptionView<'_>, out: &mut Vec<u8>) -> Result<(), AllocErr
 {
     match option {
         OptionView::Switch(flag) => out.extend_from_slice(flag.name()),
-        OptionView::Setting(name, value) => {
-            out.extend_from_slice(name.name())?;
-            out.extend_from_slice(b"=\"")?;
-            put_escaped(value.bytes(), out)?;
-            out.push(b'"')?;
-            Ok(())
-        }
+        OptionView::Setting(name, value) => put_setting(*name, value.bytes(), out),
     }
 }
 

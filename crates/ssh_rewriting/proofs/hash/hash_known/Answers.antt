@@ -1,4 +1,4 @@
-use Rattle.std.proofs.Common.{rules, ◌≡◌, ◌≤◌, length, sym, ap, subst, ◌∙◌, arith}
+use Rattle.std.proofs.Common.{rules, ◌≡◌, ◌≤◌, length, refl, sym, ap, subst, ◌∙◌, arith}
 use Rattle.ssh_names.proofs.ByteLemmas.{AreBytes-from}
 use Rattle.ssh_text.specs.Text.{file_limit}
 use Rattle.ssh_rewriting.specs.Facts.{known_facts}
@@ -14,6 +14,13 @@ is-whole : (c : goal.Else-is_past_limit-2) → c.in_ok-new.new.items ≡ hashed_
 is-whole c =
     let short : length c.in_ok-new.new.items ≤ file_limit = search rules in
     hashed_whole c.args.file.now c.in_ok-new.new.items c.args.salts.now c.in_ok-new.ensures.lines short
+
+-- a file past the limit
+pub returns-then-is_past_limit-clause-too_few : goal.returns-then-is_past_limit-clause-too_few
+returns-then-is_past_limit-clause-too_few c = λ e. cc e
+
+pub returns-then-is_past_limit-clause-overlong : goal.returns-then-is_past_limit-clause-overlong
+returns-then-is_past_limit-clause-overlong c = λ long. refl
 
 pub returns-clause-facts : goal.returns-clause-facts
 returns-clause-facts c =
