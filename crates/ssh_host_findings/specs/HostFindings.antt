@@ -37,8 +37,8 @@ name_findings asking f =
     ++ told_if host_code_of asking (is_in_clear f) finding.NamesInClear
 
 -- F11 and F12: of other lines, where they are named
-abbrev pub line_findings : Asking → Option ℕ → Option ℕ → List HostFinding
-line_findings asking other revoked =
+abbrev pub other_line_findings : Asking → Option ℕ → Option ℕ → List HostFinding
+other_line_findings asking other revoked =
     told_some host_code_of asking (option_map finding.OtherKey other)
     ++ told_some host_code_of asking (option_map finding.TrustedAndRevoked revoked)
 
@@ -46,7 +46,7 @@ line_findings asking other revoked =
 unfoldable pub findings_by : Asking → HostFacts → Option ℕ → Option ℕ → Option ℕ → List HostFinding
 findings_by asking f other revoked same =
     host_reading_findings asking f
-    ++ line_findings asking other revoked
+    ++ other_line_findings asking other revoked
     ++ name_findings asking f
     ++ told_some host_code_of asking (option_map finding.SameHostKey same)
 

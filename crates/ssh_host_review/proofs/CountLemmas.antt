@@ -14,7 +14,7 @@ use Rattle.ssh_host_findings.specs.declared.finding.HostFinding.TheVariants as f
 use Rattle.ssh_host_findings.specs.Earlier.{other_line, revoking_line, same_line, trusting_line}
 use Rattle.ssh_host_findings.specs.Findings.{host_code_of}
 use Rattle.ssh_host_findings.specs.HostFacts.{host_facts_of}
-use Rattle.ssh_host_findings.specs.HostFindings.{findings_by, host_entry_findings, host_reading_findings, line_findings, name_findings, revocation_findings}
+use Rattle.ssh_host_findings.specs.HostFindings.{findings_by, host_entry_findings, host_reading_findings, other_line_findings, name_findings, revocation_findings}
 use Rattle.ssh_host_findings.specs.HostLines.{HostLine}
 use Rattle.ssh_review.specs.declared.counts.Counts.{Counts}
 use Rattle.ssh_review.specs.Counting.{plus}
@@ -35,7 +35,7 @@ both a b m n h k = omega (arith, h, k, length-append a b)
 readings-short : (asking : Asking) (f : HostFacts) → length (host_reading_findings asking f) ≤ 2
 readings-short asking f = both _ _ 1 1 (any-short asking _) (if-short asking _ _)
 
-lines-short : (asking : Asking) (other revoked : Option ℕ) → length (line_findings asking other revoked) ≤ 2
+lines-short : (asking : Asking) (other revoked : Option ℕ) → length (other_line_findings asking other revoked) ≤ 2
 lines-short asking other revoked =
     both _ _ 1 1 (any-short asking (option_map finding.OtherKey other)) (any-short asking (option_map finding.TrustedAndRevoked revoked))
 
