@@ -310,9 +310,6 @@ least_is_body v is =
 
 -- ---- a body as it is written
 
-pub section_short : (v : PrivateBody) (text : List ℕ) → IsPrivateBody v → text ≡ section_front v → length text + least (length text) ≤ longest
-section_short v text is e = subst (λ (t : List ℕ). length t + least (length t) ≤ longest) (sym e) (omega (arith, is.length, body_length v (least_padding v)))
-
 shape : (old m a b c d e f g h : List ℕ) → (((old ++ m) ++ ((a ++ (b ++ (c ++ d))) ++ (e ++ f))) ++ g) ++ h ≡ old ++ (m ++ (a ++ (b ++ (c ++ (d ++ (e ++ ((f ++ (g ++ h)) ++ [])))))))
 shape old m a b c d e f g h =
     let q = a ++ (b ++ (c ++ d)) in

@@ -1,10 +1,7 @@
 -- What stands at the end of a vector, and how long it is.
-use Rattle.std.proofs.Common.{◌≡◌, ℕ, ◌≤◌, List, [], ◌++◌, length, take, refl, sym, ap, ◌∙◌, arith}
-use Rattle.std.proofs.lemmas.List.{append-nil, length-append, take_at, take-take}
+use Rattle.std.proofs.Common.{◌≡◌, ℕ, ◌≤◌, List, ◌++◌, length, take, refl, sym, ap, ◌∙◌, arith}
+use Rattle.std.proofs.lemmas.List.{length-append, take_at, take-take}
 use Rattle.ssh_wire.specs.Fronts.{Keeps}
-
-pub keeps_same : (old new : List ℕ) → new ≡ old → Keeps old new
-keeps_same old new e = ap (λ (t : List ℕ). take (length old) t) (e ∙ sym (append-nil old)) ∙ take_at old [] (length old) refl
 
 -- what is kept after more is kept
 pub keeps_more : (old more middle new : List ℕ) → middle ≡ old ++ more → Keeps middle new → Keeps old new

@@ -1,5 +1,5 @@
 //! The printed lines of decisions, of answers to file signatures and of faults, each answer with
-//! its status.
+//! its status; and texts as strings of JSON (RFC 8259, section 7).
 #![tactic(auto)]
 
 mod answer;
