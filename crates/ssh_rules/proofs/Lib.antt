@@ -4,6 +4,7 @@ pub mod ForceLemmas
 pub mod SizeLemmas
 pub mod SourceLemmas
 pub mod CriticalLemmas
+pub mod LineOptionLemmas
 pub mod AdmissionLemmas
 pub mod HostAdmissionLemmas
 pub mod RevocationLemmas

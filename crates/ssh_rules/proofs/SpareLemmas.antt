@@ -7,7 +7,7 @@ use Rattle.ssh_lines.specs.AuthEntry.{AuthEntry}
 use Rattle.ssh_lines.specs.declared.entry.AuthLine.TheVariants.{Entry}
 use Rattle.ssh_offers.specs.LoginClaim.{LoginClaim}
 use Rattle.ssh_offers.specs.Offer.{is_certified, subject}
-use Rattle.ssh_options.specs.declared.option.ValueName.TheVariants.{Principals}
+use Rattle.ssh_options.specs.declared.option.ValueName.TheVariants.{From, Principals}
 use Rattle.ssh_options.specs.Settings.{setting}
 use Rattle.ssh_rules.specs.Admission.{is_authority, line_rows, login_obstacle, offer_obstacle}
 use Rattle.ssh_rules.specs.declared.reason.Obstacle.{Obstacle}
@@ -26,6 +26,22 @@ about_by_rows true false true rows h = cc
 about_by_rows true false false rows h = refl
 about_by_rows false authority certified rows h = cc
 
+off_by_role : (authority certified expiry source principals : Bool) → role_row authority certified ≡ None
+    → (is_in_role authority certified && (expiry || (source || principals))) ≡ false → source ≡ false
+off_by_role true true true source principals none h = cc
+off_by_role true true false true principals none h = cc
+off_by_role true true false false principals none h = refl
+off_by_role true false expiry source principals none h = cc
+off_by_role false true expiry source principals none h = cc
+off_by_role false false true source principals none h = cc
+off_by_role false false false true principals none h = cc
+off_by_role false false false false principals none h = refl
+
+-- where its role is no reason against a line, and no value of it has a quote, its list of sources has none
+pub source_plain : (e : AuthEntry) (certified : Bool) → role_row (is_authority e) certified ≡ None
+    → (is_in_role (is_authority e) certified && has_escaped e) ≡ false → is_escaped (setting From e.options) ≡ false
+source_plain e certified none h = off_by_role (is_authority e) certified _ _ _ none h
+
 -- ---- tests
 
 pub first_off : (about a b : Bool) → about ≡ true → (about && (a || b)) ≡ false → a ≡ false
@@ -38,11 +54,12 @@ rest_off true true b h k = cc
 rest_off true false b h k = k
 rest_off false a b h k = cc
 
--- without the last test it is off too
-pub fewer_off : (about a b : Bool) → (about && (a || b)) ≡ false → (about && a) ≡ false
-fewer_off true true b h = cc
-fewer_off true false b h = refl
-fewer_off false a b h = refl
+-- without the last test it is off too, and without the first where that one is on
+pub fewer_off : (same role a b : Bool) → same ≡ true → ((same && role) && (a || b)) ≡ false → (role && a) ≡ false
+fewer_off true true true b k h = cc
+fewer_off true true false b k h = refl
+fewer_off true false a b k h = refl
+fewer_off false role a b k h = cc
 
 -- ---- what stands against an entry
 
@@ -64,6 +81,14 @@ first_plain p x rest all e h = (or_off (p x) (list_any p rest) (rw e at h)).0
 pub entry_off : (e : AuthEntry) (claim : LoginClaim) → needs_memory claim (Entry e) ≡ false
     → (is_about e claim && (has_escaped e || is_named (login_obstacle e claim))) ≡ false
 entry_off e claim h = rw (verdict_named (login_obstacle e claim) e) at h
+
+-- an entry that holds the key, in its role, has no value with a quote
+pub held_off : (noted e : AuthEntry) (said claim : LoginClaim) → noted ≡ e → said ≡ claim
+    → bytes_eq (key_blob e.key) (key_blob (subject claim.offer)) ≡ true
+    → (is_about e claim && (has_escaped e || is_named (login_obstacle e claim))) ≡ false
+    → (is_in_role (is_authority noted) (is_certified said.offer) && has_escaped noted) ≡ false
+held_off noted e said claim same told holds h =
+    rw (same, told) (fewer_off _ (is_in_role (is_authority e) (is_certified claim.offer)) (has_escaped e) _ holds h)
 
 -- where no row about the line holds, the entry is about the key; so no principals have a quote, and no option is named
 pub passed_line : (e : AuthEntry) (claim : LoginClaim) → first_obstacle (line_rows e claim) ≡ None

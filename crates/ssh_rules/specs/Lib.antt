@@ -3,6 +3,7 @@ pub mod KeySizes
 pub mod Obstacles
 pub mod CertificateForce
 pub mod Admission
+pub mod LineOptions
 pub mod HostAdmission
 pub mod Judged
 pub mod Revocation

@@ -1,6 +1,6 @@
 //! Whether an entry of an authorized_keys file admits a login.
 
-ghost use Rattle.std.specs.Prelude.{◌≡◌, ◌&&◌, ◌||◌, false, IfOk, IsOk, Some};
+ghost use Rattle.std.specs.Prelude.{◌≡◌, [], ◌∷◌, ◌&&◌, ◌||◌, false, IfOk, IsOk, Some};
 ghost use Rattle.std.specs.List.{list_any};
 ghost use Rattle.ssh_options.specs.declared.option.ValueName.TheVariants.{
   ExpiryTime,
@@ -11,24 +11,31 @@ ghost use Rattle.ssh_options.specs.OptionsInPlace.{has_quote};
 ghost use Rattle.ssh_options.specs.Settings.{setting, settings};
 ghost use Rattle.ssh_rules.specs.CertificateForce.{force_rows, user_certificate};
 ghost use Rattle.ssh_rules.specs.CertificateRules.{serves};
-ghost use Rattle.ssh_rules.specs.Obstacles.{first_obstacle};
+ghost use Rattle.ssh_rules.specs.declared.reason.Reason.TheVariants.{
+  Expired,
+  SourceBad,
+  SourceRefused,
+};
+ghost use Rattle.ssh_rules.specs.Obstacles.{first_obstacle, permit_row, role_row, when};
 ghost use Rattle.ssh_rules.specs.Admission.{
   certificate_obstacle,
+  is_authority,
   is_expired,
   is_past,
   is_past_time,
-  line_rows,
   line_source,
   login_obstacle,
   offer_obstacle,
 };
 ghost use Rattle.ssh_rules.specs.Judged.{judged_of};
-ghost use Rattle.ssh_rules.specs.Spare.{has_escaped, is_about, is_escaped, is_named};
+ghost use Rattle.ssh_rules.specs.Spare.{has_escaped, is_about, is_escaped, is_in_role, is_named};
+ghost use Rattle.ssh_offers.specs.Offer.{is_certified};
 ghost use Rattle.ssh_offers.specs.Query.{login_of};
 ghost use Rattle.ssh_offers.specs.ClaimViews.{claim_of};
 
 use crate::certificate::has_listed;
 use crate::judged::JudgedCertificate;
+use crate::noted_entry::NotedEntry;
 use crate::obstacle::{
     period_obstacle, permit_obstacle, principal_obstacle, role_obstacle, size_obstacle,
 };
@@ -38,7 +45,7 @@ use crate::value_text::ValueText;
 use ssh_expiry::expiry;
 use ssh_lines::AuthEntryView;
 use ssh_offers::{LoginClaimView, LoginQuery};
-use ssh_options::{Flag, ValueName, ValueView};
+use ssh_options::ValueView;
 use ssh_patterns::{Permit, source_list};
 use std::alloc::{AllocError, Global};
 
@@ -75,13 +82,16 @@ fn is_past_time(
 /// Whether an expiry time of the line is past.
 fn is_expired(
     alloc: Global,
-    entry: &AuthEntryView<'_>,
+    entry: &NotedEntry<'_>,
     claim: &LoginClaimView<'_>,
 ) -> Result<bool, AllocError>
     ensures value { IfOk result (λ expired.
         expired ≡ is_expired (claim_of claim.now).query (settings ExpiryTime entry.now.options)) }
     ensures spare { list_any has_quote (settings ExpiryTime entry.now.options) ≡ false → IsOk result }
 {
+    if !entry.options().expires {
+        return Ok(false);
+    }
     for value in entry.expiry_texts() {
         if is_past_time(alloc, &value, claim)? {
             return Ok(true);
@@ -93,34 +103,33 @@ fn is_expired(
 /// What the line's list of sources says of the client.
 fn line_source(
     alloc: Global,
-    entry: &AuthEntryView<'_>,
+    entry: &NotedEntry<'_>,
     claim: &LoginClaimView<'_>,
 ) -> Result<Permit, AllocError>
     ensures value { IfOk result (λ permit. permit ≡ line_source entry.now (claim_of claim.now).query) }
     ensures spare { is_escaped (setting From entry.now.options) ≡ false → IsOk result }
 {
-    let Some(value) = entry.settings(ValueName::From).next() else {
+    let Some(value) = &entry.options().source else {
         return Ok(Permit::Yes);
     };
-    let list = ValueText::new(alloc, &value)?;
+    let list = ValueText::new(alloc, value)?;
     Ok(source_list(list.as_slice(), claim.query.host, claim.query.address))
 }
 
-/// Why the line does not admit the login, whatever a certificate says.
-fn line_obstacle(
+/// Why the line's options do not admit the login, whatever a certificate says.
+fn options_obstacle(
     alloc: Global,
-    entry: &AuthEntryView<'_>,
+    entry: &NotedEntry<'_>,
     claim: &LoginClaimView<'_>,
 ) -> Result<Option<Obstacle>, AllocError>
-    ensures value { IfOk result (λ o. o ≡ first_obstacle (line_rows entry.now (claim_of claim.now))) }
-    ensures spare { (is_about entry.now (claim_of claim.now) && has_escaped entry.now) ≡ false
-        → IsOk result }
+    ensures value { IfOk result (λ o. o ≡ first_obstacle (role_row (is_authority entry.now)
+        (is_certified (claim_of claim.now).offer)
+        ∷ when (is_expired (claim_of claim.now).query (settings ExpiryTime entry.now.options)) Expired
+        ∷ permit_row SourceBad SourceRefused (line_source entry.now (claim_of claim.now).query) ∷ [])) }
+    ensures spare { (is_in_role (is_authority entry.now) (is_certified (claim_of claim.now).offer)
+        && has_escaped entry.now) ≡ false → IsOk result }
 {
-    if !entry.has_blob(claim.subject_blob()) {
-        return Ok(Some(Obstacle::OtherKey));
-    }
-    let authority = entry.has_flag(Flag::CertAuthority);
-    if let Some(obstacle) = role_obstacle(authority, claim.offer.is_certified()) {
+    if let Some(obstacle) = role_obstacle(entry.options().authority, claim.offer.is_certified()) {
         return Ok(Some(obstacle));
     }
     if is_expired(alloc, entry, claim)? {
@@ -148,7 +157,7 @@ fn has_listed_principal(
 /// a list the user.
 fn has_served_principal(
     alloc: Global,
-    entry: &AuthEntryView<'_>,
+    entry: &NotedEntry<'_>,
     judged: &JudgedCertificate<'_>,
 ) -> Result<bool, AllocError>
     ensures value { IfOk result (λ served.
@@ -156,16 +165,16 @@ fn has_served_principal(
         judged.now.certificate) }
     ensures spare { is_escaped (setting Principals entry.now.options) ≡ false → IsOk result }
 {
-    match entry.settings(ValueName::Principals).next() {
+    match &entry.options().principals {
         None => Ok(judged.serves_user()),
-        Some(value) => has_listed_principal(alloc, &value, judged),
+        Some(value) => has_listed_principal(alloc, value, judged),
     }
 }
 
 /// Why the certificate is not in force.
 fn force_obstacle(
     alloc: Global,
-    entry: &AuthEntryView<'_>,
+    entry: &NotedEntry<'_>,
     query: &LoginQuery<'_>,
     judged: &JudgedCertificate<'_>,
 ) -> Result<Option<Obstacle>, AllocError>
@@ -184,7 +193,7 @@ fn force_obstacle(
 /// Why the certificate does not serve for a login by this line.
 fn certificate_obstacle(
     alloc: Global,
-    entry: &AuthEntryView<'_>,
+    entry: &NotedEntry<'_>,
     sought: &SoughtLogin<'_>,
     judged: &JudgedCertificate<'_>,
 ) -> Result<Option<Obstacle>, AllocError>
@@ -203,7 +212,7 @@ fn certificate_obstacle(
 
 fn offer_obstacle(
     alloc: Global,
-    entry: &AuthEntryView<'_>,
+    entry: &NotedEntry<'_>,
     sought: &SoughtLogin<'_>,
 ) -> Result<Option<Obstacle>, AllocError>
     ensures value { IfOk result (λ o. o ≡ offer_obstacle entry.now sought.now sought.now.offer) }
@@ -231,10 +240,14 @@ pub(crate) fn login_obstacle(
         → IsOk result }
 {
     let claim = sought.claim();
-    if let Some(obstacle) = line_obstacle(alloc, entry, claim)? {
+    if !entry.has_blob(claim.subject_blob()) {
+        return Ok(Some(Obstacle::OtherKey));
+    }
+    let entry = NotedEntry::of(entry);
+    if let Some(obstacle) = options_obstacle(alloc, &entry, claim)? {
         return Ok(Some(obstacle));
     }
-    if let Some(obstacle) = offer_obstacle(alloc, entry, sought)? {
+    if let Some(obstacle) = offer_obstacle(alloc, &entry, sought)? {
         return Ok(Some(obstacle));
     }
     Ok(size_obstacle(claim.query.rsa_minimum, &claim.offer))

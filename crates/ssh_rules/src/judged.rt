@@ -21,12 +21,12 @@ ghost use Rattle.ssh_rules.specs.Spare.{is_named};
 use crate::certificate::{
     certificate_source, first_unknown, has_repeated, have_their_forms, serves,
 };
+use crate::noted_entry::NotedEntry;
 use crate::obstacle::{permit_obstacle, unknown_obstacle};
 use crate::option_name::{OptionName, kept_name};
 use crate::reason::{Obstacle, Reason};
 use ssh_certs::{CertView, CertificateOption};
-use ssh_lines::AuthEntryView;
-use ssh_options::{ValueName, ValueView};
+use ssh_options::ValueView;
 use ssh_patterns::{Address, Permit};
 use ssh_principals::PrincipalIndex;
 use std::alloc::{AllocError, Global};
@@ -85,8 +85,8 @@ impl<'a> Model for JudgedCertificate<'a> {
 }
 
 /// Both force a command, and these differ.
-fn commands_differ(line: Option<ValueView<'_>>, own: Option<&[u8]>) -> bool
-    ensures { result ≡ commands_differ line.entry (option_copied own.entry) }
+fn commands_differ(line: Option<&ValueView<'_>>, own: Option<&[u8]>) -> bool
+    ensures { result ≡ commands_differ (option_copied line.entry) (option_copied own.entry) }
 {
     match (line, own) {
         (Some(line), Some(own)) => !line.is_text(own),
@@ -164,7 +164,7 @@ impl<'a> JudgedCertificate<'a> {
 
     /// Why what the options insist on that a login knows is not met: a list of sources or a forced
     /// command.
-    fn known_obstacle(&self, entry: &AuthEntryView<'_>) -> Option<Obstacle>
+    fn known_obstacle(&self, entry: &NotedEntry<'_>) -> Option<Obstacle>
         ensures { result ≡ first_obstacle (permit_row CertSourceBad CertSourceRefused
             (certificate_source self.now.certificate self.now.address)
             ∷ when (commands_differ (setting Command entry.now.options)
@@ -177,7 +177,7 @@ impl<'a> JudgedCertificate<'a> {
         ) {
             return Some(obstacle);
         }
-        if commands_differ(entry.settings(ValueName::Command).next(), self.command) {
+        if commands_differ(entry.options().command.as_ref(), self.command) {
             return Some(Obstacle::Listed(Reason::CommandConflict));
         }
         None
@@ -186,7 +186,7 @@ impl<'a> JudgedCertificate<'a> {
     /// Why what the certificate insists on is not met by a line.
     pub(crate) fn critical_obstacle(
         &self,
-        entry: &AuthEntryView<'_>,
+        entry: &NotedEntry<'_>,
     ) -> Result<Option<Obstacle>, AllocError>
         ensures value { IfOk result (λ o.
             o ≡ first_obstacle (critical_rows entry.now self.now.address self.now.certificate)) }

@@ -17,6 +17,8 @@ mod host_admission;
 mod host_line;
 mod judged;
 mod laws;
+mod line_options;
+mod noted_entry;
 mod obstacle;
 mod option_name;
 mod reason;
