@@ -1,5 +1,5 @@
--- A run that ends with status 0 is a grant.
-use Rattle.std.proofs.Common.{◌≡◌, ◌∙◌, ℕ, List, Option, Some, None, Result, Ok, Err, ap, subst, sym, refl, inl, inr, arith}
+-- A run that ends with status 0 is a grant, and one that ends with status 1 a denial.
+use Rattle.std.proofs.Common.{◌≡◌, ◌<◌, ◌∙◌, ℕ, List, Option, Some, None, Result, Ok, Err, ap, subst, sym, refl, inl, inr, arith}
 use Rattle.std.specs.Prelude.{◌^◌}
 use Rattle.std.specs.Option.{ok_or}
 use Rattle.clap.specs.Words.{Row, Text}
@@ -17,12 +17,12 @@ use Rattle.ssh_words.specs.declared.options.OptionName.{OptionName}
 use Rattle.ssh_words.specs.declared.options.OptionName.TheVariants as option
 use Rattle.ssh_words.specs.declared.subcommand.Subcommand.TheVariants.{Host, Login}
 use Rattle.ssh_words.specs.Asked.{AuditFiles}
-use Rattle.ssh_questions.specs.Audits.{Audits, Deciding, IsAuditFault, IsVouchReadFault, host_by, login_by}
+use Rattle.ssh_questions.specs.Audits.{Audits, Deciding, IsAuditFault, IsVouchReadFault, audit_response, host_by, login_by}
 use Rattle.ssh_words.specs.CommandLine.{Request, request_of}
 use Rattle.ssh_command.specs.Account.{Account}
-use Rattle.ssh_command.specs.GrantedRuns.{AsksFor, GrantsHost, GrantsLogin}
+use Rattle.ssh_command.specs.GrantedRuns.{AsksFor, TellsHost, TellsLogin}
 use Rattle.ssh_command.specs.Printing.{WritesResponse}
-use Rattle.ssh_command.specs.Granting.{HostGranted, TrustsBytes, LoginGranted}
+use Rattle.ssh_command.specs.Granting.{HostDenied, HostGranted, LoginDenied, LoginGranted, TrustsBytes}
 use Rattle.ssh_questions.specs.Hosts.{RespondsToHost, RespondsToHostKey, host_spelled}
 use Rattle.ssh_questions.specs.Logins.{RespondsInZone, RespondsToLogin, login_spelled}
 use Rattle.ssh_questions.specs.Texts.{IsTextReadFault, IsTextsReadFault, OptionTexts, RespondsByTexts, after_text, after_texts, text_at, text_in, texts_at}
@@ -30,7 +30,7 @@ use Rattle.ssh_words.specs.Options.{option_word}
 use Rattle.ssh_words.specs.Texts.{OptionText, TextPlace, TextPlaces, spelled_by, text_places}
 use Rattle.ssh_command.specs.Requests.{Answers, RespondsBy, request_words, source_of}
 use Rattle.ssh_words.specs.Spelling.{RespondsTo, audit_files, given, needed, or_fault, read_or, value, value_or}
-use Rattle.ssh_command.proofs.GrantingLemmas.{host_granted, login_granted}
+use Rattle.ssh_command.proofs.GrantingLemmas.{host_denied, host_granted, login_denied, login_granted}
 
 -- ---- values that are none have the status 2
 
@@ -111,80 +111,86 @@ texts-faulty p s =
 
 -- ---- answers that are faults
 
-vouch-fault : (vouch : Option (List ℕ)) (s : SourceState) (t : Option SourceState) (r : Response) → IsVouchReadFault vouch s t r → r.status ≡ 0 → ⊥
-vouch-fault None s t r fault h = fault
-vouch-fault (Some name) s t r fault h = let two = status-of r _ fault.1 in absurd (omega (arith, two, h))
+vouch-fault : (vouch : Option (List ℕ)) (s : SourceState) (t : Option SourceState) (r : Response) → IsVouchReadFault vouch s t r → r.status < 2 → ⊥
+vouch-fault None s t r fault few = fault
+vouch-fault (Some name) s t r fault few = let two = status-of r _ fault.1 in absurd (omega (arith, two, few))
 
-no-fault : (by : Deciding) (f : AuditFiles) (s : SourceState) (t : Option SourceState) (r : Response) → IsAuditFault by f s t r → r.status ≡ 0 → ⊥
-no-fault by f s t r (inl fault) h = vouch-fault f.vouch s t r fault h
-no-fault by f s t r (inr (vouched, told, fault)) h = let two = status-of r _ fault.2 in absurd (omega (arith, two, h))
+no-fault : (by : Deciding) (f : AuditFiles) (s : SourceState) (t : Option SourceState) (r : Response) → IsAuditFault by f s t r → r.status < 2 → ⊥
+no-fault by f s t r (inl fault) few = vouch-fault f.vouch s t r fault few
+no-fault by f s t r (inr (vouched, told, fault)) few = let two = status-of r _ fault.2 in absurd (omega (arith, two, few))
 
-text-fault : (p : TextPlace) (s : SourceState) (t : Option SourceState) (r : Response) → IsTextReadFault p s t r → r.status ≡ 0 → ⊥
-text-fault (TextPlace.in_word x) s t r fault h = fault
-text-fault (TextPlace.in_file f) s t r fault h = let two = status-of r _ fault.1 in absurd (omega (arith, two, h))
+text-fault : (p : TextPlace) (s : SourceState) (t : Option SourceState) (r : Response) → IsTextReadFault p s t r → r.status < 2 → ⊥
+text-fault (TextPlace.in_word x) s t r fault few = fault
+text-fault (TextPlace.in_file f) s t r fault few = let two = status-of r _ fault.1 in absurd (omega (arith, two, few))
 
-texts-fault : (p : TextPlaces) (s : SourceState) (t : Option SourceState) (r : Response) → IsTextsReadFault p s t r → r.status ≡ 0 → ⊥
-texts-fault p s t r (inl fault) h = text-fault p.offer s t r fault h
-texts-fault p s t r (inr (offer, at, fault)) h = text-fault p.signature (after_text p.offer s) t r fault h
+texts-fault : (p : TextPlaces) (s : SourceState) (t : Option SourceState) (r : Response) → IsTextsReadFault p s t r → r.status < 2 → ⊥
+texts-fault p s t r (inl fault) few = text-fault p.offer s t r fault few
+texts-fault p s t r (inr (offer, at, fault)) few = text-fault p.signature (after_text p.offer s) t r fault few
 
--- where what is answered by texts has the status 0, these are texts that stand there
+-- where what is answered by texts has the status 0 or 1, these are texts that stand there
 record ByTexts (responds : OptionTexts → SourceState → Option SourceState → Response → Type 0) (p : TextPlaces) (s : SourceState) (t : Option SourceState) (r : Response) : Type 0 where
   texts : OptionTexts
   taken : texts_at p s ≡ Ok texts
   answered : responds texts (after_texts p s) t r
 
 texts-over : (responds : OptionTexts → SourceState → Option SourceState → Response → Type 0) (p : TextPlaces) (s : SourceState) (t : Option SourceState) (r : Response) (told : Result OptionTexts Response)
-    → texts_at p s ≡ told → RespondsTo (λ x s. responds x (after_texts p s)) told s t r → r.status ≡ 0 → ByTexts responds p s t r
-texts-over responds p s t r (Err e) at h zero =
+    → texts_at p s ≡ told → RespondsTo (λ x s. responds x (after_texts p s)) told s t r → r.status < 2 → ByTexts responds p s t r
+texts-over responds p s t r (Err e) at h few =
     let two = texts-faulty p s e at in
     let same = status-of r e h.1 in
-    absurd (omega (arith, two, same, zero))
-texts-over responds p s t r (Ok x) at h zero = record { texts = x; taken = at; answered = h }
+    absurd (omega (arith, two, same, few))
+texts-over responds p s t r (Ok x) at h few = record { texts = x; taken = at; answered = h }
 
 by-texts : (responds : OptionTexts → SourceState → Option SourceState → Response → Type 0) (p : TextPlaces) (s : SourceState) (t : Option SourceState) (r : Response)
-    → RespondsByTexts responds p s t r → r.status ≡ 0 → ByTexts responds p s t r
-by-texts responds p s t r (inl fault) zero = absurd (texts-fault p s t r fault zero)
-by-texts responds p s t r (inr h) zero = texts-over responds p s t r (texts_at p s) refl h zero
+    → RespondsByTexts responds p s t r → r.status < 2 → ByTexts responds p s t r
+by-texts responds p s t r (inl fault) few = absurd (texts-fault p s t r fault few)
+by-texts responds p s t r (inr h) few = texts-over responds p s t r (texts_at p s) refl h few
 
 -- the texts stand at these places
 with-places : (responds : TextPlaces → SourceState → Option SourceState → Response → Type 0) (rows : List Row) (p : TextPlaces) (s : SourceState) (t : Option SourceState) (r : Response)
     → text_places rows ≡ Ok p → RespondsTo responds (text_places rows) s t r → responds p s t r
 with-places responds rows p s t r e h = subst (λ (x : Result TextPlaces Response). RespondsTo responds x s t r) e h
 
--- ---- a response with the status 0
+-- ---- a response with the status 0 or 1
 
-login-in : (rows : List Row) (told : Option TimeZone) (p : TextPlaces) (x : OptionTexts) (f : AuditFiles) (s : SourceState) (t : Option SourceState) (r : Response) → TrustsBytes f (after_texts p s)
+-- where the answer over files that are of bytes has this status, it tells this
+abbrev Tells : {Q : Type 0} → (Q → Deciding) → ℕ → (Q → AuditFiles → SourceState → Response → Type 0) → Type 0
+Tells {Q = Q} by n Told = (q : Q) (f : AuditFiles) (s : SourceState) → TrustsBytes f s → (audit_response (by q) f s).status ≡ n → Told q f s (audit_response (by q) f s)
+
+login-in : (n : ℕ) → n < 2 → (Told : LoginAsked → AuditFiles → SourceState → Response → Type 0) → Tells login_by n Told
+    → (rows : List Row) (told : Option TimeZone) (p : TextPlaces) (x : OptionTexts) (f : AuditFiles) (s : SourceState) (t : Option SourceState) (r : Response) → TrustsBytes f (after_texts p s)
     → ReadsZone (zone_text (given option.Zone rows)) told → texts_at p s ≡ Ok x → (q : Result LoginAsked Response) → login_spelled rows told x ≡ q
-    → RespondsTo (λ q. Audits (login_by q) f) q (after_texts p s) t r → r.status ≡ 0 → GrantsLogin rows p f s r
-login-in rows told p x f s t r bytes read at (Err e) spelled h zero =
+    → RespondsTo (λ q. Audits (login_by q) f) q (after_texts p s) t r → r.status ≡ n → TellsLogin Told rows p f s r
+login-in n few Told tells rows told p x f s t r bytes read at (Err e) spelled h is =
     let two = login-faulty rows told x e spelled in
     let same = status-of r e h.1 in
-    absurd (omega (arith, two, same, zero))
-login-in rows told p x f s t r bytes read at (Ok q) spelled (inr fault) zero = absurd (no-fault (login_by q) f (after_texts p s) t r fault zero)
-login-in rows told p x f s t r bytes read at (Ok q) spelled (inl (none, e)) zero = record {
+    absurd (omega (arith, two, same, is, few))
+login-in n few Told tells rows told p x f s t r bytes read at (Ok q) spelled (inr fault) is = absurd (no-fault (login_by q) f (after_texts p s) t r fault (omega (arith, is, few)))
+login-in n few Told tells rows told p x f s t r bytes read at (Ok q) spelled (inl (none, e)) is = record {
   zone = told;
   read = read;
   texts = x;
   taken = at;
   asked = q;
   spelled = spelled;
-  granted = subst (λ (y : Response). LoginGranted q f (after_texts p s) y) (sym e) (login_granted q f (after_texts p s) bytes (sym (status-of r _ e) ∙ zero));
+  answered = subst (λ (y : Response). Told q f (after_texts p s) y) (sym e) (tells q f (after_texts p s) bytes (sym (status-of r _ e) ∙ is));
 }
 
-host-in : (rows : List Row) (p : TextPlaces) (x : OptionTexts) (f : AuditFiles) (s : SourceState) (t : Option SourceState) (r : Response) → TrustsBytes f (after_texts p s)
+host-in : (n : ℕ) → n < 2 → (Told : HostCheck → AuditFiles → SourceState → Response → Type 0) → Tells host_by n Told
+    → (rows : List Row) (p : TextPlaces) (x : OptionTexts) (f : AuditFiles) (s : SourceState) (t : Option SourceState) (r : Response) → TrustsBytes f (after_texts p s)
     → texts_at p s ≡ Ok x → (q : Result HostCheck Response) → host_spelled rows x ≡ q
-    → RespondsTo (λ q. Audits (host_by q) f) q (after_texts p s) t r → r.status ≡ 0 → GrantsHost rows p f s r
-host-in rows p x f s t r bytes at (Err e) spelled h zero =
+    → RespondsTo (λ q. Audits (host_by q) f) q (after_texts p s) t r → r.status ≡ n → TellsHost Told rows p f s r
+host-in n few Told tells rows p x f s t r bytes at (Err e) spelled h is =
     let two = host-faulty rows x e spelled in
     let same = status-of r e h.1 in
-    absurd (omega (arith, two, same, zero))
-host-in rows p x f s t r bytes at (Ok q) spelled (inr fault) zero = absurd (no-fault (host_by q) f (after_texts p s) t r fault zero)
-host-in rows p x f s t r bytes at (Ok q) spelled (inl (none, e)) zero = record {
+    absurd (omega (arith, two, same, is, few))
+host-in n few Told tells rows p x f s t r bytes at (Ok q) spelled (inr fault) is = absurd (no-fault (host_by q) f (after_texts p s) t r fault (omega (arith, is, few)))
+host-in n few Told tells rows p x f s t r bytes at (Ok q) spelled (inl (none, e)) is = record {
   texts = x;
   taken = at;
   asked = q;
   spelled = spelled;
-  granted = subst (λ (y : Response). HostGranted q f (after_texts p s) y) (sym e) (host_granted q f (after_texts p s) bytes (sym (status-of r _ e) ∙ zero));
+  answered = subst (λ (y : Response). Told q f (after_texts p s) y) (sym e) (tells q f (after_texts p s) bytes (sym (status-of r _ e) ∙ is));
 }
 
 -- the files of the audit are these
@@ -194,26 +200,28 @@ with-files responds rows f s t r e h = subst (λ (x : Result AuditFiles Response
 
 -- what is answered to the request that the words spell, where it is no fault of the words themselves
 responds-to : (words : List (List ℕ)) (q : Option Request) (s : SourceState) (t : Option SourceState) (r : Response) → request_of (request_words words s) ≡ q
-    → Answers words s t r → r.status ≡ 0 → RespondsBy q (source_of words s) t r
-responds-to words q s t r e (inl (inl responds)) h =
+    → Answers words s t r → r.status < 2 → RespondsBy q (source_of words s) t r
+responds-to words q s t r e (inl (inl responds)) few =
     let P : Option Request → Type 0 = λ x. RespondsBy x (source_of words s) t r in
     subst P e responds
-responds-to words q s t r e (inl (inr (line, none, usage))) h = let two = status-of r _ usage in absurd (omega (arith, two, h))
-responds-to words q s t r e (inr memory) h = let two = status-of r _ memory in absurd (omega (arith, two, h))
+responds-to words q s t r e (inl (inr (line, none, usage))) few = let two = status-of r _ usage in absurd (omega (arith, two, few))
+responds-to words q s t r e (inr memory) few = let two = status-of r _ memory in absurd (omega (arith, two, few))
 
-login-by : (rows : List Row) (p : TextPlaces) (f : AuditFiles) (s : SourceState) (t : Option SourceState) (r : Response) → text_places rows ≡ Ok p → audit_files rows ≡ Ok f
-    → TrustsBytes f (after_texts p s) → RespondsToLogin rows s t r → r.status ≡ 0 → GrantsLogin rows p f s r
-login-by rows p f s t r places e bytes (zone, read, h) zero =
-    let by = by-texts (RespondsInZone rows zone) p s t r (with-places (RespondsByTexts (RespondsInZone rows zone)) rows p s t r places h) zero in
-    login-in rows zone p by.texts f s t r bytes read by.taken (login_spelled rows zone by.texts) refl
-    (with-files (λ f. RespondsTo (λ q. Audits (login_by q) f) (login_spelled rows zone by.texts)) rows f (after_texts p s) t r e by.answered) zero
+login-by : (n : ℕ) → n < 2 → (Told : LoginAsked → AuditFiles → SourceState → Response → Type 0) → Tells login_by n Told
+    → (rows : List Row) (p : TextPlaces) (f : AuditFiles) (s : SourceState) (t : Option SourceState) (r : Response) → text_places rows ≡ Ok p → audit_files rows ≡ Ok f
+    → TrustsBytes f (after_texts p s) → RespondsToLogin rows s t r → r.status ≡ n → TellsLogin Told rows p f s r
+login-by n few Told tells rows p f s t r places e bytes (zone, read, h) is =
+    let by = by-texts (RespondsInZone rows zone) p s t r (with-places (RespondsByTexts (RespondsInZone rows zone)) rows p s t r places h) (omega (arith, is, few)) in
+    login-in n few Told tells rows zone p by.texts f s t r bytes read by.taken (login_spelled rows zone by.texts) refl
+    (with-files (λ f. RespondsTo (λ q. Audits (login_by q) f) (login_spelled rows zone by.texts)) rows f (after_texts p s) t r e by.answered) is
 
-host-by : (rows : List Row) (p : TextPlaces) (f : AuditFiles) (s : SourceState) (t : Option SourceState) (r : Response) → text_places rows ≡ Ok p → audit_files rows ≡ Ok f
-    → TrustsBytes f (after_texts p s) → RespondsToHost rows s t r → r.status ≡ 0 → GrantsHost rows p f s r
-host-by rows p f s t r places e bytes h zero =
-    let by = by-texts (RespondsToHostKey rows) p s t r (with-places (RespondsByTexts (RespondsToHostKey rows)) rows p s t r places h) zero in
-    host-in rows p by.texts f s t r bytes by.taken (host_spelled rows by.texts) refl
-    (with-files (λ f. RespondsTo (λ q. Audits (host_by q) f) (host_spelled rows by.texts)) rows f (after_texts p s) t r e by.answered) zero
+host-by : (n : ℕ) → n < 2 → (Told : HostCheck → AuditFiles → SourceState → Response → Type 0) → Tells host_by n Told
+    → (rows : List Row) (p : TextPlaces) (f : AuditFiles) (s : SourceState) (t : Option SourceState) (r : Response) → text_places rows ≡ Ok p → audit_files rows ≡ Ok f
+    → TrustsBytes f (after_texts p s) → RespondsToHost rows s t r → r.status ≡ n → TellsHost Told rows p f s r
+host-by n few Told tells rows p f s t r places e bytes h is =
+    let by = by-texts (RespondsToHostKey rows) p s t r (with-places (RespondsByTexts (RespondsToHostKey rows)) rows p s t r places h) (omega (arith, is, few)) in
+    host-in n few Told tells rows p by.texts f s t r bytes by.taken (host_spelled rows by.texts) refl
+    (with-files (λ f. RespondsTo (λ q. Audits (host_by q) f) (host_spelled rows by.texts)) rows f (after_texts p s) t r e by.answered) is
 
 abbrev login-request : List Row → Request
 login-request rows = record { subcommand = Login; rows = rows }
@@ -221,41 +229,67 @@ login-request rows = record { subcommand = Login; rows = rows }
 abbrev host-request : List Row → Request
 host-request rows = record { subcommand = Host; rows = rows }
 
-login_run : (words : List (List ℕ)) (rows : List Row) (p : TextPlaces) (f : AuditFiles) (s : SourceState) (t : Option SourceState) (r : Response)
-    → AsksFor Login words s rows p f → Answers words s t r → r.status ≡ 0 → GrantsLogin rows p f (source_of words s) r
-login_run words rows p f s t r asks answers zero =
-    login-by rows p f (source_of words s) t r asks.texts asks.files asks.bytes (responds-to words (Some (login-request rows)) s t r asks.request answers zero) zero
+login-run : (n : ℕ) → n < 2 → (Told : LoginAsked → AuditFiles → SourceState → Response → Type 0) → Tells login_by n Told
+    → (words : List (List ℕ)) (rows : List Row) (p : TextPlaces) (f : AuditFiles) (s : SourceState) (t : Option SourceState) (r : Response)
+    → AsksFor Login words s rows p f → Answers words s t r → r.status ≡ n → TellsLogin Told rows p f (source_of words s) r
+login-run n few Told tells words rows p f s t r asks answers is =
+    login-by n few Told tells rows p f (source_of words s) t r asks.texts asks.files asks.bytes
+    (responds-to words (Some (login-request rows)) s t r asks.request answers (omega (arith, is, few))) is
 
-host_run : (words : List (List ℕ)) (rows : List Row) (p : TextPlaces) (f : AuditFiles) (s : SourceState) (t : Option SourceState) (r : Response)
-    → AsksFor Host words s rows p f → Answers words s t r → r.status ≡ 0 → GrantsHost rows p f (source_of words s) r
-host_run words rows p f s t r asks answers zero =
-    host-by rows p f (source_of words s) t r asks.texts asks.files asks.bytes (responds-to words (Some (host-request rows)) s t r asks.request answers zero) zero
+host-run : (n : ℕ) → n < 2 → (Told : HostCheck → AuditFiles → SourceState → Response → Type 0) → Tells host_by n Told
+    → (words : List (List ℕ)) (rows : List Row) (p : TextPlaces) (f : AuditFiles) (s : SourceState) (t : Option SourceState) (r : Response)
+    → AsksFor Host words s rows p f → Answers words s t r → r.status ≡ n → TellsHost Told rows p f (source_of words s) r
+host-run n few Told tells words rows p f s t r asks answers is =
+    host-by n few Told tells rows p f (source_of words s) t r asks.texts asks.files asks.bytes
+    (responds-to words (Some (host-request rows)) s t r asks.request answers (omega (arith, is, few))) is
 
 -- ---- a run
 
-ends-well : (old new : Option Account) (r : Response) (status : ℕ) → WritesResponse old new r status → status ≡ 0 → r.status ≡ 0
-ends-well old new r status (inl (taken, same)) zero = sym same ∙ zero
-ends-well old new r status (inr (broken, two)) zero = absurd (omega (arith, two, zero))
+ends-as : (n : ℕ) → n < 2 → (old new : Option Account) (r : Response) (status : ℕ) → WritesResponse old new r status → status ≡ n → r.status ≡ n
+ends-as n few old new r status (inl (taken, same)) is = sym same ∙ is
+ends-as n few old new r status (inr (broken, two)) is = absurd (omega (arith, two, is, few))
 
 abbrev Answered : List (List ℕ) → Option SourceState → Option Account → Option Account → ℕ → SourceState → Type 0
 Answered words t old new status s = (r : Response) × Answers words s t r × WritesResponse old new r status
 
+-- where the run was asked for a login and ends with this status, it tells this
+abbrev RunTellsLogin : ℕ → (LoginAsked → AuditFiles → SourceState → Response → Type 0) → List (List ℕ) → Option SourceState → Option Account → Option Account → ℕ → Type 0
+RunTellsLogin n Told words o old new status = IfTells o (λ s. (rows : List Row) (p : TextPlaces) (f : AuditFiles) → AsksFor Login words s rows p f → status ≡ n
+    → (r : Response) × TellsLogin Told rows p f (source_of words s) r × WritesResponse old new r status)
+
+-- the same of a host's key
+abbrev RunTellsHost : ℕ → (HostCheck → AuditFiles → SourceState → Response → Type 0) → List (List ℕ) → Option SourceState → Option Account → Option Account → ℕ → Type 0
+RunTellsHost n Told words o old new status = IfTells o (λ s. (rows : List Row) (p : TextPlaces) (f : AuditFiles) → AsksFor Host words s rows p f → status ≡ n
+    → (r : Response) × TellsHost Told rows p f (source_of words s) r × WritesResponse old new r status)
+
+run-tells-login : (n : ℕ) → n < 2 → (Told : LoginAsked → AuditFiles → SourceState → Response → Type 0) → Tells login_by n Told
+    → (words : List (List ℕ)) (o t : Option SourceState) (old new : Option Account) (status : ℕ)
+    → IfTells o (Answered words t old new status) → RunTellsLogin n Told words o old new status
+run-tells-login n few Told tells words None t old new status h = tt
+run-tells-login n few Told tells words (Some s) t old new status h = λ room rows p f asks is.
+    let told = h room in
+    (told.0, login-run n few Told tells words rows p f s t told.0 asks told.1 (ends-as n few old new told.0 status told.2 is), told.2)
+
+run-tells-host : (n : ℕ) → n < 2 → (Told : HostCheck → AuditFiles → SourceState → Response → Type 0) → Tells host_by n Told
+    → (words : List (List ℕ)) (o t : Option SourceState) (old new : Option Account) (status : ℕ)
+    → IfTells o (Answered words t old new status) → RunTellsHost n Told words o old new status
+run-tells-host n few Told tells words None t old new status h = tt
+run-tells-host n few Told tells words (Some s) t old new status h = λ room rows p f asks is.
+    let told = h room in
+    (told.0, host-run n few Told tells words rows p f s t told.0 asks told.1 (ends-as n few old new told.0 status told.2 is), told.2)
+
 pub login_granted_run : (words : List (List ℕ)) (o t : Option SourceState) (old new : Option Account) (status : ℕ)
-    → IfTells o (Answered words t old new status)
-    → IfTells o (λ s. (rows : List Row) (p : TextPlaces) (f : AuditFiles) → AsksFor Login words s rows p f → status ≡ 0
-    → (r : Response) × GrantsLogin rows p f (source_of words s) r × WritesResponse old new r status)
-login_granted_run words None t old new status h = tt
-login_granted_run words (Some s) t old new status h = λ few rows p f asks zero.
-    let told = h few in
-    let well = ends-well old new told.0 status told.2 zero in
-    (told.0, login_run words rows p f s t told.0 asks told.1 well, told.2)
+    → IfTells o (Answered words t old new status) → RunTellsLogin 0 LoginGranted words o old new status
+login_granted_run = run-tells-login 0 (omega arith) LoginGranted login_granted
+
+pub login_denied_run : (words : List (List ℕ)) (o t : Option SourceState) (old new : Option Account) (status : ℕ)
+    → IfTells o (Answered words t old new status) → RunTellsLogin 1 LoginDenied words o old new status
+login_denied_run = run-tells-login 1 (omega arith) LoginDenied login_denied
 
 pub host_granted_run : (words : List (List ℕ)) (o t : Option SourceState) (old new : Option Account) (status : ℕ)
-    → IfTells o (Answered words t old new status)
-    → IfTells o (λ s. (rows : List Row) (p : TextPlaces) (f : AuditFiles) → AsksFor Host words s rows p f → status ≡ 0
-    → (r : Response) × GrantsHost rows p f (source_of words s) r × WritesResponse old new r status)
-host_granted_run words None t old new status h = tt
-host_granted_run words (Some s) t old new status h = λ few rows p f asks zero.
-    let told = h few in
-    let well = ends-well old new told.0 status told.2 zero in
-    (told.0, host_run words rows p f s t told.0 asks told.1 well, told.2)
+    → IfTells o (Answered words t old new status) → RunTellsHost 0 HostGranted words o old new status
+host_granted_run = run-tells-host 0 (omega arith) HostGranted host_granted
+
+pub host_denied_run : (words : List (List ℕ)) (o t : Option SourceState) (old new : Option Account) (status : ℕ)
+    → IfTells o (Answered words t old new status) → RunTellsHost 1 HostDenied words o old new status
+host_denied_run = run-tells-host 1 (omega arith) HostDenied host_denied

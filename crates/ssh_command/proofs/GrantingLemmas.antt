@@ -1,5 +1,5 @@
--- An answer with status 0 is a grant.
-use Rattle.std.proofs.Common.{◌≡◌, ◌∙◌, cond, ℕ, Bool, true, false, List, length, Option, Some, None, Result, Ok, Err, ap, subst, sym, refl, arith, nat_lt}
+-- An answer with status 0 is a grant, and one with status 1 a denial.
+use Rattle.std.proofs.Common.{◌≡◌, ◌<◌, ◌∙◌, cond, ℕ, Bool, true, false, List, length, Option, Some, None, Result, Ok, Err, ap, subst, sym, refl, arith, nat_lt}
 use Rattle.ssh_offers.specs.declared.error.AuditError.{AuditError}
 use Rattle.ssh_offers.specs.declared.error.AuditError.TheVariants.{FileTooLong}
 use Rattle.ssh_offers.specs.declared.query.Signed.{Signed}
@@ -8,6 +8,7 @@ use Rattle.ssh_offers.specs.LoginClaim.{login_claim}
 use Rattle.ssh_offers.specs.Query.{HostCheck, Login}
 use Rattle.ssh_rights.specs.declared.rights.Rights.{Rights}
 use Rattle.ssh_rules.specs.declared.reason.Reason.{Reason}
+use Rattle.ssh_trust.specs.declared.decision.Cause.{Cause}
 use Rattle.ssh_trust.specs.declared.decision.Decision.{Decision}
 use Rattle.ssh_trust.specs.declared.decision.Decision.TheVariants.{Granted, Denied}
 use Rattle.ssh_text.specs.Text.{file_limit}
@@ -15,6 +16,8 @@ use Rattle.ssh_trust.specs.LoginDecision.{LoginMeans, login_decision}
 use Rattle.ssh_trust.specs.HostDecision.{HostMeans, host_decision}
 use Rattle.ssh_trust.proofs.HostMeaningLemmas.{host_means}
 use Rattle.ssh_trust.proofs.MeaningLemmas.{login_means}
+use Rattle.ssh_trust.proofs.TellingLemmas.{host_told, login_told}
+use Rattle.ssh_trust.specs.Telling.{HostTells, LoginTells}
 use Rattle.ssh_print.specs.Responses.{Response, decision_response, decision_status, no_file_response, vouch_response}
 use Rattle.ssh_inputs.specs.Loading.{within_limit}
 use Rattle.ssh_inputs.specs.Parts.{part_at}
@@ -23,7 +26,7 @@ use Rattle.ssh_inputs.specs.VouchFile.{vouched_of}
 use Rattle.ssh_words.specs.Asked.{AuditFiles}
 use Rattle.ssh_questions.specs.Audits.{after_vouching, audit_response, decided_by, decided_response, host_by, login_by, or_vouch_fault, vouched_in, vouched_or_fault, vouched_response}
 use Rattle.ssh_offers.proofs.ClaimReading.{host-found, login-found}
-use Rattle.ssh_command.specs.Granting.{HostGranted, TrustsBytes, LoginGranted}
+use Rattle.ssh_command.specs.Granting.{HostDenied, HostGranted, HostHeard, LoginDenied, LoginGranted, LoginHeard, TrustsBytes}
 
 -- ---- faults have the status 2
 
@@ -42,7 +45,7 @@ fault-in : (vouch : Option (List ℕ)) (s : SourceState) (r : Response) → vouc
 fault-in None s r h = cc
 fault-in (Some name) s r h = fault-over name (within_limit (part_at s name)) r h
 
--- ---- a decision with the status 0 is granted
+-- ---- a decision with the status 0 is granted, and one with the status 1 denied
 
 record IsGranted (d : Decision) : Type 0 where
   line : ℕ
@@ -55,9 +58,19 @@ granted-by : (d : Decision) → decision_status d ≡ 0 → IsGranted d
 granted-by (Granted line rights reasons evidence) h = record { line = line; rights = rights; reasons = reasons; evidence = evidence; is = refl }
 granted-by (Denied why reasons evidence) h = absurd (omega (arith, h))
 
-short-by : (long : Bool) (d : Decision) → (decision_response (cond long (Err FileTooLong) (Ok d))).status ≡ 0 → (long ≡ false) × (decision_status d ≡ 0)
+record IsDenied (d : Decision) : Type 0 where
+  why : Cause
+  reasons : List (ℕ × Reason)
+  evidence : List Signed
+  is : d ≡ Denied why reasons evidence
+
+denied-by : (d : Decision) → decision_status d ≡ 1 → IsDenied d
+denied-by (Granted line rights reasons evidence) h = absurd (omega (arith, h))
+denied-by (Denied why reasons evidence) h = record { why = why; reasons = reasons; evidence = evidence; is = refl }
+
+short-by : (long : Bool) (d : Decision) → (decision_response (cond long (Err FileTooLong) (Ok d))).status < 2 → long ≡ false
 short-by true d h = absurd (omega (arith, h))
-short-by false d h = (refl, h)
+short-by false d h = refl
 
 short-printed : (long : Bool) (d : Decision) → long ≡ false → decision_response (cond long (Err FileTooLong) (Ok d)) ≡ decision_response (Ok d)
 short-printed true d h = cc
@@ -72,86 +85,133 @@ record Answered {C : Type 0} (claimed : Result C AuditError) (decision : List �
   told : vouched_in f.vouch s ≡ Ok vouched
   file : List ℕ
   trusted : bytes_at (after_vouching f.vouch s) f.trust ≡ Some file
-  granted : IsGranted (decision file claim vouched)
-  printed : r ≡ decision_response (Ok (Granted granted.line granted.rights granted.reasons granted.evidence))
+  printed : r ≡ decision_response (Ok (decision file claim vouched))
 
 answered-file : {C : Type 0} (claimed : Result C AuditError) (decision : List ℕ → C → List Signed → Decision) (f : AuditFiles) (s : SourceState) (vouched : List Signed)
     → vouched_in f.vouch s ≡ Ok vouched → (o : Option (List ℕ)) → bytes_at (after_vouching f.vouch s) f.trust ≡ o
-    → (decided_response (decided_by decision claimed) vouched o).status ≡ 0
+    → (decided_response (decided_by decision claimed) vouched o).status < 2
     → Answered claimed decision f s (decided_response (decided_by decision claimed) vouched o)
 answered-file (Err e) decision f s vouched told None at h = absurd (omega (arith, h))
 answered-file (Ok c) decision f s vouched told None at h = absurd (omega (arith, h))
 answered-file (Err e) decision f s vouched told (Some file) at h = absurd (omega (arith, h))
-answered-file (Ok c) decision f s vouched told (Some file) at h =
-    let short = short-by (nat_lt file_limit (length file)) (decision file c vouched) h in
-    let granted = granted-by (decision file c vouched) short.1 in
-    record {
-      claim = c;
-      offered = refl;
-      vouched = vouched;
-      told = told;
-      file = file;
-      trusted = at;
-      granted = granted;
-      printed =
-          short-printed (nat_lt file_limit (length file)) (decision file c vouched) short.0
-          ∙ ap (λ (d : Decision). decision_response (Ok d)) granted.is;
-    }
+answered-file (Ok c) decision f s vouched told (Some file) at h = record {
+  claim = c;
+  offered = refl;
+  vouched = vouched;
+  told = told;
+  file = file;
+  trusted = at;
+  printed = short-printed (nat_lt file_limit (length file)) (decision file c vouched) (short-by (nat_lt file_limit (length file)) (decision file c vouched) h);
+}
 
 answered-vouched : {C : Type 0} (claimed : Result C AuditError) (decision : List ℕ → C → List Signed → Decision) (f : AuditFiles) (s : SourceState)
     → (v : Result (List Signed) Response) → vouched_in f.vouch s ≡ v
-    → (vouched_response (decided_by decision claimed) f.trust (after_vouching f.vouch s) v).status ≡ 0
+    → (vouched_response (decided_by decision claimed) f.trust (after_vouching f.vouch s) v).status < 2
     → Answered claimed decision f s (vouched_response (decided_by decision claimed) f.trust (after_vouching f.vouch s) v)
 answered-vouched claimed decision f s (Err r) e h = let two = fault-in f.vouch s r e in absurd (omega (arith, two, h))
 answered-vouched claimed decision f s (Ok vouched) e h =
     answered-file claimed decision f s vouched e (bytes_at (after_vouching f.vouch s) f.trust) refl h
 
 answered : {C : Type 0} (claimed : Result C AuditError) (decision : List ℕ → C → List Signed → Decision) (f : AuditFiles) (s : SourceState)
-    → (audit_response (decided_by decision claimed) f s).status ≡ 0 → Answered claimed decision f s (audit_response (decided_by decision claimed) f s)
+    → (audit_response (decided_by decision claimed) f s).status < 2 → Answered claimed decision f s (audit_response (decided_by decision claimed) f s)
 answered claimed decision f s h = answered-vouched claimed decision f s (vouched_in f.vouch s) refl h
+
+-- the decision has the status of what is printed
+status-in : {C : Type 0} {claimed : Result C AuditError} {decision : List ℕ → C → List Signed → Decision} {f : AuditFiles} {s : SourceState} {r : Response}
+    → (a : Answered claimed decision f s r) → decision_status (decision a.file a.claim a.vouched) ≡ r.status
+status-in a = ap (λ (x : Response). x.status) (sym a.printed)
 
 -- ---- logins and hosts
 
-printed-as : (line : ℕ) (reasons : List (ℕ × Reason)) (r t : Option Rights) (e g : List Signed) → r ≡ t → e ≡ g
+granted-as : (line : ℕ) (reasons : List (ℕ × Reason)) (r t : Option Rights) (e g : List Signed) → r ≡ t → e ≡ g
     → decision_response (Ok (Granted line r reasons e)) ≡ decision_response (Ok (Granted line t reasons g))
-printed-as line reasons r t e g same_rights same_evidence =
+granted-as line reasons r t e g same_rights same_evidence =
     ap (λ (x : Option Rights). decision_response (Ok (Granted line x reasons e))) same_rights
     ∙ ap (λ (x : List Signed). decision_response (Ok (Granted line t reasons x))) same_evidence
 
+denied-as : (why : Cause) (reasons : List (ℕ × Reason)) (e g : List Signed) → e ≡ g
+    → decision_response (Ok (Denied why reasons e)) ≡ decision_response (Ok (Denied why reasons g))
+denied-as why reasons e g same = ap (λ (x : List Signed). decision_response (Ok (Denied why reasons x))) same
+
+decided-as : (d e : Decision) → d ≡ e → decision_response (Ok d) ≡ decision_response (Ok e)
+decided-as d e same = ap (λ (x : Decision). decision_response (Ok x)) same
+
+abbrev login-heard : (q : Login) (f : AuditFiles) (s : SourceState) (r : Response) → Answered (login_claim q) login_decision f s r → LoginHeard q f s
+login-heard q f s r a = record {
+  claim = a.claim;
+  claimed = λ offered signed. login-found q a.claim offered signed a.offered;
+  vouched = a.vouched;
+  told = a.told;
+  file = a.file;
+  trusted = a.trusted;
+}
+
 pub login_granted : (q : Login) (f : AuditFiles) (s : SourceState) → TrustsBytes f s → (audit_response (login_by q) f s).status ≡ 0 → LoginGranted q f s (audit_response (login_by q) f s)
 login_granted q f s bytes h =
-    let a = answered (login_claim q) login_decision f s h in
-    let means = subst (λ (d : Decision). LoginMeans a.file a.claim a.vouched d) a.granted.is (login_means a.file a.claim a.vouched (bytes a.file a.trusted)) in
+    let a = answered (login_claim q) login_decision f s (omega (arith, h)) in
+    let granted = granted-by (login_decision a.file a.claim a.vouched) (status-in a ∙ h) in
+    let means = subst (λ (d : Decision). LoginMeans a.file a.claim a.vouched d) granted.is (login_means a.file a.claim a.vouched (bytes a.file a.trusted)) in
     record {
-      claim = a.claim;
-      claimed = λ offered signed. login-found q a.claim offered signed a.offered;
-      vouched = a.vouched;
-      told = a.told;
-      file = a.file;
-      trusted = a.trusted;
-      line = a.granted.line;
+      heard = login-heard q f s _ a;
+      line = granted.line;
       entry = means.0;
       grant = means.1;
       rights = means.2.0;
       given = means.2.2;
-      reasons = a.granted.reasons;
-      printed = a.printed ∙ printed-as a.granted.line a.granted.reasons _ _ _ _ means.2.1 means.3;
+      reasons = granted.reasons;
+      printed = a.printed ∙ decided-as _ _ granted.is ∙ granted-as granted.line granted.reasons _ _ _ _ means.2.1 means.3;
     }
+
+pub login_denied : (q : Login) (f : AuditFiles) (s : SourceState) → TrustsBytes f s → (audit_response (login_by q) f s).status ≡ 1 → LoginDenied q f s (audit_response (login_by q) f s)
+login_denied q f s bytes h =
+    let a = answered (login_claim q) login_decision f s (omega (arith, h)) in
+    let denied = denied-by (login_decision a.file a.claim a.vouched) (status-in a ∙ h) in
+    let means = subst (λ (d : Decision). LoginMeans a.file a.claim a.vouched d) denied.is (login_means a.file a.claim a.vouched (bytes a.file a.trusted)) in
+    let tells = subst (λ (d : Decision). LoginTells a.file a.claim a.vouched d) denied.is (login_told a.file a.claim a.vouched (bytes a.file a.trusted)) in
+    record {
+      heard = login-heard q f s _ a;
+      no_grant = means.0;
+      cause = denied.why;
+      holds = tells.0;
+      reasons = denied.reasons;
+      printed = a.printed ∙ decided-as _ _ denied.is ∙ denied-as denied.why denied.reasons _ _ means.1;
+    }
+
+abbrev host-heard : (q : HostCheck) (f : AuditFiles) (s : SourceState) (r : Response) → Answered (host_claim q) host_decision f s r → HostHeard q f s
+host-heard q f s r a = record {
+  claim = a.claim;
+  claimed = λ offered signed. host-found q a.claim offered signed a.offered;
+  vouched = a.vouched;
+  told = a.told;
+  file = a.file;
+  trusted = a.trusted;
+}
 
 pub host_granted : (q : HostCheck) (f : AuditFiles) (s : SourceState) → TrustsBytes f s → (audit_response (host_by q) f s).status ≡ 0 → HostGranted q f s (audit_response (host_by q) f s)
 host_granted q f s bytes h =
-    let a = answered (host_claim q) host_decision f s h in
-    let means = subst (λ (d : Decision). HostMeans a.file a.claim a.vouched d) a.granted.is (host_means a.file a.claim a.vouched (bytes a.file a.trusted)) in
+    let a = answered (host_claim q) host_decision f s (omega (arith, h)) in
+    let granted = granted-by (host_decision a.file a.claim a.vouched) (status-in a ∙ h) in
+    let means = subst (λ (d : Decision). HostMeans a.file a.claim a.vouched d) granted.is (host_means a.file a.claim a.vouched (bytes a.file a.trusted)) in
     record {
-      claim = a.claim;
-      claimed = λ offered signed. host-found q a.claim offered signed a.offered;
-      vouched = a.vouched;
-      told = a.told;
-      file = a.file;
-      trusted = a.trusted;
-      line = a.granted.line;
+      heard = host-heard q f s _ a;
+      line = granted.line;
       entry = means.0;
       grant = means.1;
-      reasons = a.granted.reasons;
-      printed = a.printed ∙ printed-as a.granted.line a.granted.reasons _ _ _ _ means.2 means.3;
+      reasons = granted.reasons;
+      printed = a.printed ∙ decided-as _ _ granted.is ∙ granted-as granted.line granted.reasons _ _ _ _ means.2 means.3;
+    }
+
+pub host_denied : (q : HostCheck) (f : AuditFiles) (s : SourceState) → TrustsBytes f s → (audit_response (host_by q) f s).status ≡ 1 → HostDenied q f s (audit_response (host_by q) f s)
+host_denied q f s bytes h =
+    let a = answered (host_claim q) host_decision f s (omega (arith, h)) in
+    let denied = denied-by (host_decision a.file a.claim a.vouched) (status-in a ∙ h) in
+    let means = subst (λ (d : Decision). HostMeans a.file a.claim a.vouched d) denied.is (host_means a.file a.claim a.vouched (bytes a.file a.trusted)) in
+    let tells = subst (λ (d : Decision). HostTells a.file a.claim a.vouched d) denied.is (host_told a.file a.claim a.vouched (bytes a.file a.trusted)) in
+    record {
+      heard = host-heard q f s _ a;
+      no_grant = means.0;
+      cause = denied.why;
+      holds = tells.0;
+      reasons = denied.reasons;
+      printed = a.printed ∙ decided-as _ _ denied.is ∙ denied-as denied.why denied.reasons _ _ means.2;
     }

@@ -13,7 +13,13 @@ ghost use Rattle.ssh_inputs.specs.SourceState.{SourceState};
 ghost use Rattle.ssh_inputs.specs.VouchFile.{vouched_of};
 ghost use Rattle.ssh_words.specs.Asked.{AuditFiles};
 ghost use Rattle.ssh_questions.specs.Audits.{audit_response, host_by, login_by};
-ghost use Rattle.ssh_command.specs.Granting.{HostGranted, TrustsBytes, LoginGranted};
+ghost use Rattle.ssh_command.specs.Granting.{
+  HostDenied,
+  HostGranted,
+  LoginDenied,
+  LoginGranted,
+  TrustsBytes,
+};
 ghost use Rattle.ssh_command.specs.VouchLines.{HasBytes, vouch_file, vouch_line};
 
 /// What is printed of a signature is, after its number, a line of a vouch file; and a vouch file of
@@ -35,8 +41,8 @@ fn signature_rule()
 {}
 
 /// An answer with status 0 is a grant: of a login or of a host's key, by a line of the trust file
-/// that meets all conditions, where the vouch file vouches for all that it rests on; and the text is
-/// that grant's.
+/// that meets all conditions, where the vouch file vouches for all that it rests on. One with status
+/// 1 is a denial: there is no such line. The text is that grant's, or that denial's with its cause.
 fn granted_rule()
     // What is answered to what is asked of these files.
     ensures asked_login { (q : LoginAsked) (f : AuditFiles) (s : SourceState) → TrustsBytes f s
@@ -45,4 +51,10 @@ fn granted_rule()
     ensures asked_host { (q : HostCheck) (f : AuditFiles) (s : SourceState) → TrustsBytes f s
         → (audit_response (host_by q) f s).status ≡ 0
         → HostGranted q f s (audit_response (host_by q) f s) }
+    ensures denied_login { (q : LoginAsked) (f : AuditFiles) (s : SourceState) → TrustsBytes f s
+        → (audit_response (login_by q) f s).status ≡ 1
+        → LoginDenied q f s (audit_response (login_by q) f s) }
+    ensures denied_host { (q : HostCheck) (f : AuditFiles) (s : SourceState) → TrustsBytes f s
+        → (audit_response (host_by q) f s).status ≡ 1
+        → HostDenied q f s (audit_response (host_by q) f s) }
 {}

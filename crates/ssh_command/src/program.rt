@@ -4,7 +4,13 @@ ghost use Rattle.std.specs.Prelude.{◌≡◌, List, map};
 ghost use Rattle.clap.specs.Words.{Row};
 ghost use Rattle.ssh_command.specs.Account.{NoneFailed};
 ghost use Rattle.ssh_print.specs.Responses.{Response as Shown};
-ghost use Rattle.ssh_command.specs.GrantedRuns.{AsksFor, GrantsHost, GrantsLogin};
+ghost use Rattle.ssh_command.specs.GrantedRuns.{
+  AsksFor,
+  DeniesHost,
+  DeniesLogin,
+  GrantsHost,
+  GrantsLogin,
+};
 ghost use Rattle.ssh_command.specs.Requests.{Answers, source_of, words_response};
 ghost use Rattle.ssh_command.specs.Printing.{WritesResponse};
 ghost use Rattle.ssh_inputs.specs.SourceState.{IfTells};
@@ -79,12 +85,27 @@ pub fn run<S: AsStr, F: Files, W: Sink>(
         → result ≡ 0
         → (r : Shown) × GrantsLogin rows places f (source_of (map S.text words.now) s) r
         × WritesResponse (W.account writer.old) (W.account writer.new) r result) }
+    // Status 1 to a login means that this is false: no line of the trust file is one to grant the
+    // login at, for the cause that was printed.
+    ensures login_denied { IfTells (F.source_state files.old) (λ s. (rows : List Row)
+        (places : TextPlaces) (f : AuditFiles)
+        → AsksFor Login (map S.text words.now) s rows places f
+        → result ≡ 1
+        → (r : Shown) × DeniesLogin rows places f (source_of (map S.text words.now) s) r
+        × WritesResponse (W.account writer.old) (W.account writer.new) r result) }
     // So it is of a host's key, which moreover no line of the file revokes.
     ensures host { IfTells (F.source_state files.old) (λ s. (rows : List Row)
         (places : TextPlaces) (f : AuditFiles)
         → AsksFor Host (map S.text words.now) s rows places f
         → result ≡ 0
         → (r : Shown) × GrantsHost rows places f (source_of (map S.text words.now) s) r
+        × WritesResponse (W.account writer.old) (W.account writer.new) r result) }
+    // And status 1 means that this is false.
+    ensures host_denied { IfTells (F.source_state files.old) (λ s. (rows : List Row)
+        (places : TextPlaces) (f : AuditFiles)
+        → AsksFor Host (map S.text words.now) s rows places f
+        → result ≡ 1
+        → (r : Shown) × DeniesHost rows places f (source_of (map S.text words.now) s) r
         × WritesResponse (W.account writer.old) (W.account writer.new) r result) }
 {
     answer(alloc, words, files, writer)
