@@ -1,5 +1,6 @@
 -- The address that is computed from a text is the one that its grammar gives it, both ways.
-use Rattle.std.proofs.Common.{◌≡◌, ℕ, ◌+◌, ◌-◌, ◌<◌, ◌==◌, Bool, true, false, inl, inr, if◌then◌else◌, nat_lt, List, [], ◌∷◌, ◌++◌, length, codes, replicate, Option, Some, None, option_map, IfOk, ok_or, refl, sym, ap, ◌∙◌, append_assoc, length-append, lit≤, arith}
+use Rattle.std.proofs.Common.{w32, ◌≡◌, ℕ, ◌+◌, ◌-◌, ◌<◌, ◌==◌, Bool, true, false, inl, inr, if◌then◌else◌, nat_lt, List, [], ◌∷◌, ◌++◌, length, codes, replicate, Option, Some, None, option_map, IfOk, ok_or, refl, sym, ap, ◌∙◌, append_assoc, length-append, lit≤, arith}
+use Rattle.std.specs.Int.{from_be_bytes}
 use Rattle.std.specs.List.{list_any}
 use Rattle.std.proofs.lemmas.Bool.{lt-ltb, ltb-true, eqb-true}
 use Rattle.std.proofs.lemmas.List.{append-nil, length-replicate}
@@ -232,3 +233,18 @@ pub ok-address : (read : Option Address) (text : List ℕ) (fault : PatternError
     → IfOk (ok_or read fault) (λ a. IsAddressText a text)
 ok-address None text fault e = tt
 ok-address (Some a) text fault e = address-some a text (sym e)
+
+be-number : (octets : List ℕ) (n : ℕ) → length octets ≡ 4 → n ≡ from_be_bytes w32 octets → n ≡ number_to_base 256 0 octets
+be-number (a ∷ b ∷ c ∷ d ∷ []) n len h = omega (arith, h)
+be-number [] n len h = absurd (omega (arith, len))
+be-number (a ∷ []) n len h = absurd (omega (arith, len))
+be-number (a ∷ b ∷ []) n len h = absurd (omega (arith, len))
+be-number (a ∷ b ∷ c ∷ []) n len h = absurd (omega (arith, len))
+be-number (a ∷ b ∷ c ∷ d ∷ e ∷ more) n len h = absurd (omega (arith, len))
+
+-- four octets are an address: no colon stands among them
+pub octets-address : (text octets : List ℕ) (n : ℕ) → octets_of text ≡ Some octets → n ≡ from_be_bytes w32 octets
+    → Some (V4 n) ≡ address_of text
+octets-address text octets n h is =
+    let are = octets_of-some text octets h in
+    sym (address-read (V4 n) text (octets, are.0, are.1, be-number octets n are.0.0 is))

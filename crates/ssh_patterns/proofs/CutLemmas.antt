@@ -1,9 +1,12 @@
 -- Where a text is cut, as a loop over its bytes finds it.
-use Rattle.std.proofs.Common.{◌≡◌, ◌≢◌, ℕ, suc, arith, ◌+◌, ◌<◌, ◌==◌, Bool, true, false, if◌then◌else◌, cond, List, [], ◌∷◌, ◌++◌, length, take, drop, get_or, Option, Some, None, refl, sym, ap, add-one, append_assoc, eqb-true, eq-eqb, option_map}
+use Rattle.std.proofs.Common.{◌≡◌, ◌≢◌, ◌≤◌, min, ℕ, zero, suc, arith, slice_index, ◌-◌, ◌+◌, ◌<◌, ◌==◌, Bool, true, false, if◌then◌else◌, cond, List, [], ◌∷◌, ◌++◌, length, take, drop, get_or, Option, Some, None, refl, sym, ap, add-one, append_assoc, length-append, nat_lt, option_and_then, ◌∙◌, inl, inr, eqb-true, eq-eqb, option_map}
 use Rattle.std.proofs.Math.Seq.{take-suc, drop-cons}
 use Rattle.std.proofs.lemmas.List.{append-nil}
 use Rattle.std.specs.List.{slice_split, onto_first}
-use Rattle.ssh_patterns.specs.Cut.{after_mark, cut_here, cut_at}
+use Rattle.std.proofs.lemmas.Bool.{false_from_ne_true, lt-ltb, le-ltb, cases_lt}
+use Rattle.std.proofs.lemmas.List.{length-drop, length-take-le, take_all}
+use Rattle.memchr.specs.Find.{Nowhere, Passes, is_byte}
+use Rattle.ssh_patterns.specs.Cut.{after_mark, cut_here, cut_at, cut_near}
 
 pub after_mark-front : (mark rest : List ℕ) → after_mark mark (mark ++ rest) ≡ Some rest
 after_mark-front [] rest = refl
@@ -107,3 +110,72 @@ parts-cut byte [] front back h = cc
 parts-cut byte (c ∷ cs) front back h =
     let facts = cut-by (c == byte) byte c cs front back (cut_at (byte ∷ []) cs) refl h (λ f e. parts-cut byte cs f back e) in
     record { whole = facts.0; parts = facts.1; shorter = facts.2 }
+
+-- ---- where a search finds the byte
+
+-- none of the first bytes is the byte
+abbrev pub NoByte : ℕ → List ℕ → ℕ → Type 0
+NoByte byte text n = (i : ℕ) → i < n → (slice_index text i == byte) ≡ false
+
+pub no-byte : (byte : ℕ) (text : List ℕ) (n : ℕ) → Nowhere (Passes (is_byte byte) text) 0 n → NoByte byte text n
+no-byte byte text n h = λ i lt. false_from_ne_true (slice_index text i == byte) (h i (omega arith) lt)
+
+pub cut-at : (byte : ℕ) (text : List ℕ) (k : ℕ) → k < length text → NoByte byte text k → (slice_index text k == byte) ≡ true
+    → cut_at (byte ∷ []) text ≡ Some (take k text, drop (suc k) text)
+cut-at byte [] k lt clear is = absurd (omega arith)
+cut-at byte (c ∷ cs) zero lt clear is = rw is refl
+cut-at byte (c ∷ cs) (suc k) lt clear is =
+    rw (clear 0 (omega arith), cut-at byte cs k (omega arith) (λ i l. clear (suc i) (omega arith)) is) refl
+
+-- the same, as slices of the text
+pub cut-sliced : (byte : ℕ) (text : List ℕ) (k : ℕ) → k < length text → NoByte byte text k → (slice_index text k == byte) ≡ true
+    → Some (take k text, take (length text - (k + 1)) (drop (k + 1) text)) ≡ cut_at (byte ∷ []) text
+cut-sliced byte text k lt clear is =
+    rw (take_all (length text - (k + 1)) (drop (k + 1) text) (omega (arith, length-drop (k + 1) text)), add-one)
+    (sym (cut-at byte text k lt clear is))
+
+pub cut-nowhere : (byte : ℕ) (text : List ℕ) → NoByte byte text (length text) → cut_at (byte ∷ []) text ≡ None
+cut-nowhere byte [] clear = refl
+cut-nowhere byte (c ∷ cs) clear =
+    rw (clear 0 (omega arith), cut-nowhere byte cs (λ i l. clear (suc i) (omega arith))) refl
+
+-- ---- a cut near the front
+
+-- the byte that ends the front of a cut
+at-front : (byte : ℕ) (front back : List ℕ) → slice_index (front ++ byte ∷ back) (length front) ≡ byte
+at-front byte [] back = refl
+at-front byte (c ∷ front) back = at-front byte front back
+
+pub near-here : (byte limit : ℕ) (text : List ℕ) (k : ℕ) → k < limit → k < length text → NoByte byte text k → (slice_index text k == byte) ≡ true
+    → Some (take k text, take (length text - (k + 1)) (drop (k + 1) text)) ≡ cut_near limit (byte ∷ []) text
+near-here byte limit text k near lt clear is =
+    let short : length (take k text) < limit = omega (arith, length-take-le k text (omega arith)) in
+    rw (← cut-sliced byte text k lt clear is, lt-ltb (length (take k text)) limit short) refl
+
+far-by : (byte limit : ℕ) (text : List ℕ) (cut : Option (List ℕ × List ℕ)) → cut_at (byte ∷ []) text ≡ cut → NoByte byte text (min (length text) limit)
+    → option_and_then (λ (c : List ℕ × List ℕ). if nat_lt (length c.0) limit then Some c else None) cut ≡ None
+far-by byte limit text None e clear = refl
+far-by byte limit text (Some cut) e clear = elim (cases_lt (length cut.0) limit) [
+  | inl near ↦
+      let whole = (parts-cut byte text cut.0 cut.1 e).whole in
+      let long : length text ≡ length cut.0 + length (byte ∷ cut.1) = ap length whole ∙ length-append cut.0 (byte ∷ cut.1) in
+      let none = rw (whole, at-front byte cut.0 cut.1, eq-eqb byte byte refl) at (clear (length cut.0) (omega (arith, long, near))) in
+      cc
+  | inr far ↦ rw (le-ltb (length cut.0) limit far) refl
+]
+
+pub near-none : (byte limit : ℕ) (text : List ℕ) (n : ℕ) → min (length text) limit ≤ n → NoByte byte text n → None ≡ cut_near limit (byte ∷ []) text
+near-none byte limit text n all clear =
+    sym (far-by byte limit text (cut_at (byte ∷ []) text) refl (λ i lt. clear i (omega (arith, lt, all))))
+
+all-by : (byte : ℕ) (text : List ℕ) (cut : Option (List ℕ × List ℕ)) → cut_at (byte ∷ []) text ≡ cut
+    → option_and_then (λ (c : List ℕ × List ℕ). if nat_lt (length c.0) (length text) then Some c else None) cut ≡ cut
+all-by byte text None e = refl
+all-by byte text (Some cut) e =
+    let whole = (parts-cut byte text cut.0 cut.1 e).whole in
+    let long : length text ≡ length cut.0 + length (byte ∷ cut.1) = ap length whole ∙ length-append cut.0 (byte ∷ cut.1) in
+    rw (lt-ltb (length cut.0) (length text) (omega (arith, long))) refl
+
+-- each cut is near enough where the limit is the text's length
+pub near-all : (byte : ℕ) (text : List ℕ) → cut_near (length text) (byte ∷ []) text ≡ cut_at (byte ∷ []) text
+near-all byte text = all-by byte text (cut_at (byte ∷ []) text) refl

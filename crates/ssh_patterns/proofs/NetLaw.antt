@@ -1,56 +1,41 @@
 -- The net that is computed from a text is the one that its grammar gives it, both ways.
-use Rattle.std.proofs.Common.{◌≡◌, ℕ, ◌+◌, ◌/◌, ◌%◌, ◌≤◌, ◌==◌, ◌↔◌, IsTrue, Bool, true, false, inl, inr, if◌then◌else◌, List, [], ◌∷◌, ◌++◌, decimal, codes, Option, Some, None, Result, Ok, Err, IfOk, ok_or, refl, sym, ap, ◌∙◌, lit≤, arith}
+use Rattle.std.proofs.Common.{◌≡◌, ℕ, ◌+◌, ◌/◌, ◌%◌, ◌≤◌, ◌==◌, ◌↔◌, IsTrue, Bool, true, false, inl, inr, if◌then◌else◌, List, [], ◌∷◌, ◌++◌, decimal, codes, Option, Some, None, Result, Ok, Err, IfOk, ok_or, append_assoc, refl, sym, ap, ◌∙◌, lit≤, arith}
 use Rattle.std.specs.List.{list_any}
 use Rattle.std.proofs.lemmas.Bool.{eqb-true, eq-eqb, and_parts}
-use Rattle.std.proofs.lemmas.List.Folds.{list_any-append}
 use Rattle.ssh_patterns.specs.declared.address.Address.{Address}
 use Rattle.ssh_patterns.specs.declared.address.Address.TheVariants.{V4, V6}
 use Rattle.ssh_patterns.specs.declared.error.PatternError.{PatternError}
 use Rattle.ssh_patterns.specs.declared.error.PatternError.TheVariants as errors
 use Rattle.ssh_patterns.specs.AddressText.{AreOctets, dotted, colon, AreGroups, AreGroupsAtEnd, IsAddressText}
-use Rattle.ssh_patterns.specs.AddressReading.{address_of}
+use Rattle.ssh_patterns.specs.AddressReading.{address_of, octet_before, v4_before_slash}
 use Rattle.ssh_patterns.specs.Block.{Block, width, block_number, size}
 use Rattle.ssh_patterns.specs.Cut.{cut_at}
-use Rattle.ssh_patterns.specs.Nets.{slash, IsNetText, AreOfOneFamily, LiesIn, same_family, in_net, prefix_of, ◌>>=◌, net_of}
+use Rattle.ssh_patterns.specs.Digits.{number_to_base}
+use Rattle.ssh_patterns.specs.Nets.{slash, IsNetText, AreOfOneFamily, LiesIn, same_family, in_net, prefix_of, ◌>>=◌, net_of, net_from}
 use Rattle.ssh_patterns.proofs.CutLemmas.{parts-cut}
-use Rattle.ssh_patterns.proofs.OctetLemmas.{limited-decimal, limited-some, decimal-has_no, cut_at-front}
-use Rattle.ssh_patterns.proofs.SpelledLemmas.{group-has_no}
+use Rattle.ssh_patterns.proofs.OctetLemmas.{limited-decimal, limited-some, cut_at-front, and_then-some, some-is, octet_before-some}
+use Rattle.ssh_patterns.proofs.SpelledLemmas.{group-has_no, joined-has_no, dotted-has_no}
 use Rattle.ssh_patterns.proofs.AddressLaw.{address-read, address-some}
 
 -- ---- no slash stands in an address
-
-joined-has_no : (front back : List ℕ) (c : ℕ) → (c == slash) ≡ false → list_any (λ b. b == slash) front ≡ false
-    → list_any (λ b. b == slash) back ≡ false → list_any (λ b. b == slash) (front ++ c ∷ back) ≡ false
-joined-has_no front back c other hf hb = rw (list_any-append (λ b. b == slash) front (c ∷ back), hf, other, hb) refl
-
-dotted-has_no : (octets : List ℕ) → AreOctets octets → list_any (λ b. b == slash) (dotted octets) ≡ false
-dotted-has_no (a ∷ b ∷ c ∷ d ∷ []) (len, (ha, (hb, (hc, (hd, _))))) =
-    joined-has_no (decimal a) (decimal b ++ 46 ∷ (decimal c ++ 46 ∷ decimal d)) 46 refl (decimal-has_no slash a (lit≤ tt) ha)
-    (joined-has_no (decimal b) (decimal c ++ 46 ∷ decimal d) 46 refl (decimal-has_no slash b (lit≤ tt) hb)
-    (joined-has_no (decimal c) (decimal d) 46 refl (decimal-has_no slash c (lit≤ tt) hc) (decimal-has_no slash d (lit≤ tt) hd)))
-dotted-has_no [] h = absurd (omega (arith, h.0))
-dotted-has_no (a ∷ []) h = absurd (omega (arith, h.0))
-dotted-has_no (a ∷ b ∷ []) h = absurd (omega (arith, h.0))
-dotted-has_no (a ∷ b ∷ c ∷ []) h = absurd (omega (arith, h.0))
-dotted-has_no (a ∷ b ∷ c ∷ d ∷ e ∷ more) h = absurd (omega (arith, h.0))
 
 groups-has_no : (groups text : List ℕ) → AreGroups groups text → list_any (λ b. b == slash) text ≡ false
 groups-has_no [] text h = rw h refl
 groups-has_no (g ∷ []) text h = group-has_no slash text g (lit≤ tt) h
 groups-has_no (g ∷ next ∷ groups) text (first, rest, whole, h, more) =
-    rw whole (joined-has_no first rest colon refl (group-has_no slash first g (lit≤ tt) h) (groups-has_no (next ∷ groups) rest more))
+    rw whole (joined-has_no slash first rest colon refl (group-has_no slash first g (lit≤ tt) h) (groups-has_no (next ∷ groups) rest more))
 
 end-has_no : (groups text : List ℕ) → AreGroupsAtEnd groups text → list_any (λ b. b == slash) text ≡ false
 end-has_no groups text (inl h) = groups-has_no groups text h
-end-has_no groups text (inr ([], octets, before, are, h, whole, is)) = rw whole (dotted-has_no octets are)
+end-has_no groups text (inr ([], octets, before, are, h, whole, is)) = rw whole (dotted-has_no slash refl (lit≤ tt) octets are)
 end-has_no groups text (inr (f ∷ front, octets, before, are, h, whole, is)) =
-    rw whole (joined-has_no before (dotted octets) colon refl (groups-has_no (f ∷ front) before h) (dotted-has_no octets are))
+    rw whole (joined-has_no slash before (dotted octets) colon refl (groups-has_no (f ∷ front) before h) (dotted-has_no slash refl (lit≤ tt) octets are))
 
 pub address-has_no : (a : Address) (text : List ℕ) → IsAddressText a text → list_any (λ b. b == slash) text ≡ false
-address-has_no (V4 n) text (octets, are, whole, is) = rw whole (dotted-has_no octets are)
+address-has_no (V4 n) text (octets, are, whole, is) = rw whole (dotted-has_no slash refl (lit≤ tt) octets are)
 address-has_no (V6 n) text (groups, (len, inl h), is) = end-has_no groups text h
 address-has_no (V6 n) text (groups, (len, inr (front, back, before, after, hf, hb, whole, room, eq)), is) =
-    rw whole (joined-has_no before (colon ∷ after) colon refl (groups-has_no front before hf) (end-has_no back after hb))
+    rw whole (joined-has_no slash before (colon ∷ after) colon refl (groups-has_no front before hf) (end-has_no back after hb))
 
 -- ---- from a step that found something
 
@@ -108,6 +93,62 @@ net-read net text h =
 pub ok-net : (result : Result Block PatternError) (text : List ℕ) → result ≡ net_of text → IfOk result (λ net. IsNetText net text)
 ok-net (Ok net) text e = net-some net text (sym e)
 ok-net (Err fault) text e = tt
+
+-- ---- an IPv4 address before the slash
+
+four-then : (a b c d rest : List ℕ) → a ++ 46 ∷ (b ++ 46 ∷ (c ++ 46 ∷ (d ++ slash ∷ rest))) ≡ (a ++ 46 ∷ (b ++ 46 ∷ (c ++ 46 ∷ d))) ++ slash ∷ rest
+four-then a b c d rest =
+    rw (
+      append_assoc a (46 ∷ (b ++ 46 ∷ (c ++ 46 ∷ d))) (slash ∷ rest),
+      append_assoc b (46 ∷ (c ++ 46 ∷ d)) (slash ∷ rest),
+      append_assoc c (46 ∷ d) (slash ∷ rest),
+    ) refl
+
+-- a text that begins with octets and a slash
+record StartsV4 (text : List ℕ) (read : Address × List ℕ) : Type 0 where
+  octets : List ℕ
+  are : AreOctets octets
+  whole : text ≡ dotted octets ++ slash ∷ read.1
+  is : read.0 ≡ V4 (number_to_base 256 0 octets)
+
+starts-v4 : (text : List ℕ) (read : Address × List ℕ) → v4_before_slash text ≡ Some read → StartsV4 text read
+starts-v4 text read h =
+    let first = and_then-some (octet_before 46 text) _ read h in
+    let second = and_then-some (octet_before 46 first.0.1) _ read first.2 in
+    let third = and_then-some (octet_before 46 second.0.1) _ read second.2 in
+    let fourth = and_then-some (octet_before slash third.0.1) _ read third.2 in
+    let a = octet_before-some 46 text first.0 first.1 in
+    let b = octet_before-some 46 first.0.1 second.0 second.1 in
+    let c = octet_before-some 46 second.0.1 third.0 third.1 in
+    let d = octet_before-some slash third.0.1 fourth.0 fourth.1 in
+    let octets : List ℕ = first.0.0 ∷ second.0.0 ∷ third.0.0 ∷ fourth.0.0 ∷ [] in
+    let is : (V4 (number_to_base 256 0 octets), fourth.0.1) ≡ read = some-is fourth.2 in
+    let whole : text ≡ decimal first.0.0 ++ 46 ∷ (decimal second.0.0 ++ 46 ∷ (decimal third.0.0 ++ 46 ∷ (decimal fourth.0.0 ++ slash ∷ fourth.0.1))) =
+    a.1 ∙ ap (λ s. decimal first.0.0 ++ 46 ∷ s) (b.1 ∙ ap (λ s. decimal second.0.0 ++ 46 ∷ s) (c.1 ∙ ap (λ s. decimal third.0.0 ++ 46 ∷ s) d.1)) in
+    record {
+      octets = octets;
+      are = (refl {a = 4}, (a.0, (b.0, (c.0, (d.0, tt)))));
+      whole = whole ∙ four-then (decimal first.0.0) (decimal second.0.0) (decimal third.0.0) (decimal fourth.0.0) fourth.0.1
+          ∙ ap (λ s. dotted octets ++ slash ∷ s) (ap (λ r. r.1) is);
+      is = sym (ap (λ r. r.0) is);
+    }
+
+after-octets : (text length_text octets : List ℕ) (base : Address) → AreOctets octets → text ≡ dotted octets ++ slash ∷ length_text
+    → base ≡ V4 (number_to_base 256 0 octets) → net_of text ≡ net_from base length_text
+unfolding net_of
+after-octets text length_text octets base are whole is =
+    rw (
+      whole,
+      is,
+      cut_at-front slash (dotted octets) length_text (dotted-has_no slash refl (lit≤ tt) octets are),
+      address-read (V4 (number_to_base 256 0 octets)) (dotted octets) (octets, are, refl, refl),
+    ) refl
+
+pub net-from-v4 : (text : List ℕ) (base : Address) (length_text : List ℕ) → v4_before_slash text ≡ Some (base, length_text)
+    → net_from base length_text ≡ net_of text
+net-from-v4 text base length_text h =
+    let start = starts-v4 text (base, length_text) h in
+    sym (after-octets text length_text start.octets base start.are start.whole start.is)
 
 -- ---- nets and addresses
 

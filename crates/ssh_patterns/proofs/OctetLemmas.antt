@@ -3,12 +3,12 @@ use Rattle.std.proofs.Common.{◌≡◌, ℕ, ◌<◌, ◌≤◌, ◌==◌, Bool
 use Rattle.std.specs.List.{list_any, list_all}
 use Rattle.std.specs.Char.{is_digit, digit_value}
 use Rattle.std.specs.Str.Parse.{AllDigits, digits_value}
-use Rattle.std.proofs.lemmas.Bool.{lt-ltb, ltb-true, cases_lt, eqb-true, eq-eqb, ne_eqb, false≢true}
-use Rattle.std.proofs.lemmas.Fmt.{decimal_is_IsNumeral, decimal_digit, first_decimal, decimal-digits_value}
+use Rattle.std.proofs.lemmas.Bool.{lt-ltb, ltb-true, ltb-false, cases_lt, eqb-true, eq-eqb, ne_eqb, false≢true}
+use Rattle.std.proofs.lemmas.Fmt.{length-decimal-le, decimal_is_IsNumeral, decimal_digit, first_decimal, decimal-digits_value}
 use Rattle.std.proofs.lemmas.Str.Parse.{numerals_by_value, tells_digits}
 use Rattle.ssh_patterns.specs.AddressText.{AreOctets, dotted}
-use Rattle.ssh_patterns.specs.AddressReading.{octet_of, octets_of}
-use Rattle.ssh_patterns.specs.Cut.{cut_at}
+use Rattle.ssh_patterns.specs.AddressReading.{octet_of, octet_before, octets_of}
+use Rattle.ssh_patterns.specs.Cut.{cut_at, cut_near}
 use Rattle.ssh_patterns.specs.Digits.{number_in_radix, decimal_of, below}
 use Rattle.ssh_patterns.proofs.DigitLemmas.{AllDigits-from, below-small}
 use Rattle.ssh_patterns.proofs.CutLemmas.{parts-cut}
@@ -185,3 +185,42 @@ octets_of-some text octets h =
     (parts-cut 46 text first.0.0 first.0.1 first.1).whole (parts-cut 46 first.0.1 second.0.0 second.0.1 second.1).whole
     (parts-cut 46 second.0.1 third.0.0 third.0.1 third.1).whole as_a.1 as_b.1 as_c.1 as_d.1 in
     rw (← is) ((refl {a = 4}, (as_a.0, (as_b.0, (as_c.0, (as_d.0, tt))))), whole)
+
+-- ---- an octet near the front
+
+small-octet : (o : ℕ) → o < 256 → length (decimal o) ≤ 3
+small-octet o h = length-decimal-le 3 o (omega arith) (omega arith) (omega arith)
+
+long-by : (ds : List ℕ) (o : Option ℕ) → octet_of ds ≡ o → 4 ≤ length ds → o ≡ None
+long-by ds None e long = refl
+long-by ds (Some o) e long =
+    let is = octet_of-some ds o e in
+    absurd (omega (arith, small-octet o is.0, ap length is.1))
+
+-- the octet before a cut, and what stands after it
+abbrev then_octet : List ℕ × List ℕ → Option (ℕ × List ℕ)
+then_octet cut = option_and_then {U = ℕ × List ℕ} (λ o. Some (o, cut.1)) (octet_of cut.0)
+
+near-by : (b : Bool) (cut : List ℕ × List ℕ) → nat_lt (length cut.0) 4 ≡ b
+    → option_and_then then_octet (if b then Some cut else None) ≡ then_octet cut
+near-by true cut e = refl
+near-by false cut e = rw (long-by cut.0 (octet_of cut.0) refl (ltb-false (length cut.0) 4 e)) refl
+
+octet-by : (cut : Option (List ℕ × List ℕ))
+    → option_and_then then_octet (option_and_then (λ (c : List ℕ × List ℕ). if nat_lt (length c.0) 4 then Some c else None) cut)
+    ≡ option_and_then then_octet cut
+octet-by None = refl
+octet-by (Some cut) = near-by (nat_lt (length cut.0) 4) cut refl
+
+-- where no such byte is near, no octet stands before one
+pub no-octet : (mark : ℕ) (text : List ℕ) → cut_near 4 (mark ∷ []) text ≡ None → None ≡ octet_before mark text
+no-octet mark text h = sym (ap (option_and_then then_octet) h) ∙ octet-by (cut_at (mark ∷ []) text)
+
+pub octet_before-some : (mark : ℕ) (text : List ℕ) (read : ℕ × List ℕ) → octet_before mark text ≡ Some read
+    → (read.0 < 256) × (text ≡ decimal read.0 ++ mark ∷ read.1)
+octet_before-some mark text read h =
+    let cut = and_then-some (cut_at (mark ∷ []) text) _ read h in
+    let octet = and_then-some (octet_of cut.0.0) _ read cut.2 in
+    let is : (octet.0, cut.0.1) ≡ read = some-is octet.2 in
+    let digits = octet_of-some cut.0.0 octet.0 octet.1 in
+    rw (← is) (digits.0, (parts-cut mark text cut.0.0 cut.0.1 cut.1).whole ∙ ap (λ s. s ++ mark ∷ cut.0.1) digits.1)

@@ -43,22 +43,25 @@ group-has_no byte text g other h = no_byte 16 byte text other (AllDigits-from 16
 
 -- ---- the dotted part
 
+pub joined-has_no : (byte : ℕ) (front back : List ℕ) (c : ℕ) → (c == byte) ≡ false → list_any (λ b. b == byte) front ≡ false
+    → list_any (λ b. b == byte) back ≡ false → list_any (λ b. b == byte) (front ++ c ∷ back) ≡ false
+joined-has_no byte front back c other hf hb = rw (list_any-append (λ b. b == byte) front (c ∷ back), hf, other, hb) refl
+
+-- a byte that is neither a digit nor a dot
+pub dotted-has_no : (byte : ℕ) → (46 == byte) ≡ false → 10 ≤ digit_value byte → (octets : List ℕ) → AreOctets octets
+    → list_any (λ c. c == byte) (dotted octets) ≡ false
+dotted-has_no byte other no_digit (a ∷ b ∷ c ∷ d ∷ []) (len, (ha, (hb, (hc, (hd, _))))) =
+    joined-has_no byte (decimal a) (decimal b ++ 46 ∷ (decimal c ++ 46 ∷ decimal d)) 46 other (decimal-has_no byte a no_digit ha)
+    (joined-has_no byte (decimal b) (decimal c ++ 46 ∷ decimal d) 46 other (decimal-has_no byte b no_digit hb)
+    (joined-has_no byte (decimal c) (decimal d) 46 other (decimal-has_no byte c no_digit hc) (decimal-has_no byte d no_digit hd)))
+dotted-has_no byte other no_digit [] h = absurd (omega (arith, h.0))
+dotted-has_no byte other no_digit (a ∷ []) h = absurd (omega (arith, h.0))
+dotted-has_no byte other no_digit (a ∷ b ∷ []) h = absurd (omega (arith, h.0))
+dotted-has_no byte other no_digit (a ∷ b ∷ c ∷ []) h = absurd (omega (arith, h.0))
+dotted-has_no byte other no_digit (a ∷ b ∷ c ∷ d ∷ e ∷ more) h = absurd (omega (arith, h.0))
+
 pub dotted-has_no_colon : (octets : List ℕ) → AreOctets octets → list_any (λ c. c == colon) (dotted octets) ≡ false
-dotted-has_no_colon (a ∷ b ∷ c ∷ d ∷ []) (len, (ha, (hb, (hc, (hd, _))))) =
-    rw (
-      list_any-append (λ c. c == colon) (decimal a) (46 ∷ (decimal b ++ 46 ∷ (decimal c ++ 46 ∷ decimal d))),
-      list_any-append (λ c. c == colon) (decimal b) (46 ∷ (decimal c ++ 46 ∷ decimal d)),
-      list_any-append (λ c. c == colon) (decimal c) (46 ∷ decimal d),
-      decimal-has_no colon a (lit≤ tt) ha,
-      decimal-has_no colon b (lit≤ tt) hb,
-      decimal-has_no colon c (lit≤ tt) hc,
-      decimal-has_no colon d (lit≤ tt) hd,
-    ) refl
-dotted-has_no_colon [] h = absurd (omega (arith, h.0))
-dotted-has_no_colon (a ∷ []) h = absurd (omega (arith, h.0))
-dotted-has_no_colon (a ∷ b ∷ []) h = absurd (omega (arith, h.0))
-dotted-has_no_colon (a ∷ b ∷ c ∷ []) h = absurd (omega (arith, h.0))
-dotted-has_no_colon (a ∷ b ∷ c ∷ d ∷ e ∷ more) h = absurd (omega (arith, h.0))
+dotted-has_no_colon octets h = dotted-has_no colon refl (lit≤ tt) octets h
 
 pub dotted-has_dot : (octets : List ℕ) → AreOctets octets → list_any (λ c. c == dot) (dotted octets) ≡ true
 dotted-has_dot (a ∷ b ∷ c ∷ d ∷ []) h =

@@ -11,6 +11,13 @@ use Rattle.ssh_patterns.specs.Digits.{number_in_radix, decimal_of, below, number
 abbrev pub octet_of : List ℕ → Option ℕ
 octet_of text = below 256 (decimal_of text)
 
+-- the octet before the first such byte, and what stands after the byte
+abbrev pub octet_before : ℕ → List ℕ → Option (ℕ × List ℕ)
+octet_before mark text = do
+  cut ← cut_at (mark ∷ []) text
+  octet ← octet_of cut.0
+  Some (octet, cut.1)
+
 -- the octets of four decimal numbers with dots between them
 unfoldable pub octets_of : List ℕ → Option (List ℕ)
 octets_of text = do
@@ -72,3 +79,12 @@ unfoldable pub address_of : List ℕ → Option Address
 address_of text =
     if list_any (λ c. c == colon) text then option_map (λ groups. V6 (number_to_base 65536 0 groups)) (eight_groups_of text)
     else option_map (λ octets. V4 (number_to_base 256 0 octets)) (octets_of text)
+
+-- the IPv4 address before a slash, and what stands after the slash
+abbrev pub v4_before_slash : List ℕ → Option (Address × List ℕ)
+v4_before_slash text = do
+  first ← octet_before dot text
+  second ← octet_before dot first.1
+  third ← octet_before dot second.1
+  fourth ← octet_before 47 third.1
+  Some (V4 (number_to_base 256 0 (first.0 ∷ second.0 ∷ third.0 ∷ fourth.0 ∷ [])), fourth.1)

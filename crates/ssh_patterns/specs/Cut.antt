@@ -1,5 +1,5 @@
 -- Texts that are cut at a mark.
-use Rattle.std.specs.Prelude.{ℕ, ◌==◌, if◌then◌else◌, List, [], ◌∷◌, Option, Some, None, option_and_then, option_map}
+use Rattle.std.specs.Prelude.{ℕ, nat_lt, ◌==◌, if◌then◌else◌, length, List, [], ◌∷◌, Option, Some, None, option_and_then, option_map}
 
 -- a step, and what comes after it where the step found something (a `do` block of finding wants this name)
 infixl 10 ◌>>=◌
@@ -21,3 +21,9 @@ cut_here None c later = option_map (λ cut. (c ∷ cut.0, cut.1)) later
 abbrev pub cut_at : List ℕ → List ℕ → Option (List ℕ × List ℕ)
 cut_at mark [] = None
 cut_at mark (c ∷ cs) = cut_here (after_mark mark (c ∷ cs)) c (cut_at mark cs)
+
+-- the cut at the first mark, where fewer bytes than the limit stand before it
+abbrev pub cut_near : ℕ → List ℕ → List ℕ → Option (List ℕ × List ℕ)
+cut_near limit mark text = do
+  cut ← cut_at mark text
+  if nat_lt (length cut.0) limit then Some cut else None

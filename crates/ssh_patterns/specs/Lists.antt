@@ -3,6 +3,7 @@ use Rattle.std.specs.Prelude.{◌≡◌, ◌⊎◌, ℕ, ◌+◌, length, Bool, 
 use Rattle.std.specs.List.{Any, list_any, slice_split}
 use Rattle.std.specs.Str.{str_to_ascii_lowercase}
 use Rattle.ssh_patterns.specs.declared.address.Address.{Address}
+use Rattle.ssh_patterns.specs.declared.address.Address.TheVariants.{V4, V6}
 use Rattle.ssh_patterns.specs.declared.error.PatternError.{PatternError}
 use Rattle.ssh_patterns.specs.declared.permit.Permit.{Permit}
 use Rattle.ssh_patterns.specs.declared.permit.Permit.TheVariants.{Yes, No, Bad}
@@ -92,6 +93,11 @@ net_has (Err e) address = false
 abbrev pub is_address : Option Address → Address → Bool
 is_address None address = false
 is_address (Some a) address = same_address a address
+
+-- whether the IPv6 address was read (an IPv4 address has one text alone, which it matches as a pattern)
+abbrev pub is_v6_address : Option Address → Address → Bool
+is_v6_address found (V4 n) = false
+is_v6_address found (V6 n) = is_address found (V6 n)
 
 -- whether the host name, where one is known, matches the pattern
 abbrev pub host_matches : Option (List ℕ) → List ℕ → Bool

@@ -1,5 +1,6 @@
 -- Which addresses lie in a net, and the texts of nets (RFC 4632, section 3.1; RFC 4291, section 2.3).
-use Rattle.std.specs.Prelude.{◌≡◌, ◌≢◌, ◌≤◌, ℕ, ◌∷◌, ◌++◌, decimal, ◌+◌, ◌/◌, ◌%◌, Bool, true, false, ◌&&◌, ◌==◌, if◌then◌else◌, List, codes, Option, Result, Ok, Err, ok_or}
+use Rattle.std.specs.List.{list_any}
+use Rattle.std.specs.Prelude.{◌≡◌, ◌≢◌, ◌≤◌, ℕ, ◌∷◌, ◌++◌, decimal, ◌+◌, ◌/◌, ◌%◌, Bool, true, false, ◌&&◌, ◌==◌, if◌then◌else◌, List, codes, Option, Some, None, Result, Ok, Err, ok_or}
 use Rattle.ssh_patterns.specs.declared.address.Address.{Address}
 use Rattle.ssh_patterns.specs.declared.address.Address.TheVariants.{V4, V6}
 use Rattle.ssh_patterns.specs.declared.error.PatternError.{PatternError}
@@ -77,6 +78,18 @@ abbrev pub ◌>>=◌ : {A B : Type 0} → Result A PatternError → (A → Resul
 Ok value >>= next = next value
 Err fault >>= next = Err fault
 
+-- the net of a base, and of the text of a length with no bit of the base past it; else the first fault
+abbrev pub net_from : Address → List ℕ → Result Block PatternError
+net_from base length_text = do
+  prefix ← ok_or (prefix_of base length_text) errors.Length
+  if block_number base % size base prefix == 0 then Ok (record { base = base; prefix = prefix }) else Err errors.HostBits
+
+-- the net of the texts before and after a slash, or the first fault
+abbrev pub net_between : List ℕ → List ℕ → Result Block PatternError
+net_between base_text length_text = do
+  base ← ok_or (address_of base_text) errors.Address
+  net_from base length_text
+
 -- The net that a text spells: an address, a slash (the first), and a length with no bit of the address past it. Else the first fault.
 unfoldable pub net_of : List ℕ → Result Block PatternError
 net_of text = do
@@ -84,3 +97,7 @@ net_of text = do
   base ← ok_or (address_of cut.0) errors.Address
   prefix ← ok_or (prefix_of base cut.1) errors.Length
   if block_number base % size base prefix == 0 then Ok (record { base = base; prefix = prefix }) else Err errors.HostBits
+
+-- the net that a text with a slash spells, or the first fault; nothing where there is no slash
+abbrev pub net_if_slash : List ℕ → Option (Result Block PatternError)
+net_if_slash text = if list_any (λ c. c == slash) text then Some (net_of text) else None

@@ -31,7 +31,7 @@ ghost use Rattle.ssh_patterns.specs.Lists.{
 };
 
 use crate::permit::Permit;
-use crate::text::split_once;
+use crate::text::cut_long;
 
 /// What a list is asked about.
 pub(crate) trait Asked {
@@ -68,7 +68,7 @@ pub fn first_piece(list: &[u8]) -> (&[u8], Option<&[u8]>)
     ensures lengths { length result.0.now + 1 + length_left (option_copied result.1)
         ≤ length list.now + 1 }
 {
-    match split_once(list, b",") {
+    match cut_long(list, b',') {
         Some((piece, left)) => (piece, Some(left)),
         None => (list, None),
     }

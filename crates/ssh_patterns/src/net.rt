@@ -8,13 +8,16 @@ ghost use Rattle.ssh_patterns.specs.Nets.{
   HasHostBits,
   LiesIn,
   in_net,
+  net_from,
+  net_between,
+  net_if_slash,
   net_of,
   prefix_of,
 };
 
-use crate::address::{Address, read_address};
+use crate::address::{Address, read_address, v4_before_slash};
 use crate::error::PatternError;
-use crate::text::{decimal, split_once};
+use crate::text::{cut, decimal};
 use std::marker::Model;
 
 /// A net: the addresses of one family that share the first bits of its base, in which no later bit
@@ -96,18 +99,51 @@ fn prefix(base: Address, text: &[u8]) -> Option<u8>
     decimal(text).filter(|prefix| *prefix <= width(base))
 }
 
-/// The net that a text spells, or the first fault.
-#[tactic(auto, unfolding(crate::specs::Nets::net_of))]
-fn read_net(text: &[u8]) -> Result<Net, PatternError>
-    ensures { result ≡ net_of text.now }
+/// The net of a base and the text of its length, or the first fault.
+fn net_from(base: Address, length: &[u8]) -> Result<Net, PatternError>
+    ensures { result ≡ net_from base length.now }
 {
-    let (base, length) = split_once(text, b"/").ok_or(PatternError::Address)?;
-    let base = read_address(base).ok_or(PatternError::Address)?;
     let prefix = prefix(base, length).ok_or(PatternError::Length)?;
     if !has_last_clear(number(base), u32::from(width(base) - prefix)) {
         return Err(PatternError::HostBits);
     }
     Ok(Net { base, prefix })
+}
+
+/// The net of the texts before and after a slash, or the first fault.
+fn net_between(base: &[u8], length: &[u8]) -> Result<Net, PatternError>
+    ensures { result ≡ net_between base.now length.now }
+{
+    match read_address(base) {
+        Some(base) => net_from(base, length),
+        None => Err(PatternError::Address),
+    }
+}
+
+/// The net that a text spells, or the first fault. An IPv4 address before the slash is read as it
+/// comes, with no search for the slash.
+#[tactic(auto, unfolding(crate::specs::Nets::net_of))]
+fn read_net(text: &[u8]) -> Result<Net, PatternError>
+    ensures { result ≡ net_of text.now }
+{
+    if let Some((base, length)) = v4_before_slash(text) {
+        return net_from(base, length);
+    }
+    match cut(text, b'/') {
+        Some((base, length)) => net_between(base, length),
+        None => Err(PatternError::Address),
+    }
+}
+
+/// The net that a text with a slash spells, or the first fault. Nothing where there is no slash.
+pub(crate) fn net_if_slash(text: &[u8]) -> Option<Result<Net, PatternError>>
+    ensures { result ≡ net_if_slash text.now }
+{
+    if text.contains(&b'/') {
+        Some(read_net(text))
+    } else {
+        None
+    }
 }
 
 /// The net that a text spells: an address, a slash and the net's length in decimal without leading

@@ -5,6 +5,7 @@ ghost use Rattle.std.specs.List.{Any};
 ghost use Rattle.ssh_patterns.specs.AddressReading.{address_of};
 ghost use Rattle.ssh_patterns.specs.Lists.{
   is_address,
+  is_v6_address,
   host_matches,
   is_match_in_lower_case,
   items_of,
@@ -20,7 +21,7 @@ ghost use Rattle.ssh_patterns.specs.Lists.{
 
 use crate::address::{Address, read_address};
 use crate::list::{Asked, permit};
-use crate::net::{contains, parse_net};
+use crate::net::{contains, net_if_slash};
 use crate::pattern::{Case, matches_in};
 use crate::permit::Permit;
 use std::marker::Model;
@@ -32,6 +33,17 @@ fn is_address(item: &[u8], address: Address) -> bool
     match read_address(item) {
         Some(read) => read == address,
         None => false,
+    }
+}
+
+/// Whether an item is the text of this IPv6 address, whatever its spelling. An IPv4 address has one
+/// text alone, which it matches as a pattern.
+fn is_v6_address(item: &[u8], address: Address) -> bool
+    ensures { result ≡ is_v6_address (address_of item.now) address }
+{
+    match address {
+        Address::V4(_) => false,
+        Address::V6(_) => is_address(item, address),
     }
 }
 
@@ -100,14 +112,11 @@ impl<'a> Asked for Source<'a> {
         if item.is_empty() {
             return None;
         }
-        if item.contains(&b'/') {
-            let net = parse_net(item).ok()?;
-            return Some((contains(&net, &self.address), 0));
+        match net_if_slash(item) {
+            Some(net) => Some((contains(&net.ok()?, &self.address), 0)),
+            None if is_v6_address(item, self.address) => Some((true, 0)),
+            None => Some(name_matches(self.host, self.text, item)),
         }
-        if is_address(item, self.address) {
-            return Some((true, 0));
-        }
-        Some(name_matches(self.host, self.text, item))
     }
 }
 
@@ -126,17 +135,15 @@ impl Asked for Address {
         if negated {
             return None;
         }
-        if item.contains(&b'/') {
-            let net = parse_net(item).ok()?;
-            return Some((contains(&net, self), 0));
+        match net_if_slash(item) {
+            Some(net) => Some((contains(&net.ok()?, self), 0)),
+            None => Some((read_address(item)? == *self, 0)),
         }
-        let address = read_address(item)?;
-        Some((address == *self, 0))
     }
 }
 
 /// `source_list`, and the turns of the matching loop over all its items, as `matches_counted`
-/// counts them: none for an item that is a net or the address, and at most `(list.len() + 1) *
+/// counts them: none for an item with a slash, and at most `(list.len() + 1) *
 /// (host.len() + address_text.len() + 2)`, where no host counts as an empty one.
 pub fn source_list_counted(list: &[u8], host: Option<&[u8]>, address_text: &[u8]) -> (Permit, u128)
     requires { IsSome (address_of address_text.now) }

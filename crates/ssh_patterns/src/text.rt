@@ -1,8 +1,42 @@
 //! Texts that are cut at a mark, and numbers in digits.
 
-ghost use Rattle.std.specs.Prelude.{◌≡◌, ◌<◌, ◌≤◌, ◌^◌, length, option_map};
-ghost use Rattle.ssh_patterns.specs.Cut.{cut_at};
+ghost use Rattle.std.specs.Prelude.{◌≡◌, ◌<◌, ◌≤◌, ◌^◌, [], ◌∷◌, length, option_map};
+ghost use Rattle.ssh_patterns.specs.Cut.{cut_at, cut_near};
 ghost use Rattle.ssh_patterns.specs.Digits.{below, number_in_radix, decimal_of};
+
+use memchr::memchr;
+
+/// What stands before and after the first place where the byte stands, in a
+/// text that may be long.
+pub(crate) fn cut_long(text: &[u8], mark: u8) -> Option<(&[u8], &[u8])>
+    ensures { option_map (λ cut. (cut.0.now, cut.1.now)) result ≡ cut_at (mark ∷ []) text.now }
+{
+    match memchr(mark, text) {
+        Some(at) => Some((&text[..at], &text[at + 1..])),
+        None => None,
+    }
+}
+
+/// What stands before and after the first place where the byte stands, if fewer bytes than the
+/// limit stand before it.
+pub(crate) fn cut_near(text: &[u8], mark: u8, limit: usize) -> Option<(&[u8], &[u8])>
+    ensures { option_map (λ cut. (cut.0.now, cut.1.now)) result
+        ≡ cut_near limit (mark ∷ []) text.now }
+{
+    for at in 0..text.len().min(limit) {
+        if text[at] == mark {
+            return Some((&text[..at], &text[at + 1..]));
+        }
+    }
+    None
+}
+
+/// What stands before and after the first place where the byte stands, in a short text.
+pub(crate) fn cut(text: &[u8], mark: u8) -> Option<(&[u8], &[u8])>
+    ensures { option_map (λ cut. (cut.0.now, cut.1.now)) result ≡ cut_at (mark ∷ []) text.now }
+{
+    cut_near(text, mark, text.len())
+}
 
 /// What stands before and after the first place where the mark stands.
 pub(crate) fn split_once<'a>(text: &'a [u8], mark: &[u8]) -> Option<(&'a [u8], &'a [u8])>

@@ -41,14 +41,14 @@ loop-part-preserved c =
 
 pub returns-in_err-last_groups : goal.returns-in_err-last_groups
 returns-in_err-last_groups c =
-    let uncut = rw c.in_default.is at c.split_once.ensures in
+    let uncut = rw c.in_default.is at c.cut.ensures in
     c.from_residual-in_err-last_groups.ensures
     ∙ rw (← c.in_err-last_groups.ensures) at
     (sym (turn-last c.args.dotted_too c.loop-part.groups c.loop-part.rest.now uncut) ∙ c.loop-part.invariant)
 
 pub returns : goal.returns
 returns c =
-    let uncut = rw c.in_default.is at c.split_once.ensures in
+    let uncut = rw c.in_default.is at c.cut.ensures in
     c.followed_by-2.ensures
     ∙ rw (← c.in_ok-last_groups.ensures) at
     (sym (turn-last c.args.dotted_too c.loop-part.groups c.loop-part.rest.now uncut) ∙ c.loop-part.invariant)
