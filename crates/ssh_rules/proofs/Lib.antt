@@ -8,4 +8,5 @@ pub mod LineOptionLemmas
 pub mod AdmissionLemmas
 pub mod HostAdmissionLemmas
 pub mod RevocationLemmas
+pub mod KeyPieceLemmas
 pub mod SpareLemmas

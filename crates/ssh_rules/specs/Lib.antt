@@ -9,5 +9,6 @@ pub mod Judged
 pub mod Revocation
 pub mod ValueText
 pub mod Verdict
+pub mod KeyPiece
 pub mod Spare
 pub mod Samples

@@ -16,6 +16,7 @@ mod certificate;
 mod host_admission;
 mod host_line;
 mod judged;
+mod key_piece;
 mod laws;
 mod line_options;
 mod noted_entry;

@@ -1,6 +1,6 @@
 //! A host's key that is sought in a known_hosts file.
 
-ghost use Rattle.std.specs.Prelude.{◌≡◌, false, IfOk, option_copied};
+ghost use Rattle.std.specs.Prelude.{◌≡◌, ◌↔◌, false, IfOk, IsTrue, option_copied};
 ghost use Rattle.ssh_certs.specs.Left.{options_left};
 ghost use Rattle.ssh_keys.specs.PublicKey.{key_blob};
 ghost use Rattle.ssh_offers.specs.ClaimViews.{host_claim_of};
@@ -10,6 +10,7 @@ ghost use Rattle.ssh_offers.specs.Query.{host_check_of};
 ghost use Rattle.ssh_lines.specs.KnownSeen.{known_seen};
 ghost use Rattle.ssh_rules.specs.HostAdmission.{first_name, looked_up};
 ghost use Rattle.ssh_rules.specs.Judged.{host_served, host_unknown_name};
+ghost use Rattle.ssh_rules.specs.KeyPiece.{AdmitsNothing, HoldsPiece};
 ghost use Rattle.ssh_lines.specs.KnownGrammar.{known_line};
 ghost use Rattle.ssh_rules.specs.Revocation.{
   RevokesNothing,
@@ -18,8 +19,10 @@ ghost use Rattle.ssh_rules.specs.Revocation.{
   may_revoke,
   revokes_offer,
 };
+ghost use Rattle.ssh_rules.specs.Verdict.{host_verdict};
 
 use crate::certificate::serves;
+use crate::key_piece::KeyPiece;
 use crate::option_name::{OptionName, kept_name};
 use ssh_certs::CertOptions;
 use ssh_lines::KnownLineView;
@@ -38,6 +41,8 @@ pub struct SoughtHost<'a> {
     name: Vec<u8>,
     /// The blob of the key that is to be used.
     blob: Vec<u8>,
+    /// The piece of the key that a line has to hold.
+    piece: KeyPiece,
     /// A certificate is offered that serves for the host.
     serves: bool,
     /// The name of the first critical option of the certificate.
@@ -49,9 +54,10 @@ impl<'a> Model for SoughtHost<'a> {
     ghost use Rattle.ssh_keys.specs.PublicKey.{key_blob};
     ghost use Rattle.ssh_offers.specs.ClaimViews.{host_claim_of};
     ghost use Rattle.ssh_offers.specs.HostClaim.{HostClaim};
-    ghost use Rattle.ssh_offers.specs.Offer.{plain_key};
+    ghost use Rattle.ssh_offers.specs.Offer.{plain_key, subject};
     ghost use Rattle.ssh_rules.specs.HostAdmission.{looked_up};
     ghost use Rattle.ssh_rules.specs.Judged.{host_served, host_unknown_name};
+    ghost use Rattle.ssh_rules.specs.KeyPiece.{piece_of};
 
     ghost Value = { HostClaim };
 
@@ -59,6 +65,7 @@ impl<'a> Model for SoughtHost<'a> {
 
     ghost invariant = { λ s. (s.name.items ≡ looked_up (host_claim_of s.claim).query)
         × (s.blob.items ≡ key_blob (plain_key (host_claim_of s.claim).offer))
+        × (s.piece.text ≡ piece_of (key_blob (subject (host_claim_of s.claim).offer)))
         × (s.serves ≡ host_served (host_claim_of s.claim).query (host_claim_of s.claim).offer)
         × (s.unknown ≡ host_unknown_name (host_claim_of s.claim).offer) };
 }
@@ -116,6 +123,7 @@ impl<'a> SoughtHost<'a> {
             claim: *claim,
             name,
             blob,
+            piece: KeyPiece::new(claim.subject_blob()),
             serves,
             unknown,
         })
@@ -168,6 +176,17 @@ impl<'a> SoughtHost<'a> {
         ensures { result.now ≡ key_blob (subject self.now.offer) }
     {
         self.claim.subject_blob()
+    }
+
+    /// Whether a line of a known_hosts file can admit the key, by a search alone: it holds a piece of
+    /// the base64 of the key that it has to hold. So that a line that would count only if it admits
+    /// need not be read.
+    pub fn can_admit(&self, line: &[u8]) -> bool
+        ensures value { IsTrue result ↔ HoldsPiece line.now (key_blob (subject self.now.offer)) }
+        ensures nothing { result ≡ false
+            → AdmitsNothing (host_verdict self.now (known_line line.now)) }
+    {
+        self.piece.is_in(line)
     }
 
     /// Whether this is the blob of the offered key, or of the certificate's signer.

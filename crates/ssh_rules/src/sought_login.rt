@@ -1,10 +1,16 @@
 //! A login that is sought in an authorized_keys file.
 
-ghost use Rattle.std.specs.Prelude.{◌≡◌, IfOk, IsOk, option_copied};
+ghost use Rattle.std.specs.Prelude.{◌≡◌, ◌↔◌, false, IfOk, IsOk, IsTrue, option_copied};
+ghost use Rattle.ssh_keys.specs.PublicKey.{key_blob};
+ghost use Rattle.ssh_lines.specs.AuthGrammar.{auth_line};
 ghost use Rattle.ssh_offers.specs.ClaimViews.{claim_of};
+ghost use Rattle.ssh_offers.specs.Offer.{subject};
 ghost use Rattle.ssh_rules.specs.Judged.{IsPlainlySought, judged_of};
+ghost use Rattle.ssh_rules.specs.KeyPiece.{AdmitsNothing, HoldsPiece};
+ghost use Rattle.ssh_rules.specs.Verdict.{login_verdict};
 
 use crate::judged::JudgedCertificate;
+use crate::key_piece::KeyPiece;
 use ssh_offers::{LoginClaimView, Offer};
 use std::alloc::{AllocError, Global};
 use std::marker::Model;
@@ -16,19 +22,25 @@ pub struct SoughtLogin<'a> {
     claim: LoginClaimView<'a>,
     /// The certificate, where one is offered.
     judged: Option<JudgedCertificate<'a>>,
+    /// The piece of the key that a line has to hold.
+    piece: KeyPiece,
 }
 
 impl<'a> Model for SoughtLogin<'a> {
     ghost use Rattle.std.specs.Prelude.{◌≡◌};
+    ghost use Rattle.ssh_keys.specs.PublicKey.{key_blob};
     ghost use Rattle.ssh_offers.specs.ClaimViews.{claim_of};
     ghost use Rattle.ssh_offers.specs.LoginClaim.{LoginClaim};
+    ghost use Rattle.ssh_offers.specs.Offer.{subject};
     ghost use Rattle.ssh_rules.specs.Judged.{judged_of};
+    ghost use Rattle.ssh_rules.specs.KeyPiece.{piece_of};
 
     ghost Value = { LoginClaim };
 
     ghost view = { λ s. claim_of s.claim };
 
-    ghost invariant = { λ s. s.judged ≡ judged_of (claim_of s.claim) };
+    ghost invariant = { λ s. (s.judged ≡ judged_of (claim_of s.claim))
+        × (s.piece.text ≡ piece_of (key_blob (subject (claim_of s.claim).offer))) };
 }
 
 impl<'a> SoughtLogin<'a> {
@@ -52,6 +64,7 @@ impl<'a> SoughtLogin<'a> {
         Ok(SoughtLogin {
             claim: *claim,
             judged,
+            piece: KeyPiece::new(claim.subject_blob()),
         })
     }
 
@@ -67,5 +80,15 @@ impl<'a> SoughtLogin<'a> {
         ensures { option_copied result ≡ judged_of self.now }
     {
         self.judged.as_ref()
+    }
+
+    /// Whether a line of an authorized_keys file can admit the login, by a search alone: it holds a
+    /// piece of the base64 of the key that it has to hold. So that a line that would count only if it
+    /// admits need not be read.
+    pub fn can_admit(&self, line: &[u8]) -> bool
+        ensures value { IsTrue result ↔ HoldsPiece line.now (key_blob (subject self.now.offer)) }
+        ensures nothing { result ≡ false → AdmitsNothing (login_verdict self.now (auth_line line.now)) }
+    {
+        self.piece.is_in(line)
     }
 }
