@@ -1,13 +1,28 @@
 //! What the lines of a known_hosts file say to a host's key: one line after the other. The whole
 //! file counts, for a later line may revoke.
 
-ghost use Rattle.std.specs.Prelude.{◌≡◌, ◌≤◌, ℕ, false, is_some, length, List, Err, IfOk, OnErr, OnOk, ⊤};
+ghost use Rattle.std.specs.Prelude.{
+  ◌≡◌,
+  ◌≤◌,
+  ℕ,
+  false,
+  true,
+  is_some,
+  length,
+  List,
+  Err,
+  IfOk,
+  OnErr,
+  OnOk,
+  ⊤,
+};
 ghost use Rattle.ssh_lines.specs.KnownGrammar.{known_line};
 ghost use Rattle.ssh_lines.specs.KnownSeen.{known_seen};
 ghost use Rattle.ssh_offers.specs.declared.error.AuditError.TheVariants.{Memory};
 ghost use Rattle.ssh_offers.specs.ClaimViews.{host_claim_of};
 ghost use Rattle.ssh_offers.specs.HostClaim.{HostClaim, host_claim};
 ghost use Rattle.ssh_offers.specs.Query.{host_check_of};
+ghost use Rattle.ssh_rules.specs.KeyPiece.{AdmitsNothing};
 ghost use Rattle.ssh_rules.specs.Revocation.{RevokesNothing};
 ghost use Rattle.ssh_trust.specs.FileLines.{IsHandedLine};
 ghost use Rattle.ssh_trust.specs.Telling.{HostDecides};
@@ -16,10 +31,11 @@ ghost use Rattle.ssh_trust.specs.HostScan.{
   admitting_number,
   empty_host_scan,
   first_so_far,
+  host_line_verdict,
   host_scan_line,
 };
 ghost use Rattle.ssh_trust.specs.Candidate.{reason_limit};
-ghost use Rattle.ssh_trust.specs.Scan.{scan_verdict};
+ghost use Rattle.ssh_trust.specs.Scan.{scan_line, scan_verdict};
 
 use crate::decision::Decision;
 use crate::host_decide::decide_host;
@@ -103,6 +119,42 @@ fn can_revoke_at(line: Line<'_>) -> bool
     }
 }
 
+/// Whether the line can admit the key. One that is longer than a line may be cannot.
+#[tactic(auto, using(crate::proofs::LongLines::long_known_admits_nothing))]
+fn can_admit_at(sought: &SoughtHost<'_>, line: Line<'_>) -> bool
+    ensures { (text : List ℕ)
+        → IsHandedLine line.entry text
+        → result ≡ false
+        → AdmitsNothing (host_line_verdict sought.now text) }
+{
+    match line {
+        Line::Whole(text) => sought.can_admit(text),
+        Line::TooLong => false,
+    }
+}
+
+/// Whether the line adds nothing to what admits the key: a line before it does, or enough reasons
+/// are listed and it cannot.
+fn adds_no_admission(sought: &SoughtHost<'_>, line: Line<'_>, said: &Scan<u64>) -> bool
+    ensures { (number : ℕ) (text : List ℕ)
+        → IsHandedLine line.entry text
+        → result ≡ true
+        → said.now ≡ scan_line admitting_number (host_line_verdict sought.now) said.now (number, text) }
+{
+    said.is_settled() || (!said.has_room() && !can_admit_at(sought, line))
+}
+
+/// Whether the line adds nothing to what is said, whatever it says: nothing to what admits the key,
+/// and no revocation.
+fn is_passed_over(sought: &SoughtHost<'_>, line: Line<'_>, said: &HostScan) -> bool
+    ensures { (number : ℕ) (text : List ℕ)
+        → IsHandedLine line.entry text
+        → result ≡ true
+        → said.now ≡ host_scan_line sought.now said.now (number, text) }
+{
+    adds_no_admission(sought, line, &said.admission) && !can_revoke_at(line)
+}
+
 /// Takes what the line of this number is to the key, where none before it admits it.
 fn take_verdict(
     number: u64,
@@ -133,8 +185,8 @@ fn sought_of<'a>(alloc: Global, claim: &HostClaimView<'a>) -> Result<SoughtHost<
     }
 }
 
-/// The first line that trusts a host's key, and those that revoke it. After the former only
-/// revocations count, so that a line that can be none is not read.
+/// The first line that trusts a host's key, and those that revoke it. After the former, and once
+/// enough reasons are listed, a line that can be neither is not read.
 impl<'a> Sought for SoughtHost<'a> {
     type Query = HostQuery<'a>;
 
@@ -177,7 +229,7 @@ impl<'a> Sought for SoughtHost<'a> {
         buffer: &mut KeyBuffer,
         said: &mut HostScan,
     ) -> Result<(), AllocError> {
-        if said.is_settled() && !can_revoke_at(line) {
+        if is_passed_over(self, line, said) {
             return Ok(());
         }
         let view = view_of(line, buffer);

@@ -1,15 +1,36 @@
 //! The first line that admits a login, and why the lines before it do not: one line after the
 //! other.
 
-ghost use Rattle.std.specs.Prelude.{◌≡◌, ◌<◌, ◌≤◌, ◌^◌, ℕ, List, length, Err, IfOk, OnErr, OnOk};
+ghost use Rattle.std.specs.Prelude.{
+  ◌≡◌,
+  ◌<◌,
+  ◌≤◌,
+  ◌^◌,
+  ℕ,
+  List,
+  false,
+  true,
+  is_some,
+  length,
+  Err,
+  IfOk,
+  OnErr,
+  OnOk,
+};
 ghost use Rattle.ssh_lines.specs.AuthGrammar.{auth_line};
 ghost use Rattle.ssh_lines.specs.LineView.{line_seen};
 ghost use Rattle.ssh_offers.specs.declared.error.AuditError.TheVariants.{Memory};
 ghost use Rattle.ssh_offers.specs.ClaimViews.{claim_of};
 ghost use Rattle.ssh_offers.specs.LoginClaim.{LoginClaim, login_claim};
 ghost use Rattle.ssh_offers.specs.Query.{login_of};
+ghost use Rattle.ssh_rules.specs.KeyPiece.{AdmitsNothing};
 ghost use Rattle.ssh_trust.specs.Telling.{LoginDecides};
-ghost use Rattle.ssh_trust.specs.LoginDecision.{candidate_at, login_decision, login_scan_line};
+ghost use Rattle.ssh_trust.specs.LoginDecision.{
+  candidate_at,
+  line_verdict,
+  login_decision,
+  login_scan_line,
+};
 ghost use Rattle.ssh_trust.specs.FileLines.{IsHandedLine};
 ghost use Rattle.ssh_trust.specs.Candidate.{reason_limit};
 ghost use Rattle.ssh_trust.specs.Scan.{empty_scan, scan_verdict};
@@ -90,6 +111,32 @@ fn view_of<'a>(line: Line<'a>, buffer: &'a mut KeyBuffer) -> AuthLineView<'a>
     }
 }
 
+/// Whether the line can admit the login. One that is longer than a line may be cannot.
+#[tactic(auto, using(crate::proofs::LongLines::long_auth_admits_nothing))]
+fn can_admit_at(sought: &SoughtLogin<'_>, line: Line<'_>) -> bool
+    ensures { (text : List ℕ)
+        → IsHandedLine line.entry text
+        → result ≡ false
+        → AdmitsNothing (line_verdict sought.now text) }
+{
+    match line {
+        Line::Whole(text) => sought.can_admit(text),
+        Line::TooLong => false,
+    }
+}
+
+/// Whether the line adds nothing to what is said, whatever it says: a line before it admits the
+/// login, or enough reasons are listed and it cannot admit.
+fn is_passed_over(sought: &SoughtLogin<'_>, line: Line<'_>, said: &Scan<Candidate>) -> bool
+    ensures same { (number : ℕ) (text : List ℕ)
+        → IsHandedLine line.entry text
+        → result ≡ true
+        → said.now ≡ login_scan_line sought.now said.now (number, text) }
+    ensures unsettled { result ≡ false → is_some said.now.candidate ≡ false }
+{
+    said.is_settled() || (!said.has_room() && !can_admit_at(sought, line))
+}
+
 /// What is sought for a claim.
 fn sought_of<'a>(alloc: Global, claim: &LoginClaimView<'a>) -> Result<SoughtLogin<'a>, AuditError>
     ensures value { IfOk result (λ sought. sought ≡ claim_of claim.now) }
@@ -140,7 +187,7 @@ impl<'a> Sought for SoughtLogin<'a> {
         buffer: &mut KeyBuffer,
         said: &mut Scan<Candidate>,
     ) -> Result<(), AllocError> {
-        if said.is_settled() {
+        if is_passed_over(self, line, said) {
             return Ok(());
         }
         let verdict = login_verdict(alloc, view_of(line, buffer), self)?;

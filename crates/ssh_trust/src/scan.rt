@@ -43,7 +43,7 @@ impl<C> Scan<C> {
     }
 
     /// Whether one more reason may be listed.
-    fn has_room(&self) -> bool
+    pub(crate) fn has_room(&self) -> bool
         ensures { result ≡ nat_lt (length self.now.reasons) reason_limit }
     {
         self.reasons.len() < REASON_LIMIT
