@@ -1,12 +1,12 @@
 -- An IPv4 address has one text, which matches itself as a pattern.
-use Rattle.std.proofs.Common.{◌≡◌, ℕ, ◌+◌, ◌*◌, ◌<◌, ◌==◌, Bool, true, false, ◌||◌, if◌then◌else◌, inl, inr, List, [], ◌∷◌, map, length, Option, Some, None, refl, sym, ap, ◌∙◌, lit≤, arith}
+use Rattle.std.proofs.Common.{option_map, ◌≡◌, ℕ, ◌+◌, ◌*◌, ◌<◌, ◌==◌, Bool, true, false, ◌||◌, if◌then◌else◌, inl, inr, List, [], ◌∷◌, map, length, Option, Some, None, refl, sym, ap, ◌∙◌, lit≤, arith}
 use Rattle.std.specs.List.{AllByRecursion, list_any}
 use Rattle.std.specs.Char.{to_ascii_lowercase}
 use Rattle.std.proofs.lemmas.Bool.{eqb-true, eq-eqb, ne_eqb, lt-ltb, le-ltb, cases_lt}
 use Rattle.ssh_patterns.specs.declared.address.Address.{Address}
 use Rattle.ssh_patterns.specs.declared.address.Address.TheVariants.{V4, V6}
-use Rattle.ssh_patterns.specs.AddressText.{dotted}
-use Rattle.ssh_patterns.specs.AddressReading.{address_of}
+use Rattle.ssh_patterns.specs.AddressText.{colon, dotted}
+use Rattle.ssh_patterns.specs.AddressReading.{address_of, octets_of}
 use Rattle.ssh_patterns.specs.Digits.{number_to_base}
 use Rattle.ssh_patterns.specs.Matching.{is_match, is_empty, star, question}
 use Rattle.ssh_patterns.specs.Nets.{net_of, net_if_slash}
@@ -67,6 +67,17 @@ itself n text h =
     (lower-no-stars text (rw text_is (dotted-has_no star refl (lit≤ tt) os are)))
 
 -- ---- items of lists of sources
+
+no-v6 : (octets : Option (List ℕ)) (n : ℕ) → is_address (option_map (λ os. V4 (number_to_base 256 0 os)) octets) (V6 n) ≡ false
+no-v6 None n = refl
+no-v6 (Some os) n = refl
+
+-- where there is no colon, no IPv6 address is read
+pub no-colon : (item : List ℕ) (address : Address) → list_any (λ c. c == colon) item ≡ false
+    → false ≡ is_v6_address (address_of item) address
+unfolding address_of
+no-colon item (V4 n) h = refl
+no-colon item (V6 n) h = rw h (sym (no-v6 (octets_of item) n))
 
 both-by : (a h t : Bool) → (a ≡ true → t ≡ true) → ((a || h) || t) ≡ (h || t)
 both-by true h t f = sym (rw (f refl) (or_true h))

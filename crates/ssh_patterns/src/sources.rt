@@ -43,7 +43,7 @@ fn is_v6_address(item: &[u8], address: Address) -> bool
 {
     match address {
         Address::V4(_) => false,
-        Address::V6(_) => is_address(item, address),
+        Address::V6(_) => item.contains(&b':') && is_address(item, address),
     }
 }
 
