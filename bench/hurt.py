@@ -1,7 +1,7 @@
 #!/usr/bin/env python3
 """Times `ssh_audit` on input that was made to hurt, at four sizes that double each time: lists that name nobody against a
 certificate of many principals, long lists of nets and of clients, a name of a critical option that is as long as a
-certificate lets it be, a vouch file of other triples, a file of which one line is shown, and a host's key that the first
+certificate lets it be, vouch files of other triples, a file of which one line is shown, and a host's key that the first
 line of a long file admits.
 
 Each answer is checked, and then a Markdown table is printed: the processor time, the exponent p of time ~ size^p from one
@@ -17,6 +17,7 @@ import sys
 import tempfile
 
 import inputs
+import sshsig
 from inputs import b64, string
 from run import AUDIT, BUILT, USER, Bench, Certificate, Command, Host, Login, print_machine, print_table
 
@@ -115,6 +116,13 @@ def other_triples(folder, size):
     return Case(asked(Login(inputs.LAST), path, vouched), 1, "denied N6 0")
 
 
+def other_file_triples(folder, size):
+    body = b"SSHSIG" + bytes([0, 0, 0, 1]) + string(sshsig.KEY) + sshsig.NAMED + string(sshsig.SIGNATURE)
+    contents = {"body": body, "message": b"", "vouch": b"00 00 00\n" * (8 * size * MIB // 9)}
+    files = [word for name, content in contents.items() for word in (f"--{name}", written(folder, name, [content]))]
+    return Case(["sshsig", *files, "--namespace", "file"], 1, "denied N6 0")
+
+
 def one_line_shown(folder, size):
     path = written(folder, "shown", [KEY_LINE, *itertools.repeat(b"#" * 99 + b"\n", 8 * size * MIB // 100 - 1)])
     return Case(["show", "--kind", "key", "--file", path], 0, "")
@@ -141,6 +149,7 @@ SHAPES = {
     "an unknown critical option, a longer name": name_of_option,
     "from, more lines of addresses": clients_of_lines,
     "a vouch file of other triples": other_triples,
+    "a file signature's vouch file of other triples": other_file_triples,
     "show, the first line of a longer file": one_line_shown,
     "host, the first line of a longer file": after_the_candidate,
 }

@@ -472,20 +472,25 @@ def streamed_rows(program, tally):
 
 
 def vouching_rows(program, tally):
-    """Vouch files of 64 MiB, of the shortest triples and of one line: no more than 4 MiB."""
+    """Vouch files of 64 MiB, of the shortest triples and of one line: no more than 4 MiB. Of a file signature's the bytes are
+    held, and no more than 4 MiB beside them."""
     meter = program.room / "meter"
-    triple, short = FILES["vouched"].encode(), b"- - -\n"
-    count = (FILE_LIMIT - len(triple)) // len(short)
-    for name, content, wanted in (
-        ("other triples", short * count, (1, UNVOUCHED)),
-        ("the one that is sought after others", short * count + triple, (0, GRANTED)),
-        ("no triple after others", short * count + b"-\n", (2, f"fault vouch {count + 1}\n")),
-        ("one line", b"0" * (FILE_LIMIT - 4) + b" - -", (1, UNVOUCHED)),
+    short = b"- - -\n"
+    for asked, triple, unvouched, vouched, most in (
+        (login("keys", "large"), FILES["vouched"], UNVOUCHED, (0, GRANTED), 4096),
+        (sshsig("body", "message", "large"), FILES["file vouched"], NOT_VOUCHED, (0, VOUCHED), 4096 + FILE_LIMIT // 1024),
     ):
-        (program.room / "large").write_bytes(content)
-        answer, took, peak = cost_of(program, meter, login("keys", "large"))
-        tally.check(f"a vouch file of {len(content)} bytes, {name}", answer, (wanted[0], wanted[1].encode()))
-        tally.check(f"the same in {peak} KiB, {took} microseconds", peak <= 4096, True)
+        count = (FILE_LIMIT - len(triple)) // len(short)
+        for name, content, wanted in (
+            ("other triples", short * count, (1, unvouched)),
+            ("the one that is sought after others", short * count + triple.encode(), vouched),
+            ("no triple after others", short * count + b"-\n", (2, f"fault vouch {count + 1}\n")),
+            ("one line", b"0" * (FILE_LIMIT - 4) + b" - -", (1, unvouched)),
+        ):
+            (program.room / "large").write_bytes(content)
+            answer, took, peak = cost_of(program, meter, asked)
+            tally.check(f"{asked[0]}: a vouch file of {len(content)} bytes, {name}", answer, (wanted[0], wanted[1].encode()))
+            tally.check(f"the same in {peak} KiB, {took} microseconds", peak <= most, True)
     (program.room / "large").unlink()
 
 

@@ -1,6 +1,6 @@
 -- A file signature by the digest of its message: what is signed, and what is answered, depend on the message by its digest
 -- alone (PROTOCOL.sshsig).
-use Rattle.std.specs.Prelude.{◌≡◌, ℕ, List, [], ◌∷◌, ◌++◌, if◌then◌else◌}
+use Rattle.std.specs.Prelude.{◌≡◌, ℕ, Bool, List, [], ◌∷◌, ◌++◌, if◌then◌else◌}
 use Rattle.std.specs.Str.{bytes_eq}
 use Rattle.ssh_wire.specs.Spelling.{string}
 use Rattle.ssh_keys.specs.PublicKey.{key_blob}
@@ -9,7 +9,7 @@ use Rattle.ssh_bodies.specs.declared.hash.HashName.{HashName}
 use Rattle.ssh_bodies.specs.Sshsig.{Sshsig, digest_of, hash_name, sshsig_magic}
 use Rattle.ssh_offers.specs.declared.query.Signed.{Signed}
 use Rattle.ssh_trust.specs.declared.sshsig_answer.SshsigAnswer.{SshsigAnswer}
-use Rattle.ssh_trust.specs.declared.sshsig_answer.SshsigAnswer.TheVariants.{OtherNamespace}
+use Rattle.ssh_trust.specs.declared.sshsig_answer.SshsigAnswer.TheVariants.{NotVouched, OtherNamespace, Vouched}
 use Rattle.ssh_trust.specs.SshsigAnswer.{vouched_answer}
 use Rattle.ssh_command.specs.declared.digest.MessageDigest.{MessageDigest}
 use Rattle.ssh_command.specs.declared.digest.MessageDigest.TheVariants.{Sha256, Sha512}
@@ -33,3 +33,7 @@ signed_by_digest v digest = record { key = key_blob v.key; message = text_by_dig
 -- what is answered where the message has this digest
 unfoldable pub answer_by_digest : Sshsig → List ℕ → List ℕ → List Signed → SshsigAnswer
 answer_by_digest v digest namespace vouched = if bytes_eq v.namespace namespace then vouched_answer vouched (signed_by_digest v digest ∷ []) else OtherNamespace
+
+-- the same for one signature, by whether it is vouched for
+abbrev pub answer_where : Bool → List Signed → SshsigAnswer
+answer_where is_vouched evidence = if is_vouched then Vouched evidence else NotVouched evidence

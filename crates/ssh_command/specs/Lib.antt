@@ -1,6 +1,7 @@
 pub mod Shows
 pub mod Sshsigs
 pub mod Digests
+pub mod HeldFiles
 pub mod Rewritings
 pub mod Hashings
 pub mod Requests

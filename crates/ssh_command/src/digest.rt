@@ -6,6 +6,7 @@ ghost use Rattle.ssh_bodies.specs.SshsigOf.{sshsig_of};
 ghost use Rattle.ssh_command.specs.Digests.{
   IsDigest,
   answer_by_digest,
+  answer_where,
   digest_bytes,
   signed_by_digest,
   text_by_digest,
@@ -14,12 +15,12 @@ ghost use Rattle.ssh_inputs.specs.Loading.{LoadsPart};
 ghost use Rattle.ssh_inputs.specs.Parts.{after_whole};
 ghost use Rattle.ssh_inputs.specs.SourceState.{IfTells, bytes_at};
 ghost use Rattle.ssh_offers.specs.FileSignatureView.{sshsig_claim_of};
-ghost use Rattle.ssh_trust.specs.SshsigAnswer.{vouched_answer};
 
+use crate::vouches::Vouches;
 use sha2::{Sha256, Sha512};
 use ssh_bodies::{HashName, SshsigView};
 use ssh_inputs::{Files, ReadError, read_digest};
-use ssh_offers::{Items, Signed, SshsigClaimView, first_unvouched};
+use ssh_offers::{Items, Signed, SshsigClaimView};
 use ssh_text::Bytes;
 use ssh_trust::SshsigAnswer;
 use ssh_wire::put_string;
@@ -103,24 +104,25 @@ pub fn read_message<F: Files>(
     }
 }
 
-/// The answer by what is vouched for.
-fn answer_by(evidence: Items<Signed>, vouched: &[Signed]) -> SshsigAnswer
-    ensures { result ≡ vouched_answer vouched.now evidence }
+/// The answer to one signature by whether it is vouched for.
+fn answer_by(evidence: Items<Signed>, is_vouched: bool) -> SshsigAnswer
+    ensures { result ≡ answer_where is_vouched evidence }
 {
-    match first_unvouched(vouched, evidence.as_slice()) {
-        None => SshsigAnswer::Vouched { evidence },
-        Some(_) => SshsigAnswer::NotVouched { evidence },
+    if is_vouched {
+        SshsigAnswer::Vouched { evidence }
+    } else {
+        SshsigAnswer::NotVouched { evidence }
     }
 }
 
 /// Answers a claim by the digest of the message.
-#[tactic(auto, unfolding(crate::specs::Digests::answer_by_digest))]
+#[tactic(auto, unfolding(crate::specs::Digests::answer_by_digest), using(crate::proofs::DigestLemmas::one_answer))]
 pub fn answer_digest(
     alloc: Global,
     claim: &SshsigClaimView<'_>,
     digest: &MessageDigest,
     namespace: &[u8],
-    vouched: &[Signed],
+    vouched: &Vouches<'_>,
 ) -> Result<SshsigAnswer, AllocError>
     ensures { IfOk result (λ answer.
         answer ≡ answer_by_digest (sshsig_claim_of claim.now) (digest_bytes digest.now)
@@ -130,7 +132,8 @@ pub fn answer_digest(
         return Ok(SshsigAnswer::OtherNamespace);
     }
     let signed = digest_signed(alloc, claim, digest)?;
+    let is_vouched = vouched.has(&signed);
     let mut evidence = Vec::new(alloc);
     evidence.push(signed)?;
-    Ok(answer_by(Items::from_vec(evidence), vouched))
+    Ok(answer_by(Items::from_vec(evidence), is_vouched))
 }

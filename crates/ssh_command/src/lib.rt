@@ -3,6 +3,7 @@
 
 mod digest;
 mod hashing;
+mod held_file;
 mod laws;
 mod program;
 mod respond;
@@ -11,6 +12,7 @@ mod samples;
 mod show;
 mod sink;
 mod sshsig;
+mod vouches;
 
 pub use program::{refuse, run};
 pub use sink::Sink;

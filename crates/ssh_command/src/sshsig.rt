@@ -1,6 +1,6 @@
 //! What files answer to a file signature, with the signatures that a vouch file vouches for.
 
-ghost use Rattle.std.specs.Prelude.{◌≡◌, IfOk};
+ghost use Rattle.std.specs.Prelude.{◌≡◌, ◌≤◌, IfOk, length};
 ghost use Rattle.ssh_questions.specs.Audits.{or_vouch_fault};
 ghost use Rattle.ssh_words.specs.AskedView.{question_of};
 ghost use Rattle.ssh_command.specs.Digests.{answer_by_digest, digest_bytes};
@@ -12,11 +12,13 @@ ghost use Rattle.ssh_print.specs.ResponseView.{response};
 ghost use Rattle.ssh_print.specs.SshsigText.{sshsig_response};
 ghost use Rattle.ssh_inputs.specs.SourceState.{IfTells};
 ghost use Rattle.ssh_inputs.specs.VouchFile.{vouched_of};
+ghost use Rattle.ssh_text.specs.Text.{file_limit};
 
 use crate::digest::{MessageDigest, answer_digest, read_message};
-use ssh_inputs::{Files, VouchError, read_front, read_past, read_vouch_file, read_vouched};
+use crate::vouches::Vouches;
+use ssh_inputs::{Files, read_front, read_past, read_vouch_file};
 use ssh_keys::MAX_BLOB_LEN;
-use ssh_offers::{AuditError, Signed, SshsigClaimView};
+use ssh_offers::{AuditError, SshsigClaimView};
 use ssh_print::{Response, sshsig_response, vouch_fault};
 use ssh_questions::unread;
 use ssh_words::{CommandError, SshsigQuestion, Words};
@@ -26,7 +28,7 @@ use std::alloc::{AllocError, Global};
 fn respond_digest(
     alloc: Global,
     question: &SshsigQuestion<'_>,
-    vouched: &[Signed],
+    vouched: &Vouches<'_>,
     claim: &SshsigClaimView<'_>,
     digest: &MessageDigest,
 ) -> Result<Response, AllocError>
@@ -42,7 +44,7 @@ fn respond_digest(
 fn respond_claim<F: Files>(
     alloc: Global,
     question: &SshsigQuestion<'_>,
-    vouched: &[Signed],
+    vouched: &Vouches<'_>,
     claim: &SshsigClaimView<'_>,
     files: &mut F,
 ) -> Result<Response, AllocError>
@@ -60,7 +62,7 @@ fn respond_claim<F: Files>(
 fn respond_refused<F: Files>(
     alloc: Global,
     question: &SshsigQuestion<'_>,
-    vouched: &[Signed],
+    vouched: &Vouches<'_>,
     refusal: AuditError,
     files: &mut F,
 ) -> Result<Response, AllocError>
@@ -78,7 +80,7 @@ fn respond_refused<F: Files>(
 fn respond_body<F: Files>(
     alloc: Global,
     question: &SshsigQuestion<'_>,
-    vouched: &[Signed],
+    vouched: &Vouches<'_>,
     body: &[u8],
     files: &mut F,
 ) -> Result<Response, AllocError>
@@ -97,7 +99,7 @@ fn respond_body<F: Files>(
 fn respond_vouched<F: Files>(
     alloc: Global,
     question: &SshsigQuestion<'_>,
-    vouched: &[Signed],
+    vouched: &Vouches<'_>,
     files: &mut F,
 ) -> Result<Response, AllocError>
     ensures { IfTells (F.source_state files.old) (λ s. IfOk result (λ r.
@@ -117,17 +119,14 @@ fn respond_vouch_bytes<F: Files>(
     bytes: &[u8],
     files: &mut F,
 ) -> Result<Response, AllocError>
+    requires { length bytes.now ≤ file_limit }
     ensures { IfTells (F.source_state files.old) (λ s. IfOk result (λ r.
         SignsVouched (question_of question.entry.now) (or_vouch_fault (vouched_of bytes.now)) s
         (F.source_state files.new) (response r))) }
 {
-    match read_vouched(alloc, bytes) {
-        Ok(vouched) => {
-            let response = respond_vouched(alloc, question, &vouched, files)?;
-            Ok(response)
-        }
-        Err(VouchError::Line(number)) => vouch_fault(alloc, number),
-        Err(VouchError::Memory) => Err(AllocError),
+    match Vouches::new(bytes) {
+        Ok(vouched) => respond_vouched(alloc, question, &vouched, files),
+        Err(number) => vouch_fault(alloc, number),
     }
 }
 
@@ -141,7 +140,7 @@ fn respond_signature<F: Files>(
         Signs (question_of question.entry.now) s (F.source_state files.new) (response r))) }
 {
     match question.vouch {
-        None => respond_vouched(alloc, question, &[], files),
+        None => respond_vouched(alloc, question, &Vouches::none(), files),
         Some(name) => match read_vouch_file(alloc, files, name) {
             Ok(bytes) => respond_vouch_bytes(alloc, question, &bytes, files),
             Err(fault) => unread(alloc, name, fault),

@@ -7,7 +7,7 @@ use Rattle.ssh_command.proofs.sshsig.respond_signature.Goals as goal
 pub returns-in-None : goal.returns-in-None
 returns-in-None g c =
     words_signed response (question_of c.args.question.now) (g.F.Files.source_state c.args.files.now) (g.F.Files.source_state c.respond_vouched.new.files) c.respond_vouched.result
-    (search rules) c.respond_vouched.ensures
+    (search rules) (rw c.none.ensures at c.respond_vouched.ensures)
 
 pub returns-in-Ok : goal.returns-in-Ok
 returns-in-Ok g c =
