@@ -6,7 +6,6 @@ mod PartReading
 mod LineReading
 mod ValueLemmas
 pub mod PieceLemmas
-mod VouchedLemmas
 mod SeekerLemmas
 mod SeekingLemmas
 pub mod SourceLemmas

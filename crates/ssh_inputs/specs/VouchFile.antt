@@ -1,11 +1,9 @@
 -- A vouch file: lines of three hexadecimal fields, parted by one space.
-use Rattle.std.specs.Prelude.{◌∷◌, [], ◌==◌, ◌+◌, ℕ, Bool, true, false, is_some, List, Option, Some, None, Result, Ok, Err, take, drop, option_map, option_and_then, if◌then◌else◌, ◌≡◌, ⊤}
+use Rattle.std.specs.Prelude.{◌∷◌, [], ◌==◌, ◌+◌, ℕ, Bool, true, List, Option, Some, None, Result, Ok, Err, take, drop, option_map, option_and_then, if◌then◌else◌}
 use Rattle.std.specs.List.{list_any, position}
 use Rattle.ssh_patterns.specs.Cut.{◌>>=◌}
 use Rattle.ssh_offers.specs.declared.query.Signed.{Signed}
 use Rattle.ssh_text.specs.Text.{lines_of}
-use Rattle.ssh_inputs.specs.declared.vouch.VouchError.{VouchError}
-use Rattle.ssh_inputs.specs.declared.vouch.VouchError.TheVariants.{Line, Memory}
 use Rattle.ssh_inputs.specs.Values.{hex_bytes}
 use Rattle.ssh_inputs.specs.Words.{is_space}
 
@@ -51,14 +49,3 @@ vouched_from n (l ∷ lines) = if is_skipped l then vouched_from (n + 1) lines
 
 unfoldable pub vouched_of : List ℕ → Result (List Signed) ℕ
 vouched_of file = vouched_from 1 (lines_of file)
-
--- whether a line of three fields is read, which takes memory; lines that are skipped and one without three fields take none
-abbrev pub reads_fields : List (List ℕ) → Bool
-reads_fields [] = false
-reads_fields (l ∷ lines) = if is_skipped l then reads_fields lines else is_some (three_fields l)
-
--- the signatures, seen by view, or the first line that spells none; nothing is said where memory was refused
-abbrev pub Vouches : {V : Type 0} → (V → List Signed) → Result V VouchError → Result (List Signed) ℕ → Type 0
-Vouches view (Ok vouched) read = read ≡ Ok (view vouched)
-Vouches view (Err (Line n)) read = read ≡ Err n
-Vouches view (Err Memory) read = ⊤

@@ -11,7 +11,6 @@ mod samples;
 mod seek;
 mod seeker;
 mod values;
-mod vouch;
 mod words;
 mod zone;
 
@@ -24,6 +23,5 @@ pub use seek::{Found, seek_vouched};
 pub use values::{
     is_short, read_bits, read_empty_principals, read_hex, read_number, read_port, read_short_hex,
 };
-pub use vouch::{VouchError, read_vouched};
 pub use words::read_words;
 pub use zone::zone_of;
