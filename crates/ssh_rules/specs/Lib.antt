@@ -12,3 +12,4 @@ pub mod Verdict
 pub mod KeyPiece
 pub mod Spare
 pub mod Samples
+pub mod Turns

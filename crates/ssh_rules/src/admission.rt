@@ -1,6 +1,6 @@
 //! Whether an entry of an authorized_keys file admits a login.
 
-ghost use Rattle.std.specs.Prelude.{◌≡◌, [], ◌∷◌, ◌&&◌, ◌||◌, false, IfOk, IsOk, Some};
+ghost use Rattle.std.specs.Prelude.{◌≡◌, ◌≤◌, [], ◌∷◌, ◌&&◌, ◌||◌, false, IfOk, IsOk, Some};
 ghost use Rattle.std.specs.List.{list_any};
 ghost use Rattle.ssh_options.specs.declared.option.ValueName.TheVariants.{
   ExpiryTime,
@@ -30,6 +30,7 @@ ghost use Rattle.ssh_rules.specs.Admission.{
 ghost use Rattle.ssh_rules.specs.Judged.{judged_of};
 ghost use Rattle.ssh_rules.specs.Spare.{has_escaped, is_about, is_escaped, is_in_role, is_named};
 ghost use Rattle.ssh_offers.specs.Offer.{is_certified};
+ghost use Rattle.ssh_rules.specs.Turns.{source_most};
 ghost use Rattle.ssh_offers.specs.Query.{login_of};
 ghost use Rattle.ssh_offers.specs.ClaimViews.{claim_of};
 
@@ -46,7 +47,7 @@ use ssh_expiry::expiry;
 use ssh_lines::AuthEntryView;
 use ssh_offers::{LoginClaimView, LoginQuery};
 use ssh_options::ValueView;
-use ssh_patterns::{Permit, source_list};
+use ssh_patterns::{Permit, source_list_counted};
 use std::alloc::{AllocError, Global};
 
 /// The kind number of a user's certificate (PROTOCOL.certkeys).
@@ -100,43 +101,51 @@ fn is_expired(
     Ok(false)
 }
 
-/// What the line's list of sources says of the client.
+/// What the line's list of sources says of the client, and the turns of the matching loop that this
+/// took.
 fn line_source(
     alloc: Global,
     entry: &NotedEntry<'_>,
     claim: &LoginClaimView<'_>,
-) -> Result<Permit, AllocError>
-    ensures value { IfOk result (λ permit. permit ≡ line_source entry.now (claim_of claim.now).query) }
+) -> Result<(Permit, u128), AllocError>
+    ensures value { IfOk result
+        (λ found. found.0 ≡ line_source entry.now (claim_of claim.now).query) }
     ensures spare { is_escaped (setting From entry.now.options) ≡ false → IsOk result }
+    ensures most { IfOk result (λ found.
+        found.1 ≤ source_most (setting From entry.now.options) (claim_of claim.now).query) }
 {
     let Some(value) = &entry.options().source else {
-        return Ok(Permit::Yes);
+        return Ok((Permit::Yes, 0));
     };
     let list = ValueText::new(alloc, value)?;
-    Ok(source_list(list.as_slice(), claim.query.host, claim.query.address))
+    Ok(source_list_counted(list.as_slice(), claim.query.host, claim.query.address))
 }
 
-/// Why the line's options do not admit the login, whatever a certificate says.
+/// Why the line's options do not admit the login, whatever a certificate says, and the turns of the
+/// matching loop that this took.
 fn options_obstacle(
     alloc: Global,
     entry: &NotedEntry<'_>,
     claim: &LoginClaimView<'_>,
-) -> Result<Option<Obstacle>, AllocError>
-    ensures value { IfOk result (λ o. o ≡ first_obstacle (role_row (is_authority entry.now)
+) -> Result<(Option<Obstacle>, u128), AllocError>
+    ensures value { IfOk result (λ found. found.0 ≡ first_obstacle (role_row (is_authority entry.now)
         (is_certified (claim_of claim.now).offer)
         ∷ when (is_expired (claim_of claim.now).query (settings ExpiryTime entry.now.options)) Expired
         ∷ permit_row SourceBad SourceRefused (line_source entry.now (claim_of claim.now).query) ∷ [])) }
     ensures spare { (is_in_role (is_authority entry.now) (is_certified (claim_of claim.now).offer)
         && has_escaped entry.now) ≡ false → IsOk result }
+    ensures most { IfOk result (λ found.
+        found.1 ≤ source_most (setting From entry.now.options) (claim_of claim.now).query) }
 {
     if let Some(obstacle) = role_obstacle(entry.options().authority, claim.offer.is_certified()) {
-        return Ok(Some(obstacle));
+        return Ok((Some(obstacle), 0));
     }
     if is_expired(alloc, entry, claim)? {
-        return Ok(Some(Obstacle::Listed(Reason::Expired)));
+        return Ok((Some(Obstacle::Listed(Reason::Expired)), 0));
     }
-    let source = line_source(alloc, entry, claim)?;
-    Ok(permit_obstacle(Reason::SourceBad, Reason::SourceRefused, source))
+    let (source, turns) = line_source(alloc, entry, claim)?;
+    let obstacle = permit_obstacle(Reason::SourceBad, Reason::SourceRefused, source);
+    Ok((obstacle, turns))
 }
 
 /// Whether a name of the line's list is a principal of the certificate.
@@ -227,28 +236,32 @@ fn offer_obstacle(
 }
 
 /// Why the entry does not admit the login: the first reason that holds, in the order of `G2` to
-/// `G12`, `G19`, `G13` to `G18`, `G20`; nothing where it admits.
+/// `G12`, `G19`, `G13` to `G18`, `G20`; nothing where it admits. And the turns of the matching loop.
 #[tactic(auto, unfolding(crate::specs::Admission::login_obstacle))]
 pub(crate) fn login_obstacle(
     alloc: Global,
     entry: &AuthEntryView<'_>,
     sought: &SoughtLogin<'_>,
-) -> Result<Option<Obstacle>, AllocError>
-    ensures value { IfOk result (λ o. o ≡ login_obstacle entry.now sought.now) }
+) -> Result<(Option<Obstacle>, u128), AllocError>
+    ensures value { IfOk result (λ found. found.0 ≡ login_obstacle entry.now sought.now) }
     ensures spare { (is_about entry.now sought.now
         && (has_escaped entry.now || is_named (login_obstacle entry.now sought.now))) ≡ false
         → IsOk result }
+    ensures most { IfOk result (λ found.
+        found.1 ≤ source_most (setting From entry.now.options) sought.now.query) }
 {
     let claim = sought.claim();
     if !entry.has_blob(claim.subject_blob()) {
-        return Ok(Some(Obstacle::OtherKey));
+        return Ok((Some(Obstacle::OtherKey), 0));
     }
     let entry = NotedEntry::of(entry);
-    if let Some(obstacle) = options_obstacle(alloc, &entry, claim)? {
-        return Ok(Some(obstacle));
+    let (obstacle, turns) = options_obstacle(alloc, &entry, claim)?;
+    if let Some(obstacle) = obstacle {
+        return Ok((Some(obstacle), turns));
     }
     if let Some(obstacle) = offer_obstacle(alloc, &entry, sought)? {
-        return Ok(Some(obstacle));
+        return Ok((Some(obstacle), turns));
     }
-    Ok(size_obstacle(claim.query.rsa_minimum, &claim.offer))
+    let obstacle = size_obstacle(claim.query.rsa_minimum, &claim.offer);
+    Ok((obstacle, turns))
 }

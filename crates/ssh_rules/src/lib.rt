@@ -29,9 +29,9 @@ mod sought_login;
 mod value_text;
 mod verdict;
 
-pub use host_line::host_verdict;
+pub use host_line::{host_verdict, host_verdict_counted};
 pub use option_name::OptionName;
 pub use reason::{Obstacle, Reason};
 pub use sought::{SoughtHost, can_revoke, may_revoke};
 pub use sought_login::SoughtLogin;
-pub use verdict::{LineVerdict, login_verdict};
+pub use verdict::{LineVerdict, login_verdict, login_verdict_counted};

@@ -1,9 +1,10 @@
 //! What a line of an authorized_keys file is to a login.
 
-ghost use Rattle.std.specs.Prelude.{◌≡◌, false, IfOk, IsOk};
+ghost use Rattle.std.specs.Prelude.{◌≡◌, ◌≤◌, false, IfOk, IsOk};
 ghost use Rattle.ssh_lines.specs.declared.entry.AuthLine.{AuthLine};
 ghost use Rattle.ssh_lines.specs.LineView.{line_seen};
 ghost use Rattle.ssh_rules.specs.Spare.{needs_memory};
+ghost use Rattle.ssh_rules.specs.Turns.{login_most};
 ghost use Rattle.ssh_rules.specs.Verdict.{listed_reason, login_verdict};
 
 use crate::admission::login_obstacle;
@@ -34,15 +35,45 @@ fn entry_verdict<'a>(
     alloc: Global,
     entry: AuthEntryView<'a>,
     sought: &SoughtLogin<'_>,
-) -> Result<LineVerdict<AuthEntryView<'a>>, AllocError>
+) -> Result<(LineVerdict<AuthEntryView<'a>>, u128), AllocError>
     ensures value { IfOk result
-        (λ verdict. verdict ≡ login_verdict sought.now (AuthLine.Entry entry.entry)) }
+        (λ judged. judged.0 ≡ login_verdict sought.now (AuthLine.Entry entry.entry)) }
     ensures spare { needs_memory sought.now (AuthLine.Entry entry.entry) ≡ false
         → IsOk result }
+    ensures most { IfOk result
+        (λ judged. judged.1 ≤ login_most sought.now (AuthLine.Entry entry.entry)) }
 {
-    match login_obstacle(alloc, &entry, sought)? {
-        None => Ok(LineVerdict::Admits(entry)),
-        Some(obstacle) => Ok(LineVerdict::Skips(listed_reason(obstacle))),
+    let (obstacle, turns) = login_obstacle(alloc, &entry, sought)?;
+    match obstacle {
+        None => Ok((LineVerdict::Admits(entry), turns)),
+        Some(obstacle) => Ok((LineVerdict::Skips(listed_reason(obstacle)), turns)),
+    }
+}
+
+/// `login_verdict`, and the turns of the matching loop, as `matches_counted` counts them: those of
+/// the line's list of sources, as `source_list_counted` tells them, where the line is about the key,
+/// of its role and unexpired, and else none. A certificate's list of sources takes none, and its
+/// principals are looked up and not matched.
+pub fn login_verdict_counted<'a>(
+    alloc: Global,
+    line: AuthLineView<'a>,
+    sought: &SoughtLogin<'_>,
+) -> Result<(LineVerdict<AuthEntryView<'a>>, u128), AllocError>
+    ensures value { IfOk result
+        (λ judged. judged.0 ≡ login_verdict sought.now (line_seen line.entry)) }
+    // Only a value of the line that has a quote takes memory, and a reason that names a critical
+    // option may be refused; all else is answered whatever memory does, and so is a line about
+    // another key or of another role.
+    ensures spare { needs_memory sought.now (line_seen line.entry) ≡ false
+        → IsOk result }
+    ensures most { IfOk result (λ judged. judged.1 ≤ login_most sought.now (line_seen line.entry)) }
+{
+    match line {
+        AuthLineView::Blank | AuthLineView::Comment => Ok((LineVerdict::Skips(None), 0)),
+        AuthLineView::Unreadable(why) => {
+            Ok((LineVerdict::Skips(Some(Reason::Unreadable(why))), 0))
+        }
+        AuthLineView::Entry(entry) => entry_verdict(alloc, entry, sought),
     }
 }
 
@@ -62,9 +93,6 @@ pub fn login_verdict<'a>(
     ensures spare { needs_memory sought.now (line_seen line.entry) ≡ false
         → IsOk result }
 {
-    match line {
-        AuthLineView::Blank | AuthLineView::Comment => Ok(LineVerdict::Skips(None)),
-        AuthLineView::Unreadable(why) => Ok(LineVerdict::Skips(Some(Reason::Unreadable(why)))),
-        AuthLineView::Entry(entry) => entry_verdict(alloc, entry, sought),
-    }
+    let (verdict, _) = login_verdict_counted(alloc, line, sought)?;
+    Ok(verdict)
 }
