@@ -13,27 +13,41 @@ use Rattle.ssh_trust.specs.declared.search.Search.{Search}
 use Rattle.ssh_trust.specs.FileLines.{IsHandedLine}
 use Rattle.ssh_trust.specs.Findings.{HasFound}
 use Rattle.ssh_trust.specs.Scan.{after_lines}
+use Rattle.ssh_trust.specs.Turns.{least_over, most_over}
 use Rattle.ssh_trust.proofs.CandidateLemmas.{AreBytes, bytes-append}
 use Rattle.ssh_trust.proofs.ScanLemmas.{after_lines-push}
+use Rattle.ssh_trust.proofs.TurnLemmas.{least_over-push, most_over-push}
 
 -- ---- what was found
 
 -- before any line
-pub found-none-yet : {C T S : Type 0} (claimed : T → C) (nothing : S) (add : C → S → ℕ × List ℕ → S) (claim : C) (search : Search T S)
-    → claimed search.sought ≡ claim → search.said ≡ nothing → HasFound claimed nothing add claim [] search
-unfolding after_lines
-found-none-yet claimed nothing add claim search asked said = record { sought = asked; said = said }
+pub found-none-yet : {C T S : Type 0} (claimed : T → C) (nothing : S) (add : C → S → ℕ × List ℕ → S) (most : C → List ℕ → ℕ) (least : C → S → ℕ × List ℕ → ℕ) (claim : C) (search : Search T S)
+    → claimed search.sought ≡ claim → search.said ≡ nothing → search.turns ≡ 0 → HasFound claimed nothing add most least claim [] search
+unfolding after_lines most_over least_over
+found-none-yet claimed nothing add most least claim search asked said none = record {
+  sought = asked;
+  said = said;
+  few = omega (arith, none);
+  enough = omega (arith, none);
+}
 
 -- one more line
-pub found-push : {C T S : Type 0} (claimed : T → C) (nothing : S) (add : C → S → ℕ × List ℕ → S) (claim : C) (old new : Search T S) (lines : List (ℕ × List ℕ))
-    (x : ℕ × List ℕ) → HasFound claimed nothing add claim lines old → new.sought ≡ old.sought → new.said ≡ add (claimed old.sought) old.said x
-    → HasFound claimed nothing add claim (lines ++ x ∷ []) new
-found-push {S = S} claimed nothing add claim old new lines x h same more = record {
-  sought = ap claimed same ∙ h.sought;
-  said =
-      more ∙ ap (λ c. add c old.said x) h.sought ∙ ap (λ (s : S). add claim s x) h.said
-      ∙ sym (after_lines-push (add claim) nothing lines x);
-}
+pub found-push : {C T S : Type 0} (claimed : T → C) (nothing : S) (add : C → S → ℕ × List ℕ → S) (most : C → List ℕ → ℕ) (least : C → S → ℕ × List ℕ → ℕ) (claim : C) (old new : Search T S)
+    (lines : List (ℕ × List ℕ)) (x : ℕ × List ℕ) (taken : ℕ) → HasFound claimed nothing add most least claim lines old
+    → new.sought ≡ old.sought → new.said ≡ add (claimed old.sought) old.said x → new.turns ≤ old.turns + taken → old.turns ≤ new.turns → taken ≤ new.turns
+    → taken ≤ most (claimed old.sought) x.1 → least (claimed old.sought) old.said x ≤ taken → HasFound claimed nothing add most least claim (lines ++ x ∷ []) new
+found-push {S = S} claimed nothing add most least claim old new lines x taken h same more sum grown one few enough =
+    let above : taken ≤ most claim x.1 = subst (λ c. taken ≤ most c x.1) h.sought few in
+    let below : least claim (after_lines (add claim) nothing lines) x ≤ taken =
+    subst (λ s. least claim s x ≤ taken) h.said (subst (λ c. least c old.said x ≤ taken) h.sought enough) in
+    record {
+      sought = ap claimed same ∙ h.sought;
+      said =
+          more ∙ ap (λ c. add c old.said x) h.sought ∙ ap (λ (s : S). add claim s x) h.said
+          ∙ sym (after_lines-push (add claim) nothing lines x);
+      few = omega (arith, sum, above, h.few, most_over-push (most claim) lines x);
+      enough = omega (arith, grown, one, below, h.enough, least_over-push (add claim) (least claim) nothing lines x);
+    }
 
 -- no piece yet
 pub stands-new : {T S : Type 0} (Found : List (ℕ × List ℕ) → Search T S → Type 0) (audit : Pieces T S) → HasRead Found audit [] → audit.failed ≡ false → HasTaken Found audit []

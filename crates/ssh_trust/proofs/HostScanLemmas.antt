@@ -1,6 +1,6 @@
 -- The scan of a known_hosts file, line by line.
-use Rattle.std.proofs.Common.{◌≡◌, ◌∙◌, ◌+◌, ℕ, Bool, true, false, cond, List, [], ◌∷◌, map, Option, Some, None, Result, Ok, Err, ap, refl, sym}
-use Rattle.std.specs.Prelude.{OnOk, is_some}
+use Rattle.std.proofs.Common.{◌≡◌, ◌∙◌, ◌+◌, ℕ, Bool, true, false, cond, List, [], ◌∷◌, map, Option, Some, None, ap, refl, sym}
+use Rattle.std.specs.Prelude.{is_some}
 use Rattle.ssh_lines.specs.KnownEntry.{KnownEntry}
 use Rattle.ssh_lines.specs.declared.known.KnownLine.{KnownLine}
 use Rattle.ssh_lines.specs.KnownGrammar.{known_line}
@@ -81,7 +81,3 @@ pub line-judged : (claim : HostClaim) (s new : HostScan) (admission : Scan ℕ) 
 line-judged claim s new admission n line read revokes blinds verdict is r b noted none judged added =
     let before : is_some s.admission.candidate ≡ false = ap (λ (t : HostScan). is_some t.admission.candidate) (sym noted) ∙ none in
     rw (added, judged, noted, r, b, is, before) refl
-
-pub ok-then : {A E : Type 0} (result : Result A E) (P Q : Type 0) → (P → Q) → OnOk result P → OnOk result Q
-ok-then (Ok x) P Q f h = f h
-ok-then (Err e) P Q f h = tt

@@ -11,3 +11,5 @@ pub mod TellingLemmas
 pub mod SshsigLemmas
 pub mod ReadLemmas
 pub mod RefusalLemmas
+pub mod TurnLemmas
+pub mod LengthLemmas

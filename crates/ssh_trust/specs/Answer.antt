@@ -26,6 +26,11 @@ abbrev pub OfClaim : {C : Type 0} → Result C AuditError → (C → Type 0) →
 OfClaim (Ok c) P = P c
 OfClaim (Err e) P = Unit {0}
 
+-- what is decided, without the turns that it took
+abbrev pub decided : {A : Type 0} → Result (A × ℕ) AuditError → Result A AuditError
+decided (Ok counted) = Ok counted.0
+decided (Err e) = Err e
+
 -- what is decided of a file within the limit
 abbrev pub if_short : List ℕ → Decision → Result Decision AuditError
 if_short file decision = if nat_lt file_limit (length file) then Err FileTooLong else Ok decision

@@ -22,8 +22,8 @@ pub record HasTaken {T S : Type 0} (Found : List (ℕ × List ℕ) → Search T 
   pub sound : audit.failed ≡ false
 
 -- the audit of this claim stands for these bytes
-abbrev pub HasAudited : {C T S : Type 0} → (T → C) → S → (C → S → ℕ × List ℕ → S) → C → Pieces T S → List ℕ → Type 0
-HasAudited claimed nothing add claim audit bytes = HasTaken (HasFound claimed nothing add claim) audit bytes
+abbrev pub HasAudited : {C T S : Type 0} → (T → C) → S → (C → S → ℕ × List ℕ → S) → (C → List ℕ → ℕ) → (C → S → ℕ × List ℕ → ℕ) → C → Pieces T S → List ℕ → Type 0
+HasAudited claimed nothing add most least claim audit bytes = HasTaken (HasFound claimed nothing add most least claim) audit bytes
 
 -- Besides the claim an audit holds at most one unfinished line, one buffer for keys and 100 reasons, whatever the file. A candidate, and for a
 -- host's key the numbers of two lines, are one each by their types.

@@ -11,3 +11,4 @@ pub mod Audit
 pub mod Reads
 pub mod SshsigAnswer
 pub mod Samples
+pub mod Turns

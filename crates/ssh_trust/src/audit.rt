@@ -6,6 +6,7 @@ ghost use Rattle.std.specs.Prelude.{
   ◌<◌,
   ◌≤◌,
   ◌+◌,
+  ◌*◌,
   ◌++◌,
   [],
   true,
@@ -25,7 +26,7 @@ ghost use Rattle.ssh_offers.specs.declared.error.AuditError.TheVariants.{
   Read,
 };
 ghost use Rattle.ssh_text.specs.Text.{file_limit};
-ghost use Rattle.ssh_trust.specs.Answer.{GivesOrMemory, OfClaim, RefusesAs, if_short};
+ghost use Rattle.ssh_trust.specs.Answer.{GivesOrMemory, OfClaim, RefusesAs, decided, if_short};
 ghost use Rattle.ssh_trust.specs.Audit.{IsBounded, HasAudited};
 ghost use Rattle.ssh_trust.specs.Reads.{AnswersReader, HoldsOfRead, IsFedBy};
 
@@ -81,7 +82,7 @@ impl<T: Sought<Said = S> + Drop, S: Listing + Drop> Audit<T, S> {
         ensures refused { RefusesAs (T.claim query.entry.now) result }
         // Else the audit stands for no bytes,
         ensures made { OfClaim (T.claim query.entry.now)
-            (λ claim. IfOk result (λ audit. HasAudited T.claimed T.nothing T.add claim audit [])) }
+            (λ claim. IfOk result (λ audit. HasAudited T.claimed T.nothing T.add T.most T.least claim audit [])) }
         // or memory was refused.
         ensures else_memory { OfClaim (T.claim query.entry.now)
             (λ claim. OnErr result (result ≡ Err Memory)) }
@@ -101,22 +102,22 @@ impl<T: Sought<Said = S> + Drop, S: Listing + Drop> Audit<T, S> {
     pub fn feed(&mut self, piece: &[u8]) -> Result<(), AuditError>
         // The audit stands for the piece too.
         ensures taken { OnOk result ((claim : T.Claim) (bytes : List ℕ)
-            → HasAudited T.claimed T.nothing T.add claim self.old bytes
-            → HasAudited T.claimed T.nothing T.add claim self.new (bytes ++ piece.now)) }
+            → HasAudited T.claimed T.nothing T.add T.most T.least claim self.old bytes
+            → HasAudited T.claimed T.nothing T.add T.most T.least claim self.new (bytes ++ piece.now)) }
         // A7 is answered exactly past the limit,
         ensures too_long { (claim : T.Claim) (bytes : List ℕ)
-            → HasAudited T.claimed T.nothing T.add claim self.old bytes
+            → HasAudited T.claimed T.nothing T.add T.most T.least claim self.old bytes
             → ((result ≡ Err FileTooLong) ↔ (file_limit < length bytes + length piece.now)) }
         // A10 exactly after a refusal,
         ensures failed { (result ≡ Err Failed) ↔ (self.old.failed ≡ true) }
         // and else nothing but out of memory.
         ensures else_memory { (claim : T.Claim) (bytes : List ℕ)
-            → HasAudited T.claimed T.nothing T.add claim self.old bytes
+            → HasAudited T.claimed T.nothing T.add T.most T.least claim self.old bytes
             → length bytes + length piece.now ≤ file_limit
             → OnErr result (result ≡ Err Memory) }
         // A piece of no bytes takes no memory.
         ensures nothing { (claim : T.Claim) (bytes : List ℕ)
-            → HasAudited T.claimed T.nothing T.add claim self.old bytes
+            → HasAudited T.claimed T.nothing T.add T.most T.least claim self.old bytes
             → length piece.now ≡ 0
             → IsOk result }
         // A refusal is for ever.
@@ -136,8 +137,8 @@ impl<T: Sought<Said = S> + Drop, S: Listing + Drop> Audit<T, S> {
         ensures unfailed { (result ≡ Err Read → ⊥) → R.unfailed reader.old reader.new }
         // The audit stands for what the reader gave too.
         ensures fed { (claim : T.Claim) (bytes : List ℕ)
-            → HasAudited T.claimed T.nothing T.add claim self.old bytes
-            → IsFedBy (λ given. HasAudited T.claimed T.nothing T.add claim self.new (bytes ++ given))
+            → HasAudited T.claimed T.nothing T.add T.most T.least claim self.old bytes
+            → IsFedBy (λ given. HasAudited T.claimed T.nothing T.add T.most T.least claim self.new (bytes ++ given))
             (R.left reader.old) (R.left reader.new) (length bytes) result }
         // A refusal is for ever.
         ensures left { OnErr result (self.new.failed ≡ true) }
@@ -147,6 +148,38 @@ impl<T: Sought<Said = S> + Drop, S: Listing + Drop> Audit<T, S> {
         self.pieces.feed_from(reader)
     }
 
+    /// `finish`, and the turns of the matching loop over all lines, as `matches_counted` counts them:
+    /// at most `(len + 1) * w` for a file of `len` bytes. For a login `w` is two more than the bytes of
+    /// the client's host name, where one is known, and of its address text, and the turns are those of
+    /// `from` lists: a certificate's list of sources takes none, and principals are looked up and not
+    /// matched. For a host's key `w` is one more than the bytes of the name that the host is looked up
+    /// by, and the turns are those of lists of names: no fewer than these bytes where the first line
+    /// that admits has such a list. A hashed name takes none.
+    pub fn finish_counted(self, vouched: &[Signed]) -> Result<(Decision, u128), AuditError>
+        // No decision after a refused piece.
+        ensures failed { self.failed ≡ true → result ≡ Err Failed }
+        // A decision means what is said of it.
+        ensures means { (claim : T.Claim) (bytes : List ℕ)
+            → HasAudited T.claimed T.nothing T.add T.most T.least claim self bytes
+            → IfOk result (λ counted. T.means bytes claim vouched.now counted.0) }
+        // The whole answer, with cause, reasons and evidence, unless memory was refused.
+        ensures answer { (claim : T.Claim) (bytes : List ℕ)
+            → HasAudited T.claimed T.nothing T.add T.most T.least claim self bytes
+            → GivesOrMemory (if_short bytes (T.decision bytes claim vouched.now)) (decided result) }
+        // No more turns than so many for each byte of the file, and for its end,
+        ensures most { (claim : T.Claim) (bytes : List ℕ)
+            → HasAudited T.claimed T.nothing T.add T.most T.least claim self bytes
+            → IfOk result (λ counted. counted.1 ≤ (length bytes + 1) * T.width claim) }
+        // and for a host's key no fewer than a plain list of names takes that admits it.
+        ensures least { (claim : T.Claim) (bytes : List ℕ)
+            → HasAudited T.claimed T.nothing T.add T.most T.least claim self bytes
+            → IfOk result (λ counted. T.are_enough bytes claim counted.1) }
+    {
+        let search = self.pieces.finish()?;
+        let counted = search.decide(vouched)?;
+        Ok(counted)
+    }
+
     /// Answers by all pieces, as `login` and `host` answer by the file that they are together. After
     /// a refused piece the answer is `A10`, and out of memory is `A8`.
     pub fn finish(self, vouched: &[Signed]) -> Result<Decision, AuditError>
@@ -154,16 +187,17 @@ impl<T: Sought<Said = S> + Drop, S: Listing + Drop> Audit<T, S> {
         ensures failed { self.failed ≡ true → result ≡ Err Failed }
         // A decision means what is said of it.
         ensures means { (claim : T.Claim) (bytes : List ℕ)
-            → HasAudited T.claimed T.nothing T.add claim self bytes
+            → HasAudited T.claimed T.nothing T.add T.most T.least claim self bytes
             → IfOk result (T.means bytes claim vouched.now) }
         // The whole answer, with cause, reasons and evidence, unless memory was refused.
         ensures answer { (claim : T.Claim) (bytes : List ℕ)
-            → HasAudited T.claimed T.nothing T.add claim self bytes
+            → HasAudited T.claimed T.nothing T.add T.most T.least claim self bytes
             → GivesOrMemory (if_short bytes (T.decision bytes claim vouched.now)) result }
     {
-        let search = self.pieces.finish()?;
-        let decision = search.decide(vouched)?;
-        Ok(decision)
+        match self.finish_counted(vouched) {
+            Ok((decision, _)) => Ok(decision),
+            Err(refusal) => Err(refusal),
+        }
     }
 
     /// Answers by a whole file.

@@ -36,6 +36,8 @@ ghost use Rattle.ssh_trust.specs.HostScan.{
 };
 ghost use Rattle.ssh_trust.specs.Candidate.{reason_limit};
 ghost use Rattle.ssh_trust.specs.Scan.{scan_line, scan_verdict};
+ghost use Rattle.ssh_rules.specs.Turns.{host_width};
+ghost use Rattle.ssh_trust.specs.Turns.{AreNameTurns, host_line_least, host_line_most};
 
 use crate::decision::Decision;
 use crate::host_decide::decide_host;
@@ -43,7 +45,7 @@ use crate::scan::Scan;
 use crate::sought::{Listing, Sought};
 use ssh_lines::{KeyBuffer, KnownEntryView, KnownLineView, read_known_view};
 use ssh_offers::{AuditError, HostClaimView, HostQuery, Signed, host_evidence};
-use ssh_rules::{LineVerdict, SoughtHost, can_revoke, host_verdict, may_revoke};
+use ssh_rules::{LineVerdict, SoughtHost, can_revoke, host_verdict_counted, may_revoke};
 use ssh_text::Line;
 use std::alloc::{AllocError, Global};
 
@@ -208,6 +210,14 @@ impl<'a> Sought for SoughtHost<'a> {
 
     ghost means = { HostDecides };
 
+    ghost most = { host_line_most };
+
+    ghost least = { host_line_least };
+
+    ghost width = { λ claim. host_width claim.query };
+
+    ghost are_enough = { AreNameTurns };
+
     fn read(alloc: Global, query: &HostQuery<'a>) -> Result<SoughtHost<'a>, AuditError> {
         let claim = HostClaimView::read(query)?;
         sought_of(alloc, &claim)
@@ -228,17 +238,18 @@ impl<'a> Sought for SoughtHost<'a> {
         line: Line<'_>,
         buffer: &mut KeyBuffer,
         said: &mut HostScan,
-    ) -> Result<(), AllocError> {
+    ) -> Result<u128, AllocError> {
         if is_passed_over(self, line, said) {
-            return Ok(());
+            return Ok(0);
         }
         let view = view_of(line, buffer);
         said.note(number, self.is_revoked_by(&view), may_revoke(&view));
         if said.is_settled() {
-            return Ok(());
+            return Ok(0);
         }
-        let verdict = host_verdict(view, self)?;
-        take_verdict(number, verdict, &mut said.admission)
+        let (verdict, turns) = host_verdict_counted(view, self)?;
+        take_verdict(number, verdict, &mut said.admission)?;
+        Ok(turns)
     }
 
     fn decide(

@@ -16,6 +16,7 @@ ghost use Rattle.std.specs.Prelude.{
   IfOk,
   OnErr,
   OnOk,
+  ⊤,
 };
 ghost use Rattle.ssh_lines.specs.AuthGrammar.{auth_line};
 ghost use Rattle.ssh_lines.specs.LineView.{line_seen};
@@ -34,6 +35,8 @@ ghost use Rattle.ssh_trust.specs.LoginDecision.{
 ghost use Rattle.ssh_trust.specs.FileLines.{IsHandedLine};
 ghost use Rattle.ssh_trust.specs.Candidate.{reason_limit};
 ghost use Rattle.ssh_trust.specs.Scan.{empty_scan, scan_verdict};
+ghost use Rattle.ssh_rules.specs.Turns.{login_width};
+ghost use Rattle.ssh_trust.specs.Turns.{login_line_most};
 
 use crate::decision::Decision;
 use crate::login_decide::decide_login;
@@ -43,7 +46,7 @@ use ssh_lines::{AuthEntryView, AuthLineView, KeyBuffer, read_auth_view};
 use ssh_offers::{AuditError, LoginClaimView, LoginQuery, Signed, login_evidence};
 use ssh_options::LineCause;
 use ssh_rights::{Rights, rights_of, touch_suffices, verification_suffices};
-use ssh_rules::{LineVerdict, SoughtLogin, login_verdict};
+use ssh_rules::{LineVerdict, SoughtLogin, login_verdict_counted};
 use ssh_text::Line;
 use std::alloc::{AllocError, Global};
 
@@ -170,6 +173,14 @@ impl<'a> Sought for SoughtLogin<'a> {
 
     ghost means = { LoginDecides };
 
+    ghost most = { login_line_most };
+
+    ghost least = { λ claim said line. 0 };
+
+    ghost width = { λ claim. login_width claim.query };
+
+    ghost are_enough = { λ file claim turns. ⊤ };
+
     fn read(alloc: Global, query: &LoginQuery<'a>) -> Result<SoughtLogin<'a>, AuditError> {
         let claim = LoginClaimView::read(query)?;
         sought_of(alloc, &claim)
@@ -186,12 +197,13 @@ impl<'a> Sought for SoughtLogin<'a> {
         line: Line<'_>,
         buffer: &mut KeyBuffer,
         said: &mut Scan<Candidate>,
-    ) -> Result<(), AllocError> {
+    ) -> Result<u128, AllocError> {
         if is_passed_over(self, line, said) {
-            return Ok(());
+            return Ok(0);
         }
-        let verdict = login_verdict(alloc, view_of(line, buffer), self)?;
-        take_verdict(alloc, number, verdict, self.claim(), said)
+        let (verdict, turns) = login_verdict_counted(alloc, view_of(line, buffer), self)?;
+        take_verdict(alloc, number, verdict, self.claim(), said)?;
+        Ok(turns)
     }
 
     fn decide(

@@ -54,8 +54,8 @@ impl<T: Sought<Said = S> + Drop, S: Listing + Drop> Pieces<T, S> {
     /// No piece yet.
     pub(crate) fn new(alloc: Global, search: Search<T, S>) -> Pieces<T, S>
         ensures read { (claim : T.Claim)
-            → HasFound T.claimed T.nothing T.add claim [] search
-            → HasRead (HasFound T.claimed T.nothing T.add claim) result [] }
+            → HasFound T.claimed T.nothing T.add T.most T.least claim [] search
+            → HasRead (HasFound T.claimed T.nothing T.add T.most T.least claim) result [] }
         ensures search { result.search ≡ search }
         ensures sound { result.failed ≡ false }
         ensures bounded { length result.scanner.kept.bytes ≤ line_limit }
@@ -72,8 +72,8 @@ impl<T: Sought<Said = S> + Drop, S: Listing + Drop> Pieces<T, S> {
         requires { self.old.scanner.used + length rest.now < 2 ^ 64 }
         ensures read { IfOk result (λ fed.
             (claim : T.Claim) (bytes : List ℕ)
-            → HasRead (HasFound T.claimed T.nothing T.add claim) self.old bytes
-            → HasRead (HasFound T.claimed T.nothing T.add claim) self.new (bytes ++ take fed.0 rest.now)) }
+            → HasRead (HasFound T.claimed T.nothing T.add T.most T.least claim) self.old bytes
+            → HasRead (HasFound T.claimed T.nothing T.add T.most T.least claim) self.new (bytes ++ take fed.0 rest.now)) }
         ensures used { IfOk result (λ fed. self.new.scanner.used ≡ self.old.scanner.used + fed.0) }
         ensures within { IfOk result (λ fed. fed.0 ≤ length rest.now) }
         ensures some { IfOk result (λ fed. fed.1 ≡ true → 0 < fed.0) }
@@ -99,8 +99,8 @@ impl<T: Sought<Said = S> + Drop, S: Listing + Drop> Pieces<T, S> {
     fn take(&mut self, piece: &[u8]) -> Result<(), AllocError>
         requires { self.old.scanner.used + length piece.now < 2 ^ 64 }
         ensures read { OnOk result ((claim : T.Claim) (bytes : List ℕ)
-            → HasRead (HasFound T.claimed T.nothing T.add claim) self.old bytes
-            → HasRead (HasFound T.claimed T.nothing T.add claim) self.new (bytes ++ piece.now)) }
+            → HasRead (HasFound T.claimed T.nothing T.add T.most T.least claim) self.old bytes
+            → HasRead (HasFound T.claimed T.nothing T.add T.most T.least claim) self.new (bytes ++ piece.now)) }
         ensures used { OnOk result
             (self.new.scanner.used ≡ self.old.scanner.used + length piece.now) }
         ensures failed { self.new.failed ≡ self.old.failed }
@@ -123,8 +123,8 @@ impl<T: Sought<Said = S> + Drop, S: Listing + Drop> Pieces<T, S> {
     /// is refused.
     pub(crate) fn feed(&mut self, piece: &[u8]) -> Result<(), AuditError>
         ensures read { OnOk result ((claim : T.Claim) (bytes : List ℕ)
-            → HasRead (HasFound T.claimed T.nothing T.add claim) self.old bytes
-            → HasRead (HasFound T.claimed T.nothing T.add claim) self.new (bytes ++ piece.now)) }
+            → HasRead (HasFound T.claimed T.nothing T.add T.most T.least claim) self.old bytes
+            → HasRead (HasFound T.claimed T.nothing T.add T.most T.least claim) self.new (bytes ++ piece.now)) }
         ensures used { OnOk result
             (self.new.scanner.used ≡ self.old.scanner.used + length piece.now) }
         ensures short { OnOk result (self.old.scanner.used + length piece.now ≤ file_limit) }
@@ -169,8 +169,8 @@ impl<T: Sought<Said = S> + Drop, S: Listing + Drop> Pieces<T, S> {
         ensures read { result ≡ Err Read → R.failed reader.old reader.new }
         ensures unfailed { (result ≡ Err Read → ⊥) → R.unfailed reader.old reader.new }
         ensures fed { (claim : T.Claim) (bytes : List ℕ)
-            → HasTaken (HasFound T.claimed T.nothing T.add claim) self.old bytes
-            → IsFedBy (λ given. HasTaken (HasFound T.claimed T.nothing T.add claim) self.new (bytes ++ given))
+            → HasTaken (HasFound T.claimed T.nothing T.add T.most T.least claim) self.old bytes
+            → IsFedBy (λ given. HasTaken (HasFound T.claimed T.nothing T.add T.most T.least claim) self.new (bytes ++ given))
             (R.left reader.old) (R.left reader.new) (length bytes) result }
         ensures left { OnErr result (self.new.failed ≡ true) }
         ensures bounded { IsKept S.reasons self.old.search → IsKept S.reasons self.new.search }
@@ -193,8 +193,8 @@ impl<T: Sought<Said = S> + Drop, S: Listing + Drop> Pieces<T, S> {
     /// Takes the last line, which may lack its LF.
     fn end(&mut self) -> Result<(), AllocError>
         ensures { OnOk result ((claim : T.Claim) (bytes : List ℕ)
-            → HasRead (HasFound T.claimed T.nothing T.add claim) self.old bytes
-            → HasFound T.claimed T.nothing T.add claim (numbered 1 (lines_of bytes)) self.new.search) }
+            → HasRead (HasFound T.claimed T.nothing T.add T.most T.least claim) self.old bytes
+            → HasFound T.claimed T.nothing T.add T.most T.least claim (numbered 1 (lines_of bytes)) self.new.search) }
     {
         if self.scanner.finish() {
             let (number, last) = self.scanner.line();
@@ -208,8 +208,8 @@ impl<T: Sought<Said = S> + Drop, S: Listing + Drop> Pieces<T, S> {
         ensures failed { self.failed ≡ true → result ≡ Err Failed }
         ensures found { IfOk result (λ search.
             (claim : T.Claim) (bytes : List ℕ)
-            → HasRead (HasFound T.claimed T.nothing T.add claim) self bytes
-            → HasFound T.claimed T.nothing T.add claim (numbered 1 (lines_of bytes)) search) }
+            → HasRead (HasFound T.claimed T.nothing T.add T.most T.least claim) self bytes
+            → HasFound T.claimed T.nothing T.add T.most T.least claim (numbered 1 (lines_of bytes)) search) }
         ensures else_memory { self.failed ≡ false → OnErr result (result ≡ Err Memory) }
     {
         if self.failed {

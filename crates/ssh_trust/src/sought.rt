@@ -5,6 +5,8 @@ ghost use Rattle.std.specs.Prelude.{
   ◌≡◌,
   ◌<◌,
   ◌≤◌,
+  ◌+◌,
+  ◌*◌,
   ℕ,
   List,
   Result,
@@ -25,6 +27,7 @@ ghost use Rattle.ssh_trust.specs.Answer.{OfClaim, RefusesAs};
 ghost use Rattle.ssh_trust.specs.Candidate.{reason_limit};
 ghost use Rattle.ssh_trust.specs.FileLines.{IsHandedLine};
 ghost use Rattle.ssh_trust.specs.Scan.{after_lines};
+ghost use Rattle.ssh_trust.specs.Turns.{least_over, most_over};
 
 use crate::decision::Decision;
 use ssh_lines::KeyBuffer;
@@ -70,6 +73,18 @@ pub trait Sought {
     /// What is meant by a decision.
     ghost means: { List ℕ → Claim → List SignedValue → DecisionValue → Type 0 };
 
+    /// The most turns of the matching loop for a line.
+    ghost most: { Claim → List ℕ → ℕ };
+
+    /// The fewest for one more numbered line, after what was said.
+    ghost least: { Claim → Self.Said → ℕ × List ℕ → ℕ };
+
+    /// The most for each byte of a file, and for its end.
+    ghost width: { Claim → ℕ };
+
+    /// What is said of the fewest turns for a file.
+    ghost are_enough: { List ℕ → Claim → ℕ → Type 0 };
+
     /// What this query seeks. An offer is refused before any memory is taken.
     fn read(alloc: Global, query: &Self::Query) -> Result<Self, AuditError>
         requires can_ask { can_ask query.now }
@@ -85,8 +100,8 @@ pub trait Sought {
         ensures value { result ≡ nothing }
         ensures few { length (Self.Said.reasons result) ≤ reason_limit };
 
-    /// Takes the next line of the file, which has this number. Out of memory, what is said is worth
-    /// nothing.
+    /// Takes the next line of the file, which has this number, and tells the turns of the matching
+    /// loop that this took. Out of memory, what is said is worth nothing.
     fn take_line(
         &self,
         alloc: Global,
@@ -94,12 +109,18 @@ pub trait Sought {
         line: Line<'_>,
         buffer: &mut KeyBuffer,
         said: &mut Self::Said,
-    ) -> Result<(), AllocError>
+    ) -> Result<u128, AllocError>
         ensures value { OnOk result ((text : List ℕ)
             → IsHandedLine line.entry text
             → said.new ≡ add (claimed self.now) said.old (number, text)) }
         ensures few { length (Self.Said.reasons said.old) ≤ reason_limit
-            → length (Self.Said.reasons said.new) ≤ reason_limit };
+            → length (Self.Said.reasons said.new) ≤ reason_limit }
+        ensures most { IfOk result (λ turns. (text : List ℕ)
+            → IsHandedLine line.entry text
+            → turns ≤ most (claimed self.now) text) }
+        ensures least { IfOk result (λ turns. (text : List ℕ)
+            → IsHandedLine line.entry text
+            → least (claimed self.now) said.old (number, text) ≤ turns) };
 
     /// The decision by what all lines say.
     fn decide(
@@ -114,5 +135,15 @@ pub trait Sought {
         ensures means { IfOk result (λ decided. (file : List ℕ)
             → said ≡ after_lines (add (claimed self.now)) nothing (numbered 1 (lines_of file))
             → AllByRecursion (λ x. x < 256) file
-            → means file (claimed self.now) vouched.now decided) };
+            → means file (claimed self.now) vouched.now decided) }
+        // What the bounds of each line say of the file.
+        ensures width { OnOk result ((file : List ℕ)
+            → AllByRecursion (λ x. x < 256) file
+            → most_over (most (claimed self.now)) (numbered 1 (lines_of file))
+            ≤ (length file + 1) * width (claimed self.now)) }
+        ensures enough { OnOk result ((file : List ℕ) (turns : ℕ)
+            → AllByRecursion (λ x. x < 256) file
+            → least_over (add (claimed self.now)) (least (claimed self.now)) nothing
+            (numbered 1 (lines_of file)) ≤ turns
+            → are_enough file (claimed self.now) turns) };
 }

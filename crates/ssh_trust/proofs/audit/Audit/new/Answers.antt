@@ -7,5 +7,5 @@ pub returns-clause-made : goal.returns-clause-made
 returns-clause-made g c =
     of-claim (g.T.Sought.claim c.args.query.now) _
     (λ claim is.
-    stands-new (HasFound g.T.Sought.claimed g.T.Sought.nothing g.T.Sought.add claim) c.new-2.result
+    stands-new (HasFound g.T.Sought.claimed g.T.Sought.nothing g.T.Sought.add g.T.Sought.most g.T.Sought.least claim) c.new-2.result
     (c.new-2.ensures.read claim (rw is at c.in_ok-search.ensures.made)) c.new-2.ensures.sound)

@@ -7,6 +7,10 @@ use Rattle.ssh_trust.specs.HostDecision.{host_decision_of}
 use Rattle.ssh_trust.proofs.TellingLemmas.{host_told}
 use Rattle.ssh_trust.proofs.HostMeaningLemmas.{host_means}
 use Rattle.ssh_trust.proofs.SearchLemmas.{host-decided}
+use Rattle.ssh_trust.proofs.LengthLemmas.{host-fits}
+use Rattle.ssh_trust.proofs.TurnLemmas.{file-most, name-turns}
+use Rattle.ssh_trust.specs.Turns.{host_line_most}
+use Rattle.ssh_rules.specs.Turns.{host_width}
 use Rattle.ssh_trust.proofs.host_scan.SoughtHostSought.decide.Goals as goal
 
 pub returns-clause-decided : goal.returns-clause-decided
@@ -21,3 +25,11 @@ pub returns-clause-means : goal.returns-clause-means
 returns-clause-means c file h are =
     subst (λ d. HostDecides file c.args.self.now c.args.vouched.now d) (sym (returns-clause-decided c file h))
     (host_means file c.args.self.now c.args.vouched.now are, host_told file c.args.self.now c.args.vouched.now are)
+
+pub returns-clause-width : goal.returns-clause-width
+returns-clause-width c file are =
+    file-most (host_line_most c.args.self.now) (host_width c.args.self.now.query) file (host-fits c.args.self.now) are
+
+pub returns-clause-enough : goal.returns-clause-enough
+returns-clause-enough c file turns are fewest =
+    name-turns c.args.self.now file turns are fewest

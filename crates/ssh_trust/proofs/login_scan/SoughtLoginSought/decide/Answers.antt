@@ -7,6 +7,10 @@ use Rattle.ssh_trust.specs.LoginDecision.{decision_of}
 use Rattle.ssh_trust.proofs.TellingLemmas.{login_told}
 use Rattle.ssh_trust.proofs.MeaningLemmas.{login_means}
 use Rattle.ssh_trust.proofs.SearchLemmas.{login-decided}
+use Rattle.ssh_rules.specs.Turns.{login_width}
+use Rattle.ssh_trust.specs.Turns.{login_line_most}
+use Rattle.ssh_trust.proofs.LengthLemmas.{login-fits}
+use Rattle.ssh_trust.proofs.TurnLemmas.{file-most}
 use Rattle.ssh_trust.proofs.login_scan.SoughtLoginSought.decide.Goals as goal
 
 pub returns-clause-decided : goal.returns-clause-decided
@@ -21,3 +25,7 @@ pub returns-clause-means : goal.returns-clause-means
 returns-clause-means c file h are =
     subst (λ d. LoginDecides file c.args.self.now c.args.vouched.now d) (sym (returns-clause-decided c file h))
     (login_means file c.args.self.now c.args.vouched.now are, login_told file c.args.self.now c.args.vouched.now are)
+
+pub returns-clause-width : goal.returns-clause-width
+returns-clause-width c file are =
+    file-most (login_line_most c.args.self.now) (login_width c.args.self.now.query) file (login-fits c.args.self.now) are

@@ -7,10 +7,10 @@ pub returns-in_ok-take_line : goal.returns-in_ok-take_line
 returns-in_ok-take_line g c claim bytes h =
     let stands = c.finish.ensures.stands_for bytes h.scanned in
     let line = ready _ _ _ (c.line-number.ensures bytes stands) in
-    found-last (HasFound g.T.Sought.claimed g.T.Sought.nothing g.T.Sought.add claim) _ _ bytes _ line.text ((c.finish.ensures.last bytes h.scanned).0 c.if-finish.true) line.last
+    found-last (HasFound g.T.Sought.claimed g.T.Sought.nothing g.T.Sought.add g.T.Sought.most g.T.Sought.least claim) _ _ bytes _ line.text ((c.finish.ensures.last bytes h.scanned).0 c.if-finish.true) line.last
     (λ lines f. c.in_ok-take_line.ensures.found line.text line.is claim lines f) h.found
 
 pub returns-else-finish : goal.returns-else-finish
 returns-else-finish g c claim bytes h =
-    found-none (HasFound g.T.Sought.claimed g.T.Sought.nothing g.T.Sought.add claim) _ bytes
+    found-none (HasFound g.T.Sought.claimed g.T.Sought.nothing g.T.Sought.add g.T.Sought.most g.T.Sought.least claim) _ bytes
     (λ some. let t = (c.finish.ensures.last bytes h.scanned).1 some in let f : true ≡ false = sym t ∙ c.if-finish.false in cc) h.found

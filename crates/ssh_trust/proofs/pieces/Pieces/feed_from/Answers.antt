@@ -8,7 +8,7 @@ use Rattle.ssh_trust.proofs.pieces.Pieces.feed_from.Goals as goal
 pub loop-n-init : goal.loop-n-init
 loop-n-init g c = record {
   unfailed = g.met.R.Source.begins c.args.reader.now;
-  fed = λ claim bytes h. feeding-none (HasFound g.T.Sought.claimed g.T.Sought.nothing g.T.Sought.add claim) c.args.self.now bytes (g.R.Source.left c.args.reader.now) h;
+  fed = λ claim bytes h. feeding-none (HasFound g.T.Sought.claimed g.T.Sought.nothing g.T.Sought.add g.T.Sought.most g.T.Sought.least claim) c.args.self.now bytes (g.R.Source.left c.args.reader.now) h;
   bounded = λ h. h;
   line = λ h. h;
 }
@@ -20,7 +20,7 @@ loop-n-preserved g c =
     record {
       unfailed = c.in-Ok.ensures.unfailed c.args.reader.now before.unfailed;
       fed = λ claim bytes h.
-          feeding-more (HasFound g.T.Sought.claimed g.T.Sought.nothing g.T.Sought.add claim) c.loop-n.self c.feed.new.self bytes (take c.in-Ok.n c.read_piece.new.buf) (g.R.Source.left c.args.reader.now)
+          feeding-more (HasFound g.T.Sought.claimed g.T.Sought.nothing g.T.Sought.add g.T.Sought.most g.T.Sought.least claim) c.loop-n.self c.feed.new.self bytes (take c.in-Ok.n c.read_piece.new.buf) (g.R.Source.left c.args.reader.now)
           (g.R.Source.left c.loop-n.reader) (g.R.Source.left c.read_piece.new.self) (before.fed claim bytes h) c.in-Ok.ensures.bytes.0 fed.octets fed.short fed.sound
           (λ used k. fed.read claim used k);
       bounded = λ h. c.feed.ensures.bounded (before.bounded h);
@@ -40,7 +40,7 @@ returns-in-Ok-eq0-clause-fed g c claim bytes h =
     let old = g.R.Source.left c.loop-n.reader in
     let new = g.R.Source.left c.read_piece.new.self in
     let same = c.read_piece.auto.buf in
-    fed-whole (HasFound g.T.Sought.claimed g.T.Sought.nothing g.T.Sought.add claim) c.loop-n.self bytes (g.R.Source.left c.args.reader.now) old new (c.loop-n.invariant.fed claim bytes h)
+    fed-whole (HasFound g.T.Sought.claimed g.T.Sought.nothing g.T.Sought.add g.T.Sought.most g.T.Sought.least claim) c.loop-n.self bytes (g.R.Source.left c.args.reader.now) old new (c.loop-n.invariant.fed claim bytes h)
     (subst (λ n. Consumes old new (take n c.read_piece.new.buf)) c.in-Ok-eq0.field-0-test given.0)
     (given.1 c.in-Ok-eq0.field-0-test (omega (arith, same)))
 
@@ -53,7 +53,7 @@ returns-in_err-feed-in-Ok-clause-fed g c claim bytes h =
     let p = err_from_is_err_and c.from_residual.result c.from_residual.ensures.1 in
     let fed = c.in_err-feed-in-Ok.ensures in
     rw (p.1, p.2)
-    (fed-partly (HasFound g.T.Sought.claimed g.T.Sought.nothing g.T.Sought.add claim) c.loop-n.self c.feed.new.self bytes (take c.in-Ok.n c.read_piece.new.buf) (g.R.Source.left c.args.reader.now)
+    (fed-partly (HasFound g.T.Sought.claimed g.T.Sought.nothing g.T.Sought.add g.T.Sought.most g.T.Sought.least claim) c.loop-n.self c.feed.new.self bytes (take c.in-Ok.n c.read_piece.new.buf) (g.R.Source.left c.args.reader.now)
     (g.R.Source.left c.loop-n.reader) (g.R.Source.left c.read_piece.new.self) _ (c.loop-n.invariant.fed claim bytes h) c.in-Ok.ensures.bytes.0
     (let same = c.read_piece.auto.buf in let bound = c.in-Ok.ensures.bound.0 in let size = c.in-Ok.ensures.bound.1 in omega (arith, same, bound, size))
     (refusal _ _ _ fed.failed fed.too_long fed.else_memory))
@@ -70,5 +70,5 @@ returns-in-Err-clause-left g c = refl
 
 pub returns-in-Err-clause-fed : goal.returns-in-Err-clause-fed
 returns-in-Err-clause-fed g c claim bytes h =
-    fed-unread (HasFound g.T.Sought.claimed g.T.Sought.nothing g.T.Sought.add claim) c.loop-n.self _ bytes (g.R.Source.left c.args.reader.now) (g.R.Source.left c.loop-n.reader)
+    fed-unread (HasFound g.T.Sought.claimed g.T.Sought.nothing g.T.Sought.add g.T.Sought.most g.T.Sought.least claim) c.loop-n.self _ bytes (g.R.Source.left c.args.reader.now) (g.R.Source.left c.loop-n.reader)
     (g.R.Source.left c.read_piece.new.self) (c.loop-n.invariant.fed claim bytes h) c.in-Err.ensures.bytes

@@ -8,8 +8,8 @@ use Rattle.ssh_trust.proofs.pieces.Pieces.feed_from.Given as goal
 abbrev pub invariant-loop-n : goal.invariant-loop-n
 invariant-loop-n g l = record {
   unfailed : g.R.Source.unfailed l.fn.reader l.reader;
-  fed : (claim : g.T.Sought.Claim) (bytes : List ℕ) → HasTaken (HasFound g.T.Sought.claimed g.T.Sought.nothing g.T.Sought.add claim) l.fn.self bytes
-      → IsFeeding (HasFound g.T.Sought.claimed g.T.Sought.nothing g.T.Sought.add claim) l.self bytes (g.R.Source.left l.fn.reader) (g.R.Source.left l.reader);
+  fed : (claim : g.T.Sought.Claim) (bytes : List ℕ) → HasTaken (HasFound g.T.Sought.claimed g.T.Sought.nothing g.T.Sought.add g.T.Sought.most g.T.Sought.least claim) l.fn.self bytes
+      → IsFeeding (HasFound g.T.Sought.claimed g.T.Sought.nothing g.T.Sought.add g.T.Sought.most g.T.Sought.least claim) l.self bytes (g.R.Source.left l.fn.reader) (g.R.Source.left l.reader);
   bounded : IsKept g.S.Listing.reasons l.fn.self.search → IsKept g.S.Listing.reasons l.self.search;
   line : length l.fn.self.scanner.kept.bytes ≤ line_limit → length l.self.scanner.kept.bytes ≤ line_limit;
 }

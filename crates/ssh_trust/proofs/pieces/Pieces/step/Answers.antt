@@ -13,7 +13,7 @@ returns-in-Some-clause-read g c claim bytes h =
     (record {
       scanned = line.stands_for bytes h.scanned;
       found =
-          found-line (HasFound g.T.Sought.claimed g.T.Sought.nothing g.T.Sought.add claim) _ _ bytes rest (up_to_newline rest) _ _ refl line.newline (line.line bytes h.scanned)
+          found-line (HasFound g.T.Sought.claimed g.T.Sought.nothing g.T.Sought.add g.T.Sought.most g.T.Sought.least claim) _ _ bytes rest (up_to_newline rest) _ _ refl line.newline (line.line bytes h.scanned)
           (λ lines f. c.in_ok-take_line.ensures.found _ refl claim lines f) h.found;
     })
 
@@ -28,7 +28,7 @@ returns-in_ok-take_line-2-clause-read g c claim bytes h =
     record {
       scanned = stands;
       found =
-          found-line (HasFound g.T.Sought.claimed g.T.Sought.nothing g.T.Sought.add claim) _ _ bytes rest _ _ line.text fed.part newline line.last
+          found-line (HasFound g.T.Sought.claimed g.T.Sought.nothing g.T.Sought.add g.T.Sought.most g.T.Sought.least claim) _ _ bytes rest _ _ line.text fed.part newline line.last
           (λ lines f. c.in_ok-take_line-2.ensures.found line.text line.is claim lines f) h.found;
     }
 
@@ -41,5 +41,5 @@ returns-else-ready-clause-read g c claim bytes h =
     let same = c.whole_line.ensures.none c.in_default.is in
     record {
       scanned = fed.stands_for bytes (subst (λ s. StandsFor s bytes) (sym same) h.scanned);
-      found = found-part (HasFound g.T.Sought.claimed g.T.Sought.nothing g.T.Sought.add claim) _ bytes rest _ (take_all c.in_ok-taken.taken rest (omega arith)) none h.found;
+      found = found-part (HasFound g.T.Sought.claimed g.T.Sought.nothing g.T.Sought.add g.T.Sought.most g.T.Sought.least claim) _ bytes rest _ (take_all c.in_ok-taken.taken rest (omega arith)) none h.found;
     }

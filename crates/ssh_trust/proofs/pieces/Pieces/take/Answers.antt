@@ -11,7 +11,7 @@ loop-taken-init g c = (
   omega arith,
   refl,
   λ h. h,
-  λ claim bytes h. subst (λ s. HasRead (HasFound g.T.Sought.claimed g.T.Sought.nothing g.T.Sought.add claim) c.args.self.now s) (sym (append-nil bytes)) h,
+  λ claim bytes h. subst (λ s. HasRead (HasFound g.T.Sought.claimed g.T.Sought.nothing g.T.Sought.add g.T.Sought.most g.T.Sought.least claim) c.args.self.now s) (sym (append-nil bytes)) h,
 )
 
 pub returns-then-not-ready-clause-read : goal.returns-then-not-ready-clause-read

@@ -7,7 +7,7 @@ abbrev pub invariant-loop-taken : goal.invariant-loop-taken
 invariant-loop-taken g l =
     (l.done ≤ length l.piece) × (l.self.scanner.used ≡ l.fn.self.scanner.used + l.done) × (l.self.failed ≡ l.fn.self.failed)
     × (IsKept g.S.Listing.reasons l.fn.self.search → IsKept g.S.Listing.reasons l.self.search)
-    × ((claim : g.T.Sought.Claim) (bytes : List ℕ) → HasRead (HasFound g.T.Sought.claimed g.T.Sought.nothing g.T.Sought.add claim) l.fn.self bytes → HasRead (HasFound g.T.Sought.claimed g.T.Sought.nothing g.T.Sought.add claim) l.self (bytes ++ take l.done l.piece))
+    × ((claim : g.T.Sought.Claim) (bytes : List ℕ) → HasRead (HasFound g.T.Sought.claimed g.T.Sought.nothing g.T.Sought.add g.T.Sought.most g.T.Sought.least claim) l.fn.self bytes → HasRead (HasFound g.T.Sought.claimed g.T.Sought.nothing g.T.Sought.add g.T.Sought.most g.T.Sought.least claim) l.self (bytes ++ take l.done l.piece))
 
 abbrev pub decreases-loop-taken : goal.decreases-loop-taken
 decreases-loop-taken g l = length l.piece - l.done
