@@ -4,9 +4,8 @@ use Rattle.ssh_options.specs.AuthOption.{AuthOption}
 use Rattle.ssh_options.specs.declared.cause.LineCause.{LineCause}
 use Rattle.ssh_options.specs.declared.cause.LineCause.TheVariants as causes
 use Rattle.ssh_options.specs.OptionText.{OptionItem, option_items, option_item, each_item, option_of, repeats, has_bad_expiry, and_option, and_item, options_from, options_of}
-use Rattle.ssh_options.specs.OptionTexts.{AreCut, texts_left}
 use Rattle.ssh_options.specs.OptionsInPlace.{fault_in}
-use Rattle.ssh_options.specs.OptionsInLine.{option_at, each_option, or_none, options_in}
+use Rattle.ssh_options.specs.OptionsInLine.{each_option, or_none, options_in}
 use Rattle.ssh_options.proofs.ItemLemmas.{from_texts, from_texts_all, from_texts-next, from_texts-refused}
 
 -- the options of the items, after those before them
@@ -81,34 +80,3 @@ said_options text h = let f = found text h in f.1 ∙ ap (λ o. Ok (or_none o)) 
 
 pub said_each : (text : List ℕ) → None ≡ fault_in (options_of text) → each_option (option_items false 0 text) ≡ Some (options_in (option_items false 0 text))
 said_each text h = let f = found text h in f.2 ∙ ap (λ o. Some (or_none o)) (sym f.2)
-
--- ---- one option after the other
-
-cut-left : (text first : List ℕ) (rest : Option (List ℕ)) → AreCut text first rest → option_items false 0 text ≡ first ∷ texts_left rest
-cut-left text first None h = h
-cut-left text first (Some rest) h = h
-
-each-next : (first : List ℕ) (option : AuthOption) (more : Option (List AuthOption)) (texts : List (List ℕ)) → Some option ≡ option_at first → each_option texts ≡ more
-    → each_option (first ∷ texts) ≡ Some (options_in (first ∷ texts))
-    → (each_option texts ≡ Some (options_in texts)) × (options_in (first ∷ texts) ≡ option ∷ options_in texts)
-each-next first option None texts is e h = let f = rw (← is, e) at h in cc
-each-next first option (Some options) texts is e h = (rw e refl, rw (← is, e) refl)
-
-each-none : (first : List ℕ) (texts : List (List ℕ)) (whole : List AuthOption) → None ≡ option_at first → each_option (first ∷ texts) ≡ Some whole → ⊥
-each-none first texts whole is h = let f = rw (← is) at h in cc
-
--- what is left after the first option
-pub next_left : (text first : List ℕ) (rest : Option (List ℕ)) (option : AuthOption) → AreCut text first rest → Some option ≡ option_at first
-    → each_option (option_items false 0 text) ≡ Some (options_in (option_items false 0 text)) → each_option (texts_left rest) ≡ Some (options_in (texts_left rest))
-next_left text first rest option cut is h =
-    (each-next first option (each_option (texts_left rest)) (texts_left rest) is refl (rw (cut-left text first rest cut) at h)).0
-
-pub next_first : (text first : List ℕ) (rest : Option (List ℕ)) (option : AuthOption) → AreCut text first rest → Some option ≡ option_at first
-    → each_option (option_items false 0 text) ≡ Some (options_in (option_items false 0 text)) → options_in (option_items false 0 text) ≡ option ∷ options_in (texts_left rest)
-next_first text first rest option cut is h =
-    rw (cut-left text first rest cut)
-    (each-next first option (each_option (texts_left rest)) (texts_left rest) is refl (rw (cut-left text first rest cut) at h)).1
-
-pub next_there : (text first : List ℕ) (rest : Option (List ℕ)) → AreCut text first rest → None ≡ option_at first
-    → each_option (option_items false 0 text) ≡ Some (options_in (option_items false 0 text)) → ⊥
-next_there text first rest cut is h = each-none first (texts_left rest) (options_in (option_items false 0 text)) is (sym (ap each_option (cut-left text first rest cut)) ∙ h)

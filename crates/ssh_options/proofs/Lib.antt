@@ -2,6 +2,7 @@ pub mod ValueLemmas
 pub mod ItemLemmas
 pub mod RowLemmas
 pub mod OptionLemmas
+pub mod WalkLemmas
 pub mod ReadOptions
 pub mod EscapeLemmas
 pub mod SeenLemmas

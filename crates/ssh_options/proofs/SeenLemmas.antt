@@ -1,5 +1,5 @@
 -- The first fault of options, found with only what may not stand again in mind.
-use Rattle.std.proofs.Common.{◌≡◌, ℕ, Bool, true, false, ◌||◌, cond, List, [], ◌∷◌, ◌++◌, Option, Some, None, Result, Ok, Err, refl, sym, ap, ◌∙◌}
+use Rattle.std.proofs.Common.{◌≡◌, ℕ, Bool, true, false, ◌||◌, cond, List, [], ◌∷◌, ◌++◌, Option, Some, None, Result, Ok, Err, refl, ap, ◌∙◌}
 use Rattle.std.specs.Prelude.{option_map, option_and_then}
 use Rattle.ssh_options.specs.declared.option.ValueName.{ValueName}
 use Rattle.ssh_options.specs.declared.option.ValueName.TheVariants.{Command, Environment, ExpiryTime, From, PermitListen, PermitOpen, Principals, Tunnel}
@@ -9,6 +9,8 @@ use Rattle.ssh_options.specs.declared.cause.LineCause.{LineCause}
 use Rattle.ssh_options.specs.declared.cause.LineCause.TheVariants as causes
 use Rattle.ssh_options.specs.OptionNames.{same_value_name, option_row}
 use Rattle.ssh_options.specs.OptionText.{OptionItem, option_items, option_item, each_item, has_setting, repeats, has_bad_expiry, option_of, and_option, and_item, options_from, options_of_items, options_of}
+use Rattle.ssh_options.specs.OptionTexts.{first_item}
+use Rattle.ssh_options.proofs.ItemLemmas.{some_items}
 use Rattle.ssh_options.specs.OptionsInPlace.{seen_of, none_seen, stood, with_name, and_read_seen, and_item_seen, fault_in}
 
 -- ---- what has stood
@@ -110,18 +112,17 @@ onto-items : (so_far : Result Seen LineCause) (item : OptionItem) (items : Optio
 onto-items so_far item None = refl
 onto-items so_far item (Some items) = refl
 
-pub fault_from-next : (whole : Option LineCause) (so_far after : Result Seen LineCause) (texts later : List (List ℕ)) (text : List ℕ) (item : OptionItem)
-    → texts ≡ text ∷ later → Some item ≡ option_item text → after ≡ and_item_seen so_far item → whole ≡ fault_from so_far texts → whole ≡ fault_from after later
-fault_from-next whole so_far after texts later text item cut read with held =
-    held ∙ ap (fault_from so_far) cut
-    ∙ ap (λ i. fault_by so_far (option_and_then (λ x. option_map (λ more. x ∷ more) (each_item later)) i)) (sym read)
-    ∙ onto-items so_far item (each_item later) ∙ ap (λ r. fault_from r later) (sym with)
+refused-by : (read : Option OptionItem) (so_far : Result Seen LineCause) (texts : List (List ℕ)) (text : List ℕ)
+    → option_item text ≡ read → ◌≡◌ {A = Option (OptionItem × List (List ℕ))} None (option_map (λ i. (i, texts)) read) → fault_from so_far (text ∷ texts) ≡ Some causes.OptionSyntax
+refused-by None so_far texts text is none =
+    ap (λ r. fault_by so_far (option_and_then (λ x. option_map (λ more. x ∷ more) (each_item texts)) r)) is
+refused-by (Some read) so_far texts text is none = cc
 
-pub fault_from-refused : (whole : Option LineCause) (so_far : Result Seen LineCause) (texts later : List (List ℕ)) (text : List ℕ)
-    → texts ≡ text ∷ later → None ≡ option_item text → whole ≡ fault_from so_far texts → whole ≡ Some causes.OptionSyntax
-fault_from-refused whole so_far texts later text cut read held =
-    held ∙ ap (fault_from so_far) cut
-    ∙ ap (λ i. fault_by so_far (option_and_then (λ x. option_map (λ more. x ∷ more) (each_item later)) i)) (sym read)
+refused-first : (so_far : Result Seen LineCause) (items : List (List ℕ)) → (items ≡ [] → ⊥) → None ≡ first_item items
+    → fault_from so_far items ≡ Some causes.OptionSyntax
+refused-first so_far [] some none = absurd (some refl)
+refused-first so_far (text ∷ texts) some none = refused-by (option_item text) so_far texts text refl none
 
-pub fault_from-ended : (whole : Option LineCause) (so_far : Result Seen LineCause) (texts : List (List ℕ)) → texts ≡ [] → whole ≡ fault_from so_far texts → whole ≡ fault_in so_far
-fault_from-ended whole so_far texts none held = held ∙ ap (fault_from so_far) none
+pub fault_from-refused : (whole : Option LineCause) (so_far : Result Seen LineCause) (text : List ℕ)
+    → None ≡ first_item (option_items false 0 text) → whole ≡ fault_from so_far (option_items false 0 text) → whole ≡ Some causes.OptionSyntax
+fault_from-refused whole so_far text none held = held ∙ refused-first so_far (option_items false 0 text) (some_items false 0 text) none

@@ -1,10 +1,12 @@
 -- What is seen of options that are read where they stand in a line.
-use Rattle.std.specs.Prelude.{ℕ, List, [], ◌∷◌, Option, Some, None, option_map, option_and_then}
+use Rattle.std.specs.Prelude.{ℕ, List, [], ◌∷◌, Option, Some, None, option_map, option_and_then, option_copied}
+use Rattle.std.specs.Borrow.{Bor}
 use Rattle.std.specs.Result.{result_ok}
 use Rattle.ssh_options.specs.AuthOption.{AuthOption, Switch, Setting}
 use Rattle.ssh_options.specs.declared.option_view.OptionView.{OptionView}
 use Rattle.ssh_options.specs.declared.option_view.OptionView.TheVariants as views
 use Rattle.ssh_options.specs.OptionText.{option_item, option_of}
+use Rattle.ssh_options.specs.OptionTexts.{texts_left}
 
 -- an option in its line, by its name and its value
 abbrev pub option_in_line : OptionView → AuthOption
@@ -14,6 +16,15 @@ option_in_line (views.Setting name value) = Setting name value
 -- the option of an item by itself, if it is one
 abbrev pub option_at : List ℕ → Option AuthOption
 option_at text = option_and_then (λ item. result_ok (option_of item)) (option_item text)
+
+-- the first of the options, and the texts of the items after it, if the first item is one
+abbrev pub first_option : List (List ℕ) → Option (AuthOption × List (List ℕ))
+first_option [] = None
+first_option (text ∷ texts) = option_map (λ option. (option, texts)) (option_at text)
+
+-- the same parts, in their line
+abbrev pub option_taken : OptionView × Option (Bor (List ℕ)) → AuthOption × List (List ℕ)
+option_taken parts = (option_in_line parts.0, texts_left (option_copied parts.1))
 
 -- the options of items, if each is one
 abbrev pub each_option : List (List ℕ) → Option (List AuthOption)

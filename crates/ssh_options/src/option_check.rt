@@ -13,7 +13,7 @@ ghost use Rattle.ssh_options.specs.OptionsInPlace.{
 
 use crate::cause::LineCause;
 use crate::option::ValueName;
-use crate::option_text::{ItemText, ItemTexts, read_item};
+use crate::option_text::{ItemText, take_item};
 use crate::option_view::{OptionView, view_option};
 
 /// Which of the options that may stand once have stood.
@@ -104,11 +104,13 @@ pub(crate) fn options_fault(text: &[u8]) -> Option<LineCause>
     ensures { result ≡ fault_in (options_of text.now) }
 {
     let mut so_far = Ok(Seen::new());
-    for item_text in ItemTexts::new(text) {
-        let Some(item) = read_item(item_text) else {
+    let mut rest = Some(text);
+    while let Some(left) = rest {
+        let Some((item, later)) = take_item(left) else {
             return Some(LineCause::OptionSyntax);
         };
         so_far = and_item(so_far, item);
+        rest = later;
     }
     match so_far {
         Ok(_) => None,

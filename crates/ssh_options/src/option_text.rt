@@ -12,7 +12,6 @@ ghost use Rattle.std.specs.Prelude.{
   option_map,
   option_copied,
 };
-ghost use Rattle.std.specs.Iterator.{YieldsFirstRef, item_count};
 ghost use Rattle.ssh_options.specs.OptionText.{
   option_text_of,
   option_items,
@@ -20,13 +19,18 @@ ghost use Rattle.ssh_options.specs.OptionText.{
   name_part,
   after_name,
   begins_with_quote,
-  closed_by_quote,
   unescaped,
-  value_of,
-  option_item,
   is_open_quote,
 };
-ghost use Rattle.ssh_options.specs.OptionTexts.{AreCut, texts_left, plain_item};
+ghost use Rattle.ssh_options.specs.OptionTexts.{
+  both_now,
+  value_taken,
+  item_taken,
+  split_at_quote,
+  split_value,
+  after_item,
+  first_item,
+};
 
 use ssh_text::{Bytes, is_blank};
 use std::alloc::{AllocError, Global};
@@ -68,54 +72,6 @@ pub fn split_option_text(text: &[u8]) -> (&[u8], &[u8])
     text.split_at(option_text_len(text))
 }
 
-/// The first item, up to a comma outside quotes, and what follows the comma.
-pub(crate) fn split_item(text: &[u8]) -> (&[u8], Option<&[u8]>)
-    ensures { AreCut text.now result.0.now (option_copied result.1) }
-{
-    let mut inside = false;
-    let mut last = 0;
-    for (i, byte) in text.iter().enumerate() {
-        if !inside && *byte == b',' {
-            return (&text[..i], Some(&text[i + 1..]));
-        }
-        if is_open_quote(last, *byte) {
-            inside = !inside;
-        }
-        last = *byte;
-    }
-    (text, None)
-}
-
-/// The items of an option text, each by its bytes.
-#[derive(Drop)]
-pub(crate) struct ItemTexts<'a> {
-    rest: Option<&'a [u8]>,
-}
-
-impl<'a> ItemTexts<'a> {
-    /// The items of the text.
-    pub(crate) fn new(text: &'a [u8]) -> ItemTexts<'a>
-        ensures { texts_left (option_copied result.rest) ≡ option_items false 0 text.now }
-    {
-        ItemTexts { rest: Some(text) }
-    }
-}
-
-impl<'a> Iterator for ItemTexts<'a> {
-    type Item = &'a [u8];
-
-    ghost next_gives = { YieldsFirstRef (λ s. texts_left (option_copied s.rest)) };
-
-    ghost remaining = { item_count (λ s. texts_left (option_copied s.rest)) };
-
-    fn next(&mut self) -> Option<&'a [u8]> {
-        let text = self.rest?;
-        let (item, rest) = split_item(text);
-        self.rest = rest;
-        Some(item)
-    }
-}
-
 /// An item: its name, and its value if it has one, as it stands between the quotes.
 #[derive(Clone, Copy)]
 pub(crate) struct ItemText<'a> {
@@ -144,46 +100,56 @@ fn name_len(text: &[u8]) -> usize
     text.len()
 }
 
-/// What stands in front of the closing quote, if that is the last byte.
-fn before_quote(text: &[u8]) -> Option<&[u8]>
-    ensures { option_copied result ≡ closed_by_quote 34 text.now }
+/// What stands in front of the closing quote, and what follows that quote.
+fn split_at_quote(text: &[u8]) -> Option<(&[u8], &[u8])>
+    ensures { option_map both_now result ≡ split_at_quote 34 text.now }
 {
     let mut last = b'"';
     for (i, byte) in text.iter().enumerate() {
         if is_open_quote(last, *byte) {
-            return if i + 1 == text.len() {
-                Some(&text[..i])
-            } else {
-                None
-            };
+            return Some((&text[..i], &text[i + 1..]));
         }
         last = *byte;
     }
     None
 }
 
-/// The value that follows a name: none, or what stands between `="` and a closing quote.
-fn read_value(text: &[u8]) -> Option<Option<&[u8]>>
-    ensures { option_map (λ value. option_map unescaped (option_copied value)) result
-        ≡ value_of text.now }
+/// The value that stands between `="` and a closing quote, if one begins, and what follows.
+fn take_value(text: &[u8]) -> Option<(Option<&[u8]>, &[u8])>
+    ensures { option_map value_taken result ≡ split_value text.now }
+{
+    match text {
+        [b'=', b'"', quoted @ ..] => {
+            let (value, rest) = split_at_quote(quoted)?;
+            Some((Some(value), rest))
+        }
+        _ => Some((None, text)),
+    }
+}
+
+/// What follows the comma after an item, if the text does not end there.
+fn after_item(text: &[u8]) -> Option<Option<&[u8]>>
+    ensures { option_map (λ rest. option_copied rest) result ≡ after_item text.now }
 {
     match text {
         [] => Some(None),
-        [b'=', b'"', quoted @ ..] => Some(Some(before_quote(quoted)?)),
+        [b',', rest @ ..] => Some(Some(rest)),
         _ => None,
     }
 }
 
-/// The name and the value of an item, if its text is in form.
-pub(crate) fn read_item(text: &[u8]) -> Option<ItemText<'_>>
-    ensures { option_map plain_item result ≡ option_item text.now }
+/// The first item of a text, and what follows the comma after it, if the item is in form.
+#[tactic(auto, using(crate::proofs::WalkLemmas::first_walked))]
+pub(crate) fn take_item(text: &[u8]) -> Option<(ItemText<'_>, Option<&[u8]>)>
+    ensures { option_map item_taken result ≡ first_item (option_items false 0 text.now) }
 {
     let (name, rest) = text.split_at(name_len(text));
     if name.is_empty() {
         return None;
     }
-    let value = read_value(rest)?;
-    Some(ItemText { name, value })
+    let (value, rest) = take_value(rest)?;
+    let rest = after_item(rest)?;
+    Some((ItemText { name, value }, rest))
 }
 
 pub(crate) fn begins_with_quote(text: &[u8]) -> bool

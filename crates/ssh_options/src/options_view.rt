@@ -1,17 +1,17 @@
 //! The options of a line, in its text.
 
-ghost use Rattle.std.specs.Prelude.{◌≡◌, ◌↔◌, [], List, IsTrue, option_map, option_copied};
+ghost use Rattle.std.specs.Prelude.{◌≡◌, ◌↔◌, [], List, IsTrue, false, option_map};
 ghost use Rattle.std.specs.Iterator.{YieldsFirst, YieldsFirstBy, item_count};
 ghost use Rattle.ssh_wire.specs.Reading.{Gives};
-ghost use Rattle.ssh_options.specs.OptionText.{option_of, options_of};
+ghost use Rattle.ssh_options.specs.OptionText.{option_items, options_of};
 ghost use Rattle.ssh_options.specs.SameOptions.{are_same_options};
 ghost use Rattle.ssh_options.specs.Settings.{has_flag, settings};
-ghost use Rattle.ssh_options.specs.OptionsInLine.{option_in_line, option_at};
+ghost use Rattle.ssh_options.specs.OptionsInLine.{option_in_line, option_taken, first_option};
 
 use crate::cause::LineCause;
 use crate::option::{Flag, ValueName};
 use crate::option_check::options_fault;
-use crate::option_text::{read_item, split_item};
+use crate::option_text::take_item;
 use crate::option_view::{OptionView, view_option};
 use crate::value_view::ValueView;
 use std::marker::Model;
@@ -37,12 +37,15 @@ impl<'a> Model for OptionsView<'a> {
         ≡ Some (options_in (texts_left (option_copied o.rest))) };
 }
 
-/// The option of an item, if it is one.
-fn option_at(text: &[u8]) -> Option<OptionView<'_>>
-    ensures { option_map option_in_line result ≡ option_at text.now }
+/// The first option of a text, and what follows the comma after it, if its item is an option.
+fn take_option(text: &[u8]) -> Option<(OptionView<'_>, Option<&[u8]>)>
+    ensures { option_map option_taken result ≡ first_option (option_items false 0 text.now) }
 {
-    let item = read_item(text)?;
-    view_option(item).ok()
+    let (item, rest) = take_item(text)?;
+    match view_option(item) {
+        Ok(option) => Some((option, rest)),
+        Err(_) => None,
+    }
 }
 
 impl<'a> OptionsView<'a> {
@@ -97,9 +100,7 @@ impl<'a> Iterator for OptionsView<'a> {
     ghost remaining = { item_count (λ options. options) };
 
     fn next(&mut self) -> Option<OptionView<'a>> {
-        let text = self.rest?;
-        let (item, rest) = split_item(text);
-        let option = option_at(item)?;
+        let (option, rest) = take_option(self.rest?)?;
         self.rest = rest;
         Some(option)
     }
