@@ -11,7 +11,7 @@ ghost use Rattle.ssh_lines.specs.declared.entry.AuthLine.TheVariants.{Unreadable
 use crate::auth_view::AuthEntryView;
 use crate::key_view::{key_of_kind, kind_of_class};
 use ssh_keys::{KeyKind, NameClass, name_class};
-use ssh_options::{LineCause, OptionsView, split_option_text};
+use ssh_options::{LineCause, OptionsView};
 use ssh_text::{skip_blanks, split_word};
 
 /// The options, the kind of key that the type names, the base64, and what follows it.
@@ -70,8 +70,7 @@ fn fields_after_options<'a>(body: &'a [u8]) -> Result<EntryFields<'a>, LineCause
     ensures room { IfOk result (λ f. length f.base64.now ≤ length body.entry.now) }
     ensures err { IfErr result (λ cause. entry_with_options body.entry.now ≡ Unreadable cause) }
 {
-    let (text, rest) = split_option_text(body);
-    let options = OptionsView::read(text)?;
+    let (options, rest) = OptionsView::take(body)?;
     fields_with(options, skip_blanks(rest))
 }
 

@@ -3,6 +3,8 @@ pub mod ItemLemmas
 pub mod RowLemmas
 pub mod OptionLemmas
 pub mod WalkLemmas
+pub mod FrontLemmas
+pub mod QuoteLemmas
 pub mod ReadOptions
 pub mod EscapeLemmas
 pub mod SeenLemmas

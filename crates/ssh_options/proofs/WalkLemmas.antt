@@ -4,7 +4,7 @@ use Rattle.std.specs.Prelude.{option_and_then}
 use Rattle.std.specs.List.{onto_first}
 use Rattle.std.proofs.lemmas.Bool.{cases_Bool, eqb-true, ne_eqb}
 use Rattle.ssh_options.specs.OptionText.{OptionItem, option_items, is_open_quote, turned, is_name_byte, name_part, after_name, unescaped, closed_by_quote, value_of, named_item}
-use Rattle.ssh_options.specs.OptionTexts.{texts_left, first_item, split_at_quote, split_value, after_item}
+use Rattle.ssh_options.specs.OptionTexts.{first_item, split_at_quote, split_value}
 use Rattle.ssh_options.proofs.OptionLemmas.{plain-from_name_byte}
 
 -- a comma before a text is as nothing before it
@@ -14,14 +14,23 @@ comma-before (c ∷ cs) = refl
 
 -- ---- the walk
 
--- a part, and the texts of the items after it, if it ends the item
-abbrev before_items : {X : Type 0} → X × List ℕ → Option (X × List (List ℕ))
-before_items parts = option_map (λ rest. (parts.0, texts_left rest)) (after_item parts.1)
+-- what stands after an item of a text that ends with its options: nothing, or a comma and the text of more items
+abbrev pub item_end : List ℕ → Option (Option (List ℕ))
+item_end [] = Some None
+item_end (c ∷ cs) = if c == 44 then Some (Some cs) else None
 
-abbrev walked_value : List ℕ → Option (Option (List ℕ) × List (List ℕ))
+abbrev pub items_after : Option (List ℕ) → List (List ℕ)
+items_after None = []
+items_after (Some text) = option_items false 0 text
+
+-- a part, and the texts of the items after it, if it ends the item
+abbrev pub before_items : {X : Type 0} → X × List ℕ → Option (X × List (List ℕ))
+before_items parts = option_map (λ rest. (parts.0, items_after rest)) (item_end parts.1)
+
+abbrev pub walked_value : List ℕ → Option (Option (List ℕ) × List (List ℕ))
 walked_value text = option_and_then before_items (split_value text)
 
-abbrev with_name : List ℕ → Option (Option (List ℕ) × List (List ℕ)) → Option (OptionItem × List (List ℕ))
+abbrev pub with_name : List ℕ → Option (Option (List ℕ) × List (List ℕ)) → Option (OptionItem × List (List ℕ))
 with_name [] value = None
 with_name (c ∷ cs) value = option_map (λ v. (record { name = c ∷ cs; value = v.0 }, v.1)) value
 
@@ -53,10 +62,10 @@ onto-closed last c (text ∷ texts) o = rw o (by-value (closed_by_quote c text))
 onto-walked : (c : ℕ) (parts : Option (List ℕ × List ℕ))
     → option_and_then before_items (option_map (λ p. (c ∷ p.0, p.1)) parts) ≡ option_map (onto_value c) (option_and_then before_items parts)
 onto-walked c None = refl
-onto-walked c (Some parts) = by-rest (after_item parts.1)
+onto-walked c (Some parts) = by-rest (item_end parts.1)
   where
     by-rest : (rest : Option (Option (List ℕ)))
-        → option_map (λ r. (c ∷ parts.0, texts_left r)) rest ≡ option_map (onto_value c) (option_map (λ r. (parts.0, texts_left r)) rest)
+        → option_map (λ r. (c ∷ parts.0, items_after r)) rest ≡ option_map (onto_value c) (option_map (λ r. (parts.0, items_after r)) rest)
     by-rest None = refl
     by-rest (Some rest) = refl
 
@@ -110,10 +119,10 @@ quoted-value (text ∷ texts) = by-value (closed_by_quote 34 text)
 unescape-walked : (parts : Option (List ℕ × List ℕ))
     → option_and_then before_items (option_map (λ p. (Some (unescaped p.0), p.1)) parts) ≡ option_map unescape_first (option_and_then before_items parts)
 unescape-walked None = refl
-unescape-walked (Some parts) = by-rest (after_item parts.1)
+unescape-walked (Some parts) = by-rest (item_end parts.1)
   where
     by-rest : (rest : Option (Option (List ℕ)))
-        → option_map (λ r. (Some (unescaped parts.0), texts_left r)) rest ≡ option_map unescape_first (option_map (λ r. (parts.0, texts_left r)) rest)
+        → option_map (λ r. (Some (unescaped parts.0), items_after r)) rest ≡ option_map unescape_first (option_map (λ r. (parts.0, items_after r)) rest)
     by-rest None = refl
     by-rest (Some rest) = refl
 
@@ -221,8 +230,3 @@ pub first_walked : (text : List ℕ) → first_item (option_items false 0 text) 
 first_walked text = first-parts (option_items false 0 text)
     ∙ ap (λ n. with_name n (first_value (option_items false 0 text))) (name-walked 0 text)
     ∙ ap (with_name (name_part text)) (value-walked 0 text)
-
--- a text without a name in front has no item in form there
-pub unnamed : (text name : List ℕ) → name ≡ name_part text → length name ≡ 0 → None ≡ first_item (option_items false 0 text)
-unnamed text [] named none = ap (λ n. with_name n (walked_value (after_name text))) named ∙ sym (first_walked text)
-unnamed text (c ∷ cs) named none = cc

@@ -1,16 +1,27 @@
 -- What is seen of items that lie in the text of a line, and of the rows of the table in memory.
-use Rattle.std.specs.Prelude.{ℕ, false, ◌&&◌, ◌==◌, if◌then◌else◌, List, [], ◌∷◌, Option, Some, None, option_map, option_copied}
+use Rattle.std.specs.Prelude.{ℕ, Bool, true, false, ◌&&◌, ◌==◌, if◌then◌else◌, List, [], ◌∷◌, length, drop, Option, Some, None, option_map, option_copied}
 use Rattle.std.specs.Borrow.{Bor}
+use Rattle.ssh_options.specs.declared.option_text.After.{After}
+use Rattle.ssh_options.specs.declared.option_text.After.TheVariants as afters
 use Rattle.ssh_options.specs.declared.option_text.ItemText.{ItemText}
 use Rattle.ssh_options.specs.declared.option.OptionName.{OptionName}
 use Rattle.ssh_options.specs.declared.option.Times.{Times}
 use Rattle.ssh_options.specs.OptionNames.{OptionRow}
-use Rattle.ssh_options.specs.OptionText.{OptionItem, option_items, option_item, is_open_quote, unescaped}
+use Rattle.ssh_text.specs.Text.{is_blank}
+use Rattle.ssh_options.specs.OptionText.{OptionItem, option_items, option_item, option_text_of, is_open_quote, unescaped}
 
--- the items of a text that is left, if one is
+-- the items of the options at the front of a text
+abbrev pub front_items : List ℕ → List (List ℕ)
+front_items text = option_items false 0 (option_text_of false 0 text)
+
+-- the items at the front of a text that is left, if one is
 abbrev pub texts_left : Option (List ℕ) → List (List ℕ)
 texts_left None = []
-texts_left (Some text) = option_items false 0 text
+texts_left (Some text) = front_items text
+
+-- what follows the options at the front of a text
+abbrev pub after_options : List ℕ → List ℕ
+after_options text = drop (length (option_text_of false 0 text)) text
 
 -- an item by its name and its value
 abbrev pub plain_item : ItemText → OptionItem
@@ -37,10 +48,21 @@ split_value (c ∷ d ∷ cs) =
     if (c == 61) && (d == 34) then option_map (λ parts. (Some (unescaped parts.0), parts.1)) (split_at_quote 34 cs)
     else Some (None, c ∷ d ∷ cs)
 
--- what stands after an item: nothing, or a comma and the text of the items that follow
-abbrev pub after_item : List ℕ → Option (Option (List ℕ))
-after_item [] = Some None
-after_item (c ∷ cs) = if c == 44 then Some (Some cs) else None
+-- what stands after an item: a comma and a text of more items, or the end of the options and what is left there
+abbrev pub Following : Type 0
+Following = Bool × List ℕ
+
+abbrev pub after_item : List ℕ → Option Following
+after_item [] = Some (false, [])
+after_item (c ∷ cs) = if c == 44 then Some (true, cs) else if is_blank c then Some (false, c ∷ cs) else None
+
+-- the items that follow
+abbrev pub texts_following : Following → List (List ℕ)
+texts_following following = if following.0 then front_items following.1 else []
+
+-- what follows the options, where this follows an item of theirs
+abbrev pub rest_following : Following → List ℕ
+rest_following following = if following.0 then after_options following.1 else following.1
 
 -- the same parts, in memory
 abbrev pub both_now : Bor (List ℕ) × Bor (List ℕ) → List ℕ × List ℕ
@@ -49,8 +71,16 @@ both_now parts = (parts.0.now, parts.1.now)
 abbrev pub value_taken : Option (Bor (List ℕ)) × Bor (List ℕ) → Option (List ℕ) × List ℕ
 value_taken parts = (option_map unescaped (option_copied parts.0), parts.1.now)
 
-abbrev pub item_taken : ItemText × Option (Bor (List ℕ)) → OptionItem × List (List ℕ)
-item_taken parts = (plain_item parts.0, texts_left (option_copied parts.1))
+abbrev pub after_now : After → Following
+after_now (afters.Item text) = (true, text.now)
+after_now (afters.End rest) = (false, rest.now)
+
+abbrev pub item_text : After → Option (List ℕ)
+item_text (afters.Item text) = Some text.now
+item_text (afters.End rest) = None
+
+abbrev pub item_taken : ItemText × After → OptionItem × List (List ℕ)
+item_taken parts = (plain_item parts.0, texts_following (after_now parts.1))
 
 -- a row of the table, in memory and by its fields
 abbrev pub TableRow : Type 0

@@ -1,12 +1,12 @@
 -- What is seen of options that are read where they stand in a line.
-use Rattle.std.specs.Prelude.{ℕ, List, [], ◌∷◌, Option, Some, None, option_map, option_and_then, option_copied}
-use Rattle.std.specs.Borrow.{Bor}
+use Rattle.std.specs.Prelude.{ℕ, List, [], ◌∷◌, Option, Some, None, option_map, option_and_then}
 use Rattle.std.specs.Result.{result_ok}
 use Rattle.ssh_options.specs.AuthOption.{AuthOption, Switch, Setting}
+use Rattle.ssh_options.specs.declared.option_text.After.{After}
 use Rattle.ssh_options.specs.declared.option_view.OptionView.{OptionView}
 use Rattle.ssh_options.specs.declared.option_view.OptionView.TheVariants as views
 use Rattle.ssh_options.specs.OptionText.{option_item, option_of}
-use Rattle.ssh_options.specs.OptionTexts.{texts_left}
+use Rattle.ssh_options.specs.OptionTexts.{after_now, texts_following}
 
 -- an option in its line, by its name and its value
 abbrev pub option_in_line : OptionView → AuthOption
@@ -23,8 +23,8 @@ first_option [] = None
 first_option (text ∷ texts) = option_map (λ option. (option, texts)) (option_at text)
 
 -- the same parts, in their line
-abbrev pub option_taken : OptionView × Option (Bor (List ℕ)) → AuthOption × List (List ℕ)
-option_taken parts = (option_in_line parts.0, texts_left (option_copied parts.1))
+abbrev pub option_taken : OptionView × After → AuthOption × List (List ℕ)
+option_taken parts = (option_in_line parts.0, texts_following (after_now parts.1))
 
 -- the options of items, if each is one
 abbrev pub each_option : List (List ℕ) → Option (List AuthOption)

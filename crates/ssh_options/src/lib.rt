@@ -6,8 +6,7 @@
 //! lines):
 //!
 //! ```
-//! let (text, _key) = split_option_text(line);
-//! let options = OptionsView::read(text)?;
+//! let (options, _key) = OptionsView::take(line)?;
 //! let terminal = options.has_flag(Flag::Pty);
 //! match options.settings(ValueName::Command).next() {
 //!     Some(command) => Ok((terminal, Some(command.to_bytes(alloc)?))),
@@ -27,7 +26,6 @@ mod value_view;
 
 pub use cause::LineCause;
 pub use option::{Flag, ValueName};
-pub use option_text::split_option_text;
 pub use option_view::OptionView;
 pub use options_view::{OptionsView, SettingViews};
 pub use value_view::{ValueBytes, ValueView};

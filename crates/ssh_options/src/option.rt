@@ -206,5 +206,5 @@ impl ValueName {
 pub(crate) fn same_name(a: &[u8], b: &[u8]) -> bool
     ensures { result ≡ same_name a.now b.now }
 {
-    a.eq_ignore_ascii_case(b)
+    a.len() == b.len() && a.eq_ignore_ascii_case(b)
 }

@@ -1,8 +1,8 @@
-//! Whether a text is one of options, with nothing kept of them.
+//! Where the options of a line end, and whether they are options, with nothing kept of them.
 
-ghost use Rattle.std.specs.Prelude.{◌≡◌};
-ghost use Rattle.ssh_options.specs.OptionText.{option_of, options_of};
-ghost use Rattle.ssh_options.specs.OptionTexts.{plain_item};
+ghost use Rattle.std.specs.Prelude.{◌≡◌, false, IfOk};
+ghost use Rattle.ssh_options.specs.OptionText.{option_of, option_text_of, options_of};
+ghost use Rattle.ssh_options.specs.OptionTexts.{after_options, plain_item};
 ghost use Rattle.ssh_options.specs.OptionsInLine.{option_in_line};
 ghost use Rattle.ssh_options.specs.OptionsInPlace.{
   and_read_seen,
@@ -13,7 +13,7 @@ ghost use Rattle.ssh_options.specs.OptionsInPlace.{
 
 use crate::cause::LineCause;
 use crate::option::ValueName;
-use crate::option_text::{ItemText, take_item};
+use crate::option_text::{After, ItemText, take_item};
 use crate::option_view::{OptionView, view_option};
 
 /// Which of the options that may stand once have stood.
@@ -97,23 +97,32 @@ fn and_item(so_far: Result<Seen, LineCause>, item: ItemText<'_>) -> Result<Seen,
     }
 }
 
-/// The first fault of an option text: that of the whole text's form, then those of its items from
-/// the left.
+/// What follows the last item, where none before it is a fault.
+fn after_last<'a>(so_far: Result<Seen, LineCause>, rest: &'a [u8]) -> Result<&'a [u8], LineCause>
+    ensures fault { fault_in result ≡ fault_in so_far }
+    ensures rest { IfOk result (λ kept. kept.now ≡ rest.now) }
+{
+    match so_far {
+        Ok(_) => Ok(rest),
+        Err(first) => Err(first),
+    }
+}
+
+/// What follows the options at the front of a text, or their first fault: that of the form of all,
+/// then those of the items from the left.
 #[tactic(auto, using(crate::proofs::SeenLemmas::fault_from_all))]
-pub(crate) fn options_fault(text: &[u8]) -> Option<LineCause>
-    ensures { result ≡ fault_in (options_of text.now) }
+pub(crate) fn after_options(text: &[u8]) -> Result<&[u8], LineCause>
+    ensures fault { fault_in result ≡ fault_in (options_of (option_text_of false 0 text.now)) }
+    ensures rest { IfOk result (λ rest. rest.now ≡ after_options text.now) }
 {
     let mut so_far = Ok(Seen::new());
-    let mut rest = Some(text);
-    while let Some(left) = rest {
-        let Some((item, later)) = take_item(left) else {
-            return Some(LineCause::OptionSyntax);
-        };
+    let mut left = text;
+    while let Some((item, after)) = take_item(left) {
         so_far = and_item(so_far, item);
-        rest = later;
+        match after {
+            After::Item(next) => left = next,
+            After::End(rest) => return after_last(so_far, rest),
+        }
     }
-    match so_far {
-        Ok(_) => None,
-        Err(cause) => Some(cause),
-    }
+    Err(LineCause::OptionSyntax)
 }

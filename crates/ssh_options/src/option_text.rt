@@ -1,76 +1,31 @@
-//! The text of options: where it ends, its items, and an item's name and value.
+//! The text of options: its items, where it ends, and an item's name and value.
 
-ghost use Rattle.std.specs.Prelude.{
-  ◌≡◌,
-  ◌≤◌,
-  length,
-  take,
-  drop,
-  false,
-  IfOk,
-  IsOk,
-  option_map,
-  option_copied,
-};
+ghost use Rattle.std.specs.Prelude.{◌≡◌, ◌≤◌, length, take, drop, IfOk, IfSome, IsOk, option_copied, option_map};
 ghost use Rattle.ssh_options.specs.OptionText.{
-  option_text_of,
-  option_items,
   is_name_byte,
   name_part,
   after_name,
   begins_with_quote,
   unescaped,
-  is_open_quote,
 };
 ghost use Rattle.ssh_options.specs.OptionTexts.{
+  after_now,
+  after_options,
   both_now,
   value_taken,
   item_taken,
+  item_text,
+  rest_following,
   split_at_quote,
   split_value,
   after_item,
   first_item,
+  front_items,
 };
 
-use ssh_text::{Bytes, is_blank};
+use memchr::memchr;
+use ssh_text::{Bytes, ends_with, is_blank};
 use std::alloc::{AllocError, Global};
-
-/// A quote that does not stand right after a backslash; `last` is the byte before.
-fn is_open_quote(last: u8, byte: u8) -> bool
-    ensures { result ≡ is_open_quote last byte }
-{
-    byte == b'"' && last != b'\\'
-}
-
-/// How many bytes the option text at the front of a line has.
-fn option_text_len(text: &[u8]) -> usize
-    ensures value { result ≡ length (option_text_of false 0 text.now) }
-    ensures front { take result text.now ≡ option_text_of false 0 text.now }
-    ensures bound { result ≤ length text.now }
-{
-    let mut inside = false;
-    let mut last = 0;
-    for (i, byte) in text.iter().enumerate() {
-        if !inside && is_blank(*byte) {
-            return i;
-        }
-        if is_open_quote(last, *byte) {
-            inside = !inside;
-        }
-        last = *byte;
-    }
-    text.len()
-}
-
-/// The option text at the front of a line, up to its first blank outside quotes, and what follows
-/// (sshd(8), AUTHORIZED_KEYS FILE FORMAT). A blank is a space or a tab; a quote right after a
-/// backslash does not count.
-pub fn split_option_text(text: &[u8]) -> (&[u8], &[u8])
-    ensures front { result.0.now ≡ option_text_of false 0 text.now }
-    ensures rest { result.1.now ≡ drop (length (option_text_of false 0 text.now)) text.now }
-{
-    text.split_at(option_text_len(text))
-}
 
 /// An item: its name, and its value if it has one, as it stands between the quotes.
 #[derive(Clone, Copy)]
@@ -100,16 +55,18 @@ fn name_len(text: &[u8]) -> usize
     text.len()
 }
 
-/// What stands in front of the closing quote, and what follows that quote.
+/// What stands in front of the closing quote, and what follows that quote. A quote right after a
+/// backslash does not close.
 fn split_at_quote(text: &[u8]) -> Option<(&[u8], &[u8])>
     ensures { option_map both_now result ≡ split_at_quote 34 text.now }
 {
-    let mut last = b'"';
-    for (i, byte) in text.iter().enumerate() {
-        if is_open_quote(last, *byte) {
-            return Some((&text[..i], &text[i + 1..]));
+    let mut from = 0;
+    while let Some(len) = memchr(b'"', &text[from..]) {
+        let quote = from + len;
+        if !ends_with(b'\\', &text[from..quote]) {
+            return Some((&text[..quote], &text[quote + 1..]));
         }
-        last = *byte;
+        from = quote + 1;
     }
     None
 }
@@ -127,29 +84,53 @@ fn take_value(text: &[u8]) -> Option<(Option<&[u8]>, &[u8])>
     }
 }
 
-/// What follows the comma after an item, if the text does not end there.
-fn after_item(text: &[u8]) -> Option<Option<&[u8]>>
-    ensures { option_map (λ rest. option_copied rest) result ≡ after_item text.now }
+/// What stands after an item.
+#[derive(Clone, Copy)]
+pub(crate) enum After<'a> {
+    /// A comma, and this text of the items that follow.
+    Item(&'a [u8]),
+    /// Nothing, or a blank that ends the option text, with what follows it.
+    End(&'a [u8]),
+}
+
+impl<'a> After<'a> {
+    /// The text of the items that follow, if some do.
+    pub(crate) fn item(self) -> Option<&'a [u8]>
+        ensures { option_copied result ≡ item_text self.entry }
+    {
+        match self {
+            After::Item(text) => Some(text),
+            After::End(_) => None,
+        }
+    }
+}
+
+/// What stands after an item, if the item may end there.
+fn after_item(text: &[u8]) -> Option<After<'_>>
+    ensures { option_map after_now result ≡ after_item text.now }
 {
     match text {
-        [] => Some(None),
-        [b',', rest @ ..] => Some(Some(rest)),
+        [] => Some(After::End(text)),
+        [b',', rest @ ..] => Some(After::Item(rest)),
+        [byte, ..] if is_blank(*byte) => Some(After::End(text)),
         _ => None,
     }
 }
 
-/// The first item of a text, and what follows the comma after it, if the item is in form.
-#[tactic(auto, using(crate::proofs::WalkLemmas::first_walked))]
-pub(crate) fn take_item(text: &[u8]) -> Option<(ItemText<'_>, Option<&[u8]>)>
-    ensures { option_map item_taken result ≡ first_item (option_items false 0 text.now) }
+/// The first item of the options at the front of a text, and what stands after it, if the item is in
+/// form. The options end at the first blank outside quotes.
+#[tactic(auto, using(crate::proofs::FrontLemmas::first_front))]
+pub(crate) fn take_item(text: &[u8]) -> Option<(ItemText<'_>, After<'_>)>
+    ensures item { option_map item_taken result ≡ first_item (front_items text.now) }
+    ensures rest { IfSome result (λ parts. after_options text.now ≡ rest_following (after_now parts.1)) }
 {
     let (name, rest) = text.split_at(name_len(text));
     if name.is_empty() {
         return None;
     }
     let (value, rest) = take_value(rest)?;
-    let rest = after_item(rest)?;
-    Some((ItemText { name, value }, rest))
+    let after = after_item(rest)?;
+    Some((ItemText { name, value }, after))
 }
 
 pub(crate) fn begins_with_quote(text: &[u8]) -> bool

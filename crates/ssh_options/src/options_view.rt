@@ -1,22 +1,35 @@
 //! The options of a line, in its text.
 
-ghost use Rattle.std.specs.Prelude.{◌≡◌, ◌↔◌, [], List, IsTrue, false, option_map};
+ghost use Rattle.std.specs.Prelude.{
+  ◌≡◌,
+  ◌↔◌,
+  [],
+  List,
+  IfOk,
+  IsTrue,
+  drop,
+  false,
+  length,
+  option_map,
+};
 ghost use Rattle.std.specs.Iterator.{YieldsFirst, YieldsFirstBy, item_count};
 ghost use Rattle.ssh_wire.specs.Reading.{Gives};
-ghost use Rattle.ssh_options.specs.OptionText.{option_items, options_of};
+ghost use Rattle.ssh_options.specs.OptionText.{option_text_of, options_of};
+ghost use Rattle.ssh_options.specs.OptionTexts.{front_items};
 ghost use Rattle.ssh_options.specs.SameOptions.{are_same_options};
 ghost use Rattle.ssh_options.specs.Settings.{has_flag, settings};
 ghost use Rattle.ssh_options.specs.OptionsInLine.{option_in_line, option_taken, first_option};
 
 use crate::cause::LineCause;
 use crate::option::{Flag, ValueName};
-use crate::option_check::options_fault;
-use crate::option_text::take_item;
+use crate::option_check::after_options;
+use crate::option_text::{After, take_item};
 use crate::option_view::{OptionView, view_option};
 use crate::value_view::ValueView;
 use std::marker::Model;
 
-/// The options of a line that are left, in its text. Contracts see them as the list.
+/// The options of a line that are left, at the front of what is left of the line. Contracts see them
+/// as the list.
 #[derive(Debug, Drop)]
 pub struct OptionsView<'a> {
     rest: Option<&'a [u8]>,
@@ -37,13 +50,13 @@ impl<'a> Model for OptionsView<'a> {
         ≡ Some (options_in (texts_left (option_copied o.rest))) };
 }
 
-/// The first option of a text, and what follows the comma after it, if its item is an option.
-fn take_option(text: &[u8]) -> Option<(OptionView<'_>, Option<&[u8]>)>
-    ensures { option_map option_taken result ≡ first_option (option_items false 0 text.now) }
+/// The first option at the front of a text, and what stands after it, if its item is an option.
+fn take_option(text: &[u8]) -> Option<(OptionView<'_>, After<'_>)>
+    ensures { option_map option_taken result ≡ first_option (front_items text.now) }
 {
-    let (item, rest) = take_item(text)?;
+    let (item, after) = take_item(text)?;
     match view_option(item) {
-        Ok(option) => Some((option, rest)),
+        Ok(option) => Some((option, after)),
         Err(_) => None,
     }
 }
@@ -56,15 +69,18 @@ impl<'a> OptionsView<'a> {
         OptionsView { rest: None }
     }
 
-    /// The options of an option text (sshd(8), AUTHORIZED_KEYS FILE FORMAT), or its first fault: that
-    /// of its form, then those of its items from the left. No memory is taken.
-    pub fn read(text: &'a [u8]) -> Result<OptionsView<'a>, LineCause>
-        ensures { Gives (λ o. o) result (options_of text.entry.now) }
+    /// The options at the front of a text, and what follows them (sshd(8), AUTHORIZED_KEYS FILE
+    /// FORMAT). They end at the first blank outside quotes, a space or a tab; a quote right after a
+    /// backslash does not count. Or their first fault: that of the form of all, then those of the items
+    /// from the left. No memory is taken.
+    pub fn take(text: &'a [u8]) -> Result<(OptionsView<'a>, &'a [u8]), LineCause>
+        ensures options { Gives (λ parts. parts.0) result
+            (options_of (option_text_of false 0 text.entry.now)) }
+        ensures rest { IfOk result (λ parts. parts.1.now
+            ≡ drop (length (option_text_of false 0 text.entry.now)) text.entry.now) }
     {
-        match options_fault(text) {
-            Some(cause) => Err(cause),
-            None => Ok(OptionsView { rest: Some(text) }),
-        }
+        let rest = after_options(text)?;
+        Ok((OptionsView { rest: Some(text) }, rest))
     }
 
     /// The same options again.
@@ -100,8 +116,8 @@ impl<'a> Iterator for OptionsView<'a> {
     ghost remaining = { item_count (λ options. options) };
 
     fn next(&mut self) -> Option<OptionView<'a>> {
-        let (option, rest) = take_option(self.rest?)?;
-        self.rest = rest;
+        let (option, after) = take_option(self.rest?)?;
+        self.rest = after.item();
         Some(option)
     }
 }

@@ -9,6 +9,6 @@ pub returns-clause-room : goal.returns-clause-room
 returns-clause-room c =
     let text : List ℕ = c.args.body.now in
     let end : ℕ = length (option_text_of false 0 text) in
-    let rest : c.skip_blanks.result.now ≡ skip_blanks (drop end text) = c.skip_blanks.ensures ∙ ap skip_blanks c.split_option_text.ensures.rest in
+    let rest : c.skip_blanks.result.now ≡ skip_blanks (drop end text) = c.skip_blanks.ensures ∙ ap skip_blanks c.in_ok-options.ensures.rest in
     let short : length c.skip_blanks.result.now ≤ length text = rw rest (length_rest end text) in
     room-within c.fields_with.result (length c.skip_blanks.result.now) (length text) short c.fields_with.ensures.room
