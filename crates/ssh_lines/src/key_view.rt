@@ -15,37 +15,40 @@ ghost use Rattle.ssh_lines.specs.KeyPart.{key_of_blob, key_of_kind, key_by_class
 
 use crate::blob::decode_into;
 use crate::key_line::split_fields;
-use ssh_keys::{KeyKind, KeyView, NameClass, name_class, read_key};
+use ssh_keys::{KeyKind, KeyView, NameClass, name_class, read_key, read_kind};
 use ssh_options::LineCause;
 use ssh_text::comment_in;
 use std::marker::Model;
 
-/// A key in its blob, and the comment after it. Contracts see the key and the comment.
+/// The blob of a key, and the comment after it. Contracts see the key and the comment.
 #[derive(Debug, Drop)]
 pub(crate) struct KeyPartView<'a> {
-    key: KeyView<'a>,
     blob: &'a [u8],
     comment: &'a [u8],
 }
 
 impl<'a> Model for KeyPartView<'a> {
-    ghost use Rattle.ssh_keys.specs.KeyOf.{key_of};
+    ghost use Rattle.ssh_keys.specs.Key.{key_or_none};
+    ghost use Rattle.ssh_keys.specs.KeyReading.{key_in};
     ghost use Rattle.ssh_keys.specs.PublicKey.{IsKeyBlob};
     ghost use Rattle.ssh_lines.specs.KeyPart.{KeyPart};
 
     ghost Value = { KeyPart };
 
-    ghost view = { λ v. record { key = key_of v.key; comment = v.comment.now } };
+    ghost view = { λ v. record { key = key_or_none (key_in v.blob.now); comment = v.comment.now } };
 
-    ghost invariant = { λ v. IsKeyBlob (key_of v.key) v.blob.now };
+    ghost invariant = { λ v. IsKeyBlob (key_or_none (key_in v.blob.now)) v.blob.now };
 }
 
 impl<'a> KeyPartView<'a> {
-    /// The key.
+    /// The key, read again in its blob.
     pub(crate) fn key(&self) -> KeyView<'a>
         ensures { key_of result ≡ self.now.key }
     {
-        self.key
+        match read_key(self.blob) {
+            Ok(key) => key,
+            Err(_) => unreachable!(),
+        }
     }
 
     /// The key's blob.
@@ -71,14 +74,11 @@ fn key_in_blob<'a>(
 ) -> Result<KeyPartView<'a>, LineCause>
     ensures { Gives (λ p. p) result (key_of_kind kind comment.entry.now (key_in blob.entry.now)) }
 {
-    let key = match read_key(blob) {
-        Ok(key) => key,
-        Err(e) => return Err(LineCause::KeyBlob(e)),
-    };
-    if kind.name() != key.kind().name() {
-        return Err(LineCause::TypeMismatch);
+    match read_kind(blob) {
+        Ok(read) if read == kind => Ok(KeyPartView { blob, comment }),
+        Ok(_) => Err(LineCause::TypeMismatch),
+        Err(e) => Err(LineCause::KeyBlob(e)),
     }
-    Ok(KeyPartView { key, blob, comment })
 }
 
 /// The kind of key that a type field names, if a line can hold one.
