@@ -8,8 +8,8 @@ use Rattle.ssh_keys.specs.PublicKey.{key_blob}
 use Rattle.ssh_lines.specs.KnownEntry.{KnownEntry}
 use Rattle.ssh_offers.specs.Offer.{Offer, certified, plain, subject}
 use Rattle.ssh_offers.specs.HostClaim.{HostClaim}
-use Rattle.ssh_rules.specs.HostAdmission.{AdmitsHost}
-use Rattle.ssh_rules.specs.Revocation.{is_own}
+use Rattle.ssh_host_rules.specs.HostAdmission.{AdmitsHost}
+use Rattle.ssh_host_rules.specs.Revocation.{is_own}
 use Rattle.ssh_host_findings.specs.HostLines.{HostLine}
 use Rattle.ssh_host_findings.specs.Least.{least_line, lesser, line_if}
 use Rattle.ssh_host_findings.specs.Earlier.{revokes_blob, revoking_line, says_revoked}

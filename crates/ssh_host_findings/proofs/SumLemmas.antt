@@ -8,7 +8,7 @@ use Rattle.ssh_keys.specs.PublicKey.{key_blob}
 use Rattle.ssh_names.specs.Names.{Names, Patterns, Hashed, names_text}
 use Rattle.ssh_patterns.specs.Lists.{pieces, pieces_left}
 use Rattle.ssh_lines.specs.KnownEntry.{KnownEntry}
-use Rattle.ssh_rules.specs.HostAdmission.{marks_authority}
+use Rattle.ssh_host_rules.specs.HostAdmission.{marks_authority}
 use Rattle.ssh_host_findings.specs.HostFacts.{host_facts_of, lower_list}
 use Rattle.ssh_host_findings.specs.Items.{is_plain}
 use Rattle.ssh_host_findings.specs.Memory.{entry_sum, host_entry_bytes, items_bytes, items_sum}

@@ -7,7 +7,7 @@ use Rattle.ssh_names.specs.Names.{Names, Patterns, Hashed, names_text}
 use Rattle.ssh_text.specs.Text.{after_word, body_of}
 use Rattle.ssh_lines.specs.Front.{begins_with}
 use Rattle.ssh_lines.specs.KnownEntry.{KnownEntry}
-use Rattle.ssh_rules.specs.HostAdmission.{marks_authority}
+use Rattle.ssh_host_rules.specs.HostAdmission.{marks_authority}
 use Rattle.ssh_findings.specs.Facts.{rsa_size}
 use Rattle.ssh_host_findings.specs.declared.facts.HostFacts.{HostFacts}
 

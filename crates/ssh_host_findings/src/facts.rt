@@ -1,7 +1,7 @@
 //! What an entry says, read once for its findings and its record.
 
 ghost use Rattle.std.specs.Prelude.{◌≡◌, IfOk};
-ghost use Rattle.ssh_rules.specs.HostAdmission.{marks_authority};
+ghost use Rattle.ssh_host_rules.specs.HostAdmission.{marks_authority};
 ghost use Rattle.ssh_host_findings.specs.HostFacts.{
   has_tab_after_first,
   host_facts_of,

@@ -22,8 +22,8 @@ use Rattle.ssh_offers.specs.Vouching.{first_unvouched}
 use Rattle.ssh_rules.specs.declared.reason.Reason.{Reason}
 use Rattle.ssh_rules.specs.declared.verdict.LineVerdict.{LineVerdict}
 use Rattle.ssh_rules.specs.declared.verdict.LineVerdict.TheVariants.{Admits, Skips}
-use Rattle.ssh_rules.specs.Revocation.{may_revoke, revokes_offer}
-use Rattle.ssh_rules.specs.Verdict.{host_verdict}
+use Rattle.ssh_host_rules.specs.Revocation.{may_revoke, revokes_offer}
+use Rattle.ssh_host_rules.specs.Verdict.{host_verdict}
 use Rattle.ssh_trust.specs.declared.decision.Decision.TheVariants.{Granted}
 use Rattle.ssh_trust.specs.Answer.{host_answer}
 use Rattle.ssh_trust.specs.Candidate.{admits, candidate_of, first_admitted, reasons_of}

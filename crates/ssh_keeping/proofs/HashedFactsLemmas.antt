@@ -17,9 +17,10 @@ use Rattle.ssh_rewriting.proofs.MemberLemmas.{mem-from, mem-to}
 use Rattle.ssh_rewriting.proofs.PlainLemmas.{have-name, lookup-lower, name-had}
 use Rattle.ssh_offers.specs.HostClaim.{HostClaim}
 use Rattle.ssh_rules.specs.declared.reason.Obstacle.{Obstacle}
-use Rattle.ssh_rules.specs.HostAdmission.{AdmitsHost, host_obstacle, looked_up}
-use Rattle.ssh_rules.specs.Verdict.{host_verdict, verdict_by}
-use Rattle.ssh_rules.proofs.HostAdmissionLemmas.{host_where_none, none_where_host}
+use Rattle.ssh_host_rules.specs.HostAdmission.{AdmitsHost, host_obstacle, looked_up}
+use Rattle.ssh_rules.specs.Verdict.{verdict_by}
+use Rattle.ssh_host_rules.specs.Verdict.{host_verdict}
+use Rattle.ssh_host_rules.proofs.HostAdmissionLemmas.{host_where_none, none_where_host}
 use Rattle.ssh_trust.specs.Candidate.{admits}
 use Rattle.ssh_keeping.proofs.ListLemmas.{contains-cases, contains-here, contains-later, contains-none, or-here, or-later}
 

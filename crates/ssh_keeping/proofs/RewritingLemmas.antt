@@ -15,8 +15,9 @@ use Rattle.ssh_offers.specs.declared.query.Signed.{Signed}
 use Rattle.ssh_offers.specs.HostClaim.{HostClaim}
 use Rattle.ssh_offers.specs.LoginClaim.{LoginClaim}
 use Rattle.ssh_offers.specs.Evidence.{host_evidence, login_evidence}
-use Rattle.ssh_rules.specs.Revocation.{may_revoke, revokes_offer}
-use Rattle.ssh_rules.specs.Verdict.{host_verdict, login_verdict}
+use Rattle.ssh_host_rules.specs.Revocation.{may_revoke, revokes_offer}
+use Rattle.ssh_rules.specs.Verdict.{login_verdict}
+use Rattle.ssh_host_rules.specs.Verdict.{host_verdict}
 use Rattle.ssh_trust.specs.declared.decision.Decision.{Decision}
 use Rattle.ssh_trust.specs.declared.host_scan.HostScan.{HostScan}
 use Rattle.ssh_trust.specs.Answer.{host_answer, login_answer}

@@ -6,7 +6,7 @@ use Rattle.ssh_offers.specs.declared.query.Signed.{Signed}
 use Rattle.ssh_offers.specs.Evidence.{host_evidence}
 use Rattle.ssh_offers.specs.HostClaim.{HostClaim}
 use Rattle.ssh_rules.specs.declared.reason.Reason.{Reason}
-use Rattle.ssh_rules.specs.HostAdmission.{AdmitsHost, looked_up}
+use Rattle.ssh_host_rules.specs.HostAdmission.{AdmitsHost, looked_up}
 use Rattle.ssh_trust.specs.declared.decision.Cause.TheVariants.{RevocationUnreadable, Revoked}
 use Rattle.ssh_trust.specs.declared.decision.Decision.{Decision}
 use Rattle.ssh_trust.specs.declared.decision.Decision.TheVariants.{Denied, Granted}

@@ -19,7 +19,7 @@ use Rattle.ssh_offers.specs.HostClaim.{HostClaim}
 use Rattle.ssh_offers.specs.Offer.{Offer, certified, plain}
 use Rattle.ssh_rights.specs.declared.rights.Rights.{Rights}
 use Rattle.ssh_rules.specs.declared.reason.Reason.{Reason}
-use Rattle.ssh_rules.specs.Revocation.{IsOwn, is_own}
+use Rattle.ssh_host_rules.specs.Revocation.{IsOwn, is_own}
 use Rattle.ssh_trust.specs.declared.decision.Decision.{Decision}
 use Rattle.ssh_trust.specs.declared.decision.Decision.TheVariants.{Granted}
 use Rattle.ssh_trust.specs.HostDecision.{HostMeans, IsHostGrant, host_decision}

@@ -17,7 +17,7 @@ use Rattle.ssh_rewriting.specs.Canonical.{comment_part, key_text, marker_part}
 use Rattle.ssh_rewriting.specs.CanonicalFile.{canonical_known_file, known_or_same, known_written}
 use Rattle.ssh_rewriting.proofs.FileLemmas.{AreGood, IsGood, good}
 use Rattle.ssh_rewriting.proofs.LineLemmas.{known-kept}
-use Rattle.ssh_rules.specs.HostAdmission.{marks_authority}
+use Rattle.ssh_host_rules.specs.HostAdmission.{marks_authority}
 use Rattle.ssh_trust.proofs.CandidateLemmas.{AreBytes}
 use Rattle.ssh_findings.specs.Asking.{Asking}
 use Rattle.ssh_held_keys.specs.HeldKey.{held_key, held_of as told_of}

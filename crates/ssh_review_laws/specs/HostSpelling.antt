@@ -5,7 +5,7 @@ use Rattle.ssh_text.specs.Text.{lines_of}
 use Rattle.ssh_lines.specs.declared.known.KnownLine.{KnownLine}
 use Rattle.ssh_lines.specs.declared.known.KnownLine.TheVariants.{Blank, Comment, Entry, Revoked, RevokedUnreadable, Unreadable}
 use Rattle.ssh_lines.specs.KnownGrammar.{known_line}
-use Rattle.ssh_rules.specs.HostAdmission.{marks_authority}
+use Rattle.ssh_host_rules.specs.HostAdmission.{marks_authority}
 use Rattle.ssh_host_findings.specs.HostFacts.{has_tab_after_first}
 
 -- a tab follows the marker of a line that is an entry, which F8 tells and no canonical line has

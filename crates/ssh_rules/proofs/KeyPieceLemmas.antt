@@ -1,4 +1,4 @@
--- A line that has a key holds the piece of its base64.
+-- A line that has a key holds the piece of its base64, and so does an entry of an authorized_keys file.
 use Rattle.std.proofs.Common.{◌≡◌, ◌∙◌, ◌-◌, ◌*◌, ◌/◌, ◌%◌, ◌+◌, ◌≤◌, ℕ, nat_lt, Bool, true, false, List, ◌++◌, length, take, drop, Option, Some, None, refl, sym, ap, subst, arith, append_assoc}
 use Rattle.std.specs.Prelude.{◌↔◌, IsTrue, is_some}
 use Rattle.std.proofs.lemmas.Bool.{false≢true, ltb-false}
@@ -13,24 +13,16 @@ use Rattle.ssh_lines.specs.AuthGrammar.{SpellsEntry, auth_line}
 use Rattle.ssh_lines.specs.declared.entry.AuthLine.{AuthLine}
 use Rattle.ssh_lines.specs.declared.entry.AuthLine.TheVariants as auth
 use Rattle.ssh_lines.specs.KeyPart.{SpellsKey}
-use Rattle.ssh_lines.specs.KnownEntry.{KnownEntry}
-use Rattle.ssh_lines.specs.KnownGrammar.{SpellsKnown, known_line}
-use Rattle.ssh_lines.specs.declared.known.KnownLine.{KnownLine}
-use Rattle.ssh_lines.specs.declared.known.KnownLine.TheVariants as known
 use Rattle.ssh_lines.proofs.ReadAuth.{auth_line-spells}
-use Rattle.ssh_lines.proofs.ReadKnown.{known_line-spells}
 use Rattle.ssh_names.proofs.ByteLemmas.{AreBytes}
 use Rattle.ssh_names.specs.Names.{base64}
-use Rattle.ssh_offers.specs.HostClaim.{HostClaim}
 use Rattle.ssh_offers.specs.LoginClaim.{LoginClaim}
 use Rattle.ssh_offers.specs.Offer.{subject}
 use Rattle.ssh_rules.specs.Admission.{login_obstacle}
 use Rattle.ssh_rules.specs.declared.reason.Obstacle.{Obstacle}
-use Rattle.ssh_rules.specs.HostAdmission.{host_obstacle}
 use Rattle.ssh_rules.specs.KeyPiece.{AdmitsNothing, Holds, HoldsPiece, piece_bytes, piece_place}
-use Rattle.ssh_rules.specs.Verdict.{host_verdict, login_verdict, verdict_by}
+use Rattle.ssh_rules.specs.Verdict.{login_verdict, verdict_by}
 use Rattle.ssh_rules.proofs.AdmissionLemmas.{admits_where_none}
-use Rattle.ssh_rules.proofs.HostAdmissionLemmas.{host_where_none}
 
 -- ---- texts in texts
 
@@ -96,7 +88,7 @@ piece-in a blob b = piece-by a blob b (nat_lt (length blob) 24) refl
 -- ---- entries
 
 -- a text of type, base64 and comment, after this
-key-holds : (a : List ℕ) (key : PublicKey) (comment text : List ℕ) → SpellsKey key comment text → HoldsPiece (a ++ text) (key_blob key)
+pub key-holds : (a : List ℕ) (key : PublicKey) (comment text : List ℕ) → SpellsKey key comment text → HoldsPiece (a ++ text) (key_blob key)
 key-holds a key comment text (gap, tail, _, _, _, _, _, spelled) =
     let line : a ++ text ≡ (a ++ (key_name_of (kind_of key) ++ gap)) ++ (base64 (key_blob key) ++ tail) = rw spelled (simp append_assoc) in
     subst (λ l. HoldsPiece l (key_blob key)) (sym line) (piece-in (a ++ (key_name_of (kind_of key) ++ gap)) (key_blob key) tail)
@@ -105,13 +97,10 @@ entry-holds : (entry : AuthEntry) (line : List ℕ) → SpellsEntry entry line �
 entry-holds entry line (_, (front, options, key, _, _, spelled, whole)) =
     subst (λ l. HoldsPiece l (key_blob entry.key)) (sym whole) (key-holds (front ++ options) entry.key entry.comment key spelled)
 
-known-holds : (entry : KnownEntry) (line : List ℕ) → SpellsKnown entry line → HoldsPiece line (key_blob entry.key)
-known-holds entry line (_, (front, marker, names, gap, key, _, _, _, _, _, spelled, whole)) =
-    subst (λ l. HoldsPiece l (key_blob entry.key)) (sym whole) (key-holds (front ++ marker ++ names ++ gap) entry.key entry.comment key spelled)
-
 -- ---- verdicts
 
-none-admitted : {E : Type 0} (o : Option Obstacle) (e : E) → (o ≡ None → ⊥) → AdmitsNothing (verdict_by o e)
+-- what something stands against is not admitted
+pub none-admitted : {E : Type 0} (o : Option Obstacle) (e : E) → (o ≡ None → ⊥) → AdmitsNothing (verdict_by o e)
 none-admitted None e h = h refl
 none-admitted (Some obstacle) e h = tt
 
@@ -128,19 +117,3 @@ login-by claim line (auth.Entry e) is bytes lacks =
 pub no_login : (claim : LoginClaim) (line : List ℕ) → AreBytes line
     → (HoldsPiece line (key_blob (subject claim.offer)) → ⊥) → AdmitsNothing (login_verdict claim (auth_line line))
 no_login claim line bytes lacks = login-by claim line (auth_line line) refl bytes lacks
-
-host-by : (claim : HostClaim) (line : List ℕ) (said : KnownLine) → known_line line ≡ said → AreBytes line
-    → (HoldsPiece line (key_blob (subject claim.offer)) → ⊥) → AdmitsNothing (host_verdict claim said)
-host-by claim line known.Blank is bytes lacks = tt
-host-by claim line known.Comment is bytes lacks = tt
-host-by claim line (known.Unreadable why) is bytes lacks = tt
-host-by claim line (known.Revoked blob) is bytes lacks = tt
-host-by claim line known.RevokedUnreadable is bytes lacks = tt
-host-by claim line (known.Entry e) is bytes lacks =
-    none-admitted (host_obstacle e claim) e (λ none.
-    lacks (subst (HoldsPiece line) (host_where_none e claim none).key (known-holds e line (known_line-spells line e bytes is))))
-
--- the same of a host's key
-pub no_host : (claim : HostClaim) (line : List ℕ) → AreBytes line
-    → (HoldsPiece line (key_blob (subject claim.offer)) → ⊥) → AdmitsNothing (host_verdict claim (known_line line))
-no_host claim line bytes lacks = host-by claim line (known_line line) refl bytes lacks

@@ -6,7 +6,5 @@ pub mod SourceLemmas
 pub mod CriticalLemmas
 pub mod LineOptionLemmas
 pub mod AdmissionLemmas
-pub mod HostAdmissionLemmas
-pub mod RevocationLemmas
 pub mod KeyPieceLemmas
 pub mod SpareLemmas

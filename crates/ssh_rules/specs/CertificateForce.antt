@@ -9,12 +9,9 @@ use Rattle.ssh_rules.specs.declared.reason.Reason.TheVariants as reason
 use Rattle.ssh_rules.specs.CertificateRules.{listed_names, serves}
 use Rattle.ssh_rules.specs.Obstacles.{time_row, when}
 
--- the kind numbers of a user's and of a host's certificate
+-- the kind number of a user's certificate
 abbrev pub user_certificate : ℕ
 user_certificate = 1
-
-abbrev pub host_certificate : ℕ
-host_certificate = 2
 
 -- a certificate without principals, where such a one is for all
 abbrev pub IsForAll : EmptyPrincipals → Certificate → Type 0

@@ -4,9 +4,7 @@ pub mod Obstacles
 pub mod CertificateForce
 pub mod Admission
 pub mod LineOptions
-pub mod HostAdmission
 pub mod Judged
-pub mod Revocation
 pub mod ValueText
 pub mod Verdict
 pub mod KeyPiece

@@ -1,4 +1,4 @@
--- Worked certificates: their critical options, their time and their kind. The names and the numbers are those of
+-- Worked certificates of users: their critical options, their time and their kind. The names and the numbers are those of
 -- PROTOCOL.certkeys.
 use Rattle.std.specs.Prelude.{◌≡◌, ℕ, Bool, true, false, List, [], ◌∷◌, ◌++◌, codes, replicate, Option, Some, None}
 use Rattle.jiff.specs.Types.{UTC}
@@ -11,7 +11,6 @@ use Rattle.ssh_patterns.specs.declared.address.Address.TheVariants.{V4}
 use Rattle.ssh_offers.specs.declared.query.EmptyPrincipals.{EmptyPrincipals}
 use Rattle.ssh_offers.specs.declared.query.EmptyPrincipals.TheVariants.{Any, Never}
 use Rattle.ssh_offers.specs.Offer.{certified, plain}
-use Rattle.ssh_offers.specs.Query.{HostCheck}
 use Rattle.ssh_offers.specs.LoginClaim.{LoginClaim}
 use Rattle.ssh_rules.specs.declared.reason.Obstacle.{Obstacle}
 use Rattle.ssh_rules.specs.declared.reason.Obstacle.TheVariants.{Listed}
@@ -20,15 +19,14 @@ use Rattle.ssh_rules.specs.declared.reason.Reason.TheVariants as reason
 use Rattle.ssh_rules.specs.declared.reason.Reason.TheVariants.{WrongCertKind, NotYetValid, NoLongerValid, PrincipalRefused, CriticalUnknown, CriticalRepeated, CriticalData, CertSourceBad, CertSourceRefused, CommandConflict, RsaTooSmall}
 use Rattle.ssh_rules.specs.Admission.{certificate_obstacle}
 use Rattle.ssh_rules.specs.CertificateRules.{first_unknown, has_its_form, is_known, has_repeats}
-use Rattle.ssh_rules.specs.HostAdmission.{host_certificate_obstacle}
 use Rattle.ssh_rules.specs.Obstacles.{size_row}
 
 -- an option of a certificate with this name and data
-abbrev option : List ℕ → List ℕ → CertOption
+abbrev pub option : List ℕ → List ℕ → CertOption
 option name value = record { name = name; value = value }
 
 -- a string of up to 255 bytes
-abbrev short : ℕ → List ℕ → List ℕ
+abbrev pub short : ℕ → List ℕ → List ℕ
 short len text = 0 ∷ 0 ∷ 0 ∷ len ∷ text
 
 -- ---- names and data of critical options
@@ -80,7 +78,7 @@ RepetitionsFound =
 -- ---- certificates
 
 -- a certificate of this kind, in force from 100 and before 200, for these principals and with these critical options
-abbrev certificate : ℕ → List (List ℕ) → List CertOption → Certificate
+abbrev pub certificate : ℕ → List (List ℕ) → List CertOption → Certificate
 certificate kind principals critical = record {
   nonce = 7 ∷ [];
   key = ed25519 (replicate 32 0);
@@ -134,7 +132,8 @@ ObstructsNamed options c obstacle = certificate_obstacle (line options) (login 1
 abbrev Insists : List AuthOption → List CertOption → Option Obstacle → Type 0
 Insists options critical obstacle = Obstructs options 150 (certificate 1 (codes "ann" ∷ []) critical) obstacle
 
-abbrev because : Reason → Option Obstacle
+-- by this reason
+abbrev pub because : Reason → Option Obstacle
 because why = Some (Listed why)
 
 -- 1 is a user's certificate; it is in force from its first moment on, and no longer at its last
@@ -186,44 +185,6 @@ CriticalOptionsJudged =
     × Insists (Setting Command (codes "ls") ∷ []) (option (codes "force-command") (short 2 (codes "ls")) ∷ []) None
     × Insists (Setting Command (codes "id") ∷ []) (option (codes "force-command") (short 2 (codes "ls")) ∷ []) (because CommandConflict)
     × Insists (Setting Command (codes "id") ∷ []) [] None
-
--- a certificate of a host, to h.example at this moment
-abbrev host_check : ℕ → EmptyPrincipals → HostCheck
-host_check now empty = record {
-  offered = [];
-  signature = [];
-  exchange_hash = [];
-  host = codes "H.example";
-  port = 22;
-  now = now;
-  empty_principals = empty;
-  rsa_minimum = 0;
-}
-
-abbrev ObstructsHost : ℕ → Certificate → Option Obstacle → Type 0
-ObstructsHost now c obstacle = host_certificate_obstacle (host_check now Any) c ≡ obstacle
-
--- the same where a certificate without principals is for none
-abbrev pub HostsNamed : Type 0
-HostsNamed =
-    (host_certificate_obstacle (host_check 150 Never) (certificate 2 [] []) ≡ because reason.EmptyPrincipals)
-    × (host_certificate_obstacle (host_check 150 Never) (certificate 2 (codes "h.example" ∷ []) []) ≡ None)
-    × (host_certificate_obstacle (host_check 150 Never) (certificate 2 [] (option (codes "x") [] ∷ [])) ≡ because reason.EmptyPrincipals)
-
--- 2 is a host's certificate, and no critical option is known of one
-abbrev pub HostsCertificates : Type 0
-HostsCertificates =
-    ObstructsHost 150 (certificate 2 (codes "h.example" ∷ []) []) None
-    × ObstructsHost 150 (certificate 1 (codes "h.example" ∷ []) []) (because WrongCertKind)
-    × ObstructsHost 150 (certificate 0 (codes "h.example" ∷ []) []) (because WrongCertKind)
-    × ObstructsHost 99 (certificate 2 (codes "h.example" ∷ []) []) (because NotYetValid)
-    × ObstructsHost 100 (certificate 2 (codes "h.example" ∷ []) []) None
-    × ObstructsHost 199 (certificate 2 (codes "h.example" ∷ []) []) None
-    × ObstructsHost 200 (certificate 2 (codes "h.example" ∷ []) []) (because NoLongerValid)
-    × ObstructsHost 150 (certificate 2 [] []) None
-    × ObstructsHost 150 (certificate 2 (codes "*.example" ∷ []) []) (because PrincipalRefused)
-    × ObstructsHost 150 (certificate 2 (codes "h.example" ∷ []) (option (codes "verify-required") [] ∷ [])) (because (CriticalUnknown (codes "verify-required")))
-    × ObstructsHost 150 (certificate 2 (codes "h.example" ∷ []) (option (codes "force-command") (short 2 (codes "ls")) ∷ [])) (because (CriticalUnknown (codes "force-command")))
 
 -- ---- the sizes of RSA keys
 

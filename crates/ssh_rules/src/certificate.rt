@@ -121,8 +121,11 @@ pub(crate) fn has_listed(principals: &PrincipalIndex<'_>, list: &[u8]) -> bool
         .any(|name| is_among(principals, name))
 }
 
-/// Whether the certificate serves for the user. One without principals is for every user.
-pub(crate) fn serves(certificate: &CertView<'_>, user: &[u8]) -> bool
+/// Whether the certificate serves for this name, where no line lists others: it is one of the
+/// principals, byte for byte, or there is none, and the certificate is for all (PROTOCOL.certkeys,
+/// valid principals). It is the name of a user, or that of a host in ASCII lower case and without
+/// its port. Whether one without principals counts at all, `principal_obstacle` says.
+pub fn serves(certificate: &CertView<'_>, user: &[u8]) -> bool
     ensures { result ≡ serves None user.now (certificate_of certificate.now) }
 {
     no_principals(certificate) || has_principal(certificate, user)

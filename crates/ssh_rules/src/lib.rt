@@ -1,5 +1,6 @@
-//! Whether one line of a trust file admits one offer, and the first reason why it does not; what a
-//! line revokes.
+//! Whether one line of an authorized_keys file admits a login, and the first reason why it does not;
+//! and of it what is asked of a host's key too, by `ssh_host_rules`: the reasons, what stands against
+//! a certificate or a key, and the piece of a key's base64.
 //!
 //! A caller that asks why a line does not admit a login (a test runs these lines):
 //!
@@ -13,8 +14,6 @@
 
 mod admission;
 mod certificate;
-mod host_admission;
-mod host_line;
 mod judged;
 mod key_piece;
 mod laws;
@@ -24,14 +23,16 @@ mod obstacle;
 mod option_name;
 mod reason;
 mod samples;
-mod sought;
 mod sought_login;
 mod value_text;
 mod verdict;
 
-pub use host_line::{host_verdict, host_verdict_counted};
-pub use option_name::OptionName;
+pub use certificate::serves;
+pub use key_piece::KeyPiece;
+pub use obstacle::{
+    period_obstacle, principal_obstacle, role_obstacle, size_obstacle, unknown_obstacle,
+};
+pub use option_name::{OptionName, kept_name};
 pub use reason::{Obstacle, Reason};
-pub use sought::{SoughtHost, can_revoke, may_revoke};
 pub use sought_login::SoughtLogin;
-pub use verdict::{LineVerdict, login_verdict, login_verdict_counted};
+pub use verdict::{LineVerdict, listed_reason, login_verdict, login_verdict_counted};

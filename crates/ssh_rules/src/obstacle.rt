@@ -31,8 +31,10 @@ use ssh_offers::{EmptyPrincipals, Offer};
 use ssh_patterns::Permit;
 use std::alloc::AllocError;
 
-/// By whether the line is an authority, and whether a certificate is offered.
-pub(crate) fn role_obstacle(authority: bool, certified: bool) -> Option<Obstacle>
+/// By whether the line marks its key as an authority, and whether a certificate is offered: `G3`
+/// where only the line is one, `G4` where only a certificate is offered, and nothing where both are
+/// so or neither is (sshd(8), `cert-authority` and `@cert-authority`).
+pub fn role_obstacle(authority: bool, certified: bool) -> Option<Obstacle>
     ensures { result ≡ role_row authority certified }
 {
     match (authority, certified) {
@@ -64,8 +66,11 @@ fn time_obstacle(time: Time) -> Option<Obstacle>
     }
 }
 
-/// Why the certificate is of another kind, or not in its time.
-pub(crate) fn period_obstacle(kind: u32, now: u64, certificate: &CertView<'_>) -> Option<Obstacle>
+/// Why the certificate is of another kind, or not in its time (PROTOCOL.certkeys): `G9` where its
+/// kind number is not this one, 1 for users and 2 for hosts; else by `now`, in seconds since
+/// 1970-01-01 in UTC: `G10` before its `valid after`, `G11` from its `valid before` on, and nothing
+/// between them.
+pub fn period_obstacle(kind: u32, now: u64, certificate: &CertView<'_>) -> Option<Obstacle>
     ensures { result ≡ first_obstacle (when (not ((certificate_of certificate.now).kind_number == kind)) WrongCertKind
         ∷ time_row (time_of (certificate_of certificate.now) now) ∷ []) }
 {
@@ -85,9 +90,11 @@ fn is_for_none(empty: EmptyPrincipals, certificate: &CertView<'_>) -> bool
     }
 }
 
-/// Why the certificate is for no principal that is asked for, by whether it serves one, and by whom
-/// one without principals is for.
-pub(crate) fn principal_obstacle(
+/// Why the certificate is for no principal that is asked for (PROTOCOL.certkeys, valid principals),
+/// by whether it serves one, and by whom one without principals is for: `G12` where it serves none;
+/// else `G19` where it names none and such a one is for nobody (`EmptyPrincipals::Never`); else
+/// nothing.
+pub fn principal_obstacle(
     serves: bool,
     empty: EmptyPrincipals,
     certificate: &CertView<'_>,
@@ -124,8 +131,10 @@ fn has_short_key(bits: u32, offer: &Offer<'_>) -> bool
     }
 }
 
-/// By how long the keys are that the offer rests on.
-pub(crate) fn size_obstacle(bits: u32, offer: &Offer<'_>) -> Option<Obstacle>
+/// By how long the keys are that the offer rests on, the offered one or that in the certificate and
+/// its signer's: `G20` where one is RSA's and its modulus has fewer binary digits than `bits`, and
+/// else nothing. With 0 none has fewer (this project's rule).
+pub fn size_obstacle(bits: u32, offer: &Offer<'_>) -> Option<Obstacle>
     ensures { result ≡ size_row bits (offer_of offer.now) }
 {
     if has_short_key(bits, offer) {
@@ -135,8 +144,10 @@ pub(crate) fn size_obstacle(bits: u32, offer: &Offer<'_>) -> Option<Obstacle>
     }
 }
 
-/// Why a critical option stands against the certificate, by its name.
-pub(crate) fn unknown_obstacle(name: Option<&OptionName>) -> Result<Option<Obstacle>, AllocError>
+/// By the name of a critical option that stands against the certificate: `G13` with this name, and
+/// nothing where there is none (PROTOCOL.certkeys: what is not known refuses). The reason shares the
+/// name, so no memory is taken; `Err` means that no more reasons can share it.
+pub fn unknown_obstacle(name: Option<&OptionName>) -> Result<Option<Obstacle>, AllocError>
     ensures value { IfOk result (λ o. o ≡ unknown_row (option_copied name.entry)) }
     ensures spare { option_copied name.entry ≡ None → IsOk result }
 {

@@ -70,8 +70,8 @@ impl Eq for OptionName {
     ghost laws = { nat_list_eq_equiv };
 }
 
-/// A copy of the name, if there is one.
-pub(crate) fn kept_name(
+/// A copy of the name, if there is one. `Err` is out of memory; without a name none is taken.
+pub fn kept_name(
     alloc: Global,
     name: Option<&[u8]>,
 ) -> Result<Option<OptionName>, AllocError>

@@ -4,8 +4,6 @@
 ghost use Rattle.ssh_rules.specs.Samples.{
   CriticalOptionsJudged,
   FormsJudged,
-  HostsCertificates,
-  HostsNamed,
   NamesKnown,
   RepetitionsFound,
   SizesJudged,
@@ -20,12 +18,10 @@ fn critical_options_as_read()
     ensures repeated { RepetitionsFound }
 {}
 
-/// Certificates of users and of hosts, and why one is not admitted.
+/// Certificates of users, and why one is not admitted; keys that are too short.
 fn certificates_as_judged()
     ensures users { UsersCertificates }
     ensures named { UsersNamed }
     ensures critical { CriticalOptionsJudged }
-    ensures hosts { HostsCertificates }
-    ensures hosts_named { HostsNamed }
     ensures sizes { SizesJudged }
 {}

@@ -40,7 +40,7 @@ impl<'a> Model for SoughtLogin<'a> {
     ghost view = { λ s. claim_of s.claim };
 
     ghost invariant = { λ s. (s.judged ≡ judged_of (claim_of s.claim))
-        × (s.piece.text ≡ piece_of (key_blob (subject (claim_of s.claim).offer))) };
+        × (s.piece ≡ piece_of (key_blob (subject (claim_of s.claim).offer))) };
 }
 
 impl<'a> SoughtLogin<'a> {

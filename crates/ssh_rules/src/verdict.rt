@@ -22,7 +22,9 @@ pub enum LineVerdict<E> {
     Skips(Option<Reason>),
 }
 
-pub(crate) fn listed_reason(obstacle: Obstacle) -> Option<Reason>
+/// The reason that is listed of what stands against an entry: none where it is about another key
+/// (`G2`) or another host (`G5`), whatever else it says, and else the one that was found.
+pub fn listed_reason(obstacle: Obstacle) -> Option<Reason>
     ensures { result ≡ listed_reason obstacle }
 {
     match obstacle {

@@ -22,10 +22,11 @@ use Rattle.ssh_offers.proofs.VouchingLemmas.{none_unvouched, all_vouched}
 use Rattle.ssh_rules.specs.declared.reason.Obstacle.{Obstacle}
 use Rattle.ssh_rules.specs.declared.reason.Reason.{Reason}
 use Rattle.ssh_rules.specs.declared.verdict.LineVerdict.TheVariants.{Admits}
-use Rattle.ssh_rules.specs.HostAdmission.{AdmitsHost, host_obstacle}
-use Rattle.ssh_rules.specs.Revocation.{IsOwn, is_own, may_revoke, revokes_offer}
-use Rattle.ssh_rules.specs.Verdict.{host_verdict, verdict_by}
-use Rattle.ssh_rules.proofs.HostAdmissionLemmas.{host_where_none, none_where_host}
+use Rattle.ssh_host_rules.specs.HostAdmission.{AdmitsHost, host_obstacle}
+use Rattle.ssh_host_rules.specs.Revocation.{IsOwn, is_own, may_revoke, revokes_offer}
+use Rattle.ssh_rules.specs.Verdict.{verdict_by}
+use Rattle.ssh_host_rules.specs.Verdict.{host_verdict}
+use Rattle.ssh_host_rules.proofs.HostAdmissionLemmas.{host_where_none, none_where_host}
 use Rattle.ssh_trust.specs.Candidate.{candidate_of, reasons_of}
 use Rattle.ssh_trust.specs.HostDecision.{HoldsAt, HostMeans, IsLeast, RevokesOwn, host_decision, host_decision_by, revocation_cause}
 use Rattle.ssh_trust.specs.HostScan.{first_number, host_line_verdict, host_scan_of, is_blind, admitting_number, revokes_by}

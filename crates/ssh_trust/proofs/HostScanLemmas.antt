@@ -5,8 +5,8 @@ use Rattle.ssh_lines.specs.KnownEntry.{KnownEntry}
 use Rattle.ssh_lines.specs.declared.known.KnownLine.{KnownLine}
 use Rattle.ssh_lines.specs.KnownGrammar.{known_line}
 use Rattle.ssh_rules.specs.declared.verdict.LineVerdict.{LineVerdict}
-use Rattle.ssh_rules.specs.Revocation.{may_revoke, revokes_offer}
-use Rattle.ssh_rules.specs.Verdict.{host_verdict}
+use Rattle.ssh_host_rules.specs.Revocation.{may_revoke, revokes_offer}
+use Rattle.ssh_host_rules.specs.Verdict.{host_verdict}
 use Rattle.ssh_text.specs.Text.{lines_of, numbered}
 use Rattle.ssh_offers.specs.HostClaim.{HostClaim}
 use Rattle.ssh_trust.specs.declared.host_scan.HostScan.{HostScan}

@@ -21,7 +21,8 @@ use Rattle.ssh_lines.proofs.ReadKnown.{known_line-spells}
 use Rattle.ssh_offers.specs.HostClaim.{HostClaim}
 use Rattle.ssh_offers.specs.LoginClaim.{LoginClaim}
 use Rattle.ssh_offers.specs.Query.{Login}
-use Rattle.ssh_rules.specs.Turns.{host_most, host_width, login_most, login_width, source_most}
+use Rattle.ssh_rules.specs.Turns.{login_most, login_width, source_most}
+use Rattle.ssh_host_rules.specs.Turns.{host_most, host_width}
 use Rattle.ssh_trust.specs.Turns.{host_line_most, login_line_most}
 use Rattle.ssh_trust.proofs.CandidateLemmas.{AreBytes}
 

@@ -9,7 +9,8 @@ use Rattle.ssh_lines.specs.KnownGrammar.{known_line}
 use Rattle.ssh_offers.specs.HostClaim.{HostClaim}
 use Rattle.ssh_offers.specs.LoginClaim.{LoginClaim}
 use Rattle.ssh_rules.specs.KeyPiece.{AdmitsNothing}
-use Rattle.ssh_rules.specs.Verdict.{host_verdict, login_verdict}
+use Rattle.ssh_rules.specs.Verdict.{login_verdict}
+use Rattle.ssh_host_rules.specs.Verdict.{host_verdict}
 use Rattle.ssh_text.specs.Text.{line_limit}
 use Rattle.ssh_trust.specs.HostScan.{host_line_verdict}
 use Rattle.ssh_trust.specs.LoginDecision.{line_verdict}

@@ -29,8 +29,9 @@ use Rattle.ssh_rules.specs.declared.reason.Reason.TheVariants.{Unreadable}
 use Rattle.ssh_rules.specs.declared.verdict.LineVerdict.{LineVerdict}
 use Rattle.ssh_rules.specs.declared.verdict.LineVerdict.TheVariants.{Admits, Skips}
 use Rattle.ssh_rules.specs.Admission.{login_obstacle}
-use Rattle.ssh_rules.specs.HostAdmission.{host_obstacle}
-use Rattle.ssh_rules.specs.Verdict.{host_verdict, login_verdict, verdict_by}
+use Rattle.ssh_host_rules.specs.HostAdmission.{host_obstacle}
+use Rattle.ssh_rules.specs.Verdict.{login_verdict, verdict_by}
+use Rattle.ssh_host_rules.specs.Verdict.{host_verdict}
 use Rattle.ssh_trust.specs.Candidate.{IsFirstAdmitted, admits, before_candidate, candidate_of, first_admitted, reasons_from, reasons_of, with_reason}
 use Rattle.ssh_trust.specs.LoginDecision.{IsCandidate, candidate_at, cause_by, decision_by, decision_of, line_verdict, login_decision, verdicts}
 use Rattle.ssh_trust.specs.Telling.{AreReasons, HostTells, HostReason, IsPassedOver, IsFirstUnvouched, LoginTells, LoginReason, RisesFrom}

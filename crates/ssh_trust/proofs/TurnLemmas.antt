@@ -11,9 +11,9 @@ use Rattle.ssh_names.specs.Names.{Names, Patterns, Hashed, list_of}
 use Rattle.ssh_offers.specs.HostClaim.{HostClaim}
 use Rattle.ssh_rules.specs.declared.verdict.LineVerdict.{LineVerdict}
 use Rattle.ssh_rules.specs.declared.verdict.LineVerdict.TheVariants.{Admits, Skips}
-use Rattle.ssh_rules.specs.HostAdmission.{looked_up}
-use Rattle.ssh_rules.specs.Turns.{host_least, names_least}
-use Rattle.ssh_rules.specs.Verdict.{host_verdict}
+use Rattle.ssh_host_rules.specs.HostAdmission.{looked_up}
+use Rattle.ssh_host_rules.specs.Turns.{host_least, names_least}
+use Rattle.ssh_host_rules.specs.Verdict.{host_verdict}
 use Rattle.ssh_trust.specs.declared.host_scan.HostScan.{HostScan}
 use Rattle.ssh_trust.specs.declared.scan.Scan.{Scan}
 use Rattle.ssh_trust.specs.Candidate.{candidate_of, first_admitted}

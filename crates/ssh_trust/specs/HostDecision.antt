@@ -8,8 +8,8 @@ use Rattle.ssh_offers.specs.HostClaim.{HostClaim}
 use Rattle.ssh_offers.specs.Offer.{Offer}
 use Rattle.ssh_offers.specs.Vouching.{AllVouched, first_unvouched}
 use Rattle.ssh_rules.specs.declared.reason.Reason.{Reason}
-use Rattle.ssh_rules.specs.HostAdmission.{AdmitsHost}
-use Rattle.ssh_rules.specs.Revocation.{IsOwn}
+use Rattle.ssh_host_rules.specs.HostAdmission.{AdmitsHost}
+use Rattle.ssh_host_rules.specs.Revocation.{IsOwn}
 use Rattle.ssh_trust.specs.declared.decision.Cause.{Cause}
 use Rattle.ssh_trust.specs.declared.decision.Cause.TheVariants.{NoLine, NotVouched, Revoked, RevocationUnreadable, TouchMissing, VerifyMissing}
 use Rattle.ssh_trust.specs.declared.decision.Decision.{Decision}

@@ -18,7 +18,7 @@ use Rattle.ssh_rules.specs.declared.reason.Obstacle.TheVariants.{Listed}
 use Rattle.ssh_rules.specs.declared.reason.Reason.{Reason}
 use Rattle.ssh_rules.specs.declared.reason.Reason.TheVariants.{Unreadable}
 use Rattle.ssh_rules.specs.Admission.{login_obstacle}
-use Rattle.ssh_rules.specs.HostAdmission.{host_obstacle}
+use Rattle.ssh_host_rules.specs.HostAdmission.{host_obstacle}
 use Rattle.ssh_trust.specs.declared.decision.Cause.{Cause}
 use Rattle.ssh_trust.specs.declared.decision.Cause.TheVariants.{NoLine, NotVouched, Revoked, RevocationUnreadable, TouchMissing, VerifyMissing}
 use Rattle.ssh_trust.specs.declared.decision.Decision.{Decision}

@@ -6,8 +6,9 @@ use Rattle.ssh_lines.specs.KnownGrammar.{known_line}
 use Rattle.ssh_names.specs.Names.{list_of}
 use Rattle.ssh_offers.specs.HostClaim.{HostClaim}
 use Rattle.ssh_offers.specs.LoginClaim.{LoginClaim}
-use Rattle.ssh_rules.specs.HostAdmission.{looked_up}
+use Rattle.ssh_host_rules.specs.HostAdmission.{looked_up}
 use Rattle.ssh_rules.specs.Turns as turns
+use Rattle.ssh_host_rules.specs.Turns as host_turns
 use Rattle.ssh_trust.specs.declared.host_scan.HostScan.{HostScan}
 use Rattle.ssh_trust.specs.HostDecision.{IsHostCandidate}
 use Rattle.ssh_trust.specs.HostScan.{host_line_verdict}
@@ -34,11 +35,11 @@ login_line_most claim line = turns.login_most claim (auth_line line)
 
 -- the most for a line
 abbrev pub host_line_most : HostClaim → List ℕ → ℕ
-host_line_most claim line = turns.host_most claim (known_line line)
+host_line_most claim line = host_turns.host_most claim (known_line line)
 
 -- the fewest for a line; one after the candidate takes none
 abbrev pub host_line_least : HostClaim → HostScan → ℕ × List ℕ → ℕ
-host_line_least claim s x = if is_some s.admission.candidate then 0 else turns.host_least claim (host_line_verdict claim x.1)
+host_line_least claim s x = if is_some s.admission.candidate then 0 else host_turns.host_least claim (host_line_verdict claim x.1)
 
 -- no fewer than the bytes of the name that the host is looked up by, where the line that admits it has a plain list of names
 abbrev pub AreNameTurns : List ℕ → HostClaim → ℕ → Type 0

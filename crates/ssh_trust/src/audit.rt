@@ -38,8 +38,9 @@ use crate::scan::Scan;
 use crate::search::Search;
 use crate::sought::{Listing, Sought};
 use crate::source::Source;
+use ssh_host_rules::SoughtHost;
 use ssh_offers::{AuditError, Signed};
-use ssh_rules::{SoughtHost, SoughtLogin};
+use ssh_rules::SoughtLogin;
 use std::alloc::Global;
 use std::marker::Model;
 

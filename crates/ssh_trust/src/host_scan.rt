@@ -23,7 +23,7 @@ ghost use Rattle.ssh_offers.specs.ClaimViews.{host_claim_of};
 ghost use Rattle.ssh_offers.specs.HostClaim.{HostClaim, host_claim};
 ghost use Rattle.ssh_offers.specs.Query.{host_check_of};
 ghost use Rattle.ssh_rules.specs.KeyPiece.{AdmitsNothing};
-ghost use Rattle.ssh_rules.specs.Revocation.{RevokesNothing};
+ghost use Rattle.ssh_host_rules.specs.Revocation.{RevokesNothing};
 ghost use Rattle.ssh_trust.specs.FileLines.{IsHandedLine};
 ghost use Rattle.ssh_trust.specs.Telling.{HostDecides};
 ghost use Rattle.ssh_trust.specs.HostDecision.{host_decision};
@@ -36,16 +36,17 @@ ghost use Rattle.ssh_trust.specs.HostScan.{
 };
 ghost use Rattle.ssh_trust.specs.Candidate.{reason_limit};
 ghost use Rattle.ssh_trust.specs.Scan.{scan_line, scan_verdict};
-ghost use Rattle.ssh_rules.specs.Turns.{host_width};
+ghost use Rattle.ssh_host_rules.specs.Turns.{host_width};
 ghost use Rattle.ssh_trust.specs.Turns.{AreNameTurns, host_line_least, host_line_most};
 
 use crate::decision::Decision;
 use crate::host_decide::decide_host;
 use crate::scan::Scan;
 use crate::sought::{Listing, Sought};
+use ssh_host_rules::{SoughtHost, can_revoke, host_verdict_counted, may_revoke};
 use ssh_lines::{KeyBuffer, KnownEntryView, KnownLineView, read_known_view};
 use ssh_offers::{AuditError, HostClaimView, HostQuery, Signed, host_evidence};
-use ssh_rules::{LineVerdict, SoughtHost, can_revoke, host_verdict_counted, may_revoke};
+use ssh_rules::LineVerdict;
 use ssh_text::Line;
 use std::alloc::{AllocError, Global};
 

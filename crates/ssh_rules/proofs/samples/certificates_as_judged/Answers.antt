@@ -13,7 +13,5 @@ returns c = record {
   users = (refl, refl, refl, refl, refl, refl, refl, refl, refl, refl, refl, refl, refl, refl, refl, refl, refl);
   named = (refl, refl, refl, refl, refl, refl);
   critical = (refl, refl, refl, refl, refl, refl, refl, refl, refl, refl, refl, refl, refl, refl);
-  hosts = (refl, refl, refl, refl, refl, refl, refl, refl, refl, refl, refl);
-  hosts_named = (refl, refl, refl);
   sizes = (refl, refl, refl, refl, refl, refl, refl, refl, refl, refl, refl, refl);
 }

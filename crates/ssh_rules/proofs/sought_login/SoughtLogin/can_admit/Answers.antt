@@ -9,7 +9,7 @@ use Rattle.ssh_rules.proofs.sought_login.SoughtLogin.can_admit.Goals as goal
 
 pub returns-clause-value : goal.returns-clause-value
 returns-clause-value c =
-    let piece : c.self.inside.piece.text ≡ piece_of (key_blob (subject c.args.self.now.offer)) =
+    let piece : c.self.inside.piece ≡ piece_of (key_blob (subject c.args.self.now.offer)) =
     c.self.invariant.1 ∙ ap (λ claim. piece_of (key_blob (subject claim.offer))) c.self.view_is in
     subst (λ text. IsTrue c.is_in.result ↔ IfSome text (Holds c.args.line.now)) piece c.is_in.ensures
 

@@ -10,7 +10,7 @@ use Rattle.ssh_trust.proofs.SearchLemmas.{host-decided}
 use Rattle.ssh_trust.proofs.LengthLemmas.{host-fits}
 use Rattle.ssh_trust.proofs.TurnLemmas.{file-most, name-turns}
 use Rattle.ssh_trust.specs.Turns.{host_line_most}
-use Rattle.ssh_rules.specs.Turns.{host_width}
+use Rattle.ssh_host_rules.specs.Turns.{host_width}
 use Rattle.ssh_trust.proofs.host_scan.SoughtHostSought.decide.Goals as goal
 
 pub returns-clause-decided : goal.returns-clause-decided

@@ -1,7 +1,7 @@
 use Rattle.std.proofs.Common.{◌≡◌, false, rules, sym}
-use Rattle.ssh_rules.specs.Revocation.{can_revoke}
-use Rattle.ssh_rules.proofs.RevocationLemmas.{front_revokes_nothing}
-use Rattle.ssh_rules.proofs.sought.can_revoke.Goals as goal
+use Rattle.ssh_host_rules.specs.Revocation.{can_revoke}
+use Rattle.ssh_host_rules.proofs.RevocationLemmas.{front_revokes_nothing}
+use Rattle.ssh_host_rules.proofs.sought_host.can_revoke.Goals as goal
 
 pub returns-in_default-clause-nothing : goal.returns-in_default-clause-nothing
 returns-in_default-clause-nothing c = λ h.

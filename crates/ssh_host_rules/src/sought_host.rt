@@ -8,26 +8,24 @@ ghost use Rattle.ssh_offers.specs.Offer.{is_certified, subject};
 ghost use Rattle.ssh_offers.specs.OfferView.{offer_of};
 ghost use Rattle.ssh_offers.specs.Query.{host_check_of};
 ghost use Rattle.ssh_lines.specs.KnownSeen.{known_seen};
-ghost use Rattle.ssh_rules.specs.HostAdmission.{first_name, looked_up};
-ghost use Rattle.ssh_rules.specs.Judged.{host_served, host_unknown_name};
+ghost use Rattle.ssh_host_rules.specs.HostAdmission.{first_name, looked_up};
+ghost use Rattle.ssh_host_rules.specs.Judged.{host_served, host_unknown_name};
 ghost use Rattle.ssh_rules.specs.KeyPiece.{AdmitsNothing, HoldsPiece};
 ghost use Rattle.ssh_lines.specs.KnownGrammar.{known_line};
-ghost use Rattle.ssh_rules.specs.Revocation.{
+ghost use Rattle.ssh_host_rules.specs.Revocation.{
   RevokesNothing,
   can_revoke,
   is_own,
   may_revoke,
   revokes_offer,
 };
-ghost use Rattle.ssh_rules.specs.Verdict.{host_verdict};
+ghost use Rattle.ssh_host_rules.specs.Verdict.{host_verdict};
 
-use crate::certificate::serves;
-use crate::key_piece::KeyPiece;
-use crate::option_name::{OptionName, kept_name};
 use ssh_certs::CertOptions;
 use ssh_lines::KnownLineView;
 use ssh_names::lookup_name;
 use ssh_offers::{HostClaimView, HostQuery, Offer, plain_blob};
+use ssh_rules::{KeyPiece, OptionName, kept_name, serves};
 use ssh_text::{LINE_LIMIT, skip_blanks, without_last};
 use std::alloc::{AllocError, Global};
 use std::marker::Model;
@@ -55,8 +53,8 @@ impl<'a> Model for SoughtHost<'a> {
     ghost use Rattle.ssh_offers.specs.ClaimViews.{host_claim_of};
     ghost use Rattle.ssh_offers.specs.HostClaim.{HostClaim};
     ghost use Rattle.ssh_offers.specs.Offer.{plain_key, subject};
-    ghost use Rattle.ssh_rules.specs.HostAdmission.{looked_up};
-    ghost use Rattle.ssh_rules.specs.Judged.{host_served, host_unknown_name};
+    ghost use Rattle.ssh_host_rules.specs.HostAdmission.{looked_up};
+    ghost use Rattle.ssh_host_rules.specs.Judged.{host_served, host_unknown_name};
     ghost use Rattle.ssh_rules.specs.KeyPiece.{piece_of};
 
     ghost Value = { HostClaim };
@@ -65,7 +63,7 @@ impl<'a> Model for SoughtHost<'a> {
 
     ghost invariant = { λ s. (s.name.items ≡ looked_up (host_claim_of s.claim).query)
         × (s.blob.items ≡ key_blob (plain_key (host_claim_of s.claim).offer))
-        × (s.piece.text ≡ piece_of (key_blob (subject (host_claim_of s.claim).offer)))
+        × (s.piece ≡ piece_of (key_blob (subject (host_claim_of s.claim).offer)))
         × (s.serves ≡ host_served (host_claim_of s.claim).query (host_claim_of s.claim).offer)
         × (s.unknown ≡ host_unknown_name (host_claim_of s.claim).offer) };
 }

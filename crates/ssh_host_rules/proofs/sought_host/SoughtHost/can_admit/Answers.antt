@@ -4,12 +4,13 @@ use Rattle.ssh_keys.specs.PublicKey.{key_blob}
 use Rattle.ssh_names.proofs.ByteLemmas.{AreBytes-from}
 use Rattle.ssh_offers.specs.Offer.{subject}
 use Rattle.ssh_rules.specs.KeyPiece.{Holds, piece_of}
-use Rattle.ssh_rules.proofs.KeyPieceLemmas.{denied, no_host}
-use Rattle.ssh_rules.proofs.sought.SoughtHost.can_admit.Goals as goal
+use Rattle.ssh_rules.proofs.KeyPieceLemmas.{denied}
+use Rattle.ssh_host_rules.proofs.KeyPieceLemmas.{no_host}
+use Rattle.ssh_host_rules.proofs.sought_host.SoughtHost.can_admit.Goals as goal
 
 pub returns-clause-value : goal.returns-clause-value
 returns-clause-value c =
-    let piece : c.self.inside.piece.text ≡ piece_of (key_blob (subject c.args.self.now.offer)) =
+    let piece : c.self.inside.piece ≡ piece_of (key_blob (subject c.args.self.now.offer)) =
     c.self.invariant.2 ∙ ap (λ claim. piece_of (key_blob (subject claim.offer))) c.self.view_is in
     subst (λ text. IsTrue c.is_in.result ↔ IfSome text (Holds c.args.line.now)) piece c.is_in.ensures
 

@@ -4,14 +4,13 @@ ghost use Rattle.std.specs.Prelude.{◌≡◌, ◌≤◌, false, IfOk, IsOk};
 ghost use Rattle.ssh_lines.specs.declared.known.KnownLine.{KnownLine};
 ghost use Rattle.ssh_lines.specs.KnownSeen.{known_seen};
 ghost use Rattle.ssh_rules.specs.Spare.{owns_name};
-ghost use Rattle.ssh_rules.specs.Turns.{host_least, host_most};
-ghost use Rattle.ssh_rules.specs.Verdict.{host_verdict};
+ghost use Rattle.ssh_host_rules.specs.Turns.{host_least, host_most};
+ghost use Rattle.ssh_host_rules.specs.Verdict.{host_verdict};
 
 use crate::host_admission::host_obstacle;
-use crate::reason::Reason;
-use crate::sought::SoughtHost;
-use crate::verdict::{LineVerdict, listed_reason};
+use crate::sought_host::SoughtHost;
 use ssh_lines::{KnownEntryView, KnownLineView};
+use ssh_rules::{LineVerdict, Reason, listed_reason};
 use std::alloc::AllocError;
 
 fn entry_verdict<'a>(

@@ -6,7 +6,7 @@ ghost use Rattle.ssh_names.specs.Names.{names_host, names_text};
 ghost use Rattle.ssh_offers.specs.Offer.{certified};
 ghost use Rattle.ssh_rules.specs.Obstacles.{first_obstacle, or_later, size_row};
 ghost use Rattle.ssh_rules.specs.Spare.{is_named};
-ghost use Rattle.ssh_rules.specs.HostAdmission.{
+ghost use Rattle.ssh_host_rules.specs.HostAdmission.{
   host_certificate_obstacle,
   host_force_rows,
   host_line_rows,
@@ -16,18 +16,17 @@ ghost use Rattle.ssh_rules.specs.HostAdmission.{
   looked_up,
   marks_authority,
 };
-ghost use Rattle.ssh_rules.specs.Turns.{host_width, names_least};
+ghost use Rattle.ssh_host_rules.specs.Turns.{host_width, names_least};
 
-use crate::obstacle::{
-    period_obstacle, principal_obstacle, role_obstacle, size_obstacle, unknown_obstacle,
-};
-use crate::reason::Obstacle;
-use crate::sought::SoughtHost;
+use crate::sought_host::SoughtHost;
 use ssh_certs::CertView;
 use ssh_lines::{KnownEntryView, Marker};
 use ssh_names::{HostNames, names_host};
 use ssh_offers::Offer;
 use ssh_patterns::host_list_counted;
+use ssh_rules::{
+    Obstacle, period_obstacle, principal_obstacle, role_obstacle, size_obstacle, unknown_obstacle,
+};
 use std::alloc::AllocError;
 
 /// The kind number of a host's certificate (PROTOCOL.certkeys).

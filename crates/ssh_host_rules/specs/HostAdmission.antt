@@ -13,9 +13,13 @@ use Rattle.ssh_offers.specs.Offer.{Offer, OfCertificate, certified, is_certified
 use Rattle.ssh_offers.specs.HostClaim.{HostClaim}
 use Rattle.ssh_rules.specs.declared.reason.Obstacle.{Obstacle}
 use Rattle.ssh_rules.specs.declared.reason.Obstacle.TheVariants.{OtherHost}
-use Rattle.ssh_rules.specs.CertificateForce.{InForce, force_rows, host_certificate}
+use Rattle.ssh_rules.specs.CertificateForce.{InForce, force_rows}
 use Rattle.ssh_rules.specs.KeySizes.{AreLongEnough}
 use Rattle.ssh_rules.specs.Obstacles.{first_obstacle, key_row, or_later, role_row, size_row, unknown_row}
+
+-- the kind number of a host's certificate
+abbrev pub host_certificate : ℕ
+host_certificate = 2
 
 -- the name that the host is looked up by, with its port
 abbrev pub looked_up : HostCheck → List ℕ

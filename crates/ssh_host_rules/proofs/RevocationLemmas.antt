@@ -7,7 +7,7 @@ use Rattle.ssh_lines.specs.Front.{begins_with, front_of_body}
 use Rattle.ssh_lines.specs.KnownEntry.{KnownEntry}
 use Rattle.ssh_lines.specs.KnownGrammar.{known_line, line_of_entry, known_line_of_front}
 use Rattle.ssh_lines.specs.Markers.{first_field_of}
-use Rattle.ssh_rules.specs.Revocation.{RevokesNothing, can_revoke}
+use Rattle.ssh_host_rules.specs.Revocation.{RevokesNothing, can_revoke}
 
 entry_revokes_nothing : (read : Result KnownEntry LineCause) → RevokesNothing (line_of_entry read)
 entry_revokes_nothing (Ok entry) = (λ offer. refl, refl)

@@ -12,12 +12,11 @@ use Rattle.ssh_offers.specs.Query.{HostCheck}
 use Rattle.ssh_offers.specs.Offer.{Offer, OfCertificate, certified, is_certified, plain, subject}
 use Rattle.ssh_offers.specs.HostClaim.{HostClaim}
 use Rattle.ssh_rules.specs.declared.reason.Reason.TheVariants as reason
-use Rattle.ssh_rules.specs.CertificateForce.{host_certificate}
 use Rattle.ssh_rules.specs.Obstacles.{first_obstacle, or_later, size_row, unknown_row}
-use Rattle.ssh_rules.specs.HostAdmission.{AdmitsHost, InsistsOnNothing, IsHostInForce, first_name, host_force_rows, host_line_rows, host_obstacle, host_offer_obstacle, host_row, looked_up, marks_authority, principal_of}
 use Rattle.ssh_rules.proofs.Tests.{none_of, of_none, both_none, none_both, key_held, held_key, same_role, role_same, off, when_off}
 use Rattle.ssh_rules.proofs.ForceLemmas.{in_force, force_none}
 use Rattle.ssh_rules.proofs.SizeLemmas.{all_long, none_short}
+use Rattle.ssh_host_rules.specs.HostAdmission.{AdmitsHost, InsistsOnNothing, IsHostInForce, first_name, host_certificate, host_force_rows, host_line_rows, host_obstacle, host_offer_obstacle, host_row, looked_up, marks_authority, principal_of}
 
 -- ---- names
 

@@ -1,0 +1,3 @@
+pub mod HostAdmissionLemmas
+pub mod RevocationLemmas
+pub mod KeyPieceLemmas

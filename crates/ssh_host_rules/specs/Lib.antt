@@ -1,0 +1,6 @@
+pub mod HostAdmission
+pub mod Judged
+pub mod Revocation
+pub mod Verdict
+pub mod Turns
+pub mod Samples
