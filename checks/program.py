@@ -511,6 +511,27 @@ def longest_row(program, tally):
         tally.check("its length", len(long.offered), 262_144 + more)
 
 
+def named_rows(program, tally):
+    """A hundred reasons that each tell a critical option's name, up to the longest that a certificate holds, of letters and of
+    bytes that are escaped: no more than 4 MiB."""
+    meter = program.room / "meter"
+    subprocess.run(["gcc", "-O2", "-static", "-o", meter, HERE.parent / "bench" / "meter.c"], check=True)
+    (program.room / "authorities").write_text(100 * f"cert-authority {hurt.AUTHORITY_LINE}")
+    longest = 262_144 - len(hurt.Made(critical=[(b"", b"")]).offered)
+    for letter, told, length in ((b"x", b"x", 64_000), (b"x", b"x", longest), (b"\n", rb"\x0a", longest)):
+        made = hurt.Made(critical=[(length * letter, b"")])
+        (program.room / "long.pub").write_text(inputs.b64(made.offered))
+        asked = made.words(hurt.Asked("authorities"), "empty")
+        at = asked.index("--offer")
+        asked[at : at + 2] = ["--offer-file", "long.pub"]
+        reasons = b"".join(b"reason %d G13 %s\n" % (number, length * told) for number in range(1, 101))
+        triples = (b" ".join(part.hex().encode() for part in triple) for triple in made.evidence())
+        evidence = b"".join(b"evidence %d %s\n" % numbered for numbered in enumerate(triples))
+        answer, _, peak = cost_of(program, meter, asked)
+        tally.check(f"a hundred names of {length} bytes {letter}", answer == (1, b"denied N3\n" + reasons + evidence), True)
+        tally.check(f"the same in {peak} KiB", peak <= 4096, True)
+
+
 def bench_rows(program, tally):
     """The bench's files of 100,000 lines, spelled loosely: written anew they are the bench's, and that is its own."""
     for kind in ("options", "names"):
@@ -660,7 +681,7 @@ def long_text_rows(program, tally):
         tally.check(f"a long text, of which {wants} bytes are read", (ended, got == wanted[:wants]), ((status, b""), True))
 
 
-ROWS = (answer_rows, size_rows, input_rows, endless_rows, star_rows, streamed_rows, vouching_rows, longest_row, bench_rows, keygen_rows, hashing_rows, writer_rows, long_text_rows)
+ROWS = (answer_rows, size_rows, input_rows, endless_rows, star_rows, streamed_rows, vouching_rows, longest_row, named_rows, bench_rows, keygen_rows, hashing_rows, writer_rows, long_text_rows)
 
 
 # ---- the other checks

@@ -33,11 +33,11 @@ def answers_long_texts_of_a_line(asker):
 
 def answers_long_names_of_options(asker):
     long = 5_001 * "x"
-    file = f"{long} ssh-ed25519 {K0}\ncert-authority ssh-ed25519 {K1}\n"
+    file = f"{long} ssh-ed25519 {K0}\n" + 2 * f"cert-authority ssh-ed25519 {K1}\n"
     reason = "denied N3\nreason 1 G1 L3\n"
     login_rows.compare_vouched(asker, PLAIN, file, reason)
     asked = replace(CERTIFIED, offer=BEFORE_NAME + 1_667 * "eHh4" + AFTER_NAME)
-    login_rows.compare_vouched(asker, asked, file, f"{reason}reason 2 G13 {long}\n")
+    login_rows.compare_vouched(asker, asked, file, f"{reason}reason 2 G13 {long}\nreason 3 G13 {long}\n")
 
 
 def answers_long_host_names(asker):

@@ -145,10 +145,7 @@ pub fn ask_files<Q: Question, F: Files>(
     match evidence {
         Ok(evidence) => {
             let told = tell_files(alloc, who, question, evidence.as_slice(), names, files)?;
-            Ok(Response {
-                status: told.outcome.status(),
-                text: told.text,
-            })
+            Ok(Response::new(told.outcome.status(), told.text))
         }
         Err(error) => audit_fault(alloc, error),
     }

@@ -23,7 +23,7 @@ fn explain_usage(alloc: Global, codes: &[&str], lines: Vec<u8>) -> Result<Respon
     if asks_usage(codes) {
         text.extend_from_slice(&usage_lines(alloc)?)?;
     }
-    Ok(Response { status: DONE, text })
+    Ok(Response::new(DONE, text))
 }
 
 /// The response to these codes.
@@ -45,9 +45,6 @@ pub fn respond_explain(alloc: Global, words: &Words<'_>) -> Result<Response, All
 {
     match words.names() {
         Some(codes) => explain_codes(alloc, codes),
-        None => Ok(Response {
-            status: DONE,
-            text: explain_all(alloc)?,
-        }),
+        None => Ok(Response::new(DONE, explain_all(alloc)?)),
     }
 }

@@ -1,9 +1,11 @@
 -- Steps of writing a text.
-use Rattle.std.proofs.Common.{◌≡◌, ◌∙◌, ◌++◌, ℕ, List, Option, Some, None, ap, sym, refl, take, ne_eqb}
+use Rattle.std.proofs.Common.{◌≡◌, ◌∙◌, ◌++◌, ◌<◌, ℕ, List, Option, Some, None, [], ap, sym, refl, take, drop, length, ne_eqb, arith}
 use Rattle.std.specs.Prelude.{if◌then◌else◌}
-use Rattle.std.proofs.lemmas.List.{append_assoc}
+use Rattle.std.specs.List.{flat_map}
+use Rattle.std.proofs.lemmas.List.{append-nil, append_assoc, length-append, take-append-drop}
+use Rattle.std.proofs.lemmas.List.Concat.{flat_map-append}
 use Rattle.ssh_command.specs.Account.{Account, NoneFailed, failing, takes_nothing, taking, where_told}
-use Rattle.ssh_command.specs.Printing.{TakesUpTo}
+use Rattle.ssh_command.specs.Printing.{Breaks, TakesAll, TakesUpTo}
 
 -- after a write that says that it took n bytes
 abbrev pub counted : ℕ → List ℕ → Option Account → Option Account
@@ -30,3 +32,63 @@ more o p q text rest left n w cut some h = record {
 pub unfailed : (p q : Option Account) (rest : List ℕ) (n : ℕ) → (n ≡ 0 → ⊥) → NoneFailed p → q ≡ counted n rest p → NoneFailed q
 unfailed None q rest n some none h = rw h tt
 unfailed (Some a) q rest n some none h = rw (some_taken (Some a) q n rest some h) none
+
+-- ---- one text after another
+
+failed_after : (o : Option Account) (a b : List ℕ)
+    → where_told (λ x. failing (taking x b)) (where_told (λ x. taking x a) o) ≡ where_told (λ x. failing (taking x (a ++ b))) o
+failed_after None a b = refl
+failed_after (Some x) a b = ap (λ l. Some (failing (record x { taken = l }))) (append_assoc x.taken a b)
+
+-- after a text that was taken no write has failed
+pub none_failed : (p q : Option Account) (text : List ℕ) → TakesAll p q text → NoneFailed p → NoneFailed q
+none_failed None q text h none = rw h tt
+none_failed (Some a) q text h none = rw h none
+
+-- the front of the rest is taken too
+pub taken_on : (o p q : Option Account) (text front left : List ℕ) → TakesUpTo o p text (front ++ left) → TakesAll p q front → TakesUpTo o q text left
+taken_on o p q text front left w h = record {
+  front = w.front ++ front;
+  parts = w.parts ∙ sym (append_assoc w.front front left);
+  told = h ∙ (ap (λ p. where_told (λ a. taking a front) p) w.told ∙ taken_twice o w.front front);
+}
+
+-- a write of the front of the rest fails
+pub broken_on : (o p q : Option Account) (text front left : List ℕ) → TakesUpTo o p text (front ++ left) → Breaks p q front → Breaks o q text
+broken_on o p q text front left w b = record {
+  front = w.front ++ b.front;
+  rest = b.rest ++ left;
+  parts =
+    w.parts
+    ∙ ap (λ l. w.front ++ l) (ap (λ l. l ++ left) b.parts ∙ append_assoc b.front b.rest left)
+    ∙ sym (append_assoc w.front b.front (b.rest ++ left));
+  proper = rw length-append (omega (arith, b.proper));
+  told = b.told ∙ (ap (λ p. where_told (λ a. failing (taking a b.front)) p) w.told ∙ failed_after o w.front b.front);
+}
+
+nothing_taken : (o : Option Account) → o ≡ where_told (λ a. taking a []) o
+nothing_taken None = refl
+nothing_taken (Some x) = ap (λ l. Some (record x { taken = l })) (sym (append-nil x.taken))
+
+-- of a text nothing was taken yet
+pub at_first : (o : Option Account) (text : List ℕ) → TakesUpTo o o text text
+at_first o text = record { front = []; parts = refl; told = nothing_taken o }
+
+-- nothing is left of it
+pub at_last : (o p : Option Account) (text : List ℕ) → TakesUpTo o p text [] → TakesAll o p text
+at_last o p text w = w.told ∙ ap (λ t. where_told (λ a. taking a t) o) (sym (w.parts ∙ append-nil w.front))
+
+-- two texts are taken
+pub both_taken : (o p q : Option Account) (a b : List ℕ) → TakesAll o p a → TakesAll p q b → TakesAll o q (a ++ b)
+both_taken o p q a b h k = k ∙ (ap (λ p. where_told (λ x. taking x b) p) h ∙ taken_twice o a b)
+
+-- a write of the first of two fails, or one of the second
+pub first_broken : (o p : Option Account) (a b : List ℕ) → Breaks o p a → Breaks o p (a ++ b)
+first_broken o p a b h = broken_on o o p (a ++ b) a b (at_first o (a ++ b)) h
+
+pub second_broken : (o p q : Option Account) (a b : List ℕ) → TakesAll o p a → Breaks p q b → Breaks o q (a ++ b)
+second_broken o p q a b h k = broken_on o p q (a ++ b) b [] (record { front = a; parts = ap (λ l. a ++ l) (sym (append-nil b)); told = h }) k
+
+-- a list is made of two pieces
+pub cut_map : {X A : Type 0} (f : X → List A) (xs : List X) (n : ℕ) → flat_map f xs ≡ flat_map f (take n xs) ++ flat_map f (drop n xs)
+cut_map f xs n = ap (flat_map f) (sym (take-append-drop n xs)) ∙ flat_map-append f (take n xs) (drop n xs)

@@ -9,6 +9,10 @@ pub record TakesUpTo (old new : Option Account) (text rest : List ℕ) : Type 0 
   pub parts : text ≡ front ++ rest
   pub told : new ≡ where_told (λ a. taking a front) old
 
+-- all of the text was taken, and no write failed
+abbrev pub TakesAll : Option Account → Option Account → List ℕ → Type 0
+TakesAll old new text = new ≡ where_told (λ a. taking a text) old
+
 -- a front of the text was taken that is not the whole, and then one write failed
 pub record Breaks (old new : Option Account) (text : List ℕ) : Type 0 where
   pub front : List ℕ
@@ -19,4 +23,4 @@ pub record Breaks (old new : Option Account) (text : List ℕ) : Type 0 where
 
 -- the whole text was taken, no write failed, and the status is the response's; or a write failed after a proper front of the text, and the status is 2
 abbrev pub WritesResponse : Option Account → Option Account → Response → ℕ → Type 0
-WritesResponse old new r status = ((new ≡ where_told (λ a. taking a r.text) old) × (status ≡ r.status)) ⊎ (Breaks old new r.text × (status ≡ 2))
+WritesResponse old new r status = (TakesAll old new r.text × (status ≡ r.status)) ⊎ (Breaks old new r.text × (status ≡ 2))

@@ -5,6 +5,7 @@ mod digest;
 mod hashing;
 mod held_file;
 mod laws;
+mod printing;
 mod program;
 mod respond;
 mod rewriting;

@@ -18,31 +18,13 @@ ghost use Rattle.ssh_words.specs.Asked.{AuditFiles};
 ghost use Rattle.ssh_words.specs.Texts.{TextPlaces};
 ghost use Rattle.ssh_words.specs.declared.subcommand.Subcommand.TheVariants.{Host, Login};
 
+use crate::printing::{put_fault, put_response};
 use crate::respond::respond;
 use crate::sink::Sink;
 use ssh_inputs::Files;
-use ssh_print::FAULT;
 use ssh_words::WordsError;
 use std::alloc::{AllocError, Global};
 use std::convert::AsStr;
-
-/// Writes the text, and returns its status; or 2, where a write failed before all was taken.
-/// Nothing is written after that.
-fn put_out<W: Sink>(writer: &mut W, text: &[u8], status: u8) -> u8
-    requires { NoneFailed (W.account writer.old) }
-    ensures { WritesResponse (W.account writer.old) (W.account writer.new)
-        (record { status = status; text = text.now }) result }
-{
-    let mut rest = text;
-    while !rest.is_empty() {
-        match writer.put(rest) {
-            Ok(0) => return FAULT,
-            Ok(n) => rest = &rest[n..],
-            Err(_) => return FAULT,
-        }
-    }
-    status
-}
 
 /// Writes the lines of the answer, and returns the status.
 fn answer<S: AsStr, F: Files, W: Sink>(
@@ -56,8 +38,8 @@ fn answer<S: AsStr, F: Files, W: Sink>(
         × WritesResponse (W.account writer.old) (W.account writer.new) r result) }
 {
     match respond(alloc, words, files) {
-        Ok(response) => put_out(writer, response.text.as_slice(), response.status),
-        Err(AllocError) => put_out(writer, b"fault A8\n", FAULT),
+        Ok(response) => put_response(writer, &response),
+        Err(AllocError) => put_fault(writer, b"fault A8\n"),
     }
 }
 
@@ -127,5 +109,5 @@ pub fn refuse<W: Sink>(fault: WordsError, writer: &mut W) -> u8
     requires { NoneFailed (W.account writer.old) }
     ensures { WritesResponse (W.account writer.old) (W.account writer.new) (words_response fault) result }
 {
-    put_out(writer, fault_text(fault), FAULT)
+    put_fault(writer, fault_text(fault))
 }

@@ -62,7 +62,7 @@ fn respond_bytes(alloc: Global, kind: NewFile<'_>, file: &[u8]) -> Result<Respon
     ensures { IfOk result (λ r. response r ≡ new_response (new_file kind.entry file.now)) }
 {
     match write_new(alloc, kind, file) {
-        Ok(text) => Ok(Response { status: DONE, text }),
+        Ok(text) => Ok(Response::new(DONE, text)),
         Err(HashError::TooLong) => audit_fault(alloc, AuditError::FileTooLong),
         Err(HashError::TooFewSalts) => audit_fault(alloc, AuditError::Salts),
         Err(HashError::Memory) => Err(AllocError),

@@ -15,6 +15,7 @@ ghost use Rattle.ssh_print.specs.ResponseView.{response};
 
 use crate::codes::fault_codes;
 use crate::decision_text::push_decision;
+use crate::parts::Text;
 use crate::response::{FAULT, Response};
 use crate::text::{push_escaped, push_number};
 use ssh_offers::AuditError;
@@ -29,10 +30,7 @@ pub fn fault_response(alloc: Global, codes: &[u8]) -> Result<Response, AllocErro
     text.extend_from_slice(b"fault")?;
     text.extend_from_slice(codes)?;
     text.push(b'\n')?;
-    Ok(Response {
-        status: FAULT,
-        text,
-    })
+    Ok(Response::new(FAULT, text))
 }
 
 /// The response to words that ask for nothing.
@@ -98,7 +96,7 @@ pub fn decision_response(
 {
     match answer {
         Ok(decision) => {
-            let mut text = Vec::new(alloc);
+            let mut text = Text::from(Vec::new(alloc));
             push_decision(alloc, &mut text, decision)?;
             Ok(Response {
                 status: status_of(decision),

@@ -296,6 +296,15 @@ pub fn reason_code(reason: &Reason) -> &'static str
     }
 }
 
+/// The code of a reason after a space, without what stands after it.
+pub(crate) fn push_reason_code(out: &mut Vec<u8>, reason: &Reason) -> Result<(), AllocError>
+    ensures { OnOk result (out.new.items ≡ out.old.items ++ spaced (reason_code reason.now)) }
+{
+    out.push(b' ')?;
+    out.extend_from_slice(reason_code(reason).as_bytes())?;
+    Ok(())
+}
+
 /// The codes of a reason: its own, after `G1` those of the line's cause, after `G13` the name of the
 /// option.
 pub(crate) fn push_reason_codes(
@@ -305,8 +314,7 @@ pub(crate) fn push_reason_codes(
 ) -> Result<(), AllocError>
     ensures { OnOk result (out.new.items ≡ out.old.items ++ reason_codes reason.now) }
 {
-    out.push(b' ')?;
-    out.extend_from_slice(reason_code(reason).as_bytes())?;
+    push_reason_code(out, reason)?;
     match reason {
         Reason::Unreadable(cause) => push_line_codes(alloc, out, *cause),
         Reason::CriticalUnknown(name) => {

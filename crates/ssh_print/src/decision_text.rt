@@ -2,6 +2,7 @@
 
 ghost use Rattle.std.specs.Prelude.{◌≡◌, ◌++◌, IfOk, IsOk, None, OnOk};
 ghost use Rattle.std.specs.List.{flat_map};
+ghost use Rattle.ssh_print.specs.Codes.{reason_codes};
 ghost use Rattle.ssh_print.specs.DecisionText.{
   carried_line,
   carried_word,
@@ -18,9 +19,11 @@ ghost use Rattle.ssh_print.specs.DecisionText.{
   rights_line,
   rights_lines,
 };
+ghost use Rattle.ssh_print.specs.TextParts.{text_bytes};
 
-use crate::codes::{push_cause_codes, push_reason_codes};
+use crate::codes::{push_cause_codes, push_reason_code, push_reason_codes};
 use crate::line::push_text_line;
+use crate::parts::Text;
 use crate::text::{push_escaped, push_hex, push_number};
 use ssh_offers::Signed;
 use ssh_rights::{Carried, CarriedName, Rights};
@@ -192,30 +195,47 @@ pub(crate) fn push_cause_line(
     Ok(())
 }
 
+/// The codes of a reason. The name of an option is shared with it, and not copied.
+fn push_reason(alloc: Global, text: &mut Text, reason: &Reason) -> Result<(), AllocError>
+    ensures { OnOk result (text_bytes text.new ≡ text_bytes text.old ++ reason_codes reason.now) }
+{
+    match reason {
+        Reason::CriticalUnknown(name) => {
+            push_reason_code(&mut text.rest, reason)?;
+            text.rest.push(b' ')?;
+            text.push_name(name)?;
+        }
+        _ => push_reason_codes(alloc, &mut text.rest, reason)?,
+    }
+    Ok(())
+}
+
 fn push_reason_line(
     alloc: Global,
-    out: &mut Vec<u8>,
+    text: &mut Text,
     number: u64,
     reason: &Reason,
 ) -> Result<(), AllocError>
-    ensures { OnOk result (out.new.items ≡ out.old.items ++ reason_line (number, reason.now)) }
+    ensures { OnOk result (text_bytes text.new
+        ≡ text_bytes text.old ++ reason_line (number, reason.now)) }
 {
-    out.extend_from_slice(b"reason ")?;
-    push_number(alloc, out, number)?;
-    push_reason_codes(alloc, out, reason)?;
-    out.push(b'\n')?;
+    text.rest.extend_from_slice(b"reason ")?;
+    push_number(alloc, &mut text.rest, number)?;
+    push_reason(alloc, text, reason)?;
+    text.rest.push(b'\n')?;
     Ok(())
 }
 
 fn push_reasons(
     alloc: Global,
-    out: &mut Vec<u8>,
+    text: &mut Text,
     reasons: &[(u64, Reason)],
 ) -> Result<(), AllocError>
-    ensures { OnOk result (out.new.items ≡ out.old.items ++ flat_map reason_line reasons.now) }
+    ensures { OnOk result (text_bytes text.new
+        ≡ text_bytes text.old ++ flat_map reason_line reasons.now) }
 {
     for reason in reasons {
-        push_reason_line(alloc, out, reason.0, &reason.1)?;
+        push_reason_line(alloc, text, reason.0, &reason.1)?;
     }
     Ok(())
 }
@@ -235,13 +255,13 @@ fn push_granted(
     Ok(())
 }
 
-/// The lines of a decision.
+/// The lines of a decision. A name that a reason tells is shared with it, and not copied.
 pub fn push_decision(
     alloc: Global,
-    out: &mut Vec<u8>,
+    text: &mut Text,
     decision: &Decision,
 ) -> Result<(), AllocError>
-    ensures { OnOk result (out.new.items ≡ out.old.items ++ decision_text decision.now) }
+    ensures { OnOk result (text_bytes text.new ≡ text_bytes text.old ++ decision_text decision.now) }
 {
     match decision {
         Decision::Granted {
@@ -250,17 +270,17 @@ pub fn push_decision(
             evidence,
             ..
         } => {
-            push_granted(alloc, out, *line, rights)?;
-            push_evidence(alloc, out, evidence.as_slice())?;
+            push_granted(alloc, &mut text.rest, *line, rights)?;
+            push_evidence(alloc, &mut text.rest, evidence.as_slice())?;
         }
         Decision::Denied {
             why,
             reasons,
             evidence,
         } => {
-            push_cause_line(alloc, out, *why)?;
-            push_reasons(alloc, out, reasons.as_slice())?;
-            push_evidence(alloc, out, evidence.as_slice())?;
+            push_cause_line(alloc, &mut text.rest, *why)?;
+            push_reasons(alloc, text, reasons.as_slice())?;
+            push_evidence(alloc, &mut text.rest, evidence.as_slice())?;
         }
     }
     Ok(())

@@ -5,9 +5,11 @@
 mod answer;
 mod codes;
 mod decision_text;
+mod escaped_piece;
 mod json_text;
 mod laws;
 mod line;
+mod parts;
 mod plain;
 mod response;
 mod samples;
@@ -23,8 +25,10 @@ pub use codes::{
     reason_code, reason_codes,
 };
 pub use decision_text::rights_lines;
+pub use escaped_piece::{EscapedPiece, PIECE_LIMIT};
 pub use json_text::push_json_text;
 pub use line::{push_number_line, push_text_line, push_word_line};
+pub use parts::{Part, Text};
 pub use plain::push_shown;
 pub use response::{DONE, FAULT, Response};
 pub use sshsig_text::sshsig_response;

@@ -57,10 +57,7 @@ pub fn sshsig_response(
         Ok(answer) => {
             let mut text = Vec::new(alloc);
             push_sshsig_answer(alloc, &mut text, answer)?;
-            Ok(Response {
-                status: status_of(answer),
-                text,
-            })
+            Ok(Response::new(status_of(answer), text))
         }
         Err(error) => audit_fault(alloc, *error),
     }

@@ -31,7 +31,7 @@ pub(crate) fn all_or_nothing(
     outcome
 }
 
-fn hex_digit(digit: u8) -> u8
+pub(crate) fn hex_digit(digit: u8) -> u8
     requires { digit < 16 }
     ensures { result ≡ hex_digit digit }
 {

@@ -127,5 +127,5 @@ pub fn review_files<F: Files>(
     let status = total_status(&told.total);
     let mut text = told.text;
     text.extend_from_slice(&line)?;
-    Ok(Response { status, text })
+    Ok(Response::new(status, text))
 }

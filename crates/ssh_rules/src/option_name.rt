@@ -38,8 +38,9 @@ impl OptionName {
         self.shared.as_slice()
     }
 
-    /// The same name for one more reason. No memory is taken; `Err` means that no more can share it.
-    pub(crate) fn share(&self) -> Result<OptionName, AllocError>
+    /// The same name for one more reason, or for a text that tells it. No memory is taken; `Err` means
+    /// that no more can share it.
+    pub fn share(&self) -> Result<OptionName, AllocError>
         ensures { IfOk result (λ made. made ≡ self.now) }
     {
         let shared = self.shared.clone()?;

@@ -32,7 +32,7 @@ pub fn show(alloc: Global, kind: ShowKind, file: &[u8]) -> Result<Response, Allo
     ensures { IfOk result (λ r. Shows kind file.now (response r)) }
 {
     match shown(alloc, kind, file) {
-        Ok(text) => Ok(Response { status: DONE, text }),
+        Ok(text) => Ok(Response::new(DONE, text)),
         Err(error) => show_fault(alloc, error),
     }
 }

@@ -1,7 +1,8 @@
 use Rattle.std.proofs.Common.{◌≡◌, ◌++◌, drop}
 use Rattle.std.specs.List.{flat_map}
 use Rattle.ssh_print.specs.DecisionText.{reason_line}
+use Rattle.ssh_print.specs.TextParts.{text_bytes}
 use Rattle.ssh_print.proofs.decision_text.push_reasons.Given as goal
 
 abbrev pub invariant-loop-reason : goal.invariant-loop-reason
-invariant-loop-reason l = l.out.items ++ flat_map reason_line (drop l.reason-index l.reasons) ≡ l.initial.out.items ++ flat_map reason_line l.reasons
+invariant-loop-reason l = text_bytes l.text ++ flat_map reason_line (drop l.reason-index l.reasons) ≡ text_bytes l.initial.text ++ flat_map reason_line l.reasons

@@ -1,10 +1,10 @@
 use Rattle.std.proofs.Common.{length}
 use Rattle.ssh_command.specs.Account.{NoneFailed}
 use Rattle.ssh_command.specs.Printing.{TakesUpTo}
-use Rattle.ssh_command.proofs.program.put_out.Given as goal
+use Rattle.ssh_command.proofs.printing.put_bytes.Given as goal
 
 abbrev pub invariant-loop-rest : goal.invariant-loop-rest
-invariant-loop-rest g l = TakesUpTo (g.W.Sink.account l.fn.writer) (g.W.Sink.account l.writer) l.fn.text l.rest × NoneFailed (g.W.Sink.account l.writer)
+invariant-loop-rest g l = TakesUpTo (g.W.Sink.account l.fn.writer) (g.W.Sink.account l.writer) l.fn.bytes l.rest × NoneFailed (g.W.Sink.account l.writer)
 
 abbrev pub decreases-loop-rest : goal.decreases-loop-rest
 decreases-loop-rest g l = length l.rest

@@ -1,0 +1,11 @@
+use Rattle.std.proofs.Common.{drop}
+use Rattle.std.specs.List.{flat_map}
+use Rattle.ssh_command.specs.Account.{NoneFailed}
+use Rattle.ssh_command.specs.Printing.{TakesUpTo}
+use Rattle.ssh_print.specs.TextParts.{part_bytes}
+use Rattle.ssh_command.proofs.printing.put_parts.Given as goal
+
+abbrev pub invariant-loop-part : goal.invariant-loop-part
+invariant-loop-part g l =
+    TakesUpTo (g.W.Sink.account l.fn.writer) (g.W.Sink.account l.writer) (flat_map part_bytes l.fn.parts) (flat_map part_bytes (drop l.part-index l.parts))
+    × NoneFailed (g.W.Sink.account l.writer)
