@@ -226,11 +226,7 @@ fn push_reason_line(
     Ok(())
 }
 
-fn push_reasons(
-    alloc: Global,
-    text: &mut Text,
-    reasons: &[(u64, Reason)],
-) -> Result<(), AllocError>
+fn push_reasons(alloc: Global, text: &mut Text, reasons: &[(u64, Reason)]) -> Result<(), AllocError>
     ensures { OnOk result (text_bytes text.new
         ≡ text_bytes text.old ++ flat_map reason_line reasons.now) }
 {
@@ -256,11 +252,7 @@ fn push_granted(
 }
 
 /// The lines of a decision. A name that a reason tells is shared with it, and not copied.
-pub fn push_decision(
-    alloc: Global,
-    text: &mut Text,
-    decision: &Decision,
-) -> Result<(), AllocError>
+pub fn push_decision(alloc: Global, text: &mut Text, decision: &Decision) -> Result<(), AllocError>
     ensures { OnOk result (text_bytes text.new ≡ text_bytes text.old ++ decision_text decision.now) }
 {
     match decision {

@@ -50,7 +50,11 @@ fn put_escaped_byte(room: &mut [u8], len: usize, byte: u8) -> usize
     if is_plain(byte) {
         put_after(room, len, &[byte])
     } else {
-        put_after(room, len, &[b'\\', b'x', hex_digit(byte / 16), hex_digit(byte % 16)])
+        put_after(
+            room,
+            len,
+            &[b'\\', b'x', hex_digit(byte / 16), hex_digit(byte % 16)],
+        )
     }
 }
 

@@ -72,10 +72,7 @@ impl Eq for OptionName {
 }
 
 /// A copy of the name, if there is one. `Err` is out of memory; without a name none is taken.
-pub fn kept_name(
-    alloc: Global,
-    name: Option<&[u8]>,
-) -> Result<Option<OptionName>, AllocError>
+pub fn kept_name(alloc: Global, name: Option<&[u8]>) -> Result<Option<OptionName>, AllocError>
     ensures value { IfOk result (λ kept. kept ≡ option_copied name.entry) }
     ensures spare { option_copied name.entry ≡ None → IsOk result }
 {
