@@ -1,3 +1,4 @@
 mod HexLemmas
+mod PartLemmas
 pub mod PlainLemmas
 pub mod ReadingLemmas
