@@ -7,3 +7,4 @@ mod QuestionLemmas
 mod RestingLemmas
 mod KeptLemmas
 mod LoginLemmas
+mod HostLemmas
