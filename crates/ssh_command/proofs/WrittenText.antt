@@ -1,8 +1,8 @@
 -- Steps of writing a text.
-use Rattle.std.proofs.Common.{◌≡◌, ◌∙◌, ◌++◌, ◌<◌, ℕ, List, Option, Some, None, [], ap, sym, refl, take, drop, length, ne_eqb, arith}
+use Rattle.std.proofs.Common.{◌≡◌, ◌∙◌, ◌++◌, ◌<◌, ℕ, List, Option, Some, None, [], ap, sym, refl, take, length, ne_eqb, arith}
 use Rattle.std.specs.Prelude.{if◌then◌else◌}
 use Rattle.std.specs.List.{flat_map}
-use Rattle.std.proofs.lemmas.List.{append-nil, append_assoc, length-append, take-append-drop}
+use Rattle.std.proofs.lemmas.List.{append-nil, append_assoc, length-append}
 use Rattle.std.proofs.lemmas.List.Concat.{flat_map-append}
 use Rattle.ssh_command.specs.Account.{Account, NoneFailed, failing, takes_nothing, taking, where_told}
 use Rattle.ssh_command.specs.Printing.{Breaks, TakesAll, TakesUpTo}
@@ -46,23 +46,23 @@ none_failed None q text h none = rw h tt
 none_failed (Some a) q text h none = rw h none
 
 -- the front of the rest is taken too
-pub taken_on : (o p q : Option Account) (text front left : List ℕ) → TakesUpTo o p text (front ++ left) → TakesAll p q front → TakesUpTo o q text left
-taken_on o p q text front left w h = record {
+pub taken_on : (o p q : Option Account) (text rest front left : List ℕ) → TakesUpTo o p text rest → rest ≡ front ++ left → TakesAll p q front → TakesUpTo o q text left
+taken_on o p q text rest front left w cut h = record {
   front = w.front ++ front;
-  parts = w.parts ∙ sym (append_assoc w.front front left);
+  parts = w.parts ∙ (ap (λ r. w.front ++ r) cut ∙ sym (append_assoc w.front front left));
   told = h ∙ (ap (λ p. where_told (λ a. taking a front) p) w.told ∙ taken_twice o w.front front);
 }
 
 -- a write of the front of the rest fails
-pub broken_on : (o p q : Option Account) (text front left : List ℕ) → TakesUpTo o p text (front ++ left) → Breaks p q front → Breaks o q text
-broken_on o p q text front left w b = record {
+pub broken_on : (o p q : Option Account) (text rest front left : List ℕ) → TakesUpTo o p text rest → rest ≡ front ++ left → Breaks p q front → Breaks o q text
+broken_on o p q text rest front left w cut b = record {
   front = w.front ++ b.front;
   rest = b.rest ++ left;
   parts =
-      w.parts
-      ∙ ap (λ l. w.front ++ l) (ap (λ l. l ++ left) b.parts ∙ append_assoc b.front b.rest left)
-      ∙ sym (append_assoc w.front b.front (b.rest ++ left));
-  proper = rw length-append (omega (arith, b.proper));
+    w.parts
+    ∙ (ap (λ r. w.front ++ r) (cut ∙ (ap (λ l. l ++ left) b.parts ∙ append_assoc b.front b.rest left))
+    ∙ sym (append_assoc w.front b.front (b.rest ++ left)));
+  proper = omega (arith, b.proper, length-append b.rest left);
   told = b.told ∙ (ap (λ p. where_told (λ a. failing (taking a b.front)) p) w.told ∙ failed_after o w.front b.front);
 }
 
@@ -84,11 +84,11 @@ both_taken o p q a b h k = k ∙ (ap (λ p. where_told (λ x. taking x b) p) h �
 
 -- a write of the first of two fails, or one of the second
 pub first_broken : (o p : Option Account) (a b : List ℕ) → Breaks o p a → Breaks o p (a ++ b)
-first_broken o p a b h = broken_on o o p (a ++ b) a b (at_first o (a ++ b)) h
+first_broken o p a b h = broken_on o o p (a ++ b) (a ++ b) a b (at_first o (a ++ b)) refl h
 
 pub second_broken : (o p q : Option Account) (a b : List ℕ) → TakesAll o p a → Breaks p q b → Breaks o q (a ++ b)
-second_broken o p q a b h k = broken_on o p q (a ++ b) b [] (record { front = a; parts = ap (λ l. a ++ l) (sym (append-nil b)); told = h }) k
+second_broken o p q a b h k = broken_on o p q (a ++ b) b b [] (record { front = a; parts = refl; told = h }) (sym (append-nil b)) k
 
--- a list is made of two pieces
-pub cut_map : {X A : Type 0} (f : X → List A) (xs : List X) (n : ℕ) → flat_map f xs ≡ flat_map f (take n xs) ++ flat_map f (drop n xs)
-cut_map f xs n = ap (flat_map f) (sym (take-append-drop n xs)) ∙ flat_map-append f (take n xs) (drop n xs)
+-- what is made of a list is made of its two pieces
+pub joined_map : {X A : Type 0} (f : X → List A) (xs front left : List X) → xs ≡ front ++ left → flat_map f xs ≡ flat_map f front ++ flat_map f left
+joined_map f xs front left cut = ap (flat_map f) cut ∙ flat_map-append f front left
