@@ -59,9 +59,9 @@ broken_on o p q text rest front left w cut b = record {
   front = w.front ++ b.front;
   rest = b.rest ++ left;
   parts =
-    w.parts
-    ∙ (ap (λ r. w.front ++ r) (cut ∙ (ap (λ l. l ++ left) b.parts ∙ append_assoc b.front b.rest left))
-    ∙ sym (append_assoc w.front b.front (b.rest ++ left)));
+      w.parts
+      ∙ (ap (λ r. w.front ++ r) (cut ∙ (ap (λ l. l ++ left) b.parts ∙ append_assoc b.front b.rest left))
+      ∙ sym (append_assoc w.front b.front (b.rest ++ left)));
   proper = omega (arith, b.proper, length-append b.rest left);
   told = b.told ∙ (ap (λ p. where_told (λ a. failing (taking a b.front)) p) w.told ∙ failed_after o w.front b.front);
 }
