@@ -1,6 +1,6 @@
 -- Steps of writing a text.
 use Rattle.std.proofs.Common.{◌≡◌, ◌∙◌, ◌++◌, ◌<◌, ℕ, List, Option, Some, None, [], ap, sym, refl, take, length, ne_eqb, arith}
-use Rattle.std.specs.Prelude.{if◌then◌else◌}
+use Rattle.std.specs.Prelude.{if◌then◌else◌, OnErr, Result, Ok, Err}
 use Rattle.std.specs.List.{flat_map}
 use Rattle.std.proofs.lemmas.List.{append-nil, append_assoc, length-append}
 use Rattle.std.proofs.lemmas.List.Concat.{flat_map-append}
@@ -92,3 +92,8 @@ second_broken o p q a b h k = broken_on o p q (a ++ b) b b [] (record { front = 
 -- what is made of a list is made of its two pieces
 pub joined_map : {X A : Type 0} (f : X → List A) (xs front left : List X) → xs ≡ front ++ left → flat_map f xs ≡ flat_map f front ++ flat_map f left
 joined_map f xs front left cut = ap (flat_map f) cut ∙ flat_map-append f front left
+
+-- what holds, holds after a refusal
+pub on_err : {A E : Type 0} (r : Result A E) (P : Type 0) → P → OnErr r P
+on_err (Ok x) P p = tt
+on_err (Err e) P p = p
