@@ -11,7 +11,7 @@ use Rattle.ssh_keys.specs.PublicKey.{PublicKey, kind_of}
 use Rattle.ssh_options.specs.declared.cause.LineCause.{LineCause}
 use Rattle.ssh_options.specs.declared.cause.LineCause.TheVariants as causes
 use Rattle.ssh_options.specs.AuthOption.{AuthOption}
-use Rattle.ssh_text.specs.Text.{comment_of}
+use Rattle.ssh_text.specs.Text.{after_word, comment_of, first_word}
 use Rattle.ssh_lines.specs.declared.entry.AuthLine.{AuthLine}
 use Rattle.ssh_lines.specs.declared.entry_fields.EntryFields.{EntryFields}
 use Rattle.ssh_lines.specs.AuthGrammar.{entry_of_key}
@@ -36,10 +36,10 @@ of-blob options kind comment (Ok blob) = of-kind options kind comment (key_in bl
 -- what fields say, they say with the bytes of the key
 pub fields_need_bytes : (f : EntryFields) (line : AuthLine) → entry_of_fields f ≡ line → needs_bytes line ≡ true
 fields_need_bytes f line e =
-    ap needs_bytes (sym e) ∙ of-blob f.options f.kind (comment_of f.rest.now) (decode_of standard f.base64.now)
+    ap needs_bytes (sym e) ∙ of-blob f.options f.kind (comment_of (after_word f.text.now)) (decode_of standard (first_word f.text.now))
 
 -- a field within a part of a text is within the text
 pub room-within : (fields : Result EntryFields LineCause) (part whole : ℕ) → part ≤ whole
-    → IfOk fields (λ f. length f.base64.now ≤ part) → IfOk fields (λ f. length f.base64.now ≤ whole)
+    → IfOk fields (λ f. length f.text.now ≤ part) → IfOk fields (λ f. length f.text.now ≤ whole)
 room-within (Err cause) part whole h room = tt
 room-within (Ok f) part whole h room = omega arith

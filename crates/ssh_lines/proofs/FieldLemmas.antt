@@ -1,7 +1,7 @@
 -- The fields of a line: what stands in them are bytes, and no blanks.
 use Rattle.std.proofs.Common.{◌≡◌, ℕ, false, inl, inr, List, [], ◌∷◌, ◌++◌, refl, subst}
 use Rattle.std.proofs.lemmas.Bool.{cases_Bool}
-use Rattle.ssh_text.specs.Text.{is_blank, body_of, first_word, after_word, next_field, without_cr, HasNoBlank}
+use Rattle.ssh_text.specs.Text.{is_blank, body_of, first_word, after_word, next_field, skip_blanks, without_cr, HasNoBlank}
 use Rattle.ssh_text.proofs.ReadText.{skipped, cr_cut, word-cut}
 use Rattle.ssh_lines.specs.Front.{begins_with}
 use Rattle.ssh_lines.specs.KeyPart.{has_no_bytes}
@@ -22,6 +22,11 @@ next-bytes text bytes =
     let skip = skipped (after_word text) in
     let after = AreBytes-back (first_word text) (after_word text) (subst AreBytes (word-cut text) bytes) in
     AreBytes-back skip.gap (next_field text) (subst AreBytes skip.whole after)
+
+-- after the blanks no bytes are left where no word is
+pub no_field : (text : List ℕ) → has_no_bytes (first_word (skip_blanks text)) ≡ has_no_bytes (skip_blanks text)
+no_field [] = refl
+no_field (c ∷ cs) = elim (cases_Bool (is_blank c)) [ inl e ↦ rw e (no_field cs) | inr e ↦ rw (e, e) refl ]
 
 pub word-no_blank : (text : List ℕ) → HasNoBlank (first_word text)
 word-no_blank [] = tt

@@ -6,9 +6,9 @@ step-skip : (b : Bool) (c : ℕ) (cs rest : List ℕ) → length rest ≤ length
 step-skip true c cs rest h = omega arith
 step-skip false c cs rest h = omega arith
 
-pub length-skip : (text : List ℕ) → length (skip_blanks text) ≤ length text
-length-skip [] = omega arith
-length-skip (c ∷ cs) = step-skip (is_blank c) c cs (skip_blanks cs) (length-skip cs)
+pub length_skip : (text : List ℕ) → length (skip_blanks text) ≤ length text
+length_skip [] = omega arith
+length_skip (c ∷ cs) = step-skip (is_blank c) c cs (skip_blanks cs) (length_skip cs)
 
 step-word : (b : Bool) (c : ℕ) (cs rest : List ℕ) → length rest ≤ length cs → length (cond b [] (c ∷ rest)) ≤ suc (length cs)
 step-word true c cs rest h = omega arith
@@ -26,13 +26,6 @@ pub length_after : (text : List ℕ) → length (after_word text) ≤ length tex
 length_after [] = omega arith
 length_after (c ∷ cs) = step-after (is_blank c) c cs (after_word cs) (length_after cs)
 
-pub length_field : (text : List ℕ) → length (first_word (next_field text)) ≤ length text
-length_field text =
-    let a = length_after text in
-    let b = length-skip (after_word text) in
-    let c = length-word (next_field text) in
-    omega arith
-
 step-last : (b : Bool) (c : ℕ) → length (cond b [] (c ∷ [])) ≤ 1
 step-last true c = omega arith
 step-last false c = omega arith
@@ -44,24 +37,18 @@ length-last b (c ∷ d ∷ cs) = let h = length-last b (d ∷ cs) in omega arith
 
 pub length_rest : (n : ℕ) (text : List ℕ) → length (skip_blanks (drop n text)) ≤ length text
 length_rest n text =
-    let a = length-skip (drop n text) in
+    let a = length_skip (drop n text) in
     let b = length-drop n text in
     omega arith
 
 pub length_body : (b : ℕ) (text : List ℕ) → length (skip_blanks (without_last b text)) ≤ length text
 length_body b text =
-    let h = length-skip (without_last b text) in
+    let h = length_skip (without_last b text) in
     let k = length-last b text in
     omega arith
 
-pub length-next : (text : List ℕ) → length (next_field text) ≤ length text
-length-next text =
+pub length_next : (text : List ℕ) → length (next_field text) ≤ length text
+length_next text =
     let a = length_after text in
-    let b = length-skip (after_word text) in
-    omega arith
-
-pub length_next_word : (text : List ℕ) → length (first_word (skip_blanks text)) ≤ length text
-length_next_word text =
-    let a = length-skip text in
-    let b = length-word (skip_blanks text) in
+    let b = length_skip (after_word text) in
     omega arith

@@ -4,7 +4,7 @@ use Rattle.base64.specs.Engines.{standard}
 use Rattle.base64.specs.GeneralPurpose.{decode_of}
 use Rattle.ssh_options.specs.declared.cause.LineCause.{LineCause}
 use Rattle.ssh_options.specs.declared.cause.LineCause.TheVariants as causes
-use Rattle.ssh_text.specs.Text.{comment_of}
+use Rattle.ssh_text.specs.Text.{after_word, comment_of, first_word}
 use Rattle.ssh_lines.specs.declared.entry.AuthLine.{AuthLine}
 use Rattle.ssh_lines.specs.declared.entry.AuthLine.TheVariants.{Blank, Comment, Entry, Unreadable}
 use Rattle.ssh_lines.specs.declared.entry_fields.EntryFields.{EntryFields}
@@ -13,7 +13,7 @@ use Rattle.ssh_lines.specs.KeyPart.{key_of_blob}
 
 -- what the fields say with the bytes of the key
 abbrev pub entry_of_fields : EntryFields → AuthLine
-entry_of_fields f = entry_of_key f.options (key_of_blob f.kind (comment_of f.rest.now) (decode_of standard f.base64.now))
+entry_of_fields f = entry_of_key f.options (key_of_blob f.kind (comment_of (after_word f.text.now)) (decode_of standard (first_word f.text.now)))
 
 -- the fault of a key's bytes, or of its type, which stands in them: L10, L11 and L12
 abbrev pub is_of_bytes : LineCause → Bool

@@ -4,4 +4,4 @@ use Rattle.ssh_lines.specs.declared.key_buffer.KeyBuffer.{KeyBuffer}
 
 -- how many bytes the buffer has, whatever they are
 abbrev pub buffer_size : KeyBuffer → ℕ
-buffer_size buffer = length buffer.bytes.items
+buffer_size buffer = length buffer.room.bytes.items

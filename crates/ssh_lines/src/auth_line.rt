@@ -8,6 +8,7 @@ ghost use Rattle.ssh_lines.specs.AuthGrammar.{SpellsEntry, auth_line, entry_of};
 ghost use Rattle.ssh_lines.specs.EntryFields.{needs_bytes};
 ghost use Rattle.ssh_lines.specs.LineError.{SaysEntry};
 
+use crate::decoder::Decoder;
 use crate::entry::{AuthEntry, AuthLine};
 use crate::entry_fields::EntryFields;
 use crate::error::LineError;
@@ -23,8 +24,8 @@ fn entry_in(alloc: Global, line: &[u8], body: &[u8]) -> Result<AuthEntry, LineEr
     ensures { SaysEntry result (entry_of body.now) }
 {
     let fields = EntryFields::read(body)?;
-    let mut buffer = vec![in alloc; 0u8; decoded_len_estimate(fields.base64.len())]?;
-    let _said = fields.view(buffer.as_mut_slice())?;
+    let mut buffer = vec![in alloc; 0u8; decoded_len_estimate(fields.text.len())]?;
+    let _said = fields.view(&Decoder::new(), buffer.as_mut_slice())?;
     let entry = AuthEntry::keep(alloc, line)?;
     Ok(entry)
 }

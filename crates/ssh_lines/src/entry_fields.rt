@@ -9,22 +9,22 @@ ghost use Rattle.ssh_lines.specs.LineView.{SaysView};
 ghost use Rattle.ssh_lines.specs.declared.entry.AuthLine.TheVariants.{Unreadable};
 
 use crate::auth_view::AuthEntryView;
+use crate::decoder::Decoder;
 use crate::key_view::{key_of_kind, kind_of_class};
 use ssh_keys::{KeyKind, NameClass, name_class};
 use ssh_options::{LineCause, OptionsView};
 use ssh_text::{skip_blanks, split_word};
 
-/// The options, the kind of key that the type names, the base64, and what follows it.
+/// The options, the kind of key that the type names, and the text from the base64 on.
 #[derive(Drop)]
 pub(crate) struct EntryFields<'a> {
     options: OptionsView<'a>,
     kind: KeyKind,
-    pub(crate) base64: &'a [u8],
-    rest: &'a [u8],
+    pub(crate) text: &'a [u8],
 }
 
 /// The fields of the options, of a type field with its class, and of what follows it.
-#[tactic(auto, using(crate::proofs::LengthLemmas::length_next_word))]
+#[tactic(auto, using(crate::proofs::LengthLemmas::length_skip, crate::proofs::FieldLemmas::no_field))]
 fn fields_of_class<'a>(
     options: OptionsView<'a>,
     class: NameClass,
@@ -33,21 +33,20 @@ fn fields_of_class<'a>(
 ) -> Result<EntryFields<'a>, LineCause>
     ensures ok { IfOk result (λ f. entry_of_fields f
         ≡ entry_of_key options.entry (key_of_class class type_name.now after.entry.now)) }
-    ensures room { IfOk result (λ f. length f.base64.now ≤ length after.entry.now) }
+    ensures room { IfOk result (λ f. length f.text.now ≤ length after.entry.now) }
     ensures err { IfErr result (λ cause.
         entry_of_key options.entry (key_of_class class type_name.now after.entry.now)
         ≡ Unreadable cause) }
 {
-    let (base64, rest) = split_word(skip_blanks(after));
-    if type_name.is_empty() || base64.is_empty() {
+    let text = skip_blanks(after);
+    if type_name.is_empty() || text.is_empty() {
         return Err(LineCause::NoKey);
     }
     let kind = kind_of_class(class)?;
     Ok(EntryFields {
         options,
         kind,
-        base64,
-        rest,
+        text,
     })
 }
 
@@ -56,7 +55,7 @@ fn fields_of_class<'a>(
 fn fields_with<'a>(options: OptionsView<'a>, text: &'a [u8]) -> Result<EntryFields<'a>, LineCause>
     ensures ok { IfOk result (λ f. entry_of_fields f
         ≡ entry_of_key options.entry (key_part_of text.entry.now)) }
-    ensures room { IfOk result (λ f. length f.base64.now ≤ length text.entry.now) }
+    ensures room { IfOk result (λ f. length f.text.now ≤ length text.entry.now) }
     ensures err { IfErr result (λ cause. entry_of_key options.entry (key_part_of text.entry.now)
         ≡ Unreadable cause) }
 {
@@ -67,7 +66,7 @@ fn fields_with<'a>(options: OptionsView<'a>, text: &'a [u8]) -> Result<EntryFiel
 /// The fields of a text that begins with options.
 fn fields_after_options<'a>(body: &'a [u8]) -> Result<EntryFields<'a>, LineCause>
     ensures ok { IfOk result (λ f. entry_of_fields f ≡ entry_with_options body.entry.now) }
-    ensures room { IfOk result (λ f. length f.base64.now ≤ length body.entry.now) }
+    ensures room { IfOk result (λ f. length f.text.now ≤ length body.entry.now) }
     ensures err { IfErr result (λ cause. entry_with_options body.entry.now ≡ Unreadable cause) }
 {
     let (options, rest) = OptionsView::take(body)?;
@@ -78,7 +77,7 @@ impl<'a> EntryFields<'a> {
     /// The fields of a line that is neither blank nor a comment, without the blanks at its front.
     pub(crate) fn read(body: &'a [u8]) -> Result<EntryFields<'a>, LineCause>
         ensures ok { IfOk result (λ f. entry_of_fields f ≡ entry_of body.entry.now) }
-        ensures room { IfOk result (λ f. length f.base64.now ≤ length body.entry.now) }
+        ensures room { IfOk result (λ f. length f.text.now ≤ length body.entry.now) }
         ensures err { IfErr result (λ cause. entry_of body.entry.now ≡ Unreadable cause) }
     {
         let (type_name, after) = split_word(body);
@@ -89,11 +88,15 @@ impl<'a> EntryFields<'a> {
     }
 
     /// The entry, its key decoded into the buffer.
-    pub(crate) fn view(self, buffer: &'a mut [u8]) -> Result<AuthEntryView<'a>, LineCause>
-        requires { decoded_estimate (length self.base64.now) ≤ length buffer.old }
+    pub(crate) fn view(
+        self,
+        decoder: &Decoder,
+        buffer: &'a mut [u8],
+    ) -> Result<AuthEntryView<'a>, LineCause>
+        requires { decoded_estimate (length self.text.now) ≤ length buffer.old }
         ensures { SaysView result (entry_of_fields self.entry) }
     {
-        let part = key_of_kind(self.kind, self.base64, self.rest, buffer)?;
+        let part = key_of_kind(self.kind, self.text, decoder, buffer)?;
         Ok(AuthEntryView::new(self.options, part))
     }
 }

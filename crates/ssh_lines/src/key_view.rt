@@ -9,35 +9,42 @@ ghost use Rattle.ssh_keys.specs.KeyOf.{key_of};
 ghost use Rattle.ssh_keys.specs.declared.kind.NameClass.TheVariants.{Plain};
 ghost use Rattle.ssh_keys.specs.KeyReading.{key_in};
 ghost use Rattle.ssh_keys.specs.PublicKey.{key_blob};
+ghost use Rattle.ssh_names.specs.Names.{base64};
 ghost use Rattle.ssh_options.specs.declared.cause.LineCause.TheVariants.{NoKey};
 ghost use Rattle.ssh_text.specs.Text.{after_word, comment_of, first_word, next_field};
 ghost use Rattle.ssh_lines.specs.KeyPart.{key_of_blob, key_of_kind, key_by_class, lacks_key};
 
-use crate::blob::decode_into;
-use crate::key_line::split_fields;
+use crate::decoder::Decoder;
 use ssh_keys::{KeyKind, KeyView, NameClass, name_class, read_key, read_kind};
 use ssh_options::LineCause;
-use ssh_text::comment_in;
+use ssh_text::{comment_in, skip_blanks, split_word};
 use std::marker::Model;
 
-/// The blob of a key, and the comment after it. Contracts see the key and the comment.
+/// The blob of a key, and the text from its base64 on. Contracts see the key and the comment.
 #[derive(Debug, Drop)]
 pub(crate) struct KeyPartView<'a> {
     blob: &'a [u8],
-    comment: &'a [u8],
+    text: &'a [u8],
 }
 
 impl<'a> Model for KeyPartView<'a> {
     ghost use Rattle.ssh_keys.specs.Key.{key_or_none};
     ghost use Rattle.ssh_keys.specs.KeyReading.{key_in};
+    ghost use Rattle.std.specs.Prelude.{◌≡◌};
     ghost use Rattle.ssh_keys.specs.PublicKey.{IsKeyBlob};
+    ghost use Rattle.ssh_names.specs.Names.{base64};
+    ghost use Rattle.ssh_text.specs.Text.{after_word, comment_of, first_word};
     ghost use Rattle.ssh_lines.specs.KeyPart.{KeyPart};
 
     ghost Value = { KeyPart };
 
-    ghost view = { λ v. record { key = key_or_none (key_in v.blob.now); comment = v.comment.now } };
+    ghost view = { λ v. record {
+      key = key_or_none (key_in v.blob.now);
+      comment = comment_of (after_word v.text.now);
+    } };
 
-    ghost invariant = { λ v. IsKeyBlob (key_or_none (key_in v.blob.now)) v.blob.now };
+    ghost invariant = { λ v. IsKeyBlob (key_or_none (key_in v.blob.now)) v.blob.now
+        × (first_word v.text.now ≡ base64 v.blob.now) };
 }
 
 impl<'a> KeyPartView<'a> {
@@ -62,20 +69,31 @@ impl<'a> KeyPartView<'a> {
     pub(crate) fn comment(&self) -> &'a [u8]
         ensures { result.now ≡ self.now.comment }
     {
-        self.comment
+        self.base64_and_comment().1
+    }
+
+    /// The base64 of the key's blob, and the comment.
+    pub(crate) fn base64_and_comment(&self) -> (&'a [u8], &'a [u8])
+        ensures base64 { result.0.now ≡ base64 (key_blob self.now.key) }
+        ensures comment { result.1.now ≡ self.now.comment }
+    {
+        let (base64, rest) = split_word(self.text);
+        (base64, comment_in(rest))
     }
 }
 
-/// The key of a blob, whose type field named this kind.
+/// The key of a blob, whose base64 the text begins with, and whose type field named this kind.
 fn key_in_blob<'a>(
     kind: KeyKind,
     blob: &'a [u8],
-    comment: &'a [u8],
+    text: &'a [u8],
 ) -> Result<KeyPartView<'a>, LineCause>
-    ensures { Gives (λ p. p) result (key_of_kind kind comment.entry.now (key_in blob.entry.now)) }
+    requires { first_word text.now ≡ base64 blob.now }
+    ensures { Gives (λ p. p) result
+        (key_of_kind kind (comment_of (after_word text.entry.now)) (key_in blob.entry.now)) }
 {
     match read_kind(blob) {
-        Ok(read) if read == kind => Ok(KeyPartView { blob, comment }),
+        Ok(read) if read == kind => Ok(KeyPartView { blob, text }),
         Ok(_) => Err(LineCause::TypeMismatch),
         Err(e) => Err(LineCause::KeyBlob(e)),
     }
@@ -95,49 +113,53 @@ pub(crate) fn kind_of_class(class: NameClass) -> Result<KeyKind, LineCause>
     }
 }
 
-/// The key of a base64 field, whose type field named this kind, decoded into the buffer.
+/// The key at the front of a text of base64 and comment, whose type field named this kind, decoded
+/// into the buffer.
 pub(crate) fn key_of_kind<'a>(
     kind: KeyKind,
-    field: &[u8],
-    rest: &'a [u8],
+    text: &'a [u8],
+    decoder: &Decoder,
     buffer: &'a mut [u8],
 ) -> Result<KeyPartView<'a>, LineCause>
-    requires { decoded_estimate (length field.now) ≤ length buffer.old }
-    ensures { Gives (λ p. p) result
-        (key_of_blob kind (comment_of rest.entry.now) (decode_of standard field.now)) }
+    requires { decoded_estimate (length text.now) ≤ length buffer.old }
+    ensures { Gives (λ p. p) result (key_of_blob kind (comment_of (after_word text.entry.now))
+        (decode_of standard (first_word text.entry.now))) }
 {
-    match decode_into(field, buffer) {
-        Ok(blob) => key_in_blob(kind, blob, comment_in(rest)),
+    let (field, _) = split_word(text);
+    match decoder.decode_into(field, buffer) {
+        Ok(blob) => key_in_blob(kind, blob, text),
         Err(_) => Err(LineCause::Base64),
     }
 }
 
-/// The key of a base64 field, decoded into the buffer.
-pub(crate) fn key_in_field<'a>(
+/// The key at the front of a text of base64 and comment, decoded into the buffer.
+pub(crate) fn key_in_text<'a>(
     class: NameClass,
-    field: &[u8],
-    rest: &'a [u8],
+    text: &'a [u8],
+    decoder: &Decoder,
     buffer: &'a mut [u8],
 ) -> Result<KeyPartView<'a>, LineCause>
-    requires { decoded_estimate (length field.now) ≤ length buffer.old }
-    ensures { Gives (λ p. p) result (key_by_class class field.now rest.entry.now) }
+    requires { decoded_estimate (length text.now) ≤ length buffer.old }
+    ensures { Gives (λ p. p) result
+        (key_by_class class (first_word text.entry.now) (after_word text.entry.now)) }
 {
     let kind = kind_of_class(class)?;
-    key_of_kind(kind, field, rest, buffer)
+    key_of_kind(kind, text, decoder, buffer)
 }
 
-/// The type and the base64 at the front of a text, which are both there, and what follows them.
-pub(crate) fn key_fields(text: &[u8]) -> Result<(&[u8], &[u8], &[u8]), LineCause>
+/// The type at the front of a text, and the text from the base64 on, where both are there.
+#[tactic(auto, using(crate::proofs::FieldLemmas::no_field))]
+pub(crate) fn key_fields(text: &[u8]) -> Result<(&[u8], &[u8]), LineCause>
     ensures type_name { IfOk result (λ f. f.0.now ≡ first_word text.now) }
-    ensures base64 { IfOk result (λ f. f.1.now ≡ first_word (next_field text.now)) }
-    ensures rest { IfOk result (λ f. f.2.now ≡ after_word (next_field text.now)) }
+    ensures text { IfOk result (λ f. f.1.now ≡ next_field text.now) }
     ensures there { IfOk result (λ f. lacks_key text.now ≡ false) }
     ensures missing { IfErr result (λ cause. lacks_key text.now ≡ true) }
     ensures cause { IfErr result (λ cause. cause ≡ NoKey) }
 {
-    let (word, field, rest) = split_fields(text);
-    if word.is_empty() || field.is_empty() {
+    let (word, after) = split_word(text);
+    let rest = skip_blanks(after);
+    if word.is_empty() || rest.is_empty() {
         return Err(LineCause::NoKey);
     }
-    Ok((word, field, rest))
+    Ok((word, rest))
 }

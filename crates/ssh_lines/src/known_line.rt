@@ -10,6 +10,7 @@ ghost use Rattle.ssh_lines.specs.KnownGrammar.{Blind, RevokesBytes, SpellsKnown,
 ghost use Rattle.ssh_lines.specs.KnownGrammar.{line_of_fields};
 ghost use Rattle.ssh_lines.specs.KnownSeen.{known_seen};
 
+use crate::decoder::Decoder;
 use crate::front::{Front, front_of};
 use crate::known::{KnownEntry, KnownLine};
 use crate::known_line_view::{KnownLineView, view_known_fields};
@@ -38,7 +39,7 @@ fn read_fields(alloc: Global, line: &[u8], body: &[u8]) -> Result<KnownLine, All
     ensures { IfOk result (λ read. read ≡ line_of_fields body.now) }
 {
     let mut buffer = vec![in alloc; 0u8; decoded_len_estimate(body.len())]?;
-    let said = view_known_fields(body, buffer.as_mut_slice());
+    let said = view_known_fields(body, &Decoder::new(), buffer.as_mut_slice());
     let read = keep(alloc, line, &said)?;
     Ok(read)
 }

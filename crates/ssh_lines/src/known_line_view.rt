@@ -13,11 +13,11 @@ ghost use Rattle.ssh_lines.specs.KnownGrammar.{known_entry_of_fields, line_of_en
 ghost use Rattle.ssh_lines.specs.KnownGrammar.{revoked_of};
 ghost use Rattle.ssh_lines.specs.KnownSeen.{known_seen};
 
-use crate::blob::decode_into;
+use crate::decoder::Decoder;
 use crate::front::{Front, front_of};
 use crate::key_buffer::KeyBuffer;
 use crate::key_line::split_fields;
-use crate::key_view::{key_fields, key_in_field};
+use crate::key_view::{key_fields, key_in_text};
 use crate::known_view::KnownEntryView;
 use crate::marker::{FirstField, Marker, first_field_of};
 use ssh_keys::name_class;
@@ -39,23 +39,24 @@ pub enum KnownLineView<'a> {
 }
 
 /// The entry of a field of names and a text of type, base64 and comment.
-#[tactic(auto, unfolding(crate::specs::KnownGrammar::known_entry_of_fields), using(crate::proofs::LengthLemmas::length_field))]
+#[tactic(auto, unfolding(crate::specs::KnownGrammar::known_entry_of_fields))]
 fn view_fields<'a>(
     marker: Marker,
     field: &'a [u8],
     key: &'a [u8],
+    decoder: &Decoder,
     buffer: &'a mut [u8],
 ) -> Result<KnownEntryView<'a>, LineCause>
     requires { decoded_estimate (length key.now) ≤ length buffer.old }
     ensures { Gives (λ e. e) result (known_entry_of_fields marker field.entry.now key.entry.now) }
 {
-    let (word, base64, rest) = key_fields(key)?;
+    let (word, text) = key_fields(key)?;
     let names = match read_names(field) {
         Ok(names) => names,
         Err(NamesError::HashedName) => return Err(LineCause::HashedName),
         Err(NamesError::EmptyItem) => return Err(LineCause::Names),
     };
-    let part = key_in_field(name_class(word), base64, rest, buffer)?;
+    let part = key_in_text(name_class(word), text, decoder, buffer)?;
     Ok(KnownEntryView::new(marker, names, part))
 }
 
@@ -70,40 +71,50 @@ fn line_of<'a>(entry: Result<KnownEntryView<'a>, LineCause>) -> KnownLineView<'a
 }
 
 /// What a line with this base64 field revokes.
-fn view_revoked<'a>(field: &[u8], buffer: &'a mut [u8]) -> KnownLineView<'a>
+fn view_revoked<'a>(field: &[u8], decoder: &Decoder, buffer: &'a mut [u8]) -> KnownLineView<'a>
     requires { decoded_estimate (length field.now) ≤ length buffer.old }
     ensures { known_seen result ≡ revoked_of field.now }
 {
-    match decode_into(field, buffer) {
+    match decoder.decode_into(field, buffer) {
         Ok(bytes) if !field.is_empty() => KnownLineView::Revoked(bytes),
         _ => KnownLineView::RevokedUnreadable,
     }
 }
 
 /// What the fields of a line say.
-pub(crate) fn view_known_fields<'a>(body: &'a [u8], buffer: &'a mut [u8]) -> KnownLineView<'a>
+pub(crate) fn view_known_fields<'a>(
+    body: &'a [u8],
+    decoder: &Decoder,
+    buffer: &'a mut [u8],
+) -> KnownLineView<'a>
     requires { decoded_estimate (length body.now) ≤ length buffer.old }
     ensures { known_seen result ≡ line_of_fields body.entry.now }
 {
     let (first, after) = split_word(body);
     let rest = skip_blanks(after);
     match first_field_of(first) {
-        FirstField::Names => line_of(view_fields(Marker::Unmarked, first, rest, buffer)),
+        FirstField::Names => line_of(view_fields(Marker::Unmarked, first, rest, decoder, buffer)),
         FirstField::CertAuthority => {
             let (names, after) = split_word(rest);
-            line_of(view_fields(Marker::CertAuthority, names, skip_blanks(after), buffer))
+            line_of(view_fields(
+                Marker::CertAuthority,
+                names,
+                skip_blanks(after),
+                decoder,
+                buffer,
+            ))
         }
         FirstField::Revoked => {
             let (_, after) = split_word(rest);
             let (_, field, _) = split_fields(skip_blanks(after));
-            view_revoked(field, buffer)
+            view_revoked(field, decoder, buffer)
         }
         FirstField::Unknown => KnownLineView::Unreadable(LineCause::Marker),
     }
 }
 
 #[tactic(auto, unfolding(crate::specs::KnownGrammar::known_line))]
-fn view_line<'a>(line: &'a [u8], buffer: &'a mut [u8]) -> KnownLineView<'a>
+fn view_line<'a>(line: &'a [u8], decoder: &Decoder, buffer: &'a mut [u8]) -> KnownLineView<'a>
     requires { length buffer.old ≡ key_limit }
     ensures { known_seen result ≡ known_line line.entry.now }
 {
@@ -111,7 +122,7 @@ fn view_line<'a>(line: &'a [u8], buffer: &'a mut [u8]) -> KnownLineView<'a>
         Front::TooLong => KnownLineView::RevokedUnreadable,
         Front::Blank => KnownLineView::Blank,
         Front::Comment => KnownLineView::Comment,
-        Front::Fields(body) => view_known_fields(body, buffer),
+        Front::Fields(body) => view_known_fields(body, decoder, buffer),
     }
 }
 
@@ -136,5 +147,6 @@ pub fn read_known_view<'a>(line: &'a [u8], buffer: &'a mut KeyBuffer) -> KnownLi
     // Else the line is blank, a comment, or has this first fault.
     ensures exact { known_seen result ≡ known_line line.entry.now }
 {
-    view_line(line, buffer.as_mut_slice())
+    let KeyBuffer { decoder, room } = buffer;
+    view_line(line, decoder, room.as_mut_slice())
 }

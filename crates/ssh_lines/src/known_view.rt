@@ -3,7 +3,7 @@
 ghost use Rattle.std.specs.Prelude.{◌≡◌, ◌↔◌, IsTrue};
 ghost use Rattle.ssh_keys.specs.KeyOf.{key_of};
 ghost use Rattle.ssh_keys.specs.PublicKey.{key_blob};
-ghost use Rattle.ssh_names.specs.Names.{names_host};
+ghost use Rattle.ssh_names.specs.Names.{base64, names_host};
 ghost use Rattle.ssh_lines.specs.SameEntries.{are_same_known};
 
 use crate::key_view::KeyPartView;
@@ -85,6 +85,14 @@ impl<'a> KnownEntryView<'a> {
         ensures { result.now ≡ self.now.comment }
     {
         self.part.comment()
+    }
+
+    /// The base64 of the key's blob as it stands on the line, and the comment after it.
+    pub fn base64_and_comment(&self) -> (&'a [u8], &'a [u8])
+        ensures base64 { result.0.now ≡ base64 (key_blob self.now.key) }
+        ensures comment { result.1.now ≡ self.now.comment }
+    {
+        self.part.base64_and_comment()
     }
 
     /// Whether the blob is the key's.

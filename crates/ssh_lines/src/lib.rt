@@ -20,7 +20,7 @@
 
 mod auth_line;
 mod auth_view;
-mod blob;
+mod decoder;
 mod entry;
 mod entry_fields;
 mod error;

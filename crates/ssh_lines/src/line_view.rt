@@ -11,6 +11,7 @@ ghost use Rattle.ssh_lines.specs.KeyLimit.{key_limit};
 ghost use Rattle.ssh_lines.specs.LineView.{SaysView, line_seen};
 
 use crate::auth_view::AuthEntryView;
+use crate::decoder::Decoder;
 use crate::entry_fields::EntryFields;
 use crate::front::{Front, front_of};
 use crate::key_buffer::KeyBuffer;
@@ -26,15 +27,19 @@ pub enum AuthLineView<'a> {
 }
 
 /// The entry of a line that is neither blank nor a comment, without the blanks at its front.
-fn view_entry<'a>(body: &'a [u8], buffer: &'a mut [u8]) -> Result<AuthEntryView<'a>, LineCause>
+fn view_entry<'a>(
+    body: &'a [u8],
+    decoder: &Decoder,
+    buffer: &'a mut [u8],
+) -> Result<AuthEntryView<'a>, LineCause>
     requires { decoded_estimate (length body.now) ≤ length buffer.old }
     ensures { SaysView result (entry_of body.entry.now) }
 {
-    EntryFields::read(body)?.view(buffer)
+    EntryFields::read(body)?.view(decoder, buffer)
 }
 
 #[tactic(auto, unfolding(crate::specs::AuthGrammar::auth_line))]
-fn view_line<'a>(line: &'a [u8], buffer: &'a mut [u8]) -> AuthLineView<'a>
+fn view_line<'a>(line: &'a [u8], decoder: &Decoder, buffer: &'a mut [u8]) -> AuthLineView<'a>
     requires { length buffer.old ≡ key_limit }
     ensures { line_seen result ≡ auth_line line.entry.now }
 {
@@ -42,7 +47,7 @@ fn view_line<'a>(line: &'a [u8], buffer: &'a mut [u8]) -> AuthLineView<'a>
         Front::TooLong => AuthLineView::Unreadable(LineCause::TooLong),
         Front::Blank => AuthLineView::Blank,
         Front::Comment => AuthLineView::Comment,
-        Front::Fields(body) => match view_entry(body, buffer) {
+        Front::Fields(body) => match view_entry(body, decoder, buffer) {
             Ok(entry) => AuthLineView::Entry(entry),
             Err(cause) => AuthLineView::Unreadable(cause),
         },
@@ -69,5 +74,6 @@ pub fn read_auth_view<'a>(line: &'a [u8], buffer: &'a mut KeyBuffer) -> AuthLine
     // Else the line is blank, a comment, or has this first fault.
     ensures exact { line_seen result ≡ auth_line line.entry.now }
 {
-    view_line(line, buffer.as_mut_slice())
+    let KeyBuffer { decoder, room } = buffer;
+    view_line(line, decoder, room.as_mut_slice())
 }

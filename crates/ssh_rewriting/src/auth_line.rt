@@ -28,8 +28,8 @@ fn put_auth_line(entry: &AuthEntryView<'_>, out: &mut Vec<u8>) -> Result<(), All
     ensures err { OnErr result (Keeps out.old.items out.new.items) }
 {
     put_options(entry.options(), out)?;
-    put_key(entry.key().kind(), entry.blob(), entry.comment(), out)?;
-    Ok(())
+    let (base64, comment) = entry.base64_and_comment();
+    put_key(entry.key().kind(), base64, comment, out)
 }
 
 /// Writes the canonical line of an entry at the end, from the line that it stands on. An `Err` is

@@ -56,7 +56,8 @@ fn put_line_with_names(
     ensures err { OnErr result (Keeps out.old.items out.new.items) }
 {
     put_fields(entry.marker(), names, out)?;
-    put_key(entry.key().kind(), entry.blob(), entry.comment(), out)
+    let (base64, comment) = entry.base64_and_comment();
+    put_key(entry.key().kind(), base64, comment, out)
 }
 
 /// Writes an entry's line at the end, with this text as its names. An `Err` is want of memory, and

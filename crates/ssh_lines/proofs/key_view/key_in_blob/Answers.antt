@@ -13,4 +13,5 @@ blob-held blob kind (Ok key) is told found = rw is (found key is)
 blob-held blob kind (Err e) is told found = cc
 
 pub invariant_of-result : goal.invariant_of-result
-invariant_of-result c = blob-held c.args.blob.now c.in-Ok.read (key_in c.args.blob.now) refl c.in-Ok.ensures.exact c.in-Ok.ensures.found
+invariant_of-result c =
+    (blob-held c.args.blob.now c.in-Ok.read (key_in c.args.blob.now) refl c.in-Ok.ensures.exact c.in-Ok.ensures.found, c.requires)

@@ -1,13 +1,13 @@
 use Rattle.std.proofs.Common.{◌≡◌, ℕ, List, ap, ◌∙◌, arith}
 use Rattle.ssh_text.specs.Text.{skip_blanks, first_word, next_field}
-use Rattle.ssh_lines.proofs.LengthLemmas.{length-next, length-word}
+use Rattle.ssh_lines.proofs.LengthLemmas.{length_next, length-word}
 use Rattle.ssh_lines.proofs.known_line_view.view_known_fields.Goals as goal
 
 pub view_fields-requires : goal.view_fields-requires
 view_fields-requires c =
     let body : List ℕ = c.args.body.now in
     let rest : c.skip_blanks-rest.result.now ≡ next_field body = c.skip_blanks-rest.ensures ∙ ap skip_blanks c.split_word.ensures.rest in
-    let short = length-next body in
+    let short = length_next body in
     let room = c.requires in
     rw rest (omega arith)
 
@@ -17,8 +17,8 @@ view_fields-requires-in-CertAuthority c =
     let rest : c.skip_blanks-rest.result.now ≡ next_field body = c.skip_blanks-rest.ensures ∙ ap skip_blanks c.split_word.ensures.rest in
     let key : c.skip_blanks.result.now ≡ next_field (next_field body) =
     c.skip_blanks.ensures ∙ ap skip_blanks c.split_word-in-CertAuthority.ensures.rest ∙ ap next_field rest in
-    let first = length-next body in
-    let second = length-next (next_field body) in
+    let first = length_next body in
+    let second = length_next (next_field body) in
     let room = c.requires in
     rw key (omega arith)
 
@@ -30,9 +30,9 @@ view_revoked-requires c =
     c.skip_blanks-in-Revoked.ensures ∙ ap skip_blanks c.split_word-in-Revoked.ensures.rest ∙ ap next_field rest in
     let field : c.split_fields.result.1.now ≡ first_word (next_field (next_field (next_field body))) =
     c.split_fields.ensures.base64 ∙ ap (λ t. first_word (next_field t)) key in
-    let first = length-next body in
-    let second = length-next (next_field body) in
-    let third = length-next (next_field (next_field body)) in
+    let first = length_next body in
+    let second = length_next (next_field body) in
+    let third = length_next (next_field (next_field body)) in
     let word = length-word (next_field (next_field (next_field body))) in
     let room = c.requires in
     rw field (omega arith)
