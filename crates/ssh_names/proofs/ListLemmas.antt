@@ -1,8 +1,8 @@
 -- Lists of patterns and their empty items.
-use Rattle.std.proofs.Common.{◌≡◌, ◌≢◌, ℕ, Bool, true, false, ◌||◌, List, [], ◌∷◌, map, refl}
+use Rattle.std.proofs.Common.{◌≡◌, ◌≢◌, ℕ, Bool, true, false, ◌||◌, List, [], ◌∷◌, map, Option, refl}
 use Rattle.std.specs.List.{Any, list_any, AllByRecursion}
 use Rattle.std.proofs.lemmas.List.Folds.{Any-from_list_any}
-use Rattle.ssh_patterns.specs.Lists.{Item, item_of, pieces}
+use Rattle.ssh_patterns.specs.Lists.{Item, item_of, pieces, pieces_left}
 use Rattle.ssh_patterns.specs.Matching.{is_empty}
 use Rattle.ssh_names.specs.Names.{has_empty_item}
 
@@ -13,6 +13,10 @@ is_empty_piece piece = is_empty (item_of piece).text
 any-map : (parts : List (List ℕ)) → list_any is_empty_piece parts ≡ list_any (λ item. is_empty item.text) (map item_of parts)
 any-map [] = refl
 any-map (part ∷ parts) = rw (any-map parts) refl
+
+-- whether an item is empty of what is left of a list, if anything is
+abbrev pub empty_left : Option (List ℕ) → Bool
+empty_left left = list_any is_empty_piece (pieces_left left)
 
 -- an item is empty where a piece has an empty item
 pub empty_item-pieces : (list : List ℕ) → list_any is_empty_piece (pieces list) ≡ has_empty_item list

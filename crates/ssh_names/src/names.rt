@@ -20,7 +20,7 @@ ghost use Rattle.ssh_names.specs.Names.{
 use crate::error::NamesError;
 use crate::hashed::{HashedName, read_hashed};
 use crate::hmac::hmac_sha1;
-use ssh_patterns::host_list;
+use ssh_patterns::{first_piece, host_list};
 use std::marker::Model;
 
 /// The names of a line: a list of patterns, or one hashed name. Contracts see the list, or salt and
@@ -118,7 +118,15 @@ fn is_empty_piece(piece: &[u8]) -> bool
 fn has_empty_item(list: &[u8]) -> bool
     ensures { result ≡ has_empty_item list.now }
 {
-    list.split(|byte| *byte == b',').any(is_empty_piece)
+    let mut rest = Some(list);
+    while let Some(pieces) = rest {
+        let (piece, left) = first_piece(pieces);
+        if is_empty_piece(piece) {
+            return true;
+        }
+        rest = left;
+    }
+    false
 }
 
 /// The names of a field, or its fault.
