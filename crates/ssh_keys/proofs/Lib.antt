@@ -1,4 +1,5 @@
 pub mod KeyLaws
+pub mod Ed25519
 pub mod SignatureLaws
 pub mod Blobs
 pub mod Ranges
