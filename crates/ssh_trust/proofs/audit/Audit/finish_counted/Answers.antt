@@ -11,6 +11,11 @@ returns-in_err-search-clause-answer g c claim bytes h =
     let memory = err-inj _ _ (c.in_err-search.ensures.else_memory stands.sound) in
     rw (p.1, p.2 ∙ memory) tt
 
+pub returns-in_err-counted-clause-answer : goal.returns-in_err-counted-clause-answer
+returns-in_err-counted-clause-answer g c claim bytes h =
+    let p = err_from_is_err_and c.from_residual-in_err-counted.result c.from_residual-in_err-counted.ensures.1 in
+    rw (p.1, p.2) tt
+
 pub returns-clause-means : goal.returns-clause-means
 returns-clause-means g c claim bytes h =
     let stands = subst (λ s. HasAudited g.T.Sought.claimed g.T.Sought.nothing g.T.Sought.add g.T.Sought.most g.T.Sought.least claim s bytes) (sym c.self.view_is) h in

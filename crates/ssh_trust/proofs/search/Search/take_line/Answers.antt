@@ -10,8 +10,8 @@ returns-clause-found g c text is claim lines h =
 
 pub returns-in_err-turns-clause-bounded : goal.returns-in_err-turns-clause-bounded
 returns-in_err-turns-clause-bounded g c h =
-    let size = c.take_line.new.buffer.size in record { reasons = c.in_err-turns.ensures.few h.reasons; buffer = omega (arith, size) }
+    let size = c.take_line.new.buffer.room.size in record { reasons = c.in_err-turns.ensures.few h.reasons; buffer = omega (arith, size) }
 
 pub returns-clause-bounded : goal.returns-clause-bounded
 returns-clause-bounded g c h =
-    let size = c.take_line.new.buffer.size in record { reasons = c.in_ok-turns.ensures.few h.reasons; buffer = omega (arith, size) }
+    let size = c.take_line.new.buffer.room.size in record { reasons = c.in_ok-turns.ensures.few h.reasons; buffer = omega (arith, size) }
