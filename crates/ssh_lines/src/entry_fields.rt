@@ -11,9 +11,10 @@ ghost use Rattle.ssh_lines.specs.declared.entry.AuthLine.TheVariants.{Unreadable
 use crate::auth_view::AuthEntryView;
 use crate::decoder::Decoder;
 use crate::key_view::{key_of_kind, kind_of_class};
-use ssh_keys::{KeyKind, NameClass, name_class};
+use crate::type_field::split_type;
+use ssh_keys::{KeyKind, NameClass};
 use ssh_options::{LineCause, OptionsView};
-use ssh_text::{skip_blanks, split_word};
+use ssh_text::skip_blanks;
 
 /// The options, the kind of key that the type names, and the text from the base64 on.
 #[derive(Drop)]
@@ -59,8 +60,8 @@ fn fields_with<'a>(options: OptionsView<'a>, text: &'a [u8]) -> Result<EntryFiel
     ensures err { IfErr result (λ cause. entry_of_key options.entry (key_part_of text.entry.now)
         ≡ Unreadable cause) }
 {
-    let (type_name, after) = split_word(text);
-    fields_of_class(options, name_class(type_name), type_name, after)
+    let (class, type_name, after) = split_type(text);
+    fields_of_class(options, class, type_name, after)
 }
 
 /// The fields of a text that begins with options.
@@ -80,10 +81,10 @@ impl<'a> EntryFields<'a> {
         ensures room { IfOk result (λ f. length f.text.now ≤ length body.entry.now) }
         ensures err { IfErr result (λ cause. entry_of body.entry.now ≡ Unreadable cause) }
     {
-        let (type_name, after) = split_word(body);
-        match name_class(type_name) {
+        let (class, type_name, after) = split_type(body);
+        match class {
             NameClass::Other => fields_after_options(body),
-            class => fields_of_class(OptionsView::none(), class, type_name, after),
+            _ => fields_of_class(OptionsView::none(), class, type_name, after),
         }
     }
 

@@ -8,6 +8,7 @@ ghost use Rattle.ssh_wire.specs.Reading.{Gives};
 ghost use Rattle.ssh_keys.specs.KeyOf.{key_of};
 ghost use Rattle.ssh_keys.specs.declared.kind.NameClass.TheVariants.{Plain};
 ghost use Rattle.ssh_keys.specs.KeyReading.{key_in};
+ghost use Rattle.ssh_keys.specs.Names.{class_of};
 ghost use Rattle.ssh_keys.specs.PublicKey.{key_blob};
 ghost use Rattle.ssh_names.specs.Names.{base64};
 ghost use Rattle.ssh_options.specs.declared.cause.LineCause.TheVariants.{NoKey};
@@ -15,7 +16,8 @@ ghost use Rattle.ssh_text.specs.Text.{after_word, comment_of, first_word, next_f
 ghost use Rattle.ssh_lines.specs.KeyPart.{key_of_blob, key_of_kind, key_by_class, lacks_key};
 
 use crate::decoder::Decoder;
-use ssh_keys::{KeyKind, KeyView, NameClass, name_class, read_key, read_kind};
+use crate::type_field::split_type;
+use ssh_keys::{KeyKind, KeyView, NameClass, read_key, read_kind};
 use ssh_options::LineCause;
 use ssh_text::{comment_in, skip_blanks, split_word};
 use std::marker::Model;
@@ -147,19 +149,20 @@ pub(crate) fn key_in_text<'a>(
     key_of_kind(kind, text, decoder, buffer)
 }
 
-/// The type at the front of a text, and the text from the base64 on, where both are there.
+/// What the type name at the front of a text stands for, and the text from the base64 on, where both
+/// are there.
 #[tactic(auto, using(crate::proofs::FieldLemmas::no_field))]
-pub(crate) fn key_fields(text: &[u8]) -> Result<(&[u8], &[u8]), LineCause>
-    ensures type_name { IfOk result (λ f. f.0.now ≡ first_word text.now) }
+pub(crate) fn key_fields(text: &[u8]) -> Result<(NameClass, &[u8]), LineCause>
+    ensures class { IfOk result (λ f. f.0 ≡ class_of (first_word text.now)) }
     ensures text { IfOk result (λ f. f.1.now ≡ next_field text.now) }
     ensures there { IfOk result (λ f. lacks_key text.now ≡ false) }
     ensures missing { IfErr result (λ cause. lacks_key text.now ≡ true) }
     ensures cause { IfErr result (λ cause. cause ≡ NoKey) }
 {
-    let (word, after) = split_word(text);
+    let (class, word, after) = split_type(text);
     let rest = skip_blanks(after);
     if word.is_empty() || rest.is_empty() {
         return Err(LineCause::NoKey);
     }
-    Ok((word, rest))
+    Ok((class, rest))
 }

@@ -20,7 +20,6 @@ use crate::key_line::split_fields;
 use crate::key_view::{key_fields, key_in_text};
 use crate::known_view::KnownEntryView;
 use crate::marker::{FirstField, Marker, first_field_of};
-use ssh_keys::name_class;
 use ssh_names::{NamesError, read_names};
 use ssh_options::LineCause;
 use ssh_text::{skip_blanks, split_word};
@@ -50,13 +49,13 @@ fn view_fields<'a>(
     requires { decoded_estimate (length key.now) ≤ length buffer.old }
     ensures { Gives (λ e. e) result (known_entry_of_fields marker field.entry.now key.entry.now) }
 {
-    let (word, text) = key_fields(key)?;
+    let (class, text) = key_fields(key)?;
     let names = match read_names(field) {
         Ok(names) => names,
         Err(NamesError::HashedName) => return Err(LineCause::HashedName),
         Err(NamesError::EmptyItem) => return Err(LineCause::Names),
     };
-    let part = key_in_text(name_class(word), text, decoder, buffer)?;
+    let part = key_in_text(class, text, decoder, buffer)?;
     Ok(KnownEntryView::new(marker, names, part))
 }
 

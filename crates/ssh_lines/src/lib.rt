@@ -36,6 +36,7 @@ mod laws;
 mod line_view;
 mod marker;
 mod samples;
+mod type_field;
 
 pub use auth_line::read_auth_line;
 pub use auth_view::AuthEntryView;

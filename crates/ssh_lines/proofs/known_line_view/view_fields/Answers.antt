@@ -6,4 +6,4 @@ pub key_in_text-requires : goal.key_in_text-requires
 key_in_text-requires c =
     let short = length_next c.args.key.now in
     let room = c.requires in
-    rw c.in_ok-word.ensures.text (omega arith)
+    rw c.in_ok-class.ensures.text (omega arith)

@@ -1,4 +1,6 @@
-use Rattle.std.proofs.Common.{◌≡◌, ◌≤◌, ℕ, List, length, IfOk, IfErr, subst, sym}
+use Rattle.std.proofs.Common.{◌≡◌, ◌≤◌, ℕ, List, length, IfOk, IfErr, ap, subst, sym, ◌∙◌}
+use Rattle.ssh_keys.specs.declared.kind.NameClass.{NameClass}
+use Rattle.ssh_keys.specs.Names.{class_of}
 use Rattle.ssh_lines.specs.declared.entry.AuthLine.TheVariants.{Unreadable}
 use Rattle.ssh_lines.specs.AuthGrammar.{entry_of, entry_of_key}
 use Rattle.ssh_lines.specs.EntryFields.{entry_of_fields}
@@ -11,12 +13,13 @@ use Rattle.ssh_lines.proofs.entry_fields.EntryFields.read.Goals as goal
 pub returns-in_default : goal.returns-in_default
 returns-in_default c =
     let body : List ℕ = c.args.body.now in
-    let after : List ℕ = c.split_word.result.1.now in
-    let same : entry_of_key c.none.result (key_of_class c.name_class.result c.split_word.result.0.now after) ≡ entry_of body =
-    entry-of_class c.none.result body c.split_word.result.0.now after c.name_class.result c.none.ensures
-    c.split_word.ensures.word c.split_word.ensures.rest c.name_class.ensures c.in_default.not-Other in
-    let short : length after ≤ length body =
-    subst (λ t. length t ≤ length body) (sym c.split_word.ensures.rest) (length_after body) in
+    let class : NameClass = c.split_type-class.result.0 in
+    let word : List ℕ = c.split_type-class.result.1.now in
+    let after : List ℕ = c.split_type-class.result.2.now in
+    let split = c.split_type-class.ensures in
+    let same : entry_of_key c.none.result (key_of_class class word after) ≡ entry_of body =
+    entry-of_class c.none.result body word after class c.none.ensures split.word split.rest (split.class ∙ ap class_of (sym split.word)) c.in_default.not-Other in
+    let short : length after ≤ length body = subst (λ t. length t ≤ length body) (sym split.rest) (length_after body) in
     record {
       ok = subst (λ line. IfOk c.fields_of_class.result (λ f. entry_of_fields f ≡ line)) same c.fields_of_class.ensures.ok;
       room = room-within c.fields_of_class.result (length after) (length body) short c.fields_of_class.ensures.room;
