@@ -513,13 +513,12 @@ def longest_row(program, tally):
 
 def named_rows(program, tally):
     """A hundred reasons that each tell a critical option's name, up to the longest that a certificate holds, of letters and of
-    bytes that are escaped: no more than 4 MiB, and 6 MiB of a certificate at its limit, which is held as base64, as bytes and
-    as the digits of what is signed."""
+    bytes that are escaped: no more than 4 MiB."""
     meter = program.room / "meter"
     subprocess.run(["gcc", "-O2", "-static", "-o", meter, HERE.parent / "bench" / "meter.c"], check=True)
     (program.room / "authorities").write_text(100 * f"cert-authority {hurt.AUTHORITY_LINE}")
     longest = 262_144 - len(hurt.Made(critical=[(b"", b"")]).offered)
-    for letter, told, length, most in ((b"x", b"x", 64_000, 4096), (b"x", b"x", longest, 6144), (b"\n", rb"\x0a", longest, 6144)):
+    for letter, told, length in ((b"x", b"x", 64_000), (b"x", b"x", longest), (b"\n", rb"\x0a", longest)):
         made = hurt.Made(critical=[(length * letter, b"")])
         (program.room / "long.pub").write_text(inputs.b64(made.offered))
         asked = made.words(hurt.Asked("authorities"), "empty")
@@ -530,7 +529,7 @@ def named_rows(program, tally):
         evidence = b"".join(b"evidence %d %s\n" % numbered for numbered in enumerate(triples))
         answer, _, peak = cost_of(program, meter, asked)
         tally.check(f"a hundred names of {length} bytes {letter}", answer == (1, b"denied N3\n" + reasons + evidence), True)
-        tally.check(f"the same in {peak} KiB", peak <= most, True)
+        tally.check(f"the same in {peak} KiB", peak <= 4096, True)
 
 
 def bench_rows(program, tally):

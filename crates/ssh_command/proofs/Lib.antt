@@ -1,6 +1,7 @@
 mod PartLemmas
 mod DigestLemmas
 mod WrittenText
+mod EvidenceText
 mod SshsigLemmas
 mod EvidenceLemmas
 mod GrantingLemmas

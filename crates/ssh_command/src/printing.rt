@@ -1,15 +1,19 @@
-//! Texts, written to a writer.
+//! Responses, written to a writer. No memory is taken for it.
 
-ghost use Rattle.std.specs.Prelude.{◌≡◌, OnErr, OnOk};
+ghost use Rattle.std.specs.Prelude.{◌≡◌, ◌++◌, OnErr, OnOk, codes};
+ghost use Rattle.std.specs.Fmt.{decimal};
 ghost use Rattle.std.specs.List.{flat_map};
 ghost use Rattle.ssh_command.specs.Account.{NoneFailed};
 ghost use Rattle.ssh_command.specs.Printing.{Breaks, TakesAll, WritesResponse};
+ghost use Rattle.ssh_print.specs.DecisionText.{evidence_line, evidence_lines};
 ghost use Rattle.ssh_print.specs.ResponseView.{response};
 ghost use Rattle.ssh_print.specs.TextParts.{part_bytes, text_bytes};
-ghost use Rattle.ssh_print.specs.Texts.{escaped_text};
+ghost use Rattle.ssh_print.specs.Texts.{escaped_text, hex_digits, hex_text};
 
 use crate::sink::Sink;
-use ssh_print::{EscapedPiece, FAULT, PIECE_LIMIT, Part, Response, Text};
+use itoa::Buffer;
+use ssh_offers::Signed;
+use ssh_print::{EscapedPiece, FAULT, HexPiece, PIECE_LIMIT, Part, Response, Text};
 use std::io::{Error, ErrorKind, Result};
 
 /// Writes the bytes. After an `Err`, by which a write failed, a front of them was taken that is not
@@ -85,14 +89,117 @@ fn put_text<W: Sink>(writer: &mut W, text: &Text) -> Result<()>
     Ok(())
 }
 
-/// Writes the text of a response, and returns its status; or 2, where a write failed before all was
-/// taken. Nothing is written after that.
+/// Writes the digits of bytes: those of a piece at a time, for which no memory is taken.
+fn put_digits<W: Sink>(writer: &mut W, value: &[u8]) -> Result<()>
+    requires { NoneFailed (W.account writer.old) }
+    ensures ok { OnOk result (TakesAll (W.account writer.old) (W.account writer.new)
+        (hex_digits value.now)) }
+    ensures err { OnErr result (Breaks (W.account writer.old) (W.account writer.new)
+        (hex_digits value.now)) }
+{
+    let mut rest = value;
+    while !rest.is_empty() {
+        let (front, behind) = rest.split_at(rest.len().min(PIECE_LIMIT));
+        let piece = HexPiece::new(front);
+        put_bytes(writer, piece.as_slice())?;
+        rest = behind;
+    }
+    Ok(())
+}
+
+/// Writes bytes in hexadecimal, a dash for none.
+fn put_hex<W: Sink>(writer: &mut W, value: &[u8]) -> Result<()>
+    requires { NoneFailed (W.account writer.old) }
+    ensures ok { OnOk result (TakesAll (W.account writer.old) (W.account writer.new)
+        (hex_text value.now)) }
+    ensures err { OnErr result (Breaks (W.account writer.old) (W.account writer.new)
+        (hex_text value.now)) }
+{
+    if value.is_empty() {
+        put_bytes(writer, b"-")
+    } else {
+        put_digits(writer, value)
+    }
+}
+
+/// Writes a space and these bytes in hexadecimal.
+fn put_field<W: Sink>(writer: &mut W, value: &[u8]) -> Result<()>
+    requires { NoneFailed (W.account writer.old) }
+    ensures ok { OnOk result (TakesAll (W.account writer.old) (W.account writer.new)
+        (codes " " ++ hex_text value.now)) }
+    ensures err { OnErr result (Breaks (W.account writer.old) (W.account writer.new)
+        (codes " " ++ hex_text value.now)) }
+{
+    put_bytes(writer, b" ")?;
+    put_hex(writer, value)?;
+    Ok(())
+}
+
+/// Writes a word and a number after it, for which no memory is taken.
+fn put_numbered<W: Sink>(writer: &mut W, word: &[u8], number: usize) -> Result<()>
+    requires { NoneFailed (W.account writer.old) }
+    ensures ok { OnOk result (TakesAll (W.account writer.old) (W.account writer.new)
+        (word.now ++ decimal number)) }
+    ensures err { OnErr result (Breaks (W.account writer.old) (W.account writer.new)
+        (word.now ++ decimal number)) }
+{
+    let mut digits = Buffer::new();
+    put_bytes(writer, word)?;
+    put_bytes(writer, digits.format(number).as_bytes())?;
+    Ok(())
+}
+
+/// Writes the line of the evidence of this index.
+fn put_evidence_line<W: Sink>(writer: &mut W, index: usize, signed: &Signed) -> Result<()>
+    requires { NoneFailed (W.account writer.old) }
+    ensures ok { OnOk result (TakesAll (W.account writer.old) (W.account writer.new)
+        (evidence_line index signed.now)) }
+    ensures err { OnErr result (Breaks (W.account writer.old) (W.account writer.new)
+        (evidence_line index signed.now)) }
+{
+    put_numbered(writer, b"evidence ", index)?;
+    put_field(writer, signed.key.as_slice())?;
+    put_field(writer, signed.message.as_slice())?;
+    put_field(writer, signed.signature.as_slice())?;
+    put_bytes(writer, b"\n")?;
+    Ok(())
+}
+
+/// Writes the lines of the evidence, numbered from 0.
+fn put_evidence<W: Sink>(writer: &mut W, evidence: &[Signed]) -> Result<()>
+    requires { NoneFailed (W.account writer.old) }
+    ensures ok { OnOk result (TakesAll (W.account writer.old) (W.account writer.new)
+        (evidence_lines evidence.now)) }
+    ensures err { OnErr result (Breaks (W.account writer.old) (W.account writer.new)
+        (evidence_lines evidence.now)) }
+{
+    for (index, signed) in evidence.iter().enumerate() {
+        put_evidence_line(writer, index, signed)?;
+    }
+    Ok(())
+}
+
+/// Writes what is printed of a response: its text, and after it the lines of its evidence.
+fn put_answer<W: Sink>(writer: &mut W, answer: &Response) -> Result<()>
+    requires { NoneFailed (W.account writer.old) }
+    ensures ok { OnOk result (TakesAll (W.account writer.old) (W.account writer.new)
+        (response answer.now).text) }
+    ensures err { OnErr result (Breaks (W.account writer.old) (W.account writer.new)
+        (response answer.now).text) }
+{
+    put_text(writer, &answer.text)?;
+    put_evidence(writer, answer.evidence.as_slice())?;
+    Ok(())
+}
+
+/// Writes what is printed of a response, and returns its status; or 2, where a write failed before all
+/// was taken. Nothing is written after that.
 pub(crate) fn put_response<W: Sink>(writer: &mut W, answer: &Response) -> u8
     requires { NoneFailed (W.account writer.old) }
     ensures { WritesResponse (W.account writer.old) (W.account writer.new) (response answer.now)
         result }
 {
-    match put_text(writer, &answer.text) {
+    match put_answer(writer, answer) {
         Ok(()) => answer.status,
         Err(_) => FAULT,
     }

@@ -37,7 +37,7 @@ fn respond_digest(
         (digest_bytes digest.now) question.entry.now.namespace.now vouched.now))) }
 {
     let answer = answer_digest(alloc, claim, digest, question.namespace.as_bytes(), vouched)?;
-    sshsig_response(alloc, &Ok(answer))
+    sshsig_response(alloc, Ok(answer))
 }
 
 /// The response after the claim of the body was read: the message is hashed.
@@ -71,7 +71,7 @@ fn respond_refused<F: Files>(
         (F.source_state files.new) (response r))) }
 {
     match read_past(files, question.message) {
-        Ok(()) => sshsig_response(alloc, &Err(refusal)),
+        Ok(()) => sshsig_response(alloc, Err(refusal)),
         Err(fault) => unread(alloc, question.message, fault),
     }
 }

@@ -1,8 +1,10 @@
 -- The kit's hex writes the digits that are defined here.
-use Rattle.std.proofs.Common.{◌≡◌, ◌<◌, ◌/◌, ◌%◌, ℕ, zero, suc, List, [], ◌∷◌, slice_index, refl, ap, arith}
-use Rattle.std.specs.List.{flat_map}
+use Rattle.std.proofs.Common.{◌≡◌, ◌∙◌, ◌*◌, ◌<◌, ◌/◌, ◌%◌, ℕ, zero, suc, List, [], ◌∷◌, ◌++◌, length, slice_index, take, refl, ap, arith}
+use Rattle.std.specs.Prelude.{IsOk, OnOk, Result, Ok, Err}
+use Rattle.std.proofs.Math.Seq.{take-append_seam}
 use Rattle.hex.specs.Hex.{IsBytes, encode_lower, encode_with, lower_digits}
-use Rattle.ssh_print.specs.Texts.{hex_digit, hex_pair, hex_text}
+use Rattle.hex.specs.declared.error.FromHexError.{FromHexError}
+use Rattle.ssh_print.specs.Texts.{hex_digit, hex_digits, hex_text}
 
 -- the sixteen digits
 digit-same : (d : ℕ) → d < 16 → slice_index lower_digits d ≡ hex_digit d
@@ -24,7 +26,7 @@ digit-same (suc (suc (suc (suc (suc (suc (suc (suc (suc (suc (suc (suc (suc (suc
 digit-same (suc (suc (suc (suc (suc (suc (suc (suc (suc (suc (suc (suc (suc (suc (suc zero))))))))))))))) h = refl
 digit-same (suc (suc (suc (suc (suc (suc (suc (suc (suc (suc (suc (suc (suc (suc (suc (suc d)))))))))))))))) h = absurd (omega arith)
 
-pairs-same : (bytes : List ℕ) → IsBytes bytes → encode_lower bytes ≡ flat_map hex_pair bytes
+pairs-same : (bytes : List ℕ) → IsBytes bytes → encode_lower bytes ≡ hex_digits bytes
 unfolding encode_with
 pairs-same [] h = refl
 pairs-same (b ∷ bytes) h =
@@ -37,3 +39,16 @@ pairs-same (b ∷ bytes) h =
 pub text-same : (bytes : List ℕ) → IsBytes bytes → (bytes ≡ [] → ⊥) → encode_lower bytes ≡ hex_text bytes
 text-same [] h some = absurd (some refl)
 text-same (b ∷ bytes) h some = pairs-same (b ∷ bytes) h
+
+-- two digits a byte
+pairs-long : (bytes : List ℕ) → length (hex_digits bytes) ≡ 2 * length bytes
+pairs-long [] = refl
+pairs-long (b ∷ bytes) = let more : length (hex_digits bytes) ≡ 2 * length bytes = pairs-long bytes in omega (arith, more)
+
+-- what was written into as much room as it needs, at the front of more
+pub written-same : (r : Result (Unit {0}) FromHexError) (bytes written behind : List ℕ) → IsBytes bytes → IsOk r → OnOk r (written ≡ encode_lower bytes)
+    → take (2 * length bytes) (written ++ behind) ≡ hex_digits bytes
+written-same (Err e) bytes written behind is ok h = cc
+written-same (Ok x) bytes written behind is ok h =
+    let digits : written ≡ hex_digits bytes = h ∙ pairs-same bytes is in
+    rw (digits, ← pairs-long bytes) (take-append_seam (hex_digits bytes) behind)

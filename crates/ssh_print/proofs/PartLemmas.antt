@@ -1,10 +1,6 @@
 -- What stands at the end of a text in parts, after more was added.
 use Rattle.std.proofs.Common.{◌≡◌, ◌∙◌, ◌++◌, ℕ, List, ap, sym, append_assoc}
 
--- plain bytes, and plain bytes after them
-pub both_plain : (p r0 r1 r2 a b : List ℕ) → r1 ≡ r0 ++ a → r2 ≡ r1 ++ b → p ++ r2 ≡ (p ++ r0) ++ (a ++ b)
-both_plain p r0 r1 r2 a b e f = rw (f, e) (simp append_assoc)
-
 -- plain bytes, what may have parts, and plain bytes after that
 pub plain_around : (p r0 r1 q r2 r3 a b d : List ℕ) → r1 ≡ r0 ++ a → q ++ r2 ≡ (p ++ r1) ++ b → r3 ≡ r2 ++ d
     → q ++ r3 ≡ (p ++ r0) ++ ((a ++ b) ++ d)

@@ -14,10 +14,14 @@ hex_digit d = if nat_lt d 10 then 48 + d else 87 + d
 abbrev pub hex_pair : ℕ → List ℕ
 hex_pair b = hex_digit (b / 16) ∷ hex_digit (b % 16) ∷ []
 
--- lower case hexadecimal, a dash for no bytes
+-- lower case hexadecimal
+abbrev pub hex_digits : List ℕ → List ℕ
+hex_digits bytes = flat_map hex_pair bytes
+
+-- the same, a dash for no bytes
 abbrev pub hex_text : List ℕ → List ℕ
 hex_text [] = 45 ∷ []
-hex_text (b ∷ bytes) = flat_map hex_pair (b ∷ bytes)
+hex_text (b ∷ bytes) = hex_digits (b ∷ bytes)
 
 -- printable ASCII but for the backslash (92)
 abbrev pub is_plain_byte : ℕ → Bool

@@ -1,8 +1,14 @@
 //! The responses to what was asked.
 
-ghost use Rattle.std.specs.Prelude.{◌≡◌, IfOk};
+ghost use Rattle.std.specs.Prelude.{◌≡◌, ◌++◌, IfOk};
+ghost use Rattle.std.specs.List.{flat_map};
+ghost use Rattle.ssh_print.specs.DecisionText.{
+  cause_line,
+  evidence_lines,
+  granted_lines,
+  reason_line,
+};
 ghost use Rattle.ssh_print.specs.Responses.{
-  decision_status,
   decision_response,
   fault_response,
   no_file_response,
@@ -14,12 +20,14 @@ ghost use Rattle.ssh_print.specs.Responses.{
 ghost use Rattle.ssh_print.specs.ResponseView.{response};
 
 use crate::codes::fault_codes;
-use crate::decision_text::push_decision;
+use crate::decision_text::{push_cause_line, push_granted, push_reasons};
 use crate::parts::Text;
-use crate::response::{FAULT, Response};
+use crate::response::{DENIED, DONE, FAULT, Response};
 use crate::text::{push_escaped, push_number};
-use ssh_offers::AuditError;
-use ssh_trust::Decision;
+use ssh_offers::{AuditError, Items, Signed};
+use ssh_rights::Rights;
+use ssh_rules::Reason;
+use ssh_trust::{Cause, Decision};
 use std::alloc::{AllocError, Global};
 
 /// The response to a fault of these codes, each after a space.
@@ -78,31 +86,73 @@ pub fn audit_fault(alloc: Global, error: AuditError) -> Result<Response, AllocEr
     fault_response(alloc, &codes)
 }
 
-fn status_of(decision: &Decision) -> u8
-    ensures { result ≡ decision_status decision.now }
+/// The response of a grant by the line of this number.
+fn granted_response(
+    alloc: Global,
+    line: u64,
+    rights: &Option<Rights>,
+    evidence: Items<Signed>,
+) -> Result<Response, AllocError>
+    ensures { IfOk result (λ r. response r ≡ record {
+      status = DONE;
+      text = granted_lines line rights.now ++ evidence_lines evidence;
+    }) }
 {
-    match decision {
-        Decision::Granted { .. } => 0,
-        Decision::Denied { .. } => 1,
-    }
+    let mut text = Vec::new(alloc);
+    push_granted(alloc, &mut text, line, rights)?;
+    Ok(Response {
+        status: DONE,
+        text: Text::from(text),
+        evidence,
+    })
 }
 
-/// The response of a decision, or of the fault that stands in its place.
+/// The response of a denial. A name that a reason tells is shared with it, and not copied.
+fn denied_response(
+    alloc: Global,
+    why: Cause,
+    reasons: &[(u64, Reason)],
+    evidence: Items<Signed>,
+) -> Result<Response, AllocError>
+    ensures { IfOk result (λ r. response r ≡ record {
+      status = DENIED;
+      text = cause_line why ++ flat_map reason_line reasons.now ++ evidence_lines evidence;
+    }) }
+{
+    let mut text = Text::from(Vec::new(alloc));
+    push_cause_line(alloc, &mut text.rest, why)?;
+    push_reasons(alloc, &mut text, reasons)?;
+    Ok(Response {
+        status: DENIED,
+        text,
+        evidence,
+    })
+}
+
+/// The response of a decision, or of the fault that stands in its place. The evidence of the decision
+/// is moved into it, and not copied.
 pub fn decision_response(
     alloc: Global,
-    answer: &Result<Decision, AuditError>,
+    answer: Result<Decision, AuditError>,
 ) -> Result<Response, AllocError>
-    ensures { IfOk result (λ r. response r ≡ decision_response answer.now) }
+    ensures { IfOk result (λ r. response r ≡ decision_response answer) }
 {
     match answer {
-        Ok(decision) => {
-            let mut text = Text::from(Vec::new(alloc));
-            push_decision(alloc, &mut text, decision)?;
-            Ok(Response {
-                status: status_of(decision),
-                text,
-            })
-        }
-        Err(error) => audit_fault(alloc, *error),
+        Ok(
+            Decision::Granted {
+                line,
+                rights,
+                evidence,
+                ..
+            },
+        ) => granted_response(alloc, line, &rights, evidence),
+        Ok(
+            Decision::Denied {
+                why,
+                reasons,
+                evidence,
+            },
+        ) => denied_response(alloc, why, reasons.as_slice(), evidence),
+        Err(error) => audit_fault(alloc, error),
     }
 }

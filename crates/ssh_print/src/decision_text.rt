@@ -1,4 +1,4 @@
-//! The lines of a decision.
+//! The lines of a decision but those of its evidence, which are made where they are written.
 
 ghost use Rattle.std.specs.Prelude.{◌≡◌, ◌++◌, IfOk, IsOk, None, OnOk};
 ghost use Rattle.std.specs.List.{flat_map};
@@ -8,9 +8,6 @@ ghost use Rattle.ssh_print.specs.DecisionText.{
   carried_word,
   cause_line,
   command_line,
-  decision_text,
-  evidence_line,
-  evidence_lines,
   granted_lines,
   has_no_right,
   reason_line,
@@ -24,48 +21,12 @@ ghost use Rattle.ssh_print.specs.TextParts.{text_bytes};
 use crate::codes::{push_cause_codes, push_reason_code, push_reason_codes};
 use crate::line::push_text_line;
 use crate::parts::Text;
-use crate::text::{push_escaped, push_hex, push_number};
-use ssh_offers::Signed;
+use crate::text::{push_escaped, push_number};
 use ssh_rights::{Carried, CarriedName, Rights};
 use ssh_rules::Reason;
 use ssh_text::Bytes;
-use ssh_trust::{Cause, Decision};
+use ssh_trust::Cause;
 use std::alloc::{AllocError, Global};
-
-fn push_evidence_line(
-    alloc: Global,
-    out: &mut Vec<u8>,
-    index: usize,
-    signed: &Signed,
-) -> Result<(), AllocError>
-    ensures { OnOk result (out.new.items ≡ out.old.items ++ evidence_line index signed.now) }
-{
-    out.extend_from_slice(b"evidence ")?;
-    push_number(alloc, out, index as u64)?;
-    out.push(b' ')?;
-    push_hex(out, signed.key.as_slice())?;
-    out.push(b' ')?;
-    push_hex(out, signed.message.as_slice())?;
-    out.push(b' ')?;
-    push_hex(out, signed.signature.as_slice())?;
-    out.push(b'\n')?;
-    Ok(())
-}
-
-/// The lines of the evidence, numbered from 0.
-#[tactic(auto, unfolding(crate::specs::DecisionText::evidence_lines))]
-pub(crate) fn push_evidence(
-    alloc: Global,
-    out: &mut Vec<u8>,
-    evidence: &[Signed],
-) -> Result<(), AllocError>
-    ensures { OnOk result (out.new.items ≡ out.old.items ++ evidence_lines evidence.now) }
-{
-    for (index, signed) in evidence.iter().enumerate() {
-        push_evidence_line(alloc, out, index, signed)?;
-    }
-    Ok(())
-}
 
 fn right_word(is_on: bool, word: &'static [u8]) -> &'static [u8]
     ensures { result.now ≡ right_word is_on word.entry.now }
@@ -226,7 +187,12 @@ fn push_reason_line(
     Ok(())
 }
 
-fn push_reasons(alloc: Global, text: &mut Text, reasons: &[(u64, Reason)]) -> Result<(), AllocError>
+/// The lines of the reasons. A name that a reason tells is shared with it, and not copied.
+pub(crate) fn push_reasons(
+    alloc: Global,
+    text: &mut Text,
+    reasons: &[(u64, Reason)],
+) -> Result<(), AllocError>
     ensures { OnOk result (text_bytes text.new
         ≡ text_bytes text.old ++ flat_map reason_line reasons.now) }
 {
@@ -236,7 +202,8 @@ fn push_reasons(alloc: Global, text: &mut Text, reasons: &[(u64, Reason)]) -> Re
     Ok(())
 }
 
-fn push_granted(
+/// The line of a grant, and those of what it grants.
+pub(crate) fn push_granted(
     alloc: Global,
     out: &mut Vec<u8>,
     line: u64,
@@ -248,32 +215,5 @@ fn push_granted(
     push_number(alloc, out, line)?;
     out.push(b'\n')?;
     push_rights(out, b"", rights)?;
-    Ok(())
-}
-
-/// The lines of a decision. A name that a reason tells is shared with it, and not copied.
-pub fn push_decision(alloc: Global, text: &mut Text, decision: &Decision) -> Result<(), AllocError>
-    ensures { OnOk result (text_bytes text.new ≡ text_bytes text.old ++ decision_text decision.now) }
-{
-    match decision {
-        Decision::Granted {
-            line,
-            rights,
-            evidence,
-            ..
-        } => {
-            push_granted(alloc, &mut text.rest, *line, rights)?;
-            push_evidence(alloc, &mut text.rest, evidence.as_slice())?;
-        }
-        Decision::Denied {
-            why,
-            reasons,
-            evidence,
-        } => {
-            push_cause_line(alloc, &mut text.rest, *why)?;
-            push_reasons(alloc, text, reasons.as_slice())?;
-            push_evidence(alloc, &mut text.rest, evidence.as_slice())?;
-        }
-    }
     Ok(())
 }

@@ -6,6 +6,7 @@ mod answer;
 mod codes;
 mod decision_text;
 mod escaped_piece;
+mod hex_piece;
 mod json_text;
 mod laws;
 mod line;
@@ -26,6 +27,7 @@ pub use codes::{
 };
 pub use decision_text::rights_lines;
 pub use escaped_piece::{EscapedPiece, PIECE_LIMIT};
+pub use hex_piece::HexPiece;
 pub use json_text::push_json_text;
 pub use line::{push_number_line, push_text_line, push_word_line};
 pub use parts::{Part, Text};

@@ -95,7 +95,7 @@ fn respond_vouched<Q: Question, F: Files>(
     if is_memory(&answer) {
         return Err(AllocError);
     }
-    decision_response(alloc, &answer)
+    decision_response(alloc, answer)
 }
 
 /// The response to a file that gives no bytes, and is no trust file.
