@@ -2,6 +2,7 @@ mod PartLemmas
 mod DigestLemmas
 mod WrittenText
 mod EvidenceText
+mod VouchingLemmas
 mod SshsigLemmas
 mod EvidenceLemmas
 mod GrantingLemmas

@@ -1,10 +1,14 @@
 -- From what the files give to what is answered to a file signature.
-use Rattle.std.proofs.Common.{◌≡◌, ◌∙◌, ◌+◌, ℕ, take, List, [], Option, Some, None, Result, Ok, Err, refl, sym, ap, subst, inl, inr, arith}
+use Rattle.std.proofs.Common.{◌≡◌, ◌∙◌, ◌+◌, ℕ, false, true, take, List, [], Option, Some, None, Result, Ok, Err, refl, sym, ap, subst, inl, inr, arith}
 use Rattle.std.specs.Prelude.{IfOk, ⊤}
-use Rattle.ssh_inputs.specs.SourceState.{IfTells, SourceState, bytes_at}
+use Rattle.std.specs.Borrow.{Bor}
+use Rattle.std.specs.Str.{bytes_eq}
+use Rattle.ssh_inputs.specs.SourceState.{IfTells, SourceState, bytes_at, dash}
 use Rattle.ssh_inputs.specs.Parts.{after_part, after_whole, part_at}
 use Rattle.ssh_inputs.specs.VouchFile.{vouched_of}
-use Rattle.ssh_inputs.specs.Loading.{FailsLoad, IsLeft, within_limit}
+use Rattle.ssh_inputs.specs.Loading.{FailsLoad, IsLeft, NoReadFailed, within_limit}
+use Rattle.ssh_inputs.specs.Seeking.{TellsOf}
+use Rattle.ssh_inputs.specs.declared.seek.Found.{Found}
 use Rattle.ssh_inputs.specs.declared.read.ReadError.{ReadError}
 use Rattle.ssh_inputs.specs.declared.read.ReadError.TheVariants as fault
 use Rattle.ssh_keys.specs.PublicKey.{longest}
@@ -13,17 +17,21 @@ use Rattle.ssh_offers.specs.declared.error.AuditError.{AuditError}
 use Rattle.ssh_offers.specs.FileSignature.{sshsig_claim}
 use Rattle.ssh_trust.specs.SshsigAnswer.{sshsig_answer}
 use Rattle.ssh_offers.specs.declared.query.Signed.{Signed}
-use Rattle.ssh_print.specs.Responses.{Response as Shown, no_file_response}
+use Rattle.ssh_print.specs.Responses.{Response as Shown, no_file_response, vouch_response}
 use Rattle.ssh_print.specs.SshsigText.{sshsig_response}
 use Rattle.ssh_questions.specs.Audits.{after_vouching, or_vouch_fault, vouched_in, vouched_or_fault}
 use Rattle.ssh_words.specs.Asked.{SshsigQuestion}
 use Rattle.ssh_questions.specs.FileAnswers.{IsFaultOf}
 use Rattle.ssh_command.specs.Digests.{IsDigest, answer_by_digest, digest_bytes}
 use Rattle.ssh_command.specs.declared.digest.MessageDigest.{MessageDigest}
-use Rattle.ssh_command.specs.Responding.{SignsBody, SignsClaim, SignsMessage, SignsVouched}
+use Rattle.ssh_command.specs.Responding.{SignsBody, SignsClaim, SignsDigest, SignsMessage, SignsVouched}
+use Rattle.ssh_command.specs.Vouchings.{ByVouching, VouchesFor, again_in}
+use Rattle.ssh_command.specs.declared.vouching.Vouching.{Vouching}
+use Rattle.ssh_command.specs.declared.vouching.Vouching.TheVariants.{Nothing, Held, Named}
+use Rattle.ssh_command.proofs.VouchingLemmas.{vouched-kept}
 use Rattle.ssh_command.proofs.DigestLemmas.{digest_answers}
 use Rattle.ssh_command.proofs.PartLemmas.{claim_front}
-use Rattle.ssh_command.specs.Sshsigs.{IsContentFault, IsSshsigReadFault, Signs, body_over, body_response, claim_answer, claim_over, claim_response, message_response, signature_response, vouched_over}
+use Rattle.ssh_command.specs.Sshsigs.{IsContentFault, IsLastFault, IsSecondFault, IsSshsigReadFault, Signs, body_over, body_response, claim_answer, claim_over, claim_response, message_response, read_again, signature_response, vouched_over}
 use Rattle.ssh_questions.proofs.AuditLemmas.{left_by, told_by, vouch_fault-same, vouch_read_failed}
 use Rattle.ssh_inputs.proofs.SourceLemmas.{Alike, alike-same, file-alike, left-alike, left-none, none-failed, one-failed, over_limit, whole-alike}
 use Rattle.ssh_questions.proofs.SourceLemmas.{vouched-same, vouching-alike}
@@ -61,12 +69,32 @@ content_fault-same w a b u r e (inr (body, told, fault)) = inr (
   (one-failed (after_whole a w.body) (after_whole b w.body) u w.message (whole-alike a b w.body e) fault.0, fault.1),
 )
 
+second_fault-same : (w : SshsigQuestion) (again : Option (List ℕ)) (claim : Result Sshsig AuditError) (a b : SourceState) (u : Option SourceState) (r : Shown) → Alike a b
+    → IsSecondFault w again claim a u r → IsSecondFault w again claim b u r
+second_fault-same w again claim a b u r e (on, (message, told), fault) = (
+  on,
+  (message, sym (ap within_limit (file-alike a b w.message e)) ∙ told),
+  vouch_fault-same again (after_whole a w.message) (after_whole b w.message) u r (whole-alike a b w.message e) fault,
+)
+
+last_fault-same : (w : SshsigQuestion) (again : Option (List ℕ)) (a b : SourceState) (u : Option SourceState) (r : Shown) → Alike a b → IsLastFault w again a u r → IsLastFault w again b u r
+last_fault-same w again a b u r e (body, told, fault) = (
+  body,
+  sym (ap within_limit (file-alike a b w.body e)) ∙ told,
+  second_fault-same w again (sshsig_claim body) (after_whole a w.body) (after_whole b w.body) u r (whole-alike a b w.body e) fault,
+)
+
 signature_fault-same : (w : SshsigQuestion) (a b : SourceState) (u : Option SourceState) (r : Shown) → Alike a b → IsSshsigReadFault w a u r → IsSshsigReadFault w b u r
 signature_fault-same w a b u r e (inl h) = inl (vouch_fault-same w.vouch a b u r e h)
-signature_fault-same w a b u r e (inr (vouched, told, fault)) = inr (
+signature_fault-same w a b u r e (inr (vouched, told, inl fault)) = inr (
   vouched,
   sym (vouched-same w.vouch a b e) ∙ told,
-  content_fault-same w (after_vouching w.vouch a) (after_vouching w.vouch b) u r (vouching-alike w.vouch a b e) fault,
+  inl (content_fault-same w (after_vouching w.vouch a) (after_vouching w.vouch b) u r (vouching-alike w.vouch a b e) fault),
+)
+signature_fault-same w a b u r e (inr (vouched, told, inr fault)) = inr (
+  vouched,
+  sym (vouched-same w.vouch a b e) ∙ told,
+  inr (last_fault-same w (read_again w.vouch) (after_vouching w.vouch a) (after_vouching w.vouch b) u r (vouching-alike w.vouch a b e) fault),
 )
 
 pub signs-same : (w : SshsigQuestion) (a b : SourceState) (u : Option SourceState) (r : Shown) → Alike a b → Signs w a u r → Signs w b u r
@@ -75,33 +103,33 @@ signs-same w a b u r e (inr h) = inr (signature_fault-same w a b u r e h)
 
 -- ---- files that give no bytes
 
-message-fault : (w : SshsigQuestion) (vouched : List Signed) (claim : Result Sshsig AuditError) (s : SourceState) (u : Option SourceState) (e : ReadError) (r : Shown)
-    → FailsLoad w.message (bytes_at s w.message) s u e → IsFaultOf w.message e r → SignsClaim w vouched claim s u r
-message-fault w vouched claim s u fault.Missing r fails is = inl (fails.1, is ∙ sym (ap (λ o. claim_over w vouched claim (within_limit o)) fails.0))
-message-fault w vouched claim s u fault.TooLong r fails is = inl (fails.1, is ∙ sym (ap (claim_over w vouched claim) (over_limit (bytes_at s w.message) fails.0)))
-message-fault w vouched claim s u fault.Failed r fails is = inr (fails, is)
-message-fault w vouched claim s u fault.Memory r fails is = absurd is
+message-fault : (w : SshsigQuestion) (claim : Result Sshsig AuditError) (again : Option (List ℕ)) (vouched : List Signed) (s : SourceState) (u : Option SourceState) (e : ReadError) (r : Shown)
+    → FailsLoad w.message (bytes_at s w.message) s u e → IsFaultOf w.message e r → SignsClaim w claim again vouched s u r
+message-fault w claim again vouched s u fault.Missing r fails is = inl (fails.1, is ∙ sym (ap (λ o. claim_over w vouched claim (within_limit o)) fails.0))
+message-fault w claim again vouched s u fault.TooLong r fails is = inl (fails.1, is ∙ sym (ap (claim_over w vouched claim) (over_limit (bytes_at s w.message) fails.0)))
+message-fault w claim again vouched s u fault.Failed r fails is = inr (inl (fails, is))
+message-fault w claim again vouched s u fault.Memory r fails is = absurd is
 
-pub message_unread : {R E : Type 0} (view : R → Shown) (w : SshsigQuestion) (vouched : List Signed) (claim : Result Sshsig AuditError) (o u : Option SourceState) (e : ReadError) (res : Result R E)
+pub message_unread : {R E : Type 0} (view : R → Shown) (w : SshsigQuestion) (v : Vouching) (claim : Result Sshsig AuditError) (o u : Option SourceState) (e : ReadError) (res : Result R E)
     → IfTells o (λ s. FailsLoad w.message (bytes_at s w.message) s u e) → IfOk res (λ r. IsFaultOf w.message e (view r))
-    → IfTells o (λ s. IfOk res (λ r. SignsClaim w vouched claim s u (view r)))
-message_unread view w vouched claim None u e res fails is = tt
-message_unread view w vouched claim (Some s) u e (Err x) fails is = λ counts. tt
-message_unread view w vouched claim (Some s) u e (Ok r) fails is = λ counts. message-fault w vouched claim s u e (view r) (fails counts) is
+    → IfTells o (λ s. IfOk res (λ r. ByVouching (SignsClaim w claim) v s u (view r)))
+message_unread view w v claim None u e res fails is = tt
+message_unread view w v claim (Some s) u e (Err x) fails is = λ counts. tt
+message_unread view w v claim (Some s) u e (Ok r) fails is = λ counts vouched vouches. message-fault w claim (again_in v) vouched s u e (view r) (fails counts) is
 
-body-fault : (w : SshsigQuestion) (vouched : List Signed) (s : SourceState) (u : Option SourceState) (e : ReadError) (r : Shown)
-    → FailsLoad w.body (bytes_at s w.body) s u e → IsFaultOf w.body e r → SignsBody w vouched s u r
-body-fault w vouched s u fault.Missing r fails is = inl (fails.1, is ∙ sym (ap (λ o. body_over w vouched s (within_limit o)) fails.0))
-body-fault w vouched s u fault.TooLong r fails is = inl (fails.1, is ∙ sym (ap (body_over w vouched s) (over_limit (bytes_at s w.body) fails.0)))
-body-fault w vouched s u fault.Failed r fails is = inr (inl (fails, is))
-body-fault w vouched s u fault.Memory r fails is = absurd is
+body-fault : (w : SshsigQuestion) (again : Option (List ℕ)) (vouched : List Signed) (s : SourceState) (u : Option SourceState) (e : ReadError) (r : Shown)
+    → FailsLoad w.body (bytes_at s w.body) s u e → IsFaultOf w.body e r → SignsBody w again vouched s u r
+body-fault w again vouched s u fault.Missing r fails is = inl (fails.1, is ∙ sym (ap (λ o. body_over w vouched s (within_limit o)) fails.0))
+body-fault w again vouched s u fault.TooLong r fails is = inl (fails.1, is ∙ sym (ap (body_over w vouched s) (over_limit (bytes_at s w.body) fails.0)))
+body-fault w again vouched s u fault.Failed r fails is = inr (inl (inl (fails, is)))
+body-fault w again vouched s u fault.Memory r fails is = absurd is
 
-pub body_unread : {R E : Type 0} (view : R → Shown) (w : SshsigQuestion) (vouched : List Signed) (o u : Option SourceState) (e : ReadError) (res : Result R E)
+pub body_unread : {R E : Type 0} (view : R → Shown) (w : SshsigQuestion) (v : Vouching) (o u : Option SourceState) (e : ReadError) (res : Result R E)
     → IfTells o (λ s. FailsLoad w.body (bytes_at s w.body) s u e) → IfOk res (λ r. IsFaultOf w.body e (view r))
-    → IfTells o (λ s. IfOk res (λ r. SignsBody w vouched s u (view r)))
-body_unread view w vouched None u e res fails is = tt
-body_unread view w vouched (Some s) u e (Err x) fails is = λ counts. tt
-body_unread view w vouched (Some s) u e (Ok r) fails is = λ counts. body-fault w vouched s u e (view r) (fails counts) is
+    → IfTells o (λ s. IfOk res (λ r. ByVouching (SignsBody w) v s u (view r)))
+body_unread view w v None u e res fails is = tt
+body_unread view w v (Some s) u e (Err x) fails is = λ counts. tt
+body_unread view w v (Some s) u e (Ok r) fails is = λ counts vouched vouches. body-fault w (again_in v) vouched s u e (view r) (fails counts) is
 
 not-told : (w : SshsigQuestion) (s : SourceState) (name : List ℕ) → w.vouch ≡ Some name → within_limit (part_at s name) ≡ None → signature_response w s ≡ no_file_response name
 not-told w s name v h =
@@ -125,93 +153,167 @@ vouch_file_unread view w name (Some s) u e (Ok r) v fails is = λ counts. vouch-
 -- ---- files that were read
 
 -- the answer to a claim by its message
-signed : (w : SshsigQuestion) (vouched : List Signed) (claim : Result Sshsig AuditError) (message : List ℕ) (s : SourceState) (t : Option SourceState) (r : Shown)
-    → within_limit (bytes_at s w.message) ≡ Some message → IsLeft s (after_whole s w.message) t
-    → r ≡ sshsig_response (claim_answer (λ v. sshsig_answer v message w.namespace vouched) claim) → SignsClaim w vouched claim s t r
-signed w vouched claim message s t r is left h = inl (left-none s (after_whole s w.message) t left, h ∙ ap (claim_over w vouched claim) (sym is))
+signed : (w : SshsigQuestion) (claim : Result Sshsig AuditError) (again : Option (List ℕ)) (vouched : List Signed) (message : List ℕ) (s : SourceState) (t : Option SourceState) (r : Shown)
+    → within_limit (bytes_at s w.message) ≡ Some message → NoReadFailed s t
+    → r ≡ sshsig_response (claim_answer (λ v. sshsig_answer v message w.namespace vouched) claim) → SignsClaim w claim again vouched s t r
+signed w claim again vouched message s t r is none h = inl (none, h ∙ ap (claim_over w vouched claim) (sym is))
+
+-- the answer by the message's digest, and by a second read of the vouch file
+after-message : (w : SshsigQuestion) (v : Sshsig) (digest message : List ℕ) (again : Option (List ℕ)) (vouched : List Signed) (s t : SourceState) (u : Option SourceState) (r : Shown)
+    → answer_by_digest v digest w.namespace vouched ≡ sshsig_answer v message w.namespace vouched
+    → within_limit (bytes_at s w.message) ≡ Some message → t.failures ≡ s.failures → Alike t (after_whole s w.message)
+    → SignsDigest w v digest again vouched t u r → SignsClaim w (Ok v) again vouched s u r
+after-message w v digest message again vouched s t u r answer told same left (inl h) =
+    signed w (Ok v) again vouched message s u r told (none-failed s t u same h.0) (h.1 ∙ ap (λ a. sshsig_response (Ok a)) answer)
+after-message w v digest message again vouched s t u r answer told same left (inr h) =
+    inr (inr (h.0, (message, told), vouch_fault-same again t (after_whole s w.message) u r left h.1))
 
 -- a message that was hashed
-pub message_responds : {R E : Type 0} (view : R → Shown) (w : SshsigQuestion) (vouched : List Signed) (v : Sshsig) (digest : MessageDigest) (o t : Option SourceState) (res : Result R E)
-    → IfTells o (λ s. ((message : List ℕ) × (within_limit (bytes_at s w.message) ≡ Some message) × IsDigest v.hash message digest) × IsLeft s (after_whole s w.message) t)
-    → IfOk res (λ r. view r ≡ sshsig_response (Ok (answer_by_digest v (digest_bytes digest) w.namespace vouched)))
-    → IfTells o (λ s. IfOk res (λ r. SignsClaim w vouched (Ok v) s t (view r)))
-message_responds view w vouched v digest None t res loads h = tt
-message_responds view w vouched v digest (Some s) t (Err e) loads h = λ counts. tt
-message_responds view w vouched v digest (Some s) t (Ok r) loads h = λ counts.
-    let ((message, within, is), left) = loads counts in
-    let answer : answer_by_digest v (digest_bytes digest) w.namespace vouched ≡ sshsig_answer v message w.namespace vouched =
-    ap (λ d. answer_by_digest v d w.namespace vouched) is ∙ sym (digest_answers v message w.namespace vouched) in
-    signed w vouched (Ok v) message s t (view r) within left (h ∙ ap (λ a. sshsig_response (Ok a)) answer)
+pub message_responds : {R E : Type 0} (view : R → Shown) (w : SshsigQuestion) (v : Vouching) (claim : Sshsig) (digest : MessageDigest) (o t u : Option SourceState) (res : Result R E)
+    → IfTells o (λ s. ((message : List ℕ) × (within_limit (bytes_at s w.message) ≡ Some message) × IsDigest claim.hash message digest) × IsLeft s (after_whole s w.message) t)
+    → IfTells t (λ s. IfOk res (λ r. ByVouching (SignsDigest w claim (digest_bytes digest)) v s u (view r)))
+    → IfTells o (λ s. IfOk res (λ r. ByVouching (SignsClaim w (Ok claim)) v s u (view r)))
+message_responds view w v claim digest None t u res loads h = tt
+message_responds view w v claim digest (Some s) None u res loads h = λ counts. absurd ((loads counts).1)
+message_responds view w v claim digest (Some s) (Some t) u (Err e) loads h = λ counts. tt
+message_responds view w v claim digest (Some s) (Some t) u (Ok r) loads h = λ counts vouched vouches.
+    let ((message, told, is), left) = loads counts in
+    let same : t.failures ≡ s.failures = left.2 in
+    let answer : answer_by_digest claim (digest_bytes digest) w.namespace vouched ≡ sshsig_answer claim message w.namespace vouched =
+    ap (λ d. answer_by_digest claim d w.namespace vouched) is ∙ sym (digest_answers claim message w.namespace vouched) in
+    after-message w claim (digest_bytes digest) message (again_in v) vouched s t u (view r) answer told same (left-alike s (after_whole s w.message) t refl left)
+    (h (omega (arith, counts, same)) vouched (vouched-kept v s t vouched left.0 vouches))
 
 -- a message that was passed
-pub message_passed : {R E : Type 0} (view : R → Shown) (w : SshsigQuestion) (vouched : List Signed) (e : AuditError) (o t : Option SourceState) (res : Result R E)
+pub message_passed : {R E : Type 0} (view : R → Shown) (w : SshsigQuestion) (v : Vouching) (e : AuditError) (o t : Option SourceState) (res : Result R E)
     → IfTells o (λ s. ((message : List ℕ) × (within_limit (bytes_at s w.message) ≡ Some message) × ⊤) × IsLeft s (after_whole s w.message) t)
     → IfOk res (λ r. view r ≡ sshsig_response (Err e))
-    → IfTells o (λ s. IfOk res (λ r. SignsClaim w vouched (Err e) s t (view r)))
-message_passed view w vouched e None t res loads h = tt
-message_passed view w vouched e (Some s) t (Err x) loads h = λ counts. tt
-message_passed view w vouched e (Some s) t (Ok r) loads h = λ counts.
-    let ((message, within, _), left) = loads counts in
-    signed w vouched (Err e) message s t (view r) within left h
+    → IfTells o (λ s. IfOk res (λ r. ByVouching (SignsClaim w (Err e)) v s t (view r)))
+message_passed view w v e None t res loads h = tt
+message_passed view w v e (Some s) t (Err x) loads h = λ counts. tt
+message_passed view w v e (Some s) t (Ok r) loads h = λ counts vouched vouches.
+    let ((message, told, _), left) = loads counts in
+    signed w (Err e) (again_in v) vouched message s t (view r) told (left-none s (after_whole s w.message) t left) h
 
-after-body : (w : SshsigQuestion) (vouched : List Signed) (body read : List ℕ) (s t : SourceState) (u : Option SourceState) (r : Shown) → sshsig_claim read ≡ sshsig_claim body
-    → within_limit (bytes_at s w.body) ≡ Some body → t.failures ≡ s.failures → Alike t (after_whole s w.body) → SignsMessage w vouched read t u r → SignsBody w vouched s u r
-after-body w vouched body read s t u r is told same left (inl h) =
+after-body : (w : SshsigQuestion) (again : Option (List ℕ)) (vouched : List Signed) (body read : List ℕ) (s t : SourceState) (u : Option SourceState) (r : Shown)
+    → sshsig_claim read ≡ sshsig_claim body → within_limit (bytes_at s w.body) ≡ Some body → t.failures ≡ s.failures → Alike t (after_whole s w.body)
+    → SignsMessage w read again vouched t u r → SignsBody w again vouched s u r
+after-body w again vouched body read s t u r is told same left (inl h) =
     let whole : body_response w vouched s ≡ message_response w vouched read (after_whole s w.body) =
     ap (body_over w vouched s) told ∙ ap (λ c. claim_response w vouched c (after_whole s w.body)) (sym is) in
     inl (none-failed s t u same h.0, h.1 ∙ (message-same w vouched read t (after_whole s w.body) left ∙ sym whole))
-after-body w vouched body read s t u r is told same left (inr h) =
-    inr (inr (body, told, (one-failed t (after_whole s w.body) u w.message left h.0, h.1)))
+after-body w again vouched body read s t u r is told same left (inr (inl h)) =
+    inr (inl (inr (body, told, (one-failed t (after_whole s w.body) u w.message left h.0, h.1))))
+after-body w again vouched body read s t u r is told same left (inr (inr h)) =
+    let moved : IsSecondFault w again (sshsig_claim read) (after_whole s w.body) u r = second_fault-same w again (sshsig_claim read) t (after_whole s w.body) u r left h in
+    inr (inr (body, told, subst (λ c. IsSecondFault w again c (after_whole s w.body) u r) is moved))
 
 -- a body of which the front was read
-pub body_responds : {R E : Type 0} (view : R → Shown) (w : SshsigQuestion) (vouched : List Signed) (front read : List ℕ) (o t u : Option SourceState) (res : Result R E)
+pub body_responds : {R E : Type 0} (view : R → Shown) (w : SshsigQuestion) (v : Vouching) (front read : List ℕ) (o t u : Option SourceState) (res : Result R E)
     → read ≡ front
     → IfTells o (λ s. ((body : List ℕ) × (within_limit (bytes_at s w.body) ≡ Some body) × (front ≡ take (longest + 1) body)) × IsLeft s (after_whole s w.body) t)
-    → IfTells t (λ s. IfOk res (λ r. SignsMessage w vouched read s u (view r)))
-    → IfTells o (λ s. IfOk res (λ r. SignsBody w vouched s u (view r)))
-body_responds view w vouched front read None t u res is loads h = tt
-body_responds view w vouched front read (Some s) None u res is loads h = λ counts. absurd ((loads counts).1)
-body_responds view w vouched front read (Some s) (Some t) u (Err e) is loads h = λ counts. tt
-body_responds view w vouched front read (Some s) (Some t) u (Ok r) is loads h = λ counts.
+    → IfTells t (λ s. IfOk res (λ r. ByVouching (SignsMessage w read) v s u (view r)))
+    → IfTells o (λ s. IfOk res (λ r. ByVouching (SignsBody w) v s u (view r)))
+body_responds view w v front read None t u res is loads h = tt
+body_responds view w v front read (Some s) None u res is loads h = λ counts. absurd ((loads counts).1)
+body_responds view w v front read (Some s) (Some t) u (Err e) is loads h = λ counts. tt
+body_responds view w v front read (Some s) (Some t) u (Ok r) is loads h = λ counts vouched vouches.
     let ((body, told, kept), left) = loads counts in
     let same : t.failures ≡ s.failures = left.2 in
     let claim : sshsig_claim read ≡ sshsig_claim body = ap sshsig_claim (is ∙ kept) ∙ claim_front body in
-    after-body w vouched body read s t u (view r) claim told same (left-alike s (after_whole s w.body) t refl left) (h (omega (arith, counts, same)))
+    after-body w (again_in v) vouched body read s t u (view r) claim told same (left-alike s (after_whole s w.body) t refl left)
+    (h (omega (arith, counts, same)) vouched (vouched-kept v s t vouched left.0 vouches))
 
 -- the answer by the body and the message, after the vouch file was read
-after-vouch : (w : SshsigQuestion) (told : Result (List Signed) Shown) (s t : SourceState) (u : Option SourceState) (r : Shown) → vouched_in w.vouch s ≡ told
-    → t.failures ≡ s.failures → Alike t (after_vouching w.vouch s) → SignsVouched w told t u r → Signs w s u r
-after-vouch w (Err v) s t u r e same left h =
+after-vouch : (w : SshsigQuestion) (again : Option (List ℕ)) (told : Result (List Signed) Shown) (s t : SourceState) (u : Option SourceState) (r : Shown)
+    → again ≡ read_again w.vouch → vouched_in w.vouch s ≡ told → t.failures ≡ s.failures → Alike t (after_vouching w.vouch s)
+    → SignsVouched w again told t u r → Signs w s u r
+after-vouch w again (Err v) s t u r named e same left h =
     inl (none-failed s t u same h.0, h.1 ∙ sym (ap (vouched_over w (after_vouching w.vouch s)) e))
-after-vouch w (Ok vouched) s t u r e same left (inl h) =
+after-vouch w again (Ok vouched) s t u r named e same left (inl h) =
     let body = body-same w vouched t (after_vouching w.vouch s) left in
     inl (none-failed s t u same h.0, h.1 ∙ (body ∙ sym (ap (vouched_over w (after_vouching w.vouch s)) e)))
-after-vouch w (Ok vouched) s t u r e same left (inr h) =
-    inr (inr (vouched, e, content_fault-same w t (after_vouching w.vouch s) u r left h))
+after-vouch w again (Ok vouched) s t u r named e same left (inr (inl h)) =
+    inr (inr (vouched, e, inl (content_fault-same w t (after_vouching w.vouch s) u r left h)))
+after-vouch w again (Ok vouched) s t u r named e same left (inr (inr h)) =
+    let moved : IsLastFault w again (after_vouching w.vouch s) u r = last_fault-same w again t (after_vouching w.vouch s) u r left h in
+    inr (inr (vouched, e, inr (subst (λ a. IsLastFault w a (after_vouching w.vouch s) u r) named moved)))
 
--- a vouch file that was read
+-- ---- a vouch file on standard input
+
+-- the signatures of the bytes that are held
+pub held_responds : {R E : Type 0} (view : R → Shown) (w : SshsigQuestion) (bytes : List ℕ) (vouched : List Signed) (o u : Option SourceState) (res : Result R E)
+    → vouched_of bytes ≡ Ok vouched
+    → IfTells o (λ s. IfOk res (λ r. ByVouching (SignsBody w) (Held vouched) s u (view r)))
+    → IfTells o (λ s. IfOk res (λ r. SignsVouched w None (or_vouch_fault (vouched_of bytes)) s u (view r)))
+held_responds view w bytes vouched None u res is h = tt
+held_responds view w bytes vouched (Some s) u (Err e) is h = λ counts. tt
+held_responds view w bytes vouched (Some s) u (Ok r) is h = λ counts.
+    let answer : SignsVouched w None (or_vouch_fault (Ok vouched)) s u (view r) = h counts vouched refl in
+    subst (λ told. SignsVouched w None (or_vouch_fault told) s u (view r)) (sym is) answer
+
+input-again : (w : SshsigQuestion) (name : List ℕ) → w.vouch ≡ Some name → bytes_eq name dash ≡ true → None ≡ read_again w.vouch
+input-again w name v input = rw (v, input) refl
+
+-- its bytes were read
 pub vouch_file_responds : {R E : Type 0} (view : R → Shown) (w : SshsigQuestion) (name bytes read : List ℕ) (o t u : Option SourceState) (res : Result R E)
-    → w.vouch ≡ Some name → read ≡ bytes
+    → w.vouch ≡ Some name → bytes_eq name dash ≡ true → read ≡ bytes
     → IfTells o (λ s. (within_limit (part_at s name) ≡ Some bytes) × IsLeft s (after_part s name) t)
-    → IfTells t (λ s. IfOk res (λ r. SignsVouched w (or_vouch_fault (vouched_of read)) s u (view r)))
+    → IfTells t (λ s. IfOk res (λ r. SignsVouched w None (or_vouch_fault (vouched_of read)) s u (view r)))
     → IfTells o (λ s. IfOk res (λ r. Signs w s u (view r)))
-vouch_file_responds view w name bytes read None t u res v is loads h = tt
-vouch_file_responds view w name bytes read (Some s) None u res v is loads h = λ counts. absurd ((loads counts).1)
-vouch_file_responds view w name bytes read (Some s) (Some t) u (Err e) v is loads h = λ counts. tt
-vouch_file_responds view w name bytes read (Some s) (Some t) u (Ok r) v is loads h = λ counts.
+vouch_file_responds view w name bytes read None t u res v input is loads h = tt
+vouch_file_responds view w name bytes read (Some s) None u res v input is loads h = λ counts. absurd ((loads counts).1)
+vouch_file_responds view w name bytes read (Some s) (Some t) u (Err e) v input is loads h = λ counts. tt
+vouch_file_responds view w name bytes read (Some s) (Some t) u (Ok r) v input is loads h = λ counts.
     let load = loads counts in
     let same : t.failures ≡ s.failures = load.1.2 in
-    after-vouch w (or_vouch_fault (vouched_of read)) s t u (view r) (told_by w.vouch name bytes read s v is load.0) same
+    after-vouch w None (or_vouch_fault (vouched_of read)) s t u (view r) (input-again w name v input) (told_by w.vouch name bytes read s v is load.0) same
     (left_by w.vouch name s t v load.1) (h (omega (arith, counts, same)))
 
--- no vouch file
-no-vouch : (w : SshsigQuestion) (s : SourceState) (u : Option SourceState) (r : Shown) → w.vouch ≡ None → SignsBody w [] s u r → Signs w s u r
+-- ---- a vouch file that has a name
+
+named-again : (w : SshsigQuestion) (name : List ℕ) → w.vouch ≡ Some name → bytes_eq name dash ≡ false → Some name ≡ read_again w.vouch
+named-again w name v other = rw (v, other) refl
+
+-- it was read to its end
+pub named_responds : {R E : Type 0} (view : R → Shown) (w : SshsigQuestion) (name : Bor (List ℕ)) (found : Found) (o t u : Option SourceState) (res : Result R E)
+    → w.vouch ≡ Some name.now → bytes_eq name.now dash ≡ false
+    → IfTells o (λ s. ((file : List ℕ) × (within_limit (part_at s name.now) ≡ Some file) × TellsOf None None file (Ok found)) × IsLeft s (after_part s name.now) t)
+    → IfTells t (λ s. IfOk res (λ r. ByVouching (SignsBody w) (Named name) s u (view r)))
+    → IfTells o (λ s. IfOk res (λ r. Signs w s u (view r)))
+named_responds view w name found None t u res v other loads h = tt
+named_responds view w name found (Some s) None u res v other loads h = λ counts. absurd ((loads counts).1)
+named_responds view w name found (Some s) (Some t) u (Err e) v other loads h = λ counts. tt
+named_responds view w name found (Some s) (Some t) u (Ok r) v other loads h = λ counts.
+    let ((file, whole, (vouched, is, _)), left) = loads counts in
+    let same : t.failures ≡ s.failures = left.2 in
+    let told : vouched_or_fault name.now (within_limit (part_at s name.now)) ≡ Ok vouched = ap (vouched_or_fault name.now) whole ∙ ap or_vouch_fault is in
+    let vouches : VouchesFor (Named name) t vouched = vouched-kept (Named name) s t vouched left.0 (other, told) in
+    after-vouch w (Some name.now) (Ok vouched) s t u (view r) (named-again w name.now v other) (ap (λ z. vouched_in z s) v ∙ told) same
+    (left_by w.vouch name.now s t v left) (h (omega (arith, counts, same)) vouched vouches)
+
+-- it has a line that is no triple
+pub named_faulty : {R E : Type 0} (view : R → Shown) (w : SshsigQuestion) (name : List ℕ) (number : ℕ) (o t : Option SourceState) (res : Result R E)
+    → w.vouch ≡ Some name
+    → IfTells o (λ s. ((file : List ℕ) × (within_limit (part_at s name) ≡ Some file) × TellsOf None None file (Err number)) × IsLeft s (after_part s name) t)
+    → IfOk res (λ r. view r ≡ vouch_response number)
+    → IfTells o (λ s. IfOk res (λ r. Signs w s t (view r)))
+named_faulty view w name number None t res v loads h = tt
+named_faulty view w name number (Some s) t (Err e) v loads h = λ counts. tt
+named_faulty view w name number (Some s) t (Ok r) v loads h = λ counts.
+    let ((file, whole, is), left) = loads counts in
+    let told : vouched_in w.vouch s ≡ Err (vouch_response number) = ap (λ z. vouched_in z s) v ∙ (ap (vouched_or_fault name) whole ∙ ap or_vouch_fault is) in
+    inl (left-none s (after_part s name) t left, h ∙ sym (ap (vouched_over w (after_vouching w.vouch s)) told))
+
+-- ---- no vouch file
+
+no-vouch : (w : SshsigQuestion) (s : SourceState) (u : Option SourceState) (r : Shown) → w.vouch ≡ None → SignsBody w None [] s u r → Signs w s u r
 no-vouch w s u r v h =
-    after-vouch w (Ok []) s s u r (ap (λ z. vouched_in z s) v) refl (subst (λ z. Alike s (after_vouching z s)) (sym v) (alike-same s)) h
+    after-vouch w None (Ok []) s s u r (sym (ap read_again v)) (ap (λ z. vouched_in z s) v) refl (subst (λ z. Alike s (after_vouching z s)) (sym v) (alike-same s)) h
 
 pub words_signed : {R E : Type 0} (view : R → Shown) (w : SshsigQuestion) (o u : Option SourceState) (res : Result R E) → w.vouch ≡ None
-    → IfTells o (λ s. IfOk res (λ r. SignsBody w [] s u (view r)))
+    → IfTells o (λ s. IfOk res (λ r. ByVouching (SignsBody w) Nothing s u (view r)))
     → IfTells o (λ s. IfOk res (λ r. Signs w s u (view r)))
 words_signed view w None u res v h = tt
 words_signed view w (Some s) u (Err e) v h = λ counts. tt
-words_signed view w (Some s) u (Ok r) v h = λ counts. no-vouch w s u (view r) v (h counts)
+words_signed view w (Some s) u (Ok r) v h = λ counts. no-vouch w s u (view r) v (h counts [] refl)

@@ -2,6 +2,7 @@ pub mod Shows
 pub mod Sshsigs
 pub mod Digests
 pub mod HeldFiles
+pub mod Vouchings
 pub mod Rewritings
 pub mod Hashings
 pub mod Requests

@@ -1,5 +1,6 @@
 -- What is answered to a file signature, over the files of a source.
-use Rattle.std.specs.Prelude.{◌≡◌, ◌⊎◌, ℕ, List, Option, Some, None, Result, Ok, Err}
+use Rattle.std.specs.Prelude.{◌≡◌, ◌⊎◌, ℕ, List, Option, Some, None, Result, Ok, Err, if◌then◌else◌}
+use Rattle.std.specs.Str.{bytes_eq}
 use Rattle.ssh_offers.specs.declared.error.AuditError.{AuditError}
 use Rattle.ssh_offers.specs.declared.query.Signed.{Signed}
 use Rattle.ssh_bodies.specs.Sshsig.{Sshsig}
@@ -10,7 +11,7 @@ use Rattle.ssh_questions.specs.Audits.{IsFileFault, IsVouchReadFault, after_vouc
 use Rattle.clap.specs.Words.{Row}
 use Rattle.ssh_words.specs.Asked.{SshsigQuestion}
 use Rattle.ssh_words.specs.Spelling.{RespondsTo, sshsig_question}
-use Rattle.ssh_inputs.specs.SourceState.{SourceState, bytes_at}
+use Rattle.ssh_inputs.specs.SourceState.{SourceState, bytes_at, dash}
 use Rattle.ssh_inputs.specs.Parts.{after_whole}
 use Rattle.ssh_inputs.specs.Loading.{NoReadFailed, within_limit}
 use Rattle.ssh_print.specs.Responses.{Response, no_file_response}
@@ -63,10 +64,33 @@ abbrev pub IsContentFault : SshsigQuestion → SourceState → Option SourceStat
 IsContentFault w s t r = IsFileFault w.body s t r
     ⊎ ((body : List ℕ) × (within_limit (bytes_at s w.body) ≡ Some body) × IsFileFault w.message (after_whole s w.body) t r)
 
--- the vouch file's read failed; or, after it told its signatures, one of the others
+-- the name of a vouch file that is read twice: standard input cannot be
+abbrev pub read_again : Option (List ℕ) → Option (List ℕ)
+read_again None = None
+read_again (Some name) = if bytes_eq name dash then None else Some name
+
+-- a claim that stands, and is on the namespace that is asked for: for no other one the vouch file is read again
+abbrev pub IsClaimOn : List ℕ → Result Sshsig AuditError → Type 0
+IsClaimOn namespace (Err e) = ⊥
+IsClaimOn namespace (Ok v) = v.namespace ≡ namespace
+
+-- the claim is on the namespace, the message gave its bytes, and then the second read of the file of this name failed
+abbrev pub IsSecondFault : SshsigQuestion → Option (List ℕ) → Result Sshsig AuditError → SourceState → Option SourceState → Response → Type 0
+IsSecondFault w again claim s t r = IsClaimOn w.namespace claim
+    × ((message : List ℕ) × (within_limit (bytes_at s w.message) ≡ Some message))
+    × IsVouchReadFault again (after_whole s w.message) t r
+
+-- the same after the body gave its bytes
+abbrev pub IsLastFault : SshsigQuestion → Option (List ℕ) → SourceState → Option SourceState → Response → Type 0
+IsLastFault w again s t r = (body : List ℕ) × (within_limit (bytes_at s w.body) ≡ Some body)
+    × IsSecondFault w again (sshsig_claim body) (after_whole s w.body) t r
+
+-- the vouch file's read failed; or, after it told its signatures, one of the others; or, after these gave their bytes, its second read, if
+-- it has a name
 abbrev pub IsSshsigReadFault : SshsigQuestion → SourceState → Option SourceState → Response → Type 0
 IsSshsigReadFault w s t r = IsVouchReadFault w.vouch s t r
-    ⊎ ((vouched : List Signed) × (vouched_in w.vouch s ≡ Ok vouched) × IsContentFault w (after_vouching w.vouch s) t r)
+    ⊎ ((vouched : List Signed) × (vouched_in w.vouch s ≡ Ok vouched)
+    × (IsContentFault w (after_vouching w.vouch s) t r ⊎ IsLastFault w (read_again w.vouch) (after_vouching w.vouch s) t r))
 
 -- the response is the answer, and no read failed; or one failed, and it is the fault of the file that was read
 abbrev pub Signs : SshsigQuestion → SourceState → Option SourceState → Response → Type 0

@@ -1,11 +1,10 @@
 //! A file signature by the digest of its message, which is hashed as it is read.
 
-ghost use Rattle.std.specs.Prelude.{◌≡◌, ◌≤◌, IfOk, length};
+ghost use Rattle.std.specs.Prelude.{◌≡◌, ◌≤◌, ◌∷◌, [], IfOk, length};
 ghost use Rattle.ssh_bodies.specs.Sshsig.{IsSshsig};
 ghost use Rattle.ssh_bodies.specs.SshsigOf.{sshsig_of};
 ghost use Rattle.ssh_command.specs.Digests.{
   IsDigest,
-  answer_by_digest,
   answer_where,
   digest_bytes,
   signed_by_digest,
@@ -16,7 +15,6 @@ ghost use Rattle.ssh_inputs.specs.Parts.{after_whole};
 ghost use Rattle.ssh_inputs.specs.SourceState.{IfTells, bytes_at};
 ghost use Rattle.ssh_offers.specs.FileSignatureView.{sshsig_claim_of};
 
-use crate::vouches::Vouches;
 use sha2::{Sha256, Sha512};
 use ssh_bodies::{HashName, SshsigView};
 use ssh_inputs::{Files, ReadError, read_digest};
@@ -66,7 +64,7 @@ fn signed_text(
 
 /// The signature of a message with this digest, by the key of a file signature.
 #[tactic(auto, unfolding(crate::specs::Digests::signed_by_digest))]
-fn digest_signed(
+pub fn digest_signed(
     alloc: Global,
     claim: &SshsigClaimView<'_>,
     digest: &MessageDigest,
@@ -104,7 +102,7 @@ pub fn read_message<F: Files>(
     }
 }
 
-/// The answer to one signature by whether it is vouched for.
+/// The answer to these signatures by whether they are vouched for.
 fn answer_by(evidence: Items<Signed>, is_vouched: bool) -> SshsigAnswer
     ensures { result ≡ answer_where is_vouched evidence }
 {
@@ -115,24 +113,14 @@ fn answer_by(evidence: Items<Signed>, is_vouched: bool) -> SshsigAnswer
     }
 }
 
-/// Answers a claim by the digest of the message.
-#[tactic(auto, unfolding(crate::specs::Digests::answer_by_digest), using(crate::proofs::DigestLemmas::one_answer))]
-pub fn answer_digest(
+/// The answer to one signature by whether it is vouched for.
+pub fn answer_one(
     alloc: Global,
-    claim: &SshsigClaimView<'_>,
-    digest: &MessageDigest,
-    namespace: &[u8],
-    vouched: &Vouches<'_>,
+    signed: Signed,
+    is_vouched: bool,
 ) -> Result<SshsigAnswer, AllocError>
-    ensures { IfOk result (λ answer.
-        answer ≡ answer_by_digest (sshsig_claim_of claim.now) (digest_bytes digest.now)
-        namespace.now vouched.now) }
+    ensures { IfOk result (λ answer. answer ≡ answer_where is_vouched (signed ∷ [])) }
 {
-    if claim.file_signature.namespace != namespace {
-        return Ok(SshsigAnswer::OtherNamespace);
-    }
-    let signed = digest_signed(alloc, claim, digest)?;
-    let is_vouched = vouched.has(&signed);
     let mut evidence = Vec::new(alloc);
     evidence.push(signed)?;
     Ok(answer_by(Items::from_vec(evidence), is_vouched))

@@ -14,6 +14,7 @@ mod show;
 mod sink;
 mod sshsig;
 mod vouches;
+mod vouching;
 
 pub use program::{refuse, run};
 pub use sink::Sink;

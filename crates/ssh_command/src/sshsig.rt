@@ -1,59 +1,73 @@
 //! What files answer to a file signature, with the signatures that a vouch file vouches for.
 
-ghost use Rattle.std.specs.Prelude.{◌≡◌, ◌≤◌, IfOk, length};
+ghost use Rattle.std.specs.Prelude.{◌≡◌, ◌≤◌, IfOk, Some, false, length, true};
+ghost use Rattle.std.specs.Str.{bytes_eq};
 ghost use Rattle.ssh_questions.specs.Audits.{or_vouch_fault};
 ghost use Rattle.ssh_words.specs.AskedView.{question_of};
-ghost use Rattle.ssh_command.specs.Digests.{answer_by_digest, digest_bytes};
+ghost use Rattle.ssh_command.specs.Digests.{digest_bytes};
 ghost use Rattle.ssh_command.specs.Sshsigs.{RespondsToSshsig, Signs};
-ghost use Rattle.ssh_command.specs.Responding.{SignsBody, SignsClaim, SignsMessage, SignsVouched};
+ghost use Rattle.ssh_command.specs.Responding.{
+  SignsBody,
+  SignsClaim,
+  SignsDigest,
+  SignsMessage,
+  SignsVouched,
+};
+ghost use Rattle.ssh_command.specs.Vouchings.{ByVouching};
 ghost use Rattle.ssh_offers.specs.FileSignatureView.{sshsig_claim_of};
 ghost use Rattle.ssh_words.specs.WordsView.{IfAnswered, rows_in};
 ghost use Rattle.ssh_print.specs.ResponseView.{response};
-ghost use Rattle.ssh_print.specs.SshsigText.{sshsig_response};
-ghost use Rattle.ssh_inputs.specs.SourceState.{IfTells};
+ghost use Rattle.ssh_inputs.specs.SourceState.{IfTells, dash};
 ghost use Rattle.ssh_inputs.specs.VouchFile.{vouched_of};
 ghost use Rattle.ssh_text.specs.Text.{file_limit};
 
-use crate::digest::{MessageDigest, answer_digest, read_message};
+use crate::digest::{MessageDigest, digest_signed, read_message};
 use crate::vouches::Vouches;
-use ssh_inputs::{Files, read_front, read_past, read_vouch_file};
+use crate::vouching::{Vouching, respond_signed};
+use ssh_inputs::{Files, read_front, read_past, read_vouch_file, seek_vouched};
 use ssh_keys::MAX_BLOB_LEN;
 use ssh_offers::{AuditError, SshsigClaimView};
 use ssh_print::{Response, sshsig_response, vouch_fault};
 use ssh_questions::unread;
+use ssh_trust::SshsigAnswer;
 use ssh_words::{CommandError, SshsigQuestion, Words};
 use std::alloc::{AllocError, Global};
 
-/// The response by a claim and the digest of the message.
-fn respond_digest(
+/// The response by a claim and the digest of the message. For another namespace nothing is sought.
+fn respond_digest<F: Files>(
     alloc: Global,
     question: &SshsigQuestion<'_>,
-    vouched: &Vouches<'_>,
+    vouching: &Vouching<'_>,
     claim: &SshsigClaimView<'_>,
     digest: &MessageDigest,
+    files: &mut F,
 ) -> Result<Response, AllocError>
-    ensures { IfOk result (λ r.
-        response r ≡ sshsig_response (Ok (answer_by_digest (sshsig_claim_of claim.now)
-        (digest_bytes digest.now) question.entry.now.namespace.now vouched.now))) }
+    ensures { IfTells (F.source_state files.old) (λ s. IfOk result (λ r.
+        ByVouching (SignsDigest (question_of question.entry.now) (sshsig_claim_of claim.now)
+        (digest_bytes digest.now)) vouching.entry.now s (F.source_state files.new)
+        (response r))) }
 {
-    let answer = answer_digest(alloc, claim, digest, question.namespace.as_bytes(), vouched)?;
-    sshsig_response(alloc, Ok(answer))
+    if claim.file_signature.namespace != question.namespace.as_bytes() {
+        return sshsig_response(alloc, Ok(SshsigAnswer::OtherNamespace));
+    }
+    let signed = digest_signed(alloc, claim, digest)?;
+    respond_signed(alloc, vouching, signed, files)
 }
 
 /// The response after the claim of the body was read: the message is hashed.
 fn respond_claim<F: Files>(
     alloc: Global,
     question: &SshsigQuestion<'_>,
-    vouched: &Vouches<'_>,
+    vouching: &Vouching<'_>,
     claim: &SshsigClaimView<'_>,
     files: &mut F,
 ) -> Result<Response, AllocError>
     ensures { IfTells (F.source_state files.old) (λ s. IfOk result (λ r.
-        SignsClaim (question_of question.entry.now) vouched.now (Ok (sshsig_claim_of claim.now)) s
-        (F.source_state files.new) (response r))) }
+        ByVouching (SignsClaim (question_of question.entry.now) (Ok (sshsig_claim_of claim.now)))
+        vouching.entry.now s (F.source_state files.new) (response r))) }
 {
     match read_message(files, claim.file_signature.hash, question.message) {
-        Ok(digest) => respond_digest(alloc, question, vouched, claim, &digest),
+        Ok(digest) => respond_digest(alloc, question, vouching, claim, &digest, files),
         Err(fault) => unread(alloc, question.message, fault),
     }
 }
@@ -62,12 +76,12 @@ fn respond_claim<F: Files>(
 fn respond_refused<F: Files>(
     alloc: Global,
     question: &SshsigQuestion<'_>,
-    vouched: &Vouches<'_>,
+    vouching: &Vouching<'_>,
     refusal: AuditError,
     files: &mut F,
 ) -> Result<Response, AllocError>
     ensures { IfTells (F.source_state files.old) (λ s. IfOk result (λ r.
-        SignsClaim (question_of question.entry.now) vouched.now (Err refusal) s
+        ByVouching (SignsClaim (question_of question.entry.now) (Err refusal)) vouching.entry.now s
         (F.source_state files.new) (response r))) }
 {
     match read_past(files, question.message) {
@@ -80,39 +94,39 @@ fn respond_refused<F: Files>(
 fn respond_body<F: Files>(
     alloc: Global,
     question: &SshsigQuestion<'_>,
-    vouched: &Vouches<'_>,
+    vouching: &Vouching<'_>,
     body: &[u8],
     files: &mut F,
 ) -> Result<Response, AllocError>
     ensures { IfTells (F.source_state files.old) (λ s. IfOk result (λ r.
-        SignsMessage (question_of question.entry.now) vouched.now body.now s
+        ByVouching (SignsMessage (question_of question.entry.now) body.now) vouching.entry.now s
         (F.source_state files.new) (response r))) }
 {
     match SshsigClaimView::read(body) {
-        Ok(claim) => respond_claim(alloc, question, vouched, &claim, files),
-        Err(refusal) => respond_refused(alloc, question, vouched, refusal, files),
+        Ok(claim) => respond_claim(alloc, question, vouching, &claim, files),
+        Err(refusal) => respond_refused(alloc, question, vouching, refusal, files),
     }
 }
 
-/// The response after the signatures that are vouched for were read. A body may go as far as a blob;
-/// of a longer one no more is kept than shows it.
+/// The response after the vouch file was read. A body may go as far as a blob; of a longer one no
+/// more is kept than shows it.
 fn respond_vouched<F: Files>(
     alloc: Global,
     question: &SshsigQuestion<'_>,
-    vouched: &Vouches<'_>,
+    vouching: &Vouching<'_>,
     files: &mut F,
 ) -> Result<Response, AllocError>
     ensures { IfTells (F.source_state files.old) (λ s. IfOk result (λ r.
-        SignsBody (question_of question.entry.now) vouched.now s (F.source_state files.new)
-        (response r))) }
+        ByVouching (SignsBody (question_of question.entry.now)) vouching.entry.now s
+        (F.source_state files.new) (response r))) }
 {
     match read_front(alloc, files, question.body, MAX_BLOB_LEN + 1) {
-        Ok(body) => respond_body(alloc, question, vouched, &body, files),
+        Ok(body) => respond_body(alloc, question, vouching, &body, files),
         Err(fault) => unread(alloc, question.body, fault),
     }
 }
 
-/// The response after the bytes of the vouch file were read.
+/// The response after the bytes of a vouch file on standard input were read.
 fn respond_vouch_bytes<F: Files>(
     alloc: Global,
     question: &SshsigQuestion<'_>,
@@ -121,12 +135,50 @@ fn respond_vouch_bytes<F: Files>(
 ) -> Result<Response, AllocError>
     requires { length bytes.now ≤ file_limit }
     ensures { IfTells (F.source_state files.old) (λ s. IfOk result (λ r.
-        SignsVouched (question_of question.entry.now) (or_vouch_fault (vouched_of bytes.now)) s
+        SignsVouched (question_of question.entry.now) None (or_vouch_fault (vouched_of bytes.now)) s
         (F.source_state files.new) (response r))) }
 {
     match Vouches::new(bytes) {
-        Ok(vouched) => respond_vouched(alloc, question, &vouched, files),
+        Ok(vouches) => respond_vouched(alloc, question, &Vouching::Held(vouches), files),
         Err(number) => vouch_fault(alloc, number),
+    }
+}
+
+/// The response by a vouch file on standard input, whose bytes are held.
+fn respond_held<F: Files>(
+    alloc: Global,
+    question: &SshsigQuestion<'_>,
+    name: &str,
+    files: &mut F,
+) -> Result<Response, AllocError>
+    requires vouch { (question_of question.now).vouch ≡ Some name.now }
+    requires input { bytes_eq name.now dash ≡ true }
+    ensures { IfTells (F.source_state files.old) (λ s. IfOk result (λ r.
+        Signs (question_of question.entry.now) s (F.source_state files.new) (response r))) }
+{
+    match read_vouch_file(alloc, files, name) {
+        Ok(bytes) => respond_vouch_bytes(alloc, question, &bytes, files),
+        Err(fault) => unread(alloc, name, fault),
+    }
+}
+
+/// The response by a vouch file that has a name. It is read to its end, since its faults are told
+/// first, and nothing of it is kept.
+fn respond_named<F: Files>(
+    alloc: Global,
+    question: &SshsigQuestion<'_>,
+    name: &str,
+    files: &mut F,
+) -> Result<Response, AllocError>
+    requires vouch { (question_of question.now).vouch ≡ Some name.now }
+    requires named { bytes_eq name.now dash ≡ false }
+    ensures { IfTells (F.source_state files.old) (λ s. IfOk result (λ r.
+        Signs (question_of question.entry.now) s (F.source_state files.new) (response r))) }
+{
+    match seek_vouched(files, name, None, None) {
+        Ok(Ok(_)) => respond_vouched(alloc, question, &Vouching::Named(name), files),
+        Ok(Err(number)) => vouch_fault(alloc, number),
+        Err(fault) => unread(alloc, name, fault),
     }
 }
 
@@ -140,11 +192,9 @@ fn respond_signature<F: Files>(
         Signs (question_of question.entry.now) s (F.source_state files.new) (response r))) }
 {
     match question.vouch {
-        None => respond_vouched(alloc, question, &Vouches::none(), files),
-        Some(name) => match read_vouch_file(alloc, files, name) {
-            Ok(bytes) => respond_vouch_bytes(alloc, question, &bytes, files),
-            Err(fault) => unread(alloc, name, fault),
-        },
+        None => respond_vouched(alloc, question, &Vouching::Nothing, files),
+        Some(name) if name == "-" => respond_held(alloc, question, name, files),
+        Some(name) => respond_named(alloc, question, name, files),
     }
 }
 

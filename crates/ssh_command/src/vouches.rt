@@ -1,7 +1,7 @@
-//! What a vouch file vouches for, where its bytes are held: they are read again for each signature
-//! that is sought.
+//! What a vouch file on standard input vouches for, which cannot be read twice: its bytes are held,
+//! and read again for the signature that is sought.
 
-ghost use Rattle.std.specs.Prelude.{◌≡◌, ◌≤◌, [], length, None};
+ghost use Rattle.std.specs.Prelude.{◌≡◌, ◌≤◌, length, None};
 ghost use Rattle.ssh_text.specs.Text.{file_limit};
 ghost use Rattle.ssh_inputs.specs.Seeking.{TellsOf, sought_of};
 ghost use Rattle.ssh_inputs.specs.VouchFile.{vouched_of};
@@ -46,14 +46,6 @@ fn seek_held(bytes: &[u8], sought: Option<&Signed>) -> Result<Found, u64>
 }
 
 impl<'a> Vouches<'a> {
-    /// No signatures.
-    #[tactic(auto, unfolding(ssh_inputs::specs::VouchFile::vouched_of))]
-    pub fn none() -> Vouches<'a>
-        ensures { result ≡ [] }
-    {
-        Vouches { bytes: &[] }
-    }
-
     /// The signatures of a vouch file of these bytes, or its first line that is no triple.
     pub fn new(bytes: &'a [u8]) -> Result<Vouches<'a>, u64>
         requires { length bytes.now ≤ file_limit }

@@ -1,4 +1,5 @@
-//! What these tests ask: a login and a host's key, each as a line of standard input.
+//! What these tests ask: a login, a host's key and a file signature, each as a line of standard
+//! input.
 
 use std::alloc::Global;
 use std::test::Fail;
@@ -21,6 +22,13 @@ pub(crate) const HOST: &str =
 /// What has to be vouched for.
 pub(crate) const HOST_TRIPLE: &str =
     "0000000b7373682d65643235353139000000200000000000000000000000000000000000000000000000000000000000000000 01020304 0000000b7373682d6564323535313900000001aa";
+
+/// A file signature of an empty message, whose body follows on standard input.
+pub(crate) const SIGNATURE: &str = "sshsig --body - --message - --namespace file --vouch f\n";
+
+/// Its body, by K0.
+pub(crate) const BODY: &str =
+    "SSHSIG\0\0\0\x01\0\0\0\x33\0\0\0\x0bssh-ed25519\0\0\0\x20\0\0\0\0\0\0\0\0\0\0\0\0\0\0\0\0\0\0\0\0\0\0\0\0\0\0\0\0\0\0\0\0\0\0\0\x04file\0\0\0\0\0\0\0\x06sha256\0\0\0\x14\0\0\0\x0bssh-ed25519\0\0\0\x01\x2a";
 
 /// The parts of a text, one after the other.
 pub(crate) fn joined(alloc: Global, parts: &[&str]) -> Result<String, Fail> {

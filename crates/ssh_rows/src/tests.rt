@@ -1,6 +1,6 @@
 //! What stands after failed reads and writes.
 
-use crate::asked::{K0, LOGIN, LOGIN_TRIPLE, joined};
+use crate::asked::{BODY, K0, LOGIN, LOGIN_TRIPLE, SIGNATURE, joined};
 use crate::printing::{printed_failing, printed_refusal, printed_until};
 use ssh_words::WordsError;
 use std::alloc::Global;
@@ -122,6 +122,26 @@ fn hashes_nothing_of_a_file_whose_read_fails(rt: HostRuntime) -> Result<(), Fail
     let first = line.len() as u64;
     for (index, wanted) in [(first + 1, "fault file f\n"), (first + 3, "fault A9\n")] {
         compare_failed(&rt, alloc, "0123456789abcdefghij", &file, index, wanted)?;
+    }
+    Ok(())
+}
+
+/// The vouch file is the file `f`, which is read before the body and the message, and once more
+/// after them. These two are standard input: it has all of the body, and nothing is left of it.
+#[test]
+fn prints_the_fault_of_a_vouch_file_that_is_read_again(rt: HostRuntime) -> Result<(), Fail> {
+    let alloc = rt.alloc();
+    let input = joined(alloc, [SIGNATURE, BODY].as_slice())?;
+    let first = SIGNATURE.len() as u64;
+    for (index, wanted) in [
+        (first + 1, "fault file f\n"),
+        (first + 2, "fault file f\n"),
+        (first + 3, "fault file -\n"),
+        (first + 5, "fault file -\n"),
+        (first + 6, "fault file f\n"),
+        (first + 7, "fault file f\n"),
+    ] {
+        compare_failed(&rt, alloc, "- - -\n", &input, index, wanted)?;
     }
     Ok(())
 }

@@ -1,22 +1,10 @@
 use Rattle.std.proofs.Common.{rules}
 use Rattle.ssh_print.specs.ResponseView.{response}
 use Rattle.ssh_words.specs.AskedView.{question_of}
-use Rattle.ssh_command.proofs.SshsigLemmas.{vouch_file_responds, vouch_file_unread, words_signed}
+use Rattle.ssh_command.proofs.SshsigLemmas.{words_signed}
 use Rattle.ssh_command.proofs.sshsig.respond_signature.Goals as goal
 
 pub returns-in-None : goal.returns-in-None
 returns-in-None g c =
     words_signed response (question_of c.args.question.now) (g.F.Files.source_state c.args.files.now) (g.F.Files.source_state c.respond_vouched.new.files) c.respond_vouched.result
-    (search rules) (rw c.none.ensures at c.respond_vouched.ensures)
-
-pub returns-in-Ok : goal.returns-in-Ok
-returns-in-Ok g c =
-    vouch_file_responds response (question_of c.args.question.now) c.in-Some.name.now c.in-Ok.bytes.items c.deref.result.now
-    (g.F.Files.source_state c.args.files.now) (g.F.Files.source_state c.read_vouch_file.new.files) (g.F.Files.source_state c.respond_vouch_bytes.new.files) c.respond_vouch_bytes.result
-    (search rules) (search rules) c.in-Ok.ensures.bytes c.respond_vouch_bytes.ensures
-
-pub returns-in-Err : goal.returns-in-Err
-returns-in-Err g c =
-    vouch_file_unread response (question_of c.args.question.now) c.in-Some.name.now
-    (g.F.Files.source_state c.args.files.now) (g.F.Files.source_state c.read_vouch_file.new.files) c.in-Err.fault c.unread.result
-    (search rules) c.in-Err.ensures.bytes c.unread.ensures
+    (search rules) c.respond_vouched.ensures

@@ -1,0 +1,19 @@
+use Rattle.std.proofs.Common.{rules}
+use Rattle.ssh_offers.specs.FileSignatureView.{sshsig_claim_of}
+use Rattle.ssh_print.specs.ResponseView.{response}
+use Rattle.ssh_words.specs.AskedView.{question_of}
+use Rattle.ssh_command.specs.Digests.{digest_bytes}
+use Rattle.ssh_command.proofs.VouchingLemmas.{digest_responds, other_responds}
+use Rattle.ssh_command.proofs.sshsig.respond_digest.Goals as goal
+
+pub returns-then-ne : goal.returns-then-ne
+returns-then-ne g c =
+    other_responds response (question_of c.args.question.now) c.args.vouching.now (sshsig_claim_of c.args.claim.now) (digest_bytes c.args.digest.now)
+    (g.F.Files.source_state c.args.files.now) c.sshsig_response.result
+    (search rules) c.sshsig_response.ensures
+
+pub returns : goal.returns
+returns g c =
+    digest_responds response (question_of c.args.question.now) c.args.vouching.now (sshsig_claim_of c.args.claim.now) (digest_bytes c.args.digest.now) c.in_ok-signed.signed
+    (g.F.Files.source_state c.args.files.now) (g.F.Files.source_state c.respond_signed.new.files) c.respond_signed.result
+    (search rules) c.in_ok-signed.ensures c.respond_signed.ensures
