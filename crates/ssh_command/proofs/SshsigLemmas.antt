@@ -1,5 +1,5 @@
 -- From what the files give to what is answered to a file signature.
-use Rattle.std.proofs.Common.{◌≡◌, ◌∙◌, ◌+◌, ℕ, false, true, take, List, [], Option, Some, None, Result, Ok, Err, refl, sym, ap, subst, inl, inr, arith}
+use Rattle.std.proofs.Common.{◌≡◌, ◌∙◌, ◌+◌, ◌⊎◌, ℕ, false, take, List, [], Option, Some, None, Result, Ok, Err, refl, sym, ap, subst, inl, inr, arith}
 use Rattle.std.specs.Prelude.{IfOk, ⊤}
 use Rattle.std.specs.Borrow.{Bor}
 use Rattle.std.specs.Str.{bytes_eq}
@@ -224,9 +224,14 @@ body_responds view w v front read (Some s) (Some t) u (Ok r) is loads h = λ cou
     after-body w (again_in v) vouched body read s t u (view r) claim told same (left-alike s (after_whole s w.body) t refl left)
     (h (omega (arith, counts, same)) vouched (vouched-kept v s t vouched left.0 vouches))
 
--- the answer by the body and the message, after the vouch file was read
+-- what is not read again cannot fail the second time
+never-again : (w : SshsigQuestion) (again : Option (List ℕ)) (s : SourceState) (u : Option SourceState) (r : Shown) → again ≡ None → IsLastFault w again s u r → ⊥
+never-again w again s u r none h =
+    let (body, told, (on, message, fault)) = subst (λ a. IsLastFault w a s u r) none h in fault
+
+-- the answer by the body and the message, after the vouch file was read, which is read again or not
 after-vouch : (w : SshsigQuestion) (again : Option (List ℕ)) (told : Result (List Signed) Shown) (s t : SourceState) (u : Option SourceState) (r : Shown)
-    → again ≡ read_again w.vouch → vouched_in w.vouch s ≡ told → t.failures ≡ s.failures → Alike t (after_vouching w.vouch s)
+    → (again ≡ None) ⊎ (again ≡ read_again w.vouch) → vouched_in w.vouch s ≡ told → t.failures ≡ s.failures → Alike t (after_vouching w.vouch s)
     → SignsVouched w again told t u r → Signs w s u r
 after-vouch w again (Err v) s t u r named e same left h =
     inl (none-failed s t u same h.0, h.1 ∙ sym (ap (vouched_over w (after_vouching w.vouch s)) e))
@@ -235,11 +240,13 @@ after-vouch w again (Ok vouched) s t u r named e same left (inl h) =
     inl (none-failed s t u same h.0, h.1 ∙ (body ∙ sym (ap (vouched_over w (after_vouching w.vouch s)) e)))
 after-vouch w again (Ok vouched) s t u r named e same left (inr (inl h)) =
     inr (inr (vouched, e, inl (content_fault-same w t (after_vouching w.vouch s) u r left h)))
-after-vouch w again (Ok vouched) s t u r named e same left (inr (inr h)) =
+after-vouch w again (Ok vouched) s t u r (inl none) e same left (inr (inr h)) =
+    absurd (never-again w again t u r none h)
+after-vouch w again (Ok vouched) s t u r (inr named) e same left (inr (inr h)) =
     let moved : IsLastFault w again (after_vouching w.vouch s) u r = last_fault-same w again t (after_vouching w.vouch s) u r left h in
     inr (inr (vouched, e, inr (subst (λ a. IsLastFault w a (after_vouching w.vouch s) u r) named moved)))
 
--- ---- a vouch file on standard input
+-- ---- a vouch file that is read once
 
 -- the signatures of the bytes that are held
 pub held_responds : {R E : Type 0} (view : R → Shown) (w : SshsigQuestion) (bytes : List ℕ) (vouched : List Signed) (o u : Option SourceState) (res : Result R E)
@@ -252,22 +259,19 @@ held_responds view w bytes vouched (Some s) u (Ok r) is h = λ counts.
     let answer : SignsVouched w None (or_vouch_fault (Ok vouched)) s u (view r) = h counts vouched refl in
     subst (λ told. SignsVouched w None (or_vouch_fault told) s u (view r)) (sym is) answer
 
-input-again : (w : SshsigQuestion) (name : List ℕ) → w.vouch ≡ Some name → bytes_eq name dash ≡ true → None ≡ read_again w.vouch
-input-again w name v input = rw (v, input) refl
-
 -- its bytes were read
 pub vouch_file_responds : {R E : Type 0} (view : R → Shown) (w : SshsigQuestion) (name bytes read : List ℕ) (o t u : Option SourceState) (res : Result R E)
-    → w.vouch ≡ Some name → bytes_eq name dash ≡ true → read ≡ bytes
+    → w.vouch ≡ Some name → read ≡ bytes
     → IfTells o (λ s. (within_limit (part_at s name) ≡ Some bytes) × IsLeft s (after_part s name) t)
     → IfTells t (λ s. IfOk res (λ r. SignsVouched w None (or_vouch_fault (vouched_of read)) s u (view r)))
     → IfTells o (λ s. IfOk res (λ r. Signs w s u (view r)))
-vouch_file_responds view w name bytes read None t u res v input is loads h = tt
-vouch_file_responds view w name bytes read (Some s) None u res v input is loads h = λ counts. absurd ((loads counts).1)
-vouch_file_responds view w name bytes read (Some s) (Some t) u (Err e) v input is loads h = λ counts. tt
-vouch_file_responds view w name bytes read (Some s) (Some t) u (Ok r) v input is loads h = λ counts.
+vouch_file_responds view w name bytes read None t u res v is loads h = tt
+vouch_file_responds view w name bytes read (Some s) None u res v is loads h = λ counts. absurd ((loads counts).1)
+vouch_file_responds view w name bytes read (Some s) (Some t) u (Err e) v is loads h = λ counts. tt
+vouch_file_responds view w name bytes read (Some s) (Some t) u (Ok r) v is loads h = λ counts.
     let load = loads counts in
     let same : t.failures ≡ s.failures = load.1.2 in
-    after-vouch w None (or_vouch_fault (vouched_of read)) s t u (view r) (input-again w name v input) (told_by w.vouch name bytes read s v is load.0) same
+    after-vouch w None (or_vouch_fault (vouched_of read)) s t u (view r) (inl refl) (told_by w.vouch name bytes read s v is load.0) same
     (left_by w.vouch name s t v load.1) (h (omega (arith, counts, same)))
 
 -- ---- a vouch file that has a name
@@ -289,7 +293,7 @@ named_responds view w name found (Some s) (Some t) u (Ok r) v other loads h = λ
     let same : t.failures ≡ s.failures = left.2 in
     let told : vouched_or_fault name.now (within_limit (part_at s name.now)) ≡ Ok vouched = ap (vouched_or_fault name.now) whole ∙ ap or_vouch_fault is in
     let vouches : VouchesFor (Named name) t vouched = vouched-kept (Named name) s t vouched left.0 (other, told) in
-    after-vouch w (Some name.now) (Ok vouched) s t u (view r) (named-again w name.now v other) (ap (λ z. vouched_in z s) v ∙ told) same
+    after-vouch w (Some name.now) (Ok vouched) s t u (view r) (inr (named-again w name.now v other)) (ap (λ z. vouched_in z s) v ∙ told) same
     (left_by w.vouch name.now s t v left) (h (omega (arith, counts, same)) vouched vouches)
 
 -- it has a line that is no triple
@@ -309,7 +313,7 @@ named_faulty view w name number (Some s) t (Ok r) v loads h = λ counts.
 
 no-vouch : (w : SshsigQuestion) (s : SourceState) (u : Option SourceState) (r : Shown) → w.vouch ≡ None → SignsBody w None [] s u r → Signs w s u r
 no-vouch w s u r v h =
-    after-vouch w None (Ok []) s s u r (sym (ap read_again v)) (ap (λ z. vouched_in z s) v) refl (subst (λ z. Alike s (after_vouching z s)) (sym v) (alike-same s)) h
+    after-vouch w None (Ok []) s s u r (inl refl) (ap (λ z. vouched_in z s) v) refl (subst (λ z. Alike s (after_vouching z s)) (sym v) (alike-same s)) h
 
 pub words_signed : {R E : Type 0} (view : R → Shown) (w : SshsigQuestion) (o u : Option SourceState) (res : Result R E) → w.vouch ≡ None
     → IfTells o (λ s. IfOk res (λ r. ByVouching (SignsBody w) Nothing s u (view r)))

@@ -125,18 +125,18 @@ again_unread view name signed None t e res fails is = tt
 again_unread view name signed (Some s) t e (Err x) fails is = λ counts. tt
 again_unread view name signed (Some s) t e (Ok r) fails is = λ counts vouched known. again-fault name signed vouched s t e (view r) known (fails counts) is
 
-named-signed : {R E : Type 0} (view : R → Shown) (name : Bor (List ℕ)) (signed : Signed) (o t : Option SourceState) (res : Result R E)
+again-signed : {R E : Type 0} (view : R → Shown) (name : Bor (List ℕ)) (signed : Signed) (o t : Option SourceState) (res : Result R E)
     → IfTells o (λ s. IfOk res (λ r. SignsAgain signed name.now s t (view r)))
     → IfTells o (λ s. IfOk res (λ r. ByVouching (SignsOne signed) (Named name) s t (view r)))
-named-signed view name signed None t res h = tt
-named-signed view name signed (Some s) t (Err e) h = λ counts. tt
-named-signed view name signed (Some s) t (Ok r) h = λ counts vouched vouches. h counts vouched vouches.1
+again-signed view name signed None t res h = tt
+again-signed view name signed (Some s) t (Err e) h = λ counts. tt
+again-signed view name signed (Some s) t (Ok r) h = λ counts vouched vouches. h counts vouched vouches.1
 
 -- the file of this name
 pub named_signed : {R E : Type 0} (view : R → Shown) (v : Vouching) (name : Bor (List ℕ)) (signed : Signed) (o t : Option SourceState) (res : Result R E) → v ≡ Named name
     → IfTells o (λ s. IfOk res (λ r. SignsAgain signed name.now s t (view r)))
     → IfTells o (λ s. IfOk res (λ r. ByVouching (SignsOne signed) v s t (view r)))
-named_signed view v name signed o t res is h = rw is (named-signed view name signed o t res h)
+named_signed view v name signed o t res is h = rw is (again-signed view name signed o t res h)
 
 -- ---- a claim
 

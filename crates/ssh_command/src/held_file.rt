@@ -73,6 +73,10 @@ impl Files for HeldFile<'_> {
         }
     }
 
+    fn is_regular(&self, _name: &str) -> bool {
+        true
+    }
+
     fn read_chosen(&mut self, buf: &mut [u8]) -> Result<usize> {
         match self.place {
             Place::Nowhere => {

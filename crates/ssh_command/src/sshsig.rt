@@ -144,15 +144,15 @@ fn respond_vouch_bytes<F: Files>(
     }
 }
 
-/// The response by a vouch file on standard input, whose bytes are held.
+/// The response by a vouch file that can be read once, as standard input and a pipe can: its bytes are
+/// held.
 fn respond_held<F: Files>(
     alloc: Global,
     question: &SshsigQuestion<'_>,
     name: &str,
     files: &mut F,
 ) -> Result<Response, AllocError>
-    requires vouch { (question_of question.now).vouch ≡ Some name.now }
-    requires input { bytes_eq name.now dash ≡ true }
+    requires { (question_of question.now).vouch ≡ Some name.now }
     ensures { IfTells (F.source_state files.old) (λ s. IfOk result (λ r.
         Signs (question_of question.entry.now) s (F.source_state files.new) (response r))) }
 {
@@ -162,8 +162,8 @@ fn respond_held<F: Files>(
     }
 }
 
-/// The response by a vouch file that has a name. It is read to its end, since its faults are told
-/// first, and nothing of it is kept.
+/// The response by a vouch file that has a name and can be read again. It is read to its end, since its
+/// faults are told first, and nothing of it is kept.
 fn respond_named<F: Files>(
     alloc: Global,
     question: &SshsigQuestion<'_>,
@@ -193,8 +193,10 @@ fn respond_signature<F: Files>(
 {
     match question.vouch {
         None => respond_vouched(alloc, question, &Vouching::Nothing, files),
-        Some(name) if name == "-" => respond_held(alloc, question, name, files),
-        Some(name) => respond_named(alloc, question, name, files),
+        Some(name) if name != "-" && files.is_regular(name) => {
+            respond_named(alloc, question, name, files)
+        }
+        Some(name) => respond_held(alloc, question, name, files),
     }
 }
 

@@ -21,7 +21,7 @@ use std::alloc::{AllocError, Global};
 pub enum Vouching<'a> {
     /// There is no vouch file.
     Nothing,
-    /// A vouch file on standard input, which cannot be read twice: its bytes are held.
+    /// A vouch file that cannot be read twice, as standard input and a pipe cannot: its bytes are held.
     Held(Vouches<'a>),
     /// The vouch file of this name. Nothing of it is held: it is read again for the signature that
     /// is sought.

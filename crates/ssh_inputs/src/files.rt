@@ -23,6 +23,10 @@ pub trait Files: Read {
             (λ s. IsTrue result ↔ IsSome (bytes_at s name.now)) }
         ensures chosen { ChoosesKnown (source_state self.old) (source_state self.new) name.now };
 
+    /// Whether the file of this name is a regular one, which can be read again, as a pipe and standard
+    /// input cannot. No answer depends on it, but whether a file's bytes are held.
+    fn is_regular(&self, name: &str) -> bool;
+
     /// Reads on in the chosen file. A failed read is counted, and the file's name is kept.
     fn read_chosen(&mut self, buf: &mut [u8]) -> Result<usize>
         ensures bound { ReadsAtMost result buf.new }

@@ -95,6 +95,10 @@ impl Files for OneFile<'_> {
         }
     }
 
+    fn is_regular(&self, name: &str) -> bool {
+        name == self.name
+    }
+
     fn read_chosen(&mut self, buf: &mut [u8]) -> Result<usize> {
         match self.place {
             Place::Nowhere => {
@@ -158,6 +162,10 @@ impl Files for FailsAt<'_> {
         self.source.choose(name)
     }
 
+    fn is_regular(&self, name: &str) -> bool {
+        self.source.is_regular(name)
+    }
+
     fn read_chosen(&mut self, buf: &mut [u8]) -> Result<usize> {
         self.reads = self.reads.saturating_add(1);
         if self.reads >= self.index {
@@ -201,6 +209,10 @@ impl Files for Sips<'_> {
 
     fn choose(&mut self, name: &str) -> bool {
         self.source.choose(name)
+    }
+
+    fn is_regular(&self, name: &str) -> bool {
+        self.source.is_regular(name)
     }
 
     fn read_chosen(&mut self, buf: &mut [u8]) -> Result<usize> {
