@@ -1,6 +1,7 @@
 pub mod Appended
 pub mod DateLemmas
 pub mod LineLemmas
+pub mod StepLemmas
 pub mod ByteLemmas
 pub mod MemoryLemmas
 pub mod DigestLemmas

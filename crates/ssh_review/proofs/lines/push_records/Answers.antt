@@ -1,11 +1,48 @@
-use Rattle.std.proofs.Common.{arith}
+use Rattle.std.proofs.Common.{◌≡◌, ℕ, ◌+◌, List, [], ◌++◌, ap, subst, arith, rules}
 use Rattle.ssh_text.specs.Text.{lines_of, numbered}
 use Rattle.ssh_names.proofs.ByteLemmas.{AreBytes-from}
-use Rattle.ssh_findings.specs.Asking.{asking_of}
-use Rattle.ssh_review.specs.Lines.{counts_of}
+use Rattle.ssh_findings.specs.Asking.{Asking, asking_of}
+use Rattle.ssh_findings.specs.Keeping.{RemembersEntries}
+use Rattle.ssh_lines.specs.declared.entry.AuthLine.{AuthLine}
+use Rattle.ssh_lines.specs.AuthGrammar.{auth_line}
+use Rattle.ssh_lines.specs.LineView.{line_seen}
+use Rattle.ssh_review.specs.declared.counts.Counts.{Counts}
+use Rattle.ssh_review.specs.Lines.{counts_of, held_by_line}
 use Rattle.ssh_review.proofs.LineLemmas.{Fits, keys-fit, told_fits}
 use Rattle.ssh_review.proofs.MemoryLemmas.{file-long}
+use Rattle.ssh_review.proofs.StepLemmas.{step-bytes, step-counts, step-held, step-text}
 use Rattle.ssh_review.proofs.lines.push_records.Goals as goal
+
+pub loop-number-init : goal.loop-number-init
+loop-number-init c = (tt, tt, ([], c.requires.none, search rules, search rules, search rules), search rules, search rules)
+
+pub loop-number-preserved : goal.loop-number-preserved
+loop-number-preserved c =
+    let asking : Asking = asking_of c.args.asked.now in
+    let before = c.loop-number.invariant.2 in
+    let number : ℕ = c.in-Some.number in
+    let line : List ℕ = c.in-Some.line.now in
+    let now = numbered (c.loop-number.number-iterator).0 (lines_of (c.loop-number.number-iterator).1) in
+    let next = numbered (c.next.new.self).0 (lines_of (c.next.new.self).1) in
+    let said : AuthLine = line_seen c.read_auth_view-view.result in
+    let says : said ≡ auth_line line = c.read_auth_view-view.ensures.exact in
+    let steps = c.in-Some.ensures.steps in
+    let told = c.in_ok-told.ensures in
+    let keys : (c.plus-counts.result).keys ≡ c.loop-number.counts.keys + c.in_ok-told.told.keys = ap (λ (c : Counts). c.keys) c.plus-counts.ensures in
+    let more = told.keys in
+    let most = c.loop-number.invariant.4 in (
+      tt,
+      tt,
+      (
+        before.0 ++ held_by_line asking (number, auth_line line),
+        subst (λ s. RemembersEntries c.push_line.new.earlier (before.0 ++ held_by_line asking (number, s))) says (told.kept before.0 before.1),
+        step-text c.args.form asking c.args.name.now before.0 number line said now next _ _ _ steps says (told.text before.0 before.1) before.2,
+        step-counts asking before.0 number line said now next c.loop-number.counts c.in_ok-told.told c.plus-counts.result _ steps says (told.counts before.0 before.1) c.plus-counts.ensures before.3,
+        step-held asking before.0 _ number line now next steps before.4,
+      ),
+      step-bytes asking number line said now next _ _ _ steps says told.bytes c.loop-number.invariant.3,
+      omega (arith, keys, more, most),
+    )
 
 pub plus-counts-requires : goal.plus-counts-requires
 plus-counts-requires c =
