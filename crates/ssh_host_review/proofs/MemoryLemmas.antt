@@ -10,7 +10,7 @@ use Rattle.ssh_lines.specs.KnownEntry.{KnownEntry}
 use Rattle.ssh_lines.specs.KnownGrammar.{RevokesBytes, SpellsKnown, fourth_field, known_line}
 use Rattle.ssh_lines.specs.declared.known.KnownLine.{KnownLine}
 use Rattle.ssh_lines.specs.declared.known.KnownLine.TheVariants.{Blank, Comment, Entry, Revoked, RevokedUnreadable, Unreadable}
-use Rattle.ssh_lines.proofs.LengthLemmas.{length-next, length-word, length_body}
+use Rattle.ssh_lines.proofs.LengthLemmas.{length_next, length-word, length_body}
 use Rattle.ssh_lines.proofs.ReadKnown.{known_line-spells}
 use Rattle.ssh_lines.proofs.RevokedLemmas.{read-revokes}
 use Rattle.ssh_offers.specs.FirstRefusal.{AreBytes}
@@ -78,9 +78,9 @@ revoked-long line bytes h =
       same,
       base64-long bytes,
       length-word (next_field (next_field (next_field body))),
-      length-next (next_field (next_field body)),
-      length-next (next_field body),
-      length-next body,
+      length_next (next_field (next_field body)),
+      length_next (next_field body),
+      length_next body,
       length_body 13 line,
     )
 
@@ -91,9 +91,9 @@ revoked-some line bytes h =
       arith,
       some-long (fourth_field line) h.some,
       length-word (next_field (next_field (next_field body))),
-      length-next (next_field (next_field body)),
-      length-next (next_field body),
-      length-next body,
+      length_next (next_field (next_field body)),
+      length_next (next_field body),
+      length_next body,
       length_body 13 line,
     )
 

@@ -1,4 +1,4 @@
-use Rattle.std.proofs.Common.{◌++◌, arith, length}
+use Rattle.std.proofs.Common.{[], ◌++◌, arith, length, rules}
 use Rattle.ssh_lines.specs.KnownSeen.{known_seen}
 use Rattle.ssh_text.specs.Text.{lines_of, numbered}
 use Rattle.ssh_names.proofs.ByteLemmas.{AreBytes-from}
@@ -20,6 +20,9 @@ plus-counts-requires c =
     told_fits (asking_of c.args.asked.now) (c.loop-number.invariant.2).0 c.args.file.now c.loop-number.counts c.in_ok-told.told c.in-Some.number c.in-Some.line.now _ now next
     c.requires.limit c.in-Some.ensures.steps c.read_known_view-view.ensures.exact (c.in_ok-told.ensures.counts (c.loop-number.invariant.2).0 (c.loop-number.invariant.2).1) (c.loop-number.invariant.2).3 in
     record { lines = fits.lines; keys = fits.keys; unreadable = fits.unreadable; findings = fits.findings }
+
+pub loop-number-init : goal.loop-number-init
+loop-number-init c = (tt, tt, ([], c.requires.none, search rules, search rules, search rules), search rules, λ weight. search rules)
 
 pub loop-number-preserved : goal.loop-number-preserved
 loop-number-preserved c =
