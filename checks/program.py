@@ -505,6 +505,16 @@ def held_vouch_row(program, tally):
     (program.room / "large").unlink()
 
 
+def piped_vouch_row(program, tally):
+    """A file signature's vouch file that is a pipe with a name gives its bytes once: they are held, and not read again."""
+    pipe = program.room / "pipe"
+    os.mkfifo(pipe)
+    writer = threading.Thread(target=pipe.write_text, args=(FILES["file vouched"],), daemon=True)
+    writer.start()
+    tally.check("sshsig: a vouch file that is a pipe", program.run(sshsig("body", "message", "pipe"))[:2], (0, VOUCHED.encode()))
+    pipe.unlink()
+
+
 def longest_row(program, tally):
     """A certificate of 262,144 bytes, which no word holds: it is judged, and one byte more is not."""
     made = hurt.Made(extensions=[(b"long@example.com", b"")])
@@ -692,7 +702,7 @@ def long_text_rows(program, tally):
         tally.check(f"a long text, of which {wants} bytes are read", (ended, got == wanted[:wants]), ((status, b""), True))
 
 
-ROWS = (answer_rows, size_rows, input_rows, endless_rows, star_rows, streamed_rows, vouching_rows, held_vouch_row, longest_row, named_rows, bench_rows, keygen_rows, hashing_rows, writer_rows, long_text_rows)
+ROWS = (answer_rows, size_rows, input_rows, endless_rows, star_rows, streamed_rows, vouching_rows, held_vouch_row, piped_vouch_row, longest_row, named_rows, bench_rows, keygen_rows, hashing_rows, writer_rows, long_text_rows)
 
 
 # ---- the other checks
