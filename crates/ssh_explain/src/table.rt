@@ -243,7 +243,7 @@ pub(crate) static LINES: [Texts; 16] = [
 ];
 
 /// What a review finds of a line.
-pub(crate) static FINDINGS: [Texts; 21] = [
+pub(crate) static FINDINGS: [Texts; 22] = [
     (
         "F1",
         "the line cannot be read here, and OpenSSH may read it; the L code follows",
@@ -272,17 +272,17 @@ pub(crate) static FINDINGS: [Texts; 21] = [
     (
         "F6",
         "the line has expired",
-        "it lets nobody in any more: delete it",
+        "it lets nobody in any more: delete it. Where an expiry time has no Z, this is told an hour later, since OpenSSH may be late by one",
     ),
     (
         "F7",
-        "the line lets nobody in: its from= or principals= list, whichever is named, permits nobody",
-        "somebody believes that this key works, and it does not; OpenSSH reads some such lists: mend the list",
+        "the line lets nobody in: its from= or principals= list, whichever is named, permits nobody; from-here: nobody here, but OpenSSH may read its from= list otherwise",
+        "somebody believes that this key works: mend the list. Where from-here is named, count the line as access until then",
     ),
     (
         "F8",
-        "OpenSSH reads the line otherwise: principals= without cert-authority, empty-principal in the list, verify-required of a key that is no security key, local-time of an expiry time without Z, tab after a marker",
-        "write what is meant: both programs then say the same",
+        "OpenSSH reads the line otherwise: principals= without cert-authority, empty-principal in the list, verify-required of a key that is no security key, local-time of an expiry time without Z, short-address in from= (127.1), tab after a marker, type of a revocation that is not its key's",
+        "write what is meant: both programs then say the same. Count short-address as access until then; a revocation with tab or type, ssh may pass over",
     ),
     (
         "F9",
@@ -301,8 +301,8 @@ pub(crate) static FINDINGS: [Texts; 21] = [
     ),
     (
         "F12",
-        "the line's key is both trusted and revoked: see line K",
-        "it is denied wherever it stands (N1): delete the trusting line",
+        "the line's key is both trusted and revoked: see line K; spelling K: the revocation on line K has another spelling of this key",
+        "it is denied wherever it stands (N1): delete the trusting line. With spelling K only OpenSSH denies it: revoke the key as ssh-keygen spells it too",
     ),
     (
         "F13",
@@ -348,6 +348,11 @@ pub(crate) static FINDINGS: [Texts; 21] = [
         "F21",
         "the same host key stands on line K",
         "another name of one host, or two hosts that share a key (cloned machines)",
+    ),
+    (
+        "F22",
+        "OpenSSH may refuse this line, and a later one then decides",
+        "mend the option, or delete the line. permitopen, permitlisten, environment, tunnel: a text not in the form of sshd(8); nul: a NUL byte; long-item: 1,023 bytes or more in an item; rsa: under 1,024 or over 16,384 bits",
     ),
 ];
 
