@@ -4,12 +4,19 @@ tables of options in docs/MANUAL.md with the rows in the code.
 
 usage: documents.py [PROGRAM]
 
-A block of a document that is marked `sh` is run; in one that is marked `console` each line that begins with `$ ` is a
-command, and the lines below it are what it has to print (`..` at the end of a line: it was cut short there). Other
-blocks are not run. The blocks of one document run in one shell, at the top of the repository; a console's command may
-end with status 1 or 2, and a line of a block marked `sh` may not. Needs bash, ssh-keygen, openssl 3 and the built
-program. A table `| Option of `NAME` | ..` has a row for each option of that subcommand in the order of the code, and says
-"left out" of exactly those that may be. The last line is 'N passed, M failed'; the status is 0 where nothing failed."""
+All blocks of a document run in one shell, from top to bottom, at the top of a folder with the repository's paths in it.
+A block that is marked `sh` is run as a whole, and has to succeed; in one that is not marked each line is a command, and
+each has to succeed. In one that is marked `console` each line that begins with `$ ` is a command, and the lines below it
+are what it has to print (`..` at the end of a line: it was cut short there); its status may be 0 to 3. A line that ends
+with a backslash goes on. When all have run, the shell has to be at the top again.
+
+What would prove for an hour, or install into the system, is stood in for by stand_ins/: those work only in a folder where
+the real ones would, and each has to be called that the document names. The environment is a bare one, as that of cron:
+USER and LOGNAME are not set, and HOME is a made-up user's.
+
+Needs bash, ssh-keygen, openssl 3 and the built program. A table `| Option of `NAME` | ..` has a row for each option of that
+subcommand in the order of the code, and says "left out" of exactly those that may be. The last line is 'N passed, M failed';
+the status is 0 where nothing failed."""
 import os
 import pathlib
 import re
@@ -20,7 +27,9 @@ import tempfile
 HERE = pathlib.Path(__file__).resolve().parent
 TOP = HERE.parent
 PROGRAM = pathlib.Path(sys.argv[1] if len(sys.argv) > 1 else TOP / "crates" / "ssh_audit" / "out" / "ssh_audit").resolve()
-DOCUMENTS = ("README.md", "docs/MANUAL.md")
+STAND_INS = HERE / "stand_ins"
+# The documents, each with the stand-ins that its commands call. Where `rt run` is one, it leaves the program in its place.
+DOCUMENTS = {"README.md": {"rt try", "rt run", "rt all", ".ci/run", "sudo install"}, "docs/MANUAL.md": set()}
 BLOCK = re.compile(r"^```(\S*)\n(.*?)^```$", re.MULTILINE | re.DOTALL)
 CODE = TOP / "crates" / "ssh_words" / "src"
 TABLE = re.compile(r"^\| Option of `(\w+)` \|.*\n\|[-|]*\|\n((?:\|.*\n)*)", re.MULTILINE)
@@ -29,18 +38,23 @@ OPTION = re.compile(r"^\| `--([\w-]+)` \| (.*) \|$", re.MULTILINE)
 MARK = "\x1e"
 
 
+def joined(lines):
+    """The commands of these lines: a line that ends with a backslash goes on in the next one."""
+    return re.findall(r"(?:.*\\\n)*.+\n", lines)
+
+
 def commands(text):
-    """Each command and the lines that it has to print; none where a block marked `sh` is run as it stands."""
+    """Each command and the lines that it has to print; none where it has to succeed, whatever it prints."""
     for kind, body in BLOCK.findall(text):
         if kind == "sh":
             yield body.rstrip("\n"), None
+        elif kind == "":
+            for command in joined(body):
+                yield command.rstrip("\n"), None
         elif kind == "console":
             for piece in re.split(r"^\$ ", body, flags=re.MULTILINE)[1:]:
-                command, _, rest = piece.partition("\n")
-                while command.endswith("\\"):
-                    more, _, rest = rest.partition("\n")
-                    command += "\n" + more
-                yield command, rest.split("\n")[:-1]
+                command = joined(piece)[0]
+                yield command.rstrip("\n"), piece[len(command) :].split("\n")[:-1]
 
 
 def agrees(found, wanted):
@@ -49,32 +63,67 @@ def agrees(found, wanted):
     return len(found) == len(wanted) and all(a.startswith(b[:-2]) if b.endswith("..") else a == b for a, b in pairs)
 
 
-def repository(room):
-    """A folder that has the documents' paths in it, with the program that is asked of."""
+def repository(room, built):
+    """A folder that has the documents' paths in it, with the program where it is built."""
     top = room / "repository"
-    (top / "crates" / "ssh_audit" / "out").mkdir(parents=True)
-    (top / "examples").symlink_to(TOP / "examples")
-    (top / "crates" / "ssh_audit" / "stdin").symlink_to(TOP / "crates" / "ssh_audit" / "stdin")
-    (top / "crates" / "ssh_audit" / "out" / "ssh_audit").symlink_to(PROGRAM)
+    crate = top / "crates" / "ssh_audit"
+    (crate / "out").mkdir(parents=True)
+    (top / ".ci").mkdir()
+    (top / ".ci" / "run").symlink_to(STAND_INS / "ci_run")
+    for path in ("crates.txt", "docs", "examples", "crates/ssh_audit/stdin", "crates/ssh_audit/stdout"):
+        (top / path).symlink_to(TOP / path)
+    if built:
+        (crate / "out" / "ssh_audit").symlink_to(PROGRAM)
     return top
 
 
+def home(room):
+    """The folder of a user who has a key, and whose authorized_keys file has it."""
+    folder = room / "home" / ".ssh"
+    folder.mkdir(parents=True)
+    subprocess.run(["ssh-keygen", "-q", "-t", "ed25519", "-N", "", "-f", folder / "id_ed25519"], check=True)
+    (folder / "authorized_keys").write_bytes((folder / "id_ed25519.pub").read_bytes())
+    return folder.parent
+
+
+def settings(room, top):
+    """The environment that the commands run in."""
+    kept = {name: value for name, value in os.environ.items() if name not in ("USER", "LOGNAME")}
+    prefix = room / "prefix"
+    path = f"{STAND_INS}:{prefix}/usr/local/bin:{os.environ['PATH']}"
+    own = {"REPOSITORY": top, "PREFIX": prefix, "CALLED": room / "called", "SSH_AUDIT": PROGRAM}
+    return {**kept, "TMPDIR": str(room), "HOME": str(home(room)), "PATH": path, **{name: str(value) for name, value in own.items()}}
+
+
+def ran(document, found, room):
+    """What each command prints and its status; and where the shell ends, and which stand-ins were called."""
+    top = repository(room, "rt run" not in DOCUMENTS[document])
+    script = "".join(f"{command}\nprintf '{MARK}%d{MARK}' $?\n" for command, _ in found) + "pwd -P\n"
+    (room / "called").touch()
+    end = subprocess.run(["bash", "-c", script], cwd=top, env=settings(room, top), stdin=subprocess.DEVNULL, stdout=subprocess.PIPE, stderr=subprocess.STDOUT, check=False)
+    *parts, folder = end.stdout.decode(errors="replace").split(MARK)
+    pairs = list(zip(parts[::2], parts[1::2])) + [("no end", "no status")] * len(found)
+    called = set((room / "called").read_text().split("\n")[:-1])
+    return pairs[: len(found)], folder == f"{top}\n", called
+
+
 def tried(document, room):
-    """How many commands of a document passed and failed."""
+    """How many commands of a document passed and failed; and the two things that have to hold of its whole."""
     found = list(commands((TOP / document).read_text()))
-    script = "".join(f"{command}\nprintf '{MARK}%d{MARK}' $?\n" for command, _ in found)
-    settings = {**os.environ, "TMPDIR": str(room), "SSH_AUDIT": str(PROGRAM)}
-    ran = subprocess.run(["bash", "-c", script], cwd=repository(room), env=settings, stdin=subprocess.DEVNULL, stdout=subprocess.PIPE, stderr=subprocess.STDOUT, check=False)
-    parts = ran.stdout.decode(errors="replace").split(MARK)
-    passed = failed = 0
-    for number, (command, wanted) in enumerate(found):
-        printed, status = (parts[2 * number : 2 * number + 2] + ["no end", "no status"])[:2]
+    pairs, at_top, called = ran(document, found, room)
+    faults = []
+    for (command, wanted), (printed, status) in zip(found, pairs):
         lines = printed.split("\n")[:-1]
-        good = status == "0" if wanted is None else agrees(lines, wanted) and status in ("0", "1", "2")
-        passed, failed = passed + good, failed + (not good)
+        good = status == "0" if wanted is None else agrees(lines, wanted) and status in ("0", "1", "2", "3")
         if not good:
-            print(f"FAILED {document}: {command}\n  wanted {wanted}\n  found  {printed[:2000]!r}, status {status}")
-    return passed, failed
+            faults.append(f"{command}\n  wanted {wanted}\n  found  {printed[:2000]!r}, status {status}")
+    if not at_top:
+        faults.append("the shell does not end at the top of the repository")
+    if called != DOCUMENTS[document]:
+        faults.append(f"called: {sorted(called)}, and not {sorted(DOCUMENTS[document])}")
+    for fault in faults:
+        print(f"FAILED {document}: {fault}")
+    return len(found) + 2 - len(faults), len(faults)
 
 
 def rows_of_code():
