@@ -5,8 +5,10 @@ by hand from those files.
 usage: recipes.py [PROGRAM]
 
 Each section of the page has one block marked `sh`; all of them run in one shell, in their order, in a folder with the files
-of two quarters. The gate is tried on a git repository. Needs bash, jq, git, ssh-keygen and the built program. The last
-line is 'N passed, M failed'; the status is 0 where nothing failed."""
+of two quarters. The files of one machine are those of made-up accounts, by a configuration that the real sshd reads (which
+wants /run/sshd: it is made where it is missing). The gate is tried on a git repository. Needs bash, jq, git, ssh-keygen,
+sshd and the built program. The last line is 'N passed, M failed'; the status is 0 where nothing failed."""
+import hashlib
 import os
 import pathlib
 import re
@@ -24,8 +26,9 @@ PAGE = HERE.parent / "docs" / "RECIPES.md"
 SECTION = re.compile(r"^## (.*)\n((?:(?!^## ).*\n)*)", re.MULTILINE)
 BLOCK = re.compile(r"^```sh\n(.*?)^```$", re.MULTILINE | re.DOTALL)
 MARK = "\x1e"
-WEB, DB = "fleet/web1/ann/authorized_keys", "fleet/db1/root/authorized_keys"
-WEB_HOSTS, DB_HOSTS = "fleet/web1/ann/known_hosts", "fleet/db1/root/known_hosts"
+LIST = "The list of a quarter"
+WEB, DB = "fleet/web1/ann/authorized_keys", "fleet/db1/root/authorized_keys2"
+WEB_HOSTS, DB_HOSTS = "fleet/web1/ann/known_hosts", "fleet/db1/root/known_hosts2"
 EVERY = "port agent x11 pty rc"
 NAMES = ("laptop", "backup", "build", "bob", "ca", "carol", "ci", "work", "old")
 # 2026-02-02 and 2026-04-24, in UTC.
@@ -100,6 +103,31 @@ NEW = [
     (DB, "key", "backup", "none", 'restrict,command="/usr/bin/backup"'),
     (DB, "key", "ci", EVERY, ""),
 ]
+# The accounts of one machine, and what stands in their files: sshd reads all but the last two, and has no file for bob.
+ACCOUNTS = """ann:x:1001:1001::{room}/home/ann:/bin/sh
+bob:x:1002:1002::{room}/home/bob:/bin/sh
+carol:x:1003:1003::{room}/home/carol & co:/bin/sh
+dave:x:1004:1004::{room}/home/dave:/bin/sh
+"""
+MACHINE = {
+    "home/ann/.ssh/authorized_keys": "laptop",
+    "home/ann/.ssh/authorized_keys2": "backup",
+    "home/carol & co/.keys/one": "ci",
+    "home/carol & co/.keys/two": "work",
+    "keys/carol-1003%h": "build",
+    "home/carol & co/.ssh/authorized_keys": "old",
+    "home/dave/none": "old",
+}
+SSHD_CONFIG = """HostKey {room}/host_key
+TrustedUserCAKeys {room}/authorities
+Match User carol
+    AuthorizedKeysFile {room}/keys/%u-%U%%h %h/.keys/* {room}/keys/%u
+    AuthorizedKeysCommand /usr/bin/keys %u none
+    AuthorizedKeysCommandUser nobody
+Match User dave
+    AuthorizedKeysFile none
+    TrustedUserCAKeys none
+"""
 USED = ("laptop", "backup", "build", "work", "old")
 COMMENTS = {name: f"{name}@example" for name in NAMES} | {"carol": "=carol@example", "work": "m\u00fcller"}
 TOLD = {name: comment.replace("\u00fc", "\\xc3\\xbc") for name, comment in COMMENTS.items()}
@@ -123,6 +151,31 @@ def write_quarter(room, quarter, lines):
         (room / file).write_text(text.format(**lines))
 
 
+def write_machine(room, lines):
+    """The accounts and their files, and an sshd_config; `getent` prints these accounts."""
+    for file, key in MACHINE.items():
+        (room / file).parent.mkdir(parents=True, exist_ok=True)
+        (room / file).write_text(lines[key] + "\n")
+    (room / "accounts").write_text(ACCOUNTS.format(room=room))
+    (room / "sshd_config").write_text(SSHD_CONFIG.format(room=room))
+    subprocess.run(["ssh-keygen", "-q", "-t", "ed25519", "-N", "", "-f", "host_key"], cwd=room, check=True)
+    (room / "bin" / "getent").write_text(f'#!/bin/sh\n[ "$*" = passwd ] && cat {room}/accounts\n')
+    (room / "bin" / "getent").chmod(0o755)
+    os.makedirs("/run/sshd", exist_ok=True)
+
+
+def machine_review(room, marks):
+    """What is printed of that machine: the settings, and the review of the files that sshd reads."""
+    files = sorted((str(room / file) for file in [*MACHINE][:-2]), key=os.fsencode)
+    text = f"authorizedkeyscommand /usr/bin/keys %u none\nauthorizedkeyscommand none\ntrustedusercakeys {room}/authorities\ntrustedusercakeys none\n"
+    for file in files:
+        key = MACHINE[os.path.relpath(file, room)]
+        mark = hashlib.sha256(pathlib.Path(file).read_bytes()).hexdigest()
+        text += f"{file}:1: key ssh-ed25519 {marks[key]} {TOLD[key]}\n    rights {EVERY}\n"
+        text += f"{file}: 1 lines, 1 keys, 0 unreadable, 0 findings, sha256 {mark}\n"
+    return text + f"total: {len(files)} files, 0 faults, {len(files)} lines, {len(files)} keys, 0 unreadable, 0 findings\n"
+
+
 def table(rows):
     """Rows of fields between tabs, sorted as bytes are."""
     return "".join(line + "\n" for line in sorted("\t".join(map(str, row)) for row in rows))
@@ -143,13 +196,14 @@ def csv(marks):
         yield ",".join(map(csv_cell, (file, line, what, marks[key], rights, command, source, comment))) + "\n"
 
 
-def wanted(marks):
+def wanted(room, marks):
     """What each section's block prints."""
     access = [(marks[key], file, line, what, rights, command or "any", source or "any", TOLD[key]) for file, line, key, what, rights, command, source in ACCESS]
     unused = {key for _, _, key, what, *_ in ACCESS if what == "key"} - set(USED)
     counts = "".join(f"      1 {code}\n" for code in ("F1", "F4", "F5", "F6", "F9"))
     return {
-        "The list of a quarter": "",
+        "Which files count": machine_review(room, marks),
+        LIST: "",
         "Who has access": table(access),
         "What changed since the last quarter": "gone or changed:\n" + changes(GONE, marks) + "new or changed:\n" + changes(NEW, marks),
         "Where one key stands": f"{DB}:1\n{WEB}:3\n",
@@ -178,11 +232,11 @@ def run_blocks(room, blocks, settings):
 
 def recipe_rows(room, tally, settings, lines, marks):
     """The list of the first quarter is made by the page's own command; then all blocks run over the second quarter."""
-    found, expected = sections(), wanted(marks)
+    found, expected = sections(), wanted(room, marks)
     tally.check("each section has one block, and an expected text", [(title, len(blocks)) for title, blocks in found], [(title, 1) for title in expected])
     blocks = [blocks[0] for _, blocks in found]
     write_quarter(room, 0, lines)
-    run_blocks(room, blocks[:1], {**settings, "NOW": FIRST})
+    run_blocks(room, [block for (title, _), block in zip(found, blocks) if title == LIST], {**settings, "NOW": FIRST})
     os.replace(room / "q2.json", room / "q1.json")
     write_quarter(room, 1, lines)
     log = "".join(f"Apr  1 00:00:00 web1 sshd[1]: Accepted publickey for ann from 10.0.0.1 port 1 ssh2: ED25519 {marks[key]}\n" for key in USED)
@@ -190,6 +244,12 @@ def recipe_rows(room, tally, settings, lines, marks):
     (room / "owners.tsv").write_text("".join(f"{marks[key]}\tsomebody\n" for key in NAMES if key != "ci"))
     for (title, _), (printed, status) in zip(found, run_blocks(room, blocks, {**settings, "NOW": SECOND})):
         tally.check(title, (printed, status), (expected.get(title), "0"))
+
+
+def machine_rows(room, tally, settings):
+    """A configuration that sshd refuses: the list is not taken for the whole."""
+    ran = subprocess.run(["bash", "trust_files.sh"], cwd=room, env={**settings, "SSHD_CONFIG": "missing"}, stdout=subprocess.PIPE, stderr=subprocess.DEVNULL, check=False)
+    tally.check("the files of a machine whose sshd does not answer", (ran.returncode != 0, ran.stdout), (True, b""))
 
 
 def git(repository, *words):
@@ -245,7 +305,8 @@ def gate_rows(room, tally, settings, lines, marks):
 
 def main():
     path, tally = os.path.abspath(sys.argv[1] if len(sys.argv) > 1 else program.CRATE / "out" / "ssh_audit"), Tally()
-    missing = [need for need in ("bash", "jq", "git", "ssh-keygen", path) if shutil.which(need) is None]
+    os.environ["PATH"] += ":/usr/sbin"
+    missing = [need for need in ("bash", "jq", "git", "ssh-keygen", "sshd", path) if shutil.which(need) is None]
     if missing:
         print(f"{', '.join(missing)} missing: nothing was tried\n0 passed, 1 failed")
         return 1
@@ -254,8 +315,11 @@ def main():
         (room / "bin").mkdir()
         (room / "bin" / "ssh_audit").symlink_to(path)
         settings = {**os.environ, "PATH": f"{room / 'bin'}:{os.environ['PATH']}", "TMPDIR": str(room)}
+        settings["SSHD_CONFIG"] = str(room / "sshd_config")
         lines, marks = make_keys(room)
+        write_machine(room, lines)
         recipe_rows(room, tally, settings, lines, marks)
+        machine_rows(room, tally, settings)
         gate_rows(room, tally, settings, lines, marks)
     print(f"{tally.passed} passed, {tally.failed} failed")
     return 1 if tally.failed else 0
