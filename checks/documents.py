@@ -15,7 +15,7 @@ the real ones would, and each has to be called that the document names. The envi
 USER and LOGNAME are not set, and HOME is a made-up user's.
 
 Needs bash, ssh-keygen, openssl 3 and the built program. A table `| Option of `NAME` | ..` has a row for each option of that
-subcommand in the order of the code, and says "left out" of exactly those that may be. The last line is 'N passed, M failed';
+subcommand in the order of the code, and its last cell says "needed" of exactly those that may not be left out. The last line is 'N passed, M failed';
 the status is 0 where nothing failed."""
 import os
 import pathlib
@@ -33,7 +33,7 @@ DOCUMENTS = {"README.md": {"rt try", "rt run", "rt all", ".ci/run", "sudo instal
 BLOCK = re.compile(r"^```(\S*)\n(.*?)^```$", re.MULTILINE | re.DOTALL)
 CODE = TOP / "crates" / "ssh_words" / "src"
 TABLE = re.compile(r"^\| Option of `(\w+)` \|.*\n\|[-|]*\|\n((?:\|.*\n)*)", re.MULTILINE)
-OPTION = re.compile(r"^\| `--([\w-]+)` \| (.*) \|$", re.MULTILINE)
+OPTION = re.compile(r"^\| `--([\w-]+)` \| .* \| (.*) \|$", re.MULTILINE)
 # Stands after each command's output, with its status.
 MARK = "\x1e"
 
@@ -140,7 +140,7 @@ def rows_of_code():
 def rows_of_manual():
     """The same, of the tables in the manual."""
     tables = TABLE.findall((TOP / "docs" / "MANUAL.md").read_text())
-    return {name: [(option, "left out" in text) for option, text in OPTION.findall(body)] for name, body in tables}
+    return {name: [(option, default != "needed") for option, default in OPTION.findall(body)] for name, body in tables}
 
 
 def compared():
