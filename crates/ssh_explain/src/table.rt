@@ -352,7 +352,7 @@ pub(crate) static FINDINGS: [Texts; 22] = [
     (
         "F22",
         "OpenSSH may refuse this line, and a later one then decides",
-        "mend the option, or delete the line. permitopen, permitlisten, environment, tunnel: a text not in the form of sshd(8); nul: a NUL byte; long-item: 1,023 bytes or more in an item; rsa: under 1,024 or over 16,384 bits",
+        "mend the option, or delete the line. permitopen, permitlisten, environment, tunnel: a text not in the form of sshd(8), or too many of them; nul: a NUL byte; long-item: 1,023 bytes or more in an item; rsa: under 1,024 or over 16,384 bits",
     ),
 ];
 
