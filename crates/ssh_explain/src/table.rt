@@ -301,8 +301,8 @@ pub(crate) static FINDINGS: [Texts; 22] = [
     ),
     (
         "F12",
-        "the line's key is both trusted and revoked: see line K; spelling K: the revocation on line K has another spelling of this key",
-        "it is denied wherever it stands (N1): delete the trusting line. With spelling K only OpenSSH denies it: revoke the key as ssh-keygen spells it too",
+        "the line's key is both trusted and revoked: see line K; spelling K: line K has another spelling of it",
+        "it is denied wherever it stands (N1): delete the trusting line. With spelling K only OpenSSH denies it: revoke the key in the spelling of ssh-keygen too",
     ),
     (
         "F13",
