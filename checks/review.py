@@ -205,6 +205,28 @@ def worked_rows(audit, tally):
     tally.check("worked: policy", (status, answer.decode()[: len(POLICY)]), (1, POLICY))
 
 
+HERE_ALONE = "    F7 from-here: permits nobody here, but OpenSSH may read its from= list otherwise: count it as access"
+SHORT_ADDRESS = "    F8 short-address: OpenSSH reads a short address in from= (127.1) as an address: count it as access"
+
+# Options for which sshd refuses the line, or may, and the ground; and options that it takes.
+REFUSED = [
+    *((f'permitopen="{text}"', "permitopen") for text in ("none", "h", "h:0", "h:65536", "h:ssh", "h:", ":80", "::1:80", "h/80", "[::1]80", "h" * 1025 + ":80")),
+    *((f'permitlisten="{text}"', "permitlisten") for text in ("none", "0", "65536", "h:", "h:0")),
+    *((f'environment="{text}"', "environment") for text in ("AB", "A-B=c", "=c", "")),
+    *((f'tunnel="{text}"', "tunnel") for text in ("x", "", "-1", "4294967296")),
+    (",".join(['environment="A=b"'] * 1026), "environment"),
+    ('command="a\0b"', "nul"), ('from="192.0.2.1,\0"', "nul"), ('environment="A=\0"', "nul"),
+    (f'from="192.0.2.1,{"x" * 1023}"', "long-item"),
+]
+TAKEN = [
+    *(f'permitopen="{text}"' for text in ("h:1", "h:65535", "h:*", "[::1]:80", "192.0.2.1:60000", "h" * 1024 + ":80")),
+    *(f'permitlisten="{text}"' for text in ("80", "*", "h:80", "*:*", "[::1]:1", "65535")),
+    *(f'environment="{text}"' for text in ("A=", "A_1=b=c", "a=b c")),
+    ",".join(['environment="A=b"'] * 1025),
+    *(f'tunnel="{text}"' for text in ("any", "0", "999999999")),
+    f'from="192.0.2.1,{"x" * 1022}"',
+]
+
 # A code, lines of which {K} is an Ed25519 key and {R} an RSA key of 8 bits, and what is told of them by that code.
 RSA = "ssh-rsa AAAAB3NzaC1yc2EAAAADAQABAAAAAgCA"
 FOUND_OF_KEYS = [
@@ -220,14 +242,29 @@ FOUND_OF_KEYS = [
     ("F4", '# c\n{K}\npermitopen="h:1" {K}\n', "    F4 2: never decides: line 2 has the same key, lets it in first and gives more"),
     ("F4", 'expiry-time="20300101Z" {K}\nrestrict {K}\n', None),
     ("F5", "{R}\n", "    F5 8: an RSA key of 8 bits is too short"),
+    ("F3", 'permitopen="h:1" {K}\n{K}\n', "    F3 1: never decides: line 1 has the same key and lets it in first"),
+    ("F3", 'permitopen="none" {K}\n{K}\n', None),
+    ("F2", 'permitopen="none" {K}\n{K}\n', "    F2 1: line 1 has the same key: where that line does not let it in, this one may"),
+    ("F2", 'principals="a" {K}\n{K}\n', "    F2 1: line 1 has the same key: where that line does not let it in, this one may"),
     ("F6", 'expiry-time="19700101000229Z" {K}\n', "    F6: has expired"),
+    ("F6", 'expiry-time="19691231230229" {K}\n', "    F6: has expired"),
+    ("F6", 'expiry-time="19691231230230" {K}\n', None),
     ("F6", 'expiry-time="19700101000230Z" {K}\n', None),
-    ("F7", 'from="10.0.0.0/33" {K}\n', "    F7 from: lets nobody in: its from= list permits nobody"),
+    ("F7", 'from="10.0.0.1/8" {K}\n', "    F7 from: lets nobody in: its from= list permits nobody"),
+    ("F7", 'from="*,,10.0.0.1" {K}\n', "    F7 from: lets nobody in: its from= list permits nobody"),
+    ("F7", 'from="0/0" {K}\n', HERE_ALONE),
+    ("F7", 'from="10.0.0.0/08" {K}\n', HERE_ALONE),
+    ("F7", 'from="10.0.0.0/8,a/b" {K}\n', HERE_ALONE),
+    ("F7", 'from="a/b,10.0.0.1/8" {K}\n', "    F7 from: lets nobody in: its from= list permits nobody"),
     ("F7", 'cert-authority,principals="," {K}\n', "    F7 principals: lets nobody in: its principals= list permits nobody"),
     ("F8", 'principals="a" {K}\n', "    F8 principals: OpenSSH refuses this line: principals= stands without cert-authority"),
     ("F8", 'cert-authority,principals="a,,b" {K}\n', "    F8 empty-principal: OpenSSH reads principals= only up to its empty piece"),
     ("F8", "verify-required {K}\n", "    F8 verify-required: OpenSSH lets this key in: it ignores verify-required of a key that is no security key"),
     ("F8", 'expiry-time="20300101" {K}\n', "    F8 local-time: an expiry time without Z is in the zone of the server, here in that of --zone"),
+    ("F8", 'from="127.1" {K}\n', SHORT_ADDRESS),
+    ("F8", 'from="!0x7f.1,*" {K}\n', SHORT_ADDRESS),
+    ("F8", 'from="127.0.0.1,1.example" {K}\n', None),
+    ("F8", 'from="127.1,10.0.0.1/8" {K}\n', None),
     ("F9", 'command="a" {K}\n', FORWARDS),
     ("F9", 'restrict,agent-forwarding,command="a" {K}\n', FORWARDS),
     ("F9", 'restrict,port-forwarding,no-port-forwarding,pty,command="a" {K}\n', None),
@@ -239,6 +276,9 @@ FOUND_OF_KEYS = [
     ("F18", "{K}\n", None),
     ("F19", "{K}\n", "    F19: nothing says whose key this is: no comment"),
     ("F19", "{K} c\n", None),
+    *(("F22", f"{options} {{K}}\n", f"    F22 {ground}: OpenSSH may refuse this line, and a later one then decides") for options, ground in REFUSED),
+    *(("F22", f"{options} {{K}}\n", None) for options in TAKEN),
+    ("F22", "{R}\n", "    F22 rsa: OpenSSH may refuse this line, and a later one then decides"),
 ]
 FOUND_OF_HOSTS = [
     ("F8", "@cert-authority\t*.a {K}\n", "    F8 tab: OpenSSH passes over this line: a tab follows its marker"),
@@ -355,9 +395,17 @@ class Entry:
         return min(moments) if moments else None
 
     @property
+    def grounds(self):
+        """On which sshd may refuse the line."""
+        found = [name for name, texts in GROUNDS.items() if any(other == name and value in texts for other, value in self.options)]
+        small = self.key.bits is not None and self.key.bits < 1024
+        return found + (["rsa"] if small else [])
+
+    @property
     def free(self):
         limits = ("from", "expiry-time", *(("command", "principals") if self.authority else ()))
-        return not any(map(self.has, limits))
+        plain = not self.authority and self.has("principals")
+        return not any(map(self.has, limits)) and not self.grounds and not plain
 
 
 def moment_of(text, shift):
@@ -379,7 +427,14 @@ def is_narrower(new, old):
     return bool(new.has("from") or new.has("expiry-time") or command or rights or lists or touch)
 
 
-BAD_SOURCES = ("10.0.0.0/33", "10.0.0.1/8", "a,,b")
+# Lists that permit nobody: in OpenSSH too, and here alone.
+REFUSED_SOURCES = ("10.0.0.1/8", "a,,b")
+SOURCES_HERE = ("10.0.0.0/33", "0/0", "10.0.0.0/8,a/b")
+BAD_SOURCES = REFUSED_SOURCES + SOURCES_HERE
+SHORT_SOURCES = ("127.1", "*,!0x7f.1")
+
+# The ground on which sshd refuses a line, of the values that are drawn.
+GROUNDS = {"permitopen": ("none",), "permitlisten": ("h:",), "environment": ("AB",), "tunnel": ("x",)}
 
 
 def pieces(text):
@@ -396,12 +451,15 @@ def findings_of(number, entry, earlier, now, shift, minimum):
     elif same:
         yield "F2", str(same[0])
     until, names = entry.until(shift), pieces(entry.first("principals") or "")
+    local = any(name == "expiry-time" and not value.endswith("Z") for name, value in entry.options)
     if entry.key.bits is not None and entry.key.bits < minimum:
         yield "F5", str(entry.key.bits)
-    if until is not None and now > until:
+    if until is not None and now - (3600 if local else 0) > until:
         yield "F6", ""
-    if entry.first("from") in BAD_SOURCES:
+    if entry.first("from") in REFUSED_SOURCES:
         yield "F7", "from"
+    if entry.first("from") in SOURCES_HERE:
+        yield "F7", "from-here"
     if lists and not any(names):
         yield "F7", "principals"
     if not entry.authority and entry.has("principals"):
@@ -410,8 +468,10 @@ def findings_of(number, entry, earlier, now, shift, minimum):
         yield "F8", "empty-principal"
     if not entry.authority and entry.has("verify-required") and not entry.key.kind.startswith("sk-"):
         yield "F8", "verify-required"
-    if any(name == "expiry-time" and not value.endswith("Z") for name, value in entry.options):
+    if local:
         yield "F8", "local-time"
+    if entry.first("from") in SHORT_SOURCES:
+        yield "F8", "short-address"
     if not entry.authority and entry.has("command") and {"port", "agent", "x11"} & set(entry.rights):
         yield "F9", ""
     sources = pieces(entry.first("from")) if entry.has("from") else ["*"]
@@ -425,6 +485,8 @@ def findings_of(number, entry, earlier, now, shift, minimum):
         yield "F18", ""
     if not entry.comment:
         yield "F19", ""
+    for ground in entry.grounds:
+        yield "F22", ground
 
 
 def shadow_of(entry, earlier):
@@ -467,10 +529,11 @@ FLAGS = [
 ]
 VALUES = {
     "command": ["backup", 'say "a, b"', "a\\b", "\xe4"],
-    "from": ["10.0.0.0/8", "192.0.2.0/24,!192.0.2.7", "*", "**,10.1.2.3", "*.example.org", *BAD_SOURCES],
+    "from": ["10.0.0.0/8", "192.0.2.0/24,!192.0.2.7", "*", "**,10.1.2.3", "*.example.org", *BAD_SOURCES, *SHORT_SOURCES],
     "principals": ["ann", "ann,bob", "ann,", ",", "eve"],
     "expiry-time": ["20260101Z", "20260101", "202512312359Z", "20300101120000", "20300101120000Z"],
-    "permitopen": ["localhost:80"], "permitlisten": ["8080"], "environment": ["A=b c"], "tunnel": ["0"],
+    "permitopen": ["localhost:80", "localhost:80", "none"], "permitlisten": ["8080", "8080", "h:"],
+    "environment": ["A=b c", "A=b c", "AB"], "tunnel": ["0", "x"],
 }
 ONCE = ("command", "from", "principals")
 COMMENTS = [b"", b"ann@laptop", b"m\xc3\xbcller \xff", b'a "quoted" \\ one', b"two  words", b"# no comment\x7f\x1b"]
@@ -789,7 +852,7 @@ def auth_rows(audit, tally, draw, count):
 
 def told_rows(audit, tally, names, everything, asked):
     """A list of findings leaves out the others, and nothing else."""
-    default = [f"F{number}" for number in range(1, 15)]
+    default = [*(f"F{number}" for number in range(1, 15)), "F22"]
     for listed, told in ((None, default), ("none", []), ("F9", ["F9"]), ("F19,F1,F4,F4", ["F1", "F4", "F19"]), (",".join(default), default), ("F21", [])):
         status, answer, _ = audit.run(review(*names, form="json", findings=listed, **asked))
         objects, _ = records_of(answer)
@@ -881,7 +944,7 @@ def fault_rows(audit, tally):
     values = {
         "kind": ["", "auths", "AUTH", "key"], "now": ["", "-", "1.5", "18446744073709551616", "1 "], "zone": ["", "x", "Europe/Berlin"],
         "rsa-minimum": ["", "x", "4294967296"], "form": ["", "tsv", "JSON"],
-        "findings": ["", ",", "F1,,F2", "F1,", ",F1", "F0", "F22", "F01", "f1", "F", "F1 ,F2", "all,F1", "none,none", "ALL"],
+        "findings": ["", ",", "F1,,F2", "F1,", ",F1", "F0", "F23", "F01", "f1", "F", "F1 ,F2", "all,F1", "none,none", "ALL"],
     }
     for option, wrong in values.items():
         for value in wrong:
@@ -896,7 +959,7 @@ def fault_rows(audit, tally):
         ("an unknown option", review("key", soon=1)), ("a file by an option", review("key", file="key")), ("help", ["review", "--help"]),
     ):
         tally.check(f"usage: {what}", audit.run(words), (2, b"fault usage\n", HINT))
-    for listed in ("all", "none", ",".join(f"F{number}" for number in range(21, 0, -1)), "F1,F1"):
+    for listed in ("all", "none", ",".join(f"F{number}" for number in range(22, 0, -1)), "F1,F1"):
         status = 1 if listed == "all" or "F15" in listed else 0
         tally.check(f"--findings {listed}", audit.run(review("key", findings=listed))[0], status)
     for asked in ({"rsa_minimum": 4294967295}, {"now": 18446744073709551615}, {"zone": "EST5EDT,M3.2.0,M11.1.0"}):

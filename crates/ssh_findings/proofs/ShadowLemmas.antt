@@ -1,5 +1,5 @@
 -- Who is let in by a line is let in by an earlier one of the same key that is free; and a bad list lets nobody in.
-use Rattle.std.proofs.Common.{◌≡◌, ◌∙◌, ◌==◌, ◌||◌, ◌&&◌, ◌<◌, ℕ, zero, suc, Bool, true, false, not, cond, List, [], ◌∷◌, Option, Some, None, length, sym, refl, subst, arith}
+use Rattle.std.proofs.Common.{◌≡◌, ◌∙◌, ◌==◌, ◌||◌, ◌&&◌, ◌<◌, ℕ, zero, suc, Bool, true, false, not, cond, List, [], ◌∷◌, Option, Some, None, length, sym, refl, subst, ap, inl, inr, arith}
 use Rattle.std.specs.Prelude.{bytes_eq, find, is_some}
 use Rattle.std.specs.List.{AllByRecursion, list_any, slice_index_or}
 use Rattle.std.proofs.lemmas.Bool.{and_parts, ne_eqb}
@@ -26,11 +26,15 @@ use Rattle.ssh_rules.proofs.AdmissionLemmas.{of-source}
 use Rattle.ssh_keys.specs.PublicKey.{key_blob}
 use Rattle.ssh_keys.proofs.KeyLaws.{find_some}
 use Rattle.std.proofs.lemmas.Slice.Eq.{bytes_eq-Decides}
-use Rattle.ssh_findings.specs.Earlier.{Held, held_entry, is_free, is_of_key, shadow}
-use Rattle.ssh_findings.specs.EntryFindings.{has_name_in, names_nobody, permits_bad}
+use Rattle.ssh_findings.specs.declared.facts.Facts.{Facts}
+use Rattle.ssh_findings.specs.declared.finding.Finding.{Finding}
+use Rattle.ssh_findings.specs.declared.finding.Finding.TheVariants as finding
+use Rattle.ssh_findings.specs.Earlier.{Held, held_entry, is_free, is_narrower, is_of_key, is_unlimited, repeat_after, repeat_of, shadow}
+use Rattle.ssh_findings.specs.EntryFindings.{has_name_in, lets_nobody_in, names_nobody, permits_bad, refuses_all_in}
 use Rattle.ssh_findings.specs.Facts.{facts_of}
 use Rattle.ssh_findings.specs.Lists.{says_name}
-use Rattle.ssh_findings.specs.Shadows.{IsFree, IsSame}
+use Rattle.ssh_findings.specs.OpenSsh.{may_refuse}
+use Rattle.ssh_findings.specs.Shadows.{IsFree, IsSame, NamesFirst}
 use Rattle.ssh_findings.proofs.ListLemmas.{bad_always}
 
 -- ---- what a later line admits, an earlier one that is free admits
@@ -98,9 +102,9 @@ own-command : (o : Option (List ℕ)) (key : PublicKey) → command_of o (plain 
 own-command None key = refl
 own-command (Some text) key = refl
 
-pub free : (zone : TimeZone) (d : AuthEntry) → is_free (facts_of zone d) ≡ true → IsFree d
+unlimited : (zone : TimeZone) (d : AuthEntry) → is_unlimited (facts_of zone d) ≡ true → IsFree d
 unfolding facts_of rights_of
-free zone d h =
+unlimited zone d h =
     let command = command_of (setting Command d.options) (plain d.key) in
     let first = and_parts (not (is_some (setting From d.options)) && not (is_some (setting ExpiryTime d.options)))
     (not (is_authority d && (is_some command || is_some (setting Principals d.options)))) h in
@@ -113,6 +117,9 @@ free zone d h =
       command = λ e. sym (own-command (setting Command d.options) d.key) ∙ none-some command (or-off _ _ (rest e)).0;
       principals = λ e. none-some (setting Principals d.options) (or-off (is_some command) _ (rest e)).1;
     }
+
+pub free : (zone : TimeZone) (d : AuthEntry) → is_free (facts_of zone d) ≡ true → IsFree d
+free zone d h = unlimited zone d (and_parts (is_unlimited (facts_of zone d)) (not (may_refuse (facts_of zone d))) h).0
 
 -- ---- the line that is named
 
@@ -148,7 +155,45 @@ named zone earlier e d n claim h a =
     (find_some test earlier (held_entry zone n d) found.1) in
     tested zone e d n claim passed.0 passed.1 found.0 a
 
+-- ---- OpenSSH has no known ground to refuse it
+
+pub unrefused : (earlier : List Held) (blob : List ℕ) (f : Facts) (d : Held) → shadow earlier blob f ≡ Some d → may_refuse d.facts ≡ false
+unfolding shadow
+unrefused earlier blob f d h =
+    let test : Held → Bool = λ x. is_of_key blob f.is_authority x && is_free x.facts in
+    let found = unlisted (f.is_authority && is_some f.principals) (find test earlier) d h in
+    let passed = and_parts (is_of_key blob f.is_authority d) (is_free d.facts) (find_some test earlier d found.1) in
+    not-on (may_refuse d.facts) (and_parts (is_unlimited d.facts) (not (may_refuse d.facts)) passed.1).1
+
+line-of : Option Finding → ℕ
+line-of (Some (finding.NeverDecides n)) = n
+line-of (Some (finding.GivesMore n)) = n
+line-of found = 0
+
+named-first : (first decides : Option Held) (f : Facts) (n : ℕ) → NamesFirst (repeat_of first decides f) n → (d : Held) × (decides ≡ Some d) × (d.line ≡ n)
+unfolding line-of
+named-first None found f n (inl h) = cc
+named-first None found f n (inr h) = cc
+named-first (Some first) None f n (inl h) = cc
+named-first (Some first) None f n (inr h) = cc
+named-first (Some first) (Some d) f n h = go (is_narrower f d.facts) h
+  where
+    go : (b : Bool) → NamesFirst (cond b (Some (finding.GivesMore d.line)) (Some (finding.NeverDecides d.line))) n
+        → (e : Held) × (Some d ≡ Some e) × (e.line ≡ n)
+    go true (inl k) = cc
+    go true (inr k) = (d, refl, ap line-of k)
+    go false (inl k) = (d, refl, ap line-of k)
+    go false (inr k) = cc
+
+pub told : (earlier : List Held) (blob : List ℕ) (f : Facts) (n : ℕ) → NamesFirst (repeat_after earlier blob f) n
+    → (d : Held) × (shadow earlier blob f ≡ Some d) × (d.line ≡ n)
+unfolding repeat_after
+told earlier blob f n h = named-first (find (λ d. is_of_key blob f.is_authority d) earlier) (shadow earlier blob f) f n h
+
 -- ---- a bad list lets nobody in
+
+pub there : (f : Facts) → lets_nobody_in f ≡ true → (permits_bad f.from ≡ true) × (refuses_all_in f.from ≡ true)
+there f h = and_parts (permits_bad f.from) (refuses_all_in f.from) h
 
 bad-source : (list : Option (List ℕ)) (q : Login) → permits_bad list ≡ true → source_by list q ≡ Yes → ⊥
 bad-source None q h e = cc

@@ -33,20 +33,25 @@ code_text code.AnyPrincipal = codes "F18"
 code_text code.NoComment = codes "F19"
 code_text code.NamesInClear = codes "F20"
 code_text code.SameHostKey = codes "F21"
+code_text code.MayRefuse = codes "F22"
 
 -- what is wrong under any policy, F1 to F14
-abbrev pub default_codes : List Code
-default_codes =
+abbrev pub first_codes : List Code
+first_codes =
     code.Unreadable ∷ code.SameKey ∷ code.NeverDecides ∷ code.GivesMore ∷ code.ShortKey ∷ code.Expired ∷ code.PermitsNobody
     ∷ code.ReadOtherwise ∷ code.ForcedButForwards ∷ code.BlindRevocation ∷ code.OtherKey ∷ code.TrustedAndRevoked
     ∷ code.PatternHosts ∷ code.EveryHost ∷ []
 
+-- F1 to F14 and F22
+abbrev pub default_codes : List Code
+default_codes = first_codes ++ code.MayRefuse ∷ []
+
 -- every code, in the order of the numbers
 abbrev pub all_codes : List Code
 all_codes =
-    default_codes
+    first_codes
     ++ code.AnyAddress ∷ code.AnyCommand ∷ code.NoExpiry ∷ code.AnyPrincipal ∷ code.NoComment ∷ code.NamesInClear
-    ∷ code.SameHostKey ∷ []
+    ∷ code.SameHostKey ∷ code.MayRefuse ∷ []
 
 -- the first of some codes that is printed so, if one is
 abbrev pub named_in : List Code → List ℕ → Option Code

@@ -1,18 +1,16 @@
 -- What the entries of earlier lines make of a later one (sshd(8): the first line that admits decides).
 use Rattle.std.specs.Prelude.{ℕ, Bool, true, false, not, ◌&&◌, ◌||◌, if◌then◌else◌, List, bytes_eq, find, Option, Some, None, is_some}
-use Rattle.std.specs.List.{list_any}
 use Rattle.jiff.specs.Types.{TimeZone}
 use Rattle.ssh_keys.specs.PublicKey.{key_blob}
 use Rattle.ssh_lines.specs.AuthEntry.{AuthEntry}
-use Rattle.ssh_rights.specs.declared.rights.Carried.{Carried}
-use Rattle.ssh_rights.specs.declared.rights.CarriedName.{CarriedName}
-use Rattle.ssh_rights.specs.declared.rights.CarriedName.TheVariants as carried
 use Rattle.ssh_rights.specs.declared.rights.Rights.{Rights}
 use Rattle.ssh_findings.specs.declared.facts.Facts.{Facts}
 use Rattle.ssh_findings.specs.declared.finding.Finding.{Finding}
 use Rattle.ssh_findings.specs.declared.finding.Finding.TheVariants as finding
 use Rattle.ssh_findings.specs.declared.given.Given.{Given}
+use Rattle.ssh_findings.specs.Carried.{has_listen, has_open}
 use Rattle.ssh_findings.specs.Facts.{facts_of}
+use Rattle.ssh_findings.specs.OpenSsh.{may_refuse}
 
 -- the entry of an earlier line: its number, the blob of its key, and what it says
 pub record Held : Type 0 where
@@ -30,9 +28,13 @@ is_of_key blob is_authority d =
     bytes_eq d.blob blob && (if is_authority then d.facts.is_authority else not d.facts.is_authority)
 
 -- an entry lets its key in whenever, from wherever, and an authority for whatever command and for whomever it may be
-abbrev pub is_free : Facts → Bool
-is_free f =
+abbrev pub is_unlimited : Facts → Bool
+is_unlimited f =
     not (is_some f.from) && not f.has_expiry && not (f.is_authority && (is_some f.rights.command || is_some f.principals))
+
+-- and OpenSSH has no known ground to refuse it, so that it is the one that decides
+abbrev pub is_free : Facts → Bool
+is_free f = is_unlimited f && not (may_refuse f)
 
 -- The first earlier entry that lets the key in, whatever this line says. A list of principals may let in others.
 unfoldable pub shadow : List Held → List ℕ → Facts → Option Held
@@ -45,31 +47,6 @@ abbrev pub has_other_command : Option (List ℕ) → Option (List ℕ) → Bool
 has_other_command None other = false
 has_other_command (Some command) None = true
 has_other_command (Some command) (Some other) = not (bytes_eq command other)
-
-abbrev pub is_open_name : CarriedName → Bool
-is_open_name carried.Environment = false
-is_open_name carried.PermitListen = false
-is_open_name carried.PermitOpen = true
-is_open_name carried.Tunnel = false
-
-abbrev pub is_listen_name : CarriedName → Bool
-is_listen_name carried.Environment = false
-is_listen_name carried.PermitListen = true
-is_listen_name carried.PermitOpen = false
-is_listen_name carried.Tunnel = false
-
-abbrev pub is_open : Carried → Bool
-is_open c = is_open_name c.name
-
-abbrev pub is_listen : Carried → Bool
-is_listen c = is_listen_name c.name
-
--- `permitopen`, and `permitlisten`, stand on a line
-abbrev pub has_open : List Carried → Bool
-has_open texts = list_any is_open texts
-
-abbrev pub has_listen : List Carried → Bool
-has_listen texts = list_any is_listen texts
 
 -- what an entry gives, as far as a later one of its key can give less
 abbrev pub given_of : Facts → Given

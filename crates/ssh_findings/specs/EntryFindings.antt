@@ -1,10 +1,12 @@
 -- What is found of an entry, in the order of the codes (this project's rule; F8 by what OpenSSH was seen to do).
-use Rattle.std.specs.Prelude.{ℕ, Bool, true, false, not, ◌&&◌, ◌||◌, ◌==◌, List, ◌++◌, length, Option, Some, None, is_some, option_map}
+use Rattle.std.specs.Prelude.{ℕ, ◌-◌, Bool, true, false, not, if◌then◌else◌, ◌&&◌, ◌||◌, ◌==◌, List, ◌++◌, length, Option, Some, None, is_some, option_map}
+use Rattle.std.specs.List.{flat_map}
 use Rattle.ssh_keys.specs.declared.kind.KeyKind.{KeyKind}
 use Rattle.ssh_keys.specs.declared.kind.KeyKind.TheVariants as kind
 use Rattle.ssh_options.specs.declared.cause.LineCause.{LineCause}
 use Rattle.ssh_rights.specs.declared.rights.Rights.{Rights}
 use Rattle.ssh_findings.specs.declared.facts.Facts.{Facts}
+use Rattle.ssh_findings.specs.declared.grounds.Ground.{Ground}
 use Rattle.ssh_findings.specs.declared.finding.Finding.{Finding}
 use Rattle.ssh_findings.specs.declared.finding.Finding.TheVariants as finding
 use Rattle.ssh_findings.specs.Asking.{Asking, short_size}
@@ -12,6 +14,7 @@ use Rattle.ssh_findings.specs.Earlier.{Held, repeat_after}
 use Rattle.ssh_findings.specs.Findings.{code_of}
 use Rattle.ssh_findings.specs.Lists.{has_empty_name, has_name, is_bad_list, is_for_any_address}
 use Rattle.ssh_findings.specs.Moments.{is_known_past}
+use Rattle.ssh_findings.specs.OpenSsh.{all_grounds, has_ground, has_short_address, refuses_all}
 use Rattle.ssh_findings.specs.Telling.{told_if, told_some}
 
 -- a `from` list that permits nobody
@@ -28,16 +31,41 @@ abbrev pub has_empty_in : Option (List ℕ) → Bool
 has_empty_in None = false
 has_empty_in (Some list) = has_empty_name list
 
+-- a `from` list by which OpenSSH lets nobody in either, and one that it may read otherwise
+abbrev pub refuses_all_in : Option (List ℕ) → Bool
+refuses_all_in None = false
+refuses_all_in (Some list) = refuses_all list
+
+abbrev pub has_short_address_in : Option (List ℕ) → Bool
+has_short_address_in None = false
+has_short_address_in (Some list) = has_short_address list
+
+-- the `from` list permits nobody, here and in OpenSSH; and here alone
+abbrev pub lets_nobody_in : Facts → Bool
+lets_nobody_in f = permits_bad f.from && refuses_all_in f.from
+
+abbrev pub lets_nobody_in_here : Facts → Bool
+lets_nobody_in_here f = permits_bad f.from && not (refuses_all_in f.from)
+
+-- an item of the list is an address for OpenSSH alone, and OpenSSH may let somebody in by the list
+abbrev pub has_other_address : Facts → Bool
+has_other_address f = has_short_address_in f.from && not (refuses_all_in f.from)
+
+-- OpenSSH may be an hour late with an expiry time in local time (misc.c, parse_absolute_time: mktime(3) in winter time)
+abbrev pub moment_asked : ℕ → Facts → ℕ
+moment_asked now f = if f.has_local_time then now - 3600 else now
+
 -- an authority with a `principals` list that permits nobody
 abbrev pub names_nobody : Facts → Bool
 names_nobody f = f.is_authority && is_some f.principals && not (has_name_in f.principals)
 
--- F5 to F7: a short key; an expiry time that is past; a list that permits nobody
+-- F5 to F7: a short key; an expiry time that is past in OpenSSH too; a list that permits nobody
 abbrev pub condition_findings : Asking → Facts → List Finding
 condition_findings asking f =
     told_some code_of asking (option_map finding.ShortKey (short_size asking f.bits))
-    ++ told_if code_of asking (is_known_past asking.now f.until) finding.Expired
-    ++ told_if code_of asking (permits_bad f.from) finding.BadSources
+    ++ told_if code_of asking (is_known_past (moment_asked asking.now f) f.until) finding.Expired
+    ++ told_if code_of asking (lets_nobody_in f) finding.BadSources
+    ++ told_if code_of asking (lets_nobody_in_here f) finding.SourcesHere
     ++ told_if code_of asking (names_nobody f) finding.NoPrincipal
 
 abbrev pub is_security_key : KeyKind → Bool
@@ -56,6 +84,7 @@ reading_findings asking f =
     ++ told_if code_of asking (f.is_authority && has_empty_in f.principals && has_name_in f.principals) finding.EmptyPrincipal
     ++ told_if code_of asking (not f.is_authority && f.verify_required && not (is_security_key f.kind)) finding.VerifyIgnored
     ++ told_if code_of asking f.has_local_time finding.LocalTime
+    ++ told_if code_of asking (has_other_address f) finding.ShortAddress
 
 -- F9: a command is forced, and TCP, the agent or X11 may be forwarded
 abbrev pub forces_but_forwards : Rights → Bool
@@ -75,6 +104,13 @@ policy_findings asking f =
     ++ told_if code_of asking (f.is_authority && not (is_some f.principals)) finding.AnyPrincipal
     ++ told_if code_of asking (length f.comment == 0) finding.NoComment
 
+-- F22: each ground on which OpenSSH may refuse the entry
+abbrev pub ground_finding : Asking → Facts → Ground → List Finding
+ground_finding asking f g = told_if code_of asking (has_ground f g) (finding.MayRefuse g)
+
+abbrev pub ground_findings : Asking → Facts → List Finding
+ground_findings asking f = flat_map (λ g. ground_finding asking f g) all_grounds
+
 -- what is found of an entry with this blob, after these entries, and told
 unfoldable pub entry_findings : Asking → List Held → List ℕ → Facts → List Finding
 entry_findings asking earlier blob f =
@@ -83,6 +119,7 @@ entry_findings asking earlier blob f =
     ++ reading_findings asking f
     ++ told_if code_of asking (not f.is_authority && forces_but_forwards f.rights) finding.ForcedButForwards
     ++ policy_findings asking f
+    ++ ground_findings asking f
 
 -- what is found of a line that cannot be read and told: F1
 abbrev pub unreadable_findings : Asking → LineCause → List Finding

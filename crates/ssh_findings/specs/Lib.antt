@@ -4,6 +4,9 @@ pub mod Telling
 pub mod Lists
 pub mod Moments
 pub mod Facts
+pub mod Ground
+pub mod Carried
+pub mod OpenSsh
 pub mod Findings
 pub mod Shadows
 pub mod Earlier
@@ -11,3 +14,4 @@ pub mod Keeping
 pub mod Memory
 pub mod EntryFindings
 pub mod Spare
+pub mod Samples

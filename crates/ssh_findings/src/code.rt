@@ -48,11 +48,13 @@ pub enum Code {
     NamesInClear,
     /// F21: the same host key stands on another line.
     SameHostKey,
+    /// F22: OpenSSH may refuse the line.
+    MayRefuse,
 }
 
 impl Code {
     /// Every code, in the order of the numbers.
-    pub const ALL: [Code; 21] = [
+    pub const ALL: [Code; 22] = [
         Code::Unreadable,
         Code::SameKey,
         Code::NeverDecides,
@@ -74,14 +76,33 @@ impl Code {
         Code::NoComment,
         Code::NamesInClear,
         Code::SameHostKey,
+        Code::MayRefuse,
+    ];
+
+    const DEFAULT: [Code; 15] = [
+        Code::Unreadable,
+        Code::SameKey,
+        Code::NeverDecides,
+        Code::GivesMore,
+        Code::ShortKey,
+        Code::Expired,
+        Code::PermitsNobody,
+        Code::ReadOtherwise,
+        Code::ForcedButForwards,
+        Code::BlindRevocation,
+        Code::OtherKey,
+        Code::TrustedAndRevoked,
+        Code::PatternHosts,
+        Code::EveryHost,
+        Code::MayRefuse,
     ];
 
     /// The codes that are told where nothing else is asked for: what is wrong under any policy, F1
-    /// to F14.
+    /// to F14 and F22.
     pub fn by_default() -> &'static [Code]
         ensures { result.now ≡ default_codes }
     {
-        &Code::ALL[..14]
+        &Code::DEFAULT
     }
 
     /// The code as it is printed.
@@ -110,6 +131,7 @@ impl Code {
             Code::NoComment => b"F19",
             Code::NamesInClear => b"F20",
             Code::SameHostKey => b"F21",
+            Code::MayRefuse => b"F22",
         }
     }
 

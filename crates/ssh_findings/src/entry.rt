@@ -8,13 +8,18 @@ ghost use Rattle.ssh_findings.specs.EntryFindings.{
   condition_findings,
   entry_findings,
   forces_but_forwards,
+  ground_finding,
+  ground_findings,
   has_empty_in,
   has_name_in,
+  has_short_address_in,
   is_security_key,
+  moment_asked,
   permits_bad,
   permits_any,
   policy_findings,
   reading_findings,
+  refuses_all_in,
   unreadable_findings,
 };
 
@@ -22,14 +27,20 @@ use crate::asked::Asked;
 use crate::earlier::Earlier;
 use crate::facts::Facts;
 use crate::finding::Finding;
+use crate::grounds::Ground;
 use crate::list::{Pieces, is_bad_list};
 use crate::moments::is_past;
+use crate::openssh::has_ground;
+use crate::sources::{has_short_address, refuses_all};
 use crate::telling::{tell, tell_some};
 use ssh_keys::KeyKind;
 use ssh_options::LineCause;
 use ssh_rights::Rights;
 use ssh_text::Bytes;
 use std::alloc::{AllocError, Global};
+
+/// So many seconds OpenSSH may be late with an expiry time in local time.
+const LATE: u64 = 3600;
 
 /// Whether a `from` list permits nobody.
 fn permits_bad(list: &Option<Bytes>) -> bool
@@ -38,6 +49,37 @@ fn permits_bad(list: &Option<Bytes>) -> bool
     match list {
         Some(list) => is_bad_list(list.as_slice()),
         None => false,
+    }
+}
+
+/// Whether OpenSSH lets nobody in by a `from` list either.
+fn refuses_all_in(list: &Option<Bytes>) -> bool
+    ensures { result ≡ refuses_all_in list.now }
+{
+    match list {
+        Some(list) => refuses_all(list.as_slice()),
+        None => false,
+    }
+}
+
+/// Whether an item of a `from` list is an address for OpenSSH, and none here.
+fn has_short_address_in(list: &Option<Bytes>) -> bool
+    ensures { result ≡ has_short_address_in list.now }
+{
+    match list {
+        Some(list) => has_short_address(list.as_slice()),
+        None => false,
+    }
+}
+
+/// The moment at which an entry has to be past, so that it is past in OpenSSH too.
+fn moment_asked(now: u64, facts: &Facts) -> u64
+    ensures { result ≡ moment_asked now facts.now }
+{
+    if facts.has_local_time {
+        now.saturating_sub(LATE)
+    } else {
+        now
     }
 }
 
@@ -70,13 +112,12 @@ fn tell_conditions(
     let nobody = facts.is_authority && facts.principals.is_some() && !has_name;
     let short = asked.short_size(facts.bits).map(Finding::ShortKey);
     tell_some(found, asked, short)?;
-    tell(
-        found,
-        asked,
-        is_past(asked.now, facts.until),
-        Finding::Expired,
-    )?;
-    tell(found, asked, permits_bad(&facts.from), Finding::BadSources)?;
+    let is_past = is_past(moment_asked(asked.now, facts), facts.until);
+    let bad = permits_bad(&facts.from);
+    let refused = refuses_all_in(&facts.from);
+    tell(found, asked, is_past, Finding::Expired)?;
+    tell(found, asked, bad && refused, Finding::BadSources)?;
+    tell(found, asked, bad && !refused, Finding::SourcesHere)?;
     tell(found, asked, nobody, Finding::NoPrincipal)?;
     Ok(())
 }
@@ -101,11 +142,13 @@ fn tell_readings(
     let (has_name, has_empty) = names_of(&facts.principals);
     let plain = !facts.is_authority && facts.principals.is_some();
     let empty = facts.is_authority && has_empty && has_name;
+    let other = has_short_address_in(&facts.from) && !refuses_all_in(&facts.from);
     let ignored = !facts.is_authority && facts.verify_required && !is_security_key(facts.kind);
     tell(found, asked, plain, Finding::PlainPrincipals)?;
     tell(found, asked, empty, Finding::EmptyPrincipal)?;
     tell(found, asked, ignored, Finding::VerifyIgnored)?;
     tell(found, asked, facts.has_local_time, Finding::LocalTime)?;
+    tell(found, asked, other, Finding::ShortAddress)?;
     Ok(())
 }
 
@@ -157,6 +200,43 @@ fn tell_policy(found: &mut Vec<Finding>, asked: &Asked<'_>, facts: &Facts) -> Re
     Ok(())
 }
 
+/// F22: one ground on which OpenSSH may refuse the entry.
+fn tell_ground(
+    found: &mut Vec<Finding>,
+    asked: &Asked<'_>,
+    facts: &Facts,
+    which: Ground,
+) -> Result<(), AllocError>
+    ensures value { OnOk result (found.new.items ≡ found.old.items
+        ++ ground_finding (asking_of asked.entry.now) facts.now which) }
+    ensures spare { ground_finding (asking_of asked.entry.now) facts.now which ≡ [] → IsOk result }
+{
+    let holds = has_ground(facts, which);
+    tell(found, asked, holds, Finding::MayRefuse(which))?;
+    Ok(())
+}
+
+/// F22: each ground on which OpenSSH may refuse the entry.
+#[tactic(auto, using(crate::proofs::SpareLemmas::none_in_front, crate::proofs::SpareLemmas::none_behind))]
+fn tell_grounds(
+    found: &mut Vec<Finding>,
+    asked: &Asked<'_>,
+    facts: &Facts,
+) -> Result<(), AllocError>
+    ensures value { OnOk result (found.new.items ≡ found.old.items
+        ++ ground_findings (asking_of asked.entry.now) facts.now) }
+    ensures spare { ground_findings (asking_of asked.entry.now) facts.now ≡ [] → IsOk result }
+{
+    tell_ground(found, asked, facts, Ground::PermitOpen)?;
+    tell_ground(found, asked, facts, Ground::PermitListen)?;
+    tell_ground(found, asked, facts, Ground::Environment)?;
+    tell_ground(found, asked, facts, Ground::Tunnel)?;
+    tell_ground(found, asked, facts, Ground::Nul)?;
+    tell_ground(found, asked, facts, Ground::LongItem)?;
+    tell_ground(found, asked, facts, Ground::Rsa)?;
+    Ok(())
+}
+
 /// What is found of an entry with this blob, after the entries of earlier lines, and told, in the
 /// order of the codes. `Err` is out of memory.
 #[tactic(auto, unfolding(crate::specs::EntryFindings::entry_findings))]
@@ -183,6 +263,7 @@ pub fn entry_findings(
     tell_readings(&mut found, asked, facts)?;
     tell(&mut found, asked, forces, Finding::ForcedButForwards)?;
     tell_policy(&mut found, asked, facts)?;
+    tell_grounds(&mut found, asked, facts)?;
     Ok(found)
 }
 

@@ -3,6 +3,7 @@
 ghost use Rattle.ssh_findings.specs.Findings.{code_of};
 
 use crate::code::Code;
+use crate::grounds::Ground;
 use crate::telling::Coded;
 use ssh_options::LineCause;
 
@@ -21,8 +22,10 @@ pub enum Finding {
     ShortKey(u32),
     /// F6: it has expired.
     Expired,
-    /// F7: its `from` list permits nobody.
+    /// F7: its `from` list permits nobody, in OpenSSH too.
     BadSources,
+    /// F7: its `from` list permits nobody here, and OpenSSH may read it otherwise.
+    SourcesHere,
     /// F7: its `principals` list permits nobody.
     NoPrincipal,
     /// F8: `principals` without `cert-authority`.
@@ -33,6 +36,8 @@ pub enum Finding {
     VerifyIgnored,
     /// F8: an expiry time without a `Z`.
     LocalTime,
+    /// F8: an item of its `from` list is an address for OpenSSH, and none here.
+    ShortAddress,
     /// F9: a command is forced, and the line may still forward.
     ForcedButForwards,
     /// F15: good from any address.
@@ -45,6 +50,8 @@ pub enum Finding {
     AnyPrincipal,
     /// F19: no comment.
     NoComment,
+    /// F22: OpenSSH may refuse the line, on this ground.
+    MayRefuse(Ground),
 }
 
 impl Coded for Finding {
@@ -58,17 +65,21 @@ impl Coded for Finding {
             Finding::GivesMore(_) => Code::GivesMore,
             Finding::ShortKey(_) => Code::ShortKey,
             Finding::Expired => Code::Expired,
-            Finding::BadSources | Finding::NoPrincipal => Code::PermitsNobody,
+            Finding::BadSources | Finding::SourcesHere | Finding::NoPrincipal => {
+                Code::PermitsNobody
+            }
             Finding::PlainPrincipals
             | Finding::EmptyPrincipal
             | Finding::VerifyIgnored
-            | Finding::LocalTime => Code::ReadOtherwise,
+            | Finding::LocalTime
+            | Finding::ShortAddress => Code::ReadOtherwise,
             Finding::ForcedButForwards => Code::ForcedButForwards,
             Finding::AnyAddress => Code::AnyAddress,
             Finding::AnyCommand => Code::AnyCommand,
             Finding::NoExpiry => Code::NoExpiry,
             Finding::AnyPrincipal => Code::AnyPrincipal,
             Finding::NoComment => Code::NoComment,
+            Finding::MayRefuse(_) => Code::MayRefuse,
         }
     }
 }

@@ -3,8 +3,8 @@
 ghost use Rattle.std.specs.Prelude.{◌≡◌};
 ghost use Rattle.ssh_findings.specs.Earlier.{given_of};
 
+use crate::carried::{has_listen, has_open};
 use crate::facts::Facts;
-use crate::narrower::{has_listen, has_open};
 use ssh_rights::Rights;
 use ssh_text::Bytes;
 

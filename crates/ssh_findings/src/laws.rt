@@ -1,6 +1,6 @@
 //! Laws of the definitions, each proved on a function without a body.
 
-ghost use Rattle.std.specs.Prelude.{◌≡◌, ℕ, true, List, None, Some};
+ghost use Rattle.std.specs.Prelude.{◌≡◌, ℕ, false, true, List, None, Some};
 ghost use Rattle.jiff.specs.Types.{TimeZone};
 ghost use Rattle.ssh_options.specs.declared.option.ValueName.TheVariants.{Principals};
 ghost use Rattle.ssh_options.specs.Settings.{setting};
@@ -9,10 +9,17 @@ ghost use Rattle.ssh_offers.specs.LoginClaim.{LoginClaim};
 ghost use Rattle.ssh_rules.specs.Admission.{AdmitsLogin, is_authority};
 ghost use Rattle.ssh_keys.specs.Fingerprint.{IsRsaSize};
 ghost use Rattle.ssh_keys.specs.PublicKey.{PublicKey, key_blob};
-ghost use Rattle.ssh_findings.specs.Earlier.{Held, held_entry, is_free, shadow};
-ghost use Rattle.ssh_findings.specs.EntryFindings.{names_nobody, permits_bad};
+ghost use Rattle.ssh_findings.specs.Earlier.{Held, held_entry, is_free, repeat_after, shadow};
+ghost use Rattle.ssh_findings.specs.EntryFindings.{
+  lets_nobody_in,
+  names_nobody,
+  permits_bad,
+  refuses_all_in,
+};
+ghost use Rattle.ssh_findings.specs.declared.facts.Facts.{Facts as FactsValue};
 ghost use Rattle.ssh_findings.specs.Facts.{facts_of, rsa_size};
-ghost use Rattle.ssh_findings.specs.Shadows.{IsFree, IsSame};
+ghost use Rattle.ssh_findings.specs.OpenSsh.{may_refuse};
+ghost use Rattle.ssh_findings.specs.Shadows.{IsFree, IsSame, NamesFirst};
 
 /// A line that an earlier one of the same key lets in first never decides a login: whatever it
 /// admits, the earlier one admits.
@@ -34,6 +41,14 @@ fn shadowed_rule()
         → shadow earlier (key_blob e.key) (facts_of zone e) ≡ Some (held_entry zone n d)
         → AdmitsLogin e claim
         → AdmitsLogin d claim }
+    // OpenSSH has no known ground to refuse that line.
+    ensures unrefused { (earlier : List Held) (blob : List ℕ) (f : FactsValue) (d : Held)
+        → shadow earlier blob f ≡ Some d
+        → may_refuse d.facts ≡ false }
+    // And F3 and F4 name no other.
+    ensures told { (earlier : List Held) (blob : List ℕ) (f : FactsValue) (n : ℕ)
+        → NamesFirst (repeat_after earlier blob f) n
+        → (d : Held) × (shadow earlier blob f ≡ Some d) × (d.line ≡ n) }
 {}
 
 /// A line of which F7 is found admits nobody.
@@ -41,6 +56,11 @@ fn nobody_rule()
     ensures sources { (zone : TimeZone) (e : AuthEntry) (claim : LoginClaim)
         → permits_bad (facts_of zone e).from ≡ true
         → ¬ AdmitsLogin e claim }
+    // What is told of a list that lets nobody in is so in OpenSSH too: an item of it is empty, or has bits
+    // past its length.
+    ensures there { (f : FactsValue)
+        → lets_nobody_in f ≡ true
+        → (permits_bad f.from ≡ true) × (refuses_all_in f.from ≡ true) }
     ensures principals { (zone : TimeZone) (e : AuthEntry) (claim : LoginClaim)
         → names_nobody (facts_of zone e) ≡ true
         → ¬ AdmitsLogin e claim }

@@ -15,16 +15,22 @@
 #![tactic(auto)]
 
 mod asked;
+mod carried;
 mod code;
 mod earlier;
 mod entry;
 mod facts;
 mod finding;
 mod given;
+mod grounds;
 mod laws;
 mod list;
 mod moments;
 mod narrower;
+mod openssh;
+mod ports;
+mod samples;
+mod sources;
 mod telling;
 mod told;
 
@@ -34,6 +40,9 @@ pub use earlier::Earlier;
 pub use entry::{entry_findings, unreadable_findings};
 pub use facts::{Facts, rsa_size};
 pub use finding::Finding;
+pub use grounds::Ground;
 pub use list::Pieces;
+pub use openssh::{has_ground, may_refuse};
+pub use sources::is_read_otherwise;
 pub use telling::{Coded, tell, tell_some};
 pub use told::parse_codes;

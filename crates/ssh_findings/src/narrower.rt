@@ -3,26 +3,32 @@
 ghost use Rattle.std.specs.Prelude.{◌≡◌};
 ghost use Rattle.ssh_findings.specs.Earlier.{
   gives_less,
-  has_listen,
-  has_open,
   has_other_command,
   is_free,
-  is_listen,
-  is_open,
+  is_unlimited,
   loses_right,
 };
 
+use crate::carried::{has_listen, has_open};
 use crate::facts::Facts;
 use crate::given::Given;
-use ssh_rights::{Carried, CarriedName, Rights};
+use crate::openssh::may_refuse;
+use ssh_rights::Rights;
 use ssh_text::Bytes;
 
 /// Whether an entry lets its key in whenever, from wherever and for whomever it may be.
-pub(crate) fn is_free(facts: &Facts) -> bool
-    ensures { result ≡ is_free facts.now }
+fn is_unlimited(facts: &Facts) -> bool
+    ensures { result ≡ is_unlimited facts.now }
 {
     let limited = facts.rights.command.is_some() || facts.principals.is_some();
     facts.from.is_none() && !facts.has_expiry && !(facts.is_authority && limited)
+}
+
+/// Whether it does so in OpenSSH too, which has no known ground to refuse it.
+pub(crate) fn is_free(facts: &Facts) -> bool
+    ensures { result ≡ is_free facts.now }
+{
+    is_unlimited(facts) && !may_refuse(facts)
 }
 
 /// Whether a command is forced, and another line forces none or another.
@@ -45,42 +51,6 @@ fn loses_right(rights: &Rights, given: &Given) -> bool
         || (given.x11 && !rights.x11)
         || (given.pty && !rights.pty)
         || (given.user_rc && !rights.user_rc)
-}
-
-fn is_open(carried: &Carried) -> bool
-    ensures { result ≡ is_open carried.now }
-{
-    matches!(carried.name, CarriedName::PermitOpen)
-}
-
-fn is_listen(carried: &Carried) -> bool
-    ensures { result ≡ is_listen carried.now }
-{
-    matches!(carried.name, CarriedName::PermitListen)
-}
-
-/// Whether `permitopen` stands on a line.
-pub(crate) fn has_open(carried: &[Carried]) -> bool
-    ensures { result ≡ has_open carried.now }
-{
-    for text in carried {
-        if is_open(text) {
-            return true;
-        }
-    }
-    false
-}
-
-/// Whether `permitlisten` stands on a line.
-pub(crate) fn has_listen(carried: &[Carried]) -> bool
-    ensures { result ≡ has_listen carried.now }
-{
-    for text in carried {
-        if is_listen(text) {
-            return true;
-        }
-    }
-    false
 }
 
 /// Whether an entry gives less than is given.

@@ -69,17 +69,20 @@ sentence-printable (finding.GivesMore line) = between (codes "never decides: lin
 sentence-printable (finding.ShortKey bits) = short-printable bits
 sentence-printable finding.Expired = record { all = refl }
 sentence-printable finding.BadSources = record { all = refl }
+sentence-printable finding.SourcesHere = record { all = refl }
 sentence-printable finding.NoPrincipal = record { all = refl }
 sentence-printable finding.PlainPrincipals = record { all = refl }
 sentence-printable finding.EmptyPrincipal = record { all = refl }
 sentence-printable finding.VerifyIgnored = record { all = refl }
 sentence-printable finding.LocalTime = record { all = refl }
+sentence-printable finding.ShortAddress = record { all = refl }
 sentence-printable finding.ForcedButForwards = record { all = refl }
 sentence-printable finding.AnyAddress = record { all = refl }
 sentence-printable finding.AnyCommand = record { all = refl }
 sentence-printable finding.NoExpiry = record { all = refl }
 sentence-printable finding.AnyPrincipal = record { all = refl }
 sentence-printable finding.NoComment = record { all = refl }
+sentence-printable (finding.MayRefuse g) = record { all = refl }
 
 part-printable : (said : List ℕ) → ArePrintable said → ArePrintable (detail_part said)
 part-printable [] h = record { all = refl }

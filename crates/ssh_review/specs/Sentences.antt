@@ -27,17 +27,20 @@ plain_sentence (finding.GivesMore line) = []
 plain_sentence (finding.ShortKey bits) = []
 plain_sentence finding.Expired = codes "has expired"
 plain_sentence finding.BadSources = codes "lets nobody in: its from= list permits nobody"
+plain_sentence finding.SourcesHere = codes "permits nobody here, but OpenSSH may read its from= list otherwise: count it as access"
 plain_sentence finding.NoPrincipal = codes "lets nobody in: its principals= list permits nobody"
 plain_sentence finding.PlainPrincipals = codes "OpenSSH refuses this line: principals= stands without cert-authority"
 plain_sentence finding.EmptyPrincipal = codes "OpenSSH reads principals= only up to its empty piece"
 plain_sentence finding.VerifyIgnored = codes "OpenSSH lets this key in: it ignores verify-required of a key that is no security key"
 plain_sentence finding.LocalTime = codes "an expiry time without Z is in the zone of the server, here in that of --zone"
+plain_sentence finding.ShortAddress = codes "OpenSSH reads a short address in from= (127.1) as an address: count it as access"
 plain_sentence finding.ForcedButForwards = codes "its command is forced, but it may still forward: add restrict"
 plain_sentence finding.AnyAddress = codes "good from any address: no from=, or from=\"*\""
 plain_sentence finding.AnyCommand = codes "any command may be run: no command="
 plain_sentence finding.NoExpiry = codes "good for ever: no expiry-time="
 plain_sentence finding.AnyPrincipal = codes "whoever it certifies for the user's name is let in: no principals="
 plain_sentence finding.NoComment = codes "nothing says whose key this is: no comment"
+plain_sentence (finding.MayRefuse g) = codes "OpenSSH may refuse this line, and a later one then decides"
 
 -- of a line that cannot be read
 abbrev pub unreadable_sentence : LineCause → List ℕ
@@ -56,17 +59,20 @@ sentence_of (finding.GivesMore line) = codes "never decides: line " ++ decimal l
 sentence_of (finding.ShortKey bits) = short_sentence bits
 sentence_of finding.Expired = plain_sentence finding.Expired
 sentence_of finding.BadSources = plain_sentence finding.BadSources
+sentence_of finding.SourcesHere = plain_sentence finding.SourcesHere
 sentence_of finding.NoPrincipal = plain_sentence finding.NoPrincipal
 sentence_of finding.PlainPrincipals = plain_sentence finding.PlainPrincipals
 sentence_of finding.EmptyPrincipal = plain_sentence finding.EmptyPrincipal
 sentence_of finding.VerifyIgnored = plain_sentence finding.VerifyIgnored
 sentence_of finding.LocalTime = plain_sentence finding.LocalTime
+sentence_of finding.ShortAddress = plain_sentence finding.ShortAddress
 sentence_of finding.ForcedButForwards = plain_sentence finding.ForcedButForwards
 sentence_of finding.AnyAddress = plain_sentence finding.AnyAddress
 sentence_of finding.AnyCommand = plain_sentence finding.AnyCommand
 sentence_of finding.NoExpiry = plain_sentence finding.NoExpiry
 sentence_of finding.AnyPrincipal = plain_sentence finding.AnyPrincipal
 sentence_of finding.NoComment = plain_sentence finding.NoComment
+sentence_of (finding.MayRefuse g) = plain_sentence (finding.MayRefuse g)
 
 -- what stands after the code, after a space, if it is any
 abbrev pub detail_part : List ℕ → List ℕ

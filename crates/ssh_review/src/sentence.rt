@@ -37,6 +37,9 @@ fn plain_sentence(finding: Finding) -> &'static [u8]
     match finding {
         Finding::Expired => b"has expired",
         Finding::BadSources => b"lets nobody in: its from= list permits nobody",
+        Finding::SourcesHere => {
+            b"permits nobody here, but OpenSSH may read its from= list otherwise: count it as access"
+        }
         Finding::NoPrincipal => b"lets nobody in: its principals= list permits nobody",
         Finding::PlainPrincipals => {
             b"OpenSSH refuses this line: principals= stands without cert-authority"
@@ -48,6 +51,9 @@ fn plain_sentence(finding: Finding) -> &'static [u8]
         Finding::LocalTime => {
             b"an expiry time without Z is in the zone of the server, here in that of --zone"
         }
+        Finding::ShortAddress => {
+            b"OpenSSH reads a short address in from= (127.1) as an address: count it as access"
+        }
         Finding::ForcedButForwards => {
             b"its command is forced, but it may still forward: add restrict"
         }
@@ -58,6 +64,7 @@ fn plain_sentence(finding: Finding) -> &'static [u8]
             b"whoever it certifies for the user's name is let in: no principals="
         }
         Finding::NoComment => b"nothing says whose key this is: no comment",
+        Finding::MayRefuse(_) => b"OpenSSH may refuse this line, and a later one then decides",
         Finding::Unreadable(_)
         | Finding::SameKey(_)
         | Finding::NeverDecides(_)

@@ -25,6 +25,9 @@ use Rattle.ssh_print.specs.Codes.{key_codes, wire_code}
 use Rattle.ssh_print.specs.DecisionText.{right_word, right_words}
 use Rattle.ssh_findings.specs.declared.code.Code.{Code}
 use Rattle.ssh_findings.specs.declared.code.Code.TheVariants as code
+use Rattle.ssh_findings.specs.declared.grounds.Ground.{Ground}
+use Rattle.ssh_findings.specs.declared.grounds.Ground.TheVariants as grounds
+use Rattle.ssh_findings.specs.Ground.{ground_word}
 use Rattle.ssh_findings.specs.declared.finding.Finding.{Finding}
 use Rattle.ssh_findings.specs.declared.finding.Finding.TheVariants as finding
 use Rattle.ssh_findings.specs.Codes.{code_text}
@@ -166,6 +169,15 @@ cause-printable cause.Marker = record { all = refl }
 cause-printable cause.HashedName = record { all = refl }
 cause-printable cause.Names = record { all = refl }
 
+pub ground-printable : (g : Ground) → ArePrintable (ground_word g)
+ground-printable grounds.PermitOpen = record { all = refl }
+ground-printable grounds.PermitListen = record { all = refl }
+ground-printable grounds.Environment = record { all = refl }
+ground-printable grounds.Tunnel = record { all = refl }
+ground-printable grounds.Nul = record { all = refl }
+ground-printable grounds.LongItem = record { all = refl }
+ground-printable grounds.Rsa = record { all = refl }
+
 pub detail-printable : (f : Finding) → ArePrintable (detail_of f)
 detail-printable (finding.Unreadable why) = cause-printable why
 detail-printable (finding.SameKey line) = decimal-printable line
@@ -174,17 +186,20 @@ detail-printable (finding.GivesMore line) = decimal-printable line
 detail-printable (finding.ShortKey bits) = decimal-printable bits
 detail-printable finding.Expired = record { all = refl }
 detail-printable finding.BadSources = record { all = refl }
+detail-printable finding.SourcesHere = record { all = refl }
 detail-printable finding.NoPrincipal = record { all = refl }
 detail-printable finding.PlainPrincipals = record { all = refl }
 detail-printable finding.EmptyPrincipal = record { all = refl }
 detail-printable finding.VerifyIgnored = record { all = refl }
 detail-printable finding.LocalTime = record { all = refl }
+detail-printable finding.ShortAddress = record { all = refl }
 detail-printable finding.ForcedButForwards = record { all = refl }
 detail-printable finding.AnyAddress = record { all = refl }
 detail-printable finding.AnyCommand = record { all = refl }
 detail-printable finding.NoExpiry = record { all = refl }
 detail-printable finding.AnyPrincipal = record { all = refl }
 detail-printable finding.NoComment = record { all = refl }
+detail-printable (finding.MayRefuse g) = ground-printable g
 
 pub code-printable : (c : Code) → ArePrintable (code_text c)
 code-printable code.Unreadable = record { all = refl }
@@ -208,3 +223,4 @@ code-printable code.AnyPrincipal = record { all = refl }
 code-printable code.NoComment = record { all = refl }
 code-printable code.NamesInClear = record { all = refl }
 code-printable code.SameHostKey = record { all = refl }
+code-printable code.MayRefuse = record { all = refl }

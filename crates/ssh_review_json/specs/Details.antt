@@ -5,6 +5,7 @@ use Rattle.ssh_options.specs.declared.cause.LineCause.{LineCause}
 use Rattle.ssh_print.specs.Codes.{line_code, line_rest}
 use Rattle.ssh_findings.specs.declared.finding.Finding.{Finding}
 use Rattle.ssh_findings.specs.declared.finding.Finding.TheVariants as finding
+use Rattle.ssh_findings.specs.Ground.{ground_word}
 
 -- what of the line a finding speaks of, where its code speaks of several things
 abbrev pub plain_detail : Finding → List ℕ
@@ -15,17 +16,20 @@ plain_detail (finding.GivesMore line) = []
 plain_detail (finding.ShortKey bits) = []
 plain_detail finding.Expired = []
 plain_detail finding.BadSources = codes "from"
+plain_detail finding.SourcesHere = codes "from-here"
 plain_detail finding.NoPrincipal = codes "principals"
 plain_detail finding.PlainPrincipals = codes "principals"
 plain_detail finding.EmptyPrincipal = codes "empty-principal"
 plain_detail finding.VerifyIgnored = codes "verify-required"
 plain_detail finding.LocalTime = codes "local-time"
+plain_detail finding.ShortAddress = codes "short-address"
 plain_detail finding.ForcedButForwards = []
 plain_detail finding.AnyAddress = []
 plain_detail finding.AnyCommand = []
 plain_detail finding.NoExpiry = []
 plain_detail finding.AnyPrincipal = []
 plain_detail finding.NoComment = []
+plain_detail (finding.MayRefuse g) = ground_word g
 
 -- the codes of a line's fault
 abbrev pub cause_detail : LineCause → List ℕ
@@ -40,14 +44,17 @@ detail_of (finding.GivesMore line) = decimal line
 detail_of (finding.ShortKey bits) = decimal bits
 detail_of finding.Expired = plain_detail finding.Expired
 detail_of finding.BadSources = plain_detail finding.BadSources
+detail_of finding.SourcesHere = plain_detail finding.SourcesHere
 detail_of finding.NoPrincipal = plain_detail finding.NoPrincipal
 detail_of finding.PlainPrincipals = plain_detail finding.PlainPrincipals
 detail_of finding.EmptyPrincipal = plain_detail finding.EmptyPrincipal
 detail_of finding.VerifyIgnored = plain_detail finding.VerifyIgnored
 detail_of finding.LocalTime = plain_detail finding.LocalTime
+detail_of finding.ShortAddress = plain_detail finding.ShortAddress
 detail_of finding.ForcedButForwards = plain_detail finding.ForcedButForwards
 detail_of finding.AnyAddress = plain_detail finding.AnyAddress
 detail_of finding.AnyCommand = plain_detail finding.AnyCommand
 detail_of finding.NoExpiry = plain_detail finding.NoExpiry
 detail_of finding.AnyPrincipal = plain_detail finding.AnyPrincipal
 detail_of finding.NoComment = plain_detail finding.NoComment
+detail_of (finding.MayRefuse g) = plain_detail (finding.MayRefuse g)

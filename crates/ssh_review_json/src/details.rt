@@ -15,11 +15,14 @@ fn plain_detail(finding: Finding) -> &'static [u8]
 {
     match finding {
         Finding::BadSources => b"from",
+        Finding::SourcesHere => b"from-here",
         Finding::NoPrincipal => b"principals",
         Finding::PlainPrincipals => b"principals",
         Finding::EmptyPrincipal => b"empty-principal",
         Finding::VerifyIgnored => b"verify-required",
         Finding::LocalTime => b"local-time",
+        Finding::ShortAddress => b"short-address",
+        Finding::MayRefuse(ground) => ground.word(),
         _ => b"",
     }
 }

@@ -1,5 +1,5 @@
-use Rattle.ssh_findings.proofs.ShadowLemmas.{no_principals, no_sources}
+use Rattle.ssh_findings.proofs.ShadowLemmas.{no_principals, no_sources, there}
 use Rattle.ssh_findings.proofs.laws.nobody_rule.Goals as goal
 
 pub returns : goal.returns
-returns c = record { sources = no_sources; principals = no_principals }
+returns c = record { sources = no_sources; there = there; principals = no_principals }

@@ -1,6 +1,6 @@
 use Rattle.std.proofs.Common.{◌≡◌, drop}
-use Rattle.ssh_findings.specs.Earlier.{has_open}
-use Rattle.ssh_findings.proofs.narrower.has_open.Given as goal
+use Rattle.ssh_findings.specs.Carried.{has_open}
+use Rattle.ssh_findings.proofs.carried.has_open.Given as goal
 
 abbrev pub invariant-loop-text : goal.invariant-loop-text
 invariant-loop-text l = has_open (drop l.text-index l.carried) ≡ has_open l.carried

@@ -1,6 +1,6 @@
 use Rattle.std.proofs.Common.{◌≡◌, drop}
-use Rattle.ssh_findings.specs.Earlier.{has_listen}
-use Rattle.ssh_findings.proofs.narrower.has_listen.Given as goal
+use Rattle.ssh_findings.specs.Carried.{has_listen}
+use Rattle.ssh_findings.proofs.carried.has_listen.Given as goal
 
 abbrev pub invariant-loop-text : goal.invariant-loop-text
 invariant-loop-text l = has_listen (drop l.text-index l.carried) ≡ has_listen l.carried

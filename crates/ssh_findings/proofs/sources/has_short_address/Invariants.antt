@@ -1,0 +1,11 @@
+use Rattle.std.proofs.Common.{◌≡◌, map, option_copied}
+use Rattle.std.specs.List.{list_any}
+use Rattle.ssh_patterns.specs.Lists.{item_of, items_of, length_left, pieces_left}
+use Rattle.ssh_findings.specs.OpenSsh.{is_short_item}
+use Rattle.ssh_findings.proofs.sources.has_short_address.Given as goal
+
+abbrev pub invariant-loop-rest : goal.invariant-loop-rest
+invariant-loop-rest l = list_any is_short_item (map item_of (pieces_left (option_copied l.rest))) ≡ list_any is_short_item (items_of l.list)
+
+abbrev pub decreases-loop-rest : goal.decreases-loop-rest
+decreases-loop-rest l = length_left (option_copied l.rest)
