@@ -561,7 +561,7 @@ def spelled(draw, entry):
 
 DAMAGES = [  # the code, the line, and whether a key is held there all the same
     ("L2", "restrict,,pty {kind} {text} c", True),
-    ("L2", 'command="a {kind} {text} c', True),
+    ("L2", 'command="a {kind} {text} c', False),
     ("L3", "no-ptty {kind} {text} c", True),
     ("L4", 'restrict="x" {kind} {text}', True),
     ("L4", "command {kind} {text}", True),

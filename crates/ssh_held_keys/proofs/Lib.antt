@@ -1,1 +1,2 @@
-pub mod HeldKeyLemmas
+mod LeastLemmas
+mod StandsLemmas

@@ -1,56 +1,69 @@
--- The key on a line that cannot be read (this project's rule). It grants nothing: OpenSSH may read what is refused here, and
--- then a person has to find the key by its fingerprint.
-use Rattle.std.specs.Prelude.{ℕ, ◌+◌, Bool, ◌||◌, ◌==◌, nat_lt, if◌then◌else◌, List, [], ◌∷◌, length, take, drop, filter, zip, Option, Some, None, Result, Ok, Err}
-use Rattle.std.specs.Char.{is_ascii_alphanumeric}
-use Rattle.std.specs.List.{prefix_len, slice_split}
+-- The key that OpenSSH 9.2 looks for on a line. It grants nothing: OpenSSH may read what is refused here, and then a person has
+-- to find the key by its fingerprint.
+use Rattle.std.specs.Prelude.{ℕ, Bool, true, false, not, ◌==◌, ◌&&◌, if◌then◌else◌, List, [], ◌∷◌, take, Option, Some, None}
+use Rattle.std.specs.List.{position}
 use Rattle.std.specs.Option.{option_or}
+use Rattle.ssh_text.specs.Text.{is_blank, next_field, skip_blanks}
 use Rattle.ssh_keys.specs.Fingerprint.{fingerprint_of}
-use Rattle.ssh_keys.specs.Names.{class_of}
 use Rattle.ssh_keys.specs.PublicKey.{PublicKey, kind_of}
-use Rattle.ssh_text.specs.Text.{is_blank, line_limit, without_cr}
-use Rattle.ssh_options.specs.declared.cause.LineCause.{LineCause}
-use Rattle.ssh_lines.specs.KeyPart.{KeyPart, key_by_class}
-use Rattle.ssh_inputs.specs.Words.{is_filled}
-use Rattle.ssh_held_keys.specs.declared.held.HeldKey.{HeldKey}
 use Rattle.ssh_findings.specs.Facts.{rsa_size}
+use Rattle.ssh_held_keys.specs.declared.held.HeldKey.{HeldKey}
+use Rattle.ssh_held_keys.specs.OpenSshBlob.{is_nul}
+use Rattle.ssh_held_keys.specs.OpenSshWords.{key_at}
 
 -- what is told of a key
 abbrev pub held_of : PublicKey → HeldKey
 held_of key = record { kind = kind_of key; bits = rsa_size key; fingerprint = fingerprint_of key }
 
--- the words of a text: the pieces between blanks that are not empty
-unfoldable pub words_of : List ℕ → List (List ℕ)
-words_of text = filter is_filled (slice_split is_blank text)
+-- ---- what of a line is read
 
--- words that stand next to each other
-abbrev pub neighbours : List (List ℕ) → List (List ℕ × List ℕ)
-neighbours words = zip words (drop 1 words)
+abbrev pub up_to : Option ℕ → List ℕ → List ℕ
+up_to None line = line
+up_to (Some end) line = take end line
 
--- a letter of the standard base64 alphabet, and its padding (RFC 4648, section 4)
-abbrev pub is_letter : ℕ → Bool
-is_letter c = is_ascii_alphanumeric c || ((c == 43) || (c == 47))
+-- What is read of a line: it ends before its first NUL, as a string of C, and blanks at its front are passed over
+-- (auth2-pubkeyfile.c, auth_check_authkeys_file; hostfile.c, hostkeys_foreach_file).
+unfoldable pub read_part : List ℕ → List ℕ
+read_part line = skip_blanks (up_to (position is_nul line) line)
 
-abbrev pub is_base64_padding : ℕ → Bool
-is_base64_padding c = c == 61
+abbrev pub begins_with : ℕ → List ℕ → Bool
+begins_with b [] = false
+begins_with b (c ∷ cs) = c == b
 
--- the longest front of a word that is base64 letters followed by padding
-abbrev pub base64_front : List ℕ → List ℕ
-base64_front word = take (prefix_len is_letter word + prefix_len is_base64_padding (drop (prefix_len is_letter word) word)) word
+-- ---- the options of an authorized_keys line (sshkey.c, sshkey_advance_past_options)
 
--- the key that is read, if one is
-abbrev pub key_if_read : Result KeyPart LineCause → Option PublicKey
-key_if_read (Ok part) = Some part.key
-key_if_read (Err cause) = None
+-- whether a quote is open after this byte: a `"` opens or closes one, but for a `"` right after a backslash
+abbrev pub toggled : (quoted escaped : Bool) → ℕ → Bool
+toggled quoted escaped c = if (c == 34) && not escaped then not quoted else quoted
 
--- The key that two words spell: the first names its type, and the front of the second is the one base64 of its blob.
-unfoldable pub key_in_words : List ℕ × List ℕ → Option PublicKey
-key_in_words words = key_if_read (key_by_class (class_of words.0) (base64_front words.1) [])
+-- What stands from the first blank outside quotes on; none where a quote stays open. (A quote is open, and a backslash stands
+-- before the text.)
+abbrev pub after_options : (quoted escaped : Bool) → List ℕ → Option (List ℕ)
+after_options quoted escaped [] = if quoted then None else Some []
+after_options quoted escaped (c ∷ cs) = if not quoted && is_blank c then Some (c ∷ cs) else after_options (toggled quoted escaped c) (c == 92) cs
 
--- the key of the first two words that spell one
-abbrev pub first_key : List (List ℕ × List ℕ) → Option PublicKey
-first_key [] = None
-first_key (words ∷ rest) = option_or (key_in_words words) (first_key rest)
+abbrev pub key_after_blanks : Option (List ℕ) → Option PublicKey
+key_after_blanks None = None
+key_after_blanks (Some rest) = key_at (skip_blanks rest)
 
--- the key on a line, which is not looked for past the limit; a CR at the end counts for nothing
+-- the key at the first word, or else after the options; none of a comment (auth2-pubkeyfile.c, auth_check_authkey_line)
+unfoldable pub authorized_key : List ℕ → Option PublicKey
+authorized_key text = if begins_with 35 text then None else option_or (key_at text) (key_after_blanks (after_options false false text))
+
+-- the key on an authorized_keys line
 unfoldable pub held_key : List ℕ → Option PublicKey
-held_key line = if nat_lt line_limit (length line) then None else first_key (neighbours (words_of (without_cr line)))
+held_key line = authorized_key (read_part line)
+
+-- ---- a known_hosts line (hostfile.c, hostkeys_foreach_file and check_markers)
+
+-- what stands after a marker, if one does
+abbrev pub after_marker : List ℕ → List ℕ
+after_marker text = if begins_with 64 text then next_field text else text
+
+-- the key after the names; none of a comment
+unfoldable pub host_key : List ℕ → Option PublicKey
+host_key text = if begins_with 35 text then None else key_at (next_field (after_marker text))
+
+-- the key on a known_hosts line
+unfoldable pub known_held_key : List ℕ → Option PublicKey
+known_held_key line = host_key (read_part line)

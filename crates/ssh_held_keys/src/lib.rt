@@ -1,5 +1,5 @@
-//! The key on a line that cannot be read, by which a person finds it. It grants nothing: OpenSSH may
-//! read what the rules here refuse.
+//! The key that OpenSSH reads on a line, for lines that the rules here refuse. It grants nothing: by
+//! its fingerprint a person finds the key that OpenSSH may let in all the same.
 //!
 //! A caller that asks which key a line may hold:
 //!
@@ -8,6 +8,13 @@
 //! ```
 #![tactic(auto)]
 
+mod blob;
 mod held;
+mod laws;
+mod line;
+mod names;
+mod samples;
+mod words;
 
-pub use held::{HeldKey, held_key};
+pub use held::{HeldKey, held_blob, held_key, known_held_blob, known_held_key};
+pub use words::{canonical_blob, openssh_blob};

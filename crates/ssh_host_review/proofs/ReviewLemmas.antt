@@ -10,19 +10,18 @@ use Rattle.ssh_lines.specs.KnownGrammar.{known_line}
 use Rattle.ssh_findings.specs.Asking.{Asking}
 use Rattle.ssh_host_findings.specs.HostFacts.{host_facts_of}
 use Rattle.ssh_host_findings.specs.HostLines.{HostLine}
-use Rattle.ssh_held_keys.specs.HeldKey.{held_key}
+use Rattle.ssh_held_keys.specs.HeldKey.{known_held_key}
 use Rattle.ssh_offers.specs.FirstRefusal.{AreBytes}
 use Rattle.ssh_review_json.specs.OneLine.{is_line}
 use Rattle.ssh_review.specs.declared.counts.FileFault.TheVariants.{TooLong}
 use Rattle.ssh_review.specs.declared.form.Form.{Form}
 use Rattle.ssh_review.specs.declared.form.Form.TheVariants.{Text, Json}
-use Rattle.ssh_review.specs.Lines.{key_told}
 use Rattle.ssh_review.specs.Reviews.{fault_review}
 use Rattle.ssh_review.proofs.ByteLemmas.{held-bytes, lines-bytes}
 use Rattle.ssh_review.proofs.DigestLemmas.{digest-bytes}
 use Rattle.ssh_review.proofs.ReviewLemmas.{end-shown, fault-shown, held-printable}
 use Rattle.ssh_review.proofs.ShownLemmas.{AreShown, add, from-line, show}
-use Rattle.ssh_host_review.specs.Lines.{host_counts_of, host_kept_of, host_line_findings, host_line_record, host_records_of}
+use Rattle.ssh_host_review.specs.Lines.{host_counts_of, host_kept_of, host_line_findings, host_line_record, host_records_of, known_key_told}
 use Rattle.ssh_host_review.specs.Reviews.{known_review, host_whole_review}
 use Rattle.ssh_host_review.proofs.ByteLemmas.{entry-facts}
 use Rattle.ssh_host_review.proofs.ObjectLemmas.{bare-line, entry-line, revoked-line}
@@ -42,7 +41,7 @@ line-by asking name earlier n line (Revoked bytes) h k is =
 line-by asking name earlier n line RevokedUnreadable h k is =
     inr (bare-line name n (codes "revocation-unreadable") None (host_line_findings asking earlier line RevokedUnreadable) h refl tt)
 line-by asking name earlier n line (Unreadable cause) h k is =
-    inr (bare-line name n (codes "unreadable") (key_told line) (host_line_findings asking earlier line (Unreadable cause)) h refl (held-bytes (held_key line)))
+    inr (bare-line name n (codes "unreadable") (known_key_told line) (host_line_findings asking earlier line (Unreadable cause)) h refl (held-bytes (known_held_key line)))
 
 pub record-line : (asking : Asking) (name : List ℕ) (earlier : List HostLine) (n : ℕ) (line : List ℕ) → AreBytes name → AreBytes line
     → (host_line_record Json asking name earlier n line (known_line line) ≡ []) ⊎ (is_line (host_line_record Json asking name earlier n line (known_line line)) ≡ true)
@@ -66,7 +65,7 @@ record-by Text asking name earlier n line (Revoked bytes) h k is =
 record-by Text asking name earlier n line RevokedUnreadable h k is =
     bare-shown name n (codes "revocation-unreadable") None (host_line_findings asking earlier line RevokedUnreadable) h refl tt
 record-by Text asking name earlier n line (Unreadable cause) h k is =
-    bare-shown name n (codes "unreadable") (key_told line) (host_line_findings asking earlier line (Unreadable cause)) h refl (held-printable (held_key line))
+    bare-shown name n (codes "unreadable") (known_key_told line) (host_line_findings asking earlier line (Unreadable cause)) h refl (held-printable (known_held_key line))
 
 records-shown : (form : Form) (asking : Asking) (name : List ℕ) (earlier : List HostLine) (n : ℕ) (lines : List (List ℕ))
     → AreBytes name → AllByRecursion AreBytes lines → AreShown (host_records_of form asking name earlier (numbered n lines))

@@ -1,10 +1,12 @@
 -- The records of a known_hosts file's lines, and what they count.
-use Rattle.std.specs.Prelude.{◌++◌, ◌∷◌, [], ℕ, List, length}
+use Rattle.std.specs.Prelude.{◌++◌, ◌∷◌, [], ℕ, List, length, Option, option_map}
 use Rattle.ssh_keys.specs.PublicKey.{key_blob}
 use Rattle.ssh_lines.specs.declared.known.KnownLine.{KnownLine}
 use Rattle.ssh_lines.specs.declared.known.KnownLine.TheVariants.{Blank, Comment, Entry, Revoked, RevokedUnreadable, Unreadable}
 use Rattle.ssh_lines.specs.KnownGrammar.{known_line}
 use Rattle.ssh_findings.specs.Asking.{Asking}
+use Rattle.ssh_held_keys.specs.declared.held.HeldKey.{HeldKey}
+use Rattle.ssh_held_keys.specs.HeldKey.{held_of as told_of, known_held_key}
 use Rattle.ssh_host_findings.specs.declared.finding.HostFinding.{HostFinding}
 use Rattle.ssh_host_findings.specs.Earlier.{revoking, trusting}
 use Rattle.ssh_host_findings.specs.HostFacts.{host_facts_of}
@@ -13,7 +15,6 @@ use Rattle.ssh_host_findings.specs.HostLines.{HostLine}
 use Rattle.ssh_review.specs.declared.counts.Counts.{Counts}
 use Rattle.ssh_review.specs.declared.form.Form.{Form}
 use Rattle.ssh_review.specs.Counting.{no_counts, plus}
-use Rattle.ssh_review.specs.Lines.{key_told}
 use Rattle.ssh_host_review.specs.Counting.{host_counts_with}
 use Rattle.ssh_host_review.specs.Forms.{blind_record, host_entry_record, revoked_record, host_unreadable_record}
 
@@ -26,6 +27,10 @@ host_line_findings asking earlier line (Revoked bytes) = revocation_findings ask
 host_line_findings asking earlier line RevokedUnreadable = blind_findings asking
 host_line_findings asking earlier line (Unreadable cause) = unreadable_host_findings asking cause
 
+-- the key that is told of a line that cannot be read: the one that OpenSSH looks for
+abbrev pub known_key_told : List ℕ → Option HeldKey
+known_key_told line = option_map told_of (known_held_key line)
+
 -- The record of a line that says this, with its number. Blank lines and comments have none.
 abbrev pub host_line_record : Form → Asking → List ℕ → List HostLine → ℕ → List ℕ → KnownLine → List ℕ
 host_line_record form asking name earlier n line Blank = []
@@ -37,7 +42,7 @@ host_line_record form asking name earlier n line (Revoked bytes) =
 host_line_record form asking name earlier n line RevokedUnreadable =
     blind_record form name n (host_line_findings asking earlier line RevokedUnreadable)
 host_line_record form asking name earlier n line (Unreadable cause) =
-    host_unreadable_record form name n (key_told line) (host_line_findings asking earlier line (Unreadable cause))
+    host_unreadable_record form name n (known_key_told line) (host_line_findings asking earlier line (Unreadable cause))
 
 abbrev pub host_line_counts : Asking → List HostLine → List ℕ → KnownLine → Counts
 host_line_counts asking earlier line said = host_counts_with said (length (host_line_findings asking earlier line said))

@@ -29,7 +29,7 @@ ghost use Rattle.ssh_host_review.specs.Memory.{host_line_bytes, host_line_sum, o
 use crate::object::{push_bare_object, push_entry_object, push_revoked_object};
 use crate::record::{push_bare_text, push_entry_text, push_revoked_text};
 use ssh_findings::Asked;
-use ssh_held_keys::{HeldKey, held_key};
+use ssh_held_keys::{HeldKey, known_held_key};
 use ssh_host_findings::{
     EarlierHosts, HostFacts, HostFinding, blind_findings, host_entry_findings, revocation_findings,
     unreadable_host_findings,
@@ -185,7 +185,7 @@ fn push_unreadable_line(
     ensures counts { IfOk result (λ counts. counts ≡ host_line_counts (asking_of asked.entry.now)
         [] line.now (KnownLine.Unreadable cause)) }
 {
-    let held = held_key(alloc, line)?;
+    let held = known_held_key(alloc, line)?;
     let found = unreadable_host_findings(alloc, asked, cause)?;
     push_bare_line(alloc, form, place, b"unreadable", held, &found, out)
 }

@@ -20,7 +20,7 @@ use Rattle.ssh_rewriting.proofs.LineLemmas.{known-kept}
 use Rattle.ssh_host_rules.specs.HostAdmission.{marks_authority}
 use Rattle.ssh_trust.proofs.CandidateLemmas.{AreBytes}
 use Rattle.ssh_findings.specs.Asking.{Asking}
-use Rattle.ssh_held_keys.specs.HeldKey.{held_key, held_of as told_of}
+use Rattle.ssh_held_keys.specs.HeldKey.{held_of as told_of, known_held_key}
 use Rattle.ssh_host_findings.specs.declared.facts.HostFacts.{HostFacts}
 use Rattle.ssh_host_findings.specs.declared.finding.HostFinding.{HostFinding}
 use Rattle.ssh_host_findings.specs.Earlier.{revoking, trusting}
@@ -46,7 +46,7 @@ key-on Comment line = None
 key-on (Entry e) line = None
 key-on (Revoked bytes) line = None
 key-on RevokedUnreadable line = None
-key-on (Unreadable cause) line = held_key line
+key-on (Unreadable cause) line = known_held_key line
 
 abbrev said : List ℕ → Said
 said line = (known_line line, key-on (known_line line) line, has_marker_tab (known_line line) line)

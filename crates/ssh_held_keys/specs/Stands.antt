@@ -1,0 +1,33 @@
+-- Where on an authorized_keys line a told key stands: outside quotes.
+use Rattle.std.specs.Prelude.{◌≡◌, ◌≢◌, ℕ, Bool, true, false, not, ◌==◌, ◌&&◌, ◌||◌, ◌⊎◌, List, [], ◌∷◌, ◌++◌, Some}
+use Rattle.ssh_text.specs.Text.{AreBlanks, is_blank}
+use Rattle.ssh_keys.specs.PublicKey.{PublicKey}
+use Rattle.ssh_held_keys.specs.HeldKey.{toggled}
+use Rattle.ssh_held_keys.specs.OpenSshWords.{key_at}
+
+-- whether a quote is open after a text
+abbrev pub is_open : (quoted escaped : Bool) → List ℕ → Bool
+is_open quoted escaped [] = quoted
+is_open quoted escaped (c ∷ cs) = is_open (toggled quoted escaped c) (c == 92) cs
+
+-- whether each blank stands inside quotes
+abbrev pub is_unbroken : (quoted escaped : Bool) → List ℕ → Bool
+is_unbroken quoted escaped [] = true
+is_unbroken quoted escaped (c ∷ cs) = (quoted || not (is_blank c)) && is_unbroken (toggled quoted escaped c) (c == 92) cs
+
+-- options as sshd walks over them: each quote is closed, and each blank stands inside quotes (sshkey.c, sshkey_advance_past_options)
+pub record AreOptions (options : List ℕ) : Type 0 where
+  pub closed : is_open false false options ≡ false
+  pub unbroken : is_unbroken false false options ≡ true
+
+-- The key is the one at the front of what follows the options and blanks, or at the front of the text: every quote that is
+-- opened before it is closed before it.
+pub record StandsOutside (text : List ℕ) (key : PublicKey) : Type 0 where
+  pub options : List ℕ
+  pub gap : List ℕ
+  pub rest : List ℕ
+  pub cut : text ≡ options ++ (gap ++ rest)
+  pub walked : AreOptions options
+  pub blanks : AreBlanks gap
+  pub apart : (options ≡ []) ⊎ (gap ≢ [])
+  pub stands : key_at rest ≡ Some key
