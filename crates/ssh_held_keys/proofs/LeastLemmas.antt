@@ -1,6 +1,6 @@
 -- The least bytes of a number, with bytes 00 in front or not.
-use Rattle.std.proofs.Common.{◌≡◌, ◌∙◌, ℕ, ◌+◌, ◌*◌, ◌<◌, Bool, true, false, not, cond, ltb, eqb, List, [], ◌∷◌, ◌++◌, reverse, refl, sym, ap, arith, inl, inr, eq-eqb}
-use Rattle.std.specs.Prelude.{nat_lt, nat_le, ◌&&◌, ◌||◌}
+use Rattle.std.proofs.Common.{◌≡◌, ◌∙◌, ℕ, ◌+◌, ◌*◌, ◌<◌, Bool, true, false, cond, eqb, List, [], ◌∷◌, ◌++◌, reverse, refl, sym, ap, arith, inl, inr}
+use Rattle.std.specs.Prelude.{nat_lt, nat_le, ◌&&◌}
 use Rattle.std.proofs.lemmas.Bool.{cases_lt, lt-leb, ltb-true, ne_eqb}
 use Rattle.std.proofs.lemmas.List.{reverse-append}
 use Rattle.ssh_wire.specs.Spelling.{worth, natural, is_least, is_not_negative}
@@ -48,11 +48,11 @@ zero-kept (c ∷ more) set = record { least = zero-least c more set; sign = refl
 pub least-is : (bytes : List ℕ) → is_not_negative bytes ≡ true → IsLeastOf bytes (least_of bytes)
 least-is [] sign = record { least = refl; sign = refl; same = refl }
 least-is (b ∷ more) sign = elim (cases_lt 0 b) [
-    | inl some ↦ kept b more some sign
-    | inr none ↦
-        let zero : b ≡ 0 = omega (arith, none) in
-        rw zero (go (is_not_negative more) refl (least-is more))
-  ]
+  | inl some ↦ kept b more some sign
+  | inr none ↦
+      let zero : b ≡ 0 = omega (arith, none) in
+      rw zero (go (is_not_negative more) refl (least-is more))
+]
   where
     go : (s : Bool) → is_not_negative more ≡ s → (is_not_negative more ≡ true → IsLeastOf more (least_of more)) → IsLeastOf (0 ∷ more) (least_of (0 ∷ more))
     go true e h =

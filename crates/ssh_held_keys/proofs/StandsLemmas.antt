@@ -8,7 +8,7 @@ use Rattle.ssh_keys.specs.PublicKey.{PublicKey}
 use Rattle.ssh_held_keys.specs.HeldKey.{after_options, authorized_key, begins_with, held_key, key_after_blanks, read_part, toggled}
 use Rattle.ssh_held_keys.specs.OpenSshNames.{algorithm_kind, word_kind}
 use Rattle.ssh_held_keys.specs.OpenSshWords.{key_at, key_of_words}
-use Rattle.ssh_held_keys.specs.Stands.{AreOptions, StandsOutside, is_open, is_unbroken}
+use Rattle.ssh_held_keys.specs.Stands.{StandsOutside, is_open, is_unbroken}
 
 -- ---- the walk over the options
 
@@ -91,9 +91,9 @@ after-walk text rest key h k =
     let w = walk false false text rest h in
     let s = skipped rest in
     let apart : s.gap ≢ [] = elim w.end [
-        | inl none ↦ absurd (none-at-end key (ap (λ t. key_at (skip_blanks t)) (sym none) ∙ k))
-        | inr blank ↦ s.some blank
-      ] in
+      | inl none ↦ absurd (none-at-end key (ap (λ t. key_at (skip_blanks t)) (sym none) ∙ k))
+      | inr blank ↦ s.some blank
+    ] in
     record {
       options = w.options;
       gap = s.gap;

@@ -1,6 +1,6 @@
 -- The key that OpenSSH 9.2 looks for on a line. It grants nothing: OpenSSH may read what is refused here, and then a person has
 -- to find the key by its fingerprint.
-use Rattle.std.specs.Prelude.{ℕ, Bool, true, false, not, ◌==◌, ◌&&◌, if◌then◌else◌, List, [], ◌∷◌, take, Option, Some, None}
+use Rattle.std.specs.Prelude.{ℕ, Bool, false, not, ◌==◌, ◌&&◌, if◌then◌else◌, List, [], ◌∷◌, take, Option, Some, None}
 use Rattle.std.specs.List.{position}
 use Rattle.std.specs.Option.{option_or}
 use Rattle.ssh_text.specs.Text.{is_blank, next_field, skip_blanks}

@@ -1,4 +1,4 @@
-use Rattle.std.proofs.Common.{◌≡◌, ◌<◌, length}
+use Rattle.std.proofs.Common.{◌≡◌, length}
 use Rattle.ssh_held_keys.specs.OpenSshBlob.{least_of}
 use Rattle.ssh_held_keys.proofs.blob.least_of.Given as goal
 

@@ -1,8 +1,7 @@
-use Rattle.std.proofs.Common.{rules, ◌≡◌, ◌∙◌, true, Ok, ap, sym, cond, IsTrue, refl}
+use Rattle.std.proofs.Common.{rules, ◌≡◌, ◌∙◌, true, ap, sym, refl}
 use Rattle.ssh_wire.specs.Mpint.{number_of}
 use Rattle.ssh_wire.specs.Spelling.{is_least, is_not_negative, natural}
 use Rattle.ssh_held_keys.specs.OpenSshBlob.{least_of, number_in}
-use Rattle.ssh_held_keys.specs.declared.blob.Refused.TheVariants.{NoKey}
 use Rattle.ssh_held_keys.proofs.LeastLemmas.{IsLeastOf, least-is}
 use Rattle.ssh_held_keys.proofs.blob.number_in.Goals as goal
 
