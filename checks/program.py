@@ -6,7 +6,8 @@ usage: program.py [PROGRAM] [--after LOG]
 PROGRAM is crates/ssh_audit/out/ssh_audit where it is left out. After its own rows it starts the checks beside it:
 worked.py (worked rows of the whole command), examples.py (keys, certificates and signatures of ssh-keygen and openssl
 through examples/), documents.py (the commands of README.md and docs/MANUAL.md as they stand), review.py (reviews of
-random files), recipes.py (the commands of docs/RECIPES.md), codes.py (whether each printed code is in a row),
+random files), openssh.py (what docs/OPENSSH_DIFFERENCES.md says, asked of a real sshd and ssh, and whether whoever they
+let in is shown), recipes.py (the commands of docs/RECIPES.md), codes.py (whether each printed code is in a row),
 explained.py (whether docs/CODES.md says what the source's table says), manual_page.py (the same of docs/ssh_audit.1,
 with its options), closure.py (how much a reviewer has to read), memory_calls.py (whether each call that takes memory is
 in the table of docs/PROOFS.md), refused_growth.py (each growth of memory refused in turn), cut_vectors.py (worked blobs,
@@ -16,8 +17,8 @@ bytes under AddressSanitizer) run too, which need the kit's `rt`, and the counts
 printed, are added. The last line is 'N passed, M failed' for all of them. The status is 0 where nothing failed. What
 cannot run has failed.
 
-Needs ssh-keygen (Debian: openssh-client), openssl 3, gcc, jq, git, /dev/full, and the built program. It takes some five
-minutes, without --after.
+Needs ssh and ssh-keygen (Debian: openssh-client), sshd (openssh-server), openssl 3, gcc, jq, git, /dev/full, and the built
+program. It takes some ten minutes, without --after.
 """
 import argparse
 import base64
@@ -42,7 +43,7 @@ import inputs
 from rewrite import kind_of, loosened
 
 CRATE = HERE.parent / "crates" / "ssh_audit"
-NEEDS = {"ssh-keygen": "openssh-client", "openssl": "openssl", "gcc": "gcc", "jq": "jq"}
+NEEDS = {"ssh-keygen": "openssh-client", "sshd": "openssh-server", "openssl": "openssl", "gcc": "gcc", "jq": "jq"}
 COUNTS = re.compile(r"(\d+) passed, (\d+) failed")
 SECONDS = 60
 FILE_LIMIT = inputs.FILE_LIMIT
@@ -725,9 +726,14 @@ def other_check(name, tally, *arguments):
     print(f"{name}: {passed} passed, {failed} failed", flush=True)
 
 
+def found(need):
+    """Where a program is; sshd's folder is not on every path."""
+    return shutil.which(need, path=os.environ.get("PATH", os.defpath) + ":/usr/sbin")
+
+
 def what_is_missing(path):
     for need, package in NEEDS.items():
-        if shutil.which(need) is None:
+        if found(need) is None:
             yield f"{need} is missing (Debian: {package})"
     if not os.access(path, os.X_OK):
         yield f"{path} is not built"
@@ -755,6 +761,7 @@ def try_all(path, tally):
     print(f"program.py itself: {tally.passed} passed, {tally.failed} failed", flush=True)
     for name in ("worked.py", "examples.py", "documents.py", "review.py", "recipes.py", "refused_growth.py", "cut_vectors.py", "hostile.py"):
         other_check(name, tally, path)
+    other_check("openssh.py", tally, "--audit", path)
 
 
 def main():
