@@ -248,7 +248,7 @@ FOUND_OF_KEYS = [
     ("F2", 'principals="a" {K}\n{K}\n', "    F2 1: line 1 has the same key: where that line does not let it in, this one may"),
     ("F6", 'expiry-time="19700101000229Z" {K}\n', "    F6: has expired"),
     ("F6", 'expiry-time="19691231230229" {K}\n', "    F6: has expired"),
-    ("F6", 'expiry-time="19691231230230" {K}\n', None),
+    ("F6", 'expiry-time="19700101000229" {K}\n', None),
     ("F6", 'expiry-time="19700101000230Z" {K}\n', None),
     ("F7", 'from="10.0.0.1/8" {K}\n', "    F7 from: lets nobody in: its from= list permits nobody"),
     ("F7", 'from="*,,10.0.0.1" {K}\n', "    F7 from: lets nobody in: its from= list permits nobody"),
