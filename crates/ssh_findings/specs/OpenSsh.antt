@@ -197,6 +197,7 @@ is_short_item item = is_short_address item.text
 unfoldable pub has_short_address : List ℕ → Bool
 has_short_address list = list_any is_short_item (items_of list)
 
--- The list permits nobody here, and sshd may permit somebody by it; or an item of it is an address for sshd alone.
+-- The list permits nobody here, and sshd may permit somebody by it; or an item of it is an address for sshd alone; or one is so
+-- long that sshd compares no host name with the list (match.c, match_host_and_ip).
 abbrev pub is_read_otherwise : List ℕ → Bool
-is_read_otherwise list = not (refuses_all list) && (is_bad_list list || has_short_address list)
+is_read_otherwise list = not (refuses_all list) && (is_bad_list list || (has_short_address list || has_long_item list))

@@ -15,6 +15,7 @@ ghost use Rattle.ssh_findings.specs.OpenSsh.{
 };
 
 use crate::list::is_bad_list;
+use crate::openssh::has_long_item;
 use crate::ports::is_decimal_digit;
 use ssh_patterns::{PatternError, first_piece, parse_address, parse_net};
 
@@ -107,10 +108,11 @@ pub(crate) fn has_short_address(list: &[u8]) -> bool
     false
 }
 
-/// Whether OpenSSH 9.2 may let somebody in by a `from` list that permits nobody here, or may read an
-/// item of it as an address that is none here (127.1). No memory is taken.
+/// Whether OpenSSH 9.2 may let somebody in by a `from` list that permits nobody here, may read an item
+/// of it as an address that is none here (127.1), or compares no host name with it for the length of
+/// an item. No memory is taken.
 pub fn is_read_otherwise(list: &[u8]) -> bool
     ensures { result ≡ is_read_otherwise list.now }
 {
-    !refuses_all(list) && (is_bad_list(list) || has_short_address(list))
+    !refuses_all(list) && (is_bad_list(list) || has_short_address(list) || has_long_item(list))
 }
