@@ -8,12 +8,13 @@ use Rattle.ssh_host_findings.specs.declared.earlier.EarlierHosts.{EarlierHosts}
 use Rattle.ssh_host_findings.specs.declared.facts.HostFacts.{HostFacts}
 use Rattle.ssh_host_findings.specs.declared.least.LeastLines.{LeastLines}
 use Rattle.ssh_host_findings.specs.declared.named.KindKeys.{KindKeys}
+use Rattle.ssh_host_findings.specs.declared.revocation.RevocationFacts.{RevocationFacts}
 use Rattle.ssh_host_findings.specs.HostLines.{HostLine, Saying, Trusts, Revokes}
-use Rattle.ssh_host_findings.specs.Earlier.{other_line, revokes_blob, revoking, same_kind, same_line, says_shared, trusting, trusting_line, trusts_blob, trusts_other}
+use Rattle.ssh_host_findings.specs.Earlier.{is_blob, other_line, revokes_blob, revoking, same_kind, same_line, says_shared, spells_blob, trusting, trusting_line, trusts_blob, trusts_other}
 use Rattle.ssh_host_findings.specs.Items.{has_item, is_plain}
 use Rattle.ssh_host_findings.specs.Least.{least_line, lesser, line_if}
 use Rattle.ssh_host_findings.specs.Maps.{least_other, line_at, other_of_kind}
-use Rattle.ssh_host_findings.specs.StandsFor.{KeepsKeys, RemembersLines, has_names, names_other, says_named}
+use Rattle.ssh_host_findings.specs.StandsFor.{KeepsKeys, KeepsSpellings, RemembersLines, has_names, names_other, says_named}
 use Rattle.ssh_host_findings.proofs.LeastLemmas.{grown, kept, least_none, least_or, least_same, lesser_assoc, lesser_none}
 
 -- ---- what is found
@@ -73,7 +74,7 @@ shared-is : (kind : KeyKind) (list : Option (List ℕ)) (says : Saying) (c : Boo
     → (says_shared kind list says && c) ≡ list_any (λ x. says_named kind x says && c) (pieces_left list)
 shared-is kind list (Trusts other is_authority others) c =
     any-guarded (not is_authority) (same_kind other kind) c (λ x. has_item x others) (pieces_left list)
-shared-is kind list Revokes c = none-any c (pieces_left list)
+shared-is kind list (Revokes spelling) c = none-any c (pieces_left list)
 
 pub least_found : (m : EarlierHosts) (lines : List HostLine) (kind : KeyKind) (blob : List ℕ) (items : List (List ℕ)) → RemembersLines m lines
     → least_other m.named kind blob items ≡ least_line (λ d. list_any (λ x. names_other kind x blob d) items) lines
@@ -109,6 +110,18 @@ if-line : (b : Bool) (o : Option ℕ) (n : ℕ) → cond b (lesser o (Some n)) o
 if-line true o n = refl
 if-line false o n = sym (lesser_none o)
 
+-- a map that has one more line for a text, if there is one
+abbrev pub HasSomeMore : LeastLines → LeastLines → Option (List ℕ) → ℕ → Type 0
+HasSomeMore old new text n =
+    (other : List ℕ) → line_at new other ≡ cond (is_blob text other) (lesser (line_at old other) (Some n)) (line_at old other)
+
+some-more : (old new : LeastLines) (lines : List HostLine) (d : HostLine) (text : Option (List ℕ)) → HasSomeMore old new text d.line
+    → ((blob : List ℕ) → line_at old blob ≡ least_line (spells_blob blob) lines) → ((blob : List ℕ) → spells_blob blob d ≡ is_blob text blob)
+    → (blob : List ℕ) → line_at new blob ≡ least_line (spells_blob blob) (lines ++ d ∷ [])
+some-more old new lines d text more stands on blob =
+    grown (line_at old blob) (line_at new blob) (spells_blob blob) lines d (stands blob)
+    (more blob ∙ if-line (is_blob text blob) (line_at old blob) d.line ∙ ap (λ b. lesser (line_at old blob) (line_if b d.line)) (sym (on blob)))
+
 one-more : (old new : LeastLines) (test : List ℕ → HostLine → Bool) (lines : List HostLine) (d : HostLine) → HasOneMore old new d.blob d.line
     → ((blob : List ℕ) → line_at old blob ≡ least_line (test blob) lines) → ((blob : List ℕ) → test blob d ≡ bytes_eq d.blob blob)
     → (blob : List ℕ) → line_at new blob ≡ least_line (test blob) (lines ++ d ∷ [])
@@ -116,25 +129,27 @@ one-more old new test lines d more stands on blob =
     grown (line_at old blob) (line_at new blob) (test blob) lines d (stands blob)
     (more blob ∙ if-line (bytes_eq d.blob blob) (line_at old blob) d.line ∙ ap (λ b. lesser (line_at old blob) (line_if b d.line)) (sym (on blob)))
 
-pub one_more_revocation : (m : EarlierHosts) (revoked : LeastLines) (n : ℕ) (bytes : List ℕ) (lines : List HostLine)
-    → HasOneMore m.revoked revoked bytes n → RemembersLines m lines
-    → RemembersLines (record { hosts = m.hosts; authorities = m.authorities; revoked = revoked; named = m.named }) (lines ++ revoking n bytes ∷ [])
-one_more_revocation m revoked n bytes lines more s = record {
-  hosts = λ blob. kept _ (trusts_blob false blob) lines (revoking n bytes) (s.hosts blob) refl;
-  authorities = λ blob. kept _ (trusts_blob true blob) lines (revoking n bytes) (s.authorities blob) refl;
-  revoked = one-more m.revoked revoked revokes_blob lines (revoking n bytes) more s.revoked (λ blob. refl);
-  named = λ kind item blob. kept _ (names_other kind item blob) lines (revoking n bytes) (s.named kind item blob) refl;
+pub one_more_revocation : (m : EarlierHosts) (revoked spelled : LeastLines) (n : ℕ) (bytes : List ℕ) (f : RevocationFacts) (lines : List HostLine)
+    → HasOneMore m.revoked revoked bytes n → HasSomeMore m.spelled spelled f.spelling n → RemembersLines m lines
+    → RemembersLines (record { hosts = m.hosts; authorities = m.authorities; revoked = revoked; spelled = spelled; named = m.named }) (lines ++ revoking n bytes f ∷ [])
+one_more_revocation m revoked spelled n bytes f lines more some s = record {
+  hosts = λ blob. kept _ (trusts_blob false blob) lines (revoking n bytes f) (s.hosts blob) refl;
+  authorities = λ blob. kept _ (trusts_blob true blob) lines (revoking n bytes f) (s.authorities blob) refl;
+  revoked = one-more m.revoked revoked revokes_blob lines (revoking n bytes f) more s.revoked (λ blob. refl);
+  spelled = some-more m.spelled spelled lines (revoking n bytes f) f.spelling some s.spelled (λ blob. refl);
+  named = λ kind item blob. kept _ (names_other kind item blob) lines (revoking n bytes f) (s.named kind item blob) refl;
 }
 
 pub one_more_authority : (m : EarlierHosts) (authorities : LeastLines) (n : ℕ) (blob : List ℕ) (f : HostFacts) (lines : List HostLine)
     → f.is_authority ≡ true → HasOneMore m.authorities authorities blob n → RemembersLines m lines
-    → RemembersLines (record { hosts = m.hosts; authorities = authorities; revoked = m.revoked; named = m.named }) (lines ++ trusting n blob f ∷ [])
+    → RemembersLines (record { hosts = m.hosts; authorities = authorities; revoked = m.revoked; spelled = m.spelled; named = m.named }) (lines ++ trusting n blob f ∷ [])
 one_more_authority m authorities n own f lines role more s = record {
   hosts = λ blob. kept _ (trusts_blob false blob) lines (trusting n own f) (s.hosts blob) (ap (λ b. not b && bytes_eq own blob) role);
   authorities =
       one-more m.authorities authorities (trusts_blob true) lines (trusting n own f) more s.authorities
       (λ blob. ap (λ b. b && bytes_eq own blob) role);
   revoked = λ blob. kept _ (revokes_blob blob) lines (trusting n own f) (s.revoked blob) refl;
+  spelled = λ blob. kept _ (spells_blob blob) lines (trusting n own f) (s.spelled blob) refl;
   named = λ kind item blob.
       kept _ (names_other kind item blob) lines (trusting n own f) (s.named kind item blob)
       (ap (λ b. (not b && (same_kind f.kind kind && has_item item f.list)) && not (bytes_eq own blob)) role);
@@ -148,13 +163,14 @@ HasOneMoreKey old new kind list n own =
 
 pub one_more_host : (m : EarlierHosts) (hosts : LeastLines) (named : KindKeys) (n : ℕ) (blob : List ℕ) (f : HostFacts) (lines : List HostLine)
     → f.is_authority ≡ false → HasOneMore m.hosts hosts blob n → HasOneMoreKey m.named named f.kind f.list n blob → RemembersLines m lines
-    → RemembersLines (record { hosts = hosts; authorities = m.authorities; revoked = m.revoked; named = named }) (lines ++ trusting n blob f ∷ [])
+    → RemembersLines (record { hosts = hosts; authorities = m.authorities; revoked = m.revoked; spelled = m.spelled; named = named }) (lines ++ trusting n blob f ∷ [])
 one_more_host m hosts named n own f lines role more keys s = record {
   hosts =
       one-more m.hosts hosts (trusts_blob false) lines (trusting n own f) more s.hosts
       (λ blob. ap (λ b. not b && bytes_eq own blob) role);
   authorities = λ blob. kept _ (trusts_blob true blob) lines (trusting n own f) (s.authorities blob) (ap (λ b. b && bytes_eq own blob) role);
   revoked = λ blob. kept _ (revokes_blob blob) lines (trusting n own f) (s.revoked blob) refl;
+  spelled = λ blob. kept _ (spells_blob blob) lines (trusting n own f) (s.spelled blob) refl;
   named = λ kind item blob.
       grown (other_of_kind m.named kind item blob) (other_of_kind named kind item blob) (names_other kind item blob) lines (trusting n own f) (s.named kind item blob)
       (keys kind item blob
@@ -162,13 +178,14 @@ one_more_host m hosts named n own f lines role more keys s = record {
 }
 
 -- what stands for lines, by the same look-ups
-pub stands_still : (old new : EarlierHosts) (lines : List HostLine) → KeepsKeys old new
+pub stands_still : (old new : EarlierHosts) (lines : List HostLine) → KeepsKeys old new → KeepsSpellings old new
     → ((kind : KeyKind) (item blob : List ℕ) → other_of_kind new.named kind item blob ≡ other_of_kind old.named kind item blob)
     → RemembersLines old lines → RemembersLines new lines
-stands_still old new lines keys named s = record {
+stands_still old new lines keys spellings named s = record {
   hosts = λ blob. keys.hosts blob ∙ s.hosts blob;
   authorities = λ blob. keys.authorities blob ∙ s.authorities blob;
   revoked = λ blob. keys.revoked blob ∙ s.revoked blob;
+  spelled = λ blob. spellings blob ∙ s.spelled blob;
   named = λ kind item blob. named kind item blob ∙ s.named kind item blob;
 }
 

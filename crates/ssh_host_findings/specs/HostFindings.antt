@@ -1,12 +1,17 @@
 -- What is found of a known_hosts line, in the order of the codes (this project's rule; F8 by what OpenSSH was seen to do).
-use Rattle.std.specs.Prelude.{ℕ, Bool, true, not, ◌&&◌, List, ◌++◌, Option, is_some, option_map}
+use Rattle.std.specs.Prelude.{ℕ, nat_lt, Bool, true, not, ◌&&◌, List, ◌++◌, length, Option, is_some, option_map}
 use Rattle.ssh_options.specs.declared.cause.LineCause.{LineCause}
+use Rattle.ssh_options.specs.declared.cause.LineCause.TheVariants as causes
+use Rattle.ssh_text.specs.Text.{line_limit}
 use Rattle.ssh_findings.specs.Asking.{Asking, short_size}
+use Rattle.ssh_findings.specs.OpenSsh.{has_long_item_in, has_nul, is_refused_size}
 use Rattle.ssh_findings.specs.Telling.{told_if, told_some}
+use Rattle.ssh_findings.specs.declared.grounds.Ground.TheVariants as grounds
 use Rattle.ssh_host_findings.specs.declared.facts.HostFacts.{HostFacts}
+use Rattle.ssh_host_findings.specs.declared.revocation.RevocationFacts.{RevocationFacts}
 use Rattle.ssh_host_findings.specs.declared.finding.HostFinding.{HostFinding}
 use Rattle.ssh_host_findings.specs.declared.finding.HostFinding.TheVariants as finding
-use Rattle.ssh_host_findings.specs.Earlier.{other_line, revoking_line, same_line, trusting_line}
+use Rattle.ssh_host_findings.specs.Earlier.{other_line, revoking_line, same_line, spelled_line, spelling_line, trusting_line}
 use Rattle.ssh_host_findings.specs.Findings.{host_code_of}
 use Rattle.ssh_host_findings.specs.Items.{has_pattern, names_all}
 use Rattle.ssh_host_findings.specs.HostLines.{HostLine}
@@ -36,32 +41,66 @@ name_findings asking f =
     ++ told_if host_code_of asking (is_for_all f) finding.EveryHost
     ++ told_if host_code_of asking (is_in_clear f) finding.NamesInClear
 
--- F11 and F12: of other lines, where they are named
-abbrev pub other_line_findings : Asking → Option ℕ → Option ℕ → List HostFinding
-other_line_findings asking other revoked =
-    told_some host_code_of asking (option_map finding.OtherKey other)
-    ++ told_some host_code_of asking (option_map finding.TrustedAndRevoked revoked)
+-- F12 of an entry: the line that revokes its key, and the line that revokes another spelling of it
+abbrev pub revoking_findings : Asking → Option ℕ → Option ℕ → List HostFinding
+revoking_findings asking revoked spelled =
+    told_some host_code_of asking (option_map finding.TrustedAndRevoked revoked)
+    ++ told_some host_code_of asking (option_map finding.RevokedSpelling spelled)
 
--- what is found of an entry that says this, by the lines of F11, F12 and F21, and told
-unfoldable pub findings_by : Asking → HostFacts → Option ℕ → Option ℕ → Option ℕ → List HostFinding
-findings_by asking f other revoked same =
+-- F11 and F12: of other lines, where they are named
+abbrev pub other_line_findings : Asking → Option ℕ → Option ℕ → Option ℕ → List HostFinding
+other_line_findings asking other revoked spelled =
+    told_some host_code_of asking (option_map finding.OtherKey other) ++ revoking_findings asking revoked spelled
+
+-- F22: a NUL in the names, at which the line ends for ssh; an item of the list too long for it; a size of RSA keys that it
+-- refuses (hostfile.c, hostkeys_foreach_file; match.c, match_pattern_list; sshkey.c, sshkey_check_rsa_length)
+abbrev pub refusal_findings : Asking → HostFacts → List HostFinding
+refusal_findings asking f =
+    told_if host_code_of asking (has_nul f.names) (finding.MayRefuse grounds.Nul)
+    ++ told_if host_code_of asking (has_long_item_in f.list) (finding.MayRefuse grounds.LongItem)
+    ++ told_if host_code_of asking (is_refused_size f.bits) (finding.MayRefuse grounds.Rsa)
+
+-- what is found of an entry that says this, by the lines of F11, F12 (by its blob, and by another spelling) and F21, and told
+unfoldable pub findings_by : Asking → HostFacts → Option ℕ → Option ℕ → Option ℕ → Option ℕ → List HostFinding
+findings_by asking f other revoked spelled same =
     host_reading_findings asking f
-    ++ other_line_findings asking other revoked
+    ++ other_line_findings asking other revoked spelled
     ++ name_findings asking f
     ++ told_some host_code_of asking (option_map finding.SameHostKey same)
+    ++ refusal_findings asking f
 
 -- what is found of an entry with this blob, after these lines, and told
 unfoldable pub host_entry_findings : Asking → List HostLine → List ℕ → HostFacts → List HostFinding
 host_entry_findings asking earlier blob f =
-    findings_by asking f (other_line earlier blob f) (revoking_line earlier blob) (same_line earlier blob f)
+    findings_by asking f (other_line earlier blob f) (revoking_line earlier blob) (spelling_line earlier blob) (same_line earlier blob f)
 
--- what is found of a revocation of these bytes, after these lines, and told: F12
-unfoldable pub revocation_findings : Asking → List HostLine → List ℕ → List HostFinding
-revocation_findings asking earlier bytes = told_some host_code_of asking (option_map finding.TrustedAndRevoked (trusting_line earlier bytes))
+-- F8: ssh passes over a revocation for a tab after its marker (hostfile.c, check_markers), and where it reads no key, for the
+-- type of its key is another (sshkey.c, sshkey_read)
+abbrev pub passing_findings : Asking → RevocationFacts → List HostFinding
+passing_findings asking f =
+    told_if host_code_of asking f.has_marker_tab finding.RevocationTab
+    ++ told_if host_code_of asking f.has_other_type finding.RevocationType
 
--- what is found of a revocation that cannot be read, and told: F10
-abbrev pub blind_findings : Asking → List HostFinding
-blind_findings asking = told_if host_code_of asking true finding.BlindRevocation
+-- F12 of a revocation: the line that trusts the key with its bytes, and the line that trusts the key that it spells otherwise
+abbrev pub trusting_findings : Asking → Option ℕ → Option ℕ → List HostFinding
+trusting_findings asking trusting spelled =
+    told_some host_code_of asking (option_map finding.TrustedAndRevoked trusting)
+    ++ told_some host_code_of asking (option_map finding.TrustedSpelling spelled)
+
+-- what is found of a revocation of these bytes that says this, after these lines, and told: F8 and F12
+unfoldable pub revocation_findings : Asking → List HostLine → List ℕ → RevocationFacts → List HostFinding
+revocation_findings asking earlier bytes f =
+    passing_findings asking f ++ trusting_findings asking (trusting_line earlier bytes) (spelled_line earlier f)
+
+-- the line is longer than a line may be here; ssh reads such lines too
+abbrev pub is_past_limit : List ℕ → Bool
+is_past_limit line = nat_lt line_limit (length line)
+
+-- what is found of a line that may revoke any key and cannot be read, and told: F1 where it is too long, and F10
+abbrev pub blind_findings : Asking → List ℕ → List HostFinding
+blind_findings asking line =
+    told_if host_code_of asking (is_past_limit line) (finding.Unreadable causes.TooLong)
+    ++ told_if host_code_of asking true finding.BlindRevocation
 
 -- what is found of a line that cannot be read, and told: F1
 abbrev pub unreadable_host_findings : Asking → LineCause → List HostFinding

@@ -1,4 +1,5 @@
 pub mod HostFacts
+pub mod RevocationFacts
 pub mod Findings
 pub mod Items
 pub mod HostLines

@@ -1,5 +1,5 @@
 -- How much is kept of earlier lines (this project's rule).
-use Rattle.std.specs.Prelude.{ℕ, ◌+◌, if◌then◌else◌, List, [], ◌∷◌, length}
+use Rattle.std.specs.Prelude.{ℕ, ◌+◌, if◌then◌else◌, List, [], ◌∷◌, length, Option, Some, None}
 use Rattle.ssh_byte_maps.specs.Entries.{sum_of}
 use Rattle.ssh_patterns.specs.Lists.{pieces_left}
 use Rattle.ssh_host_findings.specs.declared.earlier.EarlierHosts.{EarlierHosts}
@@ -8,6 +8,7 @@ use Rattle.ssh_host_findings.specs.declared.first_key.FirstKey.{FirstKey}
 use Rattle.ssh_host_findings.specs.declared.least.LeastLines.{LeastLines}
 use Rattle.ssh_host_findings.specs.declared.named.KindKeys.{KindKeys}
 use Rattle.ssh_host_findings.specs.declared.named.NamedKeys.{NamedKeys}
+use Rattle.ssh_host_findings.specs.declared.revocation.RevocationFacts.{RevocationFacts}
 use Rattle.ssh_host_findings.specs.Items.{is_plain}
 
 -- the bytes of a text for which a line is kept
@@ -32,7 +33,8 @@ kinds_bytes m =
 
 -- the bytes that are kept of all lines
 abbrev pub host_bytes_kept : EarlierHosts → ℕ
-host_bytes_kept m = texts_bytes m.hosts + texts_bytes m.authorities + texts_bytes m.revoked + kinds_bytes m.named
+host_bytes_kept m =
+    texts_bytes m.hosts + texts_bytes m.authorities + texts_bytes m.revoked + texts_bytes m.spelled + kinds_bytes m.named
 
 -- the bytes of the plain items of a list, with a key's blob for each
 abbrev pub items_bytes : List ℕ → List (List ℕ) → ℕ
@@ -56,10 +58,11 @@ kinds_sum weight m =
     names_sum weight m.rsa + names_sum weight m.p256 + names_sum weight m.p384 + names_sum weight m.p521 + names_sum weight m.ed25519
     + names_sum weight m.sk_p256 + names_sum weight m.sk_ed25519
 
--- over all texts that are kept: the blobs of keys, what is revoked, and names
+-- over all texts that are kept: the blobs of keys, what is revoked and the blob of its key where it spells that otherwise, and names
 abbrev pub kept_sum : (List ℕ → ℕ) → EarlierHosts → ℕ
 kept_sum weight m =
-    texts_sum weight m.hosts + texts_sum weight m.authorities + texts_sum weight m.revoked + kinds_sum weight m.named
+    texts_sum weight m.hosts + texts_sum weight m.authorities + texts_sum weight m.revoked + texts_sum weight m.spelled
+    + kinds_sum weight m.named
 
 -- over the plain items of a list
 abbrev pub items_sum : (List ℕ → ℕ) → List (List ℕ) → ℕ
@@ -69,6 +72,23 @@ items_sum weight (item ∷ items) = (if is_plain item then weight item else 0) +
 -- over the texts of an entry: its blob, and each plain name of its list
 abbrev pub entry_sum : (List ℕ → ℕ) → List ℕ → HostFacts → ℕ
 entry_sum weight blob f = weight blob + (if f.is_authority then 0 else items_sum weight (pieces_left f.list))
+
+-- of the blob of the key that a revocation spells otherwise, if it does: whatever is counted of a text, and its bytes
+abbrev pub spelling_sum : (List ℕ → ℕ) → Option (List ℕ) → ℕ
+spelling_sum weight None = 0
+spelling_sum weight (Some blob) = weight blob
+
+abbrev pub spelling_bytes : Option (List ℕ) → ℕ
+spelling_bytes None = 0
+spelling_bytes (Some blob) = length blob
+
+-- over the texts of a revocation: its bytes, and the blob of its key where they spell that otherwise
+abbrev pub revocation_sum : (List ℕ → ℕ) → List ℕ → RevocationFacts → ℕ
+revocation_sum weight bytes f = weight bytes + spelling_sum weight f.spelling
+
+-- the bytes that are kept of a revocation at most
+abbrev pub revocation_bytes : List ℕ → RevocationFacts → ℕ
+revocation_bytes bytes f = length bytes + spelling_bytes f.spelling
 
 -- the bytes of all texts that are kept, and how many there are
 abbrev pub text_bytes_kept : EarlierHosts → ℕ

@@ -1,5 +1,5 @@
 -- Worked lines of a known_hosts file, and what is found of them.
-use Rattle.std.specs.Prelude.{◌≡◌, ℕ, Bool, true, false, List, [], ◌∷◌, codes, Option, Some, None, refl}
+use Rattle.std.specs.Prelude.{◌≡◌, ℕ, Bool, true, false, List, [], ◌∷◌, ◌++◌, codes, Option, Some, None, refl, replicate}
 use Rattle.std.specs.Str.{str_to_ascii_lowercase}
 use Rattle.jiff.specs.Types.{UTC}
 use Rattle.ssh_keys.specs.declared.kind.KeyKind.{KeyKind}
@@ -9,7 +9,10 @@ use Rattle.ssh_findings.specs.declared.code.Code.{Code}
 use Rattle.ssh_findings.specs.Asking.{Asking}
 use Rattle.ssh_findings.specs.Codes.{all_codes, default_codes}
 use Rattle.ssh_findings.specs.Telling.{told_if}
+use Rattle.ssh_findings.specs.declared.grounds.Ground.TheVariants as grounds
+use Rattle.ssh_findings.specs.OpenSsh.{has_long_item}
 use Rattle.ssh_host_findings.specs.declared.facts.HostFacts.{HostFacts}
+use Rattle.ssh_host_findings.specs.declared.revocation.RevocationFacts.{RevocationFacts}
 use Rattle.ssh_host_findings.specs.declared.finding.HostFinding.{HostFinding}
 use Rattle.ssh_host_findings.specs.declared.finding.HostFinding.TheVariants as finding
 use Rattle.ssh_host_findings.specs.HostLines.{HostLine}
@@ -70,14 +73,43 @@ two = 2 ∷ []
 abbrev three : List ℕ
 three = 3 ∷ []
 
--- the lines 2, 3, 6 and 7 of a file
+-- another spelling of the third
+abbrev otherwise : List ℕ
+otherwise = 0 ∷ 3 ∷ []
+
+-- a revocation, with a tab after its marker, with another type than its key's, or of another spelling of a key
+abbrev revoked : Bool → Bool → Option (List ℕ) → RevocationFacts
+revoked has_tab has_type spelling = record {
+  names = codes "h";
+  has_marker_tab = has_tab;
+  has_other_type = has_type;
+  spelling = spelling;
+}
+
+abbrev plainly : RevocationFacts
+plainly = revoked false false None
+
+-- the lines 2, 3, 6 and 7 of a file, and after them one that revokes another spelling of a key
 abbrev earlier : List HostLine
 earlier =
     trusting 2 one (host Ed25519 (codes "web1.example.org,192.0.2.10"))
     ∷ trusting 3 two (host Ed25519 (codes "db1.example.org,!db2.example.org"))
     ∷ trusting 6 three (authority (codes "*"))
-    ∷ revoking 7 two
+    ∷ revoking 7 two plainly
     ∷ []
+
+abbrev respelled : List HostLine
+respelled = revoking 8 otherwise (revoked false false (Some three)) ∷ []
+
+-- names with a NUL, a name too long for ssh, and sizes that ssh refuses
+abbrev with_nul : HostFacts
+with_nul = said Ed25519 None false (0 ∷ []) (Some (0 ∷ []))
+
+abbrev long_name : ℕ → HostFacts
+long_name n = host Ed25519 (codes "h," ++ replicate n 120)
+
+abbrev rsa_of : ℕ → HostFacts
+rsa_of bits = said Rsa (Some bits) false (codes "h") (Some (codes "h"))
 
 abbrev Found : List Code → List ℕ → HostFacts → List HostFinding → Type 0
 Found told blob f findings = host_entry_findings (asking told) earlier blob f ≡ findings
@@ -94,6 +126,15 @@ EntriesFound =
     × Found default_codes two (host Ed25519 (codes "db9.example.org")) (finding.TrustedAndRevoked 7 ∷ [])
     × Found default_codes two hashed (finding.TrustedAndRevoked 7 ∷ [])
     × Found default_codes two (host Ed25519 (codes "web1.example.org")) (finding.OtherKey 2 ∷ finding.TrustedAndRevoked 7 ∷ [])
+    × Found default_codes two (authority (codes "*.example.org")) (finding.TrustedAndRevoked 7 ∷ [])
+    × (host_entry_findings (asking default_codes) respelled three (authority (codes "h")) ≡ finding.RevokedSpelling 8 ∷ [])
+    × (host_entry_findings (asking default_codes) respelled otherwise hashed ≡ finding.TrustedAndRevoked 8 ∷ [])
+    × Found default_codes three with_nul (finding.MayRefuse grounds.Nul ∷ [])
+    × Found default_codes three (long_name 1022) []
+    × Found default_codes three (long_name 1023) (finding.MayRefuse grounds.LongItem ∷ [])
+    × Found default_codes three (rsa_of 1023) (finding.ShortKey 1023 ∷ finding.MayRefuse grounds.Rsa ∷ [])
+    × Found default_codes three (rsa_of 16384) []
+    × Found default_codes three (rsa_of 16385) (finding.MayRefuse grounds.Rsa ∷ [])
     × Found default_codes three (host Rsa (codes "*.lab.example.org")) (finding.PatternHosts ∷ [])
     × Found default_codes three (host Rsa (codes "h?")) (finding.PatternHosts ∷ [])
     × Found default_codes three (host Rsa (codes "!*.lab.example.org,h")) []
@@ -107,20 +148,26 @@ EntriesFound =
     × Found [] two (host Rsa (codes "*")) []
 
 pub entries_found : EntriesFound
-unfolding host_entry_findings findings_by told_if least_line
+unfolding host_entry_findings findings_by told_if least_line has_long_item
 entries_found =
-    (refl, refl, refl, refl, refl, refl, refl, refl, refl, refl, refl, refl, refl, refl, refl, refl, refl, refl, refl, refl)
+    (refl, refl, refl, refl, refl, refl, refl, refl, refl, refl, refl, refl, refl, refl, refl, refl, refl, refl, refl, refl, refl, refl, refl, refl, refl, refl, refl, refl, refl)
 
 -- revocations after them, and lines that cannot be read
 abbrev pub RevocationsFound : Type 0
 RevocationsFound =
-    (revocation_findings (asking default_codes) earlier two ≡ finding.TrustedAndRevoked 3 ∷ [])
-    × (revocation_findings (asking default_codes) earlier three ≡ finding.TrustedAndRevoked 6 ∷ [])
-    × (revocation_findings (asking default_codes) earlier (4 ∷ []) ≡ [])
-    × (blind_findings (asking default_codes) ≡ finding.BlindRevocation ∷ [])
-    × (blind_findings (asking []) ≡ [])
+    (revocation_findings (asking default_codes) earlier two plainly ≡ finding.TrustedAndRevoked 3 ∷ [])
+    × (revocation_findings (asking default_codes) earlier three plainly ≡ finding.TrustedAndRevoked 6 ∷ [])
+    × (revocation_findings (asking default_codes) earlier (4 ∷ []) plainly ≡ [])
+    × (revocation_findings (asking default_codes) earlier (4 ∷ []) (revoked true true None) ≡ finding.RevocationTab ∷ finding.RevocationType ∷ [])
+    × (revocation_findings (asking default_codes) earlier otherwise (revoked false false (Some three)) ≡ finding.TrustedSpelling 6 ∷ [])
+    × (revocation_findings (asking default_codes) earlier two (revoked true false (Some one))
+    ≡ finding.RevocationTab ∷ finding.TrustedAndRevoked 3 ∷ finding.TrustedSpelling 2 ∷ [])
+    × (blind_findings (asking default_codes) (codes "@revoked") ≡ finding.BlindRevocation ∷ [])
+    × (blind_findings (asking default_codes) (replicate 65536 32) ≡ finding.BlindRevocation ∷ [])
+    × (blind_findings (asking default_codes) (replicate 65537 32) ≡ finding.Unreadable causes.TooLong ∷ finding.BlindRevocation ∷ [])
+    × (blind_findings (asking []) (replicate 65537 32) ≡ [])
     × (unreadable_host_findings (asking default_codes) causes.Names ≡ finding.Unreadable causes.Names ∷ [])
 
 pub revocations_found : RevocationsFound
 unfolding revocation_findings told_if least_line
-revocations_found = (refl, refl, refl, refl, refl, refl)
+revocations_found = (refl, refl, refl, refl, refl, refl, refl, refl, refl, refl, refl)

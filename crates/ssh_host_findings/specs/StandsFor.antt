@@ -5,7 +5,7 @@ use Rattle.ssh_host_findings.specs.declared.earlier.EarlierHosts.{EarlierHosts}
 use Rattle.ssh_host_findings.specs.declared.facts.HostFacts.{HostFacts}
 use Rattle.ssh_host_findings.specs.declared.named.KindKeys.{KindKeys}
 use Rattle.ssh_host_findings.specs.HostLines.{HostLine, Saying, Trusts, Revokes}
-use Rattle.ssh_host_findings.specs.Earlier.{revokes_blob, same_kind, trusts_blob}
+use Rattle.ssh_host_findings.specs.Earlier.{revokes_blob, same_kind, spells_blob, trusts_blob}
 use Rattle.ssh_host_findings.specs.Items.{has_item}
 use Rattle.ssh_host_findings.specs.Least.{least_line, lesser, line_if}
 use Rattle.ssh_host_findings.specs.Maps.{line_at, other_of_kind}
@@ -13,7 +13,7 @@ use Rattle.ssh_host_findings.specs.Maps.{line_at, other_of_kind}
 -- the line trusts a host's key of this kind, for a host with this plain item
 abbrev pub says_named : KeyKind → List ℕ → Saying → Bool
 says_named kind item (Trusts other is_authority list) = not is_authority && (same_kind other kind && has_item item list)
-says_named kind item Revokes = false
+says_named kind item (Revokes spelling) = false
 
 -- and the key has another blob
 abbrev pub names_other : KeyKind → List ℕ → List ℕ → HostLine → Bool
@@ -23,6 +23,7 @@ pub record RemembersLines (m : EarlierHosts) (lines : List HostLine) : Type 0 wh
   pub hosts : (blob : List ℕ) → line_at m.hosts blob ≡ least_line (trusts_blob false blob) lines
   pub authorities : (blob : List ℕ) → line_at m.authorities blob ≡ least_line (trusts_blob true blob) lines
   pub revoked : (blob : List ℕ) → line_at m.revoked blob ≡ least_line (revokes_blob blob) lines
+  pub spelled : (blob : List ℕ) → line_at m.spelled blob ≡ least_line (spells_blob blob) lines
   pub named : (kind : KeyKind) (item blob : List ℕ) → other_of_kind m.named kind item blob ≡ least_line (names_other kind item blob) lines
 
 -- the key of an entry is kept for its names too
@@ -34,6 +35,10 @@ pub record KeepsKeys (old new : EarlierHosts) : Type 0 where
   pub hosts : (blob : List ℕ) → line_at new.hosts blob ≡ line_at old.hosts blob
   pub authorities : (blob : List ℕ) → line_at new.authorities blob ≡ line_at old.authorities blob
   pub revoked : (blob : List ℕ) → line_at new.revoked blob ≡ line_at old.revoked blob
+
+-- nor has anything changed of the keys that revocations spell otherwise
+abbrev pub KeepsSpellings : EarlierHosts → EarlierHosts → Type 0
+KeepsSpellings old new = (blob : List ℕ) → line_at new.spelled blob ≡ line_at old.spelled blob
 
 -- of the keys of a kind that stand for a name, either nothing has changed or the key of a line has come
 abbrev pub KeepsName : KindKeys → KindKeys → KeyKind → Option (List ℕ) → ℕ → List ℕ → KeyKind → List ℕ → Type 0

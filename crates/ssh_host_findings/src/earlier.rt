@@ -9,8 +9,8 @@ ghost use Rattle.std.specs.Prelude.{
   [],
   ℕ,
   false,
-  length,
   List,
+  None,
   OnErr,
   OnOk,
   option_copied,
@@ -22,17 +22,33 @@ ghost use Rattle.ssh_host_findings.specs.Earlier.{
   revoking,
   revoking_line,
   same_line,
+  spelled_line,
+  spelling_line,
   trusting,
   trusting_line,
 };
 ghost use Rattle.ssh_host_findings.specs.Maps.{least_other};
-ghost use Rattle.ssh_host_findings.specs.Memory.{entry_sum, host_bytes_kept, host_entry_bytes, kept_sum};
-ghost use Rattle.ssh_host_findings.specs.StandsFor.{KeepsKeys, KeepsName, RemembersLines, has_names};
+ghost use Rattle.ssh_host_findings.specs.Memory.{
+  entry_sum,
+  host_bytes_kept,
+  host_entry_bytes,
+  kept_sum,
+  revocation_bytes,
+  revocation_sum,
+};
+ghost use Rattle.ssh_host_findings.specs.StandsFor.{
+  KeepsKeys,
+  KeepsName,
+  KeepsSpellings,
+  RemembersLines,
+  has_names,
+};
 ghost use Rattle.ssh_keys.specs.declared.kind.KeyKind.{KeyKind as Kind};
 
 use crate::facts::HostFacts;
 use crate::least::{LeastLines, lesser};
 use crate::named::KindKeys;
+use crate::revocation::RevocationFacts;
 use ssh_keys::KeyKind;
 use ssh_patterns::first_piece;
 use std::alloc::{AllocError, Global};
@@ -45,6 +61,7 @@ pub struct EarlierHosts {
     hosts: LeastLines,
     authorities: LeastLines,
     revoked: LeastLines,
+    spelled: LeastLines,
     named: KindKeys,
 }
 
@@ -59,6 +76,7 @@ impl EarlierHosts {
             hosts: LeastLines::new(alloc),
             authorities: LeastLines::new(alloc),
             revoked: LeastLines::new(alloc),
+            spelled: LeastLines::new(alloc),
             named: KindKeys::new(alloc),
         }
     }
@@ -82,6 +100,7 @@ impl EarlierHosts {
         ensures sum { OnOk result ((weight : List ℕ → ℕ)
             → kept_sum weight self.new ≤ kept_sum weight self.old + entry_sum weight blob.now facts.now) }
         ensures keys { OnErr result (KeepsKeys self.old self.new) }
+        ensures spellings { OnErr result (KeepsSpellings self.old self.new) }
         ensures names { OnErr result ((kind : Kind) (item : List ℕ) → KeepsName self.old.named self.new.named
             facts.now.kind facts.now.list line blob.now kind item) }
         ensures err { OnErr result (has_names facts.now ≡ false
@@ -96,23 +115,47 @@ impl EarlierHosts {
         Ok(())
     }
 
-    /// Keeps a line that revokes these bytes. `Err` is out of memory, and nothing is kept then.
+    /// Keeps a line that revokes these bytes and says this. `Err` is out of memory: then nothing is
+    /// kept of its bytes, and nothing at all where they are not another spelling of a key.
     pub fn keep_revocation(
         &mut self,
         alloc: Global,
         line: u64,
         bytes: &[u8],
+        facts: &RevocationFacts,
     ) -> Result<(), AllocError>
         ensures ok { OnOk result ((lines : List HostLine) → RemembersLines self.old lines
-            → RemembersLines self.new (lines ++ revoking line bytes.now ∷ [])) }
-        ensures bytes { OnOk result (host_bytes_kept self.new ≤ host_bytes_kept self.old + length bytes.now) }
+            → RemembersLines self.new (lines ++ revoking line bytes.now facts.now ∷ [])) }
+        ensures bytes { OnOk result
+            (host_bytes_kept self.new ≤ host_bytes_kept self.old + revocation_bytes bytes.now facts.now) }
         ensures sum { OnOk result ((weight : List ℕ → ℕ)
-            → kept_sum weight self.new ≤ kept_sum weight self.old + weight bytes.now) }
-        ensures err { OnErr result ((lines : List HostLine) → RemembersLines self.old lines
-            → RemembersLines self.new lines) }
+            → kept_sum weight self.new ≤ kept_sum weight self.old + revocation_sum weight bytes.now facts.now) }
+        ensures keys { OnErr result (KeepsKeys self.old self.new) }
+        ensures err { OnErr result (facts.now.spelling ≡ None
+            → (lines : List HostLine) → RemembersLines self.old lines → RemembersLines self.new lines) }
     {
+        self.spelled.keep_some(alloc, &facts.spelling, line)?;
         self.revoked.keep(alloc, bytes, line)?;
         Ok(())
+    }
+
+    /// The least line that revokes another spelling of the key with this blob.
+    pub(crate) fn spelling_line(&self, blob: &[u8]) -> Option<u64>
+        ensures { (lines : List HostLine) → RemembersLines self.now lines
+            → result ≡ spelling_line lines blob.now }
+    {
+        self.spelled.line(blob)
+    }
+
+    /// The least line that trusts the key that a revocation spells otherwise.
+    pub(crate) fn spelled_line(&self, facts: &RevocationFacts) -> Option<u64>
+        ensures { (lines : List HostLine) → RemembersLines self.now lines
+            → result ≡ spelled_line lines facts.now }
+    {
+        match &facts.spelling {
+            None => None,
+            Some(blob) => self.trusting_line(blob.as_slice()),
+        }
     }
 
     /// The least line that revokes this blob.

@@ -44,7 +44,7 @@ fn marks_authority(marker: Marker) -> bool
 }
 
 /// Whether a tab stands after the first word of a line.
-fn has_tab_after_first(line: &[u8]) -> bool
+pub(crate) fn has_tab_after_first(line: &[u8]) -> bool
     ensures { result ≡ has_tab_after_first line.now }
 {
     let (_, after) = split_word(skip_blanks(without_last(b'\r', line)));

@@ -1,11 +1,13 @@
 //! The least line that says something of a byte text.
 
-ghost use Rattle.std.specs.Prelude.{◌≡◌, ◌≤◌, ◌+◌, ℕ, length, List, OnErr, OnOk, None, Some, bytes_eq, if◌then◌else◌};
+ghost use Rattle.std.specs.Prelude.{◌≡◌, ◌≤◌, ◌+◌, ℕ, length, List, IsOk, OnErr, OnOk, None, Some, bytes_eq, if◌then◌else◌};
+ghost use Rattle.ssh_host_findings.specs.Earlier.{is_blob};
 ghost use Rattle.ssh_host_findings.specs.Least.{lesser};
 ghost use Rattle.ssh_host_findings.specs.Maps.{line_at};
-ghost use Rattle.ssh_host_findings.specs.Memory.{texts_bytes, texts_sum};
+ghost use Rattle.ssh_host_findings.specs.Memory.{spelling_bytes, spelling_sum, texts_bytes, texts_sum};
 
 use ssh_byte_maps::ByteMap;
+use ssh_text::Bytes;
 use std::alloc::{AllocError, Global};
 
 /// The lesser of two lines, where there are two.
@@ -67,5 +69,27 @@ impl LeastLines {
         let least = least(self.line(bytes), line);
         self.lines.insert(alloc, bytes, least)?;
         Ok(())
+    }
+
+    /// Keeps a line for a text, if there is one. Where memory is refused, nothing is kept.
+    pub(crate) fn keep_some(
+        &mut self,
+        alloc: Global,
+        bytes: &Option<Bytes>,
+        line: u64,
+    ) -> Result<(), AllocError>
+        ensures ok { OnOk result ((other : List ℕ) → line_at self.new other
+            ≡ if is_blob bytes.now other then lesser (line_at self.old other) (Some line) else line_at self.old other) }
+        ensures bytes { OnOk result (texts_bytes self.new ≤ texts_bytes self.old + spelling_bytes bytes.now) }
+        ensures sum { OnOk result ((weight : List ℕ → ℕ)
+            → texts_sum weight self.new ≤ texts_sum weight self.old + spelling_sum weight bytes.now) }
+        ensures err { OnErr result
+            ((other : List ℕ) → line_at self.new other ≡ line_at self.old other) }
+        ensures spare { bytes.now ≡ None → IsOk result }
+    {
+        match bytes {
+            None => Ok(()),
+            Some(bytes) => self.keep(alloc, bytes.as_slice(), line),
+        }
     }
 }

@@ -25,6 +25,8 @@ mod item;
 mod laws;
 mod least;
 mod named;
+mod refusal;
+mod revocation;
 mod samples;
 mod shared;
 
@@ -34,3 +36,4 @@ pub use finding::HostFinding;
 pub use found::{
     blind_findings, host_entry_findings, revocation_findings, unreadable_host_findings,
 };
+pub use revocation::RevocationFacts;

@@ -6,5 +6,6 @@ returns-clause-stands c = record {
   hosts = c.new.ensures.empty;
   authorities = c.new-2.ensures.empty;
   revoked = c.new-3.ensures.empty;
-  named = c.new-4.ensures.empty;
+  spelled = c.new-4.ensures.empty;
+  named = c.new-5.ensures.empty;
 }
