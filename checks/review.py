@@ -164,6 +164,8 @@ known:6: authority ssh-ed25519 SHA256:IPnB7yWGYOrw+mTQ7yfGdqL54Mal31hsY/4zFi2oBp
     names *
     F14: an authority for every host
 known:7: revoked SHA256:JuhwEfWrsZjKfEIish58B33eZC/AoxsXRDYcAcjBP/Y
+    names *
+    in ssh it counts for these names alone
     F12 3: its key is both trusted and revoked: see line 3
 known:8: revocation-unreadable
     F10: may revoke any key and cannot be read: here it denies every host, OpenSSH may pass over it
@@ -179,7 +181,7 @@ HOSTS_JSON = r"""{"file":"known","line":2,"is":"key","type":"ssh-ed25519","bits"
 {"file":"known","line":4,"is":"key","type":"ssh-ed25519","bits":null,"key":"SHA256:gXMk5B5PxTYWe+Q7kQzHGRTNDb0nrzC3BLT7EPMvKSg","comment":"","names":"db1.example.org","findings":[{"code":"F11","detail":"3"}]}
 {"file":"known","line":5,"is":"key","type":"ssh-rsa","bits":3072,"key":"SHA256:WWvqIBGfcehwggPf02VrrJSfTs7HADSzzKa2YkfEDwI","comment":"","names":"*.lab.example.org","findings":[{"code":"F13","detail":""}]}
 {"file":"known","line":6,"is":"authority","type":"ssh-ed25519","bits":null,"key":"SHA256:IPnB7yWGYOrw+mTQ7yfGdqL54Mal31hsY/4zFi2oBpg","comment":"","names":"*","findings":[{"code":"F14","detail":""}]}
-{"file":"known","line":7,"is":"revoked","type":null,"bits":null,"key":"SHA256:JuhwEfWrsZjKfEIish58B33eZC/AoxsXRDYcAcjBP/Y","comment":null,"names":null,"findings":[{"code":"F12","detail":"3"}]}
+{"file":"known","line":7,"is":"revoked","type":null,"bits":null,"key":"SHA256:JuhwEfWrsZjKfEIish58B33eZC/AoxsXRDYcAcjBP/Y","comment":null,"names":"*","findings":[{"code":"F12","detail":"3"}]}
 {"file":"known","line":8,"is":"revocation-unreadable","type":null,"bits":null,"key":null,"comment":null,"names":null,"findings":[{"code":"F10","detail":""}]}
 {"file":"known","line":9,"is":"unreadable","type":"ssh-ed25519","bits":null,"key":"SHA256:K1O2eINbmb17fEiDcz4h4FqkT185rAHrxyBBdF4KQT8","comment":null,"names":null,"findings":[{"code":"F1","detail":"L16"}]}
 {"file":"known","line":10,"is":"key","type":"ssh-ed25519","bits":null,"key":"SHA256:K1O2eINbmb17fEiDcz4h4FqkT185rAHrxyBBdF4KQT8","comment":"","names":"[git.example.org]:2222","findings":[]}
@@ -229,6 +231,9 @@ TAKEN = [
 
 # A code, lines of which {K} is an Ed25519 key and {R} an RSA key of 8 bits, and what is told of them by that code.
 RSA = "ssh-rsa AAAAB3NzaC1yc2EAAAADAQABAAAAAgCA"
+# a key, and another spelling of it: the type in its blob is ED25519
+ONE = "ssh-ed25519 AAAAC3NzaC1lZDI1NTE5AAAAIAECAwQFBgcICQoLDA0ODxAREhMUFRYXGBkaGxwdHh8g"
+RESPELLED = "ssh-ed25519 AAAAB0VEMjU1MTkAAAAgAQIDBAUGBwgJCgsMDQ4PEBESExQVFhcYGRobHB0eHyA="
 FOUND_OF_KEYS = [
     ("F1", "{K}\nssh-dss AAAA\n", "    F1 L9: cannot be read here, and OpenSSH may read it: ssh-dss, which is retired"),
     ("F2", 'from="*" {K}\n{K}\n', "    F2 1: line 1 has the same key: where that line does not let it in, this one may"),
@@ -282,15 +287,28 @@ FOUND_OF_KEYS = [
 ]
 FOUND_OF_HOSTS = [
     ("F8", "@cert-authority\t*.a {K}\n", "    F8 tab: OpenSSH passes over this line: a tab follows its marker"),
+    ("F8", "@revoked\t*.a {K}\n", "    F8 tab: ssh passes over this revocation: a tab follows its marker"),
+    ("F8", "@revoked a ssh-rsa {K}\n".replace("{K}", program.KEY), "    F8 type: ssh passes over this revocation: its type word is not the type of its key"),
+    ("F8", "@revoked a {K}\n", None),
     ("F11", "a,B {K}\nb {O}\n", "    F11 1: another key of this type for a name of line 1"),
     ("F11", "a {K}\na {K}\n", None),
     ("F12", "a {K}\n@revoked * {K}\n", "    F12 1: its key is both trusted and revoked: see line 1"),
     ("F12", "@revoked * {K}\na {K}\n", "    F12 1: its key is both trusted and revoked: see line 1"),
+    ("F12", "@cert-authority * {K}\n@revoked * {K}\n", "    F12 1: its key is both trusted and revoked: see line 1"),
+    ("F12", "@revoked * {K}\n@cert-authority * {K}\n", "    F12 1: its key is both trusted and revoked: see line 1"),
+    ("F12", f"a {ONE}\n@revoked a {RESPELLED}\n", "    F12 spelling 1: this revocation has another spelling of the key on line 1: ssh refuses the key, and the rules here trust it"),
+    ("F12", f"@revoked a {RESPELLED}\na {ONE}\n", "    F12 spelling 1: the revocation on line 1 has another spelling of this key: ssh refuses the key, and the rules here trust it"),
+    ("F12", f"@revoked\ta {RESPELLED}\na {ONE}\n", None),
     ("F13", "!*.a,b {K}\n", None),
     ("F14", "@cert-authority *.a,** {K}\n", "    F14: an authority for every host"),
     ("F20", "a {K}\n", "    F20: its names are in clear"),
     ("F20", "@cert-authority *.a {K}\n", None),
     ("F21", "a {K}\nb {K}\n", "    F21 1: the same host key stands on line 1"),
+    ("F1", f"@cert-authority * {ONE} " + 65536 * "x" + "\n", "    F1 L1: cannot be read here, and OpenSSH may read it: the line is longer than 65,536 bytes"),
+    ("F22", "a\0b {K}\n", "    F22 nul: ssh may pass over this line: a NUL stands in its names, and ends the line for ssh"),
+    ("F22", "a," + 1023 * "b" + " {K}\n", "    F22 long-item: ssh may pass over this line: a name of 1,023 bytes or more stands in its list, which then matches nothing"),
+    ("F22", "a," + 1022 * "b" + " {K}\n", None),
+    ("F22", "a {R}\n", "    F22 rsa: ssh may pass over this line: ssh reads no RSA key under 1,024 bits or over 16,384"),
 ]
 
 

@@ -3,12 +3,15 @@ use Rattle.std.proofs.Common.{◌≡◌, ℕ, List, ◌++◌, subst}
 use Rattle.sha2.specs.Sha256.{sha256}
 use Rattle.ssh_keys.specs.Fingerprint.{digest_text_of}
 use Rattle.ssh_names.specs.Names.{names_text}
+use Rattle.ssh_text.specs.Text.{body_of, next_field}
 use Rattle.ssh_lines.specs.KnownEntry.{KnownEntry}
 use Rattle.ssh_lines.specs.KnownGrammar.{SpellsKnown, known_line}
 use Rattle.ssh_lines.specs.declared.known.KnownLine.TheVariants.{Entry}
+use Rattle.ssh_lines.proofs.FieldLemmas.{body-bytes, next-bytes, word-bytes}
 use Rattle.ssh_lines.proofs.ReadKnown.{known_line-spells}
 use Rattle.ssh_host_findings.specs.declared.facts.HostFacts.{HostFacts}
 use Rattle.ssh_host_findings.specs.HostFacts.{host_facts_of}
+use Rattle.ssh_host_findings.specs.RevocationFacts.{revocation_facts_of}
 use Rattle.ssh_offers.specs.FirstRefusal.{AreBytes}
 use Rattle.ssh_review_json.proofs.PrintableLemmas.{ArePrintable}
 use Rattle.ssh_review.proofs.ByteLemmas.{back, front, key-comment}
@@ -42,6 +45,11 @@ facts-bytes line e h = record { fingerprint = fingerprint-printable e.key; comme
 -- what is told of the entry of a line of bytes is of bytes
 pub entry-facts : (line : List ℕ) (e : KnownEntry) → AreBytes line → known_line line ≡ Entry e → IsOfBytes (host_facts_of line e)
 entry-facts line e h is = facts-bytes line e (spelled-bytes e line (known_line-spells line e h is) h)
+
+-- the names of a revocation
+pub revocation-names : (line bytes : List ℕ) → AreBytes line → AreBytes (revocation_facts_of line bytes).names
+unfolding revocation_facts_of
+revocation-names line bytes h = word-bytes (next_field (body_of line)) (next-bytes (body_of line) (body-bytes line h))
 
 -- the fingerprint of what is revoked
 pub print-printable : (bytes : List ℕ) → ArePrintable (print_of bytes)

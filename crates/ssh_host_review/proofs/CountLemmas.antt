@@ -9,12 +9,14 @@ use Rattle.ssh_text.specs.Text.{file_limit, lines_of, numbered}
 use Rattle.ssh_findings.specs.Asking.{Asking}
 use Rattle.ssh_findings.specs.Telling.{told_if, told_some}
 use Rattle.ssh_host_findings.specs.declared.facts.HostFacts.{HostFacts}
+use Rattle.ssh_host_findings.specs.declared.revocation.RevocationFacts.{RevocationFacts}
 use Rattle.ssh_host_findings.specs.declared.finding.HostFinding.{HostFinding}
 use Rattle.ssh_host_findings.specs.declared.finding.HostFinding.TheVariants as finding
-use Rattle.ssh_host_findings.specs.Earlier.{other_line, revoking_line, same_line, trusting_line}
+use Rattle.ssh_host_findings.specs.Earlier.{other_line, revoking_line, same_line, spelled_line, spelling_line, trusting_line}
 use Rattle.ssh_host_findings.specs.Findings.{host_code_of}
 use Rattle.ssh_host_findings.specs.HostFacts.{host_facts_of}
-use Rattle.ssh_host_findings.specs.HostFindings.{findings_by, host_entry_findings, host_reading_findings, other_line_findings, name_findings, revocation_findings}
+use Rattle.ssh_host_findings.specs.RevocationFacts.{revocation_facts_of}
+use Rattle.ssh_host_findings.specs.HostFindings.{blind_findings, findings_by, host_entry_findings, host_reading_findings, other_line_findings, name_findings, passing_findings, refusal_findings, revocation_findings, revoking_findings, trusting_findings}
 use Rattle.ssh_host_findings.specs.HostLines.{HostLine}
 use Rattle.ssh_review.specs.declared.counts.Counts.{Counts}
 use Rattle.ssh_review.specs.Counting.{plus}
@@ -35,25 +37,43 @@ both a b m n h k = omega (arith, h, k, length-append a b)
 readings-short : (asking : Asking) (f : HostFacts) → length (host_reading_findings asking f) ≤ 2
 readings-short asking f = both _ _ 1 1 (any-short asking _) (if-short asking _ _)
 
-lines-short : (asking : Asking) (other revoked : Option ℕ) → length (other_line_findings asking other revoked) ≤ 2
-lines-short asking other revoked =
-    both _ _ 1 1 (any-short asking (option_map finding.OtherKey other)) (any-short asking (option_map finding.TrustedAndRevoked revoked))
+revoking-short : (asking : Asking) (revoked spelled : Option ℕ) → length (revoking_findings asking revoked spelled) ≤ 2
+revoking-short asking revoked spelled =
+    both _ _ 1 1 (any-short asking (option_map finding.TrustedAndRevoked revoked)) (any-short asking (option_map finding.RevokedSpelling spelled))
+
+lines-short : (asking : Asking) (other revoked spelled : Option ℕ) → length (other_line_findings asking other revoked spelled) ≤ 3
+lines-short asking other revoked spelled = both _ _ 1 2 (any-short asking (option_map finding.OtherKey other)) (revoking-short asking revoked spelled)
+
+refusals-short : (asking : Asking) (f : HostFacts) → length (refusal_findings asking f) ≤ 3
+refusals-short asking f = both _ _ 2 1 (both _ _ 1 1 (if-short asking _ _) (if-short asking _ _)) (if-short asking _ _)
 
 names-short : (asking : Asking) (f : HostFacts) → length (name_findings asking f) ≤ 3
 names-short asking f = both _ _ 2 1 (both _ _ 1 1 (if-short asking _ _) (if-short asking _ _)) (if-short asking _ _)
 
-by-short : (asking : Asking) (f : HostFacts) (other revoked same : Option ℕ) → length (findings_by asking f other revoked same) ≤ 8
+by-short : (asking : Asking) (f : HostFacts) (other revoked spelled same : Option ℕ) → length (findings_by asking f other revoked spelled same) ≤ 12
 unfolding findings_by
-by-short asking f other revoked same =
-    both _ _ 7 1 (both _ _ 4 3 (both _ _ 2 2 (readings-short asking f) (lines-short asking other revoked)) (names-short asking f)) (any-short asking (option_map finding.SameHostKey same))
+by-short asking f other revoked spelled same =
+    let first = both _ _ 5 3 (both _ _ 2 3 (readings-short asking f) (lines-short asking other revoked spelled)) (names-short asking f) in
+    both _ _ 9 3 (both _ _ 8 1 first (any-short asking (option_map finding.SameHostKey same))) (refusals-short asking f)
 
-entry-short : (asking : Asking) (earlier : List HostLine) (blob : List ℕ) (f : HostFacts) → length (host_entry_findings asking earlier blob f) ≤ 8
+entry-short : (asking : Asking) (earlier : List HostLine) (blob : List ℕ) (f : HostFacts) → length (host_entry_findings asking earlier blob f) ≤ 12
 unfolding host_entry_findings
-entry-short asking earlier blob f = by-short asking f (other_line earlier blob f) (revoking_line earlier blob) (same_line earlier blob f)
+entry-short asking earlier blob f = by-short asking f (other_line earlier blob f) (revoking_line earlier blob) (spelling_line earlier blob) (same_line earlier blob f)
 
-revocation-short : (asking : Asking) (earlier : List HostLine) (bytes : List ℕ) → length (revocation_findings asking earlier bytes) ≤ 1
+passing-short : (asking : Asking) (f : RevocationFacts) → length (passing_findings asking f) ≤ 2
+passing-short asking f = both _ _ 1 1 (if-short asking _ _) (if-short asking _ _)
+
+trusting-short : (asking : Asking) (trusting spelled : Option ℕ) → length (trusting_findings asking trusting spelled) ≤ 2
+trusting-short asking trusting spelled =
+    both _ _ 1 1 (any-short asking (option_map finding.TrustedAndRevoked trusting)) (any-short asking (option_map finding.TrustedSpelling spelled))
+
+revocation-short : (asking : Asking) (earlier : List HostLine) (bytes : List ℕ) (f : RevocationFacts) → length (revocation_findings asking earlier bytes f) ≤ 4
 unfolding revocation_findings
-revocation-short asking earlier bytes = any-short asking (option_map finding.TrustedAndRevoked (trusting_line earlier bytes))
+revocation-short asking earlier bytes f =
+    both _ _ 2 2 (passing-short asking f) (trusting-short asking (trusting_line earlier bytes) (spelled_line earlier f))
+
+blind-short : (asking : Asking) (line : List ℕ) → length (blind_findings asking line) ≤ 2
+blind-short asking line = both _ _ 1 1 (if-short asking _ _) (if-short asking true finding.BlindRevocation)
 
 -- ---- lines
 
@@ -63,9 +83,9 @@ line-within asking earlier line Comment = record { lines = omega arith; keys = o
 line-within asking earlier line (Entry e) =
     record { lines = omega arith; keys = omega arith; unreadable = omega arith; findings = omega (arith, entry-short asking earlier (key_blob e.key) (host_facts_of line e)) }
 line-within asking earlier line (Revoked bytes) =
-    record { lines = omega arith; keys = omega arith; unreadable = omega arith; findings = omega (arith, revocation-short asking earlier bytes) }
+    record { lines = omega arith; keys = omega arith; unreadable = omega arith; findings = omega (arith, revocation-short asking earlier bytes (revocation_facts_of line bytes)) }
 line-within asking earlier line RevokedUnreadable =
-    record { lines = omega arith; keys = omega arith; unreadable = omega arith; findings = omega (arith, if-short asking true finding.BlindRevocation) }
+    record { lines = omega arith; keys = omega arith; unreadable = omega arith; findings = omega (arith, blind-short asking line) }
 line-within asking earlier line (Unreadable cause) =
     record { lines = omega arith; keys = omega arith; unreadable = omega arith; findings = omega (arith, if-short asking true (finding.Unreadable cause)) }
 

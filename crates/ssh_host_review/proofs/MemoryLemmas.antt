@@ -1,7 +1,7 @@
 -- What is kept of the lines of a known_hosts file while it is reviewed, by the file's length.
-use Rattle.std.proofs.Common.{◌≡◌, ◌≢◌, ◌∙◌, ℕ, ◌+◌, ◌*◌, ◌≤◌, List, [], ◌∷◌, ◌++◌, length, ap, refl, arith, length-append, mul-add, mul-le-mul_left, mul-le-mul_right}
+use Rattle.std.proofs.Common.{◌≡◌, ◌≢◌, ◌∙◌, ℕ, ◌+◌, ◌*◌, ◌≤◌, List, [], ◌∷◌, ◌++◌, Option, Some, None, length, ap, refl, arith, length-append, mul-add, mul-le-mul_left, mul-le-mul_right}
 use Rattle.std.specs.List.{AllByRecursion}
-use Rattle.ssh_text.specs.Text.{body_of, line_limit, lines_of, next_field, numbered}
+use Rattle.ssh_text.specs.Text.{body_of, first_word, line_limit, lines_of, next_field, numbered}
 use Rattle.ssh_keys.specs.Names.{key_name_of}
 use Rattle.ssh_keys.specs.PublicKey.{PublicKey, key_blob, kind_of}
 use Rattle.ssh_names.specs.Names.{base64, names_text}
@@ -14,10 +14,12 @@ use Rattle.ssh_lines.proofs.LengthLemmas.{length_next, length-word, length_body}
 use Rattle.ssh_lines.proofs.ReadKnown.{known_line-spells}
 use Rattle.ssh_lines.proofs.RevokedLemmas.{read-revokes}
 use Rattle.ssh_offers.specs.FirstRefusal.{AreBytes}
+use Rattle.ssh_host_findings.specs.Memory.{spelling_bytes, spelling_sum}
+use Rattle.ssh_host_findings.specs.RevocationFacts.{revocation_facts_of}
 use Rattle.ssh_host_findings.proofs.SumLemmas.{entry-bytes, entry-count, entry-sum}
 use Rattle.ssh_review.proofs.ByteLemmas.{lines-bytes}
 use Rattle.ssh_review.proofs.MemoryLemmas.{base64-long, pieces-short, pieces_bytes}
-use Rattle.ssh_host_review.specs.Memory.{host_line_bytes, host_line_sum, over_lines}
+use Rattle.ssh_host_review.specs.Memory.{host_line_bytes, host_line_spelling, host_line_sum, over_lines}
 
 -- ---- an entry and its line
 
@@ -84,26 +86,29 @@ revoked-long line bytes h =
       length_body 13 line,
     )
 
-revoked-some : (line bytes : List ℕ) → RevokesBytes line bytes → 1 ≤ length line
+-- the marker alone has eight bytes
+revoked-some : (line bytes : List ℕ) → RevokesBytes line bytes → 8 ≤ length line
 revoked-some line bytes h =
     let body = body_of line in
-    omega (
-      arith,
-      some-long (fourth_field line) h.some,
-      length-word (next_field (next_field (next_field body))),
-      length_next (next_field (next_field body)),
-      length_next (next_field body),
-      length_next body,
-      length_body 13 line,
-    )
+    let marked : length (first_word body) ≡ 8 = ap length h.marker in
+    omega (arith, marked, length-word body, length_body 13 line)
+
+spelling-one : (spelling : Option (List ℕ)) → spelling_sum (λ text. 1) spelling ≤ 1
+spelling-one None = omega arith
+spelling-one (Some blob) = omega arith
+
+spelling-whole : (spelling : Option (List ℕ)) → spelling_sum (λ text. length text) spelling ≤ spelling_bytes spelling
+spelling-whole None = omega arith
+spelling-whole (Some blob) = omega arith
 
 -- ---- each line
 
-line-texts : (line : List ℕ) (said : KnownLine) → AreBytes line → known_line line ≡ said → host_line_sum (λ text. length text) line said ≤ 1 * length line
+line-texts : (line : List ℕ) (said : KnownLine) → AreBytes line → known_line line ≡ said → host_line_sum (λ text. length text) line said ≤ 1 * length line + host_line_spelling line said
 line-texts line Blank h is = omega arith
 line-texts line Comment h is = omega arith
 line-texts line (Entry e) h is = omega (arith, entry-texts e line (known_line-spells line e h is))
-line-texts line (Revoked bytes) h is = omega (arith, revoked-long line bytes (read-revokes line bytes h is))
+line-texts line (Revoked bytes) h is =
+    omega (arith, revoked-long line bytes (read-revokes line bytes h is), spelling-whole (revocation_facts_of line bytes).spelling)
 line-texts line RevokedUnreadable h is = omega arith
 line-texts line (Unreadable cause) h is = omega arith
 
@@ -111,14 +116,15 @@ line-few : (line : List ℕ) (said : KnownLine) → AreBytes line → known_line
 line-few line Blank h is = omega arith
 line-few line Comment h is = omega arith
 line-few line (Entry e) h is = omega (arith, entry-few e line (known_line-spells line e h is))
-line-few line (Revoked bytes) h is = omega (arith, revoked-some line bytes (read-revokes line bytes h is))
+line-few line (Revoked bytes) h is =
+    omega (arith, revoked-some line bytes (read-revokes line bytes h is), spelling-one (revocation_facts_of line bytes).spelling)
 line-few line RevokedUnreadable h is = omega arith
 line-few line (Unreadable cause) h is = omega arith
 
-line-whole : (line : List ℕ) (said : KnownLine) → AreBytes line → known_line line ≡ said → host_line_bytes line said ≤ line_limit * length line
+line-whole : (line : List ℕ) (said : KnownLine) → AreBytes line → known_line line ≡ said → host_line_bytes line said ≤ line_limit * length line + host_line_spelling line said
 line-whole line Blank h is = omega arith
 line-whole line Comment h is = omega arith
-line-whole line (Entry e) h is = entry-whole e line (known_line-spells line e h is)
+line-whole line (Entry e) h is = omega (arith, entry-whole e line (known_line-spells line e h is))
 line-whole line (Revoked bytes) h is = omega (arith, revoked-long line bytes (read-revokes line bytes h is))
 line-whole line RevokedUnreadable h is = omega arith
 line-whole line (Unreadable cause) h is = omega arith
@@ -132,17 +138,34 @@ over-long count k n [] each h = omega arith
 over-long count k n (line ∷ lines) each h =
     omega (arith, mul-add k (length line) (pieces_bytes lines), each line h.0, over-long count k (n + 1) lines each h.1)
 
+-- and more for some lines
+over-longer : (count more : List ℕ → KnownLine → ℕ) (k n : ℕ) (lines : List (List ℕ))
+    → ((line : List ℕ) → AreBytes line → count line (known_line line) ≤ k * length line + more line (known_line line))
+    → AllByRecursion AreBytes lines → over_lines count (numbered n lines) ≤ k * pieces_bytes lines + over_lines more (numbered n lines)
+over-longer count more k n [] each h = omega arith
+over-longer count more k n (line ∷ lines) each h =
+    omega (arith, mul-add k (length line) (pieces_bytes lines), each line h.0, over-longer count more k (n + 1) lines each h.1)
+
+file-longer : (count more : List ℕ → KnownLine → ℕ) (k : ℕ) (file : List ℕ)
+    → ((line : List ℕ) → AreBytes line → count line (known_line line) ≤ k * length line + more line (known_line line))
+    → AreBytes file → over_lines count (numbered 1 (lines_of file)) ≤ k * length file + over_lines more (numbered 1 (lines_of file))
+file-longer count more k file each h =
+    omega (arith, mul-le-mul_left k (pieces-short file), over-longer count more k 1 (lines_of file) each (lines-bytes file h))
+
 file-long : (count : List ℕ → KnownLine → ℕ) (k : ℕ) (file : List ℕ)
     → ((line : List ℕ) → AreBytes line → count line (known_line line) ≤ k * length line)
     → AreBytes file → over_lines count (numbered 1 (lines_of file)) ≤ k * length file
 file-long count k file each h =
     omega (arith, mul-le-mul_left k (pieces-short file), over-long count k 1 (lines_of file) each (lines-bytes file h))
 
-pub file-texts : (file : List ℕ) → AreBytes file → over_lines (host_line_sum (λ text. length text)) (numbered 1 (lines_of file)) ≤ length file
-file-texts file h = omega (arith, file-long (host_line_sum (λ text. length text)) 1 file (λ line k. line-texts line (known_line line) k refl) h)
+pub file-texts : (file : List ℕ) → AreBytes file
+    → over_lines (host_line_sum (λ text. length text)) (numbered 1 (lines_of file)) ≤ length file + over_lines host_line_spelling (numbered 1 (lines_of file))
+file-texts file h =
+    omega (arith, file-longer (host_line_sum (λ text. length text)) host_line_spelling 1 file (λ line k. line-texts line (known_line line) k refl) h)
 
 pub file-keys : (file : List ℕ) → AreBytes file → over_lines (host_line_sum (λ text. 1)) (numbered 1 (lines_of file)) ≤ length file
 file-keys file h = omega (arith, file-long (host_line_sum (λ text. 1)) 1 file (λ line k. line-few line (known_line line) k refl) h)
 
-pub file-bytes : (file : List ℕ) → AreBytes file → over_lines host_line_bytes (numbered 1 (lines_of file)) ≤ line_limit * length file
-file-bytes file h = file-long host_line_bytes line_limit file (λ line k. line-whole line (known_line line) k refl) h
+pub file-bytes : (file : List ℕ) → AreBytes file
+    → over_lines host_line_bytes (numbered 1 (lines_of file)) ≤ line_limit * length file + over_lines host_line_spelling (numbered 1 (lines_of file))
+file-bytes file h = file-longer host_line_bytes host_line_spelling line_limit file (λ line k. line-whole line (known_line line) k refl) h

@@ -4,6 +4,7 @@ use Rattle.std.specs.Prelude.{Option, codes}
 use Rattle.std.specs.List.{flat_map}
 use Rattle.ssh_held_keys.specs.declared.held.HeldKey.{HeldKey}
 use Rattle.ssh_host_findings.specs.declared.facts.HostFacts.{HostFacts}
+use Rattle.ssh_host_findings.specs.declared.revocation.RevocationFacts.{RevocationFacts}
 use Rattle.ssh_host_findings.specs.declared.finding.HostFinding.{HostFinding}
 use Rattle.ssh_host_findings.specs.Findings.{host_code_of}
 use Rattle.ssh_offers.specs.FirstRefusal.{AreBytes}
@@ -12,7 +13,7 @@ use Rattle.ssh_review_json.proofs.ObjectLemmas.{head-printable, held-printable, 
 use Rattle.ssh_review_json.proofs.PrintableLemmas.{ArePrintable, bytes-from_printable, join, line-from, word}
 use Rattle.ssh_review_json.proofs.WordLemmas.{code-printable}
 use Rattle.ssh_host_review.specs.Findings.{host_after_comma, host_finding_object, host_findings_end, host_findings_list}
-use Rattle.ssh_host_review.specs.Objects.{bare_object, host_empty_fields, entry_fields, host_entry_object, revoked_fields, revoked_object}
+use Rattle.ssh_host_review.specs.Objects.{bare_object, host_empty_fields, entry_fields, host_entry_object, revoked_fields, revoked_names_fields, revoked_object}
 use Rattle.ssh_host_review.proofs.ByteLemmas.{IsOfBytes, print-printable}
 use Rattle.ssh_host_review.proofs.TextLemmas.{detail-printable}
 
@@ -57,11 +58,16 @@ revoked-printable bytes =
     let print = join (word (codes "SHA256:") refl) (print-printable bytes) in
     join (join (null-printable (codes "type") refl) (null-printable (codes "bits") refl)) (said-printable (codes "key") refl print)
 
-pub revoked-line : (name : List ℕ) (n : ℕ) (bytes : List ℕ) (found : List HostFinding) → AreBytes name → is_line (revoked_object name n bytes found) ≡ true
+names-printable : (f : RevocationFacts) → AreBytes f.names → ArePrintable (revoked_names_fields f)
+unfolding revoked_names_fields
+names-printable f h = join (null-printable (codes "comment") refl) (text-printable (codes "names") f.names refl h)
+
+pub revoked-line : (name : List ℕ) (n : ℕ) (bytes : List ℕ) (f : RevocationFacts) (found : List HostFinding) → AreBytes name → AreBytes f.names
+    → is_line (revoked_object name n bytes f found) ≡ true
 unfolding revoked_object
-revoked-line name n bytes found h =
+revoked-line name n bytes f found h k =
     let head = head-printable name n h (word (codes "revoked") refl) in
-    end-line found (join (join head (revoked-printable bytes)) empty-printable)
+    end-line found (join (join head (revoked-printable bytes)) (names-printable f k))
 
 pub bare-line : (name : List ℕ) (n : ℕ) (is : List ℕ) (held : Option HeldKey) (found : List HostFinding) → AreBytes name → are_printable is ≡ true → IsHeldOfBytes held
     → is_line (bare_object name n is held found) ≡ true

@@ -1,6 +1,6 @@
 -- A review is of printable bytes and LFs, in each form; each record is one line as a JSON object.
 use Rattle.std.proofs.Common.{◌≡◌, ◌⊎◌, ◌+◌, ℕ, nat_lt, Bool, true, false, cond, List, [], ◌∷◌, ◌++◌, length, refl, inl, inr}
-use Rattle.std.specs.Prelude.{None, codes}
+use Rattle.std.specs.Prelude.{codes}
 use Rattle.std.specs.List.{AllByRecursion}
 use Rattle.sha2.specs.Sha256.{sha256}
 use Rattle.ssh_text.specs.Text.{file_limit, lines_of, numbered}
@@ -9,6 +9,7 @@ use Rattle.ssh_lines.specs.declared.known.KnownLine.TheVariants.{Blank, Comment,
 use Rattle.ssh_lines.specs.KnownGrammar.{known_line}
 use Rattle.ssh_findings.specs.Asking.{Asking}
 use Rattle.ssh_host_findings.specs.HostFacts.{host_facts_of}
+use Rattle.ssh_host_findings.specs.RevocationFacts.{revocation_facts_of}
 use Rattle.ssh_host_findings.specs.HostLines.{HostLine}
 use Rattle.ssh_held_keys.specs.HeldKey.{known_held_key}
 use Rattle.ssh_offers.specs.FirstRefusal.{AreBytes}
@@ -23,7 +24,7 @@ use Rattle.ssh_review.proofs.ReviewLemmas.{end-shown, fault-shown, held-printabl
 use Rattle.ssh_review.proofs.ShownLemmas.{AreShown, add, from-line, show}
 use Rattle.ssh_host_review.specs.Lines.{host_counts_of, host_kept_of, host_line_findings, host_line_record, host_records_of, known_key_told}
 use Rattle.ssh_host_review.specs.Reviews.{known_review, host_whole_review}
-use Rattle.ssh_host_review.proofs.ByteLemmas.{entry-facts}
+use Rattle.ssh_host_review.proofs.ByteLemmas.{entry-facts, revocation-names}
 use Rattle.ssh_host_review.proofs.ObjectLemmas.{bare-line, entry-line, revoked-line}
 use Rattle.ssh_host_review.proofs.TextLemmas.{bare-shown, entry-shown, revoked-shown}
 
@@ -37,9 +38,9 @@ line-by asking name earlier n line Comment h k is = inl refl
 line-by asking name earlier n line (Entry e) h k is =
     inr (entry-line name n (host_facts_of line e) (host_line_findings asking earlier line (Entry e)) h (entry-facts line e k is))
 line-by asking name earlier n line (Revoked bytes) h k is =
-    inr (revoked-line name n bytes (host_line_findings asking earlier line (Revoked bytes)) h)
+    inr (revoked-line name n bytes (revocation_facts_of line bytes) (host_line_findings asking earlier line (Revoked bytes)) h (revocation-names line bytes k))
 line-by asking name earlier n line RevokedUnreadable h k is =
-    inr (bare-line name n (codes "revocation-unreadable") None (host_line_findings asking earlier line RevokedUnreadable) h refl tt)
+    inr (bare-line name n (codes "revocation-unreadable") (known_key_told line) (host_line_findings asking earlier line RevokedUnreadable) h refl (held-bytes (known_held_key line)))
 line-by asking name earlier n line (Unreadable cause) h k is =
     inr (bare-line name n (codes "unreadable") (known_key_told line) (host_line_findings asking earlier line (Unreadable cause)) h refl (held-bytes (known_held_key line)))
 
@@ -61,9 +62,9 @@ record-by Text asking name earlier n line Comment h k is = show [] refl
 record-by Text asking name earlier n line (Entry e) h k is =
     entry-shown name n (host_facts_of line e) (host_line_findings asking earlier line (Entry e)) h (entry-facts line e k is)
 record-by Text asking name earlier n line (Revoked bytes) h k is =
-    revoked-shown name n bytes (host_line_findings asking earlier line (Revoked bytes)) h
+    revoked-shown name n bytes (revocation_facts_of line bytes) (host_line_findings asking earlier line (Revoked bytes)) h (revocation-names line bytes k)
 record-by Text asking name earlier n line RevokedUnreadable h k is =
-    bare-shown name n (codes "revocation-unreadable") None (host_line_findings asking earlier line RevokedUnreadable) h refl tt
+    bare-shown name n (codes "revocation-unreadable") (known_key_told line) (host_line_findings asking earlier line RevokedUnreadable) h refl (held-printable (known_held_key line))
 record-by Text asking name earlier n line (Unreadable cause) h k is =
     bare-shown name n (codes "unreadable") (known_key_told line) (host_line_findings asking earlier line (Unreadable cause)) h refl (held-printable (known_held_key line))
 

@@ -1,19 +1,26 @@
 -- What stands after the code of what is found of a known_hosts line (this project's rule).
-use Rattle.std.specs.Prelude.{ℕ, List, [], codes}
+use Rattle.std.specs.Prelude.{ℕ, List, [], ◌++◌, codes}
 use Rattle.std.specs.Fmt.{decimal}
+use Rattle.ssh_findings.specs.Ground.{ground_word}
 use Rattle.ssh_host_findings.specs.declared.finding.HostFinding.{HostFinding}
 use Rattle.ssh_host_findings.specs.declared.finding.HostFinding.TheVariants as finding
 use Rattle.ssh_review_json.specs.Details.{cause_detail}
 
--- a line's fault, the bits of a key, what of the line it is, or the number of another line
+-- a line's fault, the bits of a key, what of the line it is, or the number of another line, where that has another spelling of
+-- the key with a word before it
 abbrev pub host_detail_of : HostFinding → List ℕ
 host_detail_of (finding.Unreadable why) = cause_detail why
 host_detail_of (finding.ShortKey bits) = decimal bits
 host_detail_of finding.MarkerTab = codes "tab"
+host_detail_of finding.RevocationTab = codes "tab"
+host_detail_of finding.RevocationType = codes "type"
 host_detail_of finding.BlindRevocation = []
 host_detail_of (finding.OtherKey line) = decimal line
 host_detail_of (finding.TrustedAndRevoked line) = decimal line
+host_detail_of (finding.RevokedSpelling line) = codes "spelling " ++ decimal line
+host_detail_of (finding.TrustedSpelling line) = codes "spelling " ++ decimal line
 host_detail_of finding.PatternHosts = []
 host_detail_of finding.EveryHost = []
 host_detail_of finding.NamesInClear = []
 host_detail_of (finding.SameHostKey line) = decimal line
+host_detail_of (finding.MayRefuse why) = ground_word why

@@ -1,6 +1,7 @@
 -- The records of known_hosts lines in each form (this project's rule).
-use Rattle.std.specs.Prelude.{ℕ, List, Option, None, codes}
+use Rattle.std.specs.Prelude.{ℕ, List, Option, codes}
 use Rattle.ssh_host_findings.specs.declared.facts.HostFacts.{HostFacts}
+use Rattle.ssh_host_findings.specs.declared.revocation.RevocationFacts.{RevocationFacts}
 use Rattle.ssh_host_findings.specs.declared.finding.HostFinding.{HostFinding}
 use Rattle.ssh_held_keys.specs.declared.held.HeldKey.{HeldKey}
 use Rattle.ssh_review.specs.declared.form.Form.{Form}
@@ -14,18 +15,18 @@ host_entry_record Text name n f found = host_entry_text name n f found
 host_entry_record Json name n f found = host_entry_object name n f found
 
 -- the record of a line that revokes these bytes
-abbrev pub revoked_record : Form → List ℕ → ℕ → List ℕ → List HostFinding → List ℕ
-revoked_record Text name n bytes found = revoked_text name n bytes found
-revoked_record Json name n bytes found = revoked_object name n bytes found
+abbrev pub revoked_record : Form → List ℕ → ℕ → List ℕ → RevocationFacts → List HostFinding → List ℕ
+revoked_record Text name n bytes f found = revoked_text name n bytes f found
+revoked_record Json name n bytes f found = revoked_object name n bytes f found
 
 -- the record of a line of which no more can be told than what it is and the key that stands on it, if there is one
 abbrev pub bare_record : Form → List ℕ → ℕ → List ℕ → Option HeldKey → List HostFinding → List ℕ
 bare_record Text name n is held found = bare_text name n is held found
 bare_record Json name n is held found = bare_object name n is held found
 
--- the record of a line that may revoke any key and cannot be read
-abbrev pub blind_record : Form → List ℕ → ℕ → List HostFinding → List ℕ
-blind_record form name n found = bare_record form name n (codes "revocation-unreadable") None found
+-- the record of a line that may revoke any key and cannot be read, with the key that stands on it, if there is one
+abbrev pub blind_record : Form → List ℕ → ℕ → Option HeldKey → List HostFinding → List ℕ
+blind_record form name n held found = bare_record form name n (codes "revocation-unreadable") held found
 
 -- the record of a line that cannot be read, with the key that stands on it, if there is one
 abbrev pub host_unreadable_record : Form → List ℕ → ℕ → Option HeldKey → List HostFinding → List ℕ

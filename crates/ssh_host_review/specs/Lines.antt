@@ -10,6 +10,7 @@ use Rattle.ssh_held_keys.specs.HeldKey.{held_of as told_of, known_held_key}
 use Rattle.ssh_host_findings.specs.declared.finding.HostFinding.{HostFinding}
 use Rattle.ssh_host_findings.specs.Earlier.{revoking, trusting}
 use Rattle.ssh_host_findings.specs.HostFacts.{host_facts_of}
+use Rattle.ssh_host_findings.specs.RevocationFacts.{revocation_facts_of}
 use Rattle.ssh_host_findings.specs.HostFindings.{blind_findings, host_entry_findings, revocation_findings, unreadable_host_findings}
 use Rattle.ssh_host_findings.specs.HostLines.{HostLine}
 use Rattle.ssh_review.specs.declared.counts.Counts.{Counts}
@@ -23,8 +24,9 @@ abbrev pub host_line_findings : Asking → List HostLine → List ℕ → KnownL
 host_line_findings asking earlier line Blank = []
 host_line_findings asking earlier line Comment = []
 host_line_findings asking earlier line (Entry entry) = host_entry_findings asking earlier (key_blob entry.key) (host_facts_of line entry)
-host_line_findings asking earlier line (Revoked bytes) = revocation_findings asking earlier bytes
-host_line_findings asking earlier line RevokedUnreadable = blind_findings asking
+host_line_findings asking earlier line (Revoked bytes) =
+    revocation_findings asking earlier bytes (revocation_facts_of line bytes)
+host_line_findings asking earlier line RevokedUnreadable = blind_findings asking line
 host_line_findings asking earlier line (Unreadable cause) = unreadable_host_findings asking cause
 
 -- the key that is told of a line that cannot be read: the one that OpenSSH looks for
@@ -38,9 +40,9 @@ host_line_record form asking name earlier n line Comment = []
 host_line_record form asking name earlier n line (Entry entry) =
     host_entry_record form name n (host_facts_of line entry) (host_line_findings asking earlier line (Entry entry))
 host_line_record form asking name earlier n line (Revoked bytes) =
-    revoked_record form name n bytes (host_line_findings asking earlier line (Revoked bytes))
+    revoked_record form name n bytes (revocation_facts_of line bytes) (host_line_findings asking earlier line (Revoked bytes))
 host_line_record form asking name earlier n line RevokedUnreadable =
-    blind_record form name n (host_line_findings asking earlier line RevokedUnreadable)
+    blind_record form name n (known_key_told line) (host_line_findings asking earlier line RevokedUnreadable)
 host_line_record form asking name earlier n line (Unreadable cause) =
     host_unreadable_record form name n (known_key_told line) (host_line_findings asking earlier line (Unreadable cause))
 
@@ -52,7 +54,7 @@ abbrev pub host_kept_of : ℕ → List ℕ → KnownLine → List HostLine
 host_kept_of n line Blank = []
 host_kept_of n line Comment = []
 host_kept_of n line (Entry entry) = trusting n (key_blob entry.key) (host_facts_of line entry) ∷ []
-host_kept_of n line (Revoked bytes) = revoking n bytes ∷ []
+host_kept_of n line (Revoked bytes) = revoking n bytes (revocation_facts_of line bytes) ∷ []
 host_kept_of n line RevokedUnreadable = []
 host_kept_of n line (Unreadable cause) = []
 

@@ -1,6 +1,7 @@
 -- The record of a known_hosts line, as a JSON object (this project's rule). Each is one line.
 use Rattle.std.specs.Prelude.{◌++◌, ℕ, List, Option, codes}
 use Rattle.ssh_host_findings.specs.declared.facts.HostFacts.{HostFacts}
+use Rattle.ssh_host_findings.specs.declared.revocation.RevocationFacts.{RevocationFacts}
 use Rattle.ssh_host_findings.specs.declared.finding.HostFinding.{HostFinding}
 use Rattle.ssh_held_keys.specs.declared.held.HeldKey.{HeldKey}
 use Rattle.ssh_review_json.specs.Fields.{null_field, text_field}
@@ -17,7 +18,7 @@ entry_fields f =
 unfoldable pub host_entry_object : List ℕ → ℕ → HostFacts → List HostFinding → List ℕ
 host_entry_object name n f found = object_head name n (is_word f.is_authority) ++ entry_fields f ++ host_findings_end found
 
--- the fields that an entry alone has
+-- the comment and the names, where none are told
 unfoldable pub host_empty_fields : List ℕ
 host_empty_fields = null_field (codes "comment") ++ null_field (codes "names")
 
@@ -26,10 +27,14 @@ unfoldable pub revoked_fields : List ℕ → List ℕ
 revoked_fields bytes =
     null_field (codes "type") ++ null_field (codes "bits") ++ text_field (codes "key") (fingerprint_text (print_of bytes))
 
--- the record of a line that revokes these bytes, with what is found and told
-unfoldable pub revoked_object : List ℕ → ℕ → List ℕ → List HostFinding → List ℕ
-revoked_object name n bytes found =
-    object_head name n (codes "revoked") ++ revoked_fields bytes ++ host_empty_fields ++ host_findings_end found
+-- no comment, and the names of a revocation as they stand: in ssh it counts for these alone
+unfoldable pub revoked_names_fields : RevocationFacts → List ℕ
+revoked_names_fields f = null_field (codes "comment") ++ text_field (codes "names") f.names
+
+-- the record of a line that revokes these bytes, with its names, and what is found and told
+unfoldable pub revoked_object : List ℕ → ℕ → List ℕ → RevocationFacts → List HostFinding → List ℕ
+revoked_object name n bytes f found =
+    object_head name n (codes "revoked") ++ revoked_fields bytes ++ revoked_names_fields f ++ host_findings_end found
 
 -- the record of a line of which no more can be told than what it is and the key that stands on it, if there is one, with what
 -- is found and told

@@ -5,6 +5,7 @@ use Rattle.sha2.specs.Sha256.{sha256}
 use Rattle.ssh_keys.specs.Fingerprint.{digest_text_of}
 use Rattle.ssh_print.specs.Texts.{text_line}
 use Rattle.ssh_host_findings.specs.declared.facts.HostFacts.{HostFacts}
+use Rattle.ssh_host_findings.specs.declared.revocation.RevocationFacts.{RevocationFacts}
 use Rattle.ssh_host_findings.specs.declared.finding.HostFinding.{HostFinding}
 use Rattle.ssh_held_keys.specs.declared.held.HeldKey.{HeldKey}
 use Rattle.ssh_review.specs.Records.{comment_text, fingerprint_word, held_words, key_words, place_text, role_word}
@@ -24,10 +25,15 @@ host_entry_text name n f found =
 unfoldable pub print_of : List ℕ → List ℕ
 print_of bytes = digest_text_of (sha256 bytes)
 
--- the record of a line that revokes these bytes, with what is found and told
-unfoldable pub revoked_text : List ℕ → ℕ → List ℕ → List HostFinding → List ℕ
-revoked_text name n bytes found =
-    place_text name n ++ codes "revoked" ++ fingerprint_word (print_of bytes) ++ codes "\n" ++ flat_map host_finding_line found
+-- the names of a revocation as they stand, and that ssh asks for them; here it counts for every host
+unfoldable pub revoked_names : RevocationFacts → List ℕ
+revoked_names f = text_line (codes "    names ") f.names ++ codes "    in ssh it counts for these names alone\n"
+
+-- the record of a line that revokes these bytes, with its names, and what is found and told
+unfoldable pub revoked_text : List ℕ → ℕ → List ℕ → RevocationFacts → List HostFinding → List ℕ
+revoked_text name n bytes f found =
+    place_text name n ++ codes "revoked" ++ fingerprint_word (print_of bytes) ++ codes "\n" ++ revoked_names f
+    ++ flat_map host_finding_line found
 
 -- the record of a line of which no more can be told than what it is and the key that stands on it, if there is one, with what
 -- is found and told

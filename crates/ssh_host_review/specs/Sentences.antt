@@ -2,24 +2,48 @@
 use Rattle.std.specs.Prelude.{◌++◌, ℕ, List, codes}
 use Rattle.std.specs.Fmt.{decimal}
 use Rattle.ssh_findings.specs.Codes.{code_text}
+use Rattle.ssh_findings.specs.declared.grounds.Ground.{Ground}
+use Rattle.ssh_findings.specs.declared.grounds.Ground.TheVariants as grounds
 use Rattle.ssh_host_findings.specs.declared.finding.HostFinding.{HostFinding}
 use Rattle.ssh_host_findings.specs.declared.finding.HostFinding.TheVariants as finding
 use Rattle.ssh_host_findings.specs.Findings.{host_code_of}
 use Rattle.ssh_review.specs.Sentences.{finding_head, short_sentence, unreadable_sentence}
 use Rattle.ssh_host_review.specs.Details.{host_detail_of}
 
+-- that the rules here trust a key which ssh refuses, for the line of this number, which these words name
+abbrev pub spelling_sentence : List ℕ → ℕ → List ℕ → List ℕ
+spelling_sentence words line rest =
+    words ++ decimal line ++ rest ++ codes "ssh refuses the key, and the rules here trust it"
+
+-- why ssh may pass over a line, where it is said of one of known_hosts
+abbrev pub ground_clause : Ground → List ℕ
+ground_clause grounds.Nul = codes ": a NUL stands in its names, and ends the line for ssh"
+ground_clause grounds.LongItem = codes ": a name of 1,023 bytes or more stands in its list, which then matches nothing"
+ground_clause grounds.Rsa = codes ": ssh reads no RSA key under 1,024 bits or over 16,384"
+ground_clause grounds.PermitOpen = codes ""
+ground_clause grounds.PermitListen = codes ""
+ground_clause grounds.Environment = codes ""
+ground_clause grounds.Tunnel = codes ""
+
 abbrev pub host_sentence_of : HostFinding → List ℕ
 host_sentence_of (finding.Unreadable why) = unreadable_sentence why
 host_sentence_of (finding.ShortKey bits) = short_sentence bits
 host_sentence_of finding.MarkerTab = codes "OpenSSH passes over this line: a tab follows its marker"
+host_sentence_of finding.RevocationTab = codes "ssh passes over this revocation: a tab follows its marker"
+host_sentence_of finding.RevocationType = codes "ssh passes over this revocation: its type word is not the type of its key"
 host_sentence_of finding.BlindRevocation =
     codes "may revoke any key and cannot be read: here it denies every host, OpenSSH may pass over it"
 host_sentence_of (finding.OtherKey line) = codes "another key of this type for a name of line " ++ decimal line
 host_sentence_of (finding.TrustedAndRevoked line) = codes "its key is both trusted and revoked: see line " ++ decimal line
+host_sentence_of (finding.RevokedSpelling line) =
+    spelling_sentence (codes "the revocation on line ") line (codes " has another spelling of this key: ")
+host_sentence_of (finding.TrustedSpelling line) =
+    spelling_sentence (codes "this revocation has another spelling of the key on line ") line (codes ": ")
 host_sentence_of finding.PatternHosts = codes "one key for all hosts that a pattern names"
 host_sentence_of finding.EveryHost = codes "an authority for every host"
 host_sentence_of finding.NamesInClear = codes "its names are in clear"
 host_sentence_of (finding.SameHostKey line) = codes "the same host key stands on line " ++ decimal line
+host_sentence_of (finding.MayRefuse why) = codes "ssh may pass over this line" ++ ground_clause why
 
 -- the line of a finding
 abbrev pub host_finding_line : HostFinding → List ℕ

@@ -24,15 +24,15 @@ ghost use Rattle.ssh_host_review.specs.Lines.{
   host_line_record,
   host_records_of,
 };
-ghost use Rattle.ssh_host_review.specs.Memory.{host_line_bytes, host_line_sum, over_lines};
+ghost use Rattle.ssh_host_review.specs.Memory.{host_line_bytes, host_line_spelling, host_line_sum, over_lines};
 
 use crate::object::{push_bare_object, push_entry_object, push_revoked_object};
 use crate::record::{push_bare_text, push_entry_text, push_revoked_text};
 use ssh_findings::Asked;
 use ssh_held_keys::{HeldKey, known_held_key};
 use ssh_host_findings::{
-    EarlierHosts, HostFacts, HostFinding, blind_findings, host_entry_findings, revocation_findings,
-    unreadable_host_findings,
+    EarlierHosts, HostFacts, HostFinding, RevocationFacts, blind_findings, host_entry_findings,
+    revocation_findings, unreadable_host_findings,
 };
 use ssh_lines::{KeyBuffer, KnownEntryView, KnownLineView, read_known_view};
 use ssh_options::LineCause;
@@ -86,29 +86,31 @@ fn push_revoked_line(
     form: Form,
     asked: &Asked<'_>,
     place: &Place<'_>,
+    line: &[u8],
     bytes: &[u8],
     earlier: &mut EarlierHosts,
     out: &mut Vec<u8>,
 ) -> Result<Counts, AllocError>
     ensures text { OnOk result ((lines : List HostLine) → RemembersLines earlier.old lines
         → out.new.items ≡ out.old.items ++ host_line_record form (asking_of asked.entry.now)
-        place.entry.now.name.now lines place.entry.now.number [] (KnownLine.Revoked bytes.now)) }
+        place.entry.now.name.now lines place.entry.now.number line.now (KnownLine.Revoked bytes.now)) }
     ensures counts { IfOk result (λ counts. (lines : List HostLine) → RemembersLines earlier.old lines
-        → counts ≡ host_line_counts (asking_of asked.entry.now) lines [] (KnownLine.Revoked bytes.now)) }
+        → counts ≡ host_line_counts (asking_of asked.entry.now) lines line.now (KnownLine.Revoked bytes.now)) }
     ensures kept { OnOk result ((lines : List HostLine) → RemembersLines earlier.old lines
         → RemembersLines earlier.new (lines ++ host_kept_of
-        place.entry.now.number [] (KnownLine.Revoked bytes.now))) }
+        place.entry.now.number line.now (KnownLine.Revoked bytes.now))) }
     ensures bytes { OnOk result (host_bytes_kept earlier.new
-        ≤ host_bytes_kept earlier.old + host_line_bytes [] (KnownLine.Revoked bytes.now)) }
+        ≤ host_bytes_kept earlier.old + host_line_bytes line.now (KnownLine.Revoked bytes.now)) }
     ensures sum { OnOk result ((weight : List ℕ → ℕ) → kept_sum weight earlier.new
-        ≤ kept_sum weight earlier.old + host_line_sum weight [] (KnownLine.Revoked bytes.now)) }
+        ≤ kept_sum weight earlier.old + host_line_sum weight line.now (KnownLine.Revoked bytes.now)) }
 {
-    let found = revocation_findings(alloc, asked, earlier, bytes)?;
+    let facts = RevocationFacts::read(alloc, line, bytes)?;
+    let found = revocation_findings(alloc, asked, earlier, bytes, &facts)?;
     match form {
-        Form::Text => push_revoked_text(alloc, out, place, bytes, &found)?,
-        Form::Json => push_revoked_object(alloc, out, place, bytes, &found)?,
+        Form::Text => push_revoked_text(alloc, out, place, bytes, &facts, &found)?,
+        Form::Json => push_revoked_object(alloc, out, place, bytes, &facts, &found)?,
     }
-    earlier.keep_revocation(alloc, place.number, bytes)?;
+    earlier.keep_revocation(alloc, place.number, bytes, &facts)?;
     Ok(Counts {
         lines: 1,
         keys: 0,
@@ -151,20 +153,22 @@ fn push_blind_line(
     form: Form,
     asked: &Asked<'_>,
     place: &Place<'_>,
+    line: &[u8],
     out: &mut Vec<u8>,
 ) -> Result<Counts, AllocError>
     ensures text { OnOk result (out.new.items ≡ out.old.items ++ host_line_record form (asking_of asked.entry.now)
-        place.entry.now.name.now [] place.entry.now.number [] KnownLine.RevokedUnreadable) }
+        place.entry.now.name.now [] place.entry.now.number line.now KnownLine.RevokedUnreadable) }
     ensures counts { IfOk result (λ counts. counts ≡ host_line_counts (asking_of asked.entry.now)
-        [] [] KnownLine.RevokedUnreadable) }
+        [] line.now KnownLine.RevokedUnreadable) }
 {
-    let found = blind_findings(alloc, asked)?;
+    let held = known_held_key(alloc, line)?;
+    let found = blind_findings(alloc, asked, line)?;
     push_bare_line(
         alloc,
         form,
         place,
         b"revocation-unreadable",
-        None,
+        held,
         &found,
         out,
     )
@@ -225,9 +229,9 @@ fn push_line(
             alloc, form, asked, place, line, entry, earlier, out,
         ),
         KnownLineView::Revoked(bytes) => {
-            push_revoked_line(alloc, form, asked, place, bytes, earlier, out)
+            push_revoked_line(alloc, form, asked, place, line, bytes, earlier, out)
         }
-        KnownLineView::RevokedUnreadable => push_blind_line(alloc, form, asked, place, out),
+        KnownLineView::RevokedUnreadable => push_blind_line(alloc, form, asked, place, line, out),
         KnownLineView::Unreadable(cause) => {
             push_unreadable_line(alloc, form, asked, place, line, *cause, out)
         }
@@ -259,14 +263,17 @@ pub fn push_known_records(
     // Of each entry its blob and its plain names are kept at most; here the blob is counted for each name too.
     ensures bytes { OnOk result (host_bytes_kept earlier.new
         ≤ host_bytes_kept earlier.old + over_lines host_line_bytes (numbered 1 (lines_of file.now))) }
-    // So what is kept under its own text, blobs and names, is no more than the file.
-    ensures file_texts { OnOk result
-        (text_bytes_kept earlier.new ≤ text_bytes_kept earlier.old + length file.now) }
+    // So what is kept under its own text, blobs and names, is no more than the file; but of a revocation that
+    // spells its key otherwise, the key's own blob is kept too.
+    ensures file_texts { OnOk result (text_bytes_kept earlier.new
+        ≤ text_bytes_kept earlier.old + (length file.now
+        + over_lines host_line_spelling (numbered 1 (lines_of file.now)))) }
     ensures file_keys { OnOk result
         (texts_kept earlier.new ≤ texts_kept earlier.old + length file.now) }
     // With the blob that the names of a line share, counted as if each had its own.
-    ensures file_bytes { OnOk result
-        (host_bytes_kept earlier.new ≤ host_bytes_kept earlier.old + line_limit * length file.now) }
+    ensures file_bytes { OnOk result (host_bytes_kept earlier.new
+        ≤ host_bytes_kept earlier.old + (line_limit * length file.now
+        + over_lines host_line_spelling (numbered 1 (lines_of file.now)))) }
 {
     let mut buffer = KeyBuffer::new(alloc)?;
     let mut counts = Counts::NONE;

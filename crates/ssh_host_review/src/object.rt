@@ -7,13 +7,14 @@ ghost use Rattle.ssh_host_review.specs.Objects.{
   entry_fields,
   host_entry_object,
   revoked_fields,
+  revoked_names_fields,
   revoked_object,
 };
 
 use crate::finding::push_findings_end;
 use crate::print::print_of;
 use ssh_held_keys::HeldKey;
-use ssh_host_findings::{HostFacts, HostFinding};
+use ssh_host_findings::{HostFacts, HostFinding, RevocationFacts};
 use ssh_review_json::{
     Place, fingerprint_text, is_word, push_held_fields, push_key_fields, push_null_field,
     push_object_head, push_text_field,
@@ -49,7 +50,7 @@ pub(crate) fn push_entry_object(
     Ok(())
 }
 
-/// The fields of an entry, where there is none.
+/// The comment and the names, where none are told.
 #[tactic(auto, unfolding(crate::specs::Objects::host_empty_fields))]
 fn push_empty_fields(out: &mut Vec<u8>) -> Result<(), AllocError>
     ensures { OnOk result (out.new.items ≡ out.old.items ++ host_empty_fields) }
@@ -72,6 +73,20 @@ fn push_revoked_fields(alloc: Global, out: &mut Vec<u8>, bytes: &[u8]) -> Result
     Ok(())
 }
 
+/// No comment, and the names of a revocation as they stand.
+#[tactic(auto, unfolding(crate::specs::Objects::revoked_names_fields))]
+fn push_revoked_names(
+    alloc: Global,
+    out: &mut Vec<u8>,
+    facts: &RevocationFacts,
+) -> Result<(), AllocError>
+    ensures { OnOk result (out.new.items ≡ out.old.items ++ revoked_names_fields facts.now) }
+{
+    push_null_field(out, b"comment")?;
+    push_text_field(alloc, out, b"names", facts.names.as_slice())?;
+    Ok(())
+}
+
 /// The record of a line that revokes these bytes.
 #[tactic(auto, unfolding(crate::specs::Objects::revoked_object))]
 pub(crate) fn push_revoked_object(
@@ -79,14 +94,15 @@ pub(crate) fn push_revoked_object(
     out: &mut Vec<u8>,
     place: &Place<'_>,
     bytes: &[u8],
+    facts: &RevocationFacts,
     found: &[HostFinding],
 ) -> Result<(), AllocError>
     ensures { OnOk result (out.new.items ≡ out.old.items
-        ++ revoked_object place.entry.now.name.now place.entry.now.number bytes.now found.now) }
+        ++ revoked_object place.entry.now.name.now place.entry.now.number bytes.now facts.now found.now) }
 {
     push_object_head(alloc, out, place, b"revoked")?;
     push_revoked_fields(alloc, out, bytes)?;
-    push_empty_fields(out)?;
+    push_revoked_names(alloc, out, facts)?;
     push_findings_end(alloc, out, found)?;
     Ok(())
 }

@@ -6,6 +6,7 @@ ghost use Rattle.ssh_host_review.specs.Records.{
   bare_text,
   host_entry_head,
   host_entry_text,
+  revoked_names,
   revoked_text,
 };
 ghost use Rattle.ssh_host_review.specs.Sentences.{host_finding_line};
@@ -13,7 +14,7 @@ ghost use Rattle.ssh_host_review.specs.Sentences.{host_finding_line};
 use crate::print::print_of;
 use crate::sentence::push_finding;
 use ssh_held_keys::HeldKey;
-use ssh_host_findings::{HostFacts, HostFinding};
+use ssh_host_findings::{HostFacts, HostFinding, RevocationFacts};
 use ssh_print::push_text_line;
 use ssh_review::{push_comment, push_fingerprint, push_held, push_key, push_place, role_word};
 use ssh_review_json::Place;
@@ -59,6 +60,16 @@ pub(crate) fn push_entry_text(
     Ok(())
 }
 
+/// The names of a revocation, and that ssh asks for them.
+#[tactic(auto, unfolding(crate::specs::Records::revoked_names))]
+fn push_revoked_names(out: &mut Vec<u8>, facts: &RevocationFacts) -> Result<(), AllocError>
+    ensures { OnOk result (out.new.items ≡ out.old.items ++ revoked_names facts.now) }
+{
+    push_text_line(out, b"    names ", facts.names.as_slice())?;
+    out.extend_from_slice(b"    in ssh it counts for these names alone\n")?;
+    Ok(())
+}
+
 /// The record of a line that revokes these bytes.
 #[tactic(auto, unfolding(crate::specs::Records::revoked_text))]
 pub(crate) fn push_revoked_text(
@@ -66,16 +77,18 @@ pub(crate) fn push_revoked_text(
     out: &mut Vec<u8>,
     place: &Place<'_>,
     bytes: &[u8],
+    facts: &RevocationFacts,
     found: &[HostFinding],
 ) -> Result<(), AllocError>
     ensures { OnOk result (out.new.items ≡ out.old.items
-        ++ revoked_text place.entry.now.name.now place.entry.now.number bytes.now found.now) }
+        ++ revoked_text place.entry.now.name.now place.entry.now.number bytes.now facts.now found.now) }
 {
     let print = print_of(alloc, bytes)?;
     push_place(alloc, out, place)?;
     out.extend_from_slice(b"revoked")?;
     push_fingerprint(out, &print)?;
     out.push(b'\n')?;
+    push_revoked_names(out, facts)?;
     push_findings(alloc, out, found)?;
     Ok(())
 }

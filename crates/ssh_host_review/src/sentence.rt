@@ -2,10 +2,16 @@
 
 ghost use Rattle.std.specs.Prelude.{◌≡◌, ◌++◌, OnOk};
 ghost use Rattle.std.specs.Fmt.{decimal};
-ghost use Rattle.ssh_host_review.specs.Sentences.{host_finding_line, host_sentence_of};
+ghost use Rattle.ssh_host_findings.specs.declared.finding.HostFinding.{HostFinding};
+ghost use Rattle.ssh_host_review.specs.Sentences.{
+  ground_clause,
+  host_finding_line,
+  host_sentence_of,
+  spelling_sentence,
+};
 
 use crate::detail::detail;
-use ssh_findings::Coded;
+use ssh_findings::{Coded, Ground};
 use ssh_host_findings::HostFinding;
 use ssh_print::push_number;
 use ssh_review::{push_finding_head, push_short_sentence, push_unreadable_sentence};
@@ -20,6 +26,46 @@ fn push_naming(alloc: Global, out: &mut Vec<u8>, words: &[u8], line: u64) -> Res
     Ok(())
 }
 
+/// That the rules here trust a key which ssh refuses, for the line of this number, which these words
+/// name.
+fn push_spelling(
+    alloc: Global,
+    out: &mut Vec<u8>,
+    words: &[u8],
+    line: u64,
+    rest: &[u8],
+) -> Result<(), AllocError>
+    ensures { OnOk result (out.new.items ≡ out.old.items ++ spelling_sentence words.now line rest.now) }
+{
+    push_naming(alloc, out, words, line)?;
+    out.extend_from_slice(rest)?;
+    out.extend_from_slice(b"ssh refuses the key, and the rules here trust it")?;
+    Ok(())
+}
+
+/// Why ssh may pass over a line.
+fn ground_clause(ground: Ground) -> &'static [u8]
+    ensures { result.now ≡ ground_clause ground }
+{
+    match ground {
+        Ground::Nul => b": a NUL stands in its names, and ends the line for ssh",
+        Ground::LongItem => {
+            b": a name of 1,023 bytes or more stands in its list, which then matches nothing"
+        }
+        Ground::Rsa => b": ssh reads no RSA key under 1,024 bits or over 16,384",
+        Ground::PermitOpen | Ground::PermitListen | Ground::Environment | Ground::Tunnel => b"",
+    }
+}
+
+fn push_refusal(out: &mut Vec<u8>, ground: Ground) -> Result<(), AllocError>
+    ensures { OnOk result (out.new.items ≡ out.old.items
+        ++ host_sentence_of (HostFinding.MayRefuse ground)) }
+{
+    out.extend_from_slice(b"ssh may pass over this line")?;
+    out.extend_from_slice(ground_clause(ground))?;
+    Ok(())
+}
+
 fn push_sentence(alloc: Global, out: &mut Vec<u8>, finding: HostFinding) -> Result<(), AllocError>
     ensures { OnOk result (out.new.items ≡ out.old.items ++ host_sentence_of finding) }
 {
@@ -29,6 +75,12 @@ fn push_sentence(alloc: Global, out: &mut Vec<u8>, finding: HostFinding) -> Resu
         HostFinding::MarkerTab => {
             out.extend_from_slice(b"OpenSSH passes over this line: a tab follows its marker")
         }
+        HostFinding::RevocationTab => {
+            out.extend_from_slice(b"ssh passes over this revocation: a tab follows its marker")
+        }
+        HostFinding::RevocationType => out.extend_from_slice(
+            b"ssh passes over this revocation: its type word is not the type of its key",
+        ),
         HostFinding::BlindRevocation => out.extend_from_slice(
             b"may revoke any key and cannot be read: here it denies every host, OpenSSH may pass over it",
         ),
@@ -44,6 +96,20 @@ fn push_sentence(alloc: Global, out: &mut Vec<u8>, finding: HostFinding) -> Resu
             b"its key is both trusted and revoked: see line ",
             line,
         ),
+        HostFinding::RevokedSpelling(line) => push_spelling(
+            alloc,
+            out,
+            b"the revocation on line ",
+            line,
+            b" has another spelling of this key: ",
+        ),
+        HostFinding::TrustedSpelling(line) => push_spelling(
+            alloc,
+            out,
+            b"this revocation has another spelling of the key on line ",
+            line,
+            b": ",
+        ),
         HostFinding::PatternHosts => {
             out.extend_from_slice(b"one key for all hosts that a pattern names")
         }
@@ -52,6 +118,7 @@ fn push_sentence(alloc: Global, out: &mut Vec<u8>, finding: HostFinding) -> Resu
         HostFinding::SameHostKey(line) => {
             push_naming(alloc, out, b"the same host key stands on line ", line)
         }
+        HostFinding::MayRefuse(ground) => push_refusal(out, ground),
     }
 }
 

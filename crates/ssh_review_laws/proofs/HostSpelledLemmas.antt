@@ -1,11 +1,11 @@
 -- A known_hosts file is reviewed by what its lines say, and so is the file of canonical lines, but for tabs after markers.
-use Rattle.std.proofs.Common.{◌≡◌, ◌∙◌, ◌++◌, ◌+◌, ◌&&◌, ℕ, Bool, false, List, [], ◌∷◌, Option, None, map, ap, sym, refl, append_assoc}
-use Rattle.std.specs.Prelude.{length, option_map}
+use Rattle.std.proofs.Common.{◌≡◌, ◌∙◌, ◌++◌, ◌+◌, ◌&&◌, ℕ, Bool, false, List, [], ◌∷◌, map, ap, sym, refl, append_assoc}
+use Rattle.std.specs.Prelude.{length}
 use Rattle.std.specs.List.{AllByRecursion}
 use Rattle.ssh_text.specs.Scan.{HasNoNewline}
 use Rattle.ssh_text.specs.Text.{lines_of, numbered}
 use Rattle.ssh_text.proofs.NewlineLemmas.{lines_of-whole}
-use Rattle.ssh_keys.specs.PublicKey.{PublicKey, key_blob}
+use Rattle.ssh_keys.specs.PublicKey.{key_blob}
 use Rattle.ssh_names.specs.Names.{names_text}
 use Rattle.ssh_lines.specs.KnownEntry.{KnownEntry}
 use Rattle.ssh_lines.specs.KnownGrammar.{known_line}
@@ -20,11 +20,11 @@ use Rattle.ssh_rewriting.proofs.LineLemmas.{known-kept}
 use Rattle.ssh_host_rules.specs.HostAdmission.{marks_authority}
 use Rattle.ssh_trust.proofs.CandidateLemmas.{AreBytes}
 use Rattle.ssh_findings.specs.Asking.{Asking}
-use Rattle.ssh_held_keys.specs.HeldKey.{held_of as told_of, known_held_key}
 use Rattle.ssh_host_findings.specs.declared.facts.HostFacts.{HostFacts}
 use Rattle.ssh_host_findings.specs.declared.finding.HostFinding.{HostFinding}
 use Rattle.ssh_host_findings.specs.Earlier.{revoking, trusting}
 use Rattle.ssh_host_findings.specs.HostFacts.{has_tab_after_first, host_facts_of}
+use Rattle.ssh_host_findings.specs.RevocationFacts.{revocation_facts_of}
 use Rattle.ssh_host_findings.specs.HostFindings.{blind_findings, host_entry_findings, revocation_findings, unreadable_host_findings}
 use Rattle.ssh_host_findings.specs.HostLines.{HostLine}
 use Rattle.ssh_review.specs.declared.counts.Counts.{Counts}
@@ -32,33 +32,33 @@ use Rattle.ssh_review.specs.declared.form.Form.{Form}
 use Rattle.ssh_review.specs.Counting.{no_counts, plus}
 use Rattle.ssh_host_review.specs.Counting.{host_counts_with}
 use Rattle.ssh_host_review.specs.Forms.{blind_record, host_entry_record, revoked_record, host_unreadable_record}
-use Rattle.ssh_host_review.specs.Lines.{host_counts_of, host_kept_of, host_line_findings, host_line_record, host_records_of}
+use Rattle.ssh_host_review.specs.Lines.{host_counts_of, host_kept_of, host_line_findings, host_line_record, host_records_of, known_key_told}
 use Rattle.ssh_review_laws.specs.HostSpelling.{HasNoMarkerTab, has_marker_tab}
 
--- ---- what a review uses of a line: what it says, of one that cannot be read the key on it, and a tab after a marker
+-- ---- what a review uses of a line: what it says, the line itself where it is no entry, and a tab after an entry's marker
 
 abbrev Said : Type 0
-Said = KnownLine × Option PublicKey × Bool
+Said = KnownLine × List ℕ × Bool
 
-key-on : KnownLine → List ℕ → Option PublicKey
-key-on Blank line = None
-key-on Comment line = None
-key-on (Entry e) line = None
-key-on (Revoked bytes) line = None
-key-on RevokedUnreadable line = None
-key-on (Unreadable cause) line = known_held_key line
+line-on : KnownLine → List ℕ → List ℕ
+line-on Blank line = []
+line-on Comment line = []
+line-on (Entry e) line = []
+line-on (Revoked bytes) line = line
+line-on RevokedUnreadable line = line
+line-on (Unreadable cause) line = line
 
 abbrev said : List ℕ → Said
-said line = (known_line line, key-on (known_line line) line, has_marker_tab (known_line line) line)
+said line = (known_line line, line-on (known_line line) line, has_marker_tab (known_line line) line)
 
-key-kept : (line : List ℕ) (l : KnownLine) → key-on l (known_or_same l line) ≡ key-on l line
-unfolding key-on
-key-kept line Blank = refl
-key-kept line Comment = refl
-key-kept line (Entry e) = refl
-key-kept line (Revoked bytes) = refl
-key-kept line RevokedUnreadable = refl
-key-kept line (Unreadable cause) = refl
+line-kept : (line : List ℕ) (l : KnownLine) → line-on l (known_or_same l line) ≡ line-on l line
+unfolding line-on
+line-kept line Blank = refl
+line-kept line Comment = refl
+line-kept line (Entry e) = refl
+line-kept line (Revoked bytes) = refl
+line-kept line RevokedUnreadable = refl
+line-kept line (Unreadable cause) = refl
 
 -- after a canonical marker stands a space
 spaced : (rest : List ℕ) → has_tab_after_first (marker_part markers.CertAuthority ++ rest) ≡ false
@@ -90,9 +90,9 @@ all-three a b x y p q e h k = rw (e, h, k) refl
 said-kept : (line : List ℕ) → IsGood line → has_marker_tab (known_line line) line ≡ false → said (known_written line) ≡ said line
 said-kept line g none =
     let says = (known-kept line g).says in
-    let key = ap (λ l. key-on l (known_written line)) says ∙ key-kept line (known_line line) in
+    let same = ap (λ l. line-on l (known_written line)) says ∙ line-kept line (known_line line) in
     let tab = ap (λ l. has_marker_tab l (known_written line)) says ∙ no-tab line (known_line line) none ∙ sym none in
-    all-three _ _ _ _ _ _ says key tab
+    all-three _ _ _ _ _ _ says same tab
 
 all-kept : (lines : List (List ℕ)) → AreGood lines → AllByRecursion (λ line. has_marker_tab (known_line line) line ≡ false) lines
     → map said (map known_written lines) ≡ map said lines
@@ -121,16 +121,16 @@ unfolding facts-by host_facts_of
 facts-are line e = refl
 
 findings-by : Asking → List HostLine → Said → List HostFinding
-findings-by asking earlier (Blank, key, tab) = []
-findings-by asking earlier (Comment, key, tab) = []
-findings-by asking earlier (Entry e, key, tab) = host_entry_findings asking earlier (key_blob e.key) (facts-by e tab)
-findings-by asking earlier (Revoked bytes, key, tab) = revocation_findings asking earlier bytes
-findings-by asking earlier (RevokedUnreadable, key, tab) = blind_findings asking
-findings-by asking earlier (Unreadable cause, key, tab) = unreadable_host_findings asking cause
+findings-by asking earlier (Blank, line, tab) = []
+findings-by asking earlier (Comment, line, tab) = []
+findings-by asking earlier (Entry e, line, tab) = host_entry_findings asking earlier (key_blob e.key) (facts-by e tab)
+findings-by asking earlier (Revoked bytes, line, tab) = revocation_findings asking earlier bytes (revocation_facts_of line bytes)
+findings-by asking earlier (RevokedUnreadable, line, tab) = blind_findings asking line
+findings-by asking earlier (Unreadable cause, line, tab) = unreadable_host_findings asking cause
 
 findings-are : (asking : Asking) (earlier : List HostLine) (line : List ℕ) (l : KnownLine)
-    → host_line_findings asking earlier line l ≡ findings-by asking earlier (l, key-on l line, has_marker_tab l line)
-unfolding findings-by key-on
+    → host_line_findings asking earlier line l ≡ findings-by asking earlier (l, line-on l line, has_marker_tab l line)
+unfolding findings-by line-on
 findings-are asking earlier line Blank = refl
 findings-are asking earlier line Comment = refl
 findings-are asking earlier line (Entry e) = ap (host_entry_findings asking earlier (key_blob e.key)) (facts-are line e)
@@ -139,16 +139,16 @@ findings-are asking earlier line RevokedUnreadable = refl
 findings-are asking earlier line (Unreadable cause) = refl
 
 record-by : Form → List ℕ → ℕ → Said → List HostFinding → List ℕ
-record-by form name n (Blank, key, tab) found = []
-record-by form name n (Comment, key, tab) found = []
-record-by form name n (Entry e, key, tab) found = host_entry_record form name n (facts-by e tab) found
-record-by form name n (Revoked bytes, key, tab) found = revoked_record form name n bytes found
-record-by form name n (RevokedUnreadable, key, tab) found = blind_record form name n found
-record-by form name n (Unreadable cause, key, tab) found = host_unreadable_record form name n (option_map told_of key) found
+record-by form name n (Blank, line, tab) found = []
+record-by form name n (Comment, line, tab) found = []
+record-by form name n (Entry e, line, tab) found = host_entry_record form name n (facts-by e tab) found
+record-by form name n (Revoked bytes, line, tab) found = revoked_record form name n bytes (revocation_facts_of line bytes) found
+record-by form name n (RevokedUnreadable, line, tab) found = blind_record form name n (known_key_told line) found
+record-by form name n (Unreadable cause, line, tab) found = host_unreadable_record form name n (known_key_told line) found
 
 record-is : (form : Form) (asking : Asking) (name : List ℕ) (earlier : List HostLine) (n : ℕ) (line : List ℕ) (l : KnownLine)
-    → host_line_record form asking name earlier n line l ≡ record-by form name n (l, key-on l line, has_marker_tab l line) (host_line_findings asking earlier line l)
-unfolding record-by key-on
+    → host_line_record form asking name earlier n line l ≡ record-by form name n (l, line-on l line, has_marker_tab l line) (host_line_findings asking earlier line l)
+unfolding record-by line-on
 record-is form asking name earlier n line Blank = refl
 record-is form asking name earlier n line Comment = refl
 record-is form asking name earlier n line (Entry e) =
@@ -158,15 +158,15 @@ record-is form asking name earlier n line RevokedUnreadable = refl
 record-is form asking name earlier n line (Unreadable cause) = refl
 
 kept-by : ℕ → Said → List HostLine
-kept-by n (Blank, key, tab) = []
-kept-by n (Comment, key, tab) = []
-kept-by n (Entry e, key, tab) = trusting n (key_blob e.key) (facts-by e tab) ∷ []
-kept-by n (Revoked bytes, key, tab) = revoking n bytes ∷ []
-kept-by n (RevokedUnreadable, key, tab) = []
-kept-by n (Unreadable cause, key, tab) = []
+kept-by n (Blank, line, tab) = []
+kept-by n (Comment, line, tab) = []
+kept-by n (Entry e, line, tab) = trusting n (key_blob e.key) (facts-by e tab) ∷ []
+kept-by n (Revoked bytes, line, tab) = revoking n bytes (revocation_facts_of line bytes) ∷ []
+kept-by n (RevokedUnreadable, line, tab) = []
+kept-by n (Unreadable cause, line, tab) = []
 
-kept-is : (n : ℕ) (line : List ℕ) (l : KnownLine) → host_kept_of n line l ≡ kept-by n (l, key-on l line, has_marker_tab l line)
-unfolding kept-by key-on
+kept-is : (n : ℕ) (line : List ℕ) (l : KnownLine) → host_kept_of n line l ≡ kept-by n (l, line-on l line, has_marker_tab l line)
+unfolding kept-by line-on
 kept-is n line Blank = refl
 kept-is n line Comment = refl
 kept-is n line (Entry e) = ap (λ f. trusting n (key_blob e.key) f ∷ []) (facts-are line e)

@@ -8,7 +8,8 @@ use Rattle.ssh_lines.specs.KnownGrammar.{known_line}
 use Rattle.ssh_host_rules.specs.HostAdmission.{marks_authority}
 use Rattle.ssh_host_findings.specs.HostFacts.{has_tab_after_first}
 
--- a tab follows the marker of a line that is an entry, which F8 tells and no canonical line has
+-- a tab follows the marker of a line that is an entry, which F8 tells and no canonical line has; a revocation stands in a
+-- canonical file as it is
 abbrev pub has_marker_tab : KnownLine → List ℕ → Bool
 has_marker_tab Blank line = false
 has_marker_tab Comment line = false

@@ -70,8 +70,9 @@ fn spelled_alike_rule()
         ≡ counts_of asking [] (numbered 1 (lines_of file)) }
 {}
 
-/// A known_hosts file and its canonical file are reviewed alike, if no tab follows a marker: that is
-/// what F8 tells of such a line, and a canonical line has a space there.
+/// A known_hosts file and its canonical file are reviewed alike, if no tab follows the marker of an
+/// entry: that is what F8 tells of such a line, and a canonical line has a space there. (A revocation
+/// stands in the canonical file as it is, and so does what F8 tells of it.)
 fn hosts_spelled_alike_rule()
     ensures records { (form : Form) (asking : Asking) (name file : List ℕ)
         → AllByRecursion (λ c. c < 256) file
