@@ -1,1 +1,4 @@
 mod StandInLemmas
+pub mod DenialLemmas
+mod ScanLemmas
+mod HostLemmas

@@ -1,0 +1,17 @@
+use Rattle.std.proofs.Common.{arith, rules}
+use Rattle.ssh_text.specs.Text.{lines_of, numbered}
+use Rattle.ssh_admission.specs.PossibleLines.{possible_lines}
+use Rattle.ssh_admission.proofs.ScanLemmas.{enough, gathered}
+use Rattle.ssh_admission.proofs.possible.possible_lines.Goals as goal
+
+pub returns-then-len-ge-ENOUGH : goal.returns-then-len-ge-ENOUGH
+returns-then-len-ge-ENOUGH c =
+    enough 101 c.loop-number.found.items
+    (possible_lines c.args.sought.now c.args.before (numbered (c.loop-number.number-iterator).0 (lines_of (c.loop-number.number-iterator).1)))
+    (possible_lines c.args.sought.now c.args.before (numbered 1 (lines_of c.args.file.now)))
+    c.loop-number.invariant.2 (omega (arith, c.if-len-ge-ENOUGH.true, c.len.ensures)) c.loop-number.invariant.3
+
+pub returns : goal.returns
+returns c =
+    gathered 101 c.loop-number.found.items (possible_lines c.args.sought.now c.args.before (numbered 1 (lines_of c.args.file.now)))
+    (search rules) c.loop-number.invariant.3
