@@ -1,9 +1,10 @@
 -- From what a trust file decides to what a list of them tells, and from that to what is answered about a key.
-use Rattle.std.proofs.Common.{◌≡◌, ◌∙◌, ◌<◌, ℕ, true, false, List, Option, Some, None, Result, Ok, Err, refl, sym, ap, subst, inl, inr}
+use Rattle.std.proofs.Common.{◌≡◌, ◌∙◌, ◌<◌, ℕ, true, false, List, length, Option, Some, None, Result, Ok, Err, refl, sym, ap, subst, inl, inr}
 use Rattle.std.specs.Prelude.{IfOk}
+use Rattle.std.proofs.lemmas.Bool.{lt-ltb}
 use Rattle.ssh_inputs.specs.SourceState.{IfTells, SourceState, bytes_at, most_failures}
 use Rattle.ssh_inputs.specs.Parts.{after_whole, top_line}
-use Rattle.ssh_inputs.specs.Loading.{FailsLoad, IsLeft, KeepsOthers, NoReadFailed, within_limit}
+use Rattle.ssh_inputs.specs.Loading.{FailsLoad, IsLeft, IsTooLong, KeepsOthers, NoReadFailed, within_limit}
 use Rattle.ssh_inputs.specs.declared.read.ReadError.{ReadError}
 use Rattle.ssh_inputs.specs.declared.read.ReadError.TheVariants as fault
 use Rattle.ssh_offers.specs.declared.error.AuditError.{AuditError}
@@ -20,43 +21,96 @@ use Rattle.ssh_show.specs.ShownLines.{Finds}
 use Rattle.ssh_show.proofs.TopLineLemmas.{line-offered}
 use Rattle.ssh_admission.specs.declared.text.Party.{Party}
 use Rattle.ssh_inputs.specs.FilesInTurn.{TellsFile, TellsFiles}
-use Rattle.ssh_answers.specs.Admissions.{KeyAsking, AsksBy, AsksFiles, AsksKey, AsksOffer, ToldLines, told_both, nothing_told, offer_or_fault, or_shown_fault, telling, told_of, told_response}
-use Rattle.ssh_questions.specs.Audits.{Deciding}
-use Rattle.ssh_questions.specs.FileAnswers.{AnswersFile, IsFaultOf, is_memory}
-use Rattle.ssh_inputs.proofs.SourceLemmas.{Alike, file-alike, keeps-same, left-none, none-failed, one-failed, over_limit}
+use Rattle.ssh_answers.specs.Admissions.{KeyAsking, Otherness, IsToldUnread, beside_answer, told_by, told_over, unread_fault, AsksBy, AsksFiles, AsksKey, AsksOffer, ToldLines, told_both, nothing_told, offer_or_fault, or_shown_fault, telling, told_of, told_response}
+use Rattle.ssh_questions.specs.Audits.{Deciding, answer_by}
+use Rattle.ssh_questions.specs.FileAnswers.{IsFaultOf, is_memory}
+use Rattle.ssh_inputs.proofs.SourceLemmas.{Alike, file-alike, keeps-same, left-none, none-failed, one-failed, over_limit, read-all}
+use Rattle.ssh_text.specs.Text.{file_limit}
+use Rattle.ssh_admission.specs.OtherLines.{nothing_other}
 
 -- ---- one file
 
-tells-by : (who : Party) (by : Deciding) (evidence : List Signed) (name : List ℕ) (s : SourceState) (t : Option SourceState) (answer : Result Decision AuditError) (told : ToldLines)
-    → is_memory answer ≡ false → told ≡ told_of who name answer → KeepsOthers name s t → AnswersFile by evidence name (bytes_at s name) s t answer
-    → TellsFile (telling who by evidence) name s t told
-tells-by who by evidence name s t answer told spared is keeps (inl e) = (let bad : true ≡ false = ap is_memory (sym e) ∙ spared in cc)
-tells-by who by evidence name s t answer told spared is keeps (inr (inl (offered, failed, e))) = (keeps, inl (failed, is ∙ ap (told_of who name) e))
-tells-by who by evidence name s t answer told spared is keeps (inr (inr (none, e))) = (keeps, inr (none, is ∙ ap (told_of who name) e))
+answer-given : (given result : Result Decision AuditError) → is_memory result ≡ false → GivesOrMemory given result → given ≡ result
+answer-given given (Ok x) spared h = h
+answer-given given (Err (Offer x)) spared h = h
+answer-given given (Err (Signature x)) spared h = h
+answer-given given (Err WrongAlgorithm) spared h = h
+answer-given given (Err WeakSignature) spared h = h
+answer-given given (Err CertSignature) spared h = h
+answer-given given (Err Address) spared h = h
+answer-given given (Err FileTooLong) spared h = h
+answer-given given (Err Memory) spared h = cc
+answer-given given (Err Read) spared h = h
+answer-given given (Err Failed) spared h = h
+answer-given given (Err (Body x)) spared h = h
+answer-given given (Err Salts) spared h = h
 
-pub file_told : (who : Party) (by : Deciding) (evidence : List Signed) (name : List ℕ) (o t : Option SourceState) (answer : Result Decision AuditError) (told : ToldLines)
-    → is_memory answer ≡ false → told ≡ told_of who name answer → IfTells o (λ s. KeepsOthers name s t)
-    → IfTells o (λ s. AnswersFile by evidence name (bytes_at s name) s t answer) → IfTells o (λ s. TellsFile (telling who by evidence) name s t told)
-file_told who by evidence name None t answer told spared is keeps h = tt
-file_told who by evidence name (Some s) t answer told spared is keeps h = λ counts. tells-by who by evidence name s t answer told spared is (keeps counts) (h counts)
+-- what is told by an answer that is given
+pub bytes_told : (who : Party) (by : Deciding) (beside : Otherness) (evidence : List Signed) (name file : List ℕ) (answer : Result Decision AuditError) (told : ToldLines)
+    → is_memory answer ≡ false → GivesOrMemory (answer_by by file evidence) answer → told ≡ told_of who name (beside_answer beside file answer) answer
+    → told ≡ told_by who by beside evidence name file
+bytes_told who by beside evidence name file answer told spared given is =
+    is ∙ ap (λ (a : Result Decision AuditError). told_of who name (beside_answer beside file a) a) (sym (answer-given (answer_by by file evidence) answer spared given))
+
+-- a file that was read
+pub file_told : {R E : Type 0} (view : R → ToldLines) (who : Party) (by : Deciding) (beside : Otherness) (evidence : List Signed) (name file bytes : List ℕ) (o t : Option SourceState) (res : Result R E) → bytes ≡ file
+    → IfTells o (λ s. (within_limit (bytes_at s name) ≡ Some file) × IsLeft s (after_whole s name) t) → IfTells o (λ s. KeepsOthers name s t)
+    → IfOk res (λ r. view r ≡ told_by who by beside evidence name bytes)
+    → IfTells o (λ s. IfOk res (λ r. TellsFile (telling who by beside evidence) name s t (view r)))
+file_told view who by beside evidence name file bytes None t res is loads keeps h = tt
+file_told view who by beside evidence name file bytes (Some s) t (Err e) is loads keeps h = λ counts. tt
+file_told view who by beside evidence name file bytes (Some s) t (Ok r) is loads keeps h = λ counts.
+    let load = loads counts in (
+      keeps counts,
+      inr (
+        left-none s (after_whole s name) t load.1,
+        h ∙ (ap (told_by who by beside evidence name) is ∙ ap (told_over who by beside evidence name) (sym (read-all (bytes_at s name) file load.0))),
+      ),
+    )
+
+told-missing : (who : Party) (by : Deciding) (beside : Otherness) (evidence : List Signed) (name : List ℕ) → told_over who by beside evidence name None ≡ told_of who name nothing_other (Err (unread_fault by fault.Missing))
+told-missing who (Ok decision) beside evidence name = refl
+told-missing who (Err e) beside evidence name = refl
+
+told-long : (who : Party) (by : Deciding) (beside : Otherness) (evidence : List Signed) (name : List ℕ) (bytes : Option (List ℕ)) → IsTooLong bytes
+    → told_over who by beside evidence name bytes ≡ told_of who name nothing_other (Err (unread_fault by fault.TooLong))
+told-long who by beside evidence name None h = absurd h
+told-long who (Ok decision) beside evidence name (Some bytes) h = rw (lt-ltb file_limit (length bytes) h) refl
+told-long who (Err e) beside evidence name (Some bytes) h = refl
+
+unread-by : (who : Party) (by : Deciding) (beside : Otherness) (evidence : List Signed) (name : List ℕ) (s : SourceState) (t : Option SourceState) (e : ReadError) (told : ToldLines) → FailsLoad name (bytes_at s name) s t e
+    → KeepsOthers name s t → IsToldUnread who by name e told → TellsFile (telling who by beside evidence) name s t told
+unread-by who by beside evidence name s t fault.Missing told fails keeps is =
+    (keeps, inr (fails.1, is ∙ (sym (told-missing who by beside evidence name) ∙ sym (ap (told_over who by beside evidence name) fails.0))))
+unread-by who by beside evidence name s t fault.TooLong told fails keeps is = (keeps, inr (fails.1, is ∙ sym (told-long who by beside evidence name (bytes_at s name) fails.0)))
+unread-by who by beside evidence name s t fault.Failed told fails keeps is = (keeps, inl (fails, is))
+unread-by who by beside evidence name s t fault.Memory told fails keeps is = absurd is
+
+-- one that gives no bytes
+pub file_unread : {R E : Type 0} (view : R → ToldLines) (who : Party) (by : Deciding) (beside : Otherness) (evidence : List Signed) (name : List ℕ) (o t : Option SourceState) (e : ReadError) (res : Result R E)
+    → IfTells o (λ s. FailsLoad name (bytes_at s name) s t e) → IfTells o (λ s. KeepsOthers name s t) → IfOk res (λ r. IsToldUnread who by name e (view r))
+    → IfTells o (λ s. IfOk res (λ r. TellsFile (telling who by beside evidence) name s t (view r)))
+file_unread view who by beside evidence name None t e res fails keeps is = tt
+file_unread view who by beside evidence name (Some s) t e (Err x) fails keeps is = λ counts. tt
+file_unread view who by beside evidence name (Some s) t e (Ok r) fails keeps is = λ counts. unread-by who by beside evidence name s t e (view r) (fails counts) (keeps counts) is
 
 -- ---- what is asked of the files
 
 given-same : (e given : List Signed) → GivesOrMemory (Ok e) (Ok given) → given ≡ e
 given-same e given h = (let same : Ok e ≡ Ok given = h in cc)
 
-asks-told : (who : Party) (by : Deciding) (rests : Result (List Signed) AuditError) (evidence : List Signed) (names : List (List ℕ)) (s : SourceState) (t : Option SourceState) (told : ToldLines) (r : Shown)
+asks-told : (who : Party) (by : Deciding) (beside : Otherness) (rests : Result (List Signed) AuditError) (evidence : List Signed) (names : List (List ℕ)) (s : SourceState) (t : Option SourceState) (told : ToldLines) (r : Shown)
     → RefusesAs rests (Ok evidence) → OfClaim rests (λ e. GivesOrMemory (Ok e) (Ok evidence)) → r ≡ told_response told
-    → TellsFiles told_both (telling who by evidence) nothing_told names s t told → AsksBy who by rests names s t r
-asks-told who by (Err e) evidence names s t told r refused given is h = cc
-asks-told who by (Ok e) evidence names s t told r refused given is h =
-    (told, subst (λ (x : List Signed). TellsFiles told_both (telling who by x) nothing_told names s t told) (given-same e evidence given) h, is)
+    → TellsFiles told_both (telling who by beside evidence) nothing_told names s t told → AsksBy who by beside rests names s t r
+asks-told who by beside (Err e) evidence names s t told r refused given is h = cc
+asks-told who by beside (Ok e) evidence names s t told r refused given is h =
+    (told, subst (λ (x : List Signed). TellsFiles told_both (telling who by beside x) nothing_told names s t told) (given-same e evidence given) h, is)
 
-pub asks_told : {R : Type 0} (view : R → Shown) (who : Party) (by : Deciding) (rests : Result (List Signed) AuditError) (evidence : List Signed) (names : List (List ℕ)) (o t : Option SourceState)
+pub asks_told : {R : Type 0} (view : R → Shown) (who : Party) (by : Deciding) (beside : Otherness) (rests : Result (List Signed) AuditError) (evidence : List Signed) (names : List (List ℕ)) (o t : Option SourceState)
     (told : ToldLines) (r : R) → RefusesAs rests (Ok evidence) → OfClaim rests (λ e. GivesOrMemory (Ok e) (Ok evidence)) → view r ≡ told_response told
-    → IfTells o (λ s. TellsFiles told_both (telling who by evidence) nothing_told names s t told) → IfTells o (λ s. AsksBy who by rests names s t (view r))
-asks_told view who by rests evidence names None t told r refused given is h = tt
-asks_told view who by rests evidence names (Some s) t told r refused given is h = λ counts. asks-told who by rests evidence names s t told (view r) refused given is (h counts)
+    → IfTells o (λ s. TellsFiles told_both (telling who by beside evidence) nothing_told names s t told) → IfTells o (λ s. AsksBy who by beside rests names s t (view r))
+asks_told view who by beside rests evidence names None t told r refused given is h = tt
+asks_told view who by beside rests evidence names (Some s) t told r refused given is h = λ counts. asks-told who by beside rests evidence names s t told (view r) refused given is (h counts)
 
 err-same : {A B : Type 0} (a b : B) → ◌≡◌ {A = Result A B} (Err a) (Err b) → a ≡ b
 err-same a b h = cc
@@ -75,18 +129,18 @@ never-refused e Failed spared h = cc
 never-refused e (Body x) spared h = cc
 never-refused e Salts spared h = cc
 
-asks-refused : (who : Party) (by : Deciding) (rests : Result (List Signed) AuditError) (error : AuditError) (names : List (List ℕ)) (s : SourceState) (r : Shown)
+asks-refused : (who : Party) (by : Deciding) (beside : Otherness) (rests : Result (List Signed) AuditError) (error : AuditError) (names : List (List ℕ)) (s : SourceState) (r : Shown)
     → RefusesAs {A = List Signed} rests (Err error) → OfClaim rests (λ e. GivesOrMemory (Ok e) (Err error)) → is_memory {A = List Signed} (Err error) ≡ false → r ≡ refused_response error
-    → AsksBy who by rests names s (Some s) r
-asks-refused who by (Err e) error names s r refused given spared is = (refl, is ∙ ap refused_response (err-same error e refused))
-asks-refused who by (Ok e) error names s r refused given spared is = absurd (never-refused e error spared given)
+    → AsksBy who by beside rests names s (Some s) r
+asks-refused who by beside (Err e) error names s r refused given spared is = (refl, is ∙ ap refused_response (err-same error e refused))
+asks-refused who by beside (Ok e) error names s r refused given spared is = absurd (never-refused e error spared given)
 
-pub asks_refused : {R E : Type 0} (view : R → Shown) (who : Party) (by : Deciding) (rests : Result (List Signed) AuditError) (error : AuditError) (names : List (List ℕ)) (o : Option SourceState) (res : Result R E)
+pub asks_refused : {R E : Type 0} (view : R → Shown) (who : Party) (by : Deciding) (beside : Otherness) (rests : Result (List Signed) AuditError) (error : AuditError) (names : List (List ℕ)) (o : Option SourceState) (res : Result R E)
     → RefusesAs {A = List Signed} rests (Err error) → OfClaim rests (λ e. GivesOrMemory (Ok e) (Err error)) → is_memory {A = List Signed} (Err error) ≡ false → IfOk res (λ r. view r ≡ refused_response error)
-    → IfTells o (λ s. IfOk res (λ r. AsksBy who by rests names s o (view r)))
-asks_refused view who by rests error names None res refused given spared is = tt
-asks_refused view who by rests error names (Some s) (Err x) refused given spared is = λ counts. tt
-asks_refused view who by rests error names (Some s) (Ok r) refused given spared is = λ counts. asks-refused who by rests error names s (view r) refused given spared is
+    → IfTells o (λ s. IfOk res (λ r. AsksBy who by beside rests names s o (view r)))
+asks_refused view who by beside rests error names None res refused given spared is = tt
+asks_refused view who by beside rests error names (Some s) (Err x) refused given spared is = λ counts. tt
+asks_refused view who by beside rests error names (Some s) (Ok r) refused given spared is = λ counts. asks-refused who by beside rests error names s (view r) refused given spared is
 
 -- ---- the key's file
 

@@ -1,3 +1,5 @@
 pub mod AdmissionLemmas
 mod KeyLemmas
 mod ExplainLemmas
+mod QuestionLemmas
+mod DenialLemmas

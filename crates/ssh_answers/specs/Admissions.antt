@@ -1,12 +1,14 @@
 -- What trust files answer to a key that is asked about, one after the other (this project's rule).
-use Rattle.std.specs.Prelude.{◌≡◌, ◌⊎◌, ◌++◌, ℕ, List, [], Option, Some, None, Result, Ok, Err}
+use Rattle.std.specs.Prelude.{◌≡◌, ◌⊎◌, ◌++◌, ℕ, Bool, true, false, List, [], Option, Some, None, Result, Ok, Err}
 use Rattle.ssh_offers.specs.declared.error.AuditError.{AuditError}
-use Rattle.ssh_offers.specs.declared.error.AuditError.TheVariants.{Read}
+use Rattle.ssh_offers.specs.declared.error.AuditError.TheVariants.{FileTooLong, Memory, Read}
 use Rattle.ssh_offers.specs.declared.query.Signed.{Signed}
 use Rattle.ssh_trust.specs.declared.decision.Decision.{Decision}
 use Rattle.ssh_trust.specs.declared.decision.Decision.TheVariants.{Granted, Denied}
 use Rattle.ssh_inputs.specs.SourceState.{SourceState, bytes_at}
 use Rattle.ssh_inputs.specs.Loading.{KeepsOthers, NoReadFailed, within_limit}
+use Rattle.ssh_inputs.specs.declared.read.ReadError.{ReadError}
+use Rattle.ssh_inputs.specs.declared.read.ReadError.TheVariants as read
 use Rattle.ssh_inputs.specs.FilesInTurn.{Telling, TellsFiles}
 use Rattle.ssh_print.specs.Responses.{Response, no_file_response, refused_response}
 use Rattle.ssh_show.specs.Offering.{Offered, shown_offer_in}
@@ -14,28 +16,39 @@ use Rattle.ssh_show.specs.declared.error.ShowError.{ShowError}
 use Rattle.ssh_show.specs.Showing.{show_fault_response}
 use Rattle.ssh_admission.specs.declared.text.Party.{Party}
 use Rattle.ssh_admission.specs.AnswerText.{answer_text}
+use Rattle.ssh_admission.specs.OtherLines.{OtherLines, nothing_other}
 use Rattle.ssh_answers.specs.declared.admission.Outcome.{Outcome}
-use Rattle.ssh_answers.specs.declared.admission.Outcome.TheVariants.{Denies, Grants, Faulty}
-use Rattle.ssh_questions.specs.Audits.{Deciding, IsFileFault, answer_over}
+use Rattle.ssh_answers.specs.declared.admission.Outcome.TheVariants.{Denies, Opens, Grants, Faulty}
+use Rattle.ssh_questions.specs.Audits.{Deciding, IsFileFault, answer_by, answer_over, refusal_of}
 
 -- ---- what a list of files comes to
 
-abbrev pub outcome_of : Result Decision AuditError → Outcome
-outcome_of (Ok (Granted line rights reasons evidence)) = Grants
-outcome_of (Ok (Denied why reasons evidence)) = Denies
-outcome_of (Err e) = Faulty
+-- a denial that OpenSSH may not share is open
+abbrev pub denied_outcome : Bool → Outcome
+denied_outcome true = Opens
+denied_outcome false = Denies
 
--- with one more file: a fault is told before a grant, and that before a denial (as the status of grep(1))
+abbrev pub outcome_of : OtherLines → Result Decision AuditError → Outcome
+outcome_of other (Ok (Granted line rights reasons evidence)) = Grants
+outcome_of other (Ok (Denied why reasons evidence)) = denied_outcome other.may_admit
+outcome_of other (Err e) = Faulty
+
+-- with one more file: a fault is told before a grant, that before what is open, and that before a denial
 abbrev pub and_then : Outcome → Outcome → Outcome
 and_then Denies b = b
 and_then Faulty b = Faulty
+and_then Opens Denies = Opens
+and_then Opens b = b
 and_then Grants Denies = Grants
+and_then Grants Opens = Grants
 and_then Grants b = b
 
+-- as the status of grep(1), and 3 where OpenSSH may let in what is not let in here
 abbrev pub status_of : Outcome → ℕ
 status_of Grants = 0
 status_of Denies = 1
 status_of Faulty = 2
+status_of Opens = 3
 
 -- lines, and what the files that they tell of come to
 pub record ToldLines : Type 0 where
@@ -49,35 +62,78 @@ nothing_told = record { outcome = Denies; text = [] }
 abbrev pub told_both : ToldLines → ToldLines → ToldLines
 told_both a b = record { outcome = and_then a.outcome b.outcome; text = a.text ++ b.text }
 
-abbrev pub told_of : Party → List ℕ → Result Decision AuditError → ToldLines
-told_of who name answer = record { outcome = outcome_of answer; text = answer_text who name answer }
+-- the lines of an answer, and what is told beside it
+abbrev pub told_of : Party → List ℕ → OtherLines → Result Decision AuditError → ToldLines
+told_of who name other answer = record { outcome = outcome_of other answer; text = answer_text who name answer ++ other.text }
 
 abbrev pub told_response : ToldLines → Response
 told_response told = record { status = status_of told.outcome; text = told.text }
 
 -- ---- files
 
--- what is asked of each file: whose key it is, what a file decides of it, and what that rests on
+-- what is told beside what a file of these bytes decides
+abbrev pub Otherness : Type 0
+Otherness = List ℕ → Decision → OtherLines
+
+-- what is asked of each file: whose key it is, what a file decides of it, what that rests on, and what is told beside it
 pub record KeyAsking : Type 0 where
   pub who : Party
   pub by : Deciding
   pub rests_on : Result (List Signed) AuditError
+  pub beside : Otherness
 
--- what a trust file answers where all evidence is vouched for; a failed read of it is told as A9
-abbrev pub telling : Party → Deciding → List Signed → Telling ToldLines
-telling who by evidence = record {
-  of_bytes = λ name bytes. told_of who name (answer_over by evidence bytes);
-  of_fault = λ name. told_of who name (Err Read);
+-- beside a fault nothing is told
+abbrev pub beside_answer : Otherness → List ℕ → Result Decision AuditError → OtherLines
+beside_answer beside file (Ok decision) = beside file decision
+beside_answer beside file (Err e) = nothing_other
+
+-- what a trust file of these bytes tells, where all evidence is vouched for
+abbrev pub told_by : Party → Deciding → Otherness → List Signed → List ℕ → List ℕ → ToldLines
+told_by who by beside evidence name file =
+    told_of who name (beside_answer beside file (answer_by by file evidence)) (answer_by by file evidence)
+
+-- the same of the file of this name, which may not be there
+abbrev pub told_over : Party → Deciding → Otherness → List Signed → List ℕ → Option (List ℕ) → ToldLines
+told_over who by beside evidence name None = told_of who name nothing_other (answer_over by evidence None)
+told_over who by beside evidence name (Some file) = told_by who by beside evidence name file
+
+-- a failed read of a file is told as A9
+abbrev pub telling : Party → Deciding → Otherness → List Signed → Telling ToldLines
+telling who by beside evidence = record {
+  of_bytes = told_over who by beside evidence;
+  of_fault = λ name. told_of who name nothing_other (Err Read);
 }
 
+-- the fault of a file that gives no bytes; a refused offer is told before one that is not there or too long
+abbrev pub refusal_or : Option AuditError → AuditError → AuditError
+refusal_or None e = e
+refusal_or (Some refusal) e = refusal
+
+abbrev pub unread_fault : Deciding → ReadError → AuditError
+unread_fault by read.Missing = refusal_or (refusal_of by) Read
+unread_fault by read.TooLong = refusal_or (refusal_of by) FileTooLong
+unread_fault by read.Failed = Read
+unread_fault by read.Memory = Memory
+
+-- what is told of it, where memory was not refused
+abbrev pub IsToldUnread : Party → Deciding → List ℕ → ReadError → ToldLines → Type 0
+IsToldUnread who by name read.Memory told = ⊥
+IsToldUnread who by name read.Missing told = told ≡ told_of who name nothing_other (Err (unread_fault by read.Missing))
+IsToldUnread who by name read.TooLong told = told ≡ told_of who name nothing_other (Err (unread_fault by read.TooLong))
+IsToldUnread who by name read.Failed told = told ≡ told_of who name nothing_other (Err (unread_fault by read.Failed))
+
 -- an offer that is refused is told before any file is read
-abbrev pub AsksBy : Party → Deciding → Result (List Signed) AuditError → List (List ℕ) → SourceState → Option SourceState → Response → Type 0
-AsksBy who by (Err e) names s t r = NoReadFailed s t × (r ≡ refused_response e)
-AsksBy who by (Ok evidence) names s t r =
-    (told : ToldLines) × TellsFiles told_both (telling who by evidence) nothing_told names s t told × (r ≡ told_response told)
+abbrev pub AsksBy : Party → Deciding → Otherness → Result (List Signed) AuditError → List (List ℕ) → SourceState → Option SourceState → Response → Type 0
+AsksBy who by beside (Err e) names s t r = NoReadFailed s t × (r ≡ refused_response e)
+AsksBy who by beside (Ok evidence) names s t r =
+    (told : ToldLines) × TellsFiles told_both (telling who by beside evidence) nothing_told names s t told × (r ≡ told_response told)
+
+-- the status where one file of these bytes is asked
+abbrev pub status_by : KeyAsking → List Signed → List ℕ → List ℕ → ℕ
+status_by a evidence name file = status_of (told_by a.who a.by a.beside evidence name file).outcome
 
 abbrev pub AsksFiles : KeyAsking → List (List ℕ) → SourceState → Option SourceState → Response → Type 0
-AsksFiles a names s t r = AsksBy a.who a.by a.rests_on names s t r
+AsksFiles a names s t r = AsksBy a.who a.by a.beside a.rests_on names s t r
 
 -- ---- the key's file
 

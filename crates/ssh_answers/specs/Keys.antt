@@ -4,11 +4,15 @@ use Rattle.clap.specs.Words.{Row}
 use Rattle.jiff.specs.Types.{TimeZone}
 use Rattle.ssh_wire.specs.Reading.{◌>>=◌}
 use Rattle.ssh_offers.specs.declared.query.EmptyPrincipals.TheVariants.{Any}
+use Rattle.ssh_offers.specs.HostClaim.{host_claim}
+use Rattle.ssh_offers.specs.LoginClaim.{login_claim}
 use Rattle.ssh_offers.specs.Query.{HostCheck, Login}
 use Rattle.ssh_inputs.specs.SourceState.{SourceState}
 use Rattle.ssh_inputs.specs.Values.{ReadsZone, empty_principals_of, number_below, short_bytes, zone_text}
 use Rattle.ssh_print.specs.Responses.{Response}
 use Rattle.ssh_show.specs.Offering.{Offered}
+use Rattle.ssh_admission.specs.HostOther.{other_host}
+use Rattle.ssh_admission.specs.OtherLines.{other_login}
 use Rattle.ssh_admission.specs.StandIn.{login_algorithm, stand_in}
 use Rattle.ssh_admission.specs.declared.text.Party.TheVariants.{Client, Host}
 use Rattle.ssh_words.specs.declared.options.OptionName.TheVariants as option
@@ -23,10 +27,10 @@ pub record KeyAsked : Type 0 where
   pub asks : Offered → KeyAsking
 
 abbrev pub login_asking : Login → KeyAsking
-login_asking q = record { who = Client; by = login_by q; rests_on = login_rests q }
+login_asking q = record { who = Client; by = login_by q; rests_on = login_rests q; beside = other_login (login_claim q) }
 
 abbrev pub host_asking : HostCheck → KeyAsking
-host_asking q = record { who = Host; by = host_by q; rests_on = host_rests q }
+host_asking q = record { who = Host; by = host_by q; rests_on = host_rests q; beside = other_host (host_claim q) }
 
 -- ---- a client's key
 

@@ -1,50 +1,75 @@
 //! What trust files answer to a key that is asked about, one after the other.
 
-ghost use Rattle.std.specs.Prelude.{◌≡◌, IfOk, map};
+ghost use Rattle.std.specs.Prelude.{◌≡◌, ◌++◌, IfOk, Ok, Err, map};
 ghost use Rattle.ssh_answers.specs.Admissions.{
   AsksBy,
+  IsToldUnread,
   and_then,
-  told_both,
+  beside_answer,
+  denied_outcome,
   nothing_told,
   outcome_of,
+  refusal_or,
   status_of,
   telling,
+  told_both,
+  told_by,
+  told_of,
+  unread_fault,
 };
 ghost use Rattle.ssh_answers.specs.AdmissionsView.{told_seen};
+ghost use Rattle.ssh_admission.specs.OtherLines.{nothing_other, otherwise_seen};
 ghost use Rattle.ssh_inputs.specs.FilesInTurn.{TellsFile, TellsFiles};
 ghost use Rattle.ssh_inputs.specs.SourceState.{IfTells};
 ghost use Rattle.ssh_print.specs.ResponseView.{response};
+ghost use Rattle.ssh_questions.specs.Audits.{Deciding, refusal_of};
 
-use ssh_admission::{Party, answer_text};
-use ssh_inputs::Files;
+use crate::file_question::FileQuestion;
+use ssh_admission::{Otherwise, Party, answer_text};
+use ssh_inputs::{Files, ReadError, read_whole};
 use ssh_offers::{AuditError, Signed};
 use ssh_print::{DONE, FAULT, Response, audit_fault};
-use ssh_questions::{Question, decide_by_file, is_memory};
+use ssh_questions::is_memory;
 use ssh_trust::Decision;
 use std::alloc::{AllocError, Global};
 
 /// The status where no file lets the key in.
 const DENIED: u8 = 1;
 
+/// The status where none does, and OpenSSH may let it in.
+const OPEN: u8 = 3;
+
 /// What a list of files comes to.
 #[derive(Clone, Copy, Debug, PartialEq, Eq)]
 pub enum Outcome {
     /// None lets the key in.
     Denies,
+    /// None does, and OpenSSH may let it in by some file.
+    Opens,
     /// Some file lets it in.
     Grants,
     /// Some file could not be asked.
     Faulty,
 }
 
+fn denied_outcome(may_admit: bool) -> Outcome
+    ensures { result ≡ denied_outcome may_admit }
+{
+    if may_admit {
+        Outcome::Opens
+    } else {
+        Outcome::Denies
+    }
+}
+
 impl Outcome {
-    fn of(answer: &Result<Decision, AuditError>) -> Outcome
-        ensures { result ≡ outcome_of answer.now }
+    /// What one file comes to, where a decision was made.
+    fn of(decision: &Decision, other: &Otherwise) -> Outcome
+        ensures { result ≡ outcome_of (otherwise_seen other.now) (Ok decision.now) }
     {
-        match answer {
-            Ok(Decision::Granted { .. }) => Outcome::Grants,
-            Ok(Decision::Denied { .. }) => Outcome::Denies,
-            Err(_) => Outcome::Faulty,
+        match decision {
+            Decision::Granted { .. } => Outcome::Grants,
+            Decision::Denied { .. } => denied_outcome(other.may_admit),
         }
     }
 
@@ -55,7 +80,9 @@ impl Outcome {
         match (self, next) {
             (Outcome::Denies, next) => next,
             (Outcome::Faulty, _) => Outcome::Faulty,
-            (Outcome::Grants, Outcome::Denies) => Outcome::Grants,
+            (Outcome::Opens, Outcome::Denies) => Outcome::Opens,
+            (Outcome::Opens, next) => next,
+            (Outcome::Grants, Outcome::Denies | Outcome::Opens) => Outcome::Grants,
             (Outcome::Grants, next) => next,
         }
     }
@@ -67,6 +94,7 @@ impl Outcome {
             Outcome::Grants => DONE,
             Outcome::Denies => DENIED,
             Outcome::Faulty => FAULT,
+            Outcome::Opens => OPEN,
         }
     }
 }
@@ -78,8 +106,123 @@ pub struct Told {
     pub text: Vec<u8>,
 }
 
-/// What the trust file of this name tells, where this evidence is vouched for.
-fn tell_file<Q: Question, F: Files>(
+/// What a file that could not be decided on tells.
+fn tell_fault(
+    alloc: Global,
+    who: Party,
+    name: &[u8],
+    error: AuditError,
+) -> Result<Told, AllocError>
+    ensures { IfOk result
+        (λ told. told_seen told ≡ told_of who name.now nothing_other (Err error)) }
+{
+    let text = answer_text(alloc, who, name, &Err(error))?;
+    Ok(Told {
+        outcome: Outcome::Faulty,
+        text,
+    })
+}
+
+/// What a trust file of these bytes tells by its decision.
+fn tell_decision<Q: FileQuestion>(
+    alloc: Global,
+    who: Party,
+    question: &Q,
+    name: &[u8],
+    file: &[u8],
+    decision: Decision,
+) -> Result<Told, AllocError>
+    ensures { IfOk result (λ told. told_seen told ≡ told_of who name.now
+        (Q.beside question.entry.now file.now decision) (Ok decision)) }
+{
+    let other = question.tell_beside(alloc, file, &decision)?;
+    let outcome = Outcome::of(&decision, &other);
+    let mut text = answer_text(alloc, who, name, &Ok(decision))?;
+    text.extend_from_slice(&other.text)?;
+    Ok(Told { outcome, text })
+}
+
+/// What a trust file of these bytes tells by its answer.
+fn tell_answer<Q: FileQuestion>(
+    alloc: Global,
+    who: Party,
+    question: &Q,
+    name: &[u8],
+    file: &[u8],
+    answer: Result<Decision, AuditError>,
+) -> Result<Told, AllocError>
+    ensures { IfOk result (λ told. told_seen told ≡ told_of who name.now
+        (beside_answer (Q.beside question.entry.now) file.now answer) answer) }
+{
+    match answer {
+        Ok(decision) => tell_decision(alloc, who, question, name, file, decision),
+        Err(error) => tell_fault(alloc, who, name, error),
+    }
+}
+
+/// What a trust file of these bytes tells, where this evidence is vouched for.
+#[tactic(auto, using(crate::proofs::AdmissionLemmas::bytes_told))]
+fn tell_bytes<Q: FileQuestion>(
+    alloc: Global,
+    who: Party,
+    question: &Q,
+    evidence: &[Signed],
+    name: &[u8],
+    file: &[u8],
+) -> Result<Told, AllocError>
+    ensures { IfOk result (λ told. told_seen told ≡ told_by who (Q.decides question.entry.now)
+        (Q.beside question.entry.now) evidence.now name.now file.now) }
+{
+    let answer = question.decide(alloc, file, evidence);
+    if is_memory(&answer) {
+        return Err(AllocError);
+    }
+    let told = tell_answer(alloc, who, question, name, file, answer)?;
+    Ok(told)
+}
+
+fn refusal_or(refusal: Option<AuditError>, error: AuditError) -> AuditError
+    ensures { result ≡ refusal_or refusal error }
+{
+    match refusal {
+        None => error,
+        Some(refusal) => refusal,
+    }
+}
+
+/// Why a trust file that gives no bytes is not decided on. A refused offer is told before one that is
+/// not there, or is too long.
+fn unread_fault(refusal: Option<AuditError>, fault: ReadError) -> AuditError
+    ensures { (by : Deciding) → refusal ≡ refusal_of by → result ≡ unread_fault by fault }
+{
+    match fault {
+        ReadError::Missing => refusal_or(refusal, AuditError::Read),
+        ReadError::TooLong => refusal_or(refusal, AuditError::FileTooLong),
+        ReadError::Failed => AuditError::Read,
+        ReadError::Memory => AuditError::Memory,
+    }
+}
+
+/// What a trust file tells that gives no bytes.
+fn tell_unread<Q: FileQuestion>(
+    alloc: Global,
+    who: Party,
+    question: &Q,
+    name: &[u8],
+    fault: ReadError,
+) -> Result<Told, AllocError>
+    ensures { IfOk result (λ told. IsToldUnread who (Q.decides question.entry.now) name.now fault
+        (told_seen told)) }
+{
+    match fault {
+        ReadError::Memory => Err(AllocError),
+        _ => tell_fault(alloc, who, name, unread_fault(question.refusal(), fault)),
+    }
+}
+
+/// What the trust file of this name tells, where this evidence is vouched for. It is read whole, so that
+/// its lines can be looked at once more: its bytes are kept meanwhile.
+fn tell_file<Q: FileQuestion, F: Files>(
     alloc: Global,
     who: Party,
     question: &Q,
@@ -88,22 +231,17 @@ fn tell_file<Q: Question, F: Files>(
     files: &mut F,
 ) -> Result<Told, AllocError>
     ensures { IfTells (F.source_state files.old) (λ s. IfOk result (λ told.
-        TellsFile (telling who (Q.decides question.entry.now) evidence.now) name.now s
-        (F.source_state files.new) (told_seen told))) }
+        TellsFile (telling who (Q.decides question.entry.now) (Q.beside question.entry.now)
+        evidence.now) name.now s (F.source_state files.new) (told_seen told))) }
 {
-    let answer = decide_by_file(alloc, name, question, evidence, files);
-    if is_memory(&answer) {
-        return Err(AllocError);
+    match read_whole(alloc, files, name) {
+        Ok(file) => tell_bytes(alloc, who, question, evidence, name.as_bytes(), &file),
+        Err(fault) => tell_unread(alloc, who, question, name.as_bytes(), fault),
     }
-    let text = answer_text(alloc, who, name.as_bytes(), &answer)?;
-    Ok(Told {
-        outcome: Outcome::of(&answer),
-        text,
-    })
 }
 
 /// What the trust files of these names tell, in their order.
-fn tell_files<Q: Question, F: Files>(
+fn tell_files<Q: FileQuestion, F: Files>(
     alloc: Global,
     who: Party,
     question: &Q,
@@ -112,8 +250,8 @@ fn tell_files<Q: Question, F: Files>(
     files: &mut F,
 ) -> Result<Told, AllocError>
     ensures { IfTells (F.source_state files.old) (λ s. IfOk result (λ told.
-        TellsFiles told_both (telling who (Q.decides question.entry.now) evidence.now) nothing_told
-        (map (λ name. name.now) names.now) s (F.source_state files.new) (told_seen told))) }
+        TellsFiles told_both (telling who (Q.decides question.entry.now) (Q.beside question.entry.now)
+        evidence.now) nothing_told (map (λ name. name.now) names.now) s (F.source_state files.new) (told_seen told))) }
 {
     let mut outcome = Outcome::Denies;
     let mut text = Vec::new(alloc);
@@ -127,7 +265,7 @@ fn tell_files<Q: Question, F: Files>(
 
 /// The response to what is asked of the trust files of these names, where all evidence is vouched for.
 /// An offer that is refused is told before any file is read.
-pub fn ask_files<Q: Question, F: Files>(
+pub fn ask_files<Q: FileQuestion, F: Files>(
     alloc: Global,
     who: Party,
     question: &Q,
@@ -135,8 +273,8 @@ pub fn ask_files<Q: Question, F: Files>(
     files: &mut F,
 ) -> Result<Response, AllocError>
     ensures { IfTells (F.source_state files.old) (λ s. IfOk result (λ r.
-        AsksBy who (Q.decides question.entry.now) (Q.rests_on question.entry.now)
-        (map (λ name. name.now) names.now) s (F.source_state files.new) (response r))) }
+        AsksBy who (Q.decides question.entry.now) (Q.beside question.entry.now)
+        (Q.rests_on question.entry.now) (map (λ name. name.now) names.now) s (F.source_state files.new) (response r))) }
 {
     let evidence = question.evidence(alloc);
     if is_memory(&evidence) {

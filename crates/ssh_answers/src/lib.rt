@@ -4,7 +4,10 @@
 mod admission;
 mod admits;
 mod explain;
+mod file_question;
 mod key;
+mod laws;
+mod samples;
 mod trusts;
 
 pub use admits::respond_admits;
