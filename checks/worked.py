@@ -19,14 +19,14 @@ import tempfile
 sys.dont_write_bytecode = True
 from program import CRATE, Program, Tally
 from rows import (
-    body_rows, cause_rows, hash_rows, host_rows, key_rows, login_rows, long_rows, rewrite_rows, show_rows,
+    body_rows, cause_rows, hash_rows, host_rows, key_rows, login_rows, long_rows, opening_rows, rewrite_rows, show_rows,
     signature_rows,
 )
 from rows.asking import Asker
 
 DEFAULT = CRATE / "out" / "ssh_audit"
 MODULES = (
-    login_rows, key_rows, host_rows, cause_rows, hash_rows, rewrite_rows, long_rows, show_rows, body_rows,
+    login_rows, key_rows, host_rows, cause_rows, hash_rows, rewrite_rows, long_rows, opening_rows, show_rows, body_rows,
     signature_rows,
 )
 

@@ -1,0 +1,154 @@
+"""Lines by which OpenSSH 9.2 may answer otherwise than `admits`: the rows were tried with its own deciding functions."""
+from rows.host_certificates import X1
+from rows.keys import K0, K1
+
+KEY, OTHER = f"ssh-ed25519 {K0}", f"ssh-ed25519 {K1}"
+
+# The moment 2026-11-27 17:30 in UTC.
+NOW = "1795800600"
+
+SOUGHT = "    looked for SHA256:kmYcvdi2GkPeWxB6XLjrZB8JHsy2Hm8luHMFp9GMvqk\n"
+# The same of the certificate's signer.
+SOUGHT_OTHER = "    looked for SHA256:gOPgXFWkBoXrFVwpjf0SBo3P1kFs+IvH5q/vnQhNpFw\n"
+NO_LINE = "f: does not admit: N3: no line admits the offer\n"
+LISTED = "    {} G1 L3: an option that sshd(8) does not list; or a first word that was meant as the type, and is not one\n"
+MAY = "    OpenSSH may let it in by line {}: {}\n"
+FIRST = "    OpenSSH may let it in by line {} first: {}\n"
+HOLDS, UNTOLD = "it holds this key, and cannot be read here", "no key can be told of it, and it cannot be read here"
+SOURCES = "OpenSSH may read its from= list otherwise"
+GRANTED = "f: admits by line {}, if the client's signature is good\n    rights {}\n"
+ALL = "port agent x11 pty rc"
+
+# A file, the status, and what is told of it.
+FILES = [
+    (f"{OTHER}\n", 1, NO_LINE + SOUGHT),
+    # A key that stands after the options, and one between quotes before it.
+    (f'environment="A= {OTHER} ",touch-required {KEY}\n', 3, NO_LINE + LISTED.format(1) + SOUGHT + MAY.format(1, HOLDS)),
+    (f'environment="A= {KEY} ",touch-required {OTHER}\n', 1, NO_LINE + LISTED.format(1) + SOUGHT),
+    ("hello\n", 3, NO_LINE + LISTED.format(1) + SOUGHT + MAY.format(1, UNTOLD)),
+    (f"{OTHER}\nx {KEY}\n", 3, NO_LINE + LISTED.format(2) + SOUGHT + MAY.format(2, HOLDS)),
+    # Lists of sources.
+    (
+        f'from="0/0" {KEY}\n', 3,
+        NO_LINE + "    1 G7: the line's from= cannot be read, so it permits nobody\n" + SOUGHT + MAY.format(1, SOURCES),
+    ),
+    (
+        f'from="10.0.0.1/8" {KEY}\n', 1,
+        NO_LINE + "    1 G7: the line's from= cannot be read, so it permits nobody\n" + SOUGHT,
+    ),
+    (
+        f'from="127.1" {KEY}\n', 3,
+        NO_LINE + "    1 G8: the line's from= does not permit the client\n" + SOUGHT + MAY.format(1, SOURCES),
+    ),
+    (f'from="127.0.0.1" {KEY}\n', 1, NO_LINE + "    1 G8: the line's from= does not permit the client\n" + SOUGHT),
+    # Expiry times: past by half an hour, by an hour and by more, in local time and in UTC.
+    (
+        f'expiry-time="202611271700" {KEY}\n', 3,
+        NO_LINE + "    1 G6: an expiry-time of the line is past\n" + SOUGHT
+        + MAY.format(1, "in local time, which OpenSSH may read an hour later"),
+    ),
+    (
+        f'expiry-time="20261127163000" {KEY}\n', 3,
+        NO_LINE + "    1 G6: an expiry-time of the line is past\n" + SOUGHT
+        + MAY.format(1, "in local time, which OpenSSH may read an hour later"),
+    ),
+    (f'expiry-time="20261127162959" {KEY}\n', 1, NO_LINE + "    1 G6: an expiry-time of the line is past\n" + SOUGHT),
+    (f'expiry-time="202611271700Z" {KEY}\n', 1, NO_LINE + "    1 G6: an expiry-time of the line is past\n" + SOUGHT),
+    # A verified user.
+    (
+        f"verify-required {KEY}\n", 3,
+        "f: does not admit: N5: verify-required of the line or the certificate, and the signature is not a security"
+        " key's that verified the user\n"
+        + MAY.format(1, "OpenSSH ignores verify-required of a key that is no security key"),
+    ),
+    # Where a line lets the key in: those before it, and none after it.
+    (f"hello\n{KEY}\nx {KEY}\n", 0, GRANTED.format(2, ALL) + LISTED.format(1) + FIRST.format(1, UNTOLD)),
+    # A line that OpenSSH refuses.
+    (
+        f'restrict,permitopen="none" {KEY}\n{KEY}\n', 0,
+        GRANTED.format(1, "none") + "    carry permitopen none\n    OpenSSH may refuse line 1: permitopen\n"
+        + f"    line 2 decides then\n        rights {ALL}\n",
+    ),
+    (
+        f'principals="ann" {KEY}\n', 0,
+        GRANTED.format(1, ALL) + "    OpenSSH may refuse line 1: principals\n    no other line admits it\n",
+    ),
+    # A hundred lines are listed.
+    (
+        5 * "#\n" + 101 * "hello\n", 3,
+        NO_LINE + "".join(LISTED.format(n) for n in range(6, 106)) + SOUGHT
+        + "".join(MAY.format(n, UNTOLD) for n in range(6, 106)) + "    .. and more\n",
+    ),
+]
+
+NO_HOST_LINE = "f: does not trust: N3: no line admits the offer\n"
+MAY_TRUST = "    ssh may trust it by line {}: {}\n"
+BLIND = (
+    "f: does not trust: N2 1: the first line that may revoke any key: it begins with @revoked and has no base64 that can"
+    " be read, or it is longer than 65,536 bytes\n"
+)
+LONG = 65_500 * "c"
+
+# A known_hosts file, the port, the status, and what is told of it.
+HOST_FILES = [
+    (f"h {KEY}\n", 22, 0, "f: trusts by line 1, if the host's signature is good\n"),
+    (f"h {OTHER}\n", 22, 1, NO_HOST_LINE + SOUGHT),
+    (
+        f"h,, {KEY}\n", 22, 3,
+        NO_HOST_LINE + "    1 G1 L16: of known_hosts: an item of the list of host names is empty; ! alone is an empty item\n"
+        + SOUGHT + MAY_TRUST.format(1, HOLDS),
+    ),
+    (
+        f"h,, {OTHER}\n", 22, 1,
+        NO_HOST_LINE + "    1 G1 L16: of known_hosts: an item of the list of host names is empty; ! alone is an empty item\n"
+        + SOUGHT,
+    ),
+    # A line that is too long: an authority for ssh, or a revocation.
+    (f"@cert-authority * {KEY} {LONG}\n", 22, 3, BLIND + MAY_TRUST.format(1, HOLDS)),
+    (f"@revoked * {KEY} {LONG}\n", 22, 1, BLIND),
+    # The name without the port.
+    (f"h {KEY}\n", 2222, 3, NO_HOST_LINE + SOUGHT + MAY_TRUST.format(1, "ssh tries the name without the port too")),
+    (f"[h]:2222 {KEY}\n", 2222, 0, "f: trusts by line 1, if the host's signature is good\n"),
+    (f"[h]:2223 {KEY}\n", 2222, 1, NO_HOST_LINE + SOUGHT),
+]
+
+
+def admits(*names):
+    return ["admits", "--key", "-", "--user", "ann", "--address", "192.0.2.1", "--now", NOW, *names]
+
+
+def tells_what_openssh_may_do(asker):
+    for file, status, wanted in FILES:
+        asker.check(file[:100], asker.printed(admits("f"), file, KEY + "\n"), (status, wanted.encode(), b""))
+
+
+def tells_what_ssh_may_do(asker):
+    for file, port, status, wanted in HOST_FILES:
+        words = ["trusts", "--key", "-", "--host", "h", "--port", str(port), "--now", NOW, "f"]
+        asker.check(f"{file[:100]} {port}", asker.printed(words, file, KEY + "\n"), (status, wanted.encode(), b""))
+
+
+def falls_back_to_the_plain_key(asker):
+    """A certificate of the key by the other one, where no authority is trusted."""
+    words = ["trusts", "--key", "-", "--host", "h", "--now", "150", "f"]
+    wanted = NO_HOST_LINE + SOUGHT_OTHER + MAY_TRUST.format(1, "ssh falls back to the plain key")
+    certificate = f"ssh-ed25519-cert-v01@openssh.com {X1}\n"
+    asker.check("a certificate", asker.printed(words, f"h {KEY}\n", certificate), (3, wanted.encode(), b""))
+
+
+def sums_up_several_files(asker):
+    """A fault before a grant, that before what is open, and that before a denial."""
+    room = asker.program.room
+    for name, file in (("denies", OTHER), ("opens", "hello"), ("grants", KEY)):
+        (room / name).write_text(file + "\n")
+    places = {"denies": 1, "opens": 3, "grants": 0, "missing": 2}
+    order = ["denies", "opens", "grants", "missing"]
+    for one in order:
+        for other in order:
+            status = places[max(one, other, key=order.index)]
+            asker.check(f"{one} {other}", asker.printed(admits(one, other), "", KEY + "\n")[0], status)
+    for name in ("denies", "opens", "grants"):
+        (room / name).unlink()
+
+
+TESTS = (tells_what_openssh_may_do, tells_what_ssh_may_do, falls_back_to_the_plain_key, sums_up_several_files)
