@@ -1,6 +1,6 @@
 -- The loop over the lines of a file: what is written and counted so far, and what is left.
 use Rattle.std.proofs.Common.{◌≡◌, ◌∙◌, ℕ, suc, ◌+◌, ◌*◌, ◌<◌, ◌≤◌, ◌^◌, ◌==◌, Bool, true, false, not, ◌&&◌, cond, List, [], ◌∷◌, ◌++◌, length, sym, ap, length-append, arith}
-use Rattle.std.specs.List.{onto_first}
+use Rattle.std.specs.List.{flat_map, onto_first}
 use Rattle.std.specs.Prelude.{Option, Some, None}
 use Rattle.ssh_lines.specs.declared.entry.AuthLine.{AuthLine}
 use Rattle.ssh_lines.specs.declared.entry.AuthLine.TheVariants.{Blank, Comment, Entry, Unreadable}
@@ -13,7 +13,9 @@ use Rattle.ssh_findings.specs.declared.finding.Finding.{Finding}
 use Rattle.ssh_findings.specs.declared.finding.Finding.TheVariants as finding
 use Rattle.ssh_findings.specs.Asking.{Asking, is_told}
 use Rattle.ssh_review.specs.Counting.{plus}
-use Rattle.ssh_findings.specs.EntryFindings.{condition_findings, entry_findings, forces_but_forwards, policy_findings, reading_findings}
+use Rattle.ssh_findings.specs.declared.grounds.Ground.{Ground}
+use Rattle.ssh_findings.specs.EntryFindings.{condition_findings, entry_findings, forces_but_forwards, ground_finding, ground_findings, policy_findings, reading_findings}
+use Rattle.ssh_findings.specs.OpenSsh.{all_grounds, has_ground}
 use Rattle.ssh_findings.specs.Telling.{told_if, told_some}
 use Rattle.ssh_keys.specs.PublicKey.{key_blob}
 use Rattle.ssh_findings.specs.Earlier.{Held, repeat_after}
@@ -27,7 +29,7 @@ pub record Within (counts : Counts) (n : ℕ) : Type 0 where
   pub lines : counts.lines ≤ n
   pub keys : counts.keys ≤ n
   pub unreadable : counts.unreadable ≤ n
-  pub findings : counts.findings ≤ 16 * n
+  pub findings : counts.findings ≤ 24 * n
 
 pub told-short : {F : Type 0} (code : F → Code) (asking : Asking) (holds : Bool) (f : F) → length (told_if code asking holds f) ≤ 1
 unfolding told_if
@@ -49,28 +51,46 @@ if-short asking holds f = told-short code_of asking holds f
 four : (a b c d : List Finding) → length a ≤ 1 → length b ≤ 1 → length c ≤ 1 → length d ≤ 1 → length (a ++ b ++ c ++ d) ≤ 4
 four a b c d e f g h = omega (arith, length-append (a ++ b ++ c) d, length-append (a ++ b) c, length-append a b)
 
-conditions-short : (asking : Asking) (f : Facts) → length (condition_findings asking f) ≤ 4
-conditions-short asking f = four _ _ _ _ (some-short code_of asking _) (if-short asking _ _) (if-short asking _ _) (if-short asking _ _)
-
-readings-short : (asking : Asking) (f : Facts) → length (reading_findings asking f) ≤ 4
-readings-short asking f = four _ _ _ _ (if-short asking _ _) (if-short asking _ _) (if-short asking _ _) (if-short asking _ _)
-
 one-more : (a b : List Finding) → length a ≤ 4 → length b ≤ 1 → length (a ++ b) ≤ 5
 one-more a b e f = omega (arith, length-append a b)
+
+conditions-short : (asking : Asking) (f : Facts) → length (condition_findings asking f) ≤ 5
+conditions-short asking f =
+    one-more _ _ (four _ _ _ _ (some-short code_of asking _) (if-short asking _ _) (if-short asking _ _) (if-short asking _ _)) (if-short asking _ _)
+
+readings-short : (asking : Asking) (f : Facts) → length (reading_findings asking f) ≤ 5
+readings-short asking f =
+    one-more _ _ (four _ _ _ _ (if-short asking _ _) (if-short asking _ _) (if-short asking _ _) (if-short asking _ _)) (if-short asking _ _)
+
+-- a ground is told once at most
+each-ground-short : (asking : Asking) (f : Facts) (gs : List Ground) → length (flat_map (λ g. ground_finding asking f g) gs) ≤ length gs
+each-ground-short asking f [] = omega arith
+each-ground-short asking f (g ∷ gs) =
+    omega (
+      arith,
+      length-append (ground_finding asking f g) (flat_map (λ g. ground_finding asking f g) gs),
+      if-short asking (has_ground f g) (finding.MayRefuse g),
+      each-ground-short asking f gs,
+    )
+
+grounds-short : (asking : Asking) (f : Facts) → length (ground_findings asking f) ≤ 7
+grounds-short asking f = each-ground-short asking f all_grounds
 
 policy-short : (asking : Asking) (f : Facts) → length (policy_findings asking f) ≤ 5
 policy-short asking f =
     one-more _ _ (four _ _ _ _ (if-short asking _ _) (if-short asking _ _) (if-short asking _ _) (if-short asking _ _)) (if-short asking _ _)
 
-entry-short : (asking : Asking) (earlier : List Held) (blob : List ℕ) (f : Facts) → length (entry_findings asking earlier blob f) ≤ 16
+entry-short : (asking : Asking) (earlier : List Held) (blob : List ℕ) (f : Facts) → length (entry_findings asking earlier blob f) ≤ 24
 unfolding entry_findings
 entry-short asking earlier blob f =
     let r = some-short code_of asking (repeat_after earlier blob f) in
     let a = conditions-short asking f in
     let b = readings-short asking f in
     let d = policy-short asking f in
+    let e = grounds-short asking f in
     omega (
       arith,
+      length-append (told_some code_of asking (repeat_after earlier blob f) ++ condition_findings asking f ++ reading_findings asking f ++ told_if code_of asking (not f.is_authority && forces_but_forwards f.rights) finding.ForcedButForwards ++ policy_findings asking f) (ground_findings asking f),
       length-append (told_some code_of asking (repeat_after earlier blob f) ++ condition_findings asking f ++ reading_findings asking f ++ told_if code_of asking (not f.is_authority && forces_but_forwards f.rights) finding.ForcedButForwards) (policy_findings asking f),
       length-append (told_some code_of asking (repeat_after earlier blob f) ++ condition_findings asking f ++ reading_findings asking f) (told_if code_of asking (not f.is_authority && forces_but_forwards f.rights) finding.ForcedButForwards),
       length-append (told_some code_of asking (repeat_after earlier blob f) ++ condition_findings asking f) (reading_findings asking f),
