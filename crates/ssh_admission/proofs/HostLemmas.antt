@@ -1,5 +1,5 @@
 -- The line that is told of an answer, where memory was not refused.
-use Rattle.std.proofs.Common.{◌≡◌, ◌∙◌, ℕ, List, false, Option, Result, Ok, Err, refl, sym, ap, subst}
+use Rattle.std.proofs.Common.{◌≡◌, ◌∙◌, ℕ, List, false, Option, Result, Ok, Err, sym, ap, subst}
 use Rattle.ssh_offers.specs.declared.error.AuditError.{AuditError}
 use Rattle.ssh_offers.specs.declared.error.AuditError.TheVariants.{Offer, Signature, WrongAlgorithm, WeakSignature, CertSignature, Address, FileTooLong, Memory, Read, Failed, Body, Salts}
 use Rattle.ssh_offers.specs.declared.query.Signed.{Signed}

@@ -1,5 +1,5 @@
 -- What is told beside the answer of a known_hosts file: lines by which ssh of OpenSSH 9.2 may answer otherwise.
-use Rattle.std.specs.Prelude.{ℕ, nat_lt, ◌==◌, Bool, true, false, List, [], length, take, Option, Some, None, Result, Ok, Err}
+use Rattle.std.specs.Prelude.{ℕ, nat_lt, ◌==◌, Bool, true, false, List, length, take, Option, Some, None, Result, Ok, Err}
 use Rattle.ssh_text.specs.Text.{lines_of, numbered}
 use Rattle.ssh_keys.specs.PublicKey.{key_blob}
 use Rattle.ssh_offers.specs.declared.error.AuditError.{AuditError}

@@ -1,5 +1,5 @@
 -- The lines of a known_hosts file by which ssh of OpenSSH 9.2 may trust a key that they do not let in here.
-use Rattle.std.specs.Prelude.{ℕ, Bool, true, false, if◌then◌else◌, List, [], ◌∷◌, codes, bytes_eq, Option, Some, None, option_map, Result, Ok, Err}
+use Rattle.std.specs.Prelude.{ℕ, Bool, if◌then◌else◌, List, [], ◌∷◌, bytes_eq, Option, None, option_map}
 use Rattle.ssh_text.specs.Text.{first_word, skip_blanks}
 use Rattle.ssh_keys.specs.PublicKey.{key_blob}
 use Rattle.ssh_lines.specs.declared.known.KnownLine.{KnownLine}

@@ -1,9 +1,8 @@
 -- What is told beside the answer of a trust file: lines by which OpenSSH may answer otherwise (this project's rule). Each ends with an LF.
-use Rattle.std.specs.Prelude.{ℕ, nat_lt, Bool, true, false, not, ◌||◌, if◌then◌else◌, List, [], ◌∷◌, ◌++◌, length, take, codes, is_some, Option, Some, None, Result, Ok, Err}
+use Rattle.std.specs.Prelude.{ℕ, nat_lt, Bool, true, false, ◌||◌, if◌then◌else◌, List, [], ◌++◌, length, take, codes, is_some, Option, Some, None, Result, Ok, Err}
 use Rattle.std.specs.List.{flat_map}
 use Rattle.std.specs.Fmt.{decimal}
 use Rattle.ssh_text.specs.Text.{lines_of, numbered}
-use Rattle.ssh_keys.specs.declared.kind.KeyKind.{KeyKind}
 use Rattle.ssh_keys.specs.PublicKey.{kind_of}
 use Rattle.ssh_findings.specs.declared.facts.Facts.{Facts}
 use Rattle.ssh_findings.specs.declared.grounds.Ground.{Ground}
