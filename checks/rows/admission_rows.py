@@ -1,0 +1,187 @@
+"""`admits` and `trusts` on worked rows: what is told of each file, the status over several files, standard input by more
+names than one, and each option. The key's file is `k`; a name that is no file here is missing."""
+import contextlib
+
+from program import review
+from rows.asking import as_bytes
+from rows.host_certificates import ANY_HOST, X1
+from rows.keys import K0, K1, RSA
+from rows.user_certificates import NO_PRINCIPALS, X0
+
+KEY = f"ssh-ed25519 {K0} me\n"
+OTHER_KEY = f"ssh-ed25519 {K1} me\n"
+RSA_KEY = f"ssh-rsa {RSA}\n"
+CERTIFIED = "ssh-ed25519-cert-v01@openssh.com"
+AUTHORITY = f"cert-authority {OTHER_KEY}"
+HOST_AUTHORITY = f"@cert-authority h {OTHER_KEY}"
+
+K0_MARK = "SHA256:kmYcvdi2GkPeWxB6XLjrZB8JHsy2Hm8luHMFp9GMvqk"
+K1_MARK = "SHA256:gOPgXFWkBoXrFVwpjf0SBo3P1kFs+IvH5q/vnQhNpFw"
+
+# What follows the name of a file: a plain key that gets in, a host's that is trusted, and either that is kept out.
+ADMITTED = "admits by line 1, if the client's signature is good\n    rights port agent x11 pty rc\n"
+TRUSTED = "trusts by line 1, if the host's signature is good\n"
+NOT_ADMITTED = f"does not admit: N3: no line admits the offer\n    looked for {K0_MARK}\n"
+NOT_TRUSTED = f"does not trust: N3: no line admits the offer\n    looked for {K0_MARK}\n"
+UNREAD = "fault A9\n"
+
+
+@contextlib.contextmanager
+def standing(asker, files):
+    """These files, by name, for as long as they are asked about."""
+    for name, text in files.items():
+        (asker.program.room / name).write_bytes(as_bytes(text))
+    yield
+    for name in files:
+        (asker.program.room / name).unlink()
+
+
+def admits(*names, key="k", user="ann", address="192.0.2.1", now="150", **more):
+    return asked("admits", names, {"key": key, "user": user, "address": address, "now": now, **more})
+
+
+def trusts(*names, key="k", host="h", now="150", **more):
+    return asked("trusts", names, {"key": key, "host": host, "now": now, **more})
+
+
+def asked(subcommand, names, given):
+    options = [word for name, value in given.items() for word in ("--" + name.replace("_", "-"), value)]
+    return [subcommand, *options, *names]
+
+
+def told(*answers):
+    """What is printed: of each file its name, and what is told of it."""
+    return "".join(f"{name}: {answer}" for name, answer in answers)
+
+
+def compare(asker, words, stdin, wanted, status):
+    asker.check(" ".join(words)[:300], asker.program.run(words, as_bytes(stdin)), (status, wanted.encode(), b""))
+
+
+# What is answered of a file, and of another: a grant, a denial, a fault. A grant outdoes a denial, and a fault outdoes both,
+# in any order.
+PAIRS = [
+    ("granted", "granted", 0), ("granted", "denied", 0), ("granted", "missing", 2),
+    ("denied", "granted", 0), ("denied", "denied", 1), ("denied", "missing", 2),
+    ("missing", "granted", 2), ("missing", "denied", 2), ("missing", "missing", 2),
+]
+KINDS = [
+    (admits, KEY, OTHER_KEY, {"granted": ADMITTED, "denied": NOT_ADMITTED, "missing": UNREAD}),
+    (trusts, f"h {KEY}", f"h {OTHER_KEY}", {"granted": TRUSTED, "denied": NOT_TRUSTED, "missing": UNREAD}),
+]
+
+
+def has_one_status_over_several_files(asker):
+    for words, good, bad, answers in KINDS:
+        with standing(asker, {"k": KEY, "granted": good, "denied": bad}):
+            for name, answer in answers.items():
+                compare(asker, words(name), "", told((name, answer)), {"granted": 0, "denied": 1, "missing": 2}[name])
+            for first, second, status in PAIRS:
+                compare(asker, words(first, second), "", told((first, answers[first]), (second, answers[second])), status)
+            for order, status in ((["denied", "granted", "denied"], 0), (["missing", "denied", "granted"], 2), (["granted", "missing", "granted"], 2)):
+                compare(asker, words(*order), "", told(*((name, answers[name]) for name in order)), status)
+
+
+def reads_standard_input_once(asker):
+    """The first file that is standard input takes all of it, also where the key is its first line; a later one is empty."""
+    for words, line, grant, denial in ((admits, KEY, ADMITTED, NOT_ADMITTED), (trusts, f"h {KEY}", TRUSTED, NOT_TRUSTED)):
+        with standing(asker, {"k": KEY, "granted": line}):
+            compare(asker, words("-", "-"), line, told(("-", grant), ("-", denial)), 0)
+            compare(asker, words("-", "granted", "-"), line, told(("-", grant), ("granted", grant), ("-", denial)), 0)
+            compare(asker, words("-", key="-"), KEY + line, told(("-", denial)), 1)
+            compare(asker, words("-", "-", key="-"), KEY + line + line, told(("-", denial), ("-", denial)), 1)
+            compare(asker, words("-", "granted", key="-"), KEY + line, told(("-", denial), ("granted", grant)), 0)
+            compare(asker, words("./-", "-"), line, told(("./-", UNREAD), ("-", grant)), 2)
+
+
+def reviews_standard_input_once(asker):
+    """The first `-` of a review takes all of it, and a later one has no lines."""
+    for kind, line in (("auth", KEY), ("known", f"h {KEY}")):
+        once = asker.program.run(review("-", kind=kind, findings="none"), line.encode())[1].decode()
+        none = asker.program.run(review("-", kind=kind, findings="none"))[1].decode()
+        wanted = without_total(once) + without_total(none) + "total: 2 files, 0 faults, 1 lines, 1 keys, 0 unreadable, 0 findings\n"
+        asker.check("one key", once.count(K0_MARK), 1)
+        compare(asker, review("-", "-", kind=kind, findings="none"), line, wanted, 0)
+
+
+def without_total(text):
+    return text.partition("total: ")[0]
+
+
+# The certificate of X0 is K0's by K1 for `ann`, X1 the host's `h`; both are in force from 100 on and before 200.
+SIGNED = "if the client's and the signer's signatures are good\n"
+LOOKED_FOR_SIGNER = f"    looked for {K1_MARK}\n"
+OF_CERTIFICATES = [
+    (admits(), X0, AUTHORITY, f"admits by line 1, {SIGNED}    rights none\n", 0),
+    (admits(), X0, KEY, f"does not admit: N3: no line admits the offer\n{LOOKED_FOR_SIGNER}", 1),
+    (admits(), X0, "", f"does not admit: N3: no line admits the offer\n{LOOKED_FOR_SIGNER}", 1),
+    (trusts(), X1, HOST_AUTHORITY, "trusts by line 1, if the host's and the signer's signatures are good\n", 0),
+    (trusts(), X1, f"h {KEY}", f"does not trust: N3: no line admits the offer\n{LOOKED_FOR_SIGNER}", 1),
+    (trusts(), X1, "", f"does not trust: N3: no line admits the offer\n{LOOKED_FOR_SIGNER}", 1),
+]
+
+
+def tells_of_certificates(asker):
+    """Both signatures are told that have to be good, and that the signer's key was looked for, not the certified one."""
+    for words, certificate, file, answer, status in OF_CERTIFICATES:
+        with standing(asker, {"k": f"{CERTIFIED} {certificate} me\n", "t": file}):
+            compare(asker, [*words, "t"], "", told(("t", answer)), status)
+
+
+IN, OUT = "admits by line 1, ", "does not admit: N3: "
+TRUSTS, MISTRUSTS = "trusts by line 1, ", "does not trust: N3: "
+CERTIFICATE = f"{CERTIFIED} {X0} me\n"
+FOR_ANYBODY = f"{CERTIFIED} {NO_PRINCIPALS} me\n"
+FOR_ANY_HOST = f"{CERTIFIED} {ANY_HOST} me\n"
+FAR = f"[h]:2222 {KEY}"
+# Two hours after it came in UTC, New Year has not come yet five hours to the west.
+LOCAL = f'expiry-time="20260101" {KEY}'
+LATE = "1767232800"
+
+# A key's file, a trust file, the question, and what follows the trust file's name: each option as it changes the answer.
+OPTIONS = [
+    (KEY, f'from="*.example" {KEY}', admits(host="a.example"), IN),
+    (KEY, f'from="*.example" {KEY}', admits(host="a.other"), OUT),
+    (KEY, f'from="UTC0" {KEY}', admits(zone="UTC0", host="a.other"), OUT),
+    (KEY, LOCAL, admits(now=LATE), OUT),
+    (KEY, LOCAL, admits(now=LATE, zone="EST5"), IN),
+    (KEY, LOCAL, admits(now=LATE, host="EST5"), OUT),
+    (FOR_ANYBODY, AUTHORITY, admits(), IN),
+    (FOR_ANYBODY, AUTHORITY, admits(empty_principals="any"), IN),
+    (FOR_ANYBODY, AUTHORITY, admits(empty_principals="never"), OUT),
+    (CERTIFICATE, AUTHORITY, admits(empty_principals="never"), IN),
+    (CERTIFICATE, AUTHORITY, admits(user="bob"), OUT),
+    (CERTIFICATE, AUTHORITY, admits(now="200"), OUT),
+    (RSA_KEY, RSA_KEY, admits(), IN),
+    (RSA_KEY, RSA_KEY, admits(rsa_minimum="8"), IN),
+    (RSA_KEY, RSA_KEY, admits(rsa_minimum="9"), OUT),
+    (KEY, f'from="192.0.2.0/24" {KEY}', admits(), IN),
+    (KEY, f'from="192.0.2.0/24" {KEY}', admits(address="192.0.3.1"), OUT),
+    (KEY, f"h {KEY}", trusts(), TRUSTS),
+    (KEY, f"h {KEY}", trusts(host="g"), MISTRUSTS),
+    (KEY, FAR, trusts(), MISTRUSTS),
+    (KEY, FAR, trusts(port="2222"), TRUSTS),
+    (KEY, FAR, trusts(port="22"), MISTRUSTS),
+    (FOR_ANY_HOST, HOST_AUTHORITY, trusts(), TRUSTS),
+    (FOR_ANY_HOST, HOST_AUTHORITY, trusts(empty_principals="any"), TRUSTS),
+    (FOR_ANY_HOST, HOST_AUTHORITY, trusts(empty_principals="never"), MISTRUSTS),
+    (f"{CERTIFIED} {X1} me\n", HOST_AUTHORITY, trusts(empty_principals="never"), TRUSTS),
+    (f"{CERTIFIED} {X1} me\n", HOST_AUTHORITY, trusts(now="200"), MISTRUSTS),
+    (RSA_KEY, f"h {RSA_KEY}", trusts(), TRUSTS),
+    (RSA_KEY, f"h {RSA_KEY}", trusts(rsa_minimum="8"), TRUSTS),
+    (RSA_KEY, f"h {RSA_KEY}", trusts(rsa_minimum="9"), MISTRUSTS),
+]
+
+
+def asks_by_each_option(asker):
+    for key, file, words, wanted in OPTIONS:
+        with standing(asker, {"k": key, "t": file}):
+            _, answer, errors = asker.program.run([*words, "t"])
+            found = answer.decode()[: len("t: " + wanted)], errors
+            asker.check(f"{' '.join(words)} of {file[:60]}", found, ("t: " + wanted, b""))
+
+
+TESTS = (
+    has_one_status_over_several_files, reads_standard_input_once, reviews_standard_input_once, tells_of_certificates,
+    asks_by_each_option,
+)
