@@ -66,7 +66,8 @@ TRUSTED = f"granted line 1\nevidence 0 {HOST_TRIPLE}"
 REVOKED = f"denied N1 2\nevidence 0 {HOST_TRIPLE}"
 # What goes to standard error after a usage fault, and nothing else does.
 HINT = b"ssh_audit: see 'ssh_audit explain usage', or the manual page ssh_audit(1)\n"
-SHOWN_KEY = "type ssh-ed25519\nfingerprint SHA256:kmYcvdi2GkPeWxB6XLjrZB8JHsy2Hm8luHMFp9GMvqk\n"
+MARK = "kmYcvdi2GkPeWxB6XLjrZB8JHsy2Hm8luHMFp9GMvqk"
+SHOWN_KEY = f"type ssh-ed25519\nfingerprint SHA256:{MARK}\n"
 SHOWN = f"{SHOWN_KEY}comment me\n"
 # A file signature by this key for the namespace `file`, the signature of its message `abc`, and what is shown of it.
 SIGNED_MESSAGE = b"abc"
@@ -104,7 +105,10 @@ HASHED_LINES = "".join(f"{hashed_name(name, salt)} ssh-ed25519 {KEY}\n" for name
 FILES = {
     "keys": f"ssh-ed25519 {KEY} me\n",
     "other keys": f"ssh-ed25519 {OTHER_KEY} me\n",
+    "keys ": f"ssh-ed25519 {OTHER_KEY} me\n",
+    " keys": f"ssh-ed25519 {OTHER_KEY} me\n",
     "vouched": LOGIN_TRIPLE,
+    "vouched ": "",
     "hosts": f"h ssh-ed25519 {KEY}\n",
     "revoked": f"h ssh-ed25519 {KEY}\n@revoked * ssh-ed25519 {KEY}\n",
     "host vouched": HOST_TRIPLE,
@@ -268,6 +272,15 @@ def rows():
     yield sshsig("-", "message", "file vouched"), VOUCHED, 0, SSHSIG
     yield sshsig("body", "-", "-"), VOUCHED, 0, FILE_TRIPLE.encode() + b"\n" + SIGNED_MESSAGE
     yield login("\u00e9\\", "vouched"), GRANTED, 0
+    # a name is opened as it stands, with its blanks
+    yield login("keys ", "vouched"), NO_LINE, 1
+    yield login(" keys", "vouched"), NO_LINE, 1
+    yield login("keys", "vouched "), UNVOUCHED, 1
+    yield login("keys", " vouched"), "fault file  vouched\n", 2
+    yield login("keys\t", "vouched"), "fault A9\n", 2
+    yield show("key", "keys "), SHOWN.replace(MARK, "gOPgXFWkBoXrFVwpjf0SBo3P1kFs+IvH5q/vnQhNpFw"), 0
+    denied = f"keys : does not admit: N3: no line admits the offer\n    looked for SHA256:{MARK}\n"
+    yield ["admits", "--key", "keys", "--user", "ann", "--address", "192.0.2.1", "--now", "150", "keys "], denied, 1
     # an offer and a signature in files: one place of each, the first line of a file, which is read before the values are
     # judged, the offer's first; the option that gives no value is named
     for name in ("key.pub", "bare key", "returned key"):
