@@ -285,6 +285,8 @@ FOUND_OF_KEYS = [
     *(("F22", f"{options} {{K}}\n", None) for options in TAKEN),
     ("F22", "{R}\n", "    F22 rsa: OpenSSH may refuse this line, and a later one then decides"),
 ]
+TRUSTED_AND_REVOKED = "    F12 1: its key is both trusted and revoked: see line 1"
+HASHED_NAME = program.hashed_name("h.example", program.SALTS[:20])
 FOUND_OF_HOSTS = [
     ("F8", "@cert-authority\t*.a {K}\n", "    F8 tab: OpenSSH passes over this line: a tab follows its marker"),
     ("F8", "@revoked\t*.a {K}\n", "    F8 tab: ssh passes over this revocation: a tab follows its marker"),
@@ -294,11 +296,16 @@ FOUND_OF_HOSTS = [
     ("F11", "a {K}\na {K}\n", None),
     ("F12", "a {K}\n@revoked * {K}\n", "    F12 1: its key is both trusted and revoked: see line 1"),
     ("F12", "@revoked * {K}\na {K}\n", "    F12 1: its key is both trusted and revoked: see line 1"),
-    ("F12", "@cert-authority * {K}\n@revoked * {K}\n", "    F12 1: its key is both trusted and revoked: see line 1"),
-    ("F12", "@revoked * {K}\n@cert-authority * {K}\n", "    F12 1: its key is both trusted and revoked: see line 1"),
     ("F12", f"a {ONE}\n@revoked a {RESPELLED}\n", "    F12 spelling 1: this revocation has another spelling of the key on line 1: ssh refuses the key, and the rules here trust it"),
     ("F12", f"@revoked a {RESPELLED}\na {ONE}\n", "    F12 spelling 1: the revocation on line 1 has another spelling of this key: ssh refuses the key, and the rules here trust it"),
     ("F12", f"@revoked\ta {RESPELLED}\na {ONE}\n", None),
+    ("F12", "@cert-authority * {K}\n@revoked * {K}\n", TRUSTED_AND_REVOKED),
+    ("F12", "@revoked * {K}\n@cert-authority * {K}\n", TRUSTED_AND_REVOKED),
+    ("F12", "@cert-authority *.a {K}\n@revoked b {K}\n", TRUSTED_AND_REVOKED),
+    ("F12", f"{HASHED_NAME} {{K}}\n@revoked * {{K}}\n", TRUSTED_AND_REVOKED),
+    ("F12", f"@revoked * {{K}}\n{HASHED_NAME} {{K}}\n", TRUSTED_AND_REVOKED),
+    ("F12", f"@cert-authority {HASHED_NAME} {{K}}\n@revoked {HASHED_NAME} {{K}}\n", TRUSTED_AND_REVOKED),
+    ("F12", "a {K}\n@revoked * {O}\n@cert-authority b {K}\n", None),
     ("F13", "!*.a,b {K}\n", None),
     ("F14", "@cert-authority *.a,** {K}\n", "    F14: an authority for every host"),
     ("F20", "a {K}\n", "    F20: its names are in clear"),
