@@ -8,8 +8,8 @@ all kinds and damaged lines, reviewed at several times: every record is compared
 of the line; whoever `admits` lets in, gets in by a line that has a record, is not shadowed, not past its time, permits
 somebody, and leaves the rights that were admitted; the lines that `admits` cannot read are those that the review calls
 unreadable; each fingerprint that `ssh-keygen -lf` prints of the file is in a record; both forms tell the same, and the
-JSON lines have their fields in order. Then names, limits, faults, statuses and writers that fail. The files of known_hosts
-are asked about in the same way, unless the program has no review of them yet: that is printed.
+JSON lines have their fields in order. Then names, limits, faults, statuses and writers that fail. Random known_hosts files
+are compared with a model of theirs in the same way, and with the hosts that `trusts` trusts by them.
 
 The same seed gives the same files, but for the keys. Needs ssh-keygen (Debian: openssh-client) and the built program. The
 last line is 'N passed, M failed'; the status is 0 where nothing failed."""
@@ -682,7 +682,7 @@ def end_line(made):
     return f"{made['file']}: fault {made['fault']}" if made["fault"] else f"{made['file']}: {counts}, sha256 {made['sha256']}"
 
 
-LEFT_OUT = re.compile(r"    (carry .*|no-touch-required|verify-required)")
+LEFT_OUT = re.compile(r"    (carry .*|no-touch-required|verify-required|in ssh it counts for these names alone)")
 FOUND = re.compile(r"(    F\d+(?: [^:]+)?): .*")
 
 
@@ -1001,33 +1001,223 @@ def writer_rows(audit, tally):
         os.close(write)
 
 
-# ---- known_hosts
+# ---- lines of known_hosts, and what a review has to say of them
 
-ITEMS = ["h.example", "H.example", "g.example", "192.0.2.7", "[h.example]:2222", "*.example", "!h.example", "*", "2001:db8::7"]
+ITEMS = ["h.example", "H.example", "g.example", "192.0.2.7", "[h.example]:2222", "*.example", "!h.example", "*", "2001:db8::7", "h?.example"]
 HASHED = [program.hashed_name(name, program.SALTS[:20]) for name in ("h.example", "g.example")]
-MARKERS = ["", "", "", "", "@cert-authority ", "@revoked "]
+ODD_ITEMS = ["h\0.example", "x" * 1023, "x" * 1022]
+BLANKS = (" ", " ", "  ", " \t", "\t")
+
+
+@dataclasses.dataclass
+class HostEntry:
+    """A line that trusts a key: whether it marks an authority, what stands after the marker, its names, its key and its
+    comment."""
+
+    authority: bool
+    blank: str
+    names: str
+    key: Key
+    comment: bytes
+
+    @property
+    def items(self):
+        """The names one by one, none where they are hashed."""
+        return [] if self.names.startswith("|") else self.names.lower().split(",")
+
+    @property
+    def bytes(self):
+        marker = f"@cert-authority{self.blank}" if self.authority else ""
+        return f"{marker}{self.names} {self.key.kind} {self.key.text}".encode() + (b" " + self.comment if self.comment else b"")
+
+
+@dataclasses.dataclass
+class Revocation:
+    """A line that revokes bytes: what stands after its marker, its names, its type word, the bytes, and the key that
+    OpenSSH reads there, if it reads one."""
+
+    blank: str
+    names: str
+    word: str
+    blob: bytes
+    read: Key | None
+
+    @property
+    def spelled(self):
+        """The blob of the key that OpenSSH reads, where the bytes spell that key otherwise."""
+        return self.read.blob if self.read and self.read.blob != self.blob and not self.blank.startswith("\t") else None
+
+    @property
+    def bytes(self):
+        return f"@revoked{self.blank}{self.names} {self.word} {base64.b64encode(self.blob).decode()}".encode()
+
+
+@dataclasses.dataclass
+class UnreadHost:
+    """A line that cannot be read: its bytes, its cause where it is told, whether it may revoke any key, and the key that
+    OpenSSH reads there, if it reads one."""
+
+    bytes: bytes
+    cause: str | None
+    blind: bool
+    held: Key | None
+
+
+def is_plain(item):
+    return not item.startswith("!") and not {"*", "?"} & set(item)
+
+
+def is_pattern(item):
+    return not item.startswith("!") and not is_plain(item)
+
+
+def first_of(earlier, kind, holds):
+    """The number of the first earlier line of this kind for which this holds."""
+    return next((number for number, line in earlier if isinstance(line, kind) and holds(line)), None)
+
+
+def by_line(code, number, before=""):
+    """What is told of another line, if there is one."""
+    return [] if number is None else [(code, f"{before}{number}")]
+
+
+def refusals_of(entry):
+    """Why OpenSSH may pass over an entry."""
+    bits = entry.key.bits
+    grounds = {"nul": "\0" in entry.names, "long-item": any(len(item) > 1022 for item in entry.items), "rsa": bits is not None and bits < 1024}
+    return [("F22", ground) for ground, holds in grounds.items() if holds]
+
+
+def found_of_entry(entry, earlier, minimum):
+    blob, plain = entry.key.blob, set(filter(is_plain, entry.items))
+    other = lambda line: not line.authority and line.key.kind == entry.key.kind and line.key.blob != blob and bool(plain & set(line.items))
+    found = [("F5", str(entry.key.bits))] if entry.key.bits is not None and entry.key.bits < minimum else []
+    found += [("F8", "tab")] if entry.authority and entry.blank.startswith("\t") else []
+    found += [] if entry.authority else by_line("F11", first_of(earlier, HostEntry, other))
+    found += by_line("F12", first_of(earlier, Revocation, lambda line: line.blob == blob))
+    found += by_line("F12", first_of(earlier, Revocation, lambda line: line.spelled == blob), "spelling ")
+    found += [("F13", "")] if not entry.authority and any(map(is_pattern, entry.items)) else []
+    found += [("F14", "")] if entry.authority and any(not item.strip("*") for item in entry.items) else []
+    found += [("F20", "")] if not entry.authority and entry.items else []
+    found += by_line("F21", first_of(earlier, HostEntry, lambda line: line.key.blob == blob and line.authority == entry.authority))
+    return found + refusals_of(entry)
+
+
+def found_of_revocation(line, earlier):
+    other_type = line.read is None and not line.blob.startswith(string(line.word.encode()))
+    found = [("F8", "tab")] if line.blank.startswith("\t") else []
+    found += [("F8", "type")] if other_type else []
+    found += by_line("F12", first_of(earlier, HostEntry, lambda entry: entry.key.blob == line.blob))
+    return found + by_line("F12", first_of(earlier, HostEntry, lambda entry: entry.key.blob == line.spelled), "spelling ")
+
+
+def host_record(file, number, line, earlier, minimum):
+    """The record of a line of known_hosts, as JSON has it."""
+    key, told = None, {}
+    if isinstance(line, HostEntry):
+        kind, key, found = ("authority" if line.authority else "key"), line.key, found_of_entry(line, earlier, minimum)
+        told = {"comment": escaped(line.comment), "names": escaped(line.names.encode())}
+    elif isinstance(line, Revocation):
+        kind, found = "revoked", found_of_revocation(line, earlier)
+        told = {"key": fingerprint(line.blob), "names": escaped(line.names.encode())}
+    else:
+        kind, key = ("revocation-unreadable" if line.blind else "unreadable"), line.held
+        found = [("F1", line.cause)] * (line.cause is not None) + [("F10", "")] * line.blind
+    told |= {"type": key.kind, "bits": key.bits, "key": key.mark} if key else {}
+    findings = [{"code": code, "detail": detail} for code, detail in found]
+    return {field: None for field in KNOWN_FIELDS} | {"file": file, "line": number, "is": kind, "findings": findings} | told
+
+
+def host_model_row(tally, what, objects, files, minimum=2048):
+    """Each record of known_hosts files is the one that the model expects."""
+    wanted = []
+    for name, (_, lines) in files.items():
+        wanted += [host_record(name, number, line, lines[:place], minimum) for place, (number, line) in enumerate(lines)]
+    found = [made for made in objects if is_record(made)]
+    wrong = next(((a, b) for a, b in zip([*found, None], [*wanted, None]) if a != b), None)
+    tally.check(f"{what}: records as the model has them", wrong, None)
+
+
+HOST_DAMAGES = [  # the cause, whether the line may revoke any key, the line, and whether OpenSSH reads its key there
+    ("L7", False, "{names} {kind}", False),
+    ("L7", False, "@cert-authority {names} {kind}", False),
+    ("L8", False, "{names} frob {text}", False),
+    ("L9", False, "{names} ssh-dss AAAAB3NzaC1kc3M=", False),
+    ("L10", False, "{names} {kind} {cut} c", False),
+    ("L12", False, "{names} {other} {text} c", False),
+    ("L13", False, "{names} {kind}-cert-v01@openssh.com {text}", False),
+    ("L14", False, "@frob {names} {kind} {text}", True),
+    ("L15", False, "|1|x|y {kind} {text}", True),
+    ("L16", False, "{names}, {kind} {text}", True),
+    ("L16", False, "@cert-authority\t!,{names} {kind} {text} c", True),
+    (None, True, "@revoked", False),
+    (None, True, "@revoked {names}", False),
+    (None, True, "@revoked {names} {kind}", False),
+    (None, True, "@revoked\t{names} {kind} {cut}", False),
+    ("L1", True, "{names} {kind} {text} {long}", True),
+    ("L1", True, "@revoked {names} {kind} {text} {long}", True),
+    ("L1", True, "# {long}", False),
+]
+
+
+def damaged_host(draw, key):
+    cause, blind, form, holds = draw.choice(HOST_DAMAGES)
+    names, other = draw.choice(ITEMS), "ssh-rsa" if key.kind != "ssh-rsa" else "ssh-ed25519"
+    line = form.format(names=names, kind=key.kind, text=key.text, cut=key.text[:-5], other=other, long=65_536 * "x")
+    return UnreadHost(line.encode(), cause, blind, key if holds else None)
+
+
+def drawn_names(draw):
+    if draw.random() < 0.2:
+        return draw.choice(HASHED)
+    odd = draw.sample(ODD_ITEMS, 1) if draw.random() < 0.05 else []
+    return ",".join(draw.sample(ITEMS, draw.choice((1, 1, 2, 3))) + odd)
+
+
+def respelled(key):
+    """A blob of an RSA key that has one byte 00 more than its own."""
+    exponent = key.blob[15 : 15 + int.from_bytes(key.blob[11:15], "big")]
+    return string(b"ssh-rsa") + string(b"\0" + exponent) + key.blob[15 + len(exponent) :]
+
+
+def drawn_revocation(draw, key):
+    """A revocation of the key, of another spelling of it, of its bytes by a wrong type, or of bytes that are no key."""
+    other = "ssh-rsa" if key.kind != "ssh-rsa" else "ssh-ed25519"
+    said = [(key.kind, key.blob, key)] * 4 + [(other, key.blob, None), ("frob", b"\0\1\2\3", None), (key.kind, key.blob[:-1], None)]
+    said += [(key.kind, respelled(key), key)] * 4 if key.kind == "ssh-rsa" else []
+    names = draw.choice(HASHED) if draw.random() < 0.2 else draw.choice(ITEMS)
+    return Revocation(draw.choice(BLANKS), names, *draw.choice(said))
+
+
+def drawn_hosts(draw, keys):
+    """The bytes of a known_hosts file, and its lines by number, but for blank lines and comments."""
+    content, lines, few = b"", [], draw.sample(keys, draw.choice((2, 4, len(keys))))
+    for number in range(1, draw.choice((2, 6, 13))):
+        what, key = draw.random(), draw.choice(few)
+        if what < 0.08:
+            content += draw.choice((b"# a comment", b"", b" \t# x", b"  "))
+        else:
+            if what < 0.2:
+                line = damaged_host(draw, key)
+            elif what < 0.35:
+                line = drawn_revocation(draw, key)
+            else:
+                line = HostEntry(draw.random() < 0.2, draw.choice(BLANKS), drawn_names(draw), key, draw.choice(COMMENTS))
+            content += draw.choice((b"", b"", b" ")) + line.bytes
+            lines.append((number, line))
+        content += draw.choice((b"\n", b"\n", b"\r\n"))
+    return content, lines
+
+
+# ---- known_hosts files
+
 TRUSTS = re.compile(r"(.+): trusts by line (\d+), if the .* good")
 MISTRUSTS = re.compile(r"(.+): does not trust: (N\d)(?: (\d+))?: .*")
 
 
-def drawn_hosts(draw, keys):
-    """The bytes of a known_hosts file."""
-    lines = []
-    for _ in range(draw.choice((1, 5, 12))):
-        key = draw.choice(keys)
-        names = draw.choice(HASHED) if draw.random() < 0.2 else ",".join(draw.sample(ITEMS, draw.choice((1, 1, 2, 3))))
-        line = f"{draw.choice(MARKERS)}{names} {key.kind} {key.text}{draw.choice(('', ' c'))}"
-        damage = draw.random()
-        if damage < 0.05:
-            line = f"@revoked * {key.kind}"
-        elif damage < 0.1:
-            line = line.replace(" ", ", ", 1)
-        elif damage < 0.15:
-            line = line[: -draw.randint(1, 20)]
-        elif damage < 0.2:
-            line = draw.choice(("# a comment", "", "@frob h ssh-rsa AAAA", "|1|x|y ssh-ed25519 " + program.KEY))
-        lines.append(line)
-    return "".join(line + "\n" for line in lines).encode()
+def is_doubted(found):
+    """A finding of a line that trusts no host here."""
+    return found["code"] in ("F1", "F10") or found["code"] == "F12" and not found["detail"].startswith("spelling ")
 
 
 def wrong_trust(line, records):
@@ -1035,7 +1225,7 @@ def wrong_trust(line, records):
     if found := TRUSTS.fullmatch(line):
         here, made = records[found[1]], records[found[1]].get(int(found[2]))
         blind = [one for one in here.values() if one["is"] == "revocation-unreadable"]
-        good = made is not None and made["is"] in ("key", "authority") and not blind and not {"F1", "F10", "F12"} & {one["code"] for one in made["findings"]}
+        good = made is not None and made["is"] in ("key", "authority") and not blind and not any(map(is_doubted, made["findings"]))
         return None if good else (line, made, blind)
     if (found := MISTRUSTS.fullmatch(line)) and found[2] in ("N1", "N2"):
         made = records[found[1]].get(int(found[3]))
@@ -1050,10 +1240,14 @@ def known_rows(audit, tally, draw, count):
         tally.check(f"worked: known_hosts as {form}", audit.run(review("known", kind="known", now=1_770_000_000, form=form)), (1, wanted.encode(), b""))
     found_rows(audit, tally, "known", FOUND_OF_HOSTS)
     keys = [key_of(audit.room, f"key{number}.pub", bits if kind == "rsa" else None) for number, (kind, bits) in enumerate(MADE)]
-    contents = {f"h{number}": drawn_hosts(draw, keys) for number in range(count)}
+    files = {f"h{number}": drawn_hosts(draw, [*keys, Key(*RSA.split(), 8, "")]) for number in range(count)}
+    contents = {name: content for name, (content, _) in files.items()}
     for name, content in contents.items():
         (audit.room / name).write_bytes(content)
     objects, _ = reviewed(audit, tally, "known_hosts files", list(contents), contents, KNOWN_FIELDS, kind="known")
+    host_model_row(tally, "known_hosts files", objects, files)
+    objects, _ = reviewed(audit, tally, "known_hosts files by 3,073 bits", list(contents), contents, KNOWN_FIELDS, kind="known", rsa_minimum=3073)
+    host_model_row(tally, "known_hosts files by 3,073 bits", objects, files, 3073)
     fingerprint_row(audit, tally, "known_hosts files", list(contents), objects)
     records, wrong, grants = by_file(objects), [], 0
     for key in keys:
