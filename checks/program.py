@@ -397,6 +397,10 @@ def input_rows(program, tally):
         (login("keys", "-"), "fault file -\n"),
         (show("key", "-"), "fault file -\n"),
         (rewrite("auth", "-"), "fault A9\n"),
+        (["admits", "--key", "keys", "--user", "ann", "--address", "192.0.2.1", "--now", "150", "-", "-"], 2 * "-: fault A9\n"),
+        (["trusts", "--key", "keys", "--host", "h", "--now", "150", "-", "-"], 2 * "-: fault A9\n"),
+        (["trusts", "--key", "-", "--host", "h", "--now", "150", "-"], "fault file -\n"),
+        (review("-", "-"), 2 * "-: fault A9\n" + "total: 2 files, 2 faults, 0 lines, 0 keys, 0 unreadable, 0 findings\n"),
     ):
         folder = os.open(program.room, os.O_RDONLY)
         tally.check(f"a folder as input: {asked[:1]}", program.run(asked, folder), (2, wanted.encode(), hint_of(wanted)))
@@ -459,6 +463,35 @@ def star_rows(program, tally):
             times.append(took)
         tally.check(f"{asked[0]}: linear time, of {times} microseconds", times[1] < 24 * times[0], True)
     (program.room / "stars").unlink()
+
+
+# An Ed25519 key whose last eight bytes are the multiplier of std's fold hash, the lowest first, has the hash 0, so all of
+# these are looked for in one row of a map that keeps keys by their hashes.
+MULTIPLIER = 0x9E3779B97F4A7C15
+
+
+def picked_keys(count, end):
+    """So many Ed25519 keys that end so, in base64."""
+    for number in range(count):
+        own = hashlib.sha256(b"%d" % number).digest()[: 32 - len(end)]
+        yield base64.b64encode(b"\0\0\0\x0bssh-ed25519\0\0\0\x20" + own + end).decode()
+
+
+def picked_rows(program, tally, count=100_000):
+    """A review of keys that were picked to have one hash takes less than eight times as long as one of others. In a row
+    without an end, 2,000 of them took fifty times as long."""
+    meter = program.room / "meter"
+    subprocess.run(["gcc", "-O2", "-static", "-o", meter, HERE.parent / "bench" / "meter.c"], check=True)
+    total = f"total: 1 files, 0 faults, {count} lines, {count} keys, 0 unreadable, 0 findings\n".encode()
+    for kind, front in (("auth", ""), ("known", "h ")):
+        times = []
+        for end in (b"", MULTIPLIER.to_bytes(8, "little")):
+            (program.room / "picked").write_text("".join(f"{front}ssh-ed25519 {key}\n" for key in picked_keys(count, end)))
+            (status, text), took, _ = cost_of(program, meter, review("picked", kind=kind, findings="F3,F12"))
+            tally.check(f"review of {kind}: {count} keys that end with {end}", (status, text.endswith(total)), (0, True))
+            times.append(took)
+        tally.check(f"review of {kind}: keys of one hash, of {times} microseconds", times[1] < 8 * times[0], True)
+    (program.room / "picked").unlink()
 
 
 def streamed_rows(program, tally):
@@ -716,7 +749,7 @@ def long_text_rows(program, tally):
         tally.check(f"a long text, of which {wants} bytes are read", (ended, got == wanted[:wants]), ((status, b""), True))
 
 
-ROWS = (answer_rows, size_rows, input_rows, endless_rows, star_rows, streamed_rows, vouching_rows, held_vouch_row, piped_vouch_row, longest_row, named_rows, bench_rows, keygen_rows, hashing_rows, writer_rows, long_text_rows)
+ROWS = (answer_rows, size_rows, input_rows, endless_rows, star_rows, picked_rows, streamed_rows, vouching_rows, held_vouch_row, piped_vouch_row, longest_row, named_rows, bench_rows, keygen_rows, hashing_rows, writer_rows, long_text_rows)
 
 
 # ---- the other checks
