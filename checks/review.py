@@ -285,7 +285,6 @@ FOUND_OF_KEYS = [
     *(("F22", f"{options} {{K}}\n", None) for options in TAKEN),
     ("F22", "{R}\n", "    F22 rsa: OpenSSH may refuse this line, and a later one then decides"),
 ]
-TRUSTED_AND_REVOKED = "    F12 1: its key is both trusted and revoked: see line 1"
 HASHED_NAME = program.hashed_name("h.example", program.SALTS[:20])
 FOUND_OF_HOSTS = [
     ("F8", "@cert-authority\t*.a {K}\n", "    F8 tab: OpenSSH passes over this line: a tab follows its marker"),
@@ -1175,7 +1174,9 @@ def drawn_names(draw):
 
 
 def respelled(key):
-    """A blob of an RSA key that has one byte 00 more than its own."""
+    """A blob that OpenSSH reads as this key: of RSA with one byte 00 more, of Ed25519 by a short name of its type."""
+    if key.kind == "ssh-ed25519":
+        return string(b"ED25519") + key.blob[15:]
     exponent = key.blob[15 : 15 + int.from_bytes(key.blob[11:15], "big")]
     return string(b"ssh-rsa") + string(b"\0" + exponent) + key.blob[15 + len(exponent) :]
 
@@ -1184,7 +1185,7 @@ def drawn_revocation(draw, key):
     """A revocation of the key, of another spelling of it, of its bytes by a wrong type, or of bytes that are no key."""
     other = "ssh-rsa" if key.kind != "ssh-rsa" else "ssh-ed25519"
     said = [(key.kind, key.blob, key)] * 4 + [(other, key.blob, None), ("frob", b"\0\1\2\3", None), (key.kind, key.blob[:-1], None)]
-    said += [(key.kind, respelled(key), key)] * 4 if key.kind == "ssh-rsa" else []
+    said += [(key.kind, respelled(key), key)] * 4 if key.kind in ("ssh-rsa", "ssh-ed25519") else []
     names = draw.choice(HASHED) if draw.random() < 0.2 else draw.choice(ITEMS)
     return Revocation(draw.choice(BLANKS), names, *draw.choice(said))
 

@@ -116,7 +116,7 @@ OF_CERTIFICATES = [
     (admits(), X0, KEY, f"does not admit: N3: no line admits the offer\n{LOOKED_FOR_SIGNER}", 1),
     (admits(), X0, "", f"does not admit: N3: no line admits the offer\n{LOOKED_FOR_SIGNER}", 1),
     (trusts(), X1, HOST_AUTHORITY, "trusts by line 1, if the host's and the signer's signatures are good\n", 0),
-    (trusts(), X1, f"h {KEY}", f"does not trust: N3: no line admits the offer\n{LOOKED_FOR_SIGNER}", 1),
+    (trusts(), X1, f"g {KEY}", f"does not trust: N3: no line admits the offer\n{LOOKED_FOR_SIGNER}", 1),
     (trusts(), X1, "", f"does not trust: N3: no line admits the offer\n{LOOKED_FOR_SIGNER}", 1),
 ]
 
