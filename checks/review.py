@@ -286,6 +286,7 @@ FOUND_OF_KEYS = [
     ("F22", "{R}\n", "    F22 rsa: OpenSSH may refuse this line, and a later one then decides"),
 ]
 HASHED_NAME = program.hashed_name("h.example", program.SALTS[:20])
+TRUSTED_AND_REVOKED = "    F12 1: its key is both trusted and revoked: see line 1"
 FOUND_OF_HOSTS = [
     ("F8", "@cert-authority\t*.a {K}\n", "    F8 tab: OpenSSH passes over this line: a tab follows its marker"),
     ("F8", "@revoked\t*.a {K}\n", "    F8 tab: ssh passes over this revocation: a tab follows its marker"),
