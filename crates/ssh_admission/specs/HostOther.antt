@@ -15,6 +15,7 @@ use Rattle.ssh_admission.specs.declared.text.Party.TheVariants.{Host}
 use Rattle.ssh_admission.specs.declared.why.WhyPossible.{WhyPossible}
 use Rattle.ssh_admission.specs.declared.why.WhyPossible.TheVariants as why
 use Rattle.ssh_admission.specs.KnownPossible.{known_possible_lines}
+use Rattle.ssh_admission.specs.PassedOver.{claim_counted}
 use Rattle.ssh_admission.specs.OtherLines.{OtherLines, nothing_other, other_both, possible_line, possible_text}
 
 -- ---- lines that cannot be read
@@ -61,13 +62,27 @@ port_by false q file = trusted_at why.Port (trusting_line (without_port q) file)
 unfoldable pub port_other : HostCheck → List ℕ → OtherLines
 port_other q file = port_by (q.port == 22) q file
 
+-- The key is trusted but for a revocation: ssh passes over one that it cannot read, and counts one for the names that it stands
+-- with alone (hostfile.c, hostkeys_foreach_file).
+unfoldable pub revoked_other : HostClaim → List ℕ → OtherLines
+revoked_other claim file = trusted_at why.Revocation (trusting_line claim.query (claim_counted claim file))
+
+-- by the lines that cannot be read here, and but for revocations that ssh may pass over
+abbrev pub claim_beside : Result HostClaim AuditError → List ℕ → OtherLines
+claim_beside (Err e) file = nothing_other
+claim_beside (Ok claim) file = other_both (known_other claim file) (revoked_other claim file)
+
+unfoldable pub check_beside : HostCheck → List ℕ → OtherLines
+check_beside q file = claim_beside (host_claim q) file
+
 abbrev pub plain_check : HostClaim → HostCheck
 plain_check claim = record (claim.query) { offered = key_blob (plain_key claim.offer) }
 
 -- no authority serves for a certificate: ssh looks for the plain key in it (sshconnect.c, check_host_key)
 abbrev pub plain_by : Bool → HostClaim → List ℕ → OtherLines
 plain_by false claim file = nothing_other
-plain_by true claim file = trusted_at why.PlainKey (trusting_line (plain_check claim) file)
+plain_by true claim file =
+    other_both (trusted_at why.PlainKey (trusting_line (plain_check claim) file)) (check_beside (plain_check claim) file)
 
 unfoldable pub plain_other : HostClaim → List ℕ → OtherLines
 plain_other claim file = plain_by (is_certified claim.offer) claim file
@@ -78,7 +93,7 @@ plain_other claim file = plain_by (is_certified claim.offer) claim file
 unfoldable pub claim_other : HostClaim → List ℕ → Decision → OtherLines
 claim_other claim file (Granted line rights reasons evidence) = nothing_other
 claim_other claim file (Denied why reasons evidence) =
-    other_both (known_other claim file) (other_both (port_other claim.query file) (plain_other claim file))
+    other_both (claim_beside (Ok claim) file) (other_both (port_other claim.query file) (plain_other claim file))
 
 -- a refused offer is not decided on
 abbrev pub other_host : Result HostClaim AuditError → List ℕ → Decision → OtherLines

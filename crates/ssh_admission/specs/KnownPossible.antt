@@ -1,5 +1,5 @@
 -- The lines of a known_hosts file by which ssh of OpenSSH 9.2 may trust a key that they do not let in here.
-use Rattle.std.specs.Prelude.{ℕ, Bool, if◌then◌else◌, List, [], ◌∷◌, bytes_eq, Option, None, option_map}
+use Rattle.std.specs.Prelude.{ℕ, Bool, ◌&&◌, if◌then◌else◌, List, [], ◌∷◌, bytes_eq, Option, Some, None, option_map}
 use Rattle.ssh_text.specs.Text.{first_word, skip_blanks}
 use Rattle.ssh_keys.specs.PublicKey.{key_blob}
 use Rattle.ssh_lines.specs.declared.known.KnownLine.{KnownLine}
@@ -8,6 +8,10 @@ use Rattle.ssh_lines.specs.KnownGrammar.{known_line}
 use Rattle.ssh_lines.specs.Markers.{revoked_marker}
 use Rattle.ssh_held_keys.specs.HeldKey.{known_held_key}
 use Rattle.ssh_admission.specs.declared.why.WhyPossible.{WhyPossible}
+use Rattle.ssh_admission.specs.declared.why.WhyPossible.TheVariants as why
+use Rattle.ssh_findings.specs.OpenSsh.{has_nul}
+use Rattle.ssh_lines.specs.KnownEntry.{KnownEntry}
+use Rattle.ssh_names.specs.Names.{names_text}
 use Rattle.ssh_admission.specs.PossibleLines.{why_held, with_line}
 
 -- the blob of the key on a line where ssh looks for one
@@ -18,6 +22,11 @@ known_held_blob line = option_map key_blob (known_held_key line)
 abbrev pub is_revoking : List ℕ → Bool
 is_revoking line = bytes_eq (first_word (skip_blanks line)) revoked_marker
 
+-- an entry of the key with a NUL in its names, which end there for ssh (hostfile.c, hostkeys_foreach_file)
+abbrev pub why_nul_names : List ℕ → KnownEntry → Option WhyPossible
+why_nul_names blob e =
+    if bytes_eq (key_blob e.key) blob && has_nul (names_text e.names) then Some why.NulInNames else None
+
 -- A line that cannot be read here, also one that is too long for the rules here: ssh reads it (hostfile.c,
 -- hostkeys_foreach_file).
 abbrev pub known_why_said : List ℕ → List ℕ → KnownLine → Option WhyPossible
@@ -25,7 +34,7 @@ known_why_said blob line (Unreadable cause) = why_held (known_held_blob line) bl
 known_why_said blob line RevokedUnreadable = if is_revoking line then None else why_held (known_held_blob line) blob
 known_why_said blob line Blank = None
 known_why_said blob line Comment = None
-known_why_said blob line (Entry e) = None
+known_why_said blob line (Entry e) = why_nul_names blob e
 known_why_said blob line (Revoked bytes) = None
 
 unfoldable pub known_why : List ℕ → List ℕ → Option WhyPossible

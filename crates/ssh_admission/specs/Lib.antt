@@ -5,4 +5,5 @@ pub mod Admitting
 pub mod OtherLines
 pub mod Denials
 pub mod KnownPossible
+pub mod PassedOver
 pub mod HostOther

@@ -7,6 +7,7 @@ mod host_otherwise;
 mod known_possible;
 mod laws;
 mod otherwise;
+mod passed_over;
 mod possible;
 mod signature;
 mod text;

@@ -1,0 +1,11 @@
+use Rattle.std.proofs.Common.{◌≡◌, ◌++◌}
+use Rattle.std.specs.List.{flat_map}
+use Rattle.ssh_text.specs.Text.{lines_of, numbered}
+use Rattle.ssh_admission.specs.PassedOver.{line_counted}
+use Rattle.ssh_admission.proofs.passed_over.file_counted.Given as goal
+
+abbrev pub invariant-loop-number : goal.invariant-loop-number
+invariant-loop-number l =
+    (goal.iterator-loop-number).can_next l.number-iterator × (goal.iterator-loop-number).is_finite l.number-iterator
+    × (l.out.items ++ flat_map (line_counted l.blob l.name) (numbered (l.number-iterator).0 (lines_of (l.number-iterator).1))
+    ≡ flat_map (line_counted l.blob l.name) (numbered 1 (lines_of l.file)))
