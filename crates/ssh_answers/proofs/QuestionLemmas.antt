@@ -1,10 +1,10 @@
 -- What is answered by a file's bytes, where the claim is read or refused.
-use Rattle.std.proofs.Common.{◌≡◌, ℕ, List, Result, Ok, Err, refl, sym, ap, subst}
+use Rattle.std.proofs.Common.{ℕ, List, Result, Ok, Err, refl, sym, subst}
 use Rattle.ssh_offers.specs.declared.error.AuditError.{AuditError}
 use Rattle.ssh_offers.specs.declared.error.AuditError.TheVariants.{Offer, Signature, WrongAlgorithm, WeakSignature, CertSignature, Address, FileTooLong, Memory, Read, Failed, Body, Salts}
 use Rattle.ssh_offers.specs.declared.query.Signed.{Signed}
-use Rattle.ssh_offers.specs.HostClaim.{HostClaim, host_claim}
-use Rattle.ssh_offers.specs.LoginClaim.{LoginClaim, login_claim}
+use Rattle.ssh_offers.specs.HostClaim.{host_claim}
+use Rattle.ssh_offers.specs.LoginClaim.{login_claim}
 use Rattle.ssh_offers.specs.Query.{HostCheck, Login}
 use Rattle.ssh_trust.specs.declared.decision.Decision.{Decision}
 use Rattle.ssh_trust.specs.Answer.{GivesOrMemory, OfClaim, RefusesAs, host_answer, if_short, login_answer}
