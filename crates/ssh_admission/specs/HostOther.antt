@@ -67,10 +67,10 @@ port_other q file = port_by (q.port == 22) q file
 unfoldable pub revoked_other : HostClaim → List ℕ → OtherLines
 revoked_other claim file = trusted_at why.Revocation (trusting_line claim.query (claim_counted claim file))
 
--- by the lines that cannot be read here, and but for revocations that ssh may pass over
+-- by the lines that cannot be read here
 abbrev pub claim_beside : Result HostClaim AuditError → List ℕ → OtherLines
 claim_beside (Err e) file = nothing_other
-claim_beside (Ok claim) file = other_both (known_other claim file) (revoked_other claim file)
+claim_beside (Ok claim) file = known_other claim file
 
 unfoldable pub check_beside : HostCheck → List ℕ → OtherLines
 check_beside q file = claim_beside (host_claim q) file
@@ -93,7 +93,8 @@ plain_other claim file = plain_by (is_certified claim.offer) claim file
 unfoldable pub claim_other : HostClaim → List ℕ → Decision → OtherLines
 claim_other claim file (Granted line rights reasons evidence) = nothing_other
 claim_other claim file (Denied why reasons evidence) =
-    other_both (claim_beside (Ok claim) file) (other_both (port_other claim.query file) (plain_other claim file))
+    other_both (other_both (known_other claim file) (revoked_other claim file))
+    (other_both (port_other claim.query file) (plain_other claim file))
 
 -- a refused offer is not decided on
 abbrev pub other_host : Result HostClaim AuditError → List ℕ → Decision → OtherLines
