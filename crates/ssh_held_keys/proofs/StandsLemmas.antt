@@ -5,7 +5,7 @@ use Rattle.std.specs.Option.{option_or}
 use Rattle.ssh_text.specs.Text.{AreBlanks, begins_with_blank, is_blank, skip_blanks}
 use Rattle.ssh_keys.specs.Names.{certificate_kind, plain_kind}
 use Rattle.ssh_keys.specs.PublicKey.{PublicKey}
-use Rattle.ssh_held_keys.specs.HeldKey.{after_options, authorized_key, begins_with, held_key, key_after_blanks, read_part, toggled}
+use Rattle.ssh_held_keys.specs.HeldKey.{after_options, authorized_key, is_first, held_key, key_after_blanks, read_part, toggled}
 use Rattle.ssh_held_keys.specs.OpenSshNames.{algorithm_kind, word_kind}
 use Rattle.ssh_held_keys.specs.OpenSshWords.{key_at, key_of_words}
 use Rattle.ssh_held_keys.specs.Stands.{StandsOutside, is_open, is_unbroken}
@@ -119,7 +119,7 @@ at-front text key k = record {
 
 authorized : (text : List ℕ) (key : PublicKey) → authorized_key text ≡ Some key → StandsOutside text key
 unfolding authorized_key
-authorized text key h = go (begins_with 35 text) (key_at text) refl h
+authorized text key h = go (is_first 35 text) (key_at text) refl h
   where
     later : (end : Option (List ℕ)) → after_options false false text ≡ end → key_after_blanks end ≡ Some key → StandsOutside text key
     later None e k = cc

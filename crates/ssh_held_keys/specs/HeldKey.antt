@@ -26,9 +26,9 @@ up_to (Some end) line = take end line
 unfoldable pub read_part : List ℕ → List ℕ
 read_part line = skip_blanks (up_to (position is_nul line) line)
 
-abbrev pub begins_with : ℕ → List ℕ → Bool
-begins_with b [] = false
-begins_with b (c ∷ cs) = c == b
+abbrev pub is_first : ℕ → List ℕ → Bool
+is_first b [] = false
+is_first b (c ∷ cs) = c == b
 
 -- ---- the options of an authorized_keys line (sshkey.c, sshkey_advance_past_options)
 
@@ -48,7 +48,7 @@ key_after_blanks (Some rest) = key_at (skip_blanks rest)
 
 -- the key at the first word, or else after the options; none of a comment (auth2-pubkeyfile.c, auth_check_authkey_line)
 unfoldable pub authorized_key : List ℕ → Option PublicKey
-authorized_key text = if begins_with 35 text then None else option_or (key_at text) (key_after_blanks (after_options false false text))
+authorized_key text = if is_first 35 text then None else option_or (key_at text) (key_after_blanks (after_options false false text))
 
 -- the key on an authorized_keys line
 unfoldable pub held_key : List ℕ → Option PublicKey
@@ -58,11 +58,11 @@ held_key line = authorized_key (read_part line)
 
 -- what stands after a marker, if one does
 abbrev pub after_marker : List ℕ → List ℕ
-after_marker text = if begins_with 64 text then next_field text else text
+after_marker text = if is_first 64 text then next_field text else text
 
 -- the key after the names; none of a comment
 unfoldable pub host_key : List ℕ → Option PublicKey
-host_key text = if begins_with 35 text then None else key_at (next_field (after_marker text))
+host_key text = if is_first 35 text then None else key_at (next_field (after_marker text))
 
 -- the key on a known_hosts line
 unfoldable pub known_held_key : List ℕ → Option PublicKey

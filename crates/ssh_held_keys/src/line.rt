@@ -7,7 +7,7 @@ ghost use Rattle.ssh_held_keys.specs.HeldKey.{
   after_marker,
   after_options,
   authorized_key,
-  begins_with,
+  is_first,
   held_key,
   host_key,
   key_after_blanks,
@@ -39,8 +39,8 @@ fn read_part(line: &[u8]) -> &[u8]
     }
 }
 
-fn begins_with(byte: u8, text: &[u8]) -> bool
-    ensures { result ≡ begins_with byte text.now }
+fn is_first(byte: u8, text: &[u8]) -> bool
+    ensures { result ≡ is_first byte text.now }
 {
     match text {
         [] => false,
@@ -94,7 +94,7 @@ fn key_after_options(alloc: Global, text: &[u8]) -> Result<Option<Key>, AllocErr
 fn authorized_key(alloc: Global, text: &[u8]) -> Result<Option<Key>, AllocError>
     ensures { IfOk result (λ key. key ≡ authorized_key text.now) }
 {
-    if begins_with(b'#', text) {
+    if is_first(b'#', text) {
         return Ok(None);
     }
     match key_at(alloc, text)? {
@@ -126,7 +126,7 @@ fn next_field(text: &[u8]) -> &[u8]
 fn after_marker(text: &[u8]) -> &[u8]
     ensures { result.now ≡ after_marker text.now }
 {
-    if begins_with(b'@', text) {
+    if is_first(b'@', text) {
         next_field(text)
     } else {
         text
@@ -138,7 +138,7 @@ fn after_marker(text: &[u8]) -> &[u8]
 fn host_key(alloc: Global, text: &[u8]) -> Result<Option<Key>, AllocError>
     ensures { IfOk result (λ key. key ≡ host_key text.now) }
 {
-    if begins_with(b'#', text) {
+    if is_first(b'#', text) {
         return Ok(None);
     }
     let key = key_at(alloc, next_field(after_marker(text)))?;
