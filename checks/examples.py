@@ -60,10 +60,12 @@ def told(way, lines):
 
 
 def asked_twice(room, script, command, key, file, *options):
-    """What the script answers. The program's own command has to answer the same."""
+    """What the script answers. The program's own command has to answer the same, but that it has a status of its own where
+    OpenSSH may let in what is denied here: the scripts ask `login` and `host`, which say nothing of OpenSSH."""
     status, out = run(room, EXAMPLES / script, key, file, *options)
     lines = out.decode().split("\n")[:-1]
     ended, said = run(room, PROGRAM, command, "--key", key, *options, file)
+    ended = 1 if ended == 3 else ended
     check(f"{command} {key} {options}", (ended, *told(0, said.decode().split("\n")[:-1])), (status, *told(1, lines)))
     return status, lines
 
