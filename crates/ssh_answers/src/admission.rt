@@ -107,12 +107,7 @@ pub struct Told {
 }
 
 /// What a file that could not be decided on tells.
-fn tell_fault(
-    alloc: Global,
-    who: Party,
-    name: &[u8],
-    error: AuditError,
-) -> Result<Told, AllocError>
+fn tell_fault(alloc: Global, who: Party, name: &[u8], error: AuditError) -> Result<Told, AllocError>
     ensures { IfOk result
         (λ told. told_seen told ≡ told_of who name.now nothing_other (Err error)) }
 {

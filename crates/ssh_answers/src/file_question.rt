@@ -48,12 +48,7 @@ pub trait FileQuestion {
             (λ evidence. GivesOrMemory (Ok evidence) result) };
 
     /// The decision by these bytes, where these signatures are vouched for.
-    fn decide(
-        &self,
-        alloc: Global,
-        file: &[u8],
-        vouched: &[Signed],
-    ) -> Result<Decision, AuditError>
+    fn decide(&self, alloc: Global, file: &[u8], vouched: &[Signed]) -> Result<Decision, AuditError>
         ensures { GivesOrMemory (answer_by (decides self.entry.now) file.now vouched.now) result };
 
     /// What is told beside a decision by these bytes.
