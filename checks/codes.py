@@ -1,8 +1,8 @@
 #!/usr/bin/env python3
 """Counts for each code of docs/CODES.md whether a text that is expected of the program prints it, and for each code of
-such a text whether docs/CODES.md lists it. Texts are the string literals of crates/ssh_rows and of rows/, of the checks
-beside this one, and the stored run's stdout; in them, the lines that begin as an answer or a fault does, and those of a
-review's findings.
+such a text whether docs/CODES.md lists it. Texts are the string literals of crates/ssh_program_tests and of rows/, of the
+checks beside this one, and the stored run's stdout; in them, the lines that begin as an answer or a fault does, and those
+of a review's findings.
 It runs nothing: that the program prints the texts is what the rows and checks say that hold them.
 
 usage: codes.py
@@ -16,7 +16,7 @@ import sys
 HERE = pathlib.Path(__file__).resolve().parent
 TOP = HERE.parent
 CODES = TOP / "docs" / "CODES.md"
-ROWS = [*(TOP / "crates" / "ssh_rows" / "src").glob("*.rt"), *(HERE / "rows").glob("*.rattle")]
+ROWS = [*(TOP / "crates" / "ssh_program_tests" / "src").glob("*.rt"), *(HERE / "rows").glob("*.rattle")]
 CHECKS = [*HERE.glob("*.py"), *(HERE / "rows").glob("*.py")]
 STORED = TOP / "crates" / "ssh_audit" / "stdout"
 # A10 is what an audit answers that had a piece refused before. The program ends at the first refusal and never asks such

@@ -31,7 +31,7 @@ STAND_INS = HERE / "stand_ins"
 # The documents, each with the stand-ins that its commands call. Where `rt run` is one, it leaves the program in its place.
 DOCUMENTS = {"README.md": {"rt try", "rt run", "rt all", ".ci/run", "sudo install"}, "docs/MANUAL.md": set()}
 BLOCK = re.compile(r"^```(\S*)\n(.*?)^```$", re.MULTILINE | re.DOTALL)
-CODE = TOP / "crates" / "ssh_words" / "src"
+CODE = TOP / "crates" / "ssh_program" / "src"
 TABLE = re.compile(r"^\| Option of `(\w+)` \|.*\n\|[-|]*\|\n((?:\|.*\n)*)", re.MULTILINE)
 OPTION = re.compile(r"^\| `--([\w-]+)` \| .* \| (.*) \|$", re.MULTILINE)
 # Stands after each command's output, with its status.
@@ -128,10 +128,10 @@ def tried(document, room):
 
 def rows_of_code():
     """The options of each subcommand, in their order, each with whether it may be left out."""
-    options = (CODE / "options.rt").read_text()
+    options = (CODE / "args.rt").read_text()
     subcommands = (CODE / "subcommand.rt").read_text()
-    names = dict(re.findall(r'OptionName::(\w+) => "([\w-]+)",', options))
-    lists = {name: re.findall(r"\(OptionName::(\w+), (\w+)\)", body) for name, body in re.findall(r"^const (\w+): \[OptionRow; \d+\] = \[(.*?)\];$", subcommands, re.MULTILINE | re.DOTALL)}
+    names = dict(re.findall(r'ArgName::(\w+) => "([\w-]+)",', options))
+    lists = {name: re.findall(r"\(ArgName::(\w+), (\w+)\)", body) for name, body in re.findall(r"^const (\w+): \[OptionRow; \d+\] = \[(.*?)\];$", subcommands, re.MULTILINE | re.DOTALL)}
     places = dict(re.findall(r"Subcommand::(\w+) => &(\w+),", subcommands))
     spelled = dict(re.findall(r'Subcommand::(\w+) => "(\w+)",', subcommands))
     return {spelled[which]: [(names[option], needed == "Optional") for option, needed in lists[place]] for which, place in places.items()}

@@ -1,5 +1,5 @@
 #!/usr/bin/env python3
-"""Compares the tables of docs/CODES.md with the table in the source (crates/ssh_explain/src/table.rt): the same codes in
+"""Compares the tables of docs/CODES.md with the table in the source (crates/ssh_print/src/table.rt): the same codes in
 the same order, and for each the same sentence and the same remedy. It runs nothing.
 
 usage: explained.py
@@ -15,7 +15,7 @@ import sys
 
 TOP = pathlib.Path(__file__).resolve().parent.parent
 PAGE = TOP / "docs" / "CODES.md"
-SOURCE = TOP / "crates" / "ssh_explain" / "src" / "table.rt"
+SOURCE = TOP / "crates" / "ssh_print" / "src" / "table.rt"
 CELL_END = re.compile(r"(?<!\\)\|")
 LINK = re.compile(r"\[([^\]]*)\]\([^)]*\)")
 LITERAL = re.compile(r'"((?:[^"\\]|\\.)*)"')

@@ -1,6 +1,6 @@
 #!/usr/bin/env python3
 """Compares the manual page docs/ssh_audit.1 with the source: the options of each command, in their order, with the rows
-of crates/ssh_words, and the codes with the table of crates/ssh_explain; and sees that `man` shows it without a warning,
+of crates/ssh_program, and the codes with the table of crates/ssh_print; and sees that `man` shows it without a warning,
 where there is a `man`. It runs no program of this repository.
 
 usage: manual_page.py

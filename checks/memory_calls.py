@@ -70,7 +70,7 @@ def listed():
 def libraries():
     """The folders of the libraries that others use."""
     names = [line.split(":")[0] for line in (TOP / "crates.txt").read_text().splitlines() if ":" in line and line[0] != "#"]
-    folders = [TOP / "crates" / name for name in names if not name.endswith("_rows")]
+    folders = [TOP / "crates" / name for name in names if name != "ssh_program_tests"]
     return [folder for folder in folders if (folder / "src" / "lib.rt").exists()]
 
 

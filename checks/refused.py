@@ -22,14 +22,14 @@ SIDE_BY_SIDE = max(1, min(3, (os.cpu_count() or 2) - 1))
 TOLD = ("error: AllocError", "error: Memory", "out of memory")
 
 
-# What no library is: the program and its words, which refused_growth.py runs, and tests.
-NO_LIBRARIES = ("ssh_keeping", "ssh_review_laws", "ssh_words", "ssh_review_files", "ssh_questions", "ssh_answers", "ssh_command", "ssh_audit")
+# What no library is: laws alone, the program, which refused_growth.py runs, and tests.
+NO_LIBRARIES = ("ssh_laws", "ssh_program", "ssh_program_tests", "ssh_audit")
 
 
 def libraries_of(top):
     """The libraries of the repository, by crates.txt, and the zones of expiry times."""
     names = [line.split(":")[0] for line in (top / "crates.txt").read_text().splitlines() if ":" in line and line[0] != "#"]
-    return [name for name in names if name not in NO_LIBRARIES and not name.endswith("_rows")] + ["jiff"]
+    return [name for name in names if name not in NO_LIBRARIES] + ["jiff"]
 
 
 def answers(crate, index):

@@ -179,6 +179,7 @@ def key_rows(key):
         yield "admits another address", [*changed(words, address="x"), str(plain), "-"], key
         words = ["trusts", "--host", "H", "--now", "150", "--key", str(plain)]
         yield "trusts", [*words, "-"], b"h " + key
+        yield "trusts by a line that ssh may refuse", [*words, "-"], b"h,\0 " + key + b"\nh " + key
         yield "trusts at another port", [*words, "--port", "2222", "-"], b"h " + key + b"\n@revoked x " + key
     yield "explain", ["explain", "G8", "N3"], b""
     yield "explain all", ["explain"], b""

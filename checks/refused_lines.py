@@ -73,8 +73,9 @@ HIDDEN_FILES = [
 ]
 SALTS = "&[[1; 20], [2; 20]]"
 
-HEAD = """use ssh_lines::{AuthLine, KeyBuffer, KnownLine, Marker, read_auth_line, read_known_line};
-use ssh_names::names_host;
+HEAD = """use ssh_entries::{
+    AuthLine, KeyBuffer, KnownLine, Marker, names_host, read_auth_line, read_known_line,
+};
 use ssh_options::LineCause;
 use std::test::Fail;
 """

@@ -9,7 +9,7 @@ key_rows.py, `host` in host_rows.py, lines that cannot be read in cause_rows.py,
 hash_rows.py, `rewrite` in rewrite_rows.py, `show` in show_rows.py and body_rows.py, `sshsig` in signature_rows.py,
 `admits` and `trusts` in admission_rows.py. Most logins and hosts' keys are asked about again over the file that
 `rewrite` makes of the row's. What `run` prints where a read or a write fails at one of its calls is tested in
-crates/ssh_rows.
+crates/ssh_program_tests.
 
 The last line is 'N passed, M failed', of what was compared; the status is 0 where nothing failed."""
 import os

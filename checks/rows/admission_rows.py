@@ -1,5 +1,6 @@
 """`admits` and `trusts` on worked rows: what is told of each file, the status over several files, standard input by more
 names than one, and each option. The key's file is `k`; a name that is no file here is missing."""
+import base64
 import contextlib
 
 from program import review
@@ -110,12 +111,13 @@ def without_total(text):
 
 # The certificate of X0 is K0's by K1 for `ann`, X1 the host's `h`; both are in force from 100 on and before 200.
 SIGNED = "if the client's and the signer's signatures are good\n"
+SIGNED_OF_HOST = "if the host's and the signer's signatures are good\n"
 LOOKED_FOR_SIGNER = f"    looked for {K1_MARK}\n"
 OF_CERTIFICATES = [
     (admits(), X0, AUTHORITY, f"admits by line 1, {SIGNED}    rights none\n", 0),
     (admits(), X0, KEY, f"does not admit: N3: no line admits the offer\n{LOOKED_FOR_SIGNER}", 1),
     (admits(), X0, "", f"does not admit: N3: no line admits the offer\n{LOOKED_FOR_SIGNER}", 1),
-    (trusts(), X1, HOST_AUTHORITY, "trusts by line 1, if the host's and the signer's signatures are good\n", 0),
+    (trusts(), X1, HOST_AUTHORITY, f"trusts by line 1, {SIGNED_OF_HOST}", 0),
     (trusts(), X1, f"g {KEY}", f"does not trust: N3: no line admits the offer\n{LOOKED_FOR_SIGNER}", 1),
     (trusts(), X1, "", f"does not trust: N3: no line admits the offer\n{LOOKED_FOR_SIGNER}", 1),
 ]
@@ -126,6 +128,70 @@ def tells_of_certificates(asker):
     for words, certificate, file, answer, status in OF_CERTIFICATES:
         with standing(asker, {"k": f"{CERTIFIED} {certificate} me\n", "t": file}):
             compare(asker, [*words, "t"], "", told(("t", answer)), status)
+
+
+def blob(*fields):
+    """The base64 of fields, each a string of the SSH protocols (RFC 4251 section 5)."""
+    return base64.b64encode(b"".join(len(field).to_bytes(4, "big") + field for field in fields)).decode()
+
+
+def rsa_key(bits):
+    """The line of an RSA key of so many bits."""
+    modulus = (2 ** (bits - 1) + 1).to_bytes(bits // 8 + 1, "big")
+    return f"ssh-rsa {blob(b'ssh-rsa', bytes([1, 0, 1]), modulus)}\n"
+
+
+# The keys of K0 and K1 with another word for their type in the blob, which ssh reads as the same keys (sshkey.c,
+# sshkey_type_from_name). A revocation counts here for the bytes that it has.
+RESPELLED = f"ssh-ed25519 {blob(b'ED25519', bytes(32))}\n"
+OTHER_RESPELLED = f"ssh-ed25519 {blob(b'ED25519', bytes(31) + bytes([1]))}\n"
+HOST_CERTIFICATE = f"{CERTIFIED} {X1} me\n"
+
+# A known_hosts file that trusts a key here, the line that does so, and what is told of ssh: of lines that it may pass over
+# (an item of 1,023 bytes, a NUL in the names, an RSA key of fewer than 1,024 bits), and of revocations that it counts.
+OF_SSH = [
+    (KEY, f"h,{1023 * 'x'} {KEY}", 1, ["ssh may refuse line 1", "no other line trusts it"]),
+    (KEY, f"h,{1022 * 'x'} {KEY}", 1, []),
+    (KEY, f"h,\0 {KEY}", 1, ["ssh may refuse line 1", "no other line trusts it"]),
+    (rsa_key(1000), f"h {rsa_key(1000)}", 1, ["ssh may refuse line 1", "no other line trusts it"]),
+    (rsa_key(1023), f"h {rsa_key(1023)}", 1, ["ssh may refuse line 1", "no other line trusts it"]),
+    (rsa_key(1024), f"h {rsa_key(1024)}", 1, []),
+    (KEY, f"h,\0 {KEY}h {KEY}", 1, ["ssh may refuse line 1", "line 2 decides then"]),
+    (KEY, f"h {KEY}h,\0 {KEY}", 1, []),
+    (KEY, f"h,\0 {KEY}h,\0 {KEY}", 1, ["ssh may refuse line 1", "no other line trusts it"]),
+    (KEY, f"g {KEY}h,{1023 * 'x'} {KEY}# h\nh {KEY}", 2, ["ssh may refuse line 2", "line 4 decides then"]),
+    (KEY, f"h,\0 {KEY}h {OTHER_KEY}", 1, ["ssh may refuse line 1", "no other line trusts it"]),
+    (KEY, f"h {KEY}@revoked h {RESPELLED}", 1, ["ssh may take the key as revoked by line 2"]),
+    (KEY, f"@revoked h {RESPELLED}h {KEY}", 2, ["ssh may take the key as revoked by line 1"]),
+    (KEY, f"h {KEY}@revoked h {RESPELLED}@revoked h {RESPELLED}", 1, ["ssh may take the key as revoked by line 2"]),
+    (KEY, f"h {KEY}@revoked g {RESPELLED}", 1, []),
+    (KEY, f"h {KEY}@revoked h {OTHER_RESPELLED}", 1, []),
+    (KEY, f"h {KEY}@revoked\th {RESPELLED}", 1, []),
+    (
+        KEY,
+        f"h,\0 {KEY}h {KEY}@revoked h {RESPELLED}",
+        1,
+        ["ssh may refuse line 1", "line 2 decides then", "ssh may take the key as revoked by line 3"],
+    ),
+    (HOST_CERTIFICATE, f"@cert-authority h,\0 {OTHER_KEY}", 1, ["ssh may refuse line 1", "no other line trusts it"]),
+    (
+        HOST_CERTIFICATE,
+        f"@cert-authority h,\0 {OTHER_KEY}{HOST_AUTHORITY}",
+        1,
+        ["ssh may refuse line 1", "line 2 decides then"],
+    ),
+    (HOST_CERTIFICATE, f"{HOST_AUTHORITY}@revoked h {OTHER_RESPELLED}", 1, ["ssh may take the key as revoked by line 2"]),
+    (HOST_CERTIFICATE, f"{HOST_AUTHORITY}@revoked h {RESPELLED}", 1, ["ssh may take the key as revoked by line 2"]),
+]
+
+
+def tells_what_ssh_may_refuse(asker):
+    """A line that trusts here, and the lines by which ssh may not: the status stays 0."""
+    for key, file, line, lines in OF_SSH:
+        signed = SIGNED_OF_HOST if key == HOST_CERTIFICATE else "if the host's signature is good\n"
+        answer = f"trusts by line {line}, {signed}" + "".join(f"    {told_line}\n" for told_line in lines)
+        with standing(asker, {"k": key, "t": file}):
+            compare(asker, [*trusts(), "t"], "", told(("t", answer)), 0)
 
 
 IN, OUT = "admits by line 1, ", "does not admit: N3: "
@@ -165,8 +231,8 @@ OPTIONS = [
     (FOR_ANY_HOST, HOST_AUTHORITY, trusts(), TRUSTS),
     (FOR_ANY_HOST, HOST_AUTHORITY, trusts(empty_principals="any"), TRUSTS),
     (FOR_ANY_HOST, HOST_AUTHORITY, trusts(empty_principals="never"), MISTRUSTS),
-    (f"{CERTIFIED} {X1} me\n", HOST_AUTHORITY, trusts(empty_principals="never"), TRUSTS),
-    (f"{CERTIFIED} {X1} me\n", HOST_AUTHORITY, trusts(now="200"), MISTRUSTS),
+    (HOST_CERTIFICATE, HOST_AUTHORITY, trusts(empty_principals="never"), TRUSTS),
+    (HOST_CERTIFICATE, HOST_AUTHORITY, trusts(now="200"), MISTRUSTS),
     (RSA_KEY, f"h {RSA_KEY}", trusts(), TRUSTS),
     (RSA_KEY, f"h {RSA_KEY}", trusts(rsa_minimum="8"), TRUSTS),
     (RSA_KEY, f"h {RSA_KEY}", trusts(rsa_minimum="9"), MISTRUSTS),
@@ -183,5 +249,5 @@ def asks_by_each_option(asker):
 
 TESTS = (
     has_one_status_over_several_files, reads_standard_input_once, reviews_standard_input_once, tells_of_certificates,
-    asks_by_each_option,
+    tells_what_ssh_may_refuse, asks_by_each_option,
 )

@@ -87,6 +87,10 @@ BLIND = (
     "f: does not trust: N2 1: the first line that may revoke any key: it begins with @revoked and has no base64 that can"
     " be read, or it is longer than 65,536 bytes\n"
 )
+REVOKED = (
+    "f: does not trust: N1 2: the first line that revokes the key, or the certificate's signer, whichever host it"
+    " names\n"
+)
 LONG = 65_500 * "c"
 
 # A known_hosts file, the port, the status, and what is told of it.
@@ -134,6 +138,13 @@ def falls_back_to_the_plain_key(asker):
     wanted = NO_HOST_LINE + SOUGHT_OTHER + MAY_TRUST.format(1, "ssh falls back to the plain key")
     certificate = f"ssh-ed25519-cert-v01@openssh.com {X1}\n"
     asker.check("a certificate", asker.printed(words, f"h {KEY}\n", certificate), (3, wanted.encode(), b""))
+    # and passes over a revocation of that key at once: one with a tab after its marker, and one for another host
+    wanted = REVOKED + MAY_TRUST.format(1, "ssh may pass over the revocation of the key")
+    for revocation in (f"@revoked\th {KEY}\n", f"@revoked g {KEY}\n"):
+        file = f"h {KEY}\n{revocation}"
+        asker.check(f"a certificate and {revocation[:12]}", asker.printed(words, file, certificate), (3, wanted.encode(), b""))
+    file = f"h {KEY}\n@revoked h {KEY}\n"
+    asker.check("a certificate and a revocation", asker.printed(words, file, certificate), (1, REVOKED.encode(), b""))
 
 
 def sums_up_several_files(asker):

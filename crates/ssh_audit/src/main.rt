@@ -1,25 +1,22 @@
-//! An auditor of OpenSSH's trust files: it says which line of an authorized_keys file admits a
-//! login, or of a known_hosts file trusts a host's key, which line revokes a key, and why others do
-//! not; whether a file signature is vouched for; and it writes a trust file anew, which keeps every
-//! answer.
+//! The program `ssh_audit`, an auditor of OpenSSH's `authorized_keys` and `known_hosts` files.
+//!
+//! It lists who is let in and what is wrong with a line. It reports which line admits a login or
+//! trusts a host's key, which line revokes a key, and why other lines do not. It reports whether a
+//! file signature is vouched for, and rewrites a trust file so that every answer stays the same.
 #![tactic(auto)]
 
-mod again;
-mod retried;
 mod system;
-mod watched;
+mod writers;
 
-use retried::Retried;
-use ssh_command::{refuse, run};
-use ssh_words::WordsError;
+use ssh_program::{WordsError, refuse, run};
 use std::alloc::Global;
 use std::io::{ErrorKind, Result};
 use std::process::ExitCode;
 use std::{env, io};
 use system::SystemFiles;
-use watched::Watched;
+use writers::{Retried, Watched};
 
-/// The program's words after its own name.
+/// The program's arguments after its own name.
 fn read_words(rt: &HostRuntime) -> Result<Vec<String<Global>>> {
     let mut words = Vec::new(rt.alloc());
     for word in env::args(rt)?.skip(1) {
@@ -28,7 +25,8 @@ fn read_words(rt: &HostRuntime) -> Result<Vec<String<Global>>> {
     Ok(words)
 }
 
-/// Says on standard error where the commands are listed. A write that fails there changes nothing.
+/// Prints to standard error where the commands are listed. The exit status is the same if that
+/// write fails.
 fn tell_usage(rt: &HostRuntime) {
     let _told = eprintln!(rt;
         "ssh_audit: see 'ssh_audit explain usage', or the manual page ssh_audit(1)"

@@ -1,32 +1,15 @@
--- Fields that both bodies have: what is read is spelled so, what is spelled is read, and the faults.
-use Rattle.std.proofs.Common.{◌≡◌, ◌≢◌, ℕ, ◌+◌, ◌^◌, ◌<◌, ◌≤◌, Bool, true, false, cond, ltb, List, [], ◌∷◌, ◌++◌, length, take, drop, Ok, Err, refl, sym, ap, subst, ◌∙◌, zero-add, arith}
-use Rattle.std.specs.Int.{w32, byte_len, from_be_bytes}
-use Rattle.std.specs.List.{concat}
-use Rattle.std.specs.Str.{bytes_eq}
-use Rattle.std.proofs.lemmas.List.{length-drop, drop-drop, take-append-drop, take_at, drop_at}
-use Rattle.std.proofs.lemmas.Slice.Eq.{bytes_eq-Decides}
-use Rattle.ssh_wire.specs.declared.error.WireCause.TheVariants.{Short}
-use Rattle.ssh_wire.specs.declared.error.WireError.{WireError}
-use Rattle.ssh_wire.specs.Spelling.{string, uint32}
-use Rattle.ssh_wire.specs.Position.{Position, start, advance}
-use Rattle.ssh_wire.specs.Reading.{Read, byte_at, number_at, string_at}
-use Rattle.ssh_wire.specs.Fronts.{IsBytes, Took}
-use Rattle.ssh_wire.specs.Laws.{IsBytes-drop, Took-then, wide32, number_takes, number_again, string_takes, string_again, string_fits, refused_none, ok_is, fine}
-use Rattle.ssh_wire.proofs.RowLemmas.{test_err, string_is_short}
-use Rattle.ssh_keys.specs.FirstFault.{IsFirstFault}
-use Rattle.ssh_keys.proofs.KeyLaws.{key_takes, key_again}
+-- Fields that both bodies have: what is read is spelled so, what is spelled is read, and the errors.
+use Rattle.ssh_bodies.proofs.Imports.{◌≡◌, ◌≢◌, ℕ, ◌+◌, ◌^◌, ◌<◌, ◌≤◌, Bool, true, false, cond, ltb, List, [], ◌∷◌, ◌++◌, length, take, drop, Ok, Err, refl, sym, ap, subst, ◌∙◌, zero-add, arith, w32, byte_len, from_be_bytes, concat, bytes_eq, length-drop, drop-drop, take-append-drop, take_at, drop_at, bytes_eq-Decides, Short, WireError, string, uint32, Position, start, advance, Read, byte_at, number_at, IsBytes, Took, IsBytes-drop, Took-then, wide32, number_takes, number_again, string_takes, string_again, string_fits, refused_none, ok_is, fine, test_err, string_is_short, IsFirstFault, key_takes, key_again, PublicKey, IsKey, key_fault, BodyError, as_body_error, of_key, magic_at, Stands, NoNumber, NoString}
+use Rattle.ssh_wire.specs.Reading.{string_at}
 use Rattle.ssh_keys.specs.KeyReading.{key_in}
-use Rattle.ssh_keys.specs.PublicKey.{PublicKey, key_blob, IsKey}
-use Rattle.ssh_keys.proofs.KeyFaults.{key_fault}
-use Rattle.ssh_bodies.specs.declared.error.BodyError.{BodyError}
+use Rattle.ssh_keys.specs.PublicKey.{key_blob}
 use Rattle.ssh_bodies.specs.declared.error.BodyError.TheVariants as errors
-use Rattle.ssh_bodies.specs.BodyReading.{as_body_error, of_key, magic_at, key_at}
-use Rattle.ssh_wire.specs.Stands.{Stands, NoNumber, NoString}
+use Rattle.ssh_bodies.specs.BodyReading.{key_at}
 use Rattle.ssh_bodies.proofs.Steps.{after_step, step_err, err_is, of_wire_ok, of_key_ok, of_wire_err, of_key_err}
 
 -- ---- fields one after the other
 
--- the fields were taken in turn
+-- the fields were read one after the other
 abbrev pub Run : List (List ℕ) → Position → Position → Type 0
 Run [] at after = at ≡ after
 Run (field ∷ fields) at after = (middle : Position) × Took at field middle × Run fields middle after
@@ -35,7 +18,7 @@ pub run_took : (fields : List (List ℕ)) (at after : Position) → IsBytes at.r
 run_took [] at after fits e = subst (λ (p : Position). Took at [] p) e (record { parts = refl; place = omega arith; rest_fits = fits })
 run_took (field ∷ fields) at after fits r = Took-then at r.0 after field (concat fields) r.1 (run_took fields r.0 after r.1.rest_fits r.2)
 
--- what was taken stands
+-- what was read is complete
 pub stands : {A : Type 0} (row : A → List (List ℕ)) (Fits : A → Type 0) (fields : ℕ) (bytes : List ℕ) (v : A) → Fits v → (after : Position) → IsBytes bytes
     → Run (take fields (row v)) (start bytes) after → Stands row Fits fields bytes after.place after.rest
 stands row Fits fields bytes v is after fits r =
@@ -143,7 +126,7 @@ pub key_back : (key : PublicKey) (place : ℕ) (rest : List ℕ) → IsKey key
 unfolding key_at
 key_back key place rest is = rw (string_again (key_blob key) place rest (omega (arith, is.length)), key_again key is) refl
 
--- the string of a public key stands, and its text is no key's blob
+-- the string of a public key is complete, and its text is not a key's blob
 pub record BadKey (at : Position) (e : BodyError) : Type 0 where
   pub blob : List ℕ
   pub rest : List ℕ

@@ -1,23 +1,12 @@
 -- The fields of a body give that body, and what is made has one.
-use Rattle.std.proofs.Common.{◌≡◌, ◌≢◌, ℕ, ◌^◌, ◌<◌, Bool, true, ltb, List, [], ◌∷◌, length, Ok, Err, refl, sym, ap, subst, ◌∙◌, arith}
-use Rattle.std.specs.Prelude.{nat_le}
-use Rattle.std.proofs.lemmas.Bool.{leb-true, le-leb, lt-ltb}
-use Rattle.ssh_wire.specs.Fronts.{IsBytes}
-use Rattle.ssh_wire.specs.Laws.{ok_is}
-use Rattle.ssh_keys.proofs.KeyLaws.{key_takes, key_again}
-use Rattle.ssh_keys.proofs.Ranges.{key_from_takes, key_from_again}
-use Rattle.ssh_keys.proofs.SignatureLaws.{signature_takes, signature_again}
-use Rattle.ssh_keys.specs.KeyReading.{key_from, key_in}
-use Rattle.ssh_keys.specs.PublicKey.{key_blob, longest}
+use Rattle.ssh_bodies.proofs.Imports.{◌≡◌, ◌≢◌, ℕ, ◌^◌, ◌<◌, Bool, true, ltb, List, [], ◌∷◌, length, Ok, Err, refl, sym, ap, subst, ◌∙◌, arith, nat_le, leb-true, le-leb, lt-ltb, IsBytes, ok_is, key_takes, key_again, key_from_takes, key_from_again, signature_takes, signature_again, key_from, longest, BodyError, HashName, of_key, as_body_error, body_wants, PrivateBody, public_of, is_private_in_range, private_blob, IsPrivateBody, range_fault, Sshsig, IsSshsig, IsSshsigWith, sshsig_with}
+use Rattle.ssh_keys.specs.KeyReading.{key_in}
+use Rattle.ssh_keys.specs.PublicKey.{key_blob}
 use Rattle.ssh_keys.specs.Signature.{signature_blob, signature_in}
-use Rattle.ssh_bodies.specs.declared.error.BodyError.{BodyError}
 use Rattle.ssh_bodies.specs.declared.error.BodyError.TheVariants as errors
-use Rattle.ssh_bodies.specs.declared.hash.HashName.{HashName}
-use Rattle.ssh_bodies.specs.BodyReading.{of_key, as_body_error, body_wants}
-use Rattle.ssh_bodies.specs.PrivateKey.{PrivateBody, public_of, is_private_in_range, private_blob, IsPrivateBody}
-use Rattle.ssh_bodies.specs.PrivateMaking.{range_fault, private_from}
-use Rattle.ssh_bodies.specs.Sshsig.{Sshsig, sshsig_blob, IsSshsig}
-use Rattle.ssh_bodies.specs.SshsigMaking.{IsSshsigWith, sshsig_with, sshsig_from}
+use Rattle.ssh_bodies.specs.PrivateMaking.{private_from}
+use Rattle.ssh_bodies.specs.Sshsig.{sshsig_blob}
+use Rattle.ssh_bodies.specs.SshsigMaking.{sshsig_from}
 use Rattle.ssh_bodies.proofs.SshsigLaws.{some_text}
 use Rattle.ssh_bodies.proofs.Steps.{after_step, then_step, of_key_ok, of_wire_ok, wants_ok}
 

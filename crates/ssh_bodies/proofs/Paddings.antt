@@ -1,11 +1,5 @@
 -- Padding: how long it is, how much is least, and which bytes are padding.
-use Rattle.std.proofs.Common.{◌≡◌, ◌≢◌, ℕ, zero, suc, ◌+◌, ◌-◌, ◌%◌, ◌<◌, ◌≤◌, Bool, true, false, List, [], ◌∷◌, length, get_or, take, refl, sym, ap, ◌∙◌, arith}
-use Rattle.std.specs.Prelude.{◌==◌}
-use Rattle.std.specs.Str.{bytes_eq}
-use Rattle.std.proofs.lemmas.Bool.{eqb-true, eqb-false}
-use Rattle.std.proofs.lemmas.List.{ext_get_or}
-use Rattle.std.proofs.lemmas.Slice.Eq.{bytes_eq-Decides}
-use Rattle.ssh_bodies.specs.PrivateKey.{padding_after, padding}
+use Rattle.ssh_bodies.proofs.Imports.{◌≡◌, ◌≢◌, ℕ, zero, suc, ◌+◌, ◌-◌, ◌%◌, ◌<◌, ◌≤◌, Bool, true, false, List, [], ◌∷◌, length, get_or, take, refl, sym, ap, ◌∙◌, arith, ◌==◌, bytes_eq, eqb-true, eqb-false, ext_get_or, bytes_eq-Decides, padding_after, padding}
 
 pub padding-length : (n count : ℕ) → length (padding_after n count) ≡ count
 padding-length n zero = refl

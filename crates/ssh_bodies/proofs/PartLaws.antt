@@ -1,18 +1,9 @@
 -- Reading a body part by part is reading it field by field.
-use Rattle.std.proofs.Common.{◌≡◌, refl}
-use Rattle.std.specs.Prelude.{◌==◌}
-use Rattle.std.specs.Int.{w32}
-use Rattle.std.specs.Str.{bytes_eq}
-use Rattle.ssh_wire.specs.Position.{Position}
-use Rattle.ssh_wire.specs.Reading.{number_at, string_at}
-use Rattle.ssh_wire.specs.Laws.{bind_inside, bind_same}
-use Rattle.ssh_keys.specs.Names.{key_name_of}
-use Rattle.ssh_keys.specs.PublicKey.{PublicKey, kind_of}
+use Rattle.ssh_bodies.proofs.Imports.{◌≡◌, refl, ◌==◌, w32, bytes_eq, Position, number_at, bind_inside, bind_same, key_name_of, PublicKey, kind_of, as_body_error, body_wants, magic_at, private_magic, sshsig_magic}
+use Rattle.ssh_wire.specs.Reading.{string_at}
 use Rattle.ssh_bodies.specs.declared.error.BodyError.TheVariants as errors
-use Rattle.ssh_bodies.specs.BodyReading.{as_body_error, body_wants, magic_at, key_at}
-use Rattle.ssh_bodies.specs.PrivateKey.{private_magic}
+use Rattle.ssh_bodies.specs.BodyReading.{key_at}
 use Rattle.ssh_bodies.specs.PrivateReading.{not_encrypted_at, section_start, section_at, body_at}
-use Rattle.ssh_bodies.specs.Sshsig.{sshsig_magic}
 use Rattle.ssh_bodies.specs.SshsigReading.{sshsig_at}
 use Rattle.ssh_bodies.specs.BodyParts.{section_head_at, section_by_parts, body_head_at, body_by_parts, sshsig_head_at, sshsig_by_parts}
 

@@ -1,23 +1,8 @@
--- What is refused as a private body has its first fault where it is told.
-use Rattle.std.proofs.Common.{◌≡◌, ℕ, ◌+◌, ◌%◌, ◌≤◌, Bool, true, false, cond, ltb, eqb, List, [], ◌∷◌, ◌++◌, length, take, replicate, Err, refl, sym, ap, subst, ◌∙◌, append_assoc, arith, inl, inr}
-use Rattle.std.specs.Prelude.{codes, ◌&&◌}
-use Rattle.std.specs.Int.{w32}
-use Rattle.std.specs.List.{concat, flat_map}
-use Rattle.std.specs.Str.{bytes_eq}
-use Rattle.std.proofs.lemmas.Bool.{ltb-true, ltb-false, eqb-true, eqb-false}
-use Rattle.std.proofs.lemmas.List.{append-nil, length-append}
-use Rattle.std.proofs.lemmas.Slice.Eq.{bytes_eq-Decides}
-use Rattle.ssh_wire.specs.Spelling.{string, uint32}
-use Rattle.ssh_wire.specs.Position.{Position, start}
-use Rattle.ssh_wire.specs.Reading.{number_at, string_at}
-use Rattle.ssh_wire.specs.Fronts.{IsBytes, Took}
-use Rattle.ssh_wire.specs.Laws.{fine}
-use Rattle.ssh_keys.specs.PublicKey.{PublicKey, ed25519, longest, IsKey}
-use Rattle.ssh_bodies.specs.declared.error.BodyError.{BodyError}
+-- Bytes that are refused as a private key body have the first error that is returned, at its place.
+use Rattle.ssh_bodies.proofs.Imports.{IsPrivateFault, ◌≡◌, ℕ, ◌+◌, ◌%◌, ◌≤◌, Bool, true, false, cond, ltb, eqb, List, [], ◌∷◌, ◌++◌, length, take, replicate, Err, refl, sym, ap, subst, ◌∙◌, append_assoc, arith, inl, inr, codes, ◌&&◌, w32, concat, flat_map, bytes_eq, ltb-true, ltb-false, eqb-true, eqb-false, append-nil, length-append, bytes_eq-Decides, string, uint32, Position, start, number_at, IsBytes, Took, fine, PublicKey, ed25519, longest, IsKey, BodyError, as_body_error, body_wants, magic_at, last_at, PrivateStands, InSection, IsPrivateFieldFault, PrivateBody, private_magic, private_row}
+use Rattle.ssh_wire.specs.Reading.{string_at}
 use Rattle.ssh_bodies.specs.declared.error.BodyError.TheVariants as errors
-use Rattle.ssh_bodies.specs.BodyReading.{as_body_error, body_wants, magic_at, key_at, last_at}
-use Rattle.ssh_bodies.specs.PrivateFault.{PrivateStands, InSection, IsPrivateFault}
-use Rattle.ssh_bodies.specs.PrivateKey.{PrivateBody, private_magic, private_row}
+use Rattle.ssh_bodies.specs.BodyReading.{key_at}
 use Rattle.ssh_bodies.specs.PrivateReading.{not_encrypted_at, section_start, body_at, private_in}
 use Rattle.ssh_bodies.proofs.Steps.{step_err, err_is, wants_ok, wants_err}
 use Rattle.ssh_bodies.proofs.Fields.{Run, run_took, stands, number_fault, text_fault, number_took, text_took, magic_took, magic_fault, key_took, key_fails}
@@ -26,8 +11,8 @@ use Rattle.ssh_bodies.proofs.SectionFaults.{section_fault}
 use Rattle.ssh_bodies.proofs.SshsigLaws.{no_rest}
 use Rattle.ssh_bodies.proofs.SshsigFaults.{some_key, some_more}
 
--- a fault inside the section
-inside : (bytes : List ℕ) (e : BodyError) → InSection bytes e → IsPrivateFault bytes e
+-- an error inside the section
+inside : (bytes : List ℕ) (e : BodyError) → InSection bytes e → IsPrivateFieldFault bytes e
 inside bytes (errors.Wire e) s = inr s
 inside bytes errors.CheckMismatch s = s
 inside bytes errors.PublicMismatch s = s
@@ -60,7 +45,7 @@ encrypted cipher kdf options unlike all =
     let both : true ≡ false = sym yes ∙ unlike in
     absurd cc
 
-header_fails : (bytes : List ℕ) (at : Position) (e : BodyError) → IsBytes at.rest → PrivateStands 1 bytes at.place at.rest → not_encrypted_at at ≡ Err e → IsPrivateFault bytes e
+header_fails : (bytes : List ℕ) (at : Position) (e : BodyError) → IsBytes at.rest → PrivateStands 1 bytes at.place at.rest → not_encrypted_at at ≡ Err e → IsPrivateFieldFault bytes e
 unfolding not_encrypted_at
 header_fails bytes at e fits s h =
     step_err (as_body_error (string_at at)) _ e h (λ bad.
@@ -79,7 +64,7 @@ header_fails bytes at e fits s h =
     let t_options = text_took kdf.1 options t_kdf.0.rest_fits read_options in
     step_err (body_wants (bytes_eq cipher.0 (codes "none") && (bytes_eq kdf.0 (codes "none") && eqb (length options.0) 0)) errors.Encrypted) _ e h3 (λ bad.
     let f = wants_err (bytes_eq cipher.0 (codes "none") && (bytes_eq kdf.0 (codes "none") && eqb (length options.0) 0)) errors.Encrypted e bad in
-    subst (λ (x : BodyError). IsPrivateFault bytes x) f.1 (record {
+    subst (λ (x : BodyError). IsPrivateFieldFault bytes x) f.1 (record {
       place = at.place;
       cipher = cipher.0;
       kdf = kdf.0;
@@ -89,19 +74,19 @@ header_fails bytes at e fits s h =
       encrypted = encrypted cipher.0 kdf.0 options.0 f.0;
     })) (λ u plain h4. absurd (let none : fine {E = BodyError} (u, options.1) ≡ Err e = h4 in cc)))))
   where
-    missing : (texts : List (List ℕ)) (here : Position) → as_body_error (string_at here) ≡ Err e → PrivateStands 1 bytes at.place (flat_map string texts ++ here.rest) → length texts ≤ 2 → here.place ≡ at.place + length (flat_map string texts) → IsPrivateFault bytes e
+    missing : (texts : List (List ℕ)) (here : Position) → as_body_error (string_at here) ≡ Err e → PrivateStands 1 bytes at.place (flat_map string texts ++ here.rest) → length texts ≤ 2 → here.place ≡ at.place + length (flat_map string texts) → IsPrivateFieldFault bytes e
     missing texts here bad stood few far =
         let f = text_fault here e bad in
-        subst (λ (x : BodyError). IsPrivateFault bytes x) (sym f.0) (inl (refl, inl (record { texts = texts; few = few; first = at.place; rest = here.rest; stands = stood; at = far; none = f.1 })))
+        subst (λ (x : BodyError). IsPrivateFieldFault bytes x) (sym f.0) (inl (refl, inl (record { texts = texts; few = few; first = at.place; rest = here.rest; stands = stood; at = far; none = f.1 })))
 
 -- ---- a whole body
 
-body_fault : (bytes : List ℕ) (e : BodyError) → IsBytes bytes → length bytes ≤ longest → body_at (start bytes) ≡ Err e → IsPrivateFault bytes e
+body_fault : (bytes : List ℕ) (e : BodyError) → IsBytes bytes → length bytes ≤ longest → body_at (start bytes) ≡ Err e → IsPrivateFieldFault bytes e
 unfolding body_at section_start
 body_fault bytes e fits short h =
     step_err (magic_at private_magic (start bytes)) _ e h (λ bad.
     let f = magic_fault private_magic (start bytes) e bad in
-    subst (λ (x : BodyError). IsPrivateFault bytes x) f.0 f.1) (λ magic read_magic h1.
+    subst (λ (x : BodyError). IsPrivateFieldFault bytes x) f.0 f.1) (λ magic read_magic h1.
     let t_magic = magic_took private_magic (start bytes) magic fits read_magic in
     let s1 : PrivateStands 1 bytes (magic.1).place (magic.1).rest = stands private_row FitsRow 1 bytes some_row some_key magic.1 fits (magic.1, t_magic, refl) in
     step_err (not_encrypted_at magic.1) _ e h1 (λ bad. header_fails bytes magic.1 e t_magic.rest_fits s1 bad) (λ plain read_plain h2.
@@ -110,36 +95,36 @@ body_fault bytes e fits short h =
     let s4 : PrivateStands 4 bytes (plain.1).place (plain.1).rest = stands private_row FitsRow 4 bytes some_row some_key plain.1 fits (magic.1, t_magic, p) in
     step_err (as_body_error (number_at w32 plain.1)) _ e h2 (λ bad.
     let f = number_fault plain.1 e bad in
-    subst (λ (x : BodyError). IsPrivateFault bytes x) (sym f.0) (inl (refl, inr (inl ((plain.1).rest, s4, f.1))))) (λ count read_count h3.
+    subst (λ (x : BodyError). IsPrivateFieldFault bytes x) (sym f.0) (inl (refl, inr (inl ((plain.1).rest, s4, f.1))))) (λ count read_count h3.
     let t_count = number_took plain.1 count plain_fits read_count in
     step_err (body_wants (eqb count.0 1) errors.KeyCount) _ e h3 (λ bad.
     let f = wants_err (eqb count.0 1) errors.KeyCount e bad in
-    subst (λ (x : BodyError). IsPrivateFault bytes x) f.1 ((plain.1).place, count.0, (count.1).rest, subst (λ (r : List ℕ). PrivateStands 4 bytes (plain.1).place r) t_count.0.parts s4, t_count.1, eqb-false count.0 1 f.0)) (λ u1 is_one h4.
+    subst (λ (x : BodyError). IsPrivateFieldFault bytes x) f.1 ((plain.1).place, count.0, (count.1).rest, subst (λ (r : List ℕ). PrivateStands 4 bytes (plain.1).place r) t_count.0.parts s4, t_count.1, eqb-false count.0 1 f.0)) (λ u1 is_one h4.
     let one : count.0 ≡ 1 = eqb-true count.0 1 (wants_ok (eqb count.0 1) errors.KeyCount u1 is_one) in
     let t_one : Took plain.1 (uint32 1) count.1 = subst (λ (n : ℕ). Took plain.1 (uint32 n) count.1) one t_count.0 in
     let run5 : Run (string (codes "none") ∷ string (codes "none") ∷ string [] ∷ uint32 1 ∷ []) magic.1 count.1 = (p.0, p.1, (p.2.0, p.2.1, (p.2.2.0, p.2.2.1, (count.1, subst (λ (q : Position). Took q (uint32 1) count.1) (sym p.2.2.2) t_one, refl)))) in
     let s5 : PrivateStands 5 bytes (count.1).place (count.1).rest = stands private_row FitsRow 5 bytes some_row some_key count.1 fits (magic.1, t_magic, run5) in
     step_err (key_at count.1) _ e h4 (λ bad. key_fails count.1 e t_count.0.rest_fits bad
-    (λ first. let f = text_fault count.1 e first in subst (λ (x : BodyError). IsPrivateFault bytes x) (sym f.0) (inl (refl, inr (inr (inl ((count.1).rest, s5, f.1))))))
-    (λ b. subst (λ (x : BodyError). IsPrivateFault bytes x) b.cause.1 ((count.1).place, b.blob, b.rest, subst (λ (r : List ℕ). PrivateStands 5 bytes (count.1).place r) b.stands s5, b.cause.2))) (λ public read_public h5.
+    (λ first. let f = text_fault count.1 e first in subst (λ (x : BodyError). IsPrivateFieldFault bytes x) (sym f.0) (inl (refl, inr (inr (inl ((count.1).rest, s5, f.1))))))
+    (λ b. subst (λ (x : BodyError). IsPrivateFieldFault bytes x) b.cause.1 ((count.1).place, b.blob, b.rest, subst (λ (r : List ℕ). PrivateStands 5 bytes (count.1).place r) b.stands s5, b.cause.2))) (λ public read_public h5.
     let t_public = key_took count.1 public t_count.0.rest_fits read_public in
     let run6 : Run (take 6 (private_row (public.0, []))) (start bytes) public.1 =
     (magic.1, t_magic, (p.0, p.1, (p.2.0, p.2.1, (p.2.2.0, p.2.2.1, (count.1, subst (λ (q : Position). Took q (uint32 1) count.1) (sym p.2.2.2) t_one, (public.1, t_public.0, refl)))))) in
     let s6 : PrivateStands 6 bytes (public.1).place (public.1).rest = stands private_row FitsRow 6 bytes (public.0, []) t_public.1 public.1 fits run6 in
     step_err (section_start public.1) _ e h5 (λ bad.
-    step_err (as_body_error (string_at public.1)) _ e bad (λ first. let f = text_fault public.1 e first in subst (λ (x : BodyError). IsPrivateFault bytes x) (sym f.0) (inl (refl, inr (inr (inr ((public.1).rest, s6, f.1)))))) (λ text read_text g1.
+    step_err (as_body_error (string_at public.1)) _ e bad (λ first. let f = text_fault public.1 e first in subst (λ (x : BodyError). IsPrivateFieldFault bytes x) (sym f.0) (inl (refl, inr (inr (inr ((public.1).rest, s6, f.1)))))) (λ text read_text g1.
     let t_text = text_took public.1 text t_public.0.rest_fits read_text in
     let run7 : Run (private_row (public.0, text.0)) (start bytes) text.1 =
     (magic.1, t_magic, (p.0, p.1, (p.2.0, p.2.1, (p.2.2.0, p.2.2.1, (count.1, subst (λ (q : Position). Took q (uint32 1) count.1) (sym p.2.2.2) t_one, (public.1, t_public.0, (text.1, t_text.0, refl))))))) in
     let s7 : PrivateStands 7 bytes (text.1).place (text.1).rest = stands private_row FitsRow 7 bytes (public.0, text.0) t_public.1 text.1 fits run7 in
     step_err (last_at text.1) _ e g1 (λ not_last.
     let f = wants_err (eqb (length (text.1).rest) 0) errors.Trailing e not_last in
-    subst (λ (x : BodyError). IsPrivateFault bytes x) f.1 ((text.1).place, (text.1).rest, s7, some_more (text.1).rest f.0)) (λ u2 is_last g2.
+    subst (λ (x : BodyError). IsPrivateFieldFault bytes x) f.1 ((text.1).place, (text.1).rest, s7, some_more (text.1).rest f.0)) (λ u2 is_last g2.
     let nothing : (text.1).rest ≡ [] = no_rest (text.1).rest (wants_ok (eqb (length (text.1).rest) 0) errors.Trailing u2 is_last) in
     let whole : (public.1).rest ≡ string text.0 = t_text.0.parts ∙ ap (λ (r : List ℕ). string text.0 ++ r) nothing ∙ append-nil (string text.0) in
     step_err (body_wants (eqb (length text.0 % 8) 0) errors.NotMultipleOfEight) _ e g2 (λ odd.
     let f = wants_err (eqb (length text.0 % 8) 0) errors.NotMultipleOfEight e odd in
-    subst (λ (x : BodyError). IsPrivateFault bytes x) f.1 ((public.1).place, text.0, subst (λ (r : List ℕ). PrivateStands 6 bytes (public.1).place r) whole s6, eqb-false (length text.0 % 8) 0 f.0))
+    subst (λ (x : BodyError). IsPrivateFieldFault bytes x) f.1 ((public.1).place, text.0, subst (λ (r : List ℕ). PrivateStands 6 bytes (public.1).place r) whole s6, eqb-false (length text.0 % 8) 0 f.0))
     (λ u3 even g3. absurd (let none : fine {E = BodyError} (tt, record { place = (public.1).place + 4; rest = text.0 }) ≡ Err e = g3 in cc))))) (λ in_section read_inside h6.
     let t = section_start_took public.1 in_section t_public.0.rest_fits read_inside in
     let row = private_row (public.0, (in_section.1).rest) in
@@ -159,11 +144,11 @@ body_fault bytes e fits short h =
       fault = section_fault public.0 in_section.1 e t.fits t_public.1.in_range (omega (arith, short, ends)) h6;
     })))))))
 
--- the first fault of what is no private body
+-- the first error of bytes that are not a private key body
 pub private_fault : (bytes : List ℕ) (e : BodyError) → IsBytes bytes → private_in bytes ≡ Err e → IsPrivateFault bytes e
 unfolding private_in
 private_fault bytes e fits h = go (ltb longest (length bytes)) refl h
   where
     go : (b : Bool) → ltb longest (length bytes) ≡ b → cond b (Err errors.TooLong) (body_at (start bytes)) ≡ Err e → IsPrivateFault bytes e
-    go true long f = subst (λ (x : BodyError). IsPrivateFault bytes x) (err_is {A = PrivateBody} errors.TooLong e f) (ltb-true longest (length bytes) long)
-    go false long f = body_fault bytes e fits (ltb-false longest (length bytes) long) f
+    go true long f = inl (ltb-true longest (length bytes) long, sym (err_is {A = PrivateBody} errors.TooLong e f))
+    go false long f = inr (ltb-false longest (length bytes) long, body_fault bytes e fits (ltb-false longest (length bytes) long) f)

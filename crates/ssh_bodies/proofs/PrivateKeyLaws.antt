@@ -1,25 +1,10 @@
 -- The fields of a private key: what is read is spelled so, and what is spelled so is read.
-use Rattle.std.proofs.Common.{◌≡◌, ℕ, ◌+◌, ◌^◌, ◌<◌, Bool, true, false, ltb, eqb, List, [], ◌∷◌, ◌++◌, length, drop, Ok, refl, sym, ap, subst, ◌∙◌, arith}
-use Rattle.std.specs.Prelude.{codes, ◌&&◌}
-use Rattle.std.specs.List.{concat}
-use Rattle.std.specs.Str.{bytes_eq}
-use Rattle.std.proofs.lemmas.Bool.{ltb-true, lt-ltb, eqb-true, eqb-false, ne_eqb}
-use Rattle.std.proofs.lemmas.Slice.Eq.{bytes_eq-Decides}
-use Rattle.ssh_wire.specs.declared.error.WireCause.TheVariants.{Value}
-use Rattle.ssh_wire.specs.Spelling.{string, mpint, mpint_bytes}
-use Rattle.ssh_wire.specs.Position.{Position}
-use Rattle.ssh_wire.specs.Reading.{byte_at, string_at, mpint_at}
-use Rattle.ssh_wire.specs.Fronts.{IsBytes, Took}
-use Rattle.ssh_wire.specs.Laws.{guard_ok, ok_is}
-use Rattle.ssh_wire.specs.MpintLaws.{mpint_takes, mpint_again}
-use Rattle.ssh_keys.proofs.KeyLaws.{and_ok}
-use Rattle.ssh_keys.specs.PublicKey.{PublicKey, rsa, p256, p384, p521, ed25519, sk_p256, sk_ed25519, is_in_range}
-use Rattle.ssh_keys.proofs.SignatureLaws.{byte_takes}
-use Rattle.ssh_bodies.specs.declared.error.BodyError.{BodyError}
+use Rattle.ssh_bodies.proofs.Imports.{◌≡◌, ℕ, ◌+◌, ◌^◌, ◌<◌, Bool, true, false, ltb, eqb, List, [], ◌∷◌, ◌++◌, length, drop, Ok, refl, sym, ap, subst, ◌∙◌, arith, codes, ◌&&◌, concat, bytes_eq, ltb-true, lt-ltb, eqb-true, eqb-false, ne_eqb, bytes_eq-Decides, Value, string, mpint, Position, byte_at, IsBytes, Took, guard_ok, ok_is, mpint_takes, mpint_again, and_ok, PublicKey, rsa, p256, p384, p521, ed25519, sk_p256, sk_ed25519, is_in_range, byte_takes, BodyError, ReadBody, as_body_error, PrivateKey, private_rsa, private_p256, private_p384, private_p521, private_ed25519, private_sk_p256, private_sk_ed25519, public_of, private_fields, is_private_in_range, RsaNumbers, OnCurve, KeyHandle, on_curve_at}
+use Rattle.ssh_wire.specs.Spelling.{mpint_bytes}
+use Rattle.ssh_wire.specs.Reading.{string_at, mpint_at}
 use Rattle.ssh_bodies.specs.declared.error.BodyError.TheVariants as errors
-use Rattle.ssh_bodies.specs.BodyReading.{ReadBody, as_body_error, body_positive_at}
-use Rattle.ssh_bodies.specs.PrivateKey.{PrivateKey, private_rsa, private_p256, private_p384, private_p521, private_ed25519, private_sk_p256, private_sk_ed25519, public_of, private_fields, is_private_in_range}
-use Rattle.ssh_bodies.specs.PrivateReading.{RsaNumbers, rsa_at, OnCurve, curve_at, ed25519_at, KeyHandle, handle_at, on_curve_at, private_at}
+use Rattle.ssh_bodies.specs.BodyReading.{body_positive_at}
+use Rattle.ssh_bodies.specs.PrivateReading.{rsa_at, curve_at, ed25519_at, handle_at, private_at}
 use Rattle.ssh_bodies.proofs.Steps.{after_step, then_step, of_wire_ok}
 use Rattle.ssh_bodies.proofs.Fields.{Run, run_took, text_took, text_back}
 use Rattle.ssh_bodies.proofs.Rows.{onto, place_after, at_row, Short}
@@ -134,7 +119,7 @@ curve_back curve point scalar place rest some short =
     (then_step _ _ _ _ (positive_back scalar p2 rest some short.1.1.0)
     refl))
 
--- ---- what a body keeps of a security key
+-- ---- the fields of a security key in a body
 
 abbrev handle_fields : KeyHandle → List (List ℕ)
 handle_fields k = string k.application ∷ (k.flags ∷ []) ∷ string k.key_handle ∷ string k.reserved ∷ []

@@ -1,25 +1,11 @@
 -- What is read as a private body is spelled so, and what is spelled so is read.
-use Rattle.std.proofs.Common.{◌≡◌, ℕ, ◌+◌, ◌%◌, ◌^◌, ◌<◌, ◌≤◌, Bool, true, false, cond, ltb, eqb, List, [], ◌∷◌, ◌++◌, length, take, Result, Ok, Err, refl, sym, ap, subst, ◌∙◌, append_assoc, arith}
-use Rattle.std.specs.Prelude.{codes, ◌&&◌, nat_le, OnOk}
-use Rattle.std.specs.Int.{w32}
-use Rattle.std.specs.List.{concat}
-use Rattle.std.specs.Str.{bytes_eq}
-use Rattle.std.proofs.lemmas.Bool.{ltb-false, le-ltb, eqb-true, eqb-false, leb-true, le-leb}
-use Rattle.std.proofs.lemmas.List.{append-nil, length-append}
-use Rattle.std.proofs.lemmas.Slice.Eq.{bytes_eq-Decides}
-use Rattle.ssh_wire.specs.Spelling.{string, uint32}
-use Rattle.ssh_wire.specs.Position.{Position, start}
-use Rattle.ssh_wire.specs.Reading.{◌>>=◌, number_at, string_at}
-use Rattle.ssh_wire.specs.Fronts.{IsBytes, Took}
-use Rattle.ssh_wire.specs.Laws.{ok_is, fine, string_fits}
-use Rattle.ssh_keys.proofs.KeyLaws.{and_ok, name_short}
-use Rattle.ssh_keys.specs.Names.{key_name_of}
-use Rattle.ssh_keys.specs.PublicKey.{PublicKey, kind_of, key_blob, longest, IsKey}
-use Rattle.ssh_bodies.specs.declared.error.BodyError.{BodyError}
+use Rattle.ssh_bodies.proofs.Imports.{◌≡◌, ℕ, ◌+◌, ◌%◌, ◌^◌, ◌<◌, ◌≤◌, Bool, true, false, cond, ltb, eqb, List, [], ◌∷◌, ◌++◌, length, take, Result, Ok, Err, refl, sym, ap, subst, ◌∙◌, append_assoc, arith, codes, ◌&&◌, nat_le, OnOk, w32, concat, bytes_eq, ltb-false, le-ltb, eqb-true, eqb-false, leb-true, le-leb, append-nil, length-append, bytes_eq-Decides, string, uint32, Position, start, ◌>>=◌, number_at, IsBytes, Took, ok_is, fine, string_fits, and_ok, name_short, key_name_of, PublicKey, kind_of, longest, IsKey, BodyError, as_body_error, body_wants, magic_at, last_at, PrivateBody, public_of, private_fields, is_private_in_range, padding, section, private_magic, private_row, least_padding, private_blob, IsPrivateBody, IsPadded, IsPrivateBlob, is_padding}
+use Rattle.ssh_wire.specs.Reading.{string_at}
+use Rattle.ssh_keys.specs.PublicKey.{key_blob}
 use Rattle.ssh_bodies.specs.declared.error.BodyError.TheVariants as errors
-use Rattle.ssh_bodies.specs.BodyReading.{as_body_error, body_wants, magic_at, key_at, last_at}
-use Rattle.ssh_bodies.specs.PrivateKey.{PrivateBody, public_of, private_fields, is_private_in_range, padding, section_front, section, private_magic, private_row, body_padded, least_padding, private_blob, IsPrivateBody, IsPadded, IsPrivateBlob}
-use Rattle.ssh_bodies.specs.PrivateReading.{private_at, is_padding, section_at, not_encrypted_at, section_start, body_at, private_in}
+use Rattle.ssh_bodies.specs.BodyReading.{key_at}
+use Rattle.ssh_bodies.specs.PrivateKey.{section_front, body_padded}
+use Rattle.ssh_bodies.specs.PrivateReading.{private_at, section_at, not_encrypted_at, section_start, body_at, private_in}
 use Rattle.ssh_bodies.proofs.Steps.{after_step, then_step, wants_ok, joins}
 use Rattle.ssh_bodies.proofs.Fields.{Run, run_took, number_took, text_took, number_back, text_back, magic_took, key_took, key_back}
 use Rattle.ssh_bodies.proofs.Paddings.{padding-length, padding-seven, least, least_whole, least_few, least_least}
@@ -298,7 +284,7 @@ private_again v bytes is =
 pub private_only : (bytes : List ℕ) (found v : PrivateBody) → private_in bytes ≡ Ok found → IsPrivateBlob v bytes → found ≡ v
 private_only bytes found v given blob = ok_is {E = BodyError} found v (sym given ∙ private_again v bytes blob)
 
--- what is refused is no body
+-- bytes that are refused are not a body
 pub private_refused : (bytes : List ℕ) (e : BodyError) (v : PrivateBody) → private_in bytes ≡ Err e → IsPrivateBlob v bytes → ⊥
 private_refused bytes e v given blob = let read : private_in bytes ≡ Ok v = private_again v bytes blob in cc
 

@@ -1,8 +1,5 @@
 -- Rows of fields in front of other bytes.
-use Rattle.std.proofs.Common.{◌≡◌, ℕ, ◌+◌, ◌^◌, ◌<◌, List, [], ◌∷◌, ◌++◌, length, refl, ap, ◌∙◌, append_assoc, arith}
-use Rattle.std.specs.List.{concat}
-use Rattle.std.proofs.lemmas.List.{length-append}
-use Rattle.ssh_wire.specs.Position.{Position}
+use Rattle.ssh_bodies.proofs.Imports.{◌≡◌, ℕ, ◌+◌, ◌^◌, ◌<◌, List, [], ◌∷◌, ◌++◌, length, refl, ap, ◌∙◌, append_assoc, arith, concat, length-append, Position}
 
 -- the fields, and then the rest
 abbrev pub onto : List (List ℕ) → List ℕ → List ℕ
@@ -18,7 +15,7 @@ abbrev pub place_after : ℕ → List (List ℕ) → ℕ
 place_after place [] = place
 place_after place (field ∷ fields) = place_after (place + length field) fields
 
--- where the fields stand
+-- where the fields are complete
 abbrev pub at_row : ℕ → List (List ℕ) → List ℕ → Position
 at_row place fields rest = record { place = place; rest = onto fields rest }
 

@@ -1,32 +1,10 @@
--- What is refused inside a private section has its first fault where it is told.
-use Rattle.std.proofs.Common.{◌≡◌, ◌≢◌, ℕ, ◌+◌, ◌^◌, ◌<◌, ◌≤◌, Bool, true, false, not, cond, eqb, List, [], ◌∷◌, ◌++◌, length, take, drop, replicate, Result, Ok, Err, refl, sym, ap, subst, ◌∙◌, append_assoc, arith, inl, inr, ◌⊎◌}
-use Rattle.std.specs.Prelude.{◌&&◌}
-use Rattle.std.specs.Int.{w32}
-use Rattle.std.specs.List.{concat}
-use Rattle.std.specs.Str.{bytes_eq}
-use Rattle.std.proofs.lemmas.Bool.{eqb-true, eqb-false, ltb-true}
-use Rattle.std.proofs.lemmas.List.{length-append, drop_at}
-use Rattle.std.proofs.lemmas.Slice.Eq.{bytes_eq-Decides}
-use Rattle.ssh_wire.specs.declared.error.WireCause.{WireCause}
-use Rattle.ssh_wire.specs.declared.error.WireCause.TheVariants.{Short, MpintNotMinimal, MpintNegative, Value}
-use Rattle.ssh_wire.specs.declared.error.WireError.{WireError}
-use Rattle.ssh_wire.specs.Spelling.{string, uint32, mpint, mpint_bytes, natural, is_least, is_not_negative}
-use Rattle.ssh_wire.specs.Position.{Position}
-use Rattle.ssh_wire.specs.Reading.{◌>>=◌, Read, fault, byte_at, number_at, string_at, mpint_at}
-use Rattle.ssh_wire.specs.Fronts.{IsBytes, Took}
-use Rattle.ssh_wire.specs.Laws.{Took-then, ok_is, fine, string_takes, string_again, refused_none}
-use Rattle.ssh_wire.specs.MpintLaws.{mpint_takes}
-use Rattle.ssh_wire.specs.Stands.{NoString}
-use Rattle.ssh_wire.proofs.RowLemmas.{string_is_short}
-use Rattle.ssh_keys.specs.Names.{key_name_of}
-use Rattle.ssh_keys.specs.PublicKey.{PublicKey, rsa, p256, p384, p521, ed25519, sk_p256, sk_ed25519, kind_of, is_in_range, longest}
-use Rattle.ssh_keys.proofs.SignatureLaws.{byte_takes}
-use Rattle.ssh_bodies.specs.declared.error.BodyError.{BodyError}
+-- Bytes that are refused inside a private section have the first error that is returned, at its place.
+use Rattle.ssh_bodies.proofs.Imports.{◌≡◌, ◌≢◌, ℕ, ◌+◌, ◌^◌, ◌<◌, ◌≤◌, Bool, true, false, not, cond, eqb, List, [], ◌∷◌, ◌++◌, length, take, drop, replicate, Result, Ok, Err, refl, sym, ap, subst, ◌∙◌, append_assoc, arith, inl, inr, ◌⊎◌, ◌&&◌, w32, concat, bytes_eq, eqb-true, eqb-false, ltb-true, length-append, drop_at, bytes_eq-Decides, WireCause, Short, MpintNotMinimal, MpintNegative, Value, WireError, string, uint32, mpint, natural, is_least, is_not_negative, Position, ◌>>=◌, Read, fault, byte_at, number_at, IsBytes, Took, Took-then, ok_is, fine, string_takes, string_again, refused_none, mpint_takes, NoString, string_is_short, key_name_of, PublicKey, rsa, p256, p384, p521, ed25519, sk_p256, sk_ed25519, kind_of, is_in_range, longest, byte_takes, BodyError, ReadBody, as_body_error, body_wants, PrivateKey, private_rsa, private_p256, private_p384, private_p521, private_ed25519, private_sk_p256, private_sk_ed25519, PrivateBody, public_of, private_fields, is_private_in_range, padding, is_padding, section_row, IsBodyOf, SectionStands, NoCheck, NoSectionText, SectionFieldSort, number, text, byte, section_sorts_of, IsField, AreFields, IsMissing, StopsShort, IsSectionFault}
+use Rattle.ssh_wire.specs.Spelling.{mpint_bytes}
+use Rattle.ssh_wire.specs.Reading.{string_at, mpint_at}
 use Rattle.ssh_bodies.specs.declared.error.BodyError.TheVariants as errors
-use Rattle.ssh_bodies.specs.BodyReading.{ReadBody, as_body_error, body_positive_at, body_wants}
-use Rattle.ssh_bodies.specs.PrivateKey.{PrivateKey, private_rsa, private_p256, private_p384, private_p521, private_ed25519, private_sk_p256, private_sk_ed25519, PrivateBody, public_of, private_fields, is_private_in_range, padding}
-use Rattle.ssh_bodies.specs.PrivateReading.{rsa_at, curve_at, ed25519_at, handle_at, private_at, is_padding, section_at}
-use Rattle.ssh_bodies.specs.SectionFault.{section_row, IsBodyOf, SectionStands, NoCheck, NoSectionText, SectionFieldSort, number, text, byte, section_sorts_of, IsField, AreFields, IsMissing, StopsShort, IsSectionFault}
+use Rattle.ssh_bodies.specs.BodyReading.{body_positive_at}
+use Rattle.ssh_bodies.specs.PrivateReading.{rsa_at, curve_at, ed25519_at, handle_at, private_at, section_at}
 use Rattle.ssh_bodies.proofs.Steps.{after_step, step_err, err_is, of_wire_ok, of_wire_err, wants_ok, wants_err, joins}
 use Rattle.ssh_bodies.proofs.Fields.{Run, run_took, number_fault, text_fault, number_took, text_took}
 use Rattle.ssh_bodies.proofs.PrivateKeyLaws.{positive_took, private_took, private_back}
@@ -51,7 +29,7 @@ byte_missing at e h = go at.rest h
     go [] f = record { cause = Short; is = err_is {A = ℕ × Position} (errors.Wire (record { place = at.place; cause = Short })) e f; missing = (refl, refl) }
     go (b ∷ rest) f = absurd cc
 
--- the number is missing, at the place of the fault
+-- the number is missing, at the place of the error
 abbrev Absent : WireError → Position → Type 0
 Absent w at = (w.place ≡ at.place) × IsMissing w.cause number at.rest
 
@@ -102,16 +80,16 @@ number_missing at e fits h =
         }
     zero n read_n false is_zero f = absurd cc
 
--- ---- fields in turn
+-- ---- fields one after the other
 
--- some fields stand, and one is missing
+-- some fields are complete, and one is missing
 record Failed (sorts : List SectionFieldSort) (at : Position) (e : BodyError) : Type 0 where
   place : ℕ
   cause : WireCause
   is : errors.Wire (record { place = at.place + place; cause = cause }) ≡ e
   stops : StopsShort sorts at.rest place cause
 
--- all fields stand, up to here
+-- all fields are complete, up to here
 record Stood (sorts : List SectionFieldSort) (at after : Position) : Type 0 where
   fields : List (List ℕ)
   are : AreFields sorts fields
@@ -277,7 +255,7 @@ no_half public at found key rest read unlike half public_range range short parts
 
 -- ---- the section
 
--- the first fields of the section stand, up to here
+-- the first fields of the section are complete, up to here
 record Up (public : PublicKey) (fields : ℕ) (at here : Position) : Type 0 where
   place : ℕ
   stands : SectionStands public fields at.rest place here.rest

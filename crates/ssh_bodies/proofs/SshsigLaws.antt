@@ -1,28 +1,12 @@
 -- What is read as a file signature is spelled so, and what is spelled so is read.
-use Rattle.std.proofs.Common.{◌≡◌, ◌≢◌, ℕ, ◌+◌, ◌^◌, ◌<◌, ◌≤◌, Bool, true, false, cond, ltb, eqb, List, [], ◌∷◌, ◌++◌, length, Result, Ok, Err, refl, sym, ap, subst, ◌∙◌, arith, inl, inr, ◌⊎◌}
-use Rattle.std.specs.Prelude.{codes}
-use Rattle.std.specs.Int.{w32}
-use Rattle.std.specs.List.{concat}
-use Rattle.std.specs.Str.{bytes_eq}
-use Rattle.std.proofs.lemmas.Bool.{ltb-false, lt-ltb, le-ltb, eqb-true}
-use Rattle.std.proofs.lemmas.List.{append-nil, length-append}
-use Rattle.std.proofs.lemmas.Slice.Eq.{bytes_eq-Decides}
-use Rattle.ssh_wire.specs.declared.error.WireError.{WireError}
-use Rattle.ssh_wire.specs.Spelling.{string, uint32}
-use Rattle.ssh_wire.specs.Position.{Position, start}
-use Rattle.ssh_wire.specs.Reading.{◌>>=◌, number_at, string_at}
-use Rattle.ssh_wire.specs.Fronts.{IsBytes, Took}
-use Rattle.ssh_wire.specs.Laws.{ok_is, string_fits}
-use Rattle.ssh_keys.specs.PublicKey.{key_blob, longest, IsKey}
-use Rattle.ssh_keys.specs.Signature.{Signature, signature_blob, IsSignature, signature_in}
-use Rattle.ssh_keys.proofs.SignatureLaws.{signature_takes, signature_again}
-use Rattle.ssh_bodies.specs.declared.error.BodyError.{BodyError}
+use Rattle.ssh_bodies.proofs.Imports.{◌≡◌, ◌≢◌, ℕ, ◌+◌, ◌^◌, ◌<◌, ◌≤◌, Bool, true, false, cond, ltb, eqb, List, [], ◌∷◌, ◌++◌, length, Result, Ok, Err, refl, sym, ap, subst, ◌∙◌, arith, inl, inr, ◌⊎◌, codes, w32, concat, bytes_eq, ltb-false, lt-ltb, le-ltb, eqb-true, append-nil, length-append, bytes_eq-Decides, WireError, string, uint32, Position, start, ◌>>=◌, number_at, IsBytes, Took, ok_is, string_fits, longest, IsKey, Signature, IsSignature, signature_takes, signature_again, BodyError, HashName, Sha256, Sha512, as_body_error, of_inner, body_wants, magic_at, last_at, Sshsig, sshsig_magic, hash_name, sshsig_row, IsSshsig, IsSshsigBlob, hash_from}
+use Rattle.ssh_wire.specs.Reading.{string_at}
+use Rattle.ssh_keys.specs.PublicKey.{key_blob}
+use Rattle.ssh_keys.specs.Signature.{signature_blob, signature_in}
 use Rattle.ssh_bodies.specs.declared.error.BodyError.TheVariants as errors
-use Rattle.ssh_bodies.specs.declared.hash.HashName.{HashName}
-use Rattle.ssh_bodies.specs.declared.hash.HashName.TheVariants.{Sha256, Sha512}
-use Rattle.ssh_bodies.specs.BodyReading.{as_body_error, of_inner, body_wants, magic_at, key_at, last_at}
-use Rattle.ssh_bodies.specs.Sshsig.{Sshsig, sshsig_magic, hash_name, sshsig_row, sshsig_blob, IsSshsig, IsSshsigBlob}
-use Rattle.ssh_bodies.specs.SshsigReading.{hash_from, sshsig_signature_at, sshsig_at, sshsig_in}
+use Rattle.ssh_bodies.specs.BodyReading.{key_at}
+use Rattle.ssh_bodies.specs.Sshsig.{sshsig_blob}
+use Rattle.ssh_bodies.specs.SshsigReading.{sshsig_signature_at, sshsig_at, sshsig_in}
 use Rattle.ssh_bodies.proofs.Steps.{after_step, then_step, wants_ok}
 use Rattle.ssh_bodies.proofs.Fields.{run_took, number_took, text_took, number_back, text_back, magic_took, magic_back, key_took, key_back}
 
@@ -228,6 +212,6 @@ sshsig_again v is =
 pub sshsig_only : (bytes : List ℕ) (found v : Sshsig) → sshsig_in bytes ≡ Ok found → IsSshsigBlob v bytes → found ≡ v
 sshsig_only bytes found v given blob = ok_is {E = BodyError} found v (sym given ∙ ap sshsig_in blob.spelled ∙ sshsig_again v blob.is_sshsig)
 
--- what is refused is no file signature's body
+-- bytes that are refused are not a file signature's body
 pub sshsig_refused : (bytes : List ℕ) (e : BodyError) (v : Sshsig) → sshsig_in bytes ≡ Err e → IsSshsigBlob v bytes → ⊥
 sshsig_refused bytes e v given blob = let read : sshsig_in bytes ≡ Ok v = ap sshsig_in blob.spelled ∙ sshsig_again v blob.is_sshsig in cc

@@ -1,12 +1,6 @@
 -- Steps of a reading that failed, and steps that did not.
-use Rattle.std.proofs.Common.{◌≡◌, ℕ, Bool, true, false, List, ◌++◌, Result, Ok, Err, refl, ap, ◌∙◌}
-use Rattle.ssh_wire.specs.declared.error.WireError.{WireError}
-use Rattle.ssh_wire.specs.Reading.{◌>>=◌}
-use Rattle.ssh_wire.specs.Laws.{ok_is}
-use Rattle.ssh_keys.specs.declared.error.KeyError.{KeyError}
-use Rattle.ssh_bodies.specs.declared.error.BodyError.{BodyError}
+use Rattle.ssh_bodies.proofs.Imports.{◌≡◌, ℕ, Bool, true, false, List, ◌++◌, Result, Ok, Err, refl, ap, ◌∙◌, WireError, ◌>>=◌, ok_is, KeyError, BodyError, as_body_error, of_key, body_wants}
 use Rattle.ssh_bodies.specs.declared.error.BodyError.TheVariants as errors
-use Rattle.ssh_bodies.specs.BodyReading.{as_body_error, of_key, body_wants}
 
 -- a step that did not fail, and what follows it
 pub after_step : {A B E P : Type 0} (r : Result A E) (f : A → Result B E) (y : B) → (r >>= f) ≡ Ok y → ((x : A) → r ≡ Ok x → f x ≡ Ok y → P) → P

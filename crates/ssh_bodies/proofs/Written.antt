@@ -1,12 +1,8 @@
 -- Texts that are written one after the other.
-use Rattle.std.proofs.Common.{◌≡◌, ℕ, List, [], ◌++◌, length, take, Result, Ok, Err, refl, sym, ap, subst, ◌∙◌, append_assoc, arith}
-use Rattle.std.specs.Prelude.{OnOk, OnErr}
-use Rattle.std.proofs.lemmas.List.{append-nil, length-append, take-take, take_at}
-use Rattle.ssh_wire.specs.Spelling.{string, uint32}
+use Rattle.ssh_bodies.proofs.Imports.{◌≡◌, ℕ, List, [], ◌++◌, length, take, Result, Ok, Err, refl, sym, ap, subst, ◌∙◌, append_assoc, arith, OnOk, OnErr, append-nil, length-append, take-take, take_at, string, uint32, Keeps, Sshsig, sshsig_magic, hash_name, digest_of}
 use Rattle.ssh_keys.specs.PublicKey.{key_blob}
 use Rattle.ssh_keys.specs.Signature.{signature_blob}
-use Rattle.ssh_wire.specs.Fronts.{Keeps}
-use Rattle.ssh_bodies.specs.Sshsig.{Sshsig, sshsig_magic, hash_name, digest_of, sshsig_blob, signed_bytes}
+use Rattle.ssh_bodies.specs.Sshsig.{sshsig_blob, signed_bytes}
 
 -- four texts after a first one
 four : (m a b c d o1 o2 o3 o4 : List ℕ) → o1 ≡ m ++ a → o2 ≡ o1 ++ b → o3 ≡ o2 ++ c → o4 ≡ o3 ++ d → o4 ≡ m ++ (a ++ (b ++ (c ++ d)))

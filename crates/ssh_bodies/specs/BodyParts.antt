@@ -1,5 +1,4 @@
--- The bodies in parts: what stands before the keys, and the rest. Laws say that reading part by part is reading field
--- by field (proofs/PartLaws.antt).
+-- The bodies in parts: what comes before the keys, and the rest. Laws state that reading part by part is reading field by field (proofs/PartLaws.antt).
 use Rattle.std.specs.Prelude.{ℕ, length, Result, Ok, nat_lt, ◌==◌}
 use Rattle.std.specs.Int.{w32}
 use Rattle.std.specs.Str.{bytes_eq}
@@ -15,7 +14,7 @@ use Rattle.ssh_bodies.specs.PrivateReading.{private_at, is_padding, not_encrypte
 use Rattle.ssh_bodies.specs.Sshsig.{Sshsig, sshsig_magic}
 use Rattle.ssh_bodies.specs.SshsigReading.{hash_from, sshsig_signature_at}
 
--- the check numbers of a private section, and the type name, which is to be this public key's
+-- the check numbers of a private section, and the type name, which must be this public key's
 unfoldable pub section_head_at : PublicKey → Position → ReadBody ℕ
 section_head_at public at = do
   check ← as_body_error (number_at w32 at)

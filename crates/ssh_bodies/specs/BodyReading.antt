@@ -1,36 +1,36 @@
--- What both bodies are read by, with the first fault.
+-- How the fields of both bodies are read, with the first error.
 use Rattle.std.specs.Prelude.{ℕ, ◌+◌, Bool, true, false, List, length, take, Result, Ok, Err, ◌==◌, if◌then◌else◌}
 use Rattle.std.specs.Str.{bytes_eq}
-use Rattle.ssh_wire.specs.declared.error.WireCause.TheVariants.{Value}
-use Rattle.ssh_wire.specs.declared.error.WireError.{WireError}
+use Rattle.ssh_wire.specs.declared.cursor.WireCause.TheVariants.{Value}
+use Rattle.ssh_wire.specs.declared.cursor.WireError.{WireError}
 use Rattle.ssh_wire.specs.Position.{Position, advance}
 use Rattle.ssh_wire.specs.Reading.{◌>>=◌, string_at, mpint_at}
-use Rattle.ssh_keys.specs.declared.error.KeyError.{KeyError}
+use Rattle.ssh_keys.specs.declared.key.KeyError.{KeyError}
 use Rattle.ssh_keys.specs.KeyReading.{key_in}
 use Rattle.ssh_keys.specs.PublicKey.{PublicKey}
 use Rattle.ssh_bodies.specs.declared.error.BodyError.{BodyError}
 use Rattle.ssh_bodies.specs.declared.error.BodyError.TheVariants as errors
 
--- what reading a field of a body gives
+-- the result of reading a field of a body
 abbrev pub ReadBody : Type 0 → Type 0
 ReadBody A = Result (A × Position) BodyError
 
--- a fault of a value is one of the body's
+-- an error of a value as an error of the body
 abbrev pub as_body_error : {A : Type 0} → Result A WireError → Result A BodyError
 as_body_error (Ok x) = Ok x
 as_body_error (Err e) = Err (errors.Wire e)
 
--- a fault of the public key is one of the body's
+-- an error of the public key as an error of the body
 abbrev pub of_key : {A : Type 0} → Result A KeyError → Result A BodyError
 of_key (Ok x) = Ok x
 of_key (Err e) = Err (errors.Key e)
 
--- a fault of bytes that begin at this place of the body
+-- an error of bytes that begin at this place of the body
 abbrev pub of_inner : {A : Type 0} → ℕ → Result A WireError → Result A BodyError
 of_inner place (Ok x) = Ok x
 of_inner place (Err e) = Err (errors.Wire (record { place = place + e.place; cause = e.cause }))
 
--- a test that must hold
+-- a test that must pass, or else this error
 abbrev pub body_wants : Bool → BodyError → Result (Unit {0}) BodyError
 body_wants true e = Ok tt
 body_wants false e = Err e
@@ -52,6 +52,6 @@ body_positive_at at = do
   n ← as_body_error (mpint_at at)
   if n.0 == 0 then Err (errors.Wire (record { place = at.place; cause = Value })) else Ok n
 
--- no byte is left in the body
+-- no byte follows in the body
 abbrev pub last_at : Position → Result (Unit {0}) BodyError
 last_at at = body_wants (length at.rest == 0) errors.Trailing

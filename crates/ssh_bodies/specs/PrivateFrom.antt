@@ -1,4 +1,4 @@
--- The private key that fields in memory stand for.
+-- The private key that fields in memory represent.
 use Rattle.ssh_wire.specs.Mpint.{number_of}
 use Rattle.ssh_bodies.specs.declared.private_fields.PrivateFields.{PrivateFields}
 use Rattle.ssh_bodies.specs.declared.private_fields.PrivateFields.TheVariants.{Rsa, P256, P384, P521, Ed25519, SkP256, SkEd25519}

@@ -1,4 +1,4 @@
--- Private keys and their bodies (PROTOCOL.key, openssh-key-v1), not encrypted and of one key.
+-- Private keys and their bodies (PROTOCOL.key, openssh-key-v1), for bodies that are not encrypted and have one key.
 use Rattle.std.specs.Prelude.{◌≡◌, ℕ, zero, suc, ◌+◌, ◌-◌, ◌%◌, ◌≤◌, ◌<◌, ◌^◌, Bool, List, [], ◌∷◌, ◌++◌, length, drop, codes, nat_lt, ◌==◌, ◌&&◌, IsTrue}
 use Rattle.std.specs.List.{concat}
 use Rattle.std.specs.Str.{bytes_eq}
@@ -6,7 +6,7 @@ use Rattle.ssh_wire.specs.Spelling.{string, uint32, mpint}
 use Rattle.ssh_keys.specs.Names.{key_name_of}
 use Rattle.ssh_keys.specs.PublicKey.{PublicKey, rsa, p256, p384, p521, ed25519, sk_p256, sk_ed25519, kind_of, key_blob, longest, IsKey}
 
--- a private key, wherever it lies in memory
+-- the fields of a private key as values, whether it was read or is to be written
 pub data PrivateKey : Type 0 where
   private_rsa : (modulus exponent private_exponent coefficient prime1 prime2 : ℕ) → PrivateKey
   private_p256 : (point : List ℕ) → (scalar : ℕ) → PrivateKey
@@ -48,7 +48,7 @@ is_private_in_range (private_ed25519 a secret) = (length secret == 64) && bytes_
 is_private_in_range (private_sk_p256 point application flags handle reserved) = nat_lt flags 256
 is_private_in_range (private_sk_ed25519 a application flags handle reserved) = nat_lt flags 256
 
--- what a body holds
+-- the values of a body: a check number, a private key and a comment
 pub record PrivateBody : Type 0 where
   pub check : ℕ
   pub key : PrivateKey
@@ -58,7 +58,7 @@ pub record PrivateBody : Type 0 where
 abbrev pub private_with : ℕ → PrivateKey → List ℕ → PrivateBody
 private_with check key comment = record { check = check; key = key; comment = comment }
 
--- so many bytes 1, 2, 3 and so on, after the number
+-- so many bytes that count up from the number after this one
 abbrev pub padding_after : ℕ → ℕ → List ℕ
 padding_after n zero = []
 padding_after n (suc count) = (n + 1) ∷ padding_after (n + 1) count
@@ -75,12 +75,11 @@ section_front v = uint32 v.check ++ (uint32 v.check ++ (string (key_name_of (kin
 abbrev pub section : PrivateBody → ℕ → List ℕ
 section v count = section_front v ++ padding count
 
--- the bytes that a body begins with
+-- the magic bytes with which a body begins
 abbrev pub private_magic : List ℕ
 private_magic = codes "openssh-key-v1" ++ 0 ∷ []
 
--- the row of a body by its public key and its private section: no cipher, no key derivation and no options
--- for it, and one key
+-- the fields of a body by its public key and its private section: no cipher, no key derivation and no options for it, and one key
 abbrev pub private_row : PublicKey × List ℕ → List (List ℕ)
 private_row v = private_magic ∷ string (codes "none") ∷ string (codes "none") ∷ string [] ∷ uint32 1 ∷ string (key_blob v.0) ∷ string v.1 ∷ []
 
@@ -92,7 +91,7 @@ body_padded v count = concat (private_row (public_of v.key, section v count))
 abbrev pub least_padding : PrivateBody → ℕ
 least_padding v = (8 - length (section_front v) % 8) % 8
 
--- the body that is written
+-- the body that is written, with the least padding
 abbrev pub private_blob : PrivateBody → List ℕ
 private_blob v = body_padded v (least_padding v)
 
@@ -107,7 +106,7 @@ pub record IsPrivateBody (v : PrivateBody) : Type 0 where
 abbrev pub IsPadded : PrivateBody → ℕ → Type 0
 IsPadded v count = length (section v count) % 8 ≡ 0
 
--- a body of this value, with some padding
+-- the bytes are a body of this value, with some padding
 pub record IsPrivateBlob (v : PrivateBody) (bytes : List ℕ) : Type 0 where
   pub is_body : IsPrivateBody v
   pub count : ℕ

@@ -1,4 +1,4 @@
--- What a view of a private body stands for.
+-- The private key body that a view represents.
 use Rattle.ssh_bodies.specs.declared.private_view.PrivateView as declared
 use Rattle.ssh_bodies.specs.PrivateFrom.{private_key}
 use Rattle.ssh_bodies.specs.PrivateKey.{PrivateBody}

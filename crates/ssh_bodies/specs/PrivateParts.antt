@@ -1,8 +1,8 @@
--- What the parts of a private key in memory stand for.
+-- The values of the parts of a private key in memory.
 use Rattle.std.specs.Prelude.{ℕ, List}
 use Rattle.ssh_wire.specs.Mpint.{number_of}
-use Rattle.ssh_keys.specs.declared.curve.Curve.{Curve}
-use Rattle.ssh_keys.specs.declared.curve.Curve.TheVariants.{Nistp256, Nistp384, Nistp521}
+use Rattle.ssh_keys.specs.declared.kind.Curve.{Curve}
+use Rattle.ssh_keys.specs.declared.kind.Curve.TheVariants.{Nistp256, Nistp384, Nistp521}
 use Rattle.ssh_keys.specs.PublicKey.{PublicKey, p256, p384, p521}
 use Rattle.ssh_bodies.specs.declared.private_section.RsaPart.{RsaPart}
 use Rattle.ssh_bodies.specs.declared.private_section.CurvePart.{CurvePart}
@@ -25,7 +25,7 @@ on_curve k = record { curve = k.curve.now; point = k.point.now; scalar = number_
 abbrev pub handle_of : HandlePart → KeyHandle
 handle_of k = record { application = k.application.now; flags = k.flags; key_handle = k.key_handle.now; reserved = k.reserved.now }
 
--- the key of a point on a curve
+-- the public key of a point on a curve
 abbrev pub curve_key : Curve → List ℕ → PublicKey
 curve_key Nistp256 point = p256 point
 curve_key Nistp384 point = p384 point

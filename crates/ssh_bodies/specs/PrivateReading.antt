@@ -1,4 +1,4 @@
--- Reading a private body field by field, with the first fault.
+-- Reading the body of a private key field by field, with the first error.
 use Rattle.std.specs.Prelude.{ℕ, ◌+◌, ◌%◌, Bool, List, length, drop, codes, Result, Ok, Err, nat_lt, nat_le, ◌==◌, ◌&&◌, if◌then◌else◌}
 use Rattle.std.specs.Int.{w32}
 use Rattle.std.specs.Str.{bytes_eq}
@@ -11,7 +11,7 @@ use Rattle.ssh_bodies.specs.declared.error.BodyError.TheVariants as errors
 use Rattle.ssh_bodies.specs.BodyReading.{ReadBody, as_body_error, body_wants, magic_at, key_at, body_positive_at, last_at}
 use Rattle.ssh_bodies.specs.PrivateKey.{PrivateKey, private_rsa, private_p256, private_p384, private_p521, private_ed25519, private_sk_p256, private_sk_ed25519, PrivateBody, padding, private_magic}
 
--- the numbers of an RSA key
+-- the numbers of an RSA key, in the order of the section
 pub record RsaNumbers : Type 0 where
   pub modulus : ℕ
   pub exponent : ℕ
@@ -30,7 +30,7 @@ rsa_at at = do
   q ← body_positive_at p.1
   Ok (record { modulus = n.0; exponent = e.0; private_exponent = d.0; coefficient = c.0; prime1 = p.0; prime2 = q.0 }, q.1)
 
--- the fields of a key on a curve
+-- the fields of an ECDSA key
 pub record OnCurve : Type 0 where
   pub curve : List ℕ
   pub point : List ℕ
@@ -50,7 +50,7 @@ ed25519_at at = do
   secret ← as_body_error (string_at public.1)
   Ok ((public.0, secret.0), secret.1)
 
--- what a body keeps of a security key
+-- the fields of a security key after its point or public key
 pub record KeyHandle : Type 0 where
   pub application : List ℕ
   pub flags : ℕ
@@ -95,11 +95,11 @@ private_at (sk_ed25519 a s) at = do
   k ← handle_at public.1
   Ok ((private_sk_ed25519 public.0 (k.0).application (k.0).flags (k.0).key_handle (k.0).reserved, bytes_eq public.0 a && bytes_eq (k.0).application s), k.1)
 
--- 1, 2, 3 and so on to the end, at most 254 bytes
+-- whether the rest is 1, 2, 3 and so on to the end, at most 254 bytes
 abbrev pub is_padding : List ℕ → Bool
 is_padding rest = nat_le (length rest) 254 && bytes_eq rest (padding (length rest))
 
--- the private section, which is to be this public key's
+-- the private section, which must be this public key's
 unfoldable pub section_at : PublicKey → Position → Result PrivateBody BodyError
 section_at public at = do
   check ← as_body_error (number_at w32 at)
@@ -122,7 +122,7 @@ not_encrypted_at at = do
   _ ← body_wants (bytes_eq cipher.0 (codes "none") && (bytes_eq kdf.0 (codes "none") && (length options.0 == 0))) errors.Encrypted
   Ok (tt, options.1)
 
--- Where the last string of the bytes has its text, which is a multiple of 8 long.
+-- Where the text of the last string begins; the string must be the last field and a multiple of 8 long.
 unfoldable pub section_start : Position → ReadBody (Unit {0})
 section_start at = do
   text ← as_body_error (string_at at)
@@ -130,7 +130,7 @@ section_start at = do
   _ ← body_wants (length text.0 % 8 == 0) errors.NotMultipleOfEight
   Ok (tt, record { place = at.place + 4; rest = text.0 })
 
--- a body that is short enough
+-- the private key of a body that is within the limit
 unfoldable pub body_at : Position → Result PrivateBody BodyError
 body_at at = do
   magic ← magic_at private_magic at
@@ -141,6 +141,6 @@ body_at at = do
   inside ← section_start public.1
   section_at public.0 inside.1
 
--- what a private body holds, or the first fault
+-- the values of a private key body, or the first error
 unfoldable pub private_in : List ℕ → Result PrivateBody BodyError
 private_in bytes = if nat_lt longest (length bytes) then Err errors.TooLong else body_at (start bytes)

@@ -1,10 +1,10 @@
--- Private bodies and file signatures, as the definitions read, write and refuse them.
+-- Worked examples: private key bodies and file signatures, as the definitions read, write and refuse them.
 use Rattle.std.specs.Prelude.{◌≡◌, ℕ, List, [], ◌∷◌, ◌++◌, length, take, codes, replicate, None, Ok, Err}
-use Rattle.ssh_wire.specs.declared.error.WireCause.TheVariants.{Short, Value}
+use Rattle.ssh_wire.specs.declared.cursor.WireCause.TheVariants.{Short, Value}
 use Rattle.ssh_keys.specs.PublicKey.{ed25519}
 use Rattle.ssh_bodies.specs.declared.error.BodyError.{BodyError}
 use Rattle.ssh_bodies.specs.declared.error.BodyError.TheVariants as errors
-use Rattle.ssh_bodies.specs.declared.hash.HashName.TheVariants.{Sha256}
+use Rattle.ssh_bodies.specs.declared.sshsig.HashName.TheVariants.{Sha256}
 use Rattle.ssh_bodies.specs.PrivateKey.{PrivateKey, private_rsa, private_p256, private_p384, private_p521, private_ed25519, private_sk_p256, private_sk_ed25519, PrivateBody, padding, private_blob}
 use Rattle.ssh_bodies.specs.PrivateReading.{private_in}
 use Rattle.ssh_bodies.specs.Sshsig.{Sshsig, sshsig_blob, signed_bytes}
@@ -47,7 +47,7 @@ good = ed25519_body 1 (front 0 abc ++ 1 ∷ 2 ∷ [])
 abbrev good_value : List ℕ → PrivateBody
 good_value comment = record { check = 1; key = private_ed25519 (replicate 32 0) (replicate 64 0); comment = comment }
 
--- the body, and its cuts
+-- the body, and bytes cut from it
 abbrev pub PrivateSamplesRead : Type 0
 PrivateSamplesRead = (length good ≡ 234)
     × (length (front 0 abc) ≡ 134)
@@ -60,7 +60,7 @@ PrivateSamplesRead = (length good ≡ 234)
     × (private_in (replicate 262145 255) ≡ Err errors.TooLong)
     × (private_in (replicate 262144 255) ≡ Err errors.Magic)
 
--- the body with one fault
+-- the body with one error
 abbrev pub PrivateSamplesRefused : Type 0
 PrivateSamplesRefused = (private_in (good ++ 0 ∷ []) ≡ Err errors.Trailing)
     × (private_in (ed25519_body 2 (front 0 abc ++ 1 ∷ 2 ∷ [])) ≡ Err errors.KeyCount)
@@ -84,7 +84,7 @@ PaddingsRead = (padding 3 ≡ 1 ∷ 2 ∷ 3 ∷ [])
 abbrev section_of : List ℕ → List ℕ → List ℕ
 section_of key secret = 0 ∷ 0 ∷ 0 ∷ 7 ∷ 0 ∷ 0 ∷ 0 ∷ 7 ∷ key ++ secret ++ text 0 [] ++ 1 ∷ 2 ∷ 3 ∷ []
 
--- bytes are read as this key with no comment, and it is written as them
+-- the bytes are read as this key with no comment, and it is written as them
 abbrev Is : List ℕ → PrivateKey → Type 0
 Is bytes key = (private_in bytes ≡ Ok (record { check = 7; key = key; comment = [] })) × (private_blob (record { check = 7; key = key; comment = [] }) ≡ bytes)
 
@@ -176,7 +176,7 @@ SshsigSamplesRead = (length signed_file ≡ 111)
     × (sshsig_in (sshsig 1 (text 0 []) sha256_name 20 signature) ≡ Err errors.EmptyNamespace)
     × (sshsig_in (sshsig 1 file (text 4 (codes "sha1")) 20 signature) ≡ Err errors.Hash)
 
--- what it signs for the message `abc`, whose SHA-256 is in FIPS 180-4
+-- the bytes that it signs for the message `abc`, whose SHA-256 is in FIPS 180-4
 abbrev pub SignedBytesSample : Type 0
 SignedBytesSample = signed_bytes file_signature (codes "abc")
     ≡ codes "SSHSIG" ++ file ++ text 0 [] ++ sha256_name ++ 0 ∷ 0 ∷ 0 ∷ 32

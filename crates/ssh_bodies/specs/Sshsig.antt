@@ -1,4 +1,4 @@
--- File signatures and their one body (PROTOCOL.sshsig).
+-- File signatures and their encoding as one body (PROTOCOL.sshsig).
 use Rattle.std.specs.Prelude.{◌≡◌, ◌≢◌, ℕ, ◌≤◌, List, [], ◌∷◌, ◌++◌, length, codes}
 use Rattle.std.specs.List.{concat}
 use Rattle.sha2.specs.Sha256.{sha256}
@@ -6,10 +6,10 @@ use Rattle.sha2.specs.Sha512.{sha512}
 use Rattle.ssh_wire.specs.Spelling.{string, uint32}
 use Rattle.ssh_keys.specs.PublicKey.{PublicKey, key_blob, longest, IsKey}
 use Rattle.ssh_keys.specs.Signature.{Signature, signature_blob, IsSignature}
-use Rattle.ssh_bodies.specs.declared.hash.HashName.{HashName}
-use Rattle.ssh_bodies.specs.declared.hash.HashName.TheVariants.{Sha256, Sha512}
+use Rattle.ssh_bodies.specs.declared.sshsig.HashName.{HashName}
+use Rattle.ssh_bodies.specs.declared.sshsig.HashName.TheVariants.{Sha256, Sha512}
 
--- a file signature, wherever it lies in memory
+-- the fields of a file signature as values, whether it was read or is to be written
 pub record Sshsig : Type 0 where
   pub key : PublicKey
   pub namespace : List ℕ
@@ -27,11 +27,11 @@ abbrev pub digest_of : HashName → List ℕ → List ℕ
 digest_of Sha256 message = sha256 message
 digest_of Sha512 message = sha512 message
 
--- the bytes that a body and a signed text begin with
+-- the magic bytes with which a body and the signed bytes begin
 abbrev pub sshsig_magic : List ℕ
 sshsig_magic = codes "SSHSIG"
 
--- the row of all fields, the magic bytes and the version among them
+-- all fields in the order of the body, with the magic bytes and the version
 abbrev pub sshsig_row : Sshsig → List (List ℕ)
 sshsig_row v = sshsig_magic ∷ uint32 1 ∷ string (key_blob v.key) ∷ string v.namespace ∷ string v.reserved ∷ string (hash_name v.hash) ∷ string (signature_blob v.signature) ∷ []
 
@@ -51,7 +51,7 @@ pub record IsSshsig (v : Sshsig) : Type 0 where
   pub signature : IsSignature v.signature
   pub length : length (sshsig_blob v) ≤ longest
 
--- the body of this file signature
+-- the bytes are the body of this file signature
 pub record IsSshsigBlob (v : Sshsig) (bytes : List ℕ) : Type 0 where
   pub is_sshsig : IsSshsig v
   pub spelled : bytes ≡ sshsig_blob v

@@ -1,4 +1,4 @@
--- The file signature that a view stands for.
+-- The file signature that a view represents.
 use Rattle.ssh_keys.specs.KeyOf.{key_of}
 use Rattle.ssh_keys.specs.Signature.{signature_of}
 use Rattle.ssh_bodies.specs.declared.sshsig_view.SshsigView as declared

@@ -1,42 +1,31 @@
-//! Reading private bodies.
+//! Reads the body of a private key (PROTOCOL.key, openssh-key-v1) that is not encrypted.
 
 ghost use Rattle.std.specs.Prelude.{◌≡◌, IfOk, IfErr, IsOkAnd};
-ghost use Rattle.ssh_wire.specs.Position.{Position, start};
-ghost use Rattle.ssh_wire.specs.Reading.{Gives, Reads};
 ghost use Rattle.ssh_keys.specs.KeyOf.{key_of};
-ghost use Rattle.ssh_bodies.specs.PrivateKey.{PrivateBody, IsPrivateBlob, private_magic};
+ghost use Rattle.ssh_bodies.specs.PrivateKey.{PrivateBody, IsPrivateBlob};
+ghost use Rattle.ssh_wire.specs.Position.{start};
+ghost use Rattle.ssh_wire.specs.Reading.{Gives, Reads};
 ghost use Rattle.ssh_bodies.specs.PrivateFault.{IsPrivateFault};
 ghost use Rattle.ssh_bodies.specs.PrivateOf.{private_body};
-ghost use Rattle.ssh_bodies.specs.PrivateReading.{
-  not_encrypted_at,
-  section_start,
-  body_at,
-  private_in,
-};
-ghost use Rattle.ssh_bodies.specs.BodyParts.{
-  section_head_at,
-  section_by_parts,
-  body_head_at,
-  body_by_parts,
-};
+ghost use Rattle.ssh_bodies.specs.PrivateReading.{not_encrypted_at, section_start, body_at, private_in};
+ghost use Rattle.ssh_bodies.specs.BodyParts.{section_head_at, section_by_parts, body_head_at, body_by_parts};
 
-use crate::error::BodyError;
+use crate::error::{BodyError, take_end, take_key, take_magic};
 use crate::private_section::{is_padding, take_private};
 use crate::private_view::PrivateView;
-use crate::reading::{take_end, take_key, take_magic};
 use ssh_keys::{KeyView, MAX_BLOB_LEN};
 use ssh_wire::Cursor;
 
-/// The bytes that a body begins with.
+/// The magic bytes with which a body begins.
 pub(crate) const PRIVATE_MAGIC: &[u8] = b"openssh-key-v1\0";
 
-/// The name of no cipher, and of no key derivation.
+/// The name of the cipher, and of the key derivation, of a body that is not encrypted.
 pub(crate) const NONE: &[u8] = b"none";
 
-/// No options of a key derivation.
+/// The options of the key derivation `none`.
 pub(crate) const NO_OPTIONS: &[u8] = b"";
 
-/// Takes the cipher, the key derivation and its options, which are to say that nothing is
+/// Reads the cipher, the key derivation and its options, which must be those of a body that is not
 /// encrypted.
 #[tactic(auto, unfolding(crate::specs::PrivateReading::not_encrypted_at))]
 fn take_not_encrypted(cursor: &mut Cursor<'_>) -> Result<(), BodyError>
@@ -52,7 +41,8 @@ fn take_not_encrypted(cursor: &mut Cursor<'_>) -> Result<(), BodyError>
     }
 }
 
-/// Goes to the first byte of the last string's text.
+/// Checks that the private section is the last string and a multiple of 8 long, and moves to its
+/// first byte.
 #[tactic(auto, unfolding(crate::specs::PrivateReading::section_start))]
 fn enter_section(cursor: &mut Cursor<'_>) -> Result<(), BodyError>
     ensures { Reads (λ u. u) section_start cursor.old result cursor.new }
@@ -67,7 +57,7 @@ fn enter_section(cursor: &mut Cursor<'_>) -> Result<(), BodyError>
     Ok(())
 }
 
-/// Takes the check numbers of the private section and its type name, which is to be this public
+/// Reads the check numbers of the private section and its type name, which must be this public
 /// key's.
 #[tactic(auto, unfolding(crate::specs::BodyParts::section_head_at))]
 fn take_section_head(public: KeyView<'_>, cursor: &mut Cursor<'_>) -> Result<u32, BodyError>
@@ -84,7 +74,7 @@ fn take_section_head(public: KeyView<'_>, cursor: &mut Cursor<'_>) -> Result<u32
     Ok(check)
 }
 
-/// The private section, which is to be this public key's.
+/// Reads the private section, which must be this public key's.
 #[tactic(auto, unfolding(crate::specs::BodyParts::section_by_parts))]
 fn section_fields<'a>(
     public: KeyView<'a>,
@@ -109,8 +99,8 @@ fn section_fields<'a>(
     })
 }
 
-/// Takes what stands before the public key: the magic bytes, that nothing is encrypted, and that
-/// there is one key.
+/// Reads what comes before the public key: the magic bytes, the fields of a body that is not
+/// encrypted, and a count of one key.
 #[tactic(auto, unfolding(crate::specs::BodyParts::body_head_at))]
 fn take_body_head(cursor: &mut Cursor<'_>) -> Result<(), BodyError>
     ensures { Reads (λ u. u) body_head_at cursor.old result cursor.new }
@@ -123,7 +113,7 @@ fn take_body_head(cursor: &mut Cursor<'_>) -> Result<(), BodyError>
     Ok(())
 }
 
-/// What a short private body holds, part by part.
+/// The private key of a body that is within the limit, read part by part.
 #[tactic(auto, unfolding(crate::specs::BodyParts::body_by_parts))]
 fn body_parts(body: &[u8]) -> Result<PrivateView<'_>, BodyError>
     ensures { Gives private_body result (body_by_parts (start body.now)) }
@@ -135,7 +125,7 @@ fn body_parts(body: &[u8]) -> Result<PrivateView<'_>, BodyError>
     section_fields(public, &mut cursor)
 }
 
-/// The same, field by field.
+/// The same. The contract describes reading field by field.
 fn body_fields(body: &[u8]) -> Result<PrivateView<'_>, BodyError>
     ensures { Gives private_body result (body_at (start body.now)) }
 {
@@ -152,22 +142,22 @@ fn private_within(bytes: &[u8]) -> Result<PrivateView<'_>, BodyError>
     body_fields(bytes)
 }
 
-/// The private key that a body holds, all of the bytes. The view borrows them and copies nothing.
+/// Reads a private key from all bytes of its body. The view borrows them and copies nothing.
 ///
-/// The first fault is told: B14 before all others; B1; then B2, B3 and B11 of the fields before the
-/// private section, B13 for bytes after it, B6 for its length; in it B4 after the check numbers, B7
-/// after the type name and after the key's fields, and B5 for what follows the comment. A field
-/// that cannot be read is B12.
+/// The first error is returned: B14 before all others; B1; then B2, B3 and B11 of the fields before
+/// the private section, B13 for bytes after it, B6 for its length; in it B4 after the check
+/// numbers, B7 after the type name and after the key's fields, and B5 for what follows the comment.
+/// A field that cannot be read is B12.
 pub fn read_private(bytes: &[u8]) -> Result<PrivateView<'_>, BodyError>
-    // What is read is a body of what is answered.
+    // The bytes are a body of the key that is returned.
     ensures found { IfOk result (λ view. IsPrivateBlob (private_body view) bytes.now) }
-    // A body, with any padding, is read as what it holds.
+    // A body, with any padding, is read as the key that it has.
     ensures only { (body : PrivateBody)
         → IsPrivateBlob body bytes.now
         → IsOkAnd result (λ view. private_body view ≡ body) }
-    // The first fault up to the private section, by the fields alone.
+    // The first error, stated by the fields alone.
     ensures first { IfErr result (IsPrivateFault bytes.now) }
-    // The same by reading from the left, in the private section too.
+    // The same, stated by reading from the left, in the private section too.
     ensures exact { Gives private_body result (private_in bytes.now) }
 {
     match private_within(bytes) {

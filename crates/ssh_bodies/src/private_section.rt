@@ -1,4 +1,5 @@
-//! Reading the private section of a body.
+//! Reads the private section of a body: the key's fields, whether the public ones match, the
+//! comment and the padding.
 
 ghost use Rattle.std.specs.Prelude.{◌≡◌, ◌==◌, ◌&&◌, length, drop};
 ghost use Rattle.std.specs.Str.{bytes_eq};
@@ -11,14 +12,7 @@ ghost use Rattle.ssh_keys.specs.View.{public_key};
 ghost use Rattle.ssh_bodies.specs.BodyReading.{body_positive_at};
 ghost use Rattle.ssh_bodies.specs.PrivateFrom.{private_key};
 ghost use Rattle.ssh_bodies.specs.PrivateKey.{padding};
-ghost use Rattle.ssh_bodies.specs.PrivateReading.{
-  rsa_at,
-  curve_at,
-  ed25519_at,
-  handle_at,
-  private_at,
-  is_padding,
-};
+ghost use Rattle.ssh_bodies.specs.PrivateReading.{rsa_at, curve_at, ed25519_at, handle_at, private_at, is_padding};
 ghost use Rattle.ssh_bodies.specs.PrivateParts.{rsa_numbers, on_curve, handle_of, curve_key};
 
 use crate::error::BodyError;
@@ -26,7 +20,7 @@ use crate::private_fields::PrivateFields;
 use ssh_keys::{Curve, KeyFields};
 use ssh_wire::{Cursor, Mpint, WireCause, WireError};
 
-/// The numbers of an RSA key.
+/// The numbers of an RSA key, in the order of the section.
 #[derive(Clone, Copy)]
 struct RsaPart<'a> {
     modulus: Mpint<'a>,
@@ -37,7 +31,7 @@ struct RsaPart<'a> {
     prime2: Mpint<'a>,
 }
 
-/// The fields of a key on a curve.
+/// The fields of an ECDSA key.
 #[derive(Clone, Copy)]
 struct CurvePart<'a> {
     curve: &'a [u8],
@@ -45,7 +39,8 @@ struct CurvePart<'a> {
     scalar: Mpint<'a>,
 }
 
-/// What a body keeps of a security key.
+/// The fields of a security key after its point or public key. The secret itself stays in the
+/// device.
 #[derive(Clone, Copy)]
 struct HandlePart<'a> {
     application: &'a [u8],
@@ -54,7 +49,7 @@ struct HandlePart<'a> {
     reserved: &'a [u8],
 }
 
-/// Takes a number above zero.
+/// Reads a number above zero.
 #[tactic(auto, unfolding(crate::specs::BodyReading::body_positive_at))]
 fn take_positive<'a>(cursor: &mut Cursor<'a>) -> Result<Mpint<'a>, BodyError>
     ensures { Reads number_of body_positive_at cursor.old result cursor.new }
@@ -137,14 +132,14 @@ fn is_on_curve(part: &CurvePart<'_>, curve: Curve, point: &[u8]) -> bool
     part.curve == curve.name() && part.point == point
 }
 
-/// Whether a secret of an Ed25519 key ends with this public key.
+/// Whether a secret of an Ed25519 key has 64 bytes and ends with this public key.
 pub(crate) fn is_secret_of(public: &[u8], secret: &[u8]) -> bool
     ensures { result ≡ ((length secret.now == 64) && bytes_eq (drop 32 secret.now) public.now) }
 {
     secret.len() == 64 && &secret[32..] == public
 }
 
-/// Takes the fields of an RSA key, and whether the public ones are these.
+/// Reads the fields of an RSA key, and whether the public ones are these.
 #[tactic(auto, unfolding(crate::specs::PrivateReading::private_at))]
 fn take_rsa_key<'a>(
     wanted_exponent: Mpint<'_>,
@@ -175,7 +170,7 @@ fn take_rsa_key<'a>(
     Ok((fields, same))
 }
 
-/// Takes the fields of a key on this curve, and whether its point is this one.
+/// Reads the fields of an ECDSA key, and whether its curve and its point are these.
 #[tactic(auto, unfolding(crate::specs::PrivateReading::private_at))]
 fn take_curve_key<'a>(
     curve: Curve,
@@ -195,7 +190,7 @@ fn take_curve_key<'a>(
     Ok((fields, is_on_curve(&part, curve, wanted)))
 }
 
-/// Takes the fields of an Ed25519 key, and whether its public key is this one.
+/// Reads the fields of an Ed25519 key, and whether its public key is this one.
 #[tactic(auto, unfolding(crate::specs::PrivateReading::private_at))]
 fn take_ed25519_key<'a>(
     wanted: &[u8],
@@ -209,7 +204,8 @@ fn take_ed25519_key<'a>(
     Ok((PrivateFields::Ed25519 { public, secret }, same))
 }
 
-/// Takes what a body has of a security key on nistp256, and whether point and application are these.
+/// Reads the fields of a security key on nistp256, and whether curve, point and application are
+/// these.
 #[tactic(auto, unfolding(crate::specs::PrivateReading::private_at))]
 fn take_sk_p256_key<'a>(
     wanted: &[u8],
@@ -240,7 +236,7 @@ fn take_sk_p256_key<'a>(
     Ok((fields, same))
 }
 
-/// The same of one over Ed25519.
+/// Reads the fields of an Ed25519 security key, and whether public key and application are these.
 #[tactic(auto, unfolding(crate::specs::PrivateReading::private_at))]
 fn take_sk_ed25519_key<'a>(
     wanted: &[u8],
@@ -269,7 +265,7 @@ fn take_sk_ed25519_key<'a>(
     Ok((fields, same))
 }
 
-/// Takes the fields of the private key that belongs to a public one, and whether their public half
+/// Reads the fields of the private key that belongs to a public one, and whether their public half
 /// is that one's.
 pub(crate) fn take_private<'a>(
     public: KeyFields<'_>,
@@ -292,14 +288,14 @@ pub(crate) fn take_private<'a>(
     }
 }
 
-/// 1, 2, 3 and so on to the end, at most 254 bytes.
+/// Whether the rest is padding: 1, 2, 3 and so on to the end, at most 254 bytes.
 pub(crate) fn is_padding(rest: &[u8]) -> bool
     ensures { result ≡ is_padding rest.now }
 {
     rest.len() <= 254 && counts_up(rest)
 }
 
-/// 1, 2, 3 and so on to the end.
+/// Whether the rest is 1, 2, 3 and so on to the end.
 #[tactic(auto, using(crate::proofs::Paddings::counts_up, crate::proofs::Paddings::counts_not, crate::proofs::Paddings::count_more))]
 fn counts_up(rest: &[u8]) -> bool
     ensures { result ≡ bytes_eq rest.now (padding (length rest.now)) }

@@ -1,4 +1,4 @@
-//! Private keys in their bodies.
+//! A private key in its body.
 
 ghost use Rattle.std.specs.Prelude.{◌≡◌};
 ghost use Rattle.ssh_keys.specs.KeyOf.{key_of};
@@ -9,17 +9,17 @@ use crate::private_fields::PrivateFields;
 use ssh_keys::KeyView;
 use std::fmt;
 
-/// A private key in its body (PROTOCOL.key). It holds secrets: `Debug` prints the public half and
-/// the comment alone.
+/// A private key, as slices of its body (PROTOCOL.key). It has secrets, so `Debug` prints only the
+/// public half and the comment.
 #[derive(Clone, Copy)]
 pub struct PrivateView<'a> {
-    /// The check number, which stands twice and is random where a body was encrypted.
+    /// The check number, which occurs twice in the body. It is random where a body was encrypted,
+    /// so that a wrong passphrase shows.
     pub check: u32,
     /// The public half of the key.
     pub public: KeyView<'a>,
-    /// The fields of the private key, its public ones among them.
+    /// The fields of the private key, which include the public ones.
     pub fields: PrivateFields<'a>,
-    /// The comment.
     pub comment: &'a [u8],
     ghost public_half: { key_of public ≡ public_of (private_key fields) },
 }

@@ -1,27 +1,19 @@
-//! Worked examples of the definitions. No call needs these functions: the check proves what they
-//! ensure.
+//! Worked examples of the definitions. No caller needs these functions: the check proves their
+//! `ensures`.
 
-ghost use Rattle.ssh_bodies.specs.Samples.{
-  KindsRead,
-  KindsRefused,
-  PaddingsRead,
-  PrivateSamplesRead,
-  PrivateSamplesRefused,
-  SignedBytesSample,
-  SshsigSamplesRead,
-};
+ghost use Rattle.ssh_bodies.specs.Samples.{KindsRead, KindsRefused, PaddingsRead, PrivateSamplesRead, PrivateSamplesRefused, SignedBytesSample, SshsigSamplesRead};
 
-/// A private body and its cuts, as the definitions read and write it.
+/// A private key body and bytes cut from it, as the definitions read and write them.
 fn private_bodies_as_read()
     ensures { PrivateSamplesRead }
 {}
 
-/// The same body with a fault.
+/// The same body with one error.
 fn private_bodies_as_refused()
     ensures { PrivateSamplesRefused }
 {}
 
-/// The most padding, and one byte more.
+/// The most padding, which is read, and one byte more, which is not.
 fn paddings_as_read()
     ensures { PaddingsRead }
 {}
@@ -36,12 +28,12 @@ fn kinds_as_refused()
     ensures { KindsRefused }
 {}
 
-/// A file signature and its faults.
+/// A file signature, and some with an error.
 fn file_signatures_as_read()
     ensures { SshsigSamplesRead }
 {}
 
-/// What a file signature signs.
+/// The bytes that a file signature signs.
 fn signed_bytes_as_made()
     ensures { SignedBytesSample }
 {}

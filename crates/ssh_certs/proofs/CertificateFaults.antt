@@ -1,42 +1,14 @@
--- What is refused as a certificate has the first fault that is told, where it is told.
-use Rattle.std.proofs.Common.{◌≡◌, ◌≢◌, ℕ, zero, suc, ◌+◌, ◌^◌, ◌<◌, ◌≤◌, Bool, true, false, cond, ltb, List, [], ◌∷◌, ◌++◌, length, take, replicate, Result, Ok, Err, refl, sym, ap, subst, ◌∙◌, append_assoc, zero-add, arith, inl, inr}
-use Rattle.std.specs.Prelude.{None}
-use Rattle.std.specs.Int.{w32, w64, byte_len, from_be_bytes}
-use Rattle.std.specs.List.{concat, flat_map}
-use Rattle.std.proofs.lemmas.Bool.{ltb-false, ltb-true}
-use Rattle.std.proofs.lemmas.List.{append-nil, length-append}
-use Rattle.std.proofs.lemmas.List.Concat.{flat_map-cons}
-use Rattle.std.proofs.lemmas.List.Folds.{concat-append}
-use Rattle.ssh_wire.specs.declared.error.WireCause.{WireCause}
-use Rattle.ssh_wire.specs.declared.error.WireCause.TheVariants.{Short, MpintNotMinimal, MpintNegative, Trailing, Value}
-use Rattle.ssh_wire.specs.declared.error.WireError.{WireError}
-use Rattle.ssh_wire.specs.Spelling.{string, uint32, uint64}
-use Rattle.ssh_wire.specs.Position.{Position, start, advance}
-use Rattle.ssh_wire.specs.Reading.{◌>>=◌, Read, number_at, string_at, end_at}
-use Rattle.ssh_wire.specs.Fronts.{IsBytes, Took}
-use Rattle.ssh_wire.specs.Laws.{Took-then, wide32, wide64, number_takes, number_again, string_takes, string_again, string_fits, refused_none, fine}
-use Rattle.ssh_wire.proofs.RowLemmas.{bind_err, test_err, string_is_short}
-use Rattle.ssh_wire.specs.Stands.{NoString, BeginsString}
-use Rattle.ssh_keys.specs.declared.error.KeyError.{KeyError}
-use Rattle.ssh_keys.specs.declared.error.KeyError.TheVariants as key_errors
-use Rattle.ssh_keys.specs.declared.kind.KeyKind.{KeyKind}
-use Rattle.ssh_keys.specs.declared.kind.NameClass.{NameClass}
-use Rattle.ssh_keys.specs.declared.kind.NameClass.TheVariants.{Plain, Certificate as CertificateOf, Retired, Other}
-use Rattle.ssh_keys.specs.FieldFaults.{IsFieldFault}
-use Rattle.ssh_keys.specs.FirstFault.{IsFirstFault}
-use Rattle.ssh_keys.proofs.KeyLaws.{fields_take}
+-- Bytes that are refused as a certificate have the first error that is returned, at its place.
+use Rattle.ssh_certs.proofs.Imports.{◌≡◌, ◌≢◌, ℕ, zero, suc, ◌+◌, ◌^◌, ◌<◌, ◌≤◌, Bool, true, false, cond, ltb, List, [], ◌∷◌, ◌++◌, length, take, replicate, Result, Ok, Err, refl, sym, ap, subst, ◌∙◌, append_assoc, zero-add, arith, inl, inr, None, w32, w64, byte_len, from_be_bytes, concat, flat_map, ltb-false, ltb-true, append-nil, length-append, flat_map-cons, concat-append, WireCause, Short, MpintNotMinimal, MpintNegative, Trailing, Value, WireError, string, uint32, uint64, Position, start, advance, ◌>>=◌, Read, number_at, end_at, IsBytes, Took, Took-then, wide32, wide64, number_takes, number_again, string_takes, string_again, string_fits, refused_none, fine, bind_err, test_err, string_is_short, NoString, BeginsString, KeyError, KeyKind, NameClass, Plain, Retired, Other, IsFieldFault, IsFirstFault, fields_take, certificate_name_of, class_of, PublicKey, ed25519, kind_of, fields_of, is_in_range, longest, IsKey, Signature, IsSignature, fields_fault, key_fault, IsSignatureFault, signature_fault, CertError, Certificate, CertOption, packed_names, packed_options, as_fault, as_cert_error, certified_kind_from, items_in, names_at, options_at, cert_option_at, signer_fault, CertificateFieldSort, long, short, text, names, options, signer, signature, sorts, certificate_front, tail_of, IsInRange, IsCut, NameIsCut, OptionIsCut, IsWrongField, InTail, InKey, IsLonger, IsOtherName, IsCertificateFaultWithin, IsCertificateFault}
+use Rattle.ssh_wire.specs.Reading.{string_at}
+use Rattle.ssh_keys.specs.declared.key.KeyError.TheVariants as key_errors
+use Rattle.ssh_keys.specs.declared.kind.NameClass.TheVariants.{Certificate as CertificateOf}
 use Rattle.ssh_keys.specs.KeyReading.{fields_at, key_in}
-use Rattle.ssh_keys.specs.Names.{certificate_name_of, class_of}
-use Rattle.ssh_keys.specs.PublicKey.{PublicKey, ed25519, kind_of, fields_of, key_blob, is_in_range, longest, IsKey}
-use Rattle.ssh_keys.specs.Signature.{Signature, signature_blob, IsSignature, signature_in}
-use Rattle.ssh_keys.proofs.KeyFaults.{fields_fault, key_fault}
-use Rattle.ssh_keys.specs.SignatureFault.{IsSignatureFault}
-use Rattle.ssh_keys.proofs.SignatureFaults.{signature_fault}
-use Rattle.ssh_certs.specs.declared.error.CertError.{CertError}
-use Rattle.ssh_certs.specs.declared.error.CertError.TheVariants as errors
-use Rattle.ssh_certs.specs.Certificate.{Certificate, CertOption, packed_names, packed_options, certificate_blob}
-use Rattle.ssh_certs.specs.CertificateReading.{as_fault, as_cert_error, certified_kind_from, items_within, items_in, packed_at, names_at, options_at, cert_option_at, signer_fault, signer_at, cert_signature_at, certificate_at, certificate_in}
-use Rattle.ssh_certs.specs.CertificateFault.{CertificateFieldSort, long, short, text, names, options, signer, signature, sorts, certificate_front, tail_of, IsInRange, IsCut, NameIsCut, OptionIsCut, IsWrongField, InTail, InKey, IsLonger, IsOtherName, IsCertificateFaultWithin, IsCertificateFault}
+use Rattle.ssh_keys.specs.PublicKey.{key_blob}
+use Rattle.ssh_keys.specs.Signature.{signature_blob, signature_in}
+use Rattle.ssh_certs.specs.declared.reading.CertError.TheVariants as errors
+use Rattle.ssh_certs.specs.Certificate.{certificate_blob}
+use Rattle.ssh_certs.specs.CertificateReading.{items_within, packed_at, signer_at, cert_signature_at, certificate_at, certificate_in}
 use Rattle.ssh_certs.proofs.CertificateLaws.{kind_named, named_kind, signer_takes, signature_at_takes, laid_out_is}
 use Rattle.ssh_certs.proofs.Items.{IsItem, FitsString, FitsOption, string_item, option_item, spelled_option}
 use Rattle.ssh_certs.proofs.PackedLists.{as_fault_ok, packed_takes}
@@ -57,7 +29,7 @@ step r f e h fails goes_on = elim (bind_err r f e h) [ inl refused ↦ fails ref
 no_string : (at : Position) (w : WireError) → string_at at ≡ Err w → NoString at.rest
 no_string at w h = λ b. refused_none string (λ t. length t < 2 ^ 32) string_at string_again at w h b.value b.rest b.fits b.begins
 
--- the fault of a cut field is at its place
+-- the error of a cut field is at its place
 cut : (sort : CertificateFieldSort) (at : Position) (w : WireError) (e : CertError) → w ≡ record { place = at.place; cause = Short } → errors.Wire w ≡ e → IsCut sort at.rest → IsWrongField e sort at.rest at.place
 cut sort at w e is told none =
     let here : IsWrongField (errors.Wire (record { place = at.place; cause = Short })) sort at.rest at.place = (refl, refl, none) in
@@ -80,7 +52,7 @@ short_wrong at e h =
 
 -- ---- packed lists
 
--- some items stand, and the next one is refused
+-- some items are complete, and the next one is refused
 record Failed {A : Type 0} (spelling : A → List ℕ) (item : Position → Read A) (place : ℕ) (bytes : List ℕ) (w : WireError) : Type 0 where
   front : List A
   rest : List ℕ
@@ -145,7 +117,7 @@ option_cut packed w fits h =
     record { front = f.front; rest = f.rest; parts = f.parts; more = f.more; cut = inr (name.0, (name.1).rest, t.0.parts, place, no_string name.1 w refused) })
     (λ value read_value no. absurd (let none : fine {E = WireError} (let o : CertOption = record { name = name.0; value = value.0 } in o, value.1) ≡ Err w = no in cc)))
 
--- what is inside of a string that stands
+-- what is inside a string that is complete
 inside : (Is : List ℕ → Type 0) (at after : Position) (t : List ℕ) → IsBytes at.rest → as_cert_error (string_at at) ≡ Ok (t, after) → (IsBytes t → Is t) → BeginsString Is at.rest
 inside Is at after t fits read is =
     let took = string_takes at t after fits (as_fault_ok errors.Wire (string_at at) (t, after) read) in
@@ -218,7 +190,7 @@ signature_wrong at e fits h =
 
 -- ---- the fields after the public key
 
--- a field of the tail that is wrong is the fault of the blob
+-- a field of the tail that is wrong is the error of the blob
 within : (bytes : List ℕ) (e : CertError) → InTail bytes e → IsCertificateFaultWithin bytes e
 within bytes (errors.Wire w) i = by w.place w.cause i
   where
@@ -420,7 +392,7 @@ tail_fault bytes nonce key p e in_range front fits h =
 
 -- ---- a whole blob
 
--- a type name that is no certificate's
+-- a type name that is not a certificate's
 unknown : (name : List ℕ) (e : CertError) → certified_kind_from (class_of name) ≡ Err e → (errors.UnknownType ≡ e) × IsOtherName name
 unknown name e h = (told (class_of name) h, λ kind same. let found : certified_kind_from (class_of name) ≡ Ok kind = ap (λ (n : List ℕ). certified_kind_from (class_of n)) same ∙ named_kind kind in let both : fine {E = CertError} kind ≡ Err e = sym found ∙ h in cc)
   where
@@ -477,7 +449,7 @@ blob_fault bytes e fits h =
     } in
     tail_fault bytes nonce.0 key.0 key.1 e t3.in_range front t3.took.rest_fits h4))))
 
--- the first fault of what is no certificate's blob
+-- the first error of bytes that are not a certificate's blob
 pub certificate_fault : (bytes : List ℕ) (e : CertError) → IsBytes bytes → certificate_in bytes ≡ Err e → IsCertificateFault bytes e
 unfolding certificate_in
 certificate_fault bytes e fits h = go (ltb longest (length bytes)) refl h

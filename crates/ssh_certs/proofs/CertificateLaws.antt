@@ -1,30 +1,14 @@
 -- What is read as a certificate is spelled so, and what is spelled so is read.
-use Rattle.std.proofs.Common.{◌≡◌, ℕ, ◌+◌, ◌-◌, ◌^◌, ◌<◌, ◌≤◌, Bool, true, false, cond, ltb, List, [], ◌∷◌, ◌++◌, length, take, Result, Ok, Err, refl, sym, ap, subst, ◌∙◌, append_assoc, arith}
-use Rattle.std.specs.Prelude.{codes, find, Option, Some, None}
-use Rattle.std.specs.Int.{w32, w64}
-use Rattle.std.specs.List.{concat, AllByRecursion}
-use Rattle.std.specs.Str.{bytes_eq}
-use Rattle.std.proofs.lemmas.Bool.{ltb-false, le-ltb}
-use Rattle.std.proofs.lemmas.List.{append-nil, length-append, take_at}
-use Rattle.std.proofs.lemmas.List.Folds.{concat-append}
-use Rattle.std.proofs.lemmas.Slice.Eq.{bytes_eq-Decides}
-use Rattle.ssh_wire.specs.Spelling.{string, uint32, uint64}
-use Rattle.ssh_wire.specs.Position.{Position, start}
-use Rattle.ssh_wire.specs.Reading.{◌>>=◌, Read, number_at, string_at, end_at}
-use Rattle.ssh_wire.specs.Fronts.{IsBytes, Took}
-use Rattle.ssh_wire.specs.Laws.{wide32, wide64, bind_ok, ok_is, fine, number_takes, number_again, string_takes, string_again, string_fits}
-use Rattle.ssh_keys.specs.declared.kind.KeyKind.{KeyKind}
-use Rattle.ssh_keys.specs.declared.kind.KeyKind.TheVariants.{Rsa, P256, P384, P521, Ed25519, SkP256, SkEd25519}
-use Rattle.ssh_keys.specs.Names.{key_name_of, certificate_name_of, class_of, class_by, plain_kind, certificate_kind, kinds}
-use Rattle.ssh_keys.specs.PublicKey.{PublicKey, kind_of, fields_of, key_blob, is_in_range, longest, IsKey}
-use Rattle.ssh_keys.specs.KeyReading.{ReadKey, fields_at, key_in}
-use Rattle.ssh_keys.proofs.KeyLaws.{fields_take, fields_again, key_takes, key_again}
-use Rattle.ssh_keys.specs.Signature.{Signature, signature_blob, IsSignature, signature_in}
-use Rattle.ssh_keys.proofs.SignatureLaws.{signature_takes, signature_again}
-use Rattle.ssh_certs.specs.declared.error.CertError.{CertError}
-use Rattle.ssh_certs.specs.declared.error.CertError.TheVariants as errors
-use Rattle.ssh_certs.specs.Certificate.{Certificate, CertOption, packed_names, packed_options, rest_row, signed_row, signed_part, certificate_blob, IsCertificate, IsCertificateBlob}
-use Rattle.ssh_certs.specs.CertificateReading.{as_fault, as_cert_error, certified_kind_from, names_at, options_at, signer_fault, cert_option_at, signer_at, cert_signature_at, certificate_at, certificate_in}
+use Rattle.ssh_certs.proofs.Imports.{◌≡◌, ℕ, ◌+◌, ◌-◌, ◌^◌, ◌<◌, ◌≤◌, Bool, true, false, cond, ltb, List, [], ◌∷◌, ◌++◌, length, take, Result, Ok, Err, refl, sym, ap, subst, ◌∙◌, append_assoc, arith, codes, find, None, w32, w64, concat, AllByRecursion, bytes_eq, ltb-false, le-ltb, append-nil, length-append, take_at, concat-append, bytes_eq-Decides, string, uint32, uint64, Position, start, ◌>>=◌, Read, number_at, end_at, IsBytes, Took, wide32, wide64, bind_ok, ok_is, fine, number_takes, number_again, string_takes, string_again, string_fits, KeyKind, Rsa, P256, P384, P521, Ed25519, SkP256, SkEd25519, key_name_of, certificate_name_of, class_of, class_by, kinds, PublicKey, kind_of, fields_of, is_in_range, longest, IsKey, ReadKey, fields_take, fields_again, key_takes, key_again, Signature, IsSignature, signature_takes, signature_again, CertError, Certificate, CertOption, packed_names, packed_options, rest_row, signed_row, IsCertificate, IsCertificateBlob, as_fault, as_cert_error, certified_kind_from, names_at, options_at, signer_fault, cert_option_at}
+use Rattle.std.specs.Prelude.{Option, Some}
+use Rattle.ssh_wire.specs.Reading.{string_at}
+use Rattle.ssh_keys.specs.Names.{plain_kind, certificate_kind}
+use Rattle.ssh_keys.specs.PublicKey.{key_blob}
+use Rattle.ssh_keys.specs.KeyReading.{fields_at, key_in}
+use Rattle.ssh_keys.specs.Signature.{signature_blob, signature_in}
+use Rattle.ssh_certs.specs.declared.reading.CertError.TheVariants as errors
+use Rattle.ssh_certs.specs.Certificate.{signed_part, certificate_blob}
+use Rattle.ssh_certs.specs.CertificateReading.{signer_at, cert_signature_at, certificate_at, certificate_in}
 use Rattle.ssh_certs.proofs.Items.{FitsString, FitsOption, string_item, option_item, spelled_option}
 use Rattle.ssh_certs.proofs.PackedLists.{as_fault_ok, packed_takes, packed_again, all_fit}
 
@@ -340,7 +324,7 @@ certificate_only bytes found c given blob = ok_is {E = CertError} found c (sym g
 pub one_certificate : (a b : Certificate) → IsCertificate a → IsCertificate b → certificate_blob a ≡ certificate_blob b → a ≡ b
 one_certificate a b a_is b_is e = ok_is {E = CertError} a b (sym (certificate_again a a_is) ∙ ap certificate_in e ∙ certificate_again b b_is)
 
--- what is refused is no certificate's blob
+-- bytes that are refused are not a certificate's blob
 pub certificate_refused : (bytes : List ℕ) (e : CertError) (c : Certificate) → certificate_in bytes ≡ Err e → IsCertificateBlob c bytes → ⊥
 certificate_refused bytes e c given blob = let read : certificate_in bytes ≡ Ok c = ap certificate_in blob.spelled ∙ certificate_again c blob.is_certificate in cc
 

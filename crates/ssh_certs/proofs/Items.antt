@@ -1,20 +1,7 @@
 -- Packed lists: what is read is spelled so, what is spelled so is read, and a loop reads them.
-use Rattle.std.proofs.Common.{◌≡◌, ◌≢◌, ℕ, zero, suc, ◌+◌, ◌^◌, ◌<◌, ◌≤◌, List, [], ◌∷◌, ◌++◌, length, Result, Ok, Err, refl, sym, ap, subst, ◌∙◌, append_assoc, arith, inl, inr}
-use Rattle.std.specs.Prelude.{IsOk}
-use Rattle.std.specs.List.{flat_map, AllByRecursion}
-use Rattle.std.specs.Result.{result_unwrap_or}
-use Rattle.std.proofs.lemmas.List.{length-append, nil_from_length}
-use Rattle.std.proofs.lemmas.List.Concat.{flat_map-cons}
-use Rattle.ssh_wire.specs.declared.error.WireError.{WireError}
-use Rattle.ssh_wire.specs.Spelling.{string}
-use Rattle.ssh_wire.specs.Position.{Position, start}
-use Rattle.ssh_wire.specs.Reading.{◌>>=◌, Read, string_at}
-use Rattle.ssh_wire.specs.Fronts.{IsBytes, Took}
-use Rattle.ssh_wire.specs.Laws.{Took-then, bind_ok, ok_is, fine, string_takes, string_again}
-use Rattle.ssh_wire.proofs.RowLemmas.{bind_err, string_place}
-use Rattle.ssh_certs.specs.Certificate.{CertOption}
-use Rattle.ssh_certs.specs.CertificateReading.{items_within, items_in, cert_option_at}
-use Rattle.ssh_certs.specs.Packed.{without_items}
+use Rattle.ssh_certs.proofs.Imports.{◌≡◌, ◌≢◌, ℕ, zero, suc, ◌+◌, ◌^◌, ◌<◌, ◌≤◌, List, [], ◌∷◌, ◌++◌, length, Result, Ok, Err, refl, sym, ap, subst, ◌∙◌, append_assoc, arith, inl, inr, IsOk, flat_map, AllByRecursion, result_unwrap_or, length-append, nil_from_length, flat_map-cons, WireError, string, Position, start, ◌>>=◌, Read, IsBytes, Took, Took-then, bind_ok, ok_is, fine, string_takes, string_again, bind_err, string_place, CertOption, items_in, cert_option_at, without_items}
+use Rattle.ssh_wire.specs.Reading.{string_at}
+use Rattle.ssh_certs.specs.CertificateReading.{items_within}
 
 -- an item that is read as it is spelled, takes bytes, and is refused within its text
 pub record IsItem {A : Type 0} (spelling : A → List ℕ) (Fits : A → Type 0) (item : Position → Read A) : Type 0 where
@@ -109,7 +96,7 @@ module _ {A : Type 0} (spelling : A → List ℕ) (Fits : A → Type 0) (item : 
       let whole : b ∷ rest ≡ flat_map spelling (a.0.0 ∷ c.0) = t.0.parts ∙ ap (λ (r : List ℕ). spelling a.0.0 ++ r) deep.0 ∙ sym (flat_map-cons spelling a.0.0 c.0) in
       subst (λ (ys : List A). (b ∷ rest ≡ flat_map spelling ys) × AllByRecursion Fits ys) (ok_is {E = WireError} (a.0.0 ∷ c.0) xs c.2) (whole, (t.1, deep.1))
 
-  -- a turn for an item
+  -- a step for an item
   one_turn : (turns place : ℕ) (rest : List ℕ) → rest ≢ [] → items_within item (suc turns) (record { place = place; rest = rest })
       ≡ (item (record { place = place; rest = rest }) >>= λ first. items_within item turns first.1 >>= λ others. fine (first.0 ∷ others))
   unfolding items_within
@@ -135,7 +122,7 @@ module _ {A : Type 0} (spelling : A → List ℕ) (Fits : A → Type 0) (item : 
       let deep = items_again xs turns (place + length (spelling x)) fits.1 (omega (arith, is.some x, ap length parts, long, enough)) in
       one_turn turns place (flat_map spelling (x ∷ xs)) some ∙ rw (read, deep) refl
 
--- a number of turns above zero
+-- a number of steps above zero
 record Turn (turns : ℕ) : Type 0 where
   before : ℕ
   counts : turns ≡ suc before
@@ -162,7 +149,7 @@ value_of (Ok x) h = (x, refl)
 value_of (Err e) h = absurd cc
 
 module _ {A : Type 0} (spelling : A → List ℕ) (Fits : A → Type 0) (item : Position → Read A) (is : IsItem spelling Fits item) where
-  -- a text that is read to its end has no faulty first item
+  -- a text that is read to its end has no wrong first item
   pub none_left : (text : List ℕ) (at : Position) (e : WireError) → at ≡ start text → IsOk (items_in item text) → item at ≡ Err e → items_of item text ≡ []
   none_left [] at e begin read refused = ap (λ (r : Result (List A) WireError). result_unwrap_or r []) (no_turn spelling Fits item is 0 0)
   none_left (b ∷ rest) at e begin read refused =

@@ -1,3 +1,4 @@
+pub mod Imports
 pub mod CertificateFaults
 pub mod CertificateLaws
 pub mod PartLaws
@@ -7,3 +8,4 @@ pub mod RowLaws
 pub mod Written
 pub mod OptionLemmas
 pub mod OptionFactLemmas
+pub mod HoldsLemmas

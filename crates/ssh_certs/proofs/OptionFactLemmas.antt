@@ -1,30 +1,10 @@
--- What the options of a certificate say: what is read of them, and the same in the subject's words.
-use Rattle.std.proofs.Common.{◌≡◌, ◌∙◌, ◌++◌, ℕ, zero, suc, ◌≤◌, ◌<◌, ◌&&◌, Bool, true, false, cond, ltb, List, [], ◌∷◌, Option, Some, None, Result, Ok, Err, length, take, drop, take_at, sym, ap, subst, refl, arith}
-use Rattle.std.specs.Prelude.{◌≢◌, ◌==◌, Any, Contains, is_some, option_and_then}
-use Rattle.std.specs.Int.{w32, from_be_bytes}
-use Rattle.std.specs.List.{AllByRecursion, list_any, slice_index_or}
-use Rattle.std.specs.Str.{bytes_eq}
-use Rattle.std.specs.Result.{result_ok}
-use Rattle.std.proofs.lemmas.Bool.{and_parts, eqb-true, ltb-false, le-ltb}
-use Rattle.std.proofs.lemmas.List.{append-nil, drop_at, length-append, length-take, nil_from_length, take-append-drop}
-use Rattle.std.proofs.Math.Seq.{drop-length, take-length}
-use Rattle.std.proofs.lemmas.List.Folds.{Any-from_list_any, list_any-from_Any}
-use Rattle.std.proofs.lemmas.Slice.Eq.{bytes_eq-Decides}
-use Rattle.ssh_wire.specs.declared.error.WireCause.TheVariants.{Short}
-use Rattle.ssh_wire.specs.declared.error.WireError.{WireError}
-use Rattle.ssh_wire.specs.Position.{Position, advance, start}
-use Rattle.ssh_wire.specs.Reading.{◌>>=◌, end_at, fault, number_at, string_at}
-use Rattle.ssh_wire.specs.Laws.{bind_ok, guard_ok}
-use Rattle.ssh_keys.proofs.KeyLaws.{find_some}
-use Rattle.ssh_certs.specs.declared.certificate_option.CertificateOption.{CertificateOption}
-use Rattle.ssh_certs.specs.declared.certificate_option.CertificateOption.TheVariants.{ForceCommand, SourceAddress, VerifyRequired, NoTouchRequired, PermitX11Forwarding, PermitAgentForwarding, PermitPortForwarding, PermitPty, PermitUserRc}
-use Rattle.ssh_certs.specs.declared.certificate_option.DataForm.{DataForm}
-use Rattle.ssh_certs.specs.declared.certificate_option.DataForm.TheVariants.{Empty, OneString}
-use Rattle.ssh_certs.specs.Certificate.{Certificate, CertOption}
-use Rattle.ssh_certs.specs.CertificateOptions.{has_formed, has_named, option_in}
-use Rattle.ssh_certs.specs.OptionData.{one_string, whole_string_at}
-use Rattle.ssh_certs.specs.OptionFacts.{AreOnce, HasExtension, HasForm, HasText, InsistsOn, IsKnownOption, IsOneString, OfText}
-use Rattle.ssh_certs.specs.OptionTable.{certificate_options, critical_named, fits, is_of_form, is_critical, certificate_option_name, certificate_option_row}
+-- The options of a certificate: what is computed of them, and the same without computing.
+use Rattle.ssh_certs.proofs.Imports.{◌≡◌, ◌∙◌, ◌++◌, ℕ, zero, suc, ◌≤◌, ◌<◌, ◌&&◌, Bool, true, false, cond, ltb, List, [], ◌∷◌, Option, Some, Result, Ok, Err, length, take, drop, sym, ap, subst, refl, arith, ◌==◌, Any, Contains, is_some, option_and_then, w32, from_be_bytes, AllByRecursion, list_any, slice_index_or, bytes_eq, result_ok, and_parts, eqb-true, ltb-false, le-ltb, append-nil, drop_at, length-append, length-take, nil_from_length, take-append-drop, drop-length, take-length, Any-from_list_any, list_any-from_Any, bytes_eq-Decides, Short, WireError, Position, advance, start, ◌>>=◌, end_at, fault, number_at, bind_ok, guard_ok, find_some, CertificateOption, ForceCommand, SourceAddress, VerifyRequired, NoTouchRequired, PermitX11Forwarding, PermitAgentForwarding, PermitPortForwarding, PermitPty, PermitUserRc, DataForm, Empty, OneString, Certificate, CertOption, has_formed, has_named, option_in, one_string, AreOnce, HasExtension, HasForm, HasText, InsistsOn, IsKnownOption, IsOneString, OfText, certificate_options, fits, is_of_form, is_critical, certificate_option_name, certificate_option_row}
+use Rattle.std.proofs.Common.{None, take_at}
+use Rattle.std.specs.Prelude.{◌≢◌}
+use Rattle.ssh_wire.specs.Reading.{string_at}
+use Rattle.ssh_certs.specs.OptionData.{whole_string_at}
+use Rattle.ssh_certs.specs.OptionTable.{critical_named}
 use Rattle.ssh_certs.proofs.OptionLemmas.{critical-found}
 
 -- ---- data that is one string
@@ -139,7 +119,7 @@ first-text name P (o ∷ options) all text h = go (first-text name P options all
         all.0 ((bytes_eq-Decides o.name name).0 e) text (one-string-is o.value text same)
     go later false e = later (rw e at h)
 
--- and where no name stands twice, what holds of the first one's holds of each
+-- and where no name occurs twice, what holds of the first one's holds of each
 each-text : (name : List ℕ) (P : List ℕ → Type 0) (options : List CertOption) → AreOnce options
     → ((text : List ℕ) → text_in name options ≡ Some text → P text) → AllByRecursion (TextsAre name P) options
 each-text name P [] once h = tt
@@ -252,7 +232,7 @@ has-first name text (o ∷ options) h = go (has-first name text options) (bytes_
 pub has-text : (option : CertificateOption) (c : Certificate) (text : List ℕ) → text_in (certificate_option_name option) c.critical ≡ Some text → HasText option c text
 has-text option c text h = has-first (certificate_option_name option) text c.critical h
 
--- an option stands once, so that its text is the first one's
+-- an option occurs once, so that its text is the first one's
 at-each : {X : Type 0} (P : X → Type 0) (xs : List X) (k : ℕ) (x : X) → k < length xs → slice_index_or xs k x ≡ x → AllByRecursion P xs → P x
 at-each P [] k x inside is all = absurd (omega (arith, inside))
 at-each P (y ∷ xs) zero x inside is all = subst P is all.0

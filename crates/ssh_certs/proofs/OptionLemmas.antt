@@ -1,8 +1,7 @@
 -- The options of certificates by name.
-use Rattle.std.proofs.Common.{◌≡◌, true, false, Some, None, refl}
-use Rattle.ssh_certs.specs.declared.certificate_option.CertificateOption.{CertificateOption}
-use Rattle.ssh_certs.specs.declared.certificate_option.CertificateOption.TheVariants.{ForceCommand, SourceAddress, VerifyRequired, NoTouchRequired, PermitX11Forwarding, PermitAgentForwarding, PermitPortForwarding, PermitPty, PermitUserRc}
-use Rattle.ssh_certs.specs.OptionTable.{critical_named, is_critical, certificate_option_name}
+use Rattle.ssh_certs.proofs.Imports.{◌≡◌, true, false, Some, refl, CertificateOption, ForceCommand, SourceAddress, VerifyRequired, NoTouchRequired, PermitX11Forwarding, PermitAgentForwarding, PermitPortForwarding, PermitPty, PermitUserRc, is_critical, certificate_option_name}
+use Rattle.std.proofs.Common.{None}
+use Rattle.ssh_certs.specs.OptionTable.{critical_named}
 
 pub critical-found : (option : CertificateOption) → is_critical option ≡ true → critical_named (certificate_option_name option) ≡ Some option
 unfolding critical_named

@@ -1,22 +1,10 @@
--- A packed list as a field of a certificate: its place, its faults, and its two laws.
-use Rattle.std.proofs.Common.{◌≡◌, ℕ, ◌+◌, ◌-◌, ◌^◌, ◌<◌, ◌≤◌, cond, ltb, List, [], ◌∷◌, ◌++◌, length, take, Result, Ok, Err, refl, ap, subst, arith}
-use Rattle.std.specs.Int.{w32, byte_len, from_be_bytes}
-use Rattle.std.specs.List.{flat_map, AllByRecursion}
-use Rattle.std.proofs.lemmas.Bool.{ltb-false}
-use Rattle.std.proofs.lemmas.List.{length-append, length-take}
-use Rattle.ssh_wire.specs.declared.error.WireCause.TheVariants.{Short}
-use Rattle.ssh_wire.specs.declared.error.WireError.{WireError}
-use Rattle.ssh_wire.specs.Spelling.{string}
-use Rattle.ssh_wire.specs.Position.{Position, advance}
-use Rattle.ssh_wire.specs.Reading.{◌>>=◌, Read, fault, number_at, string_at}
-use Rattle.ssh_wire.specs.Fronts.{IsBytes, Took}
-use Rattle.ssh_wire.specs.Laws.{bind_ok, guard_ok, ok_is, fine, string_takes, string_again, string_fits}
-use Rattle.ssh_certs.specs.declared.error.CertError.{CertError}
-use Rattle.ssh_certs.specs.CertificateReading.{as_fault, as_cert_error, items_in, packed_at}
-use Rattle.ssh_certs.specs.Packed.{without_items}
+-- A packed list as a field of a certificate: its place, its errors, and its two laws.
+use Rattle.ssh_certs.proofs.Imports.{◌≡◌, ℕ, ◌+◌, ◌-◌, ◌^◌, ◌<◌, ◌≤◌, cond, ltb, List, [], ◌∷◌, ◌++◌, length, take, Result, Ok, Err, refl, ap, subst, arith, w32, byte_len, from_be_bytes, flat_map, AllByRecursion, ltb-false, length-append, length-take, Short, WireError, string, Position, advance, ◌>>=◌, Read, fault, number_at, IsBytes, Took, bind_ok, guard_ok, ok_is, fine, string_takes, string_again, string_fits, CertError, as_fault, as_cert_error, items_in, without_items}
+use Rattle.ssh_wire.specs.Reading.{string_at}
+use Rattle.ssh_certs.specs.CertificateReading.{packed_at}
 use Rattle.ssh_certs.proofs.Items.{IsItem, items_take, items_again}
 
--- the value of a result whose fault is seen as another's
+-- the value of a result whose error is of another type
 pub as_fault_ok : {A E F : Type 0} (f : E → F) (r : Result A E) (y : A) → as_fault f r ≡ Ok y → r ≡ Ok y
 as_fault_ok {A} {E} {F} f (Ok x) y e = ap (λ (z : A). fine z) (ok_is {E = F} x y e)
 as_fault_ok f (Err d) y e = absurd cc
@@ -42,7 +30,7 @@ refused : {A : Type 0} (r : Result A WireError) (e : WireError) → Err e ≡ wi
 refused (Ok x) e h = absurd cc
 refused (Err d) e h = cc
 
--- a faulty string of a packed list
+-- a wrong string of a packed list
 pub packed_refused : {A : Type 0} (item : Position → Read A) (list_fault : ℕ → CertError) (at : Position) (text : List ℕ) (after : Position) (e : WireError) (end : ℕ) → string_at at ≡ Ok (text, after)
     → Err e ≡ without_items (items_in item text) → end ≡ after.place → packed_at item list_fault at ≡ Err (list_fault (end - length text + e.place))
 unfolding packed_at

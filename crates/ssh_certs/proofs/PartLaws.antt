@@ -1,13 +1,9 @@
 -- Reading a certificate part by part is reading it field by field.
-use Rattle.std.proofs.Common.{◌≡◌, refl}
-use Rattle.std.specs.Int.{w32, w64}
-use Rattle.ssh_wire.specs.Position.{Position}
-use Rattle.ssh_wire.specs.Reading.{number_at, string_at}
-use Rattle.ssh_wire.specs.Laws.{bind_inside}
-use Rattle.ssh_keys.specs.Names.{class_of}
+use Rattle.ssh_certs.proofs.Imports.{◌≡◌, refl, w32, w64, Position, number_at, bind_inside, class_of, as_fault, as_cert_error, certified_kind_from, names_at, options_at}
+use Rattle.ssh_wire.specs.Reading.{string_at}
 use Rattle.ssh_keys.specs.KeyReading.{fields_at}
-use Rattle.ssh_certs.specs.declared.error.CertError.TheVariants as errors
-use Rattle.ssh_certs.specs.CertificateReading.{as_fault, as_cert_error, certified_kind_from, names_at, options_at, certificate_at}
+use Rattle.ssh_certs.specs.declared.reading.CertError.TheVariants as errors
+use Rattle.ssh_certs.specs.CertificateReading.{certificate_at}
 use Rattle.ssh_certs.specs.CertificateParts.{certified_at, terms_at, certificate_by_parts}
 
 pub parts_are : (at : Position) → certificate_by_parts at ≡ certificate_at at

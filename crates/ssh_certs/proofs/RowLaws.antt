@@ -1,17 +1,8 @@
 -- The row that is written is the blob of its certificate.
-use Rattle.std.proofs.Common.{◌≡◌, ℕ, List, [], ◌++◌, map, sym, ap, ◌∙◌}
-use Rattle.std.specs.Borrow.{Bor}
-use Rattle.std.specs.List.{concat, flat_map}
-use Rattle.std.proofs.lemmas.List.Folds.{flat_map-map}
-use Rattle.ssh_wire.specs.Spelling.{string, uint32, uint64}
-use Rattle.ssh_keys.specs.KeyOf.{key_of}
-use Rattle.ssh_keys.specs.Names.{certificate_name_of}
-use Rattle.ssh_keys.specs.PublicKey.{kind_of, fields_of, key_blob}
-use Rattle.ssh_keys.specs.Signature.{signature_of, signature_blob}
-use Rattle.ssh_certs.specs.declared.parts.CertParts.{CertParts}
-use Rattle.ssh_certs.specs.Certificate.{certificate_blob, packed_names, packed_options}
-use Rattle.ssh_certs.specs.Packed.{option_in_packed}
-use Rattle.ssh_certs.specs.Parts.{certificate_of_parts}
+use Rattle.ssh_certs.proofs.Imports.{◌≡◌, ℕ, List, [], ◌++◌, map, sym, ap, ◌∙◌, Bor, concat, flat_map, flat_map-map, string, uint32, uint64, key_of, certificate_name_of, kind_of, fields_of, signature_of, CertParts, packed_names, packed_options, option_in_packed, certificate_of_parts}
+use Rattle.ssh_keys.specs.PublicKey.{key_blob}
+use Rattle.ssh_keys.specs.Signature.{signature_blob}
+use Rattle.ssh_certs.specs.Certificate.{certificate_blob}
 use Rattle.ssh_certs.proofs.CertificateLaws.{laid_out_is}
 use Rattle.ssh_certs.proofs.Items.{spelled_option}
 

@@ -1,9 +1,7 @@
--- What stands at the end of a vector, and how long it is.
-use Rattle.std.proofs.Common.{◌≡◌, ℕ, ◌≤◌, List, ◌++◌, length, take, refl, sym, ap, ◌∙◌, arith}
-use Rattle.std.proofs.lemmas.List.{length-append, take_at, take-take}
-use Rattle.ssh_wire.specs.Fronts.{Keeps}
+-- What is at the end of a vector, and how long it is.
+use Rattle.ssh_certs.proofs.Imports.{◌≡◌, ℕ, ◌≤◌, List, ◌++◌, length, take, refl, sym, ap, ◌∙◌, arith, length-append, take_at, take-take, Keeps}
 
--- what is kept after more is kept
+-- where bytes and more after them are the front of a vector, the bytes are its front
 pub keeps_more : (old more middle new : List ℕ) → middle ≡ old ++ more → Keeps middle new → Keeps old new
 keeps_more old more middle new e keeps =
     let long : length old ≤ length middle = omega (arith, ap length e, length-append old more) in

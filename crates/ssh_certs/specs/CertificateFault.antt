@@ -1,12 +1,12 @@
--- The first fault of bytes that are no certificate's blob, by the row of fields alone (PROTOCOL.certkeys).
+-- The first error of bytes that are not a certificate's blob, stated by its fields alone (PROTOCOL.certkeys).
 use Rattle.std.specs.Prelude.{◌≡◌, ◌≢◌, ℕ, ◌+◌, ◌^◌, ◌<◌, ◌≤◌, List, [], ◌∷◌, ◌++◌, length, take, IsTrue, ◌⊎◌}
 use Rattle.std.specs.List.{concat}
-use Rattle.ssh_wire.specs.declared.error.WireCause.{WireCause}
-use Rattle.ssh_wire.specs.declared.error.WireCause.TheVariants.{Short, Trailing}
+use Rattle.ssh_wire.specs.declared.cursor.WireCause.{WireCause}
+use Rattle.ssh_wire.specs.declared.cursor.WireCause.TheVariants.{Short, Trailing}
 use Rattle.ssh_wire.specs.Spelling.{string}
 use Rattle.ssh_wire.specs.Stands.{NoNumber, NoLongNumber, NoString, BeginsString}
-use Rattle.ssh_keys.specs.declared.error.KeyError.{KeyError}
-use Rattle.ssh_keys.specs.declared.error.KeyError.TheVariants as key_errors
+use Rattle.ssh_keys.specs.declared.key.KeyError.{KeyError}
+use Rattle.ssh_keys.specs.declared.key.KeyError.TheVariants as key_errors
 use Rattle.ssh_keys.specs.declared.kind.KeyKind.{KeyKind}
 use Rattle.ssh_keys.specs.FieldFaults.{IsFieldFault}
 use Rattle.ssh_keys.specs.FirstFault.{IsFirstFault}
@@ -14,11 +14,11 @@ use Rattle.ssh_keys.specs.Names.{certificate_name_of}
 use Rattle.ssh_keys.specs.PublicKey.{kind_of, fields_of, is_in_range, longest, IsKey}
 use Rattle.ssh_keys.specs.Signature.{signature_blob, IsSignature}
 use Rattle.ssh_keys.specs.SignatureFault.{IsSignatureFault}
-use Rattle.ssh_certs.specs.declared.error.CertError.{CertError}
-use Rattle.ssh_certs.specs.declared.error.CertError.TheVariants as errors
+use Rattle.ssh_certs.specs.declared.reading.CertError.{CertError}
+use Rattle.ssh_certs.specs.declared.reading.CertError.TheVariants as errors
 use Rattle.ssh_certs.specs.Certificate.{Certificate, CertOption, packed_names, packed_options, rest_row, certificate_blob}
 
--- a sort of field: a number of eight bytes, one of four, any string, packed names, packed options, a plain key, a signature
+-- the type of a field: a number of eight bytes, one of four, any string, packed names, packed options, a plain key, a signature
 pub data CertificateFieldSort : Type 0 where
   long : CertificateFieldSort
   short : CertificateFieldSort
@@ -28,8 +28,7 @@ pub data CertificateFieldSort : Type 0 where
   signer : CertificateFieldSort
   signature : CertificateFieldSort
 
--- the row of fields after the public key: serial, kind, key id, principals, after, before, critical options,
--- extensions, reserved, signature key, signature
+-- the types of the fields after the public key: serial, kind, key id, principals, after, before, critical options, extensions, reserved, signature key, signature
 abbrev pub sorts : List CertificateFieldSort
 sorts = long ∷ short ∷ text ∷ names ∷ long ∷ long ∷ options ∷ options ∷ text ∷ signer ∷ signature ∷ []
 
@@ -51,13 +50,13 @@ pub record IsInRange (c : Certificate) : Type 0 where
   pub signer : IsKey c.signer
   pub signature : IsSignature c.signature
 
--- no value of this sort begins the rest
+-- the rest does not begin with a value of this type
 abbrev pub IsCut : CertificateFieldSort → List ℕ → Type 0
 IsCut long rest = NoLongNumber rest
 IsCut short rest = NoNumber rest
 IsCut field rest = NoString rest
 
--- packed names stand up to this place, and the next one passes the end
+-- packed names are complete up to this place, and the next one passes the end
 pub record NameIsCut (inner : ℕ) (packed : List ℕ) : Type 0 where
   pub front : List (List ℕ)
   pub rest : List ℕ
@@ -66,7 +65,7 @@ pub record NameIsCut (inner : ℕ) (packed : List ℕ) : Type 0 where
   pub place : inner ≡ length (packed_names front)
   pub cut : NoString rest
 
--- packed options stand up to some place, and the name of the next one passes the end there, or its data after its name
+-- packed options are complete up to some place, and there the name of the next one passes the end, or its data after its name
 pub record OptionIsCut (inner : ℕ) (packed : List ℕ) : Type 0 where
   pub front : List CertOption
   pub rest : List ℕ
@@ -75,8 +74,7 @@ pub record OptionIsCut (inner : ℕ) (packed : List ℕ) : Type 0 where
   pub cut : ((inner ≡ length (packed_options front)) × NoString rest)
       ⊎ ((name : List ℕ) × (more : List ℕ) × (rest ≡ string name ++ more) × (inner ≡ length (packed_options front) + length (string name)) × NoString more)
 
--- What is wrong with a field of this sort at this place. Of packed lists the fault's own place is told; places of
--- the signature key and of the signature count from their own first byte.
+-- The error of a field of this type at this place. In packed lists the place is that of the list's wrong item; places in the signature key and in the signature count from their own first byte.
 abbrev pub IsWrongField : CertError → CertificateFieldSort → List ℕ → ℕ → Type 0
 IsWrongField (errors.Wire e) field rest place = (e.place ≡ place) × (e.cause ≡ Short) × IsCut field rest
 IsWrongField (errors.Principals p) names rest place = (inner : ℕ) × (p ≡ place + 4 + inner) × BeginsString (NameIsCut inner) rest
@@ -86,7 +84,7 @@ IsWrongField errors.ChainedSigner signer rest place = BeginsString (λ blob. IsF
 IsWrongField (errors.Signature e) signature rest place = BeginsString (λ blob. IsSignatureFault blob e) rest
 IsWrongField e field rest place = ⊥
 
--- the fields up to one after the public key stand, and this one is wrong
+-- the fields before one after the public key are complete, and this one is wrong
 pub record InTail (bytes : List ℕ) (e : CertError) : Type 0 where
   pub value : Certificate
   pub fits : IsInRange value
@@ -98,7 +96,7 @@ pub record InTail (bytes : List ℕ) (e : CertError) : Type 0 where
   pub begins : bytes ≡ certificate_front value ++ (concat (take (length before) (tail_of value)) ++ rest)
   pub wrong : IsWrongField e sort rest (length (certificate_front value) + length (concat (take (length before) (tail_of value))))
 
--- the type name and the nonce stand, and a public field is wrong; places count in the whole blob
+-- the type name and the nonce are complete, and a public field is wrong; places count in the whole blob
 pub record InKey (bytes : List ℕ) (e : KeyError) : Type 0 where
   pub kind : KeyKind
   pub nonce : List ℕ
@@ -111,7 +109,7 @@ abbrev pub HeadIsCut : List ℕ → ℕ → Type 0
 HeadIsCut bytes place = ((place ≡ 0) × NoString bytes)
     ⊎ ((kind : KeyKind) × (rest : List ℕ) × (bytes ≡ string (certificate_name_of kind) ++ rest) × (place ≡ length (string (certificate_name_of kind))) × NoString rest)
 
--- all fields of some certificate stand, and bytes are left
+-- all fields of some certificate are complete, and there are more bytes
 pub record IsLonger (bytes : List ℕ) (place : ℕ) : Type 0 where
   pub value : Certificate
   pub fits : IsInRange value
@@ -120,7 +118,7 @@ pub record IsLonger (bytes : List ℕ) (place : ℕ) : Type 0 where
   pub begins : bytes ≡ certificate_blob value ++ rest
   pub at : place ≡ length (certificate_blob value)
 
--- a type name that is no certificate's
+-- a type name that is not a certificate's
 abbrev pub IsOtherName : List ℕ → Type 0
 IsOtherName name = (kind : KeyKind) → name ≢ certificate_name_of kind
 
@@ -129,7 +127,7 @@ IsCertificateWireFault bytes place Trailing = IsLonger bytes place
 IsCertificateWireFault bytes place Short = HeadIsCut bytes place ⊎ InTail bytes (errors.Wire (record { place = place; cause = Short }))
 IsCertificateWireFault bytes place cause = ⊥
 
--- one statement for each cause of bytes that are within the limit
+-- one statement for each error of bytes that are within the limit
 abbrev pub IsCertificateFaultWithin : List ℕ → CertError → Type 0
 IsCertificateFaultWithin bytes (errors.Wire e) = IsCertificateWireFault bytes e.place e.cause
 IsCertificateFaultWithin bytes (errors.Key e) = InKey bytes e
@@ -141,8 +139,7 @@ IsCertificateFaultWithin bytes (errors.Options p) = InTail bytes (errors.Options
 IsCertificateFaultWithin bytes (errors.Signature e) = InTail bytes (errors.Signature e)
 IsCertificateFaultWithin bytes errors.TooLong = ⊥
 
--- The first fault: the bytes pass the limit; or they are within it, and each field before stands in its
--- range, and this one does not; or all fields stand, and bytes are left at the place.
+-- The first error: the bytes pass the limit; or they are within it, each field before one is complete and in its range, and that one is not; or all fields are complete, and there are more bytes at the place.
 abbrev pub IsCertificateFault : List ℕ → CertError → Type 0
 IsCertificateFault bytes errors.TooLong = longest < length bytes
 IsCertificateFault bytes e = (length bytes ≤ longest) × IsCertificateFaultWithin bytes e

@@ -1,5 +1,4 @@
--- A certificate's fields in three parts: what is certified, its terms, and who signed. A law says that reading
--- part by part is reading field by field (proofs/PartLaws.antt).
+-- A certificate's fields in three parts: which key is certified, on which terms, and who signed. A law states that reading part by part is reading field by field (proofs/PartLaws.antt).
 use Rattle.std.specs.Prelude.{ℕ, List, Result, Ok}
 use Rattle.std.specs.Int.{w32, w64}
 use Rattle.ssh_wire.specs.Position.{Position}
@@ -8,15 +7,15 @@ use Rattle.ssh_keys.specs.Names.{class_of}
 use Rattle.ssh_keys.specs.PublicKey.{PublicKey}
 use Rattle.ssh_keys.specs.KeyReading.{fields_at}
 use Rattle.ssh_keys.specs.View.{public_key}
-use Rattle.ssh_certs.specs.declared.error.CertError.{CertError}
-use Rattle.ssh_certs.specs.declared.error.CertError.TheVariants as errors
+use Rattle.ssh_certs.specs.declared.reading.CertError.{CertError}
+use Rattle.ssh_certs.specs.declared.reading.CertError.TheVariants as errors
 use Rattle.ssh_certs.specs.declared.fields.Certified.{Certified}
 use Rattle.ssh_certs.specs.declared.fields.Terms.{Terms}
 use Rattle.ssh_certs.specs.Certificate.{Certificate, CertOption}
 use Rattle.ssh_certs.specs.CertificateReading.{ReadCert, as_fault, as_cert_error, certified_kind_from, names_at, options_at, signer_at, cert_signature_at}
 use Rattle.ssh_certs.specs.Packed.{names_in_packed, options_in_packed}
 
--- what is certified
+-- the fields up to the key id
 pub record CertifiedFields : Type 0 where
   pub nonce : List ℕ
   pub key : PublicKey
@@ -24,7 +23,7 @@ pub record CertifiedFields : Type 0 where
   pub kind_number : ℕ
   pub key_id : List ℕ
 
--- for whom, when and with which options
+-- the fields from the principals to the reserved bytes: for whom, when and with which options
 pub record CertificateTerms : Type 0 where
   pub principals : List (List ℕ)
   pub after : ℕ
@@ -77,7 +76,7 @@ certificate_by_parts at = do
     signature = signature.0;
   })
 
--- what parts in memory stand for
+-- the values of parts in memory
 abbrev pub certified_from : Certified → CertifiedFields
 certified_from v = record { nonce = v.nonce.now; key = public_key v.key; serial = v.serial; kind_number = v.kind_number; key_id = v.key_id.now }
 

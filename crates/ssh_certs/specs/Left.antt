@@ -1,15 +1,15 @@
--- What an iterator over a packed list has left.
+-- The items that an iterator over a packed list still has.
 use Rattle.std.specs.Prelude.{ℕ, List}
 use Rattle.ssh_certs.specs.declared.packed.Principals.{Principals}
 use Rattle.ssh_certs.specs.declared.packed.CertOptions.{CertOptions}
 use Rattle.ssh_certs.specs.Certificate.{CertOption, packed_names, packed_options}
 use Rattle.ssh_certs.specs.Packed.{names_in_packed, options_in_packed}
 
--- the principals that are still to come
+-- the principals that have not been read yet
 abbrev pub principals_left : Principals → List (List ℕ)
 principals_left names = names_in_packed names.packed.now
 
--- the options that are still to come
+-- the options that have not been read yet
 abbrev pub options_left : CertOptions → List CertOption
 options_left options = options_in_packed options.packed.now
 

@@ -17,3 +17,4 @@ pub mod OptionFacts
 pub mod Samples
 pub mod OptionSamples
 pub mod MadeCertificates
+pub mod Holds

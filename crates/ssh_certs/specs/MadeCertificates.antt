@@ -1,13 +1,12 @@
--- Certificates that `ssh-keygen` of OpenSSH 9.2 made: of a host's ECDSA key signed by an RSA key, and of users' security
--- keys signed by ECDSA keys.
+-- Worked examples: certificates that `ssh-keygen` of OpenSSH 9.2 made, of a host's ECDSA key signed by an RSA key, and of users' security keys signed by ECDSA keys.
 use Rattle.std.specs.Prelude.{◌≡◌, ℕ, List, [], ◌∷◌, ◌++◌, take, drop, codes, None, Some, Ok, Err}
-use Rattle.ssh_wire.specs.declared.error.WireCause.{WireCause}
-use Rattle.ssh_wire.specs.declared.error.WireCause.TheVariants.{Short, Trailing}
+use Rattle.ssh_wire.specs.declared.cursor.WireCause.{WireCause}
+use Rattle.ssh_wire.specs.declared.cursor.WireCause.TheVariants.{Short, Trailing}
 use Rattle.ssh_wire.specs.Spelling.{mpint_bytes, string}
-use Rattle.ssh_keys.specs.declared.error.KeyError.TheVariants as key_errors
+use Rattle.ssh_keys.specs.declared.key.KeyError.TheVariants as key_errors
 use Rattle.ssh_keys.specs.PublicKey.{rsa, p256, p384, p521, sk_p256, sk_ed25519}
-use Rattle.ssh_certs.specs.declared.error.CertError.{CertError}
-use Rattle.ssh_certs.specs.declared.error.CertError.TheVariants as errors
+use Rattle.ssh_certs.specs.declared.reading.CertError.{CertError}
+use Rattle.ssh_certs.specs.declared.reading.CertError.TheVariants as errors
 use Rattle.ssh_certs.specs.Certificate.{Certificate, CertOption, signed_part, certificate_blob}
 use Rattle.ssh_certs.specs.CertificateReading.{certificate_in}
 
@@ -32,7 +31,7 @@ part blob place len = take len (drop place blob)
 abbrev permit : List ℕ → CertOption
 permit name = record { name = name; value = [] }
 
--- those that `ssh-keygen` gives a user
+-- the extensions that `ssh-keygen` gives a user by default
 abbrev permits : List CertOption
 permits = permit (codes "permit-X11-forwarding") ∷ permit (codes "permit-agent-forwarding") ∷ permit (codes "permit-port-forwarding")
     ∷ permit (codes "permit-pty") ∷ permit (codes "permit-user-rc") ∷ []
@@ -95,7 +94,7 @@ Is bytes c signed = (certificate_in bytes ≡ Ok c) × (certificate_blob c ≡ b
 abbrev pub MadeCertificatesRead : Type 0
 MadeCertificatesRead = Is host_blob host 427 × Is certified_sk_ed25519_blob sk_ed25519_user 483 × Is certified_sk_p256_blob sk_p256_user 476
 
--- ---- the first fault of bytes that are nearly a certificate
+-- ---- the first error of bytes that are almost a certificate
 
 abbrev Fails : List ℕ → CertError → Type 0
 Fails bytes e = certificate_in bytes ≡ Err e
@@ -114,8 +113,7 @@ sk_signature = string (codes "sk-ssh-ed25519@openssh.com") ++ string (0xaa ∷ [
 abbrev sk_key : List ℕ
 sk_key = string (codes "sk-ssh-ed25519@openssh.com") ++ part certified_sk_ed25519_blob 75 44
 
--- A certificate that a security key signed is read; a signature without its counter is refused at the counter, from the
--- first byte of the signature.
+-- A certificate that a security key signed is read. A signature without its counter is refused at the counter's place, counted from the first byte of the signature.
 abbrev pub SignedBySecurityKey : Type 0
 SignedBySecurityKey = (certificate_in (signed_by sk_key sk_signature) ≡ Ok (record host {
   signer = sk_ed25519 (part certified_sk_ed25519_blob 79 32) (codes "ssh:");
@@ -123,8 +121,7 @@ SignedBySecurityKey = (certificate_in (signed_by sk_key sk_signature) ≡ Ok (re
 }))
     × Fails (signed_by sk_key (take 36 sk_signature)) (errors.Signature (record { place = 36; cause = Short }))
 
--- Public fields with a fault: another curve, a point of another length, one cut off; a certificate over another kind of
--- key. Bytes that were cut off, and bytes after the last field.
+-- Wrong public fields: another curve, a point of another length, one that is cut off, a certificate over another kind of key. Also bytes that were cut off, and bytes after the last field.
 abbrev pub MadeCertificatesRefused : Type 0
 MadeCertificatesRefused = Fails (take 80 host_blob ++ string (codes "nistp256") ++ drop 92 host_blob) (errors.Key key_errors.Curve)
     × Fails (take 92 host_blob ++ string (part host_blob 96 95) ++ drop 193 host_blob) (errors.Key key_errors.Point)

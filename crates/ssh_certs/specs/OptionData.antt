@@ -1,7 +1,7 @@
--- The data of a certificate's option.
+-- The data of a certificate's option that is one string.
 use Rattle.std.specs.Prelude.{ℕ, List, Option, Result, Ok}
 use Rattle.std.specs.Result.{result_ok}
-use Rattle.ssh_wire.specs.declared.error.WireError.{WireError}
+use Rattle.ssh_wire.specs.declared.cursor.WireError.{WireError}
 use Rattle.ssh_wire.specs.Position.{Position, start}
 use Rattle.ssh_wire.specs.Reading.{◌>>=◌, string_at, end_at}
 

@@ -1,4 +1,4 @@
--- Worked data of options.
+-- Worked examples of the data of options.
 use Rattle.std.specs.Prelude.{◌≡◌, ℕ, List, [], ◌∷◌, ◌++◌, codes, Some, None}
 use Rattle.ssh_certs.specs.OptionData.{one_string}
 
@@ -6,7 +6,7 @@ use Rattle.ssh_certs.specs.OptionData.{one_string}
 abbrev short : ℕ → List ℕ → List ℕ
 short len text = 0 ∷ 0 ∷ 0 ∷ len ∷ text
 
--- data that is one string, and data that is not: with no bytes, too few, or some after the string
+-- data that is one string, and data that is not: empty, too short, or with bytes after the string
 abbrev pub DataRead : Type 0
 DataRead =
     (one_string (short 2 (codes "ls")) ≡ Some (codes "ls"))

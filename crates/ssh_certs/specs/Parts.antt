@@ -1,12 +1,12 @@
--- The certificate of its parts.
+-- The certificate that parts to write make.
 use Rattle.std.specs.Prelude.{map}
 use Rattle.ssh_keys.specs.KeyOf.{key_of}
 use Rattle.ssh_keys.specs.Signature.{signature_of}
-use Rattle.ssh_certs.specs.declared.parts.CertParts.{CertParts}
+use Rattle.ssh_certs.specs.declared.writing.CertParts.{CertParts}
 use Rattle.ssh_certs.specs.Certificate.{Certificate}
 use Rattle.ssh_certs.specs.Packed.{option_in_packed}
 
--- each part is the field of its name
+-- each part is the field of the same name
 abbrev pub certificate_of_parts : CertParts → Certificate
 certificate_of_parts v = record {
   nonce = v.nonce.now;

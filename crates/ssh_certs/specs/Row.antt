@@ -1,4 +1,4 @@
--- The bytes of a field that is to be written.
+-- The bytes of each field when a certificate is written.
 use Rattle.std.specs.Prelude.{ℕ, List, ◌++◌}
 use Rattle.std.specs.List.{concat, flat_map}
 use Rattle.ssh_wire.specs.Spelling.{string, uint32, uint64}
@@ -8,7 +8,7 @@ use Rattle.ssh_keys.specs.Signature.{signature_of, signature_blob}
 use Rattle.ssh_certs.specs.declared.row.Field.{Field}
 use Rattle.ssh_certs.specs.declared.row.Field.TheVariants.{Uint32, Uint64, Text, Names, Options, KeyFields, Key, Signature}
 
--- each field by its spelling (PROTOCOL.certkeys)
+-- the bytes of a field (PROTOCOL.certkeys)
 abbrev pub spelled_field : Field → List ℕ
 spelled_field (Uint32 n) = uint32 n
 spelled_field (Uint64 n) = uint64 n

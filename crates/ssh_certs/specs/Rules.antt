@@ -4,7 +4,7 @@ use Rattle.ssh_certs.specs.declared.view.Time.{Time}
 use Rattle.ssh_certs.specs.declared.view.Time.TheVariants.{Early, Now, Late}
 use Rattle.ssh_certs.specs.Certificate.{Certificate}
 
--- in force from the first moment up to the second, which is no longer one (PROTOCOL.certkeys)
+-- in force from `after` on, and no longer at `before` (PROTOCOL.certkeys)
 abbrev pub time_of : Certificate → ℕ → Time
 time_of c now = if nat_lt now c.after then Early else if nat_le c.before now then Late else Now
 
@@ -12,6 +12,6 @@ time_of c now = if nat_lt now c.after then Early else if nat_le c.before now the
 abbrev pub HasPrincipal : Certificate → List ℕ → Type 0
 HasPrincipal c name = Contains c.principals name
 
--- it names no principal, as a test
+-- whether it has no principal
 abbrev pub no_principals : Certificate → Bool
 no_principals c = length c.principals == 0

@@ -1,9 +1,9 @@
--- A certificate of 213 bytes, and some of its cuts.
+-- Worked examples: a certificate of 213 bytes, and some blobs cut from it.
 use Rattle.std.specs.Prelude.{◌≡◌, ℕ, List, [], ◌∷◌, ◌++◌, length, take, drop, codes, replicate, None, Ok, Err}
-use Rattle.ssh_wire.specs.declared.error.WireCause.TheVariants.{Short, Trailing}
-use Rattle.ssh_keys.specs.declared.error.KeyError.TheVariants as key_errors
+use Rattle.ssh_wire.specs.declared.cursor.WireCause.TheVariants.{Short, Trailing}
+use Rattle.ssh_keys.specs.declared.key.KeyError.TheVariants as key_errors
 use Rattle.ssh_keys.specs.PublicKey.{ed25519}
-use Rattle.ssh_certs.specs.declared.error.CertError.TheVariants as errors
+use Rattle.ssh_certs.specs.declared.reading.CertError.TheVariants as errors
 use Rattle.ssh_certs.specs.Certificate.{Certificate, signed_part, certificate_blob}
 use Rattle.ssh_certs.specs.CertificateReading.{certificate_in}
 
@@ -16,7 +16,7 @@ sample_key last = ed25519_name ++ 0 ∷ 0 ∷ 0 ∷ 32 ∷ (replicate 31 0 ++ la
 abbrev sample_signature : List ℕ
 sample_signature = ed25519_name ++ 0 ∷ 0 ∷ 0 ∷ 1 ∷ 0xaa ∷ []
 
--- the bytes up to and with the signature key field
+-- the bytes up to the end of the signature key field
 abbrev sample_signed : List ℕ
 sample_signed = 0 ∷ 0 ∷ 0 ∷ 32 ∷ (codes "ssh-ed25519-cert-v01@openssh.com" ++ 0 ∷ 0 ∷ 0 ∷ 1 ∷ 7 ∷ 0 ∷ 0 ∷ 0 ∷ 32 ∷ (replicate 32 0
     ++ 0 ∷ 0 ∷ 0 ∷ 0 ∷ 0 ∷ 0 ∷ 0 ∷ 5 ∷ 0 ∷ 0 ∷ 0 ∷ 1 ∷ 0 ∷ 0 ∷ 0 ∷ 2 ∷ 0x69 ∷ 0x64 ∷ 0 ∷ 0 ∷ 0 ∷ 7 ∷ 0 ∷ 0 ∷ 0 ∷ 3 ∷ 0x61 ∷ 0x6e ∷ 0x6e

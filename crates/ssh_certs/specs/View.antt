@@ -1,4 +1,4 @@
--- The certificate that fields in memory stand for.
+-- The certificate that fields in memory represent.
 use Rattle.ssh_keys.specs.KeyOf.{key_of}
 use Rattle.ssh_keys.specs.View.{public_key}
 use Rattle.ssh_keys.specs.Signature.{signature_of}
@@ -6,7 +6,7 @@ use Rattle.ssh_certs.specs.declared.fields.CertFields.{CertFields}
 use Rattle.ssh_certs.specs.Certificate.{Certificate}
 use Rattle.ssh_certs.specs.Packed.{names_in_packed, options_in_packed}
 
--- the lists are what their packed strings spell
+-- the lists are those that the packed strings hold
 abbrev pub certificate_from : CertFields → Certificate
 certificate_from v = record {
   nonce = v.certified.nonce.now;

@@ -9,7 +9,8 @@ ghost use Rattle.ssh_certs.specs.CertificateReading.{items_in, cert_option_at};
 
 use ssh_keys::{KeyFields, KeyView, SignatureView};
 
-/// What is certified, the first fields.
+/// The fields up to the key id: the certified key, and how the signer numbers and names the
+/// certificate.
 #[derive(Clone, Copy, Debug)]
 pub(crate) struct Certified<'a> {
     pub(crate) nonce: &'a [u8],
@@ -19,7 +20,8 @@ pub(crate) struct Certified<'a> {
     pub(crate) key_id: &'a [u8],
 }
 
-/// For whom, when and with which options, the fields that follow: the lists are packed.
+/// The fields from the principals to the reserved bytes: for whom, when and with which options. The
+/// lists are still packed.
 #[derive(Clone, Copy, Debug)]
 pub(crate) struct Terms<'a> {
     pub(crate) principals: &'a [u8],
@@ -33,7 +35,7 @@ pub(crate) struct Terms<'a> {
     ghost extensions_read: { IsOk (items_in cert_option_at extensions.now) },
 }
 
-/// The fields as they lie in the blob.
+/// All fields, as slices of the blob.
 #[derive(Clone, Copy, Debug)]
 pub(crate) struct CertFields<'a> {
     pub(crate) certified: Certified<'a>,

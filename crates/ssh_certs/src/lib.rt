@@ -1,11 +1,10 @@
-//! Certificates of SSH keys (PROTOCOL.certkeys, version 01).
+//! Reads and writes OpenSSH certificates (PROTOCOL.certkeys, version 01).
 //!
-//! Reading borrows from the blob and copies nothing. A blob has at most 262,144 bytes; times are
-//! seconds from 1970-01-01 in UTC. No signature is verified here. What a certificate says of an
-//! option that PROTOCOL.certkeys lists is asked by the option's variant: `CertView::has_named`,
-//! `has_formed` and `text_of`. A caller that asks whether a user's certificate admits a name now,
-//! and then has to see that the signature is the signer's over the signed part (a test runs these
-//! lines):
+//! Reading borrows from the blob and copies nothing. A blob has at most 262,144 bytes. Times are
+//! seconds from 1970-01-01 in UTC. No signature is verified here. Options that PROTOCOL.certkeys
+//! lists are looked up by variant: `CertView::has_named`, `has_formed` and `text_of`. An example:
+//! whether a user's certificate admits a name now; the caller then has to verify that the signature
+//! is the signer's over the signed part (a test runs these lines):
 //!
 //! ```
 //! let cert = read_cert(blob)?;
@@ -14,30 +13,28 @@
 //! }
 //! Ok(None)
 //! ```
+//!
+//! A caller that looks up many names among the principals builds a `PrincipalIndex` first, so that
+//! a look-up does not search the whole list. An example: whether one of many names is a principal
+//! (a test runs these lines):
+//!
+//! ```
+//! let index = PrincipalIndex::new(alloc, certificate)?;
+//! Ok(names.iter().any(|name| index.has(name)))
+//! ```
 #![tactic(auto)]
 
-mod certificate_option;
-mod error;
 mod fields;
 mod laws;
-mod option_data;
 mod options;
 mod packed;
-mod parts;
-mod principals;
 mod reading;
 mod row;
-mod samples;
-mod spelled;
 mod view;
 mod writing;
 
-pub use certificate_option::CertificateOption;
-pub use error::{CertError, WriteError};
-pub use options::has_option;
+pub use options::{CertificateOption, PrincipalIndex, has_option, no_principals};
 pub use packed::{CertOptions, Principals};
-pub use parts::CertParts;
-pub use principals::no_principals;
-pub use reading::read_cert;
+pub use reading::{CertError, WriteError, read_cert};
 pub use view::{CertView, Time};
-pub use writing::{plain_blob, write_cert};
+pub use writing::{CertParts, plain_blob, write_cert};

@@ -1,18 +1,7 @@
-//! Lists that are packed into one string: strings one after the other.
+//! Lists of a certificate that are packed into one string: strings one after the other
+//! (PROTOCOL.certkeys).
 
-ghost use Rattle.std.specs.Prelude.{
-  ◌≡◌,
-  ◌≤◌,
-  ◌↔◌,
-  [],
-  ◌∷◌,
-  length,
-  IfErr,
-  IfSome,
-  IsOk,
-  IsTrue,
-  MatchOption,
-};
+ghost use Rattle.std.specs.Prelude.{◌≡◌, ◌≤◌, ◌↔◌, [], ◌∷◌, length, IfErr, IfSome, IsOk, IsTrue, MatchOption};
 ghost use Rattle.std.specs.Iterator.{YieldsFirstRef, YieldsFirstBy, item_count};
 ghost use Rattle.std.specs.Str.{bytes_eq};
 ghost use Rattle.ssh_wire.specs.Reading.{Reads, string_at};
@@ -32,7 +21,7 @@ pub struct Principals<'a> {
 impl<'a> Principals<'a> {
     ghost use Rattle.ssh_certs.specs.Left.{principals_left};
 
-    /// The principals that are packed into this string.
+    /// The principals that this string packs. The string must have been checked before.
     pub(crate) fn new(packed: &'a [u8]) -> Self
         requires { IsOk (items_in string_at packed.now) }
         ensures { principals_left result ≡ names_in_packed packed.entry.now }
@@ -57,7 +46,7 @@ impl<'a> Iterator for Principals<'a> {
     }
 }
 
-/// What is left of two lists is equal name for name, in order.
+/// Two iterators are equal where the names that remain are equal, in order.
 impl PartialEq for Principals<'_> {
     ghost use Rattle.std.specs.Cmp.{on_per, partial_equiv_from_equiv};
     ghost use Rattle.std.specs.Cmp.Lexicographic.{nat_list_eq_equiv};
@@ -94,7 +83,7 @@ pub struct CertOptions<'a> {
 impl<'a> CertOptions<'a> {
     ghost use Rattle.ssh_certs.specs.Left.{options_left};
 
-    /// The options that are packed into this string.
+    /// The options that this string packs. The string must have been checked before.
     pub(crate) fn new(packed: &'a [u8]) -> Self
         requires { IsOk (items_in cert_option_at packed.now) }
         ensures { options_left result ≡ options_in_packed packed.entry.now }
@@ -119,7 +108,7 @@ impl<'a> Iterator for CertOptions<'a> {
     }
 }
 
-/// What is left of two lists is equal option for option, in order.
+/// Two iterators are equal where the options that remain are equal, in order.
 impl PartialEq for CertOptions<'_> {
     ghost use Rattle.std.specs.Cmp.{on_per, partial_equiv_from_equiv};
     ghost use Rattle.std.specs.Cmp.Lexicographic.{nat_list_eq_equiv};
@@ -146,7 +135,7 @@ impl Eq for CertOptions<'_> {
     ghost laws = { on_equiv packed_options_left nat_list_eq_equiv };
 }
 
-/// Packed names are equal where their strings are.
+/// Packed names are equal exactly where their strings are, because each name has one encoding.
 fn equal_names(a: &[u8], b: &[u8]) -> bool
     requires a { IsOk (items_in string_at a.now) }
     requires b { IsOk (items_in string_at b.now) }
@@ -157,7 +146,7 @@ fn equal_names(a: &[u8], b: &[u8]) -> bool
     *a == *b
 }
 
-/// Packed options are equal where their strings are.
+/// Packed options are equal exactly where their strings are, because each option has one encoding.
 fn equal_options(a: &[u8], b: &[u8]) -> bool
     requires a { IsOk (items_in cert_option_at a.now) }
     requires b { IsOk (items_in cert_option_at b.now) }
@@ -168,7 +157,7 @@ fn equal_options(a: &[u8], b: &[u8]) -> bool
     *a == *b
 }
 
-/// The first name, and what is packed after it.
+/// The first name, and the string that packs the names after it.
 fn split_name(packed: &[u8]) -> Option<(&[u8], &[u8])>
     requires { IsOk (items_in string_at packed.now) }
     ensures first { MatchOption result (names_in_packed packed.now ≡ [])
@@ -182,7 +171,7 @@ fn split_name(packed: &[u8]) -> Option<(&[u8], &[u8])>
     }
 }
 
-/// The first option, and what is packed after it.
+/// The first option, and the string that packs the options after it.
 fn split_option(packed: &[u8]) -> Option<((&[u8], &[u8]), &[u8])>
     requires { IsOk (items_in cert_option_at packed.now) }
     ensures first { MatchOption result (options_in_packed packed.now ≡ [])
@@ -196,7 +185,7 @@ fn split_option(packed: &[u8]) -> Option<((&[u8], &[u8]), &[u8])>
     }
 }
 
-/// Takes an option: its name, then its data.
+/// Reads an option: its name, then its data.
 fn take_option<'a>(cursor: &mut Cursor<'a>) -> Result<(&'a [u8], &'a [u8]), WireError>
     ensures { Reads option_in_packed cert_option_at cursor.old result cursor.new }
 {
@@ -205,7 +194,8 @@ fn take_option<'a>(cursor: &mut Cursor<'a>) -> Result<(&'a [u8], &'a [u8]), Wire
     Ok((name, value))
 }
 
-/// Reads packed principals to their end.
+/// Checks that a string packs principals to its end. An error's place counts from the string's
+/// first byte.
 pub(crate) fn check_principals(packed: &[u8]) -> Result<(), WireError>
     ensures exact { result ≡ without_items (items_in string_at packed.now) }
     ensures within { IfErr result (λ e. e.place ≤ length packed.now) }
@@ -217,7 +207,8 @@ pub(crate) fn check_principals(packed: &[u8]) -> Result<(), WireError>
     Ok(())
 }
 
-/// Reads packed options to their end.
+/// Checks that a string packs options to its end. An error's place counts from the string's first
+/// byte.
 pub(crate) fn check_options(packed: &[u8]) -> Result<(), WireError>
     ensures exact { result ≡ without_items (items_in cert_option_at packed.now) }
     ensures within { IfErr result (λ e. e.place ≤ length packed.now) }

@@ -1,26 +1,28 @@
-//! The row of a certificate's fields, as it is written.
+//! The fields of a certificate, each with how it is written.
 
-ghost use Rattle.std.specs.Prelude.{◌≡◌, ◌≤◌, ◌++◌, length, OnOk, OnErr};
+ghost use Rattle.std.specs.Prelude.{◌≡◌, ◌≤◌, ◌++◌, length, OnOk, OnErr, ◌<◌, Err};
 ghost use Rattle.std.specs.List.{concat};
 ghost use Rattle.ssh_keys.specs.KeyOf.{key_of};
 ghost use Rattle.ssh_keys.specs.PublicKey.{fields_of, key_blob, longest};
 ghost use Rattle.ssh_keys.specs.Signature.{IsSignature, signature_of, signature_blob};
 ghost use Rattle.ssh_certs.specs.Writing.{capped};
 ghost use Rattle.ssh_wire.specs.Fronts.{Keeps};
+ghost use Rattle.ssh_wire.specs.Spelling.{string};
 
-use crate::spelled::{Spelled, put_all, put_len, put_packed, total_len};
+use crate::writing::{Spelled, put_len, put_packed, total_len};
 use ssh_keys::{Curve, KeyFields, KeyView, SignatureView, write_key, write_signature};
 use ssh_wire::{Wire, put_string};
 use std::alloc::AllocError;
 
-/// A signature that has a blob.
+/// A signature that has a blob: its flags and counter are present exactly for a security key's
+/// algorithm.
 #[derive(Clone, Copy)]
 pub(crate) struct SpelledSignature<'a> {
     pub(crate) view: SignatureView<'a>,
     ghost is_signature: { IsSignature (signature_of view) },
 }
 
-/// A field of the row.
+/// A field of a certificate, as it is written.
 #[derive(Clone, Copy)]
 pub(crate) enum Field<'a> {
     Uint32(u32),
@@ -30,9 +32,9 @@ pub(crate) enum Field<'a> {
     Options(&'a [(&'a [u8], &'a [u8])]),
     /// The fields of a key after its type name.
     KeyFields(KeyView<'a>),
-    /// The blob of a key.
+    /// The blob of a key, as a string.
     Key(KeyView<'a>),
-    /// The blob of a signature.
+    /// The blob of a signature, as a string.
     Signature(SpelledSignature<'a>),
 }
 
@@ -74,8 +76,7 @@ impl<'a> Spelled for Field<'a> {
     }
 }
 
-/// How many bytes the fields of a key have after its type name, or `usize::MAX` where they have
-/// more.
+/// How many bytes the fields of a key have after its type name, or `usize::MAX` if they have more.
 fn key_fields_len(key: &KeyView<'_>) -> usize
     ensures { result ≡ capped (length (concat (fields_of (key_of key.now)))) }
 {
@@ -97,7 +98,8 @@ fn key_fields_len(key: &KeyView<'_>) -> usize
     }
 }
 
-/// Writes the fields of a key after its type name. After an `Err` a part of them may stand there.
+/// Writes the fields of a key after its type name. After an `Err`, part of them may have been
+/// written.
 fn put_key_fields(key: &KeyView<'_>, out: &mut Vec<u8>) -> Result<(), AllocError>
     requires { length (concat (fields_of (key_of key.now))) ≤ longest }
     ensures ok { OnOk result
@@ -122,7 +124,7 @@ fn put_key_fields(key: &KeyView<'_>, out: &mut Vec<u8>) -> Result<(), AllocError
     }
 }
 
-/// How many bytes the blob of a key has, or `usize::MAX` where it has more.
+/// How many bytes the blob of a key has, or `usize::MAX` if it has more.
 #[tactic(auto, unfolding(ssh_keys::specs::PublicKey::key_blob))]
 fn key_len(key: &KeyView<'_>) -> usize
     ensures { result ≡ capped (length (key_blob (key_of key.now))) }
@@ -131,7 +133,7 @@ fn key_len(key: &KeyView<'_>) -> usize
     name.spelled_len().saturating_add(key_fields_len(key))
 }
 
-/// How many bytes the blob of a signature has, or `usize::MAX` where it has more.
+/// How many bytes the blob of a signature has, or `usize::MAX` if it has more.
 #[tactic(auto, unfolding(ssh_keys::specs::Signature::signature_blob))]
 fn signature_len(signature: &SignatureView<'_>) -> usize
     ensures { result ≡ capped (length (signature_blob (signature_of signature.now))) }

@@ -1,27 +1,29 @@
-//! A certificate in its blob.
+//! A certificate that is read in place: its fields are slices of its blob.
 
 ghost use Rattle.std.specs.Prelude.{◌≡◌, ◌↔◌, IsTrue};
+ghost use Rattle.ssh_keys.specs.KeyOf.{key_of};
+ghost use Rattle.ssh_keys.specs.PublicKey.{key_blob};
+ghost use Rattle.ssh_keys.specs.Signature.{signature_of, signature_blob};
 ghost use Rattle.ssh_certs.specs.Certificate.{signed_part, IsCertificateBlob};
 ghost use Rattle.ssh_certs.specs.View.{certificate_from};
-ghost use Rattle.ssh_keys.specs.KeyOf.{key_of};
 ghost use Rattle.ssh_keys.specs.View.{public_key};
 
 use crate::fields::CertFields;
 use crate::packed::{CertOptions, Principals};
 use ssh_keys::{KeyView, SignatureView};
 
-/// Where a moment lies in a certificate's time.
+/// Whether a moment is before, within or after a certificate's validity.
 #[derive(Clone, Copy, Debug, PartialEq, Eq)]
 pub enum Time {
-    /// Before its first second.
+    /// Before the first second in force.
     Early,
     /// In force.
     Now,
-    /// At its end or after it.
+    /// At the end of the validity or after it.
     Late,
 }
 
-/// A certificate in its blob. Its lists are slices of the blob.
+/// A certificate that is read in place. Its lists are slices of the blob.
 #[derive(Clone, Copy, Debug)]
 pub struct CertView<'a> {
     pub(crate) blob: &'a [u8],
@@ -38,7 +40,8 @@ impl<'a> CertView<'a> {
     ghost use Rattle.ssh_keys.specs.PublicKey.{key_blob};
     ghost use Rattle.ssh_keys.specs.Signature.{IsSignature, signature_of, signature_blob};
 
-    /// The nonce: any bytes that the signer chose.
+    /// Bytes that the signer chose. Random ones make collision attacks on the signature's hash
+    /// infeasible (PROTOCOL.certkeys); any bytes are accepted.
     pub fn nonce(&self) -> &'a [u8]
         ensures { result.now ≡ (certificate_of self.now).nonce }
     {
@@ -52,14 +55,15 @@ impl<'a> CertView<'a> {
         self.key
     }
 
-    /// The serial number: 0 where the signer counts none.
+    /// The serial number: 0 where the signer does not count certificates.
     pub fn serial(&self) -> u64
         ensures { result ≡ (certificate_of self.now).serial }
     {
         self.fields.certified.serial
     }
 
-    /// 1 for a user's certificate, 2 for a host's. No number is refused here.
+    /// 1 for a user's certificate, 2 for a host's. Reading accepts every number, so the caller has
+    /// to compare it.
     pub fn kind_number(&self) -> u32
         ensures { result ≡ (certificate_of self.now).kind_number }
     {
@@ -73,7 +77,7 @@ impl<'a> CertView<'a> {
         self.fields.certified.key_id
     }
 
-    /// The names that the certificate is for, in the order of the blob.
+    /// The users or hosts that the certificate is for, in the order of the blob.
     pub fn principals(&self) -> Principals<'a>
         ensures { principals_left result ≡ (certificate_of self.now).principals }
     {
@@ -101,21 +105,21 @@ impl<'a> CertView<'a> {
         CertOptions::new(self.fields.terms.critical)
     }
 
-    /// The options that a verifier may pass over, in the order of the blob.
+    /// The options that a verifier may ignore, in the order of the blob.
     pub fn extensions(&self) -> CertOptions<'a>
         ensures { options_left result ≡ (certificate_of self.now).extensions }
     {
         CertOptions::new(self.fields.terms.extensions)
     }
 
-    /// Reserved bytes. They mean nothing.
+    /// Reserved bytes, which have no meaning yet.
     pub fn reserved(&self) -> &'a [u8]
         ensures { result.now ≡ (certificate_of self.now).reserved }
     {
         self.fields.terms.reserved
     }
 
-    /// The key that signed the certificate.
+    /// The key that signed the certificate: the certificate authority's.
     pub fn signer(&self) -> KeyView<'a>
         ensures { key_of result ≡ (certificate_of self.now).signer }
     {
@@ -144,7 +148,7 @@ impl<'a> CertView<'a> {
         self.fields.raw_signature
     }
 
-    /// What the signer signed: every byte up to and with the signature key field.
+    /// The bytes that the signer signed: all up to the end of the signature key field.
     pub fn signed_part(&self) -> &'a [u8]
         ensures { result.now ≡ signed_part (certificate_of self.now) }
     {
@@ -152,8 +156,8 @@ impl<'a> CertView<'a> {
         &self.blob[..self.blob.len() - signature_field]
     }
 
-    /// Where the moment lies, in seconds from 1970-01-01 in UTC: in force from `after` on, and no
-    /// longer at `before` (PROTOCOL.certkeys).
+    /// Whether the certificate is in force at a moment, in seconds from 1970-01-01 in UTC: from
+    /// `after` on, and no longer at `before` (PROTOCOL.certkeys).
     pub fn in_time(&self, now: u64) -> Time
         ensures { result ≡ time_of (certificate_of self.now) now }
     {
@@ -174,7 +178,7 @@ impl<'a> CertView<'a> {
     }
 }
 
-/// Views are equal exactly where their certificates are, and that is where their blobs are.
+/// Views are equal exactly where their certificates are, because a certificate has only one blob.
 impl PartialEq for CertView<'_> {
     ghost use Rattle.std.specs.Cmp.{on_per, partial_equiv_from_equiv};
     ghost use Rattle.std.specs.Cmp.Lexicographic.{nat_list_eq_equiv};

@@ -1,19 +1,9 @@
--- What is kept of entries stands for their list: it answers as the list does, and one more entry is kept as the list grows.
-use Rattle.std.proofs.Common.{◌≡◌, ◌∙◌, ℕ, Bool, true, false, not, ◌&&◌, cond, List, [], ◌∷◌, ◌++◌, Option, Some, None, IsSome, ap, sym, refl, subst, option_and_then, option_map}
-use Rattle.std.specs.Prelude.{bytes_eq, find, is_some}
-use Rattle.std.specs.Option.{option_or}
-use Rattle.std.proofs.lemmas.List.Folds.{find-append}
-use Rattle.ssh_byte_maps.specs.declared.map.ByteMap.{ByteMap}
-use Rattle.std.proofs.lemmas.Slice.Eq.{bytes_eq-Decides}
-use Rattle.ssh_findings.specs.declared.earlier.Earlier.{Earlier}
-use Rattle.ssh_findings.specs.declared.earlier.Free.{Free}
-use Rattle.ssh_findings.specs.declared.earlier.Kept.{Kept}
-use Rattle.ssh_findings.specs.declared.facts.Facts.{Facts}
-use Rattle.ssh_findings.specs.declared.finding.Finding.{Finding}
-use Rattle.ssh_findings.specs.Earlier.{Held, is_free, is_of_key, repeat_after, repeat_of, shadow}
-use Rattle.ssh_findings.specs.Keeping.{RemembersEntries, free_of, kept_after, kept_at, kept_in, kept_of, shadow_at}
+-- What is stored represents a list of entries: it answers as the list does, also after one more entry.
+use Rattle.ssh_findings.proofs.Imports.{◌≡◌, ◌∙◌, ℕ, Bool, true, false, not, ◌&&◌, cond, List, [], ◌∷◌, ◌++◌, Option, Some, None, ap, sym, refl, subst, option_and_then, option_map, bytes_eq, find, is_some, option_or, find-append, ByteMap, bytes_eq-Decides, Earlier, Free, Kept, Facts, Finding, Held, is_free, is_of_key, repeat_of, RemembersEntries, free_of, kept_after, kept_at, kept_in, kept_of, shadow_at}
+use Rattle.std.proofs.Common.{IsSome}
+use Rattle.ssh_findings.specs.Earlier.{repeat_after, shadow}
 
--- ---- what is kept answers as the list does
+-- ---- what is stored answers as the list does
 
 none-found : (p q : Held → Bool) (held : List Held) → find p held ≡ None → find (λ d. p d && q d) held ≡ None
 none-found p q [] h = refl
@@ -68,11 +58,11 @@ pub shadow_line_at : (earlier : Earlier) (held : List Held) (blob : List ℕ) (f
 shadow_line_at earlier held blob f s =
     ap (option_map (λ free. free.line)) (shadowed_at earlier held blob f s) ∙ free-line (shadow held blob f)
 
--- what is kept of a first and a first free entry
+-- what is stored for a first and a first free entry
 abbrev made : Option Held → Option Held → Option Kept
 made first free = option_map (λ d. record { first = d.line; free = option_map free_of free }) first
 
--- what is found where this is kept of the key, by what stands for the first entry and the first free one
+-- the finding by what is stored for the key, given the first entry and the first free one
 pub repeat_some : (earlier : Earlier) (held : List Held) (blob : List ℕ) (f : Facts) (k : Kept) (result : Finding) → RemembersEntries earlier held
     → Some k ≡ kept_at earlier blob f.is_authority
     → ((first : Held) (free : Option Held) → k ≡ (record { first = first.line; free = option_map free_of free })
@@ -181,7 +171,7 @@ kept_plain old new held d role s same h = record {
   authorities = λ blob. ap (λ m. kept_in m blob) same ∙ s.authorities blob ∙ sym (kept-still blob true held d role);
 }
 
--- what stands for a list, by the same entries
+-- the list that is represented, by the same entries
 pub stands_still : (old new : Earlier) (held : List Held) → ((blob : List ℕ) → kept_in new.plain blob ≡ kept_in old.plain blob)
     → ((blob : List ℕ) → kept_in new.authorities blob ≡ kept_in old.authorities blob) → RemembersEntries old held → RemembersEntries new held
 stands_still old new held e f s = record {
@@ -189,7 +179,7 @@ stands_still old new held e f s = record {
   authorities = λ blob. f blob ∙ s.authorities blob;
 }
 
--- ---- an entry of a key that is kept
+-- ---- an entry of a key that is already stored
 
 some-kept : (blob : List ℕ) (is_authority : Bool) (held : List Held) → IsSome (find (is_of_key blob is_authority) held) → IsSome (kept_of blob is_authority held)
 some-kept blob is_authority held = go (find (is_of_key blob is_authority) held)

@@ -1,5 +1,18 @@
+pub mod Imports
 pub mod SizeLemmas
 pub mod ListLemmas
 pub mod ShadowLemmas
 pub mod KeepingLemmas
 pub mod SpareLemmas
+pub mod TextKeys
+pub mod LeastLemmas
+pub mod EarlierLemmas
+pub mod NameLemmas
+pub mod LawLemmas
+pub mod SumLemmas
+mod HeldKeysLeastLemmas
+mod StandsLemmas
+pub mod RowLemmas
+pub mod PlaceLemmas
+pub mod SeekLemmas
+pub mod EntryLemmas

@@ -1,9 +1,6 @@
--- What a `from` list says is bad exactly where some item cannot stand in it, whoever asks.
-use Rattle.std.proofs.Common.{◌≡◌, ℕ, Bool, true, false, List, Option, refl, sym, ◌∙◌, ap}
-use Rattle.std.specs.List.{list_any}
-use Rattle.ssh_patterns.specs.declared.permit.Permit.{Permit}
-use Rattle.ssh_patterns.specs.declared.permit.Permit.TheVariants.{Yes, No, Bad}
-use Rattle.ssh_patterns.specs.Lists.{is_bad_source, items_of, permit, permit_by, permits, source_item, source_list}
+-- A `from` list is bad exactly if some item is not allowed in it, whoever the client is.
+use Rattle.ssh_findings.proofs.Imports.{◌≡◌, ℕ, Bool, true, false, List, Option, refl, sym, ◌∙◌, ap, list_any, Permit, Yes, No, Bad, is_bad_source, items_of, permit, permits, source_item, source_list}
+use Rattle.ssh_patterns.specs.Lists.{permit_by}
 use Rattle.ssh_findings.specs.Lists.{is_bad_list}
 
 abbrev pub is_bad : Permit → Bool
@@ -20,7 +17,7 @@ bad-list : (list : List ℕ) (host : Option (List ℕ)) (text : List ℕ) → is
 unfolding permit_by is_bad_list
 bad-list list host text = bad-permit (list_any is_bad_source (items_of list)) (permits (source_item (record { host = host; text = text })) (items_of list))
 
--- by what is said of one source
+-- by the answer for one source
 pub said_is : (said : Permit) (list : List ℕ) (host : Option (List ℕ)) (text : List ℕ) → said ≡ source_list list host text → is_bad said ≡ is_bad_list list
 said_is said list host text e = ap is_bad e ∙ bad-list list host text
 

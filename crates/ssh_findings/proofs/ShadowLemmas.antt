@@ -1,40 +1,9 @@
 -- Who is let in by a line is let in by an earlier one of the same key that is free; and a bad list lets nobody in.
-use Rattle.std.proofs.Common.{◌≡◌, ◌∙◌, ◌==◌, ◌||◌, ◌&&◌, ◌<◌, ℕ, zero, suc, Bool, true, false, not, cond, List, [], ◌∷◌, Option, Some, None, length, sym, refl, subst, ap, inl, inr, arith}
-use Rattle.std.specs.Prelude.{bytes_eq, find, is_some}
-use Rattle.std.specs.List.{AllByRecursion, list_any, slice_index_or}
-use Rattle.std.proofs.lemmas.Bool.{and_parts, ne_eqb}
-use Rattle.jiff.specs.Types.{TimeZone}
-use Rattle.ssh_keys.specs.PublicKey.{PublicKey}
-use Rattle.ssh_certs.specs.declared.certificate_option.CertificateOption.TheVariants.{ForceCommand}
-use Rattle.ssh_certs.specs.Certificate.{Certificate, CertOption}
-use Rattle.ssh_certs.specs.OptionFacts.{IsOneString}
-use Rattle.ssh_certs.specs.OptionTable.{certificate_option_name}
-use Rattle.ssh_certs.proofs.OptionFactLemmas.{each}
-use Rattle.ssh_options.specs.declared.option.ValueName.TheVariants.{Command, ExpiryTime, From, Principals}
-use Rattle.ssh_options.specs.Settings.{first_of, setting, settings}
-use Rattle.ssh_lines.specs.AuthEntry.{AuthEntry}
-use Rattle.ssh_offers.specs.Offer.{Offer, OfCertificate, certified, is_certified, plain}
-use Rattle.ssh_offers.specs.Query.{Login}
-use Rattle.ssh_offers.specs.LoginClaim.{LoginClaim}
-use Rattle.ssh_patterns.specs.Lists.{pieces}
-use Rattle.ssh_patterns.specs.declared.permit.Permit.TheVariants.{Yes}
-use Rattle.ssh_patterns.specs.declared.address.Address.{Address}
-use Rattle.ssh_rights.specs.Rights.{command_of, rights_of}
-use Rattle.ssh_rules.specs.Admission.{AdmitsLogin, CriticalMet, IsUnexpired, IsUserInForce, is_authority, source_by}
-use Rattle.ssh_rules.specs.CertificateForce.{InForce, Serves, user_certificate}
-use Rattle.ssh_rules.proofs.AdmissionLemmas.{of-source}
-use Rattle.ssh_keys.specs.PublicKey.{key_blob}
-use Rattle.ssh_keys.proofs.KeyLaws.{find_some}
-use Rattle.std.proofs.lemmas.Slice.Eq.{bytes_eq-Decides}
-use Rattle.ssh_findings.specs.declared.facts.Facts.{Facts}
-use Rattle.ssh_findings.specs.declared.finding.Finding.{Finding}
+use Rattle.ssh_findings.proofs.Imports.{◌≡◌, ◌∙◌, ◌==◌, ◌||◌, ◌&&◌, ◌<◌, ℕ, zero, suc, Bool, true, false, not, cond, List, [], ◌∷◌, Option, Some, None, length, sym, refl, subst, ap, inl, inr, arith, bytes_eq, find, is_some, AllByRecursion, list_any, slice_index_or, and_parts, ne_eqb, TimeZone, PublicKey, ForceCommand, Certificate, CertOption, IsOneString, certificate_option_name, each, Command, ExpiryTime, From, Principals, first_of, setting, settings, AuthEntry, Offer, OfCertificate, certified, is_certified, plain, Login, LoginClaim, pieces, Yes, Address, command_of, AdmitsLogin, CriticalMet, IsUnexpired, IsUserInForce, is_authority, source_by, InForce, Serves, user_certificate, of-source, key_blob, find_some, bytes_eq-Decides, Facts, Finding, Held, held_entry, is_free, is_narrower, is_of_key, is_unlimited, repeat_of, has_name_in, lets_nobody_in, names_nobody, permits_bad, refuses_all_in, says_name, may_refuse, IsFree, IsSame, NamesFirst}
+use Rattle.ssh_rights.specs.Rights.{rights_of}
 use Rattle.ssh_findings.specs.declared.finding.Finding.TheVariants as finding
-use Rattle.ssh_findings.specs.Earlier.{Held, held_entry, is_free, is_narrower, is_of_key, is_unlimited, repeat_after, repeat_of, shadow}
-use Rattle.ssh_findings.specs.EntryFindings.{has_name_in, lets_nobody_in, names_nobody, permits_bad, refuses_all_in}
+use Rattle.ssh_findings.specs.Earlier.{repeat_after, shadow}
 use Rattle.ssh_findings.specs.Facts.{facts_of}
-use Rattle.ssh_findings.specs.Lists.{says_name}
-use Rattle.ssh_findings.specs.OpenSsh.{may_refuse}
-use Rattle.ssh_findings.specs.Shadows.{IsFree, IsSame, NamesFirst}
 use Rattle.ssh_findings.proofs.ListLemmas.{bad_always}
 
 -- ---- what a later line admits, an earlier one that is free admits

@@ -1,10 +1,7 @@
 -- The size of an RSA key is the least count of binary digits that its modulus fits in.
-use Rattle.std.proofs.Common.{◌≡◌, ℕ, zero, suc, ◌+◌, ◌^◌, ◌<◌, ◌≤◌, nat_lt, Bool, true, false, Option, Some, None, refl, sym, ap, arith, inl, inr, lit<}
-use Rattle.std.proofs.lemmas.Bool.{ltb-true, ltb-false}
-use Rattle.std.proofs.Math.Nat.{eq-or-lt_of_le, pow-suc}
-use Rattle.ssh_keys.specs.PublicKey.{PublicKey, rsa, p256, p384, p521, ed25519, sk_p256, sk_ed25519}
-use Rattle.ssh_keys.specs.Fingerprint.{IsBitCount, IsRsaSize}
-use Rattle.ssh_findings.specs.Facts.{bit_count, count_from, rsa_size}
+use Rattle.ssh_findings.proofs.Imports.{◌≡◌, ℕ, zero, suc, ◌+◌, ◌^◌, ◌<◌, ◌≤◌, Bool, true, false, Option, Some, None, refl, sym, ap, arith, inl, inr, lit<, ltb-true, ltb-false, eq-or-lt_of_le, pow-suc, PublicKey, rsa, p256, p384, p521, ed25519, sk_p256, sk_ed25519, IsBitCount, IsRsaSize, bit_count, rsa_size}
+use Rattle.std.proofs.Common.{nat_lt}
+use Rattle.ssh_findings.specs.Facts.{count_from}
 
 below-power : (n : ℕ) → n < 2 ^ n
 below-power zero = lit< tt

@@ -1,5 +1,5 @@
--- Where nothing is told, no part of it is.
-use Rattle.std.proofs.Common.{◌≡◌, ◌++◌, List, [], ◌∷◌, refl}
+-- If nothing is reported, no part of it is.
+use Rattle.ssh_findings.proofs.Imports.{◌≡◌, ◌++◌, List, [], ◌∷◌, refl}
 
 pub none_in_front : {A : Type 0} (xs ys : List A) → xs ++ ys ≡ [] → xs ≡ []
 none_in_front [] ys h = refl

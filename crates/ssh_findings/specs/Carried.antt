@@ -1,4 +1,4 @@
--- The texts of options that are carried on, by the option (sshd(8), AUTHORIZED_KEYS FILE FORMAT).
+-- The option values that are passed on unread, by option (sshd(8), AUTHORIZED_KEYS FILE FORMAT).
 use Rattle.std.specs.Prelude.{Bool, true, false, List}
 use Rattle.std.specs.List.{list_any}
 use Rattle.ssh_rights.specs.declared.rights.Carried.{Carried}
@@ -29,7 +29,7 @@ is_tunnel_name carried.PermitListen = false
 is_tunnel_name carried.PermitOpen = false
 is_tunnel_name carried.Tunnel = true
 
--- the text of an `environment`, a `permitopen`, a `permitlisten` and a `tunnel`
+-- the value of an `environment`, a `permitopen`, a `permitlisten` and a `tunnel` option
 abbrev pub is_environment : Carried → Bool
 is_environment c = is_environment_name c.name
 
@@ -42,7 +42,7 @@ is_listen c = is_listen_name c.name
 abbrev pub is_tunnel : Carried → Bool
 is_tunnel c = is_tunnel_name c.name
 
--- `permitopen`, and `permitlisten`, stand on a line
+-- the line has a `permitopen` option, and a `permitlisten` option
 abbrev pub has_open : List Carried → Bool
 has_open texts = list_any is_open texts
 

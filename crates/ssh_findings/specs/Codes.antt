@@ -10,7 +10,7 @@ use Rattle.ssh_findings.specs.declared.code.Code.TheVariants as code
 abbrev pub same_code : Code → Code → Bool
 same_code = sameb code_type.the_type
 
--- the code as it is printed
+-- the printed code
 abbrev pub code_text : Code → List ℕ
 code_text code.Unreadable = codes "F1"
 code_text code.SameKey = codes "F2"
@@ -35,7 +35,7 @@ code_text code.NamesInClear = codes "F20"
 code_text code.SameHostKey = codes "F21"
 code_text code.MayRefuse = codes "F22"
 
--- what is wrong under any policy, F1 to F14
+-- F1 to F14: wrong under any policy
 abbrev pub first_codes : List Code
 first_codes =
     code.Unreadable ∷ code.SameKey ∷ code.NeverDecides ∷ code.GivesMore ∷ code.ShortKey ∷ code.Expired ∷ code.PermitsNobody
@@ -46,30 +46,30 @@ first_codes =
 abbrev pub default_codes : List Code
 default_codes = first_codes ++ code.MayRefuse ∷ []
 
--- every code, in the order of the numbers
+-- all codes, in ascending order
 abbrev pub all_codes : List Code
 all_codes =
     first_codes
     ++ code.AnyAddress ∷ code.AnyCommand ∷ code.NoExpiry ∷ code.AnyPrincipal ∷ code.NoComment ∷ code.NamesInClear
     ∷ code.SameHostKey ∷ code.MayRefuse ∷ []
 
--- the first of some codes that is printed so, if one is
+-- the first of some codes with this printed text
 abbrev pub named_in : List Code → List ℕ → Option Code
 named_in codes text = find (λ c. bytes_eq (code_text c) text) codes
 
 unfoldable pub code_named : List ℕ → Option Code
 code_named text = named_in all_codes text
 
--- some codes and those of pieces, if each piece is one
+-- these codes and those of the pieces, if each piece is a code
 abbrev pub codes_from : List Code → List (List ℕ) → Option (List Code)
 codes_from found [] = Some found
 codes_from found (piece ∷ pieces) = option_and_then (λ c. codes_from (found ++ c ∷ []) pieces) (code_named piece)
 
--- codes between commas
+-- the codes of a list separated by commas
 abbrev pub listed_codes : List ℕ → Option (List Code)
 listed_codes text = codes_from [] (pieces text)
 
--- `all`, `none`, or codes between commas, in any order and repeated or not
+-- `all`, `none`, or codes separated by commas, in any order and possibly repeated
 unfoldable pub codes_in : List ℕ → Option (List Code)
 codes_in text =
     if bytes_eq text (codes "all") then Some all_codes

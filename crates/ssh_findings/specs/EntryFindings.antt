@@ -1,12 +1,12 @@
--- What is found of an entry, in the order of the codes (this project's rule; F8 by what OpenSSH was seen to do).
+-- The findings of an entry, in the order of the codes (this project's rule; F8 as OpenSSH was observed).
 use Rattle.std.specs.Prelude.{ℕ, ◌-◌, Bool, true, false, not, if◌then◌else◌, ◌&&◌, ◌||◌, ◌==◌, List, ◌++◌, length, Option, Some, None, is_some, option_map}
 use Rattle.std.specs.List.{flat_map}
 use Rattle.ssh_keys.specs.declared.kind.KeyKind.{KeyKind}
 use Rattle.ssh_keys.specs.declared.kind.KeyKind.TheVariants as kind
-use Rattle.ssh_options.specs.declared.cause.LineCause.{LineCause}
+use Rattle.ssh_options.specs.declared.option_text.LineCause.{LineCause}
 use Rattle.ssh_rights.specs.declared.rights.Rights.{Rights}
 use Rattle.ssh_findings.specs.declared.facts.Facts.{Facts}
-use Rattle.ssh_findings.specs.declared.grounds.Ground.{Ground}
+use Rattle.ssh_findings.specs.declared.openssh.Ground.{Ground}
 use Rattle.ssh_findings.specs.declared.finding.Finding.{Finding}
 use Rattle.ssh_findings.specs.declared.finding.Finding.TheVariants as finding
 use Rattle.ssh_findings.specs.Asking.{Asking, short_size}
@@ -22,7 +22,7 @@ abbrev pub permits_bad : Option (List ℕ) → Bool
 permits_bad None = false
 permits_bad (Some list) = is_bad_list list
 
--- a `principals` list with a name, and with an empty one
+-- a `principals` list with a name, and one with an empty name
 abbrev pub has_name_in : Option (List ℕ) → Bool
 has_name_in None = false
 has_name_in (Some list) = has_name list
@@ -31,7 +31,7 @@ abbrev pub has_empty_in : Option (List ℕ) → Bool
 has_empty_in None = false
 has_empty_in (Some list) = has_empty_name list
 
--- a `from` list by which OpenSSH lets nobody in either, and one that it may read otherwise
+-- a `from` list by which OpenSSH permits nobody either, and one that it may read differently
 abbrev pub refuses_all_in : Option (List ℕ) → Bool
 refuses_all_in None = false
 refuses_all_in (Some list) = refuses_all list
@@ -40,14 +40,14 @@ abbrev pub has_short_address_in : Option (List ℕ) → Bool
 has_short_address_in None = false
 has_short_address_in (Some list) = has_short_address list
 
--- the `from` list permits nobody, here and in OpenSSH; and here alone
+-- the `from` list permits nobody, here and in OpenSSH; and only here
 abbrev pub lets_nobody_in : Facts → Bool
 lets_nobody_in f = permits_bad f.from && refuses_all_in f.from
 
 abbrev pub lets_nobody_in_here : Facts → Bool
 lets_nobody_in_here f = permits_bad f.from && not (refuses_all_in f.from)
 
--- an item of the list is an address for OpenSSH alone, and OpenSSH may let somebody in by the list
+-- an item of the list is an address for OpenSSH alone, and OpenSSH may permit somebody by the list
 abbrev pub has_other_address : Facts → Bool
 has_other_address f = has_short_address_in f.from && not (refuses_all_in f.from)
 
@@ -77,7 +77,8 @@ is_security_key kind.Ed25519 = false
 is_security_key kind.SkP256 = true
 is_security_key kind.SkEd25519 = true
 
--- F8: `principals` of a plain key; an empty name among others; `verify-required` of a key that cannot; a time without `Z`
+-- F8: `principals` of a plain key; an empty name among others; `verify-required` without a security key; a time without
+-- `Z`
 abbrev pub reading_findings : Asking → Facts → List Finding
 reading_findings asking f =
     told_if code_of asking (not f.is_authority && is_some f.principals) finding.PlainPrincipals
@@ -86,7 +87,7 @@ reading_findings asking f =
     ++ told_if code_of asking f.has_local_time finding.LocalTime
     ++ told_if code_of asking (has_other_address f) finding.ShortAddress
 
--- F9: a command is forced, and TCP, the agent or X11 may be forwarded
+-- F9: a command is forced, and TCP ports, the agent or X11 may be forwarded
 abbrev pub forces_but_forwards : Rights → Bool
 forces_but_forwards r = is_some r.command && (r.port || (r.agent || r.x11))
 
@@ -95,7 +96,7 @@ abbrev pub permits_any : Option (List ℕ) → Bool
 permits_any None = true
 permits_any (Some list) = is_for_any_address list
 
--- F15 to F19: from any address; any command; for ever; for any principal; no comment
+-- F15 to F19: from any address; any command; never expires; for any principal; no comment
 abbrev pub policy_findings : Asking → Facts → List Finding
 policy_findings asking f =
     told_if code_of asking (not f.is_authority && permits_any f.from) finding.AnyAddress
@@ -104,14 +105,14 @@ policy_findings asking f =
     ++ told_if code_of asking (f.is_authority && not (is_some f.principals)) finding.AnyPrincipal
     ++ told_if code_of asking (length f.comment == 0) finding.NoComment
 
--- F22: each ground on which OpenSSH may refuse the entry
+-- F22: each reason for which OpenSSH may refuse the entry
 abbrev pub ground_finding : Asking → Facts → Ground → List Finding
 ground_finding asking f g = told_if code_of asking (has_ground f g) (finding.MayRefuse g)
 
 abbrev pub ground_findings : Asking → Facts → List Finding
 ground_findings asking f = flat_map (λ g. ground_finding asking f g) all_grounds
 
--- what is found of an entry with this blob, after these entries, and told
+-- the findings to report for an entry with this blob, given the earlier entries
 unfoldable pub entry_findings : Asking → List Held → List ℕ → Facts → List Finding
 entry_findings asking earlier blob f =
     told_some code_of asking (repeat_after earlier blob f)
@@ -121,6 +122,6 @@ entry_findings asking earlier blob f =
     ++ policy_findings asking f
     ++ ground_findings asking f
 
--- what is found of a line that cannot be read and told: F1
+-- the findings to report for a line that cannot be read: F1
 abbrev pub unreadable_findings : Asking → LineCause → List Finding
 unreadable_findings asking cause = told_if code_of asking true (finding.Unreadable cause)

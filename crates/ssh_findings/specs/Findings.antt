@@ -1,10 +1,10 @@
--- What is found of a line, by its code (this project's rule).
+-- The code of each finding (this project's rule).
 use Rattle.ssh_findings.specs.declared.code.Code.{Code}
 use Rattle.ssh_findings.specs.declared.code.Code.TheVariants as code
 use Rattle.ssh_findings.specs.declared.finding.Finding.{Finding}
 use Rattle.ssh_findings.specs.declared.finding.Finding.TheVariants as finding
 
--- the code by which it is told
+-- the code under which it is reported
 abbrev pub code_of : Finding → Code
 code_of (finding.Unreadable cause) = code.Unreadable
 code_of (finding.SameKey line) = code.SameKey

@@ -1,9 +1,9 @@
--- The grounds on which OpenSSH may refuse an entry that the rules here read (what OpenSSH 9.2 was seen to do).
+-- The reasons for which OpenSSH may refuse an entry that the rules here accept (as OpenSSH 9.2 was observed).
 use Rattle.std.specs.Prelude.{ℕ, List, codes}
-use Rattle.ssh_findings.specs.declared.grounds.Ground.{Ground}
-use Rattle.ssh_findings.specs.declared.grounds.Ground.TheVariants as grounds
+use Rattle.ssh_findings.specs.declared.openssh.Ground.{Ground}
+use Rattle.ssh_findings.specs.declared.openssh.Ground.TheVariants as grounds
 
--- the ground as it is printed
+-- the printed word for the reason
 abbrev pub ground_word : Ground → List ℕ
 ground_word grounds.PermitOpen = codes "permitopen"
 ground_word grounds.PermitListen = codes "permitlisten"

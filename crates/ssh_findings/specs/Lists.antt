@@ -1,9 +1,9 @@
--- What the lists of `from` and `principals` options say, whoever asks (sshd(8), AUTHORIZED_KEYS FILE FORMAT).
+-- What the lists of `from` and `principals` options mean for every client (sshd(8), AUTHORIZED_KEYS FILE FORMAT).
 use Rattle.std.specs.Prelude.{ℕ, Bool, false, not, ◌==◌, ◌&&◌, List, [], ◌∷◌, length}
 use Rattle.std.specs.List.{list_all, list_any}
 use Rattle.ssh_patterns.specs.Lists.{is_bad_source, items_of, pieces}
 
--- A `from` list permits nobody where some item cannot stand in it: an empty one, or one with a slash that is no net.
+-- A `from` list permits nobody if some item is not allowed in it: an empty one, or one with a slash that is not a net.
 unfoldable pub is_bad_list : List ℕ → Bool
 is_bad_list list = list_any is_bad_source (items_of list)
 
@@ -21,7 +21,7 @@ are_stars piece = list_all (λ c. c == 42) piece
 abbrev pub is_stars : List ℕ → Bool
 is_stars piece = not (length piece == 0) && are_stars piece
 
--- a `!` stands in front
+-- a `!` is in front
 abbrev pub begins_with_bang : List ℕ → Bool
 begins_with_bang [] = false
 begins_with_bang (c ∷ cs) = c == 33
@@ -38,6 +38,6 @@ has_stars list = list_any is_stars (pieces list)
 abbrev pub has_bang : List ℕ → Bool
 has_bang list = list_any begins_with_bang (pieces list)
 
--- A `from` list permits any address where no piece is negated, and some piece is stars alone.
+-- A `from` list permits any address if no piece is negated, and some piece consists of stars alone.
 abbrev pub is_for_any_address : List ℕ → Bool
 is_for_any_address list = has_stars list && not (has_bang list)

@@ -1,5 +1,6 @@
--- What is known of OpenSSH 9.2: when its sshd refuses a line that the rules here read, and lists that it reads otherwise.
--- Where a text has the form that is stated here, sshd takes it; where it has not, sshd may refuse the whole line.
+-- What is known of OpenSSH 9.2: when its sshd refuses a line that the rules here accept, and which lists it reads
+-- differently. A text with a form that is stated here is accepted by sshd; for another text, sshd may refuse the whole
+-- line.
 use Rattle.std.specs.Prelude.{ℕ, ◌+◌, ◌*◌, ◌-◌, nat_lt, nat_le, Bool, true, false, not, ◌==◌, ◌&&◌, ◌||◌, List, [], ◌∷◌, length, drop, min, codes, bytes_eq, filter, Option, Some, None, Result, Ok, Err, is_some}
 use Rattle.std.specs.List.{list_all, list_any, prefix_len}
 use Rattle.ssh_patterns.specs.AddressReading.{address_of}
@@ -7,12 +8,12 @@ use Rattle.ssh_patterns.specs.Block.{Block}
 use Rattle.ssh_patterns.specs.Lists.{Item, items_of, pieces}
 use Rattle.ssh_patterns.specs.Matching.{is_empty}
 use Rattle.ssh_patterns.specs.Nets.{net_of}
-use Rattle.ssh_patterns.specs.declared.error.PatternError.{PatternError}
-use Rattle.ssh_patterns.specs.declared.error.PatternError.TheVariants as errors
+use Rattle.ssh_patterns.specs.declared.address.PatternError.{PatternError}
+use Rattle.ssh_patterns.specs.declared.address.PatternError.TheVariants as errors
 use Rattle.ssh_rights.specs.declared.rights.Carried.{Carried}
 use Rattle.ssh_findings.specs.declared.facts.Facts.{Facts}
-use Rattle.ssh_findings.specs.declared.grounds.Ground.{Ground}
-use Rattle.ssh_findings.specs.declared.grounds.Ground.TheVariants as grounds
+use Rattle.ssh_findings.specs.declared.openssh.Ground.{Ground}
+use Rattle.ssh_findings.specs.declared.openssh.Ground.TheVariants as grounds
 use Rattle.ssh_findings.specs.Lists.{is_bad_list}
 use Rattle.ssh_findings.specs.Carried.{is_environment, is_listen, is_open, is_tunnel}
 
@@ -30,7 +31,7 @@ abbrev pub starts_with : ℕ → List ℕ → Bool
 starts_with b [] = false
 starts_with b (c ∷ cs) = c == b
 
--- at most four digits, or five that spell no more than 65535
+-- at most four digits, or five with a value of at most 65535
 abbrev pub is_within_ports : List ℕ → Bool
 is_within_ports (a ∷ b ∷ c ∷ d ∷ e ∷ []) =
     nat_le (((((a - 48) * 10 + (b - 48)) * 10 + (c - 48)) * 10 + (d - 48)) * 10 + (e - 48)) 65535
@@ -51,7 +52,7 @@ is_of_host c = not (c == 58) && not (c == 47)
 abbrev pub is_in_brackets : ℕ → Bool
 is_in_brackets c = not (c == 93)
 
--- how many bytes of a text are its host: up to the bracket that ends it, and else up to the first `:` or `/`
+-- the length of the host at the front of a text: with the bracket that ends it, or else up to the first `:` or `/`
 unfoldable pub host_len : List ℕ → ℕ
 host_len text =
     elim (starts_with 91 text) [
@@ -85,24 +86,26 @@ unfoldable pub is_device : List ℕ → Bool
 is_device text =
     bytes_eq text (codes "any") || (nat_lt 0 (length text) && (nat_lt (length text) 10 && are_digits text))
 
--- ---- grounds to refuse
+-- ---- reasons to refuse
 
--- A `permitopen` that is no `host:port`. (That sshd takes 4,097 of them at most needs no word: no more fit a line.)
+-- A `permitopen` without the form `host:port`. (sshd accepts at most 4,097 of them. That limit is not tested, for a
+-- line has no room for more.)
 abbrev pub is_bad_open : Carried → Bool
 is_bad_open c = is_open c && not (is_host_port c.text)
 
--- a `permitlisten` that is no `port` and no `host:port`
+-- a `permitlisten` without the form `port` or `host:port`
 abbrev pub is_bad_listen : Carried → Bool
 is_bad_listen c = is_listen c && not (is_listen_port c.text)
 
--- more `environment` than sshd keeps names, or one that is no `NAME=value` (auth-options.c, SSH_AUTHOPT_ENV_MAX)
+-- more `environment` options than sshd stores names, or one without the form `NAME=value` (auth-options.c,
+-- SSH_AUTHOPT_ENV_MAX)
 abbrev pub is_bad_environment : Carried → Bool
 is_bad_environment c = is_environment c && not (is_setting c.text)
 
 abbrev pub refuses_environment : List Carried → Bool
 refuses_environment texts = list_any is_bad_environment texts || nat_lt 1025 (length (filter is_environment texts))
 
--- a `tunnel` that names no device
+-- a `tunnel` that does not name a device
 abbrev pub is_bad_tunnel : Carried → Bool
 is_bad_tunnel c = is_tunnel c && not (is_device c.text)
 
@@ -121,7 +124,7 @@ abbrev pub refuses_nul : Facts → Bool
 refuses_nul f =
     has_nul_in f.rights.command || (has_nul_in f.from || (has_nul_in f.principals || list_any carries_nul f.rights.carried))
 
--- an item of 1,023 bytes or more, for which no list of patterns matches (match.c, match_pattern_list)
+-- an item of 1,023 bytes or more, with which a list of patterns matches nothing (match.c, match_pattern_list)
 abbrev pub is_long_item : List ℕ → Bool
 is_long_item piece = nat_lt 1022 (length piece)
 
@@ -137,7 +140,7 @@ abbrev pub is_refused_size : Option ℕ → Bool
 is_refused_size None = false
 is_refused_size (Some bits) = nat_lt bits 1024 || nat_lt 16384 bits
 
--- the entry gives this ground
+-- OpenSSH may refuse the entry for this reason
 abbrev pub has_ground : Facts → Ground → Bool
 has_ground f grounds.PermitOpen = list_any is_bad_open f.rights.carried
 has_ground f grounds.PermitListen = list_any is_bad_listen f.rights.carried
@@ -147,42 +150,43 @@ has_ground f grounds.Nul = refuses_nul f
 has_ground f grounds.LongItem = has_long_item_in f.from
 has_ground f grounds.Rsa = is_refused_size f.bits
 
--- every ground, in the order in which they are told
+-- all reasons, in the order in which they are reported
 abbrev pub all_grounds : List Ground
 all_grounds =
     grounds.PermitOpen ∷ grounds.PermitListen ∷ grounds.Environment ∷ grounds.Tunnel ∷ grounds.Nul ∷ grounds.LongItem ∷ grounds.Rsa ∷ []
 
--- `principals` on a line that is no authority: sshd refuses it (auth2-pubkeyfile.c, auth_check_authkey_line)
+-- `principals` without `cert-authority`: sshd refuses the line (auth2-pubkeyfile.c, auth_check_authkey_line)
 abbrev pub has_plain_principals : Facts → Bool
 has_plain_principals f = not f.is_authority && is_some f.principals
 
--- OpenSSH may refuse the entry, so that a later line of its key may decide
+-- OpenSSH may refuse the entry, so that a later line with its key may decide
 unfoldable pub may_refuse : Facts → Bool
 may_refuse f = has_plain_principals f || list_any (λ g. has_ground f g) all_grounds
 
--- ---- lists that OpenSSH reads otherwise
+-- ---- lists that OpenSSH reads differently
 
--- bits are set past the length of a net
+-- bits are set past the length of the net
 abbrev pub has_host_bits : Result Block PatternError → Bool
 has_host_bits (Ok net) = false
 has_host_bits (Err errors.Address) = false
 has_host_bits (Err errors.Length) = false
 has_host_bits (Err errors.HostBits) = true
 
--- an empty item, or a net with bits past its length: with one, a `from` list permits nobody (addrmatch.c, addr_match_list)
+-- an empty item, or a net with bits set past its length: with one, a `from` list permits nobody (addrmatch.c,
+-- addr_match_list)
 abbrev pub is_refused_item : Item → Bool
 is_refused_item item = is_empty item.text || has_host_bits (net_of item.text)
 
--- sshd lets nobody in by this list either
+-- sshd permits nobody by this list either
 unfoldable pub refuses_all : List ℕ → Bool
 refuses_all list = list_any is_refused_item (items_of list)
 
--- a digit, a letter of a hexadecimal number, or a dot
+-- a digit, a hexadecimal digit or `x`, or a dot
 abbrev pub is_of_short_address : ℕ → Bool
 is_of_short_address c =
     is_decimal_digit c || ((nat_le 65 c && nat_le c 70) || ((nat_le 97 c && nat_le c 102) || ((c == 46) || ((c == 88) || (c == 120)))))
 
--- numbers that spell no address here, and may for sshd: `127.1` is 127.0.0.1 (addr.c, addr_pton; inet_aton(3))
+-- a number that is not an address here, but may be one for sshd: `127.1` is 127.0.0.1 (addr.c, addr_pton; inet_aton(3))
 abbrev pub starts_with_digit : List ℕ → Bool
 starts_with_digit [] = false
 starts_with_digit (c ∷ cs) = is_decimal_digit c
@@ -197,7 +201,7 @@ is_short_item item = is_short_address item.text
 unfoldable pub has_short_address : List ℕ → Bool
 has_short_address list = list_any is_short_item (items_of list)
 
--- The list permits nobody here, and sshd may permit somebody by it; or an item of it is an address for sshd alone; or one is so
--- long that sshd compares no host name with the list (match.c, match_host_and_ip).
+-- The list permits nobody here, and sshd may permit somebody by it. Or an item of it is an address for sshd alone. Or
+-- one is so long that sshd matches no host name by the list (match.c, match_host_and_ip).
 abbrev pub is_read_otherwise : List ℕ → Bool
 is_read_otherwise list = not (refuses_all list) && (is_bad_list list || (has_short_address list || has_long_item list))

@@ -1,10 +1,10 @@
--- Worked texts of options, each as sshd of OpenSSH 9.2 takes it: it was asked.
+-- Worked option values, each as sshd of OpenSSH 9.2 was observed to accept or refuse it.
 use Rattle.std.specs.Prelude.{◌≡◌, true, false, [], codes, refl}
 use Rattle.ssh_patterns.specs.AddressReading.{address_of, eight_groups_of, filled, group_of, groups_of, last_groups_of, octets_of}
 use Rattle.ssh_patterns.specs.Nets.{net_of}
 use Rattle.ssh_findings.specs.OpenSsh.{has_short_address, host_len, is_device, is_host_port, is_listen_port, is_setting, refuses_all}
 
--- forms that sshd takes, and those for which it refuses the line or may
+-- forms that sshd accepts, and those for which it refuses the line, or may
 abbrev pub FormsSeen : Type 0
 FormsSeen =
     (is_host_port (codes "h:1") ≡ true)
@@ -56,7 +56,7 @@ unfolding is_host_port is_setting is_device host_len
 forms_seen =
     (refl, refl, refl, refl, refl, refl, refl, refl, refl, refl, refl, refl, refl, refl, refl, refl, refl, refl, refl, refl, refl, refl, refl, refl, refl, refl, refl, refl, refl, refl, refl, refl, refl, refl, refl, refl, refl, refl, refl, refl, refl, refl, refl)
 
--- lists by which sshd lets nobody in, and those by which it may; items that it may read as addresses
+-- lists by which sshd permits nobody, and those by which it may permit somebody; items that it may read as addresses
 abbrev pub ListsSeen : Type 0
 ListsSeen =
     (refuses_all (codes "10.0.0.1/8") ≡ true)

@@ -1,4 +1,4 @@
--- Which lists of codes may take memory: `all`, and one whose first piece is a code.
+-- Which lists of codes may allocate: `all`, and one whose first piece is a code.
 use Rattle.std.specs.Prelude.{ℕ, Bool, false, ◌||◌, List, [], ◌∷◌, bytes_eq, codes, is_some}
 use Rattle.ssh_patterns.specs.Lists.{pieces}
 use Rattle.ssh_findings.specs.Codes.{code_named}

@@ -1,91 +1,176 @@
-//! What is kept of the entries of earlier lines, and what they make of a later one.
+//! How entries on earlier lines with the same key affect a later entry (F2 to F4).
 
-ghost use Rattle.std.specs.Prelude.{
-  ◌≡◌,
-  ◌≤◌,
-  ◌+◌,
-  ◌++◌,
-  ◌∷◌,
-  [],
-  ℕ,
-  ◌&&◌,
-  if◌then◌else◌,
-  bytes_eq,
-  find,
-  List,
-  Option,
-  Some,
-  None,
-  IsOk,
-  IsSome,
-  OnErr,
-  OnOk,
-  is_some,
-  option_copied,
-  option_map,
-};
-ghost use Rattle.ssh_byte_maps.specs.Entries.{IsUnchanged, sum_of};
-ghost use Rattle.ssh_findings.specs.Earlier.{Held, is_of_key, repeat_after, repeat_of, shadow};
-ghost use Rattle.ssh_findings.specs.Keeping.{
-  RemembersEntries,
-  free_of,
-  free_on,
-  kept_after,
-  kept_at,
-  kept_in,
-  shadow_at,
-  shadow_in,
-};
+ghost use Rattle.std.specs.Prelude.{◌≡◌, ◌≤◌, ◌+◌, ◌++◌, ◌∷◌, [], ℕ, ◌&&◌, if◌then◌else◌, bytes_eq, find, List, Option, Some, None, IsOk, IsSome, OnErr, OnOk, is_some, option_copied, option_map};
+ghost use Rattle.ssh_findings.specs.Earlier.{given_of, gives_less, has_other_command, is_free, is_unlimited, loses_right, Held, is_of_key, repeat_after, repeat_of, shadow};
+ghost use Rattle.ssh_findings.specs.Entries.{IsUnchanged, sum_of};
+ghost use Rattle.ssh_findings.specs.Keeping.{RemembersEntries, free_of, free_on, kept_after, kept_at, kept_in, shadow_at, shadow_in};
 ghost use Rattle.ssh_findings.specs.Memory.{bytes_kept, entry_bytes, kept_bytes, keys_kept, one};
 
+use crate::carried::{has_listen, has_open};
 use crate::facts::Facts;
 use crate::finding::Finding;
-use crate::given::Given;
-use crate::narrower::{gives_less, is_free};
-use ssh_byte_maps::ByteMap;
+use crate::map::ByteMap;
+use crate::openssh::may_refuse;
+use ssh_rights::Rights;
+use ssh_text::Bytes;
 use std::alloc::{AllocError, Global};
 
-/// An entry that lets its key in whenever, from wherever and for whomever it may be.
+/// What an entry grants its key, as far as a later entry can grant less.
 #[derive(Debug, Drop)]
-pub(crate) struct Free {
-    /// The number of its line.
-    line: u64,
-    /// What it gives.
-    given: Given,
+pub(crate) struct Grant {
+    /// The forced command, if any.
+    pub(crate) command: Option<Bytes>,
+    /// Whether TCP ports may be forwarded.
+    pub(crate) port: bool,
+    /// Whether the agent may be forwarded.
+    pub(crate) agent: bool,
+    /// Whether X11 may be forwarded.
+    pub(crate) x11: bool,
+    /// Whether a terminal may be allocated.
+    pub(crate) pty: bool,
+    /// Whether `~/.ssh/rc` is run.
+    pub(crate) user_rc: bool,
+    /// Whether the line has `verify-required`.
+    pub(crate) verify_required: bool,
+    /// Whether the line has `no-touch-required`.
+    pub(crate) no_touch_required: bool,
+    /// Whether the line has a `permitopen` option.
+    pub(crate) opens: bool,
+    /// Whether the line has a `permitlisten` option.
+    pub(crate) listens: bool,
 }
 
-/// What a later line can need of the entries of one key.
+impl Grant {
+    /// What an entry with these facts grants. Does not allocate.
+    pub(crate) fn of(facts: Facts) -> Grant
+        ensures { result ≡ given_of facts }
+    {
+        let opens = has_open(facts.rights.carried.as_slice());
+        let listens = has_listen(facts.rights.carried.as_slice());
+        let Facts {
+            rights,
+            verify_required,
+            no_touch_required,
+            ..
+        } = facts;
+        let Rights {
+            command,
+            port,
+            agent,
+            x11,
+            pty,
+            user_rc,
+            ..
+        } = rights;
+        Grant {
+            command,
+            port,
+            agent,
+            x11,
+            pty,
+            user_rc,
+            verify_required,
+            no_touch_required,
+            opens,
+            listens,
+        }
+    }
+}
+
+/// Whether an entry admits its key at any time and from any address. The line of an authority must
+/// also have no forced command and no list of principals.
+fn is_unlimited(facts: &Facts) -> bool
+    ensures { result ≡ is_unlimited facts.now }
+{
+    let limited = facts.rights.command.is_some() || facts.principals.is_some();
+    facts.from.is_none() && !facts.has_expiry && !(facts.is_authority && limited)
+}
+
+/// Whether an entry is unlimited, and OpenSSH has no known reason to refuse it either.
+pub(crate) fn is_free(facts: &Facts) -> bool
+    ensures { result ≡ is_free facts.now }
+{
+    is_unlimited(facts) && !may_refuse(facts)
+}
+
+/// Whether a command is forced, and the other line forces none or a different one.
+fn has_other_command(command: &Option<Bytes>, other: &Option<Bytes>) -> bool
+    ensures { result ≡ has_other_command command.now other.now }
+{
+    match (command, other) {
+        (None, _) => false,
+        (Some(_), None) => true,
+        (Some(command), Some(other)) => command.as_slice() != other.as_slice(),
+    }
+}
+
+/// Whether some right is off that the earlier entry grants.
+fn loses_right(rights: &Rights, given: &Grant) -> bool
+    ensures { result ≡ loses_right rights.now given.now }
+{
+    (given.port && !rights.port)
+        || (given.agent && !rights.agent)
+        || (given.x11 && !rights.x11)
+        || (given.pty && !rights.pty)
+        || (given.user_rc && !rights.user_rc)
+}
+
+/// Whether an entry grants less than an earlier one does.
+#[tactic(auto, unfolding(crate::specs::Earlier::gives_less))]
+pub(crate) fn gives_less(facts: &Facts, given: &Grant) -> bool
+    ensures { result ≡ gives_less facts.now given.now }
+{
+    let carried = facts.rights.carried.as_slice();
+    facts.from.is_some()
+        || facts.has_expiry
+        || has_other_command(&facts.rights.command, &given.command)
+        || loses_right(&facts.rights, given)
+        || (facts.verify_required && !given.verify_required)
+        || (given.no_touch_required && !facts.no_touch_required)
+        || (has_open(carried) && !given.opens)
+        || (has_listen(carried) && !given.listens)
+}
+
+/// An unlimited entry that OpenSSH has no known reason to refuse.
+#[derive(Debug, Drop)]
+pub(crate) struct Free {
+    /// The number of its line, from 1.
+    line: u64,
+    given: Grant,
+}
+
+/// What later lines need to know of the entries with one key.
 #[derive(Debug, Drop)]
 pub(crate) struct Kept {
-    /// The number of the first line.
+    /// The line number of the first entry.
     first: u64,
-    /// The first that is free.
+    /// The first free entry.
     free: Option<Free>,
 }
 
-/// What is kept of the entries of earlier lines: by the blob of the key, and for authorities apart,
-/// what a later line can need. So much memory is taken as the different keys want.
+/// The entries of earlier lines, by key blob, with the keys of certificate authorities apart.
+/// Memory grows with the number of different keys, not with the number of lines.
 #[derive(Debug, Drop)]
 pub struct Earlier {
     plain: ByteMap<Kept>,
     authorities: ByteMap<Kept>,
 }
 
-/// An entry, if it is free.
+/// The entry as a free one, if it is free.
 fn free_on(line: u64, facts: Facts) -> Option<Free>
     ensures { result ≡ free_on line facts }
 {
     if is_free(&facts) {
         Some(Free {
             line,
-            given: Given::of(facts),
+            given: Grant::of(facts),
         })
     } else {
         None
     }
 }
 
-/// Keeps an entry with this blob. Where memory is refused, nothing is kept.
+/// Stores an entry with this key blob. If allocation fails, nothing is stored.
 fn keep_in(
     alloc: Global,
     map: &mut ByteMap<Kept>,
@@ -102,6 +187,7 @@ fn keep_in(
     ensures err { OnErr result (IsUnchanged map.old map.new) }
     ensures spare { IsSome (kept_in map.old blob.now) → IsOk result }
 {
+    // The first entry of a key and its first free one are all that later lines need.
     let first = match map.get(blob) {
         Some(kept) if kept.free.is_some() => return Ok(()),
         Some(kept) => kept.first,
@@ -111,11 +197,11 @@ fn keep_in(
     map.insert(alloc, blob, Kept { first, free })
 }
 
-/// The entry that lets the key of a line in first, whatever the line says, of what is kept of the
-/// key.
+/// The stored entry that admits the key of this entry first, whatever this entry states.
 fn shadow_in<'k>(kept: &'k Kept, facts: &Facts) -> Option<&'k Free>
     ensures { option_copied result ≡ shadow_in kept.now facts.now }
 {
+    // A list of principals can admit certificates that an earlier line without the list does not.
     if facts.is_authority && facts.principals.is_some() {
         None
     } else {
@@ -123,7 +209,7 @@ fn shadow_in<'k>(kept: &'k Kept, facts: &Facts) -> Option<&'k Free>
     }
 }
 
-/// What the first entry of the same key, and the one that lets it in first, make of an entry.
+/// The finding for an entry: F2 for the first entry with the key, F3 or F4 for the free one.
 fn repeat_by(kept: &Kept, facts: &Facts) -> Finding
     ensures { (first : Held) (free : Option Held)
         → kept.now ≡ (record { first = first.line; free = option_map free_of free })
@@ -138,7 +224,7 @@ fn repeat_by(kept: &Kept, facts: &Facts) -> Finding
 }
 
 impl Earlier {
-    /// What is kept where no entry stands before. No memory is taken.
+    /// No entries. Does not allocate.
     pub fn new(alloc: Global) -> Earlier
         ensures stands { RemembersEntries result [] }
         ensures bytes { bytes_kept result ≡ 0 }
@@ -150,7 +236,7 @@ impl Earlier {
         }
     }
 
-    /// What is kept of a key.
+    /// What is stored for a key.
     fn kept(&self, blob: &[u8], is_authority: bool) -> Option<&Kept>
         ensures { option_copied result ≡ kept_at self.now blob.now is_authority }
     {
@@ -161,7 +247,7 @@ impl Earlier {
         }
     }
 
-    /// The earlier entry that lets the key of a line in first, whatever the line says.
+    /// The earlier entry that admits the key of this entry first, whatever this entry states.
     fn shadow(&self, blob: &[u8], facts: &Facts) -> Option<&Free>
         ensures { option_copied result ≡ shadow_at self.now blob.now facts.now }
     {
@@ -171,7 +257,8 @@ impl Earlier {
         }
     }
 
-    /// The number of the earlier line that lets the key of a line in, whatever the line says.
+    /// The number of the earlier line that admits the key of this entry first, whatever this entry
+    /// states.
     pub fn shadow_line(&self, blob: &[u8], facts: &Facts) -> Option<u64>
         ensures { (held : List Held)
             → RemembersEntries self.now held
@@ -183,7 +270,7 @@ impl Earlier {
         }
     }
 
-    /// F2 to F4: what the entries make of an entry with this blob.
+    /// F2 to F4: the finding that earlier entries cause for an entry with this key blob.
     pub(crate) fn repeat(&self, blob: &[u8], facts: &Facts) -> Option<Finding>
         ensures { (held : List Held)
             → RemembersEntries self.now held
@@ -195,8 +282,8 @@ impl Earlier {
         }
     }
 
-    /// Keeps the entry of a line for the lines after it. An entry of a key that is kept takes no
-    /// memory. `Err` is out of memory, and nothing is kept then.
+    /// Stores the entry of a line for the lines after it. Does not allocate if the key is already
+    /// stored. On `Err` nothing is stored.
     pub fn keep(
         &mut self,
         alloc: Global,
@@ -207,8 +294,8 @@ impl Earlier {
         ensures ok { OnOk result ((held : List Held)
             → RemembersEntries self.old held
             → RemembersEntries self.new (held ++ record { line = line; blob = blob.now; facts = facts } ∷ [])) }
-        // So what is held is no more than the blobs and the commands of the entries, and a place for
-        // each, however a file repeats them.
+        // The stored bytes are at most the blobs and forced commands of the entries, and one slot
+        // for each, however often a file repeats them.
         ensures bytes { OnOk result
             (bytes_kept self.new ≤ bytes_kept self.old + entry_bytes blob.now facts) }
         ensures keys { OnOk result (keys_kept self.new ≤ keys_kept self.old + 1) }

@@ -1,48 +1,28 @@
-//! What is found of an entry, each in its place.
+//! The findings of one authorized_keys entry, in the order of their codes.
 
 ghost use Rattle.std.specs.Prelude.{◌≡◌, ◌++◌, [], List, IfOk, IsOk, OnOk};
 ghost use Rattle.ssh_findings.specs.Asking.{asking_of};
 ghost use Rattle.ssh_findings.specs.Earlier.{Held};
 ghost use Rattle.ssh_findings.specs.Keeping.{RemembersEntries};
-ghost use Rattle.ssh_findings.specs.EntryFindings.{
-  condition_findings,
-  entry_findings,
-  forces_but_forwards,
-  ground_finding,
-  ground_findings,
-  has_empty_in,
-  has_name_in,
-  has_short_address_in,
-  is_security_key,
-  moment_asked,
-  permits_bad,
-  permits_any,
-  policy_findings,
-  reading_findings,
-  refuses_all_in,
-  unreadable_findings,
-};
+ghost use Rattle.ssh_findings.specs.EntryFindings.{condition_findings, entry_findings, forces_but_forwards, ground_finding, ground_findings, has_empty_in, has_name_in, has_short_address_in, is_security_key, moment_asked, permits_bad, permits_any, policy_findings, reading_findings, refuses_all_in, unreadable_findings};
 
-use crate::asked::Asked;
+use crate::code::ReviewOptions;
 use crate::earlier::Earlier;
-use crate::facts::Facts;
-use crate::finding::Finding;
-use crate::grounds::Ground;
-use crate::list::{Pieces, is_bad_list};
-use crate::moments::is_past;
-use crate::openssh::has_ground;
-use crate::sources::{has_short_address, refuses_all};
-use crate::telling::{tell, tell_some};
+use crate::facts::{Facts, is_past};
+use crate::finding::{Finding, tell, tell_some};
+use crate::openssh::{Ground, has_ground};
+use crate::sources::{Pieces, has_short_address, is_bad_list, refuses_all};
 use ssh_keys::KeyKind;
 use ssh_options::LineCause;
 use ssh_rights::Rights;
 use ssh_text::Bytes;
 use std::alloc::{AllocError, Global};
 
-/// So many seconds OpenSSH may be late with an expiry time in local time.
+/// How many seconds after an expiry time in local time OpenSSH may still admit: an hour, in zones
+/// with daylight saving time (misc.c, parse_absolute_time).
 const LATE: u64 = 3600;
 
-/// Whether a `from` list permits nobody.
+/// Whether there is a `from` list that permits nobody here.
 fn permits_bad(list: &Option<Bytes>) -> bool
     ensures { result ≡ permits_bad list.now }
 {
@@ -52,7 +32,7 @@ fn permits_bad(list: &Option<Bytes>) -> bool
     }
 }
 
-/// Whether OpenSSH lets nobody in by a `from` list either.
+/// Whether there is a `from` list by which OpenSSH permits nobody either.
 fn refuses_all_in(list: &Option<Bytes>) -> bool
     ensures { result ≡ refuses_all_in list.now }
 {
@@ -62,7 +42,7 @@ fn refuses_all_in(list: &Option<Bytes>) -> bool
     }
 }
 
-/// Whether an item of a `from` list is an address for OpenSSH, and none here.
+/// Whether an item of the `from` list is an address for OpenSSH, but not here.
 fn has_short_address_in(list: &Option<Bytes>) -> bool
     ensures { result ≡ has_short_address_in list.now }
 {
@@ -72,7 +52,8 @@ fn has_short_address_in(list: &Option<Bytes>) -> bool
     }
 }
 
-/// The moment at which an entry has to be past, so that it is past in OpenSSH too.
+/// The time before which an expiry time has to be, so that it is past in OpenSSH too: `now`, or an
+/// hour earlier for local time.
 fn moment_asked(now: u64, facts: &Facts) -> u64
     ensures { result ≡ moment_asked now facts.now }
 {
@@ -83,7 +64,7 @@ fn moment_asked(now: u64, facts: &Facts) -> u64
     }
 }
 
-/// Whether a `principals` list has a name, and whether it has an empty one.
+/// Whether a `principals` list has a name that is not empty, and whether it has an empty one.
 fn names_of(list: &Option<Bytes>) -> (bool, bool)
     ensures name { result.0 ≡ has_name_in list.now }
     ensures empty { result.1 ≡ has_empty_in list.now }
@@ -97,11 +78,11 @@ fn names_of(list: &Option<Bytes>) -> (bool, bool)
     }
 }
 
-/// F5 to F7: what keeps the key out, or should.
+/// F5 to F7: a short RSA key, an expiry time that is past, and lists that permit nobody.
 #[tactic(auto, using(crate::proofs::SpareLemmas::none_in_front, crate::proofs::SpareLemmas::none_behind))]
 fn tell_conditions(
     found: &mut Vec<Finding>,
-    asked: &Asked<'_>,
+    asked: &ReviewOptions<'_>,
     facts: &Facts,
 ) -> Result<(), AllocError>
     ensures value { OnOk result (found.new.items ≡ found.old.items
@@ -128,11 +109,11 @@ fn is_security_key(kind: KeyKind) -> bool
     matches!(kind, KeyKind::SkP256 | KeyKind::SkEd25519)
 }
 
-/// F8: what OpenSSH reads otherwise.
+/// F8: what OpenSSH reads differently.
 #[tactic(auto, using(crate::proofs::SpareLemmas::none_in_front, crate::proofs::SpareLemmas::none_behind))]
 fn tell_readings(
     found: &mut Vec<Finding>,
-    asked: &Asked<'_>,
+    asked: &ReviewOptions<'_>,
     facts: &Facts,
 ) -> Result<(), AllocError>
     ensures value { OnOk result (found.new.items ≡ found.old.items
@@ -141,6 +122,7 @@ fn tell_readings(
 {
     let (has_name, has_empty) = names_of(&facts.principals);
     let plain = !facts.is_authority && facts.principals.is_some();
+    // Without any name the list permits nobody, which is F7.
     let empty = facts.is_authority && has_empty && has_name;
     let other = has_short_address_in(&facts.from) && !refuses_all_in(&facts.from);
     let ignored = !facts.is_authority && facts.verify_required && !is_security_key(facts.kind);
@@ -152,14 +134,14 @@ fn tell_readings(
     Ok(())
 }
 
-/// Whether a command is forced, and the line may still forward.
+/// Whether the line forces a command but still permits forwarding of TCP ports, the agent or X11.
 fn forces_but_forwards(rights: &Rights) -> bool
     ensures { result ≡ forces_but_forwards rights.now }
 {
     rights.command.is_some() && (rights.port || rights.agent || rights.x11)
 }
 
-/// Whether a login may come from any address: no list, or one that permits any.
+/// Whether a login may come from any address: there is no `from` list, or one that permits any.
 fn permits_any(list: &Option<Bytes>) -> bool
     ensures { result ≡ permits_any list.now }
 {
@@ -172,9 +154,13 @@ fn permits_any(list: &Option<Bytes>) -> bool
     }
 }
 
-/// F15 to F19: policy.
+/// F15 to F19: what only a stricter policy objects to.
 #[tactic(auto, using(crate::proofs::SpareLemmas::none_in_front, crate::proofs::SpareLemmas::none_behind))]
-fn tell_policy(found: &mut Vec<Finding>, asked: &Asked<'_>, facts: &Facts) -> Result<(), AllocError>
+fn tell_policy(
+    found: &mut Vec<Finding>,
+    asked: &ReviewOptions<'_>,
+    facts: &Facts,
+) -> Result<(), AllocError>
     ensures value { OnOk result (found.new.items ≡ found.old.items
         ++ policy_findings (asking_of asked.entry.now) facts.now) }
     ensures spare { policy_findings (asking_of asked.entry.now) facts.now ≡ [] → IsOk result }
@@ -200,10 +186,10 @@ fn tell_policy(found: &mut Vec<Finding>, asked: &Asked<'_>, facts: &Facts) -> Re
     Ok(())
 }
 
-/// F22: one ground on which OpenSSH may refuse the entry.
+/// F22: one reason for which OpenSSH may refuse the entry.
 fn tell_ground(
     found: &mut Vec<Finding>,
-    asked: &Asked<'_>,
+    asked: &ReviewOptions<'_>,
     facts: &Facts,
     which: Ground,
 ) -> Result<(), AllocError>
@@ -216,11 +202,11 @@ fn tell_ground(
     Ok(())
 }
 
-/// F22: each ground on which OpenSSH may refuse the entry.
+/// F22: each reason for which OpenSSH may refuse the entry, in a fixed order.
 #[tactic(auto, using(crate::proofs::SpareLemmas::none_in_front, crate::proofs::SpareLemmas::none_behind))]
 fn tell_grounds(
     found: &mut Vec<Finding>,
-    asked: &Asked<'_>,
+    asked: &ReviewOptions<'_>,
     facts: &Facts,
 ) -> Result<(), AllocError>
     ensures value { OnOk result (found.new.items ≡ found.old.items
@@ -237,12 +223,12 @@ fn tell_grounds(
     Ok(())
 }
 
-/// What is found of an entry with this blob, after the entries of earlier lines, and told, in the
-/// order of the codes. `Err` is out of memory.
+/// The findings to report for an entry with this key blob, given the entries of earlier lines, in
+/// the order of the codes.
 #[tactic(auto, unfolding(crate::specs::EntryFindings::entry_findings))]
 pub fn entry_findings(
     alloc: Global,
-    asked: &Asked<'_>,
+    asked: &ReviewOptions<'_>,
     earlier: &Earlier,
     blob: &[u8],
     facts: &Facts,
@@ -250,7 +236,8 @@ pub fn entry_findings(
     ensures value { IfOk result (λ found. (held : List Held)
         → RemembersEntries earlier.now held
         → found.items ≡ entry_findings (asking_of asked.entry.now) held blob.now facts.now) }
-    // Only what is told takes memory: where nothing is, that is answered whatever memory does.
+    // Only findings that are reported allocate: where there are none, the call succeeds even when
+    // allocation fails.
     ensures spare { (held : List Held)
         → RemembersEntries earlier.now held
         → entry_findings (asking_of asked.entry.now) held blob.now facts.now ≡ []
@@ -267,15 +254,15 @@ pub fn entry_findings(
     Ok(found)
 }
 
-/// What is found of a line that cannot be read, and told: F1. `Err` is out of memory.
+/// The findings to report for a line that cannot be read: F1.
 pub fn unreadable_findings(
     alloc: Global,
-    asked: &Asked<'_>,
+    asked: &ReviewOptions<'_>,
     cause: LineCause,
 ) -> Result<Vec<Finding>, AllocError>
     ensures value { IfOk result
         (λ found. found.items ≡ unreadable_findings (asking_of asked.entry.now) cause) }
-    // Where F1 is not told, that is answered whatever memory does.
+    // If F1 is not reported, the call succeeds even when allocation fails.
     ensures spare { unreadable_findings (asking_of asked.entry.now) cause ≡ [] → IsOk result }
 {
     let mut found = Vec::new(alloc);

@@ -1,63 +1,123 @@
-//! What an entry says, read once for its findings and its record.
+//! The facts of an authorized_keys entry, read once for its findings and its record.
 
 ghost use Rattle.std.specs.Prelude.{◌≡◌, IfOk};
 ghost use Rattle.jiff.specs.Words.{plain_zone};
+ghost use Rattle.ssh_options.specs.Settings.{settings, setting};
+ghost use Rattle.ssh_options.specs.declared.option.ValueName.TheVariants.{ExpiryTime};
+ghost use Rattle.ssh_findings.specs.Moments.{earlier, has_local_time, is_known_past, until};
 ghost use Rattle.ssh_keys.specs.Fingerprint.{fingerprint_of};
 ghost use Rattle.ssh_keys.specs.KeyOf.{key_of};
-ghost use Rattle.ssh_options.specs.Settings.{setting};
 ghost use Rattle.ssh_findings.specs.Facts.{facts_of, plain_rights, rsa_size};
 
-use crate::moments::{has_local_time, until};
 use jiff::tz::TimeZone;
 use sha2::{Digest, Sha256};
+use ssh_entries::AuthEntryView;
 use ssh_keys::{KeyKind, KeyView, digest_text, rsa_bits};
-use ssh_lines::AuthEntryView;
 use ssh_offers::Offer;
-use ssh_options::{Flag, ValueName};
+use ssh_options::{Flag, ValueName, expiry};
 use ssh_rights::{Rights, rights_of};
-use ssh_text::Bytes;
+use ssh_text::{Bytes, ends_with};
 use std::alloc::{AllocError, Global};
 
-/// What an entry says.
+/// The earlier of two times, or the only one.
+fn earlier(one: Option<i64>, other: Option<i64>) -> Option<i64>
+    ensures { result ≡ earlier one other }
+{
+    match (one, other) {
+        (None, other) => other,
+        (Some(one), None) => Some(one),
+        (Some(one), Some(other)) => { if one <= other { Some(one) } else { Some(other) } }
+    }
+}
+
+/// The earliest expiry time of a line in seconds since 1970-01-01 UTC, if it has any: up to and
+/// with it the line may admit.
+pub(crate) fn until(
+    alloc: Global,
+    zone: &TimeZone<'_>,
+    entry: &AuthEntryView<'_>,
+) -> Result<Option<i64>, AllocError>
+    ensures { IfOk result (λ moment.
+        moment ≡ until (plain_zone zone.now) (settings ExpiryTime entry.now.options)) }
+{
+    let mut least = None;
+    for value in entry.expiry_texts() {
+        let text = value.to_bytes(alloc)?;
+        let moment = expiry(alloc, text.as_slice(), zone)?;
+        least = earlier(least, moment);
+    }
+    Ok(least)
+}
+
+/// Whether some expiry time of a line is in local time: its text does not end in `Z`.
+pub(crate) fn has_local_time(alloc: Global, entry: &AuthEntryView<'_>) -> Result<bool, AllocError>
+    ensures { IfOk result (λ local.
+        local ≡ has_local_time (settings ExpiryTime entry.now.options)) }
+{
+    for value in entry.expiry_texts() {
+        let text = value.to_bytes(alloc)?;
+        if !ends_with(b'Z', text.as_slice()) {
+            return Ok(true);
+        }
+    }
+    Ok(false)
+}
+
+/// Whether an expiry time is past. `None` never is.
+pub(crate) fn is_past(now: u64, moment: Option<i64>) -> bool
+    ensures { result ≡ is_known_past now moment }
+{
+    match moment {
+        None => false,
+        Some(moment) => match u64::try_from(moment) {
+            Ok(moment) => moment < now,
+            // A time before 1970 is negative, and past for every `now`.
+            Err(_) => true,
+        },
+    }
+}
+
+/// The facts of an authorized_keys entry.
 #[derive(Debug, Drop)]
 pub struct Facts {
-    /// The kind of its key.
     pub kind: KeyKind,
-    /// The size of an RSA key.
+    /// The size of an RSA key in bits; `None` for other keys.
     pub bits: Option<u32>,
-    /// As it stands after `SHA256:`.
+    /// The SHA-256 fingerprint in base64 without padding, as `ssh-keygen -l` prints it after
+    /// `SHA256:`.
     pub fingerprint: [u8; 43],
-    /// What stands after the key.
+    /// The comment after the key; empty if there is none.
     pub comment: Bytes,
-    /// The key is an authority for certificates.
+    /// Whether the line has `cert-authority`: its key signs certificates.
     pub is_authority: bool,
-    /// What the line leaves to the key itself.
+    /// The rights of a login by the key itself, without a certificate.
     pub rights: Rights,
-    /// `no-touch-required` stands on the line.
+    /// Whether the line has `no-touch-required`.
     pub no_touch_required: bool,
-    /// `verify-required` stands on the line.
+    /// Whether the line has `verify-required`.
     pub verify_required: bool,
-    /// The list of sources.
+    /// The value of `from`.
     pub from: Option<Bytes>,
-    /// The list of principals.
+    /// The value of `principals`.
     pub principals: Option<Bytes>,
-    /// It has an expiry time.
+    /// Whether the line has an `expiry-time`.
     pub has_expiry: bool,
-    /// The least moment of its expiry times.
+    /// The earliest of the expiry times, in seconds since 1970-01-01 UTC.
     pub until: Option<i64>,
-    /// One of its expiry times is in local time.
+    /// Whether one of the expiry times is in local time.
     pub has_local_time: bool,
 }
 
-/// The size of an RSA key, and none of any other. No memory is taken.
+/// The size of an RSA key in bits; `None` for any other key. Does not allocate.
 #[tactic(auto, using(crate::proofs::SizeLemmas::size_is))]
-pub fn rsa_size(key: &KeyView<'_>) -> Option<u32>
+pub(crate) fn rsa_size(key: &KeyView<'_>) -> Option<u32>
     ensures { result ≡ rsa_size (key_of key.now) }
 {
     rsa_bits(key)
 }
 
-/// The fingerprint of the key, as `ssh-keygen -l` prints it after `SHA256:`, from its blob on the line.
+/// The fingerprint of the key, as `ssh-keygen -l` prints it after `SHA256:`, computed over the blob
+/// on the line.
 #[tactic(auto, unfolding(ssh_keys::specs::Fingerprint::fingerprint_of))]
 fn fingerprint(alloc: Global, entry: &AuthEntryView<'_>) -> Result<[u8; 43], AllocError>
     ensures { IfOk result (λ text. text ≡ fingerprint_of entry.now.key) }
@@ -67,7 +127,7 @@ fn fingerprint(alloc: Global, entry: &AuthEntryView<'_>) -> Result<[u8; 43], All
     Ok(text)
 }
 
-/// The value of an option that may stand once, copied.
+/// A copy of the value of an option that is allowed once.
 fn setting(
     alloc: Global,
     name: ValueName,
@@ -84,7 +144,7 @@ fn setting(
     }
 }
 
-/// What the line leaves to its key, without a certificate.
+/// The rights of a login by the key itself, without a certificate.
 fn plain_rights(alloc: Global, entry: &AuthEntryView<'_>) -> Result<Rights, AllocError>
     ensures { IfOk result (λ rights. rights ≡ plain_rights entry.now) }
 {
@@ -101,7 +161,7 @@ fn comment(alloc: Global, entry: &AuthEntryView<'_>) -> Result<Bytes, AllocError
 }
 
 impl Facts {
-    /// What an entry says, with its expiry times in a zone. `Err` is out of memory.
+    /// Reads the facts of an entry. The zone is that of expiry times without `Z`.
     #[tactic(auto, unfolding(crate::specs::Facts::facts_of))]
     pub fn read(
         alloc: Global,

@@ -1,48 +1,79 @@
-//! What is found of the entries of authorized_keys files: what an entry says, what of it has to be
-//! mended, and which earlier line speaks for the same key.
+//! The findings of a review: the facts of each line of an authorized_keys or known_hosts file, and
+//! what is reported for it.
 //!
-//! A caller that asks what is wrong with one line by itself:
+//! For entries of authorized_keys files: the facts of an entry, what has to be fixed, and which
+//! earlier line has the same key.
+//!
+//! A caller that wants the findings of one line by itself:
 //!
 //! ```
 //! let AuthLineView::Entry(entry) = read_auth_view(line, &mut buffer) else {
 //!     return Ok(None);
 //! };
-//! let asked = Asked { now, zone, rsa_minimum: 2048, told: Code::by_default() };
+//! let asked = ReviewOptions { now, zone, rsa_minimum: 2048, told: Code::by_default() };
 //! let facts = Facts::read(alloc, zone, &entry)?;
 //! let earlier = Earlier::new(alloc);
 //! Ok(Some(entry_findings(alloc, &asked, &earlier, entry.blob(), &facts)?))
 //! ```
+//!
+//! For lines of known_hosts files: the facts of an entry, what has to be fixed, and which earlier
+//! line has the same key, or another key for the same name.
+//!
+//! A caller that wants the findings of all lines of a file, one after the other:
+//!
+//! ```
+//! let mut earlier = EarlierHosts::new(alloc);
+//! for (number, line) in Lines::new(file) {
+//!     if let KnownLineView::Entry(entry) = read_known_view(line, &mut buffer) {
+//!         let facts = HostFacts::read(alloc, line, &entry)?;
+//!         let found = host_entry_findings(alloc, &asked, &earlier, entry.blob(), &facts)?;
+//!         earlier.keep_entry(alloc, number, entry.blob(), &facts)?;
+//!     }
+//! }
+//! ```
+//!
+//! The key that OpenSSH reads on a line that is unreadable here (the recovered key). It grants
+//! nothing: by its fingerprint a person finds the key that OpenSSH may admit all the same.
+//!
+//! A caller that asks which key an unreadable line may hold:
+//!
+//! ```
+//! let held = held_key(alloc, b"no-ptty ssh-ed25519 AAAAC3NzaC1lZDI1NTE5AAAAIBmMnDenviwjr5QGdkuZSXql1062iuZP2UqxpDvyR0wr")?;
+//! ```
 #![tactic(auto)]
 
-mod asked;
 mod carried;
 mod code;
 mod earlier;
 mod entry;
 mod facts;
 mod finding;
-mod given;
-mod grounds;
+mod first_key;
+mod host_earlier;
+mod host_facts;
+mod host_finding;
 mod laws;
-mod list;
-mod moments;
-mod narrower;
+mod least;
+mod map;
+mod named;
 mod openssh;
-mod ports;
-mod samples;
+mod recovered_key;
+mod recovered_words;
 mod sources;
-mod telling;
-mod told;
+mod table;
 
-pub use asked::Asked;
-pub use code::Code;
+pub use code::{Code, ReviewOptions, parse_codes};
 pub use earlier::Earlier;
 pub use entry::{entry_findings, unreadable_findings};
-pub use facts::{Facts, rsa_size};
-pub use finding::Finding;
-pub use grounds::Ground;
-pub use list::Pieces;
-pub use openssh::{has_ground, may_refuse};
+pub use facts::Facts;
+pub use finding::{Coded, Finding};
+pub use host_earlier::EarlierHosts;
+pub use host_facts::{HostFacts, RevocationFacts, host_may_refuse};
+pub use host_finding::{
+    HostFinding, host_entry_findings, revocation_findings, unreadable_host_findings,
+    unreadable_revocation_findings,
+};
+pub use openssh::{Ground, has_ground, has_nul, may_refuse};
+pub use recovered_key::{HeldKey, held_blob, held_key, known_held_blob, known_held_key};
+pub use recovered_words::{canonical_blob, openssh_blob};
 pub use sources::is_read_otherwise;
-pub use telling::{Coded, tell, tell_some};
-pub use told::parse_codes;

@@ -1,25 +1,107 @@
-//! Lists of `from` that OpenSSH reads otherwise.
+//! What the lists of `from` and `principals` contain, and which `from` lists OpenSSH reads
+//! differently.
 
-ghost use Rattle.std.specs.Prelude.{◌≡◌};
+ghost use Rattle.std.specs.Prelude.{◌≡◌, ◌||◌};
+ghost use Rattle.ssh_findings.specs.Lists.{are_stars, begins_with_bang, has_bang, has_empty_name, has_name, has_stars, is_bad_list, is_stars, says_name, says_none};
 ghost use Rattle.std.specs.List.{list_all};
 ghost use Rattle.ssh_patterns.specs.Lists.{item_of};
-ghost use Rattle.ssh_findings.specs.OpenSsh.{
-  has_short_address,
-  is_of_short_address,
-  is_read_otherwise,
-  is_refused_item,
-  is_short_address,
-  is_short_item,
-  refuses_all,
-  starts_with_digit,
-};
+ghost use Rattle.ssh_findings.specs.OpenSsh.{has_short_address, is_of_short_address, is_read_otherwise, is_refused_item, is_short_address, is_short_item, refuses_all, starts_with_digit};
 
-use crate::list::is_bad_list;
+use crate::carried::is_decimal_digit;
 use crate::openssh::has_long_item;
-use crate::ports::is_decimal_digit;
-use ssh_patterns::{PatternError, first_piece, parse_address, parse_net};
+use ssh_patterns::{PatternError, Permit, first_piece, parse_address, parse_net, source_list};
 
-/// The item of a piece: without its `!`, if it has one.
+/// Any address: whether a list is bad does not depend on it.
+const SOME_ADDRESS: &[u8] = b"0.0.0.0";
+
+/// Whether a `from` list permits nobody because some item of it is not allowed there.
+pub(crate) fn is_bad_list(list: &[u8]) -> bool
+    ensures { result ≡ is_bad_list list.now }
+{
+    match source_list(list, None, SOME_ADDRESS) {
+        Permit::Bad => true,
+        Permit::Yes => false,
+        Permit::No => false,
+    }
+}
+
+/// Which kinds of pieces a comma-separated list has.
+#[derive(Clone, Copy, Debug)]
+pub(crate) struct Pieces {
+    /// Whether some piece is not empty.
+    pub(crate) has_name: bool,
+    /// Whether some piece is empty.
+    pub(crate) has_empty: bool,
+    /// Whether some piece consists of stars alone.
+    pub(crate) has_stars: bool,
+    /// Whether some piece begins with `!`.
+    pub(crate) has_bang: bool,
+}
+
+fn are_stars(piece: &[u8]) -> bool
+    ensures { result ≡ are_stars piece.now }
+{
+    piece.iter().all(|byte| *byte == b'*')
+}
+
+/// Whether a piece consists of stars alone, and of at least one.
+fn is_stars(piece: &[u8]) -> bool
+    ensures { result ≡ is_stars piece.now }
+{
+    !piece.is_empty() && are_stars(piece)
+}
+
+fn begins_with_bang(piece: &[u8]) -> bool
+    ensures { result ≡ begins_with_bang piece.now }
+{
+    match piece {
+        [first, ..] => *first == b'!',
+        [] => false,
+    }
+}
+
+impl Pieces {
+    const NONE: Pieces = Pieces {
+        has_name: false,
+        has_empty: false,
+        has_stars: false,
+        has_bang: false,
+    };
+
+    /// The same with one more piece.
+    fn with(self, piece: &[u8]) -> Pieces
+        ensures name { result.has_name ≡ (self.has_name || says_name piece.now) }
+        ensures empty { result.has_empty ≡ (self.has_empty || says_none piece.now) }
+        ensures stars { result.has_stars ≡ (self.has_stars || is_stars piece.now) }
+        ensures bang { result.has_bang ≡ (self.has_bang || begins_with_bang piece.now) }
+    {
+        Pieces {
+            has_name: self.has_name || !piece.is_empty(),
+            has_empty: self.has_empty || piece.is_empty(),
+            has_stars: self.has_stars || is_stars(piece),
+            has_bang: self.has_bang || begins_with_bang(piece),
+        }
+    }
+
+    /// The kinds of pieces of a list. Does not allocate.
+    pub(crate) fn of(list: &[u8]) -> Pieces
+        ensures name { result.has_name ≡ has_name list.now }
+        ensures empty { result.has_empty ≡ has_empty_name list.now }
+        ensures stars { result.has_stars ≡ has_stars list.now }
+        ensures bang { result.has_bang ≡ has_bang list.now }
+    {
+        let mut said = Pieces::NONE;
+        let mut rest = Some(list);
+        while let Some(pieces) = rest {
+            let (piece, left) = first_piece(pieces);
+            said = said.with(piece);
+            rest = left;
+        }
+        said
+    }
+}
+
+/// A piece without its leading `!`, if it has one.
 fn item_of(piece: &[u8]) -> &[u8]
     ensures { result.now ≡ (item_of piece.now).text }
 {
@@ -37,7 +119,8 @@ fn is_refused_item(piece: &[u8]) -> bool
     item.is_empty() || matches!(parse_net(item), Err(PatternError::HostBits))
 }
 
-/// Whether OpenSSH lets nobody in by a list either.
+/// Whether a list permits nobody in OpenSSH either: one bad item is enough, wherever it is in the
+/// list.
 #[tactic(auto, unfolding(crate::specs::OpenSsh::refuses_all))]
 pub(crate) fn refuses_all(list: &[u8]) -> bool
     ensures { result ≡ refuses_all list.now }
@@ -79,7 +162,7 @@ fn are_of_short_address(text: &[u8]) -> bool
     text.iter().all(|byte| is_of_short_address(*byte))
 }
 
-/// Whether a text spells no address here, and may spell one for OpenSSH.
+/// Whether a text is not an address here, but may be one for OpenSSH, such as 127.1.
 fn is_short_address(text: &[u8]) -> bool
     ensures { result ≡ is_short_address text.now }
 {
@@ -92,7 +175,7 @@ fn is_short_item(piece: &[u8]) -> bool
     is_short_address(item_of(piece))
 }
 
-/// Whether an item of a list is an address for OpenSSH, and none here.
+/// Whether some item of a list is an address for OpenSSH, but not here.
 #[tactic(auto, unfolding(crate::specs::OpenSsh::has_short_address))]
 pub(crate) fn has_short_address(list: &[u8]) -> bool
     ensures { result ≡ has_short_address list.now }
@@ -108,9 +191,9 @@ pub(crate) fn has_short_address(list: &[u8]) -> bool
     false
 }
 
-/// Whether OpenSSH 9.2 may let somebody in by a `from` list that permits nobody here, may read an item
-/// of it as an address that is none here (127.1), or compares no host name with it for the length of
-/// an item. No memory is taken.
+/// Whether OpenSSH 9.2 may read a `from` list differently. It may permit somebody by a list that
+/// permits nobody here, or read an item such as 127.1 as an address. Or it matches no host name by
+/// the list because an item is too long. Does not allocate.
 pub fn is_read_otherwise(list: &[u8]) -> bool
     ensures { result ≡ is_read_otherwise list.now }
 {

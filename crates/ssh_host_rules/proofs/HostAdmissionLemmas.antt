@@ -1,22 +1,7 @@
 -- An entry admits a host's key exactly where no row of the table holds.
-use Rattle.std.proofs.Common.{◌≡◌, ℕ, Bool, true, false, List, [], ◌∷◌, None, refl, sym}
-use Rattle.std.specs.Bool.{Decides}
-use Rattle.std.proofs.lemmas.Slice.Eq.{bytes_eq-Decides}
-use Rattle.ssh_keys.specs.PublicKey.{key_blob}
-use Rattle.ssh_certs.specs.Certificate.{CertOption}
-use Rattle.ssh_patterns.specs.Lists.{MatchesInLowerCase, is_match_in_lower_case}
-use Rattle.ssh_patterns.proofs.PermitLaw.{lower-tells, permits-tells}
-use Rattle.ssh_names.specs.Names.{Names, NamesHost, Patterns, Hashed, name_hash, names_host}
-use Rattle.ssh_lines.specs.KnownEntry.{KnownEntry}
-use Rattle.ssh_offers.specs.Query.{HostCheck}
-use Rattle.ssh_offers.specs.Offer.{Offer, OfCertificate, certified, is_certified, plain, subject}
-use Rattle.ssh_offers.specs.HostClaim.{HostClaim}
+use Rattle.ssh_host_rules.proofs.Imports.{◌≡◌, ℕ, Bool, true, false, List, [], ◌∷◌, None, refl, sym, Decides, bytes_eq-Decides, key_blob, CertOption, MatchesInLowerCase, is_match_in_lower_case, lower-tells, permits-tells, Names, NamesHost, Patterns, Hashed, name_hash, names_host, KnownEntry, HostCheck, Offer, OfCertificate, certified, is_certified, plain, subject, HostClaim, first_mismatch, or_later, size_row, unknown_row, none_of, of_none, both_none, none_both, key_held, held_key, same_role, role_same, off, when_off, in_force, force_none, all_long, none_short, AdmitsHost, InsistsOnNothing, IsHostInForce, first_name, host_certificate, host_force_rows, host_line_rows, host_offer_mismatch, host_row, looked_up, marks_authority, principal_of}
 use Rattle.ssh_rules.specs.declared.reason.Reason.TheVariants as reason
-use Rattle.ssh_rules.specs.Obstacles.{first_obstacle, or_later, size_row, unknown_row}
-use Rattle.ssh_rules.proofs.Tests.{none_of, of_none, both_none, none_both, key_held, held_key, same_role, role_same, off, when_off}
-use Rattle.ssh_rules.proofs.ForceLemmas.{in_force, force_none}
-use Rattle.ssh_rules.proofs.SizeLemmas.{all_long, none_short}
-use Rattle.ssh_host_rules.specs.HostAdmission.{AdmitsHost, InsistsOnNothing, IsHostInForce, first_name, host_certificate, host_force_rows, host_line_rows, host_obstacle, host_offer_obstacle, host_row, looked_up, marks_authority, principal_of}
+use Rattle.ssh_host_rules.specs.HostAdmission.{host_mismatch}
 
 -- ---- names
 
@@ -44,27 +29,27 @@ no-name : (options : List CertOption) → options ≡ [] → unknown_row (first_
 no-name [] h = refl
 no-name (o ∷ options) h = cc
 
-offer-none : (q : HostCheck) (o : Offer) → host_offer_obstacle q o ≡ None
+offer-none : (q : HostCheck) (o : Offer) → host_offer_mismatch q o ≡ None
     → OfCertificate (IsHostInForce q) o × OfCertificate InsistsOnNothing o
 offer-none q (plain key) h = (tt, tt)
 offer-none q (certified c) h =
-    let both = both_none (first_obstacle (host_force_rows q c)) (unknown_row (first_name c.critical)) h in
+    let both = both_none (first_mismatch (host_force_rows q c)) (unknown_row (first_name c.critical)) h in
     (in_force host_certificate q.now q.empty_principals None (principal_of q) c (none_of (host_force_rows q c) both.0), nothing c.critical both.1)
 
-none-offer : (q : HostCheck) (o : Offer) → OfCertificate (IsHostInForce q) o → OfCertificate InsistsOnNothing o → host_offer_obstacle q o ≡ None
+none-offer : (q : HostCheck) (o : Offer) → OfCertificate (IsHostInForce q) o → OfCertificate InsistsOnNothing o → host_offer_mismatch q o ≡ None
 none-offer q (plain key) f m = refl
 none-offer q (certified c) f m =
-    none_both (first_obstacle (host_force_rows q c)) (unknown_row (first_name c.critical))
+    none_both (first_mismatch (host_force_rows q c)) (unknown_row (first_name c.critical))
     (of_none (host_force_rows q c) (force_none host_certificate q.now q.empty_principals None (principal_of q) c f)) (no-name c.critical m)
 
 -- ---- a host's key
 
-pub host_where_none : (e : KnownEntry) (claim : HostClaim) → host_obstacle e claim ≡ None → AdmitsHost e claim
-unfolding host_obstacle
+pub host_where_none : (e : KnownEntry) (claim : HostClaim) → host_mismatch e claim ≡ None → AdmitsHost e claim
+unfolding host_mismatch
 host_where_none e claim h =
-    let both = both_none (first_obstacle (host_line_rows e claim)) (or_later (host_offer_obstacle claim.query claim.offer) (size_row claim.query.rsa_minimum claim.offer)) h in
+    let both = both_none (first_mismatch (host_line_rows e claim)) (or_later (host_offer_mismatch claim.query claim.offer) (size_row claim.query.rsa_minimum claim.offer)) h in
     let n = none_of (host_line_rows e claim) both.0 in
-    let later = both_none (host_offer_obstacle claim.query claim.offer) (size_row claim.query.rsa_minimum claim.offer) both.1 in
+    let later = both_none (host_offer_mismatch claim.query claim.offer) (size_row claim.query.rsa_minimum claim.offer) both.1 in
     let offered = offer-none claim.query claim.offer later.0 in
     record {
       key = (bytes_eq-Decides (key_blob e.key) (key_blob (subject claim.offer))).0 (key_held _ n.0);
@@ -75,10 +60,10 @@ host_where_none e claim h =
       sizes = all_long claim.query.rsa_minimum claim.offer (off _ reason.RsaTooSmall later.1);
     }
 
-pub none_where_host : (e : KnownEntry) (claim : HostClaim) → AdmitsHost e claim → host_obstacle e claim ≡ None
-unfolding host_obstacle
+pub none_where_host : (e : KnownEntry) (claim : HostClaim) → AdmitsHost e claim → host_mismatch e claim ≡ None
+unfolding host_mismatch
 none_where_host e claim a =
-    none_both (first_obstacle (host_line_rows e claim)) (or_later (host_offer_obstacle claim.query claim.offer) (size_row claim.query.rsa_minimum claim.offer))
+    none_both (first_mismatch (host_line_rows e claim)) (or_later (host_offer_mismatch claim.query claim.offer) (size_row claim.query.rsa_minimum claim.offer))
     (of_none (host_line_rows e claim) (
       held_key _ ((bytes_eq-Decides (key_blob e.key) (key_blob (subject claim.offer))).1 a.key),
       (
@@ -89,4 +74,4 @@ none_where_host e claim a =
         ),
       ),
     ))
-    (none_both (host_offer_obstacle claim.query claim.offer) (size_row claim.query.rsa_minimum claim.offer) (none-offer claim.query claim.offer a.in_force a.critical) (when_off _ reason.RsaTooSmall (none_short claim.query.rsa_minimum claim.offer a.sizes)))
+    (none_both (host_offer_mismatch claim.query claim.offer) (size_row claim.query.rsa_minimum claim.offer) (none-offer claim.query claim.offer a.in_force a.critical) (when_off _ reason.RsaTooSmall (none_short claim.query.rsa_minimum claim.offer a.sizes)))

@@ -1,18 +1,8 @@
 -- A line that has a host's key holds the piece of its base64.
-use Rattle.std.proofs.Common.{◌≡◌, ℕ, List, ◌++◌, refl, sym, subst}
-use Rattle.ssh_keys.specs.PublicKey.{key_blob}
-use Rattle.ssh_lines.specs.KnownEntry.{KnownEntry}
-use Rattle.ssh_lines.specs.KnownGrammar.{SpellsKnown, known_line}
-use Rattle.ssh_lines.specs.declared.known.KnownLine.{KnownLine}
-use Rattle.ssh_lines.specs.declared.known.KnownLine.TheVariants as known
-use Rattle.ssh_lines.proofs.ReadKnown.{known_line-spells}
-use Rattle.ssh_names.proofs.ByteLemmas.{AreBytes}
-use Rattle.ssh_offers.specs.HostClaim.{HostClaim}
-use Rattle.ssh_offers.specs.Offer.{subject}
-use Rattle.ssh_rules.specs.KeyPiece.{AdmitsNothing, HoldsPiece}
-use Rattle.ssh_rules.proofs.KeyPieceLemmas.{key-holds, none-admitted}
-use Rattle.ssh_host_rules.specs.HostAdmission.{host_obstacle}
-use Rattle.ssh_host_rules.specs.Verdict.{host_verdict}
+use Rattle.ssh_host_rules.proofs.Imports.{◌≡◌, ℕ, List, ◌++◌, refl, sym, subst, key_blob, KnownEntry, SpellsKnown, KnownLine, known_line-spells, AreBytes, HostClaim, subject, AdmitsNothing, HoldsPiece, key-holds, none-admitted, host_verdict}
+use Rattle.ssh_entries.specs.KnownGrammar.{known_line}
+use Rattle.ssh_entries.specs.declared.known_line.KnownLine.TheVariants as known
+use Rattle.ssh_host_rules.specs.HostAdmission.{host_mismatch}
 use Rattle.ssh_host_rules.proofs.HostAdmissionLemmas.{host_where_none}
 
 known-holds : (entry : KnownEntry) (line : List ℕ) → SpellsKnown entry line → HoldsPiece line (key_blob entry.key)
@@ -27,10 +17,10 @@ host-by claim line (known.Unreadable why) is bytes lacks = tt
 host-by claim line (known.Revoked blob) is bytes lacks = tt
 host-by claim line known.RevokedUnreadable is bytes lacks = tt
 host-by claim line (known.Entry e) is bytes lacks =
-    none-admitted (host_obstacle e claim) e (λ none.
+    none-admitted (host_mismatch e claim) e (λ none.
     lacks (subst (HoldsPiece line) (host_where_none e claim none).key (known-holds e line (known_line-spells line e bytes is))))
 
--- a line without the piece of the key that is sought does not admit it
+-- a line without the piece of the key that is looked for does not admit it
 pub no_host : (claim : HostClaim) (line : List ℕ) → AreBytes line
     → (HoldsPiece line (key_blob (subject claim.offer)) → ⊥) → AdmitsNothing (host_verdict claim (known_line line))
 no_host claim line bytes lacks = host-by claim line (known_line line) refl bytes lacks

@@ -1,3 +1,4 @@
+pub mod Imports
 pub mod HostAdmissionLemmas
 pub mod RevocationLemmas
 pub mod KeyPieceLemmas

@@ -1,13 +1,7 @@
 -- Lines that can be no revocation, by their front.
-use Rattle.std.proofs.Common.{◌≡◌, ℕ, nat_lt, false, ◌==◌, List, [], ◌∷◌, length, refl, inl, inr, Result, Ok, Err}
-use Rattle.std.proofs.lemmas.Bool.{cases_Bool, or_parts}
-use Rattle.ssh_options.specs.declared.cause.LineCause.{LineCause}
-use Rattle.ssh_text.specs.Text.{body_of, is_blank, line_limit}
-use Rattle.ssh_lines.specs.Front.{begins_with, front_of_body}
-use Rattle.ssh_lines.specs.KnownEntry.{KnownEntry}
-use Rattle.ssh_lines.specs.KnownGrammar.{known_line, line_of_entry, known_line_of_front}
-use Rattle.ssh_lines.specs.Markers.{first_field_of}
-use Rattle.ssh_host_rules.specs.Revocation.{RevokesNothing, can_revoke}
+use Rattle.ssh_host_rules.proofs.Imports.{◌≡◌, ℕ, nat_lt, false, ◌==◌, List, [], ◌∷◌, length, refl, inl, inr, Result, Ok, Err, cases_Bool, or_parts, LineCause, body_of, is_blank, line_limit, begins_with, front_of_body, KnownEntry, line_of_entry, known_line_of_front, RevokesNothing, can_revoke}
+use Rattle.ssh_entries.specs.KnownGrammar.{known_line}
+use Rattle.ssh_entries.specs.Markers.{first_field_of}
 
 entry_revokes_nothing : (read : Result KnownEntry LineCause) → RevokesNothing (line_of_entry read)
 entry_revokes_nothing (Ok entry) = (λ offer. refl, refl)

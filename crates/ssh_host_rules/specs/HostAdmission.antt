@@ -4,18 +4,18 @@ use Rattle.std.specs.Prelude.{◌≡◌, ℕ, Bool, true, false, List, [], ◌�
 use Rattle.std.specs.Str.{bytes_eq, str_to_ascii_lowercase}
 use Rattle.ssh_keys.specs.PublicKey.{key_blob}
 use Rattle.ssh_certs.specs.Certificate.{Certificate, CertOption}
-use Rattle.ssh_names.specs.Names.{NamesHost, lookup_name, names_host}
-use Rattle.ssh_lines.specs.KnownEntry.{KnownEntry}
-use Rattle.ssh_lines.specs.declared.marker.Marker.{Marker}
-use Rattle.ssh_lines.specs.declared.marker.Marker.TheVariants.{CertAuthority, Unmarked}
+use Rattle.ssh_entries.specs.Names.{NamesHost, lookup_name, names_host}
+use Rattle.ssh_entries.specs.KnownEntry.{KnownEntry}
+use Rattle.ssh_entries.specs.declared.known_view.Marker.{Marker}
+use Rattle.ssh_entries.specs.declared.known_view.Marker.TheVariants.{CertAuthority, Unmarked}
 use Rattle.ssh_offers.specs.Query.{HostCheck}
 use Rattle.ssh_offers.specs.Offer.{Offer, OfCertificate, certified, is_certified, plain, subject}
 use Rattle.ssh_offers.specs.HostClaim.{HostClaim}
-use Rattle.ssh_rules.specs.declared.reason.Obstacle.{Obstacle}
-use Rattle.ssh_rules.specs.declared.reason.Obstacle.TheVariants.{OtherHost}
+use Rattle.ssh_rules.specs.declared.reason.Mismatch.{Mismatch}
+use Rattle.ssh_rules.specs.declared.reason.Mismatch.TheVariants.{OtherHost}
 use Rattle.ssh_rules.specs.CertificateForce.{InForce, force_rows}
 use Rattle.ssh_rules.specs.KeySizes.{AreLongEnough}
-use Rattle.ssh_rules.specs.Obstacles.{first_obstacle, key_row, or_later, role_row, size_row, unknown_row}
+use Rattle.ssh_rules.specs.Mismatches.{first_mismatch, key_row, or_later, role_row, size_row, unknown_row}
 
 -- the kind number of a host's certificate
 abbrev pub host_certificate : ℕ
@@ -25,57 +25,57 @@ host_certificate = 2
 abbrev pub looked_up : HostCheck → List ℕ
 looked_up q = lookup_name q.host q.port
 
--- the host as the principals of its certificates have it: in ASCII lower case, without the port
+-- the name that the principals of a host's certificate are compared with: in ASCII lower case, without the port
 abbrev pub principal_of : HostCheck → List ℕ
 principal_of q = str_to_ascii_lowercase q.host
 
--- the line marks its key as an authority for certificates
+-- the line marks its key as a certificate authority
 abbrev pub marks_authority : Marker → Bool
 marks_authority Unmarked = false
 marks_authority CertAuthority = true
 
--- ======== in the subject's words
+-- ======== as relations
 
 -- the certificate is a host's and in force, for this host or for all
 abbrev pub IsHostInForce : HostCheck → Certificate → Type 0
 IsHostInForce q c = InForce host_certificate q.now q.empty_principals None (principal_of q) c
 
--- It has no critical option: none is defined for certificates of hosts (PROTOCOL.certkeys), and one that is not known must
--- not be passed over.
+-- It has no critical option: none is defined for certificates of hosts, and a certificate with a critical option that
+-- is not supported must be refused (PROTOCOL.certkeys).
 abbrev pub InsistsOnNothing : Certificate → Type 0
 InsistsOnNothing c = c.critical ≡ []
 
 -- an entry of a known_hosts file admits a host's key
 pub record AdmitsHost (e : KnownEntry) (claim : HostClaim) : Type 0 where
-  -- It holds the offered key, or that of the certificate's signer,
+  -- It has the offered key, or that of the certificate's signer,
   pub key : key_blob e.key ≡ key_blob (subject claim.offer)
-  -- and is an authority exactly where a certificate is offered.
+  -- and is marked as an authority exactly where a certificate is offered.
   pub role : marks_authority e.marker ≡ is_certified claim.offer
-  -- Its names name the host.
+  -- Its names match the host.
   pub names : NamesHost e.names (looked_up claim.query)
   -- The certificate is in force,
   pub in_force : OfCertificate (IsHostInForce claim.query) claim.offer
-  -- and insists on nothing.
+  -- and has no critical option.
   pub critical : OfCertificate InsistsOnNothing claim.offer
-  -- The keys are long enough.
+  -- RSA keys are long enough.
   pub sizes : AreLongEnough claim.query.rsa_minimum claim.offer
 
--- ======== why an entry does not admit, the first that holds
+-- ======== the first reason why an entry does not admit
 
-abbrev pub host_row : Bool → Option Obstacle
+abbrev pub host_row : Bool → Option Mismatch
 host_row true = None
 host_row false = Some OtherHost
 
--- of the line
-abbrev pub host_line_rows : KnownEntry → HostClaim → List (Option Obstacle)
+-- the reasons that the line itself gives
+abbrev pub host_line_rows : KnownEntry → HostClaim → List (Option Mismatch)
 host_line_rows e claim =
     key_row (bytes_eq (key_blob e.key) (key_blob (subject claim.offer)))
     ∷ role_row (marks_authority e.marker) (is_certified claim.offer)
     ∷ host_row (names_host e.names (looked_up claim.query))
     ∷ []
 
--- of a host's certificate that is not in force
-abbrev pub host_force_rows : HostCheck → Certificate → List (Option Obstacle)
+-- the reasons why a host's certificate is not in force
+abbrev pub host_force_rows : HostCheck → Certificate → List (Option Mismatch)
 host_force_rows q c = force_rows host_certificate q.now q.empty_principals None (principal_of q) c
 
 -- the name of the first option
@@ -83,13 +83,13 @@ abbrev pub first_name : List CertOption → Option (List ℕ)
 first_name [] = None
 first_name (o ∷ options) = Some o.name
 
-abbrev pub host_certificate_obstacle : HostCheck → Certificate → Option Obstacle
-host_certificate_obstacle q c = or_later (first_obstacle (host_force_rows q c)) (unknown_row (first_name c.critical))
+abbrev pub host_certificate_mismatch : HostCheck → Certificate → Option Mismatch
+host_certificate_mismatch q c = or_later (first_mismatch (host_force_rows q c)) (unknown_row (first_name c.critical))
 
-abbrev pub host_offer_obstacle : HostCheck → Offer → Option Obstacle
-host_offer_obstacle q (plain key) = None
-host_offer_obstacle q (certified c) = host_certificate_obstacle q c
+abbrev pub host_offer_mismatch : HostCheck → Offer → Option Mismatch
+host_offer_mismatch q (plain key) = None
+host_offer_mismatch q (certified c) = host_certificate_mismatch q c
 
--- why an entry does not admit a host's key; nothing where it admits
-unfoldable pub host_obstacle : KnownEntry → HostClaim → Option Obstacle
-host_obstacle e claim = or_later (first_obstacle (host_line_rows e claim)) (or_later (host_offer_obstacle claim.query claim.offer) (size_row claim.query.rsa_minimum claim.offer))
+-- the first reason why an entry does not admit a host's key; none where it admits
+unfoldable pub host_mismatch : KnownEntry → HostClaim → Option Mismatch
+host_mismatch e claim = or_later (first_mismatch (host_line_rows e claim)) (or_later (host_offer_mismatch claim.query claim.offer) (size_row claim.query.rsa_minimum claim.offer))

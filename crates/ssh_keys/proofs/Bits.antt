@@ -1,15 +1,5 @@
 -- How many binary digits a number has, from its bytes.
-use Rattle.std.proofs.Common.{◌≡◌, ℕ, zero, suc, ◌+◌, ◌-◌, ◌*◌, ◌^◌, ◌<◌, ◌≤◌, true, false, List, [], ◌∷◌, ◌++◌, length, reverse, take, drop, get_or, ◌⊎◌, refl, sym, ap, subst, ◌∙◌, arith, inl, inr}
-use Rattle.std.specs.Prelude.{nat_lt}
-use Rattle.std.specs.Int.Count.{count_leading_zeros, leading_of_zero}
-use Rattle.std.proofs.Math.Nat.{mul-le-mul_left, pow-le-pow_right, pow-succ'}
-use Rattle.std.proofs.lemmas.Bool.{cases_lt, lt-ltb}
-use Rattle.std.proofs.lemmas.List.{reverse-append, length-reverse, length-take}
-use Rattle.std.proofs.lemmas.Nat.{pow-add, leading_top}
-use Rattle.ssh_wire.specs.Spelling.{worth, natural, is_least}
-use Rattle.ssh_wire.specs.Fronts.{IsBytes}
-use Rattle.ssh_wire.specs.MpintLaws.{IsBytes-reverse}
-use Rattle.ssh_keys.specs.Fingerprint.{IsBitCount}
+use Rattle.ssh_keys.proofs.Imports.{◌≡◌, ℕ, zero, suc, ◌+◌, ◌-◌, ◌*◌, ◌^◌, ◌<◌, ◌≤◌, true, false, List, [], ◌∷◌, ◌++◌, length, reverse, take, drop, get_or, ◌⊎◌, refl, sym, ap, subst, ◌∙◌, arith, inl, inr, nat_lt, count_leading_zeros, leading_of_zero, mul-le-mul_left, pow-le-pow_right, pow-succ', cases_lt, lt-ltb, reverse-append, length-reverse, length-take, pow-add, leading_top, worth, natural, is_least, IsBytes, IsBytes-reverse, IsBitCount}
 
 -- ---- bytes in front of others, and how large bytes can be
 
@@ -39,7 +29,7 @@ bytes-bits (suc n) =
 
 -- ---- the count
 
--- the highest digit stands
+-- the highest digit is not zero
 counted : (n m bits : ℕ) → suc m ≡ bits → n < 2 ^ bits → 2 ^ m ≤ n → IsBitCount n bits
 counted n m bits top fits high = record {
   fits = fits;

@@ -1,18 +1,7 @@
 -- The blob of a key as it is written, and that a blob is one key's alone.
-use Rattle.std.proofs.Common.{◌≡◌, ℕ, ◌+◌, ◌<◌, ◌≤◌, ◌^◌, List, [], ◌++◌, length, Result, sym, ap, subst, ◌∙◌, arith}
-use Rattle.std.specs.Prelude.{OnOk}
-use Rattle.std.specs.Bool.{Decides}
-use Rattle.std.specs.Cmp.Lexicographic.{same_text, bytes_decides}
-use Rattle.std.specs.Str.{bytes_eq}
-use Rattle.std.specs.List.{concat}
-use Rattle.std.proofs.lemmas.List.{append-nil, length-append}
-use Rattle.ssh_wire.specs.Spelling.{string, mpint, mpint_bytes}
-use Rattle.ssh_wire.specs.Laws.{ok_is}
-use Rattle.ssh_keys.specs.declared.curve.Curve.TheVariants.{Nistp256, Nistp384, Nistp521}
-use Rattle.ssh_keys.specs.Curves.{curve_name_of}
-use Rattle.ssh_keys.specs.declared.error.KeyError.{KeyError}
-use Rattle.ssh_keys.specs.Names.{key_name_of}
-use Rattle.ssh_keys.specs.PublicKey.{PublicKey, rsa, p256, p384, p521, ed25519, sk_p256, sk_ed25519, kind_of, fields_of, key_blob, IsKey, IsKeyBlob}
+use Rattle.ssh_keys.proofs.Imports.{◌≡◌, ℕ, ◌+◌, ◌<◌, ◌≤◌, ◌^◌, List, [], ◌++◌, length, Result, sym, ap, subst, ◌∙◌, arith, OnOk, Decides, same_text, bytes_decides, bytes_eq, concat, append-nil, length-append, string, mpint, ok_is, Nistp256, Nistp384, Nistp521, curve_name_of, KeyError, key_name_of, PublicKey, rsa, p256, p384, p521, ed25519, sk_p256, sk_ed25519, kind_of, fields_of, IsKey, IsKeyBlob}
+use Rattle.ssh_wire.specs.Spelling.{mpint_bytes}
+use Rattle.ssh_keys.specs.PublicKey.{key_blob}
 use Rattle.ssh_keys.specs.KeyReading.{key_in}
 use Rattle.ssh_keys.proofs.KeyLaws.{key_again}
 
@@ -20,7 +9,7 @@ use Rattle.ssh_keys.proofs.KeyLaws.{key_again}
 pub one_blob : (a b : PublicKey) → IsKey a → IsKey b → key_blob a ≡ key_blob b → a ≡ b
 one_blob a b a_is b_is e = ok_is {E = KeyError} a b (sym (key_again a a_is) ∙ ap key_in e ∙ key_again b b_is)
 
--- a test of two blobs tells whether their keys are one key
+-- a test of two blobs decides whether their keys are equal
 pub told_blobs : (a b : PublicKey) (s t : List ℕ) → IsKeyBlob a s → IsKeyBlob b t → Decides (bytes_eq s t) (a ≡ b)
 told_blobs a b s t a_is b_is = (
   λ yes. one_blob a b a_is.is_key b_is.is_key (sym a_is.spelled ∙ same_text s t (sym yes) ∙ b_is.spelled),

@@ -1,8 +1,8 @@
 -- The blob of an Ed25519 key has one front and one length.
-use Rattle.std.proofs.Common.{◌≡◌, ℕ, List, ◌∷◌, [], ◌++◌, length, length-append, codes, Ok, refl, sym, ap, subst, ◌+◌, ◌≤◌, ◌∙◌, arith, append-nil}
-use Rattle.ssh_keys.specs.declared.kind.KeyKind.TheVariants.{Ed25519}
-use Rattle.ssh_keys.specs.PublicKey.{ed25519, key_blob, longest, IsKey}
-use Rattle.ssh_keys.specs.KeyReading.{key_in, kind_read}
+use Rattle.ssh_keys.proofs.Imports.{◌≡◌, ℕ, List, ◌∷◌, [], ◌++◌, length, Ok, refl, sym, ap, subst, ◌+◌, ◌≤◌, ◌∙◌, arith, Ed25519, ed25519, longest, IsKey, kind_read}
+use Rattle.std.proofs.Common.{length-append, codes, append-nil}
+use Rattle.ssh_keys.specs.PublicKey.{key_blob}
+use Rattle.ssh_keys.specs.KeyReading.{key_in}
 use Rattle.ssh_keys.proofs.KeyLaws.{key_again}
 
 abbrev pub ed25519_front : List ℕ

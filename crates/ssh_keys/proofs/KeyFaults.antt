@@ -1,36 +1,12 @@
--- What is refused as a key has the first fault that is told, where it is told.
-use Rattle.std.proofs.Common.{◌≡◌, ◌≢◌, ℕ, ◌+◌, ◌^◌, ◌<◌, ◌≤◌, Bool, true, false, not, cond, ltb, eqb, List, [], ◌∷◌, ◌++◌, length, take, replicate, Result, Ok, Err, refl, sym, ap, subst, ◌∙◌, append_assoc, zero-add, arith, inl, inr, ◌⊎◌}
-use Rattle.std.specs.Prelude.{◌-◌, codes, Option, Some, None}
-use Rattle.std.specs.List.{concat}
-use Rattle.std.specs.Str.{bytes_eq}
-use Rattle.std.proofs.lemmas.Bool.{ltb-false, ltb-true, eqb-true, eqb-false}
-use Rattle.std.proofs.lemmas.List.{append-nil, length-append}
-use Rattle.std.proofs.lemmas.Slice.Eq.{bytes_eq-Decides}
-use Rattle.ssh_wire.specs.declared.error.WireCause.{WireCause}
-use Rattle.ssh_wire.specs.declared.error.WireCause.TheVariants.{Short, MpintNotMinimal, MpintNegative, Trailing, Value}
-use Rattle.ssh_wire.specs.declared.error.WireError.{WireError}
-use Rattle.ssh_wire.specs.Spelling.{string, mpint, mpint_bytes, natural, is_least, is_not_negative}
-use Rattle.ssh_wire.specs.Position.{Position, start}
-use Rattle.ssh_wire.specs.Reading.{◌>>=◌, Read, fault, string_at, mpint_at, end_at}
-use Rattle.ssh_wire.specs.Fronts.{IsBytes}
-use Rattle.ssh_wire.specs.Laws.{string_takes, string_again, refused_none, fine}
-use Rattle.ssh_wire.specs.MpintLaws.{mpint_takes}
-use Rattle.ssh_wire.specs.Rows.{GoesOnAt}
-use Rattle.ssh_wire.proofs.RowLemmas.{bind_err, string_is_short}
-use Rattle.ssh_wire.specs.Stands.{NoString, BeginsString}
-use Rattle.ssh_keys.specs.declared.curve.Curve.{Curve}
-use Rattle.ssh_keys.specs.declared.curve.Curve.TheVariants.{Nistp256, Nistp384, Nistp521}
-use Rattle.ssh_keys.specs.declared.error.KeyError.{KeyError}
-use Rattle.ssh_keys.specs.declared.error.KeyError.TheVariants as errors
-use Rattle.ssh_keys.specs.declared.kind.KeyKind.{KeyKind}
-use Rattle.ssh_keys.specs.declared.kind.KeyKind.TheVariants.{Rsa, P256, P384, P521, Ed25519, SkP256, SkEd25519}
-use Rattle.ssh_keys.specs.Curves.{curve_name_of, point_len_of}
-use Rattle.ssh_keys.specs.FieldFaults.{KeyFieldSort, number, curve, point, public, text, sorts_of, IsWrong, IsOfKind, IsFieldFault}
-use Rattle.ssh_keys.specs.FirstFault.{AreShort, IsSpelled, IsUnknownName, IsFaultWithin, InFields, IsFirstFault}
+-- Bytes that are refused as a key have the first error that is returned, at its place.
+use Rattle.ssh_keys.proofs.Imports.{◌≡◌, ◌≢◌, ℕ, ◌+◌, ◌^◌, ◌<◌, ◌≤◌, Bool, true, false, not, cond, ltb, eqb, List, [], ◌∷◌, ◌++◌, length, take, replicate, Result, Ok, Err, refl, sym, ap, subst, ◌∙◌, append_assoc, zero-add, arith, inl, inr, ◌⊎◌, codes, Option, concat, bytes_eq, ltb-false, ltb-true, eqb-true, eqb-false, append-nil, length-append, bytes_eq-Decides, WireCause, Short, MpintNotMinimal, MpintNegative, Trailing, Value, WireError, string, mpint, natural, is_least, is_not_negative, Position, start, ◌>>=◌, Read, fault, end_at, IsBytes, string_takes, string_again, refused_none, fine, mpint_takes, GoesOnAt, bind_err, string_is_short, NoString, BeginsString, Curve, Nistp256, Nistp384, Nistp521, KeyError, KeyKind, Rsa, P256, P384, P521, Ed25519, SkP256, SkEd25519, curve_name_of, point_len_of, KeyFieldSort, number, curve, point, public, text, sorts_of, IsWrong, IsOfKind, IsFieldFault, AreShort, IsSpelled, IsUnknownName, IsFaultWithin, InFields, IsFirstFault, ReadKey, as_key_error, wants, kind_from, key_name_of, certificate_name_of, class_of, class_by, kinds, PublicKey, rsa, p256, p384, p521, ed25519, sk_p256, sk_ed25519, kind_of, fields_of, key_blob_row, is_point, longest}
+use Rattle.std.specs.Prelude.{◌-◌, Some, None}
+use Rattle.ssh_wire.specs.Spelling.{mpint_bytes}
+use Rattle.ssh_wire.specs.Reading.{string_at, mpint_at}
+use Rattle.ssh_keys.specs.declared.key.KeyError.TheVariants as errors
 use Rattle.ssh_keys.proofs.KeyLaws.{of_wire_ok, wants_ok, kind_named, find_some, positive_takes, point_takes, public_takes, fields_take}
-use Rattle.ssh_keys.specs.KeyReading.{ReadKey, as_key_error, wants, kind_from, positive_at, point_at, public_at, fields_at, blob_at, key_in}
-use Rattle.ssh_keys.specs.Names.{key_name_of, certificate_name_of, class_of, class_by, plain_kind, certificate_kind, kinds}
-use Rattle.ssh_keys.specs.PublicKey.{PublicKey, rsa, p256, p384, p521, ed25519, sk_p256, sk_ed25519, kind_of, fields_of, key_blob_row, is_point, longest}
+use Rattle.ssh_keys.specs.KeyReading.{positive_at, point_at, public_at, fields_at, blob_at, key_in}
+use Rattle.ssh_keys.specs.Names.{plain_kind, certificate_kind}
 
 -- ---- steps that failed
 
@@ -41,7 +17,7 @@ of_wire_err : {A : Type 0} (r : Result A WireError) (e : KeyError) → as_key_er
 of_wire_err (Ok x) e h = absurd cc
 of_wire_err {A} (Err w) e h = (w, refl, err_is {A = A} (errors.Wire w) e h)
 
--- a test that was not met, and its fault
+-- a test that failed, and its error
 unmet : {A : Type 0} (b : Bool) (d e : KeyError) (x : A) → cond b (Ok x) (Err d) ≡ Err e → (b ≡ false) × (d ≡ e)
 unmet true d e x h = absurd cc
 unmet {A} false d e x h = (refl, err_is {A = A} d e h)
@@ -60,7 +36,7 @@ looked_err {A} {B} r f e h = elim (bind_err r (λ x. fine (f x)) e h) [ inl refu
 
 -- ---- what is wrong with one field
 
--- no string is spelled where none can be read
+-- where no string can be read, no string is spelled
 no_string : (at : Position) (w : WireError) → string_at at ≡ Err w → NoString at.rest
 no_string at w h = λ b. refused_none string (λ t. length t < 2 ^ 32) string_at string_again at w h b.value b.rest b.fits b.begins
 
@@ -75,14 +51,14 @@ string_wrong sort at e h =
 begins_string : (Is : List ℕ → Type 0) (at after : Position) (t : List ℕ) → IsBytes at.rest → as_key_error (string_at at) ≡ Ok (t, after) → Is t → BeginsString Is at.rest
 begins_string Is at after t fits h is = record { text = t; is = is; more = after.rest; begins = (string_takes at t after fits (of_wire_ok (string_at at) (t, after) h)).0.parts }
 
--- a fault of a value, as a read that tells it
+-- an error of a value, as a read that returns it
 refusal : {A : Type 0} → ℕ → WireCause → Result A WireError
 refusal place cause = Err (record { place = place; cause = cause })
 
 wire_is : {A : Type 0} (d e : WireError) → (let x : Result A WireError = Err d in x) ≡ Err e → d ≡ e
 wire_is d e h = cc
 
--- a string that is no number's
+-- a string that is not a number's
 no_number : (at : Position) (t : List ℕ) (after : Position) (w : WireError) → at.rest ≡ string t ++ after.rest → (b c : Bool) → is_least t ≡ b → is_not_negative t ≡ c
     → cond (not b) (fault at MpintNotMinimal) (cond (not c) (fault at MpintNegative) (let x : Read ℕ = Ok (natural t, after) in x)) ≡ Err w → IsWrong (errors.Wire w) number at.rest at.place
 no_number at t after w parts false c least sign h =
@@ -131,7 +107,7 @@ public_wrong at e fits h =
           subst (λ (y : KeyError). IsWrong y public at.rest at.place) z.1 (begins_string (λ a. length a ≢ 32) at x.0.1 x.0.0 fits x.1 (eqb-false (length x.0.0) 32 z.0)))
     ]
 
--- the name of a curve is wrong; or it stands, and the point after it is wrong
+-- the name of a curve is wrong; or it is right, and the point after it is wrong
 record AfterCurve (c : Curve) (at : Position) (e : KeyError) : Type 0 where
   next : Position
   parts : at.rest ≡ string (curve_name_of c) ++ next.rest
@@ -187,7 +163,7 @@ first_wrong kind sort after row value fits at e wrong = record {
   wrong = subst (λ (k : ℕ). IsWrong e sort at.rest k) (let z : at.place ≡ at.place + 0 = omega arith in z) wrong;
 }
 
--- the fields before stand, and this one is wrong
+-- the fields before one are complete, and this one is wrong
 later_wrong : (kind : KeyKind) (before : List KeyFieldSort) (sort : KeyFieldSort) (after : List KeyFieldSort) → sorts_of kind ≡ before ++ sort ∷ after → (value : PublicKey) → IsOfKind kind value → (at next : Position) (e : KeyError) (front : List ℕ)
     → concat (take (length before) (fields_of value)) ≡ front → at.rest ≡ front ++ next.rest → next.place ≡ at.place + length front
     → IsWrong e sort next.rest next.place → IsFieldFault kind at.place at.rest e
@@ -290,7 +266,7 @@ clash (Some k) kind p q = cc
 differs : (a b : List ℕ) → bytes_eq a b ≡ false → a ≢ b
 differs a b unequal same = let equal : bytes_eq a b ≡ true = (bytes_eq-Decides a b).1 same in let both : true ≡ false = sym equal ∙ unequal in cc
 
--- a type name that is no plain key's
+-- a type name that is not a plain key's
 name_wrong : (bytes name rest : List ℕ) → bytes ≡ string name ++ rest → (a b : Option KeyKind) (r : Bool) → plain_kind name ≡ a → certificate_kind name ≡ b → bytes_eq name (codes "ssh-dss") ≡ r
     → (e : KeyError) → kind_from (class_by a b r) ≡ Err e → IsFaultWithin bytes e
 name_wrong bytes name rest begins (Some kind) b r p c d e h = absurd cc
@@ -310,7 +286,7 @@ name_wrong bytes name rest begins None None false p c d e h =
 
 -- ---- a whole blob
 
--- a wrong field is the fault of the blob
+-- a wrong field is the error of the blob
 within : (bytes : List ℕ) (e : KeyError) → InFields bytes e → IsFaultWithin bytes e
 within bytes (errors.Wire w) i = by w.place w.cause i
   where
@@ -385,7 +361,7 @@ blob_fault bytes e fits few h =
           ])
     ]
 
--- the first fault of what is no key's blob
+-- the first error of bytes that are not a key's blob
 pub key_fault : (bytes : List ℕ) (e : KeyError) → IsBytes bytes → key_in bytes ≡ Err e → IsFirstFault bytes e
 unfolding key_in
 key_fault bytes e fits h = go (ltb longest (length bytes)) refl h

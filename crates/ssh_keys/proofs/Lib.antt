@@ -1,3 +1,4 @@
+pub mod Imports
 pub mod KeyLaws
 pub mod Ed25519
 pub mod SignatureLaws

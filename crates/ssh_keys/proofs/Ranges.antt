@@ -1,14 +1,8 @@
 -- Fields that are in their ranges are those of a key.
-use Rattle.std.proofs.Common.{◌≡◌, ℕ, ◌<◌, Bool, true, false, cond, ltb, eqb, length, Ok, Err, refl, arith}
-use Rattle.std.specs.Prelude.{◌&&◌, ◌||◌}
-use Rattle.std.proofs.lemmas.Bool.{ltb-false, le-ltb, ltb-true, lt-ltb, eqb-false, ne_eqb}
-use Rattle.ssh_wire.specs.declared.error.WireCause.TheVariants.{Value}
-use Rattle.ssh_keys.specs.declared.curve.Curve.TheVariants.{Nistp256, Nistp384, Nistp521}
-use Rattle.ssh_keys.specs.Curves.{point_len_of}
-use Rattle.ssh_keys.specs.declared.error.KeyError.{KeyError}
-use Rattle.ssh_keys.specs.declared.error.KeyError.TheVariants as errors
-use Rattle.ssh_keys.specs.PublicKey.{PublicKey, rsa, p256, p384, p521, ed25519, sk_p256, sk_ed25519, key_blob, is_point, is_in_range, longest, IsKey}
-use Rattle.ssh_keys.specs.KeyReading.{in_range_or_fault, key_from}
+use Rattle.ssh_keys.proofs.Imports.{◌≡◌, ℕ, ◌<◌, Bool, true, false, cond, ltb, eqb, length, Ok, Err, refl, arith, ◌&&◌, ◌||◌, ltb-false, le-ltb, ltb-true, lt-ltb, eqb-false, ne_eqb, Value, Nistp256, Nistp384, Nistp521, point_len_of, KeyError, PublicKey, rsa, p256, p384, p521, ed25519, sk_p256, sk_ed25519, is_point, is_in_range, longest, IsKey, in_range_or_fault}
+use Rattle.ssh_keys.specs.declared.key.KeyError.TheVariants as errors
+use Rattle.ssh_keys.specs.PublicKey.{key_blob}
+use Rattle.ssh_keys.specs.KeyReading.{key_from}
 
 held : (b : Bool) (d : KeyError) (x y : PublicKey) → cond b (Ok x) (Err d) ≡ Ok y → b ≡ true
 held true d x y e = refl

@@ -1,11 +1,5 @@
 -- Whether an RSA key has so many binary digits.
-use Rattle.std.proofs.Common.{◌≡◌, ◌≤◌, ◌<◌, ◌^◌, ℕ, zero, suc, true, false, not, Some, None, refl, arith, inl, inr}
-use Rattle.std.specs.Prelude.{nat_le, nat_lt}
-use Rattle.std.specs.Bool.{Decides}
-use Rattle.std.proofs.Math.Nat.{pow-le-pow_right}
-use Rattle.std.proofs.lemmas.Bool.{cases_lt, lt-ltb, le-ltb, le-leb, lt-leb}
-use Rattle.ssh_keys.specs.Fingerprint.{IsBitCount, IsRsaAtLeast, IsRsaSize, has_fewer_digits, is_rsa_below}
-use Rattle.ssh_keys.specs.PublicKey.{PublicKey, ed25519, p256, p384, p521, rsa, sk_ed25519, sk_p256}
+use Rattle.ssh_keys.proofs.Imports.{◌≡◌, ◌≤◌, ◌<◌, ◌^◌, ℕ, zero, suc, true, false, not, Some, None, refl, arith, inl, inr, nat_le, nat_lt, Decides, pow-le-pow_right, cases_lt, lt-ltb, le-ltb, le-leb, lt-leb, IsBitCount, IsRsaAtLeast, IsRsaSize, has_fewer_digits, is_rsa_below, PublicKey, ed25519, p256, p384, p521, rsa, sk_ed25519, sk_p256}
 
 -- what is not below 2^k fits in no k digits
 no_fewer : (n k size : ℕ) → 2 ^ k ≤ n → n < 2 ^ size → suc k ≤ size
@@ -47,7 +41,7 @@ no-size-tells (ed25519 p) bits is = refl
 no-size-tells (sk_p256 q a) bits is = refl
 no-size-tells (sk_ed25519 p a) bits is = refl
 
--- ---- in the words of the definition
+-- ---- in the terms of the definition
 
 digits-decide : (bits n : ℕ) → Decides (not (has_fewer_digits bits n)) ((k : ℕ) → n < 2 ^ k → bits ≤ k)
 digits-decide zero n = (λ h k fits. omega arith, λ h. refl)

@@ -1,23 +1,11 @@
--- What is refused as a signature has its first fault where it is told.
-use Rattle.std.proofs.Common.{◌≡◌, ℕ, ◌+◌, ◌^◌, ◌<◌, Bool, true, false, cond, ltb, List, [], ◌∷◌, ◌++◌, length, take, Option, Some, None, Result, Ok, Err, refl, sym, ap, subst, ◌∙◌, zero-add, arith, inl, inr}
-use Rattle.std.specs.Prelude.{is_some, nat_lt}
-use Rattle.std.specs.Int.{w32, byte_len, from_be_bytes}
-use Rattle.std.specs.List.{concat}
-use Rattle.std.proofs.lemmas.Bool.{ltb-true, lt-ltb}
-use Rattle.ssh_wire.specs.declared.error.WireCause.TheVariants.{Short, Trailing, Value}
-use Rattle.ssh_wire.specs.declared.error.WireError.{WireError}
-use Rattle.ssh_wire.specs.Spelling.{string, uint32}
-use Rattle.ssh_wire.specs.Position.{Position, start, advance}
-use Rattle.ssh_wire.specs.Reading.{◌>>=◌, Read, byte_at, number_at, string_at, end_at}
-use Rattle.ssh_wire.specs.Fronts.{IsBytes}
-use Rattle.ssh_wire.specs.Laws.{wide32, number_again, string_takes, string_again, no_prefix_of, fine}
-use Rattle.ssh_wire.specs.Rows.{StopsAt, GoesOnAt, row_by, FitsBy}
-use Rattle.ssh_wire.proofs.RowLemmas.{stops_first, stops_after, goes_on_after, IsRenamed, stops_renamed, goes_on_renamed, bind_err, test_err, string_is_short}
+-- Bytes that are refused as a signature have the first error that is returned, at its place.
+use Rattle.ssh_keys.proofs.Imports.{◌≡◌, ℕ, ◌+◌, ◌^◌, ◌<◌, Bool, true, false, cond, ltb, List, [], ◌∷◌, ◌++◌, length, take, Some, None, Result, Ok, Err, refl, sym, ap, subst, ◌∙◌, zero-add, arith, inl, inr, is_some, nat_lt, w32, byte_len, from_be_bytes, concat, ltb-true, lt-ltb, Short, Trailing, Value, WireError, string, uint32, Position, start, advance, ◌>>=◌, Read, byte_at, number_at, end_at, IsBytes, wide32, number_again, string_takes, string_again, no_prefix_of, fine, StopsAt, GoesOnAt, row_by, FitsBy, stops_first, stops_after, goes_on_after, IsRenamed, stops_renamed, goes_on_renamed, bind_err, test_err, string_is_short, longest, Signature, is_sk_algorithm, sk_row, signature_row, is_sk_in_range, IsSpelledSignature, IsFaultOfFields, IsSignatureFault}
+use Rattle.std.proofs.Common.{ltb-false}
+use Rattle.std.proofs.Common.{Option}
+use Rattle.ssh_wire.specs.Reading.{string_at}
 use Rattle.ssh_keys.proofs.KeyLaws.{and_ok}
-use Rattle.ssh_keys.specs.PublicKey.{longest}
-use Rattle.ssh_keys.specs.Signature.{Signature, is_sk_algorithm, sk_row, signature_row, is_sk_in_range, sk_at, signature_at, signature_in}
+use Rattle.ssh_keys.specs.Signature.{sk_at, signature_at, signature_in}
 use Rattle.ssh_keys.proofs.SignatureLaws.{byte_takes, sk_takes}
-use Rattle.ssh_keys.specs.SignatureFault.{IsSpelledSignature, IsSignatureFault}
 
 -- ---- the fields of a signature, by its algorithm
 
@@ -50,7 +38,7 @@ signatures = record {
   each = λ s is. ((s.algorithm, (s.bytes, s.sk)), (omega (arith, is.short.0), (omega (arith, is.short.1.0), (is.sk, is.ranges))), refl);
 }
 
--- flags and counter that may stand, or none
+-- an example of the flags and counter that an algorithm must have: none, or both
 some_sk : (wanted : Bool) → (sk : Option (ℕ × ℕ)) × SkFits wanted sk
 some_sk false = (None, (refl, refl))
 some_sk true = (Some (0, 0), (refl, refl))
@@ -98,7 +86,7 @@ byte_is_short place [] e h = sym (same (record { place = place; cause = Short })
     same d e h = cc
 byte_is_short place (b ∷ rest) e h = absurd cc
 
--- where reading fields by a row stopped, for want of bytes
+-- where reading fields by a row stopped because there were too few bytes
 abbrev Stops : {A : Type 0} → (A → List (List ℕ)) → (A → Type 0) → Position → WireError → Type 0
 Stops row Fits at e = (place : ℕ) × StopsAt row Fits at.rest place × (e ≡ record { place = at.place + place; cause = Short })
 
@@ -133,27 +121,27 @@ sk_stops true at e fits h =
 
 -- ---- a whole blob
 
--- the bytes stop for want of bytes
-stopped : (bytes : List ℕ) (e : WireError) (place : ℕ) → e ≡ record { place = place; cause = Short } → StopsAt parts_row PartsFit bytes place → IsSignatureFault bytes e
+-- the bytes stop because there are too few
+stopped : (bytes : List ℕ) (e : WireError) (place : ℕ) → e ≡ record { place = place; cause = Short } → StopsAt parts_row PartsFit bytes place → IsFaultOfFields bytes e
 stopped bytes e place is s =
-    subst (λ (x : WireError). IsSignatureFault bytes x) (sym is) (stops_renamed parts_row PartsFit signature_row IsSpelledSignature made signatures bytes place s)
+    subst (λ (x : WireError). IsFaultOfFields bytes x) (sym is) (stops_renamed parts_row PartsFit signature_row IsSpelledSignature made signatures bytes place s)
 
 -- bytes after the last field
 goes_on : (bytes : List ℕ) (e : WireError) (algorithm text : List ℕ) (sk : Option (ℕ × ℕ)) (middle rest : List ℕ) (place : ℕ) → Text algorithm → Text text → SkFits (is_sk_algorithm algorithm) sk
     → bytes ≡ string algorithm ++ middle → middle ≡ string text ++ (concat (sk_row sk) ++ rest)
-    → place ≡ length (string algorithm) + (length (string text) + length (concat (sk_row sk))) → end_at (record { place = place; rest = rest }) ≡ Err e → IsSignatureFault bytes e
+    → place ≡ length (string algorithm) + (length (string text) + length (concat (sk_row sk))) → end_at (record { place = place; rest = rest }) ≡ Err e → IsFaultOfFields bytes e
 goes_on bytes e algorithm text sk middle [] place a b f first second far h = absurd cc
 goes_on bytes e algorithm text sk middle (x ∷ rest) place a b f first second far h =
     let last : GoesOnAt sk_row (SkFits (is_sk_algorithm algorithm)) (concat (sk_row sk) ++ x ∷ rest) (length (concat (sk_row sk))) = record { value = sk; fits = f; rest = x ∷ rest; more = λ y. absurd cc; begins = refl; at = refl } in
     let inner = goes_on_after string Text (λ _. sk_row) (λ _. SkFits (is_sk_algorithm algorithm)) text middle (concat (sk_row sk) ++ x ∷ rest) (length (concat (sk_row sk))) b second last in
     let whole = goes_on_renamed parts_row PartsFit signature_row IsSpelledSignature made signatures bytes (length (string algorithm) + (length (string text) + length (concat (sk_row sk))))
     (goes_on_after string Text (λ _. row_by string (λ _. sk_row)) (λ c. FitsBy Text (λ _. SkFits (is_sk_algorithm c))) algorithm bytes middle (length (string text) + length (concat (sk_row sk))) a first inner) in
-    subst (λ (y : WireError). IsSignatureFault bytes y) (same (record { place = place; cause = Trailing }) e h) (subst (λ (k : ℕ). GoesOnAt signature_row IsSpelledSignature bytes k) (sym far) whole)
+    subst (λ (y : WireError). IsFaultOfFields bytes y) (same (record { place = place; cause = Trailing }) e h) (subst (λ (k : ℕ). GoesOnAt signature_row IsSpelledSignature bytes k) (sym far) whole)
   where
     same : (d e : WireError) → (let r : Result (Unit {0}) WireError = Err d in r) ≡ Err e → d ≡ e
     same d e h = cc
 
-blob_fault : (bytes : List ℕ) (e : WireError) → IsBytes bytes → signature_at (start bytes) ≡ Err e → IsSignatureFault bytes e
+blob_fault : (bytes : List ℕ) (e : WireError) → IsBytes bytes → signature_at (start bytes) ≡ Err e → IsFaultOfFields bytes e
 unfolding signature_at
 blob_fault bytes e fits h =
     elim (bind_err (string_at (start bytes)) (λ algorithm. string_at algorithm.1 >>= λ text. sk_at (is_sk_algorithm algorithm.0) text.1 >>= λ sk. end_at sk.1 >>= λ u. fine (record { algorithm = algorithm.0; bytes = text.0; sk = sk.0 })) e h) [
@@ -163,7 +151,7 @@ blob_fault bytes e fits h =
       | inr a ↦
           (let t = string_takes (start bytes) a.0.0 a.0.1 fits a.1 in
           let far : (a.0.1).place ≡ length (string a.0.0) = t.0.place ∙ zero-add (length (string a.0.0)) in
-          let inside : (place : ℕ) → e ≡ record { place = (a.0.1).place + place; cause = Short } → StopsAt (row_by string (λ _. sk_row)) (FitsBy Text (λ _. SkFits (is_sk_algorithm a.0.0))) (a.0.1).rest place → IsSignatureFault bytes e =
+          let inside : (place : ℕ) → e ≡ record { place = (a.0.1).place + place; cause = Short } → StopsAt (row_by string (λ _. sk_row)) (FitsBy Text (λ _. SkFits (is_sk_algorithm a.0.0))) (a.0.1).rest place → IsFaultOfFields bytes e =
           λ place is s. stopped bytes e (length (string a.0.0) + place) (is ∙ ap (λ (k : ℕ). record { place = k + place; cause = Short }) far)
           (stops_after string Text (λ _. row_by string (λ _. sk_row)) (λ c. FitsBy Text (λ _. SkFits (is_sk_algorithm c))) (no_prefix_of string Text string_at string_again) a.0.0 bytes (a.0.1).rest place t.1 t.0.parts s) in
           elim (bind_err (string_at a.0.1) (λ text. sk_at (is_sk_algorithm a.0.0) text.1 >>= λ sk. end_at sk.1 >>= λ u. fine (record { algorithm = a.0.0; bytes = text.0; sk = sk.0 })) e a.2) [
@@ -187,7 +175,7 @@ blob_fault bytes e fits h =
           ])
     ]
 
--- the first fault of what is no signature's blob
+-- the first error of bytes that are not a signature's blob
 pub signature_fault : (bytes : List ℕ) (e : WireError) → IsBytes bytes → signature_in bytes ≡ Err e → IsSignatureFault bytes e
 unfolding signature_in
 signature_fault bytes e fits h = go (ltb longest (length bytes)) refl h
@@ -196,5 +184,5 @@ signature_fault bytes e fits h = go (ltb longest (length bytes)) refl h
     same d e h = cc
 
     go : (b : Bool) → ltb longest (length bytes) ≡ b → cond b (Err (record { place = 0; cause = Value })) (signature_at (start bytes)) ≡ Err e → IsSignatureFault bytes e
-    go true long f = subst (λ (x : WireError). IsSignatureFault bytes x) (same (record { place = 0; cause = Value }) e f) (ltb-true longest (length bytes) long, refl)
-    go false long f = blob_fault bytes e fits f
+    go true long f = subst (λ (x : WireError). IsSignatureFault bytes x) (same (record { place = 0; cause = Value }) e f) (inl (ltb-true longest (length bytes) long, refl, refl))
+    go false long f = inr (ltb-false longest (length bytes) long, blob_fault bytes e fits f)

@@ -1,7 +1,5 @@
 -- Flags of one byte and a counter of four are in their ranges.
-use Rattle.std.proofs.Common.{◌≡◌, ℕ, ◌^◌, ◌<◌, true, refl}
-use Rattle.std.specs.Prelude.{◌&&◌, nat_lt, IsTrue}
-use Rattle.std.proofs.lemmas.Bool.{lt-ltb}
+use Rattle.ssh_keys.proofs.Imports.{◌≡◌, ℕ, ◌^◌, ◌<◌, true, refl, ◌&&◌, nat_lt, IsTrue, lt-ltb}
 
 pub sk_fits : (flags counter : ℕ) → flags < 2 ^ 8 → counter < 2 ^ 32 → IsTrue (nat_lt flags (2 ^ 8) && nat_lt counter (2 ^ 32))
 sk_fits flags counter low high =

@@ -1,8 +1,7 @@
 -- How long the base64 of a digest is.
-use Rattle.std.proofs.Common.{◌≡◌, ℕ, zero, suc, ◌+◌, ◌*◌, ◌≤◌, List, [], ◌∷◌, length, refl, arith}
-use Rattle.std.specs.Prelude.{Bool, if◌then◌else◌, replicate}
-use Rattle.std.proofs.lemmas.List.{length-append}
-use Rattle.base64.specs.Rfc4648.{encode_symbols, encode_group, encode, padding_len}
+use Rattle.ssh_keys.proofs.Imports.{◌≡◌, ℕ, zero, suc, ◌+◌, ◌*◌, ◌≤◌, List, [], ◌∷◌, length, refl, arith, if◌then◌else◌, length-append, encode_group, encode, padding_len}
+use Rattle.std.specs.Prelude.{Bool, replicate}
+use Rattle.base64.specs.Rfc4648.{encode_symbols}
 
 -- groups of three bytes are four symbols each, and two bytes at the end are three
 symbols_len : (table : List ℕ) (k : ℕ) (m : List ℕ) → length m ≡ 3 * k + 2 → length (encode_symbols table m) ≡ 4 * k + 3

@@ -1,7 +1,7 @@
 -- Names of curves, and how long their points are (RFC 5656 section 10.1, SEC 1).
 use Rattle.std.specs.Prelude.{ℕ, List, codes}
-use Rattle.ssh_keys.specs.declared.curve.Curve.{Curve}
-use Rattle.ssh_keys.specs.declared.curve.Curve.TheVariants.{Nistp256, Nistp384, Nistp521}
+use Rattle.ssh_keys.specs.declared.kind.Curve.{Curve}
+use Rattle.ssh_keys.specs.declared.kind.Curve.TheVariants.{Nistp256, Nistp384, Nistp521}
 
 -- the name of the curve
 abbrev pub curve_name_of : Curve → List ℕ

@@ -1,19 +1,19 @@
--- What is wrong with the first field of a public key that does not stand, by its row of fields alone.
+-- The error of the first wrong field of a public key, stated by its fields alone.
 use Rattle.std.specs.Prelude.{◌≡◌, ◌≢◌, ℕ, ◌+◌, true, false, List, [], ◌∷◌, ◌++◌, length, IsTrue}
-use Rattle.ssh_wire.specs.declared.error.WireCause.{WireCause}
-use Rattle.ssh_wire.specs.declared.error.WireCause.TheVariants.{Short, MpintNotMinimal, MpintNegative, Value}
+use Rattle.ssh_wire.specs.declared.cursor.WireCause.{WireCause}
+use Rattle.ssh_wire.specs.declared.cursor.WireCause.TheVariants.{Short, MpintNotMinimal, MpintNegative, Value}
 use Rattle.ssh_wire.specs.Spelling.{is_least, is_not_negative}
 use Rattle.ssh_wire.specs.Stands.{Stands, NoString, BeginsString}
-use Rattle.ssh_keys.specs.declared.curve.Curve.{Curve}
-use Rattle.ssh_keys.specs.declared.curve.Curve.TheVariants.{Nistp256, Nistp384, Nistp521}
-use Rattle.ssh_keys.specs.declared.error.KeyError.{KeyError}
-use Rattle.ssh_keys.specs.declared.error.KeyError.TheVariants as errors
+use Rattle.ssh_keys.specs.declared.kind.Curve.{Curve}
+use Rattle.ssh_keys.specs.declared.kind.Curve.TheVariants.{Nistp256, Nistp384, Nistp521}
+use Rattle.ssh_keys.specs.declared.key.KeyError.{KeyError}
+use Rattle.ssh_keys.specs.declared.key.KeyError.TheVariants as errors
 use Rattle.ssh_keys.specs.declared.kind.KeyKind.{KeyKind}
 use Rattle.ssh_keys.specs.declared.kind.KeyKind.TheVariants.{Rsa, P256, P384, P521, Ed25519, SkP256, SkEd25519}
 use Rattle.ssh_keys.specs.Curves.{curve_name_of, point_len_of}
 use Rattle.ssh_keys.specs.PublicKey.{PublicKey, kind_of, fields_of, is_point, is_in_range}
 
--- a sort of field: a number above zero, the name of a curve, a point of it, a public key of 32 bytes, any string
+-- the type of a field: a number above zero, the name of a curve, a point of it, a public key of 32 bytes, any string
 pub data KeyFieldSort : Type 0 where
   number : KeyFieldSort
   curve : Curve → KeyFieldSort
@@ -21,8 +21,7 @@ pub data KeyFieldSort : Type 0 where
   public : KeyFieldSort
   text : KeyFieldSort
 
--- the row of fields after the type name (RFC 4253 section 6.6, RFC 5656 section 3.1, RFC 8709 section 4,
--- PROTOCOL.u2f)
+-- the types of the fields after the type name (RFC 4253 section 6.6, RFC 5656 section 3.1, RFC 8709 section 4, PROTOCOL.u2f)
 abbrev pub sorts_of : KeyKind → List KeyFieldSort
 sorts_of Rsa = number ∷ number ∷ []
 sorts_of P256 = curve Nistp256 ∷ point Nistp256 ∷ []
@@ -32,8 +31,7 @@ sorts_of Ed25519 = public ∷ []
 sorts_of SkP256 = curve Nistp256 ∷ point Nistp256 ∷ text ∷ []
 sorts_of SkEd25519 = public ∷ text ∷ []
 
--- Why no value can be taken from the rest: no string begins there; a number has a byte that can be left out;
--- it has none, and is below zero; it is zero.
+-- Why no value can be read from the rest: it does not begin with a string; a number has a byte that can be left out; it has none, and is below zero; it is zero.
 abbrev pub IsUnread : WireCause → KeyFieldSort → List ℕ → Type 0
 IsUnread Short sort rest = NoString rest
 IsUnread MpintNotMinimal number rest = BeginsString (λ bytes. is_least bytes ≡ false) rest
@@ -41,8 +39,7 @@ IsUnread MpintNegative number rest = BeginsString (λ bytes. (is_least bytes ≡
 IsUnread Value number rest = BeginsString (λ bytes. bytes ≡ []) rest
 IsUnread cause sort rest = ⊥
 
--- What is wrong with a field of this sort: it is unread, at this place; it is another curve's name; it is no
--- point of that curve's length; it has not 32 bytes.
+-- The error of a field of this type: it cannot be read, at this place; it is another curve's name; it is not a point of that curve's length; it does not have 32 bytes.
 abbrev pub IsWrong : KeyError → KeyFieldSort → List ℕ → ℕ → Type 0
 IsWrong (errors.Wire e) sort rest place = (e.place ≡ place) × IsUnread e.cause sort rest
 IsWrong errors.Curve (curve c) rest place = BeginsString (λ name. name ≢ curve_name_of c) rest
@@ -55,8 +52,7 @@ pub record IsOfKind (kind : KeyKind) (key : PublicKey) : Type 0 where
   pub of : kind_of key ≡ kind
   pub in_range : IsTrue (is_in_range key)
 
--- The fields before one stand, as those of a key of this kind, and this one is wrong. (So many bytes stand
--- before the first of them.)
+-- The fields before one are complete, as those of a key of this kind, and this one is wrong. (`offset` bytes come before the first of them.)
 pub record IsFieldFault (kind : KeyKind) (offset : ℕ) (bytes : List ℕ) (e : KeyError) : Type 0 where
   pub before : List KeyFieldSort
   pub sort : KeyFieldSort

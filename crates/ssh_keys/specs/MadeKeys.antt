@@ -1,17 +1,16 @@
--- A key of each kind. Those of five kinds were made by `ssh-keygen` of OpenSSH 9.2, each as it stands in its
--- file. Security keys are laid out as PROTOCOL.u2f says, with the same points; `ssh-keygen -l` reads them.
+-- Worked examples: a key of each kind. `ssh-keygen` of OpenSSH 9.2 made those of five kinds, each as it is in its file. Security keys are laid out as in PROTOCOL.u2f, with the same points; `ssh-keygen -l` reads them.
 use Rattle.std.specs.Prelude.{◌≡◌, ℕ, ◌+◌, List, [], ◌∷◌, ◌++◌, length, take, drop, codes, replicate, Ok, Err}
 use Rattle.std.specs.Result.{result_unwrap_or}
 use Rattle.base64.specs.Engines.{standard}
 use Rattle.base64.specs.GeneralPurpose.{decode_of}
-use Rattle.ssh_wire.specs.declared.error.WireCause.{WireCause}
-use Rattle.ssh_wire.specs.declared.error.WireCause.TheVariants.{Short, MpintNotMinimal, MpintNegative, Value}
-use Rattle.ssh_keys.specs.declared.error.KeyError.{KeyError}
-use Rattle.ssh_keys.specs.declared.error.KeyError.TheVariants as errors
+use Rattle.ssh_wire.specs.declared.cursor.WireCause.{WireCause}
+use Rattle.ssh_wire.specs.declared.cursor.WireCause.TheVariants.{Short, MpintNotMinimal, MpintNegative, Value}
+use Rattle.ssh_keys.specs.declared.key.KeyError.{KeyError}
+use Rattle.ssh_keys.specs.declared.key.KeyError.TheVariants as errors
 use Rattle.ssh_keys.specs.PublicKey.{PublicKey, rsa, p256, p384, p521, ed25519, sk_p256, sk_ed25519, key_blob}
 use Rattle.ssh_keys.specs.KeyReading.{key_in}
 
--- the bytes that a text in base64 stands for
+-- the bytes of a text in base64
 abbrev pub decoded : List ℕ → List ℕ
 decoded text = result_unwrap_or (decode_of standard text) []
 
@@ -61,7 +60,7 @@ MadeKeysRead = Is rsa_blob (rsa 65537 0xc22659f30b19b6956df0d295542dd09adb36449a
     × Is sk_ed25519_blob (sk_ed25519 (drop 19 ed25519_blob) (codes "ssh:"))
     × (length p256_blob ≡ 39 + 65) × (length p384_blob ≡ 39 + 97) × (length p521_blob ≡ 39 + 133)
 
--- ---- the first fault of bytes that are nearly a key
+-- ---- the first error of bytes that are almost a key
 
 abbrev Fails : List ℕ → KeyError → Type 0
 Fails bytes e = key_in bytes ≡ Err e
@@ -77,9 +76,7 @@ curve name = 0 ∷ 0 ∷ 0 ∷ 8 ∷ name
 abbrev rsa_of : List ℕ → List ℕ → List ℕ
 rsa_of e n = take 11 rsa_blob ++ 0 ∷ 0 ∷ 0 ∷ length e ∷ (e ++ 0 ∷ 0 ∷ 0 ∷ length n ∷ n)
 
--- Another kind's curve, and no curve's name; the curve before the point. A point of another curve, of a
--- coordinate one byte less, compressed; the point before the application. Public keys of 31 and of 33 bytes;
--- the length before the application.
+-- Another kind's curve, and a name that is not a curve's; the curve before the point. A point of another curve, of a coordinate one byte shorter, compressed; the point before the application. Public keys of 31 and of 33 bytes; the length before the application.
 abbrev pub CurvesRefused : Type 0
 CurvesRefused = Fails (take 23 p256_blob ++ curve (codes "nistp384") ++ drop 35 p256_blob) errors.Curve
     × Fails (take 23 p384_blob ++ curve (codes "nistp999") ++ drop 35 p384_blob) errors.Curve
@@ -103,7 +100,7 @@ NumbersRefused = FailsAt (rsa_of (0xff ∷ 0x80 ∷ []) (5 ∷ [])) 11 MpintNotM
     × FailsAt (rsa_of [] (0 ∷ 5 ∷ [])) 11 Value
     × FailsAt (rsa_of (3 ∷ []) []) 16 Value
 
--- what was cut off at the end
+-- keys that were cut off at the end
 abbrev pub CutsRefused : Type 0
 CutsRefused = FailsAt (take 150 rsa_blob) 18 Short
     × FailsAt (take 34 p256_blob) 23 Short

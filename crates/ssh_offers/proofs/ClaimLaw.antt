@@ -1,30 +1,11 @@
 -- A claim is read exactly where the blobs spell it.
-use Rattle.std.proofs.Common.{◌≡◌, ◌∙◌, ◌++◌, ◌<◌, ◌^◌, ℕ, Bool, true, false, List, [], ◌∷◌, Result, Ok, Err, length, ap, refl, arith}
-use Rattle.std.specs.List.{concat}
-use Rattle.std.proofs.lemmas.Slice.Eq.{bytes_eq-Decides}
-use Rattle.ssh_wire.specs.declared.error.WireError.{WireError}
-use Rattle.ssh_wire.specs.Laws.{string_again}
-use Rattle.ssh_wire.specs.Spelling.{string}
-use Rattle.ssh_keys.specs.declared.error.KeyError.{KeyError}
-use Rattle.ssh_keys.specs.declared.kind.KeyKind.{KeyKind}
-use Rattle.ssh_keys.specs.declared.kind.KeyKind.TheVariants.{Rsa, P256, P384, P521, Ed25519, SkP256, SkEd25519}
-use Rattle.ssh_keys.specs.KeyReading.{key_in}
-use Rattle.ssh_keys.specs.Names.{certificate_kind, certificate_name_of, class_of, key_name_of, plain_kind}
-use Rattle.ssh_keys.specs.PublicKey.{IsKeyBlob, PublicKey, fields_of, key_blob, kind_of}
-use Rattle.ssh_keys.specs.Signature.{IsSignatureBlob, Signature, fit_of, signature_blob, signature_in}
-use Rattle.ssh_keys.proofs.KeyLaws.{key_only, key_refused}
-use Rattle.ssh_keys.proofs.SignatureLaws.{signature_only, signature_refused}
-use Rattle.ssh_certs.specs.declared.error.CertError.{CertError}
-use Rattle.ssh_certs.specs.Certificate.{Certificate, IsCertificateBlob, certificate_blob, rest_row}
-use Rattle.ssh_certs.specs.CertificateReading.{certificate_in}
-use Rattle.ssh_certs.proofs.CertificateLaws.{certificate_only, certificate_refused}
-use Rattle.ssh_patterns.proofs.AddressLaw.{address-read}
-use Rattle.ssh_offers.specs.Algorithms.{fit_test, pairing_test, signer_test}
-use Rattle.ssh_offers.specs.FirstRefusal.{IsHostClaim, IsLoginClaim, IsNamedCertificate, IsOfferBlob, SignerServes, kind_offered}
-use Rattle.ssh_offers.specs.HostClaim.{HostClaim, fitting_test, host_claim}
-use Rattle.ssh_offers.specs.LoginClaim.{LoginClaim, address_test, login_claim}
-use Rattle.ssh_offers.specs.Offer.{Offer, certified, is_certificate_blob, is_certificate_class, is_certificate_name, offer_in, plain}
-use Rattle.ssh_offers.specs.Query.{HostCheck, Login}
+use Rattle.ssh_offers.proofs.Imports.{◌≡◌, ◌∙◌, ◌++◌, ◌<◌, ◌^◌, ℕ, Bool, true, false, List, [], ◌∷◌, Result, Ok, Err, length, ap, refl, arith, concat, bytes_eq-Decides, WireError, string_again, string, KeyError, KeyKind, Rsa, P256, P384, P521, Ed25519, SkP256, SkEd25519, key_in, certificate_name_of, class_of, key_name_of, IsKeyBlob, PublicKey, fields_of, kind_of, IsSignatureBlob, Signature, fit_of, signature_blob, signature_in, key_only, key_refused, signature_only, signature_refused, CertError, Certificate, IsCertificateBlob, rest_row, certificate_in, certificate_only, certificate_refused, address-read, fit_test, pairing_test, signer_test, IsHostClaim, IsLoginClaim, IsNamedCertificate, IsOfferBlob, SignerServes, kind_offered, HostClaim, fitting_test, LoginClaim, address_test, Offer, certified, is_certificate_class, is_certificate_name, plain, HostCheck, Login}
+use Rattle.ssh_keys.specs.Names.{certificate_kind, plain_kind}
+use Rattle.ssh_keys.specs.PublicKey.{key_blob}
+use Rattle.ssh_certs.specs.Certificate.{certificate_blob}
+use Rattle.ssh_offers.specs.HostClaim.{host_claim}
+use Rattle.ssh_offers.specs.LoginClaim.{login_claim}
+use Rattle.ssh_offers.specs.Offer.{is_certificate_blob, offer_in}
 use Rattle.ssh_offers.proofs.NamedLemmas.{named-certificate}
 
 -- ---- the blobs

@@ -1,35 +1,9 @@
 -- The claim that is read of an offer of bytes is the one that its blobs spell.
-use Rattle.std.proofs.Common.{◌≡◌, ◌∙◌, ◌<◌, [], ◌∷◌, cond, ℕ, zero, suc, Bool, true, false, List, Option, Some, None, Result, Ok, Err, ap, subst, sym, refl, arith}
-use Rattle.std.specs.Str.{bytes_eq}
-use Rattle.std.proofs.lemmas.Slice.Eq.{bytes_eq-Decides}
-use Rattle.ssh_wire.specs.Fronts.{IsBytes}
-use Rattle.ssh_wire.specs.Reading.{◌>>=◌}
-use Rattle.ssh_wire.specs.Laws.{bind_ok, ok_is}
-use Rattle.ssh_keys.specs.declared.error.KeyError.{KeyError}
-use Rattle.ssh_keys.specs.declared.signature.Fit.{Fit}
-use Rattle.ssh_keys.specs.declared.signature.Fit.TheVariants.{Yes, Weak, No}
-use Rattle.ssh_keys.specs.KeyReading.{key_in}
-use Rattle.ssh_keys.specs.PublicKey.{PublicKey, kind_of}
-use Rattle.ssh_keys.specs.Signature.{Signature, fit_of, signature_in}
-use Rattle.ssh_keys.proofs.KeyLaws.{key_takes}
-use Rattle.ssh_keys.proofs.SignatureLaws.{signature_takes}
-use Rattle.ssh_certs.specs.declared.error.CertError.{CertError}
-use Rattle.ssh_certs.specs.Certificate.{Certificate}
-use Rattle.ssh_certs.specs.CertificateReading.{certificate_in}
-use Rattle.ssh_certs.proofs.CertificateLaws.{certificate_takes}
-use Rattle.ssh_patterns.specs.declared.address.Address.{Address}
-use Rattle.ssh_patterns.specs.AddressReading.{address_of}
-use Rattle.ssh_patterns.specs.AddressText.{IsAddressText}
-use Rattle.ssh_patterns.proofs.AddressLaw.{address-some}
-use Rattle.ssh_offers.specs.declared.error.AuditError.{AuditError}
-use Rattle.ssh_offers.specs.declared.error.AuditError.TheVariants.{Offer as BadOffer, Signature as BadSignature}
-use Rattle.ssh_offers.specs.Algorithms.{fit_test, pairing_test, signer_test, wanted_algorithm}
-use Rattle.ssh_offers.specs.FirstRefusal.{AreBytes, AreRead, IsHostClaim, IsLoginClaim, IsOfferBlob, SignerServes, kind_offered}
-use Rattle.ssh_offers.specs.HostClaim.{HostClaim, fitting_test, host_claim}
-use Rattle.ssh_offers.specs.LoginClaim.{LoginClaim, address_test, login_claim}
-use Rattle.ssh_offers.specs.Offer.{Offer, as_certified, as_plain, certified, is_certificate_blob, is_certified, offer_in, plain, plain_key}
-use Rattle.ssh_offers.specs.Query.{HostCheck, Login}
-use Rattle.ssh_offers.specs.Refusal.{or_refuse}
+use Rattle.ssh_offers.proofs.Imports.{◌≡◌, ◌∙◌, ◌<◌, [], ◌∷◌, cond, ℕ, zero, suc, Bool, true, false, List, Option, Some, None, Result, Ok, Err, ap, subst, sym, refl, arith, bytes_eq, bytes_eq-Decides, IsBytes, ◌>>=◌, bind_ok, ok_is, KeyError, Fit, Yes, Weak, No, key_in, PublicKey, kind_of, Signature, fit_of, signature_in, key_takes, signature_takes, CertError, Certificate, certificate_in, certificate_takes, Address, address_of, IsAddressText, address-some, AuditError, fit_test, pairing_test, signer_test, wanted_algorithm, AreBytes, AreRead, IsHostClaim, IsLoginClaim, IsOfferBlob, SignerServes, kind_offered, HostClaim, fitting_test, LoginClaim, address_test, Offer, as_certified, as_plain, certified, is_certified, plain, plain_key, HostCheck, Login, or_refuse}
+use Rattle.ssh_offers.specs.declared.claim.AuditError.TheVariants.{Offer as BadOffer, Signature as BadSignature}
+use Rattle.ssh_offers.specs.HostClaim.{host_claim}
+use Rattle.ssh_offers.specs.LoginClaim.{login_claim}
+use Rattle.ssh_offers.specs.Offer.{is_certificate_blob, offer_in}
 
 get_bytes : (text : List ℕ) → AreBytes text → IsBytes text
 get_bytes [] h i = omega arith

@@ -1,3 +1,4 @@
+pub mod Imports
 pub mod NamedLemmas
 pub mod VouchingLemmas
 pub mod ClaimLaw

@@ -1,20 +1,7 @@
 -- A blob is read as a certificate exactly where a certificate's type string begins it.
-use Rattle.std.proofs.Common.{◌≡◌, ◌∙◌, ◌++◌, ◌<◌, ◌^◌, ℕ, Bool, true, false, List, Option, Some, None, Ok, Err, length, ap, sym, arith, refl}
-use Rattle.std.specs.Prelude.{codes}
-use Rattle.std.specs.Str.{bytes_eq}
-use Rattle.std.proofs.lemmas.Slice.Eq.{bytes_eq-Decides}
-use Rattle.ssh_wire.specs.Position.{start}
-use Rattle.ssh_wire.specs.Reading.{Read, string_at}
-use Rattle.ssh_wire.specs.Fronts.{IsBytes}
-use Rattle.ssh_wire.specs.Laws.{string_again, string_takes}
-use Rattle.ssh_wire.specs.Spelling.{string}
-use Rattle.ssh_keys.specs.declared.kind.KeyKind.{KeyKind}
-use Rattle.ssh_keys.specs.declared.kind.KeyKind.TheVariants.{Rsa, P256, P384, P521, Ed25519, SkP256, SkEd25519}
-use Rattle.ssh_keys.specs.FirstFault.{IsCertificateName}
-use Rattle.ssh_keys.specs.Names.{certificate_kind, certificate_name_of, class_by, class_of, kinds, plain_kind}
-use Rattle.ssh_keys.proofs.KeyLaws.{find_some}
-use Rattle.ssh_offers.specs.FirstRefusal.{IsNamedCertificate}
-use Rattle.ssh_offers.specs.Offer.{is_certificate_blob, is_certificate_class, is_certificate_name}
+use Rattle.ssh_offers.proofs.Imports.{◌≡◌, ◌∙◌, ◌++◌, ◌<◌, ◌^◌, ℕ, Bool, true, false, List, Option, Some, None, Ok, Err, length, ap, sym, arith, refl, codes, bytes_eq, bytes_eq-Decides, start, Read, string_at, IsBytes, string_again, string_takes, string, KeyKind, Rsa, P256, P384, P521, Ed25519, SkP256, SkEd25519, IsCertificateName, certificate_name_of, class_by, class_of, kinds, find_some, IsNamedCertificate, is_certificate_class, is_certificate_name}
+use Rattle.ssh_keys.specs.Names.{certificate_kind, plain_kind}
+use Rattle.ssh_offers.specs.Offer.{is_certificate_blob}
 
 -- ---- a name whose class is a certificate's is one of theirs
 

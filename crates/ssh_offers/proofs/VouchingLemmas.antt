@@ -1,11 +1,5 @@
 -- All evidence is vouched for exactly where no index lacks it.
-use Rattle.std.proofs.Common.{◌≡◌, ◌∙◌, ◌+◌, ◌&&◌, ◌||◌, ◌≤◌, not, cond, ℕ, suc, Bool, true, false, List, [], ◌∷◌, length, Some, None, ap, refl, arith, inl, inr}
-use Rattle.std.specs.List.{position_or_len}
-use Rattle.std.specs.Str.{bytes_eq}
-use Rattle.std.proofs.lemmas.Bool.{cases_Bool, ltb-false, le-ltb}
-use Rattle.std.proofs.lemmas.Slice.Eq.{bytes_eq-Decides}
-use Rattle.ssh_offers.specs.declared.query.Signed.{Signed}
-use Rattle.ssh_offers.specs.Vouching.{Has, AllVouched, is_same, is_vouched, first_unvouched}
+use Rattle.ssh_offers.proofs.Imports.{◌≡◌, ◌∙◌, ◌+◌, ◌&&◌, ◌||◌, ◌≤◌, not, cond, ℕ, suc, Bool, true, false, List, [], ◌∷◌, length, Some, None, ap, refl, arith, inl, inr, position_or_len, bytes_eq, cases_Bool, ltb-false, le-ltb, bytes_eq-Decides, Signed, Has, AllVouched, is_same, is_vouched, first_unvouched}
 
 signed : List ℕ → List ℕ → List ℕ → Signed
 signed k m s = record { key = k; message = m; signature = s }

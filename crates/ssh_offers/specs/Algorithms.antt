@@ -9,16 +9,16 @@ use Rattle.ssh_keys.specs.declared.signature.Fit.TheVariants.{Yes, Weak, No}
 use Rattle.ssh_keys.specs.Names.{key_name_of, certificate_name_of}
 use Rattle.ssh_keys.specs.PublicKey.{kind_of}
 use Rattle.ssh_keys.specs.Signature.{fit_of}
-use Rattle.ssh_offers.specs.declared.error.AuditError.{AuditError}
-use Rattle.ssh_offers.specs.declared.error.AuditError.TheVariants.{WrongAlgorithm, WeakSignature, CertSignature}
+use Rattle.ssh_offers.specs.declared.claim.AuditError.{AuditError}
+use Rattle.ssh_offers.specs.declared.claim.AuditError.TheVariants.{WrongAlgorithm, WeakSignature, CertSignature}
 use Rattle.ssh_offers.specs.Offer.{Offer, plain, certified}
 
--- the type name of what is offered
+-- the type name of a certificate or a plain key
 abbrev pub type_name : Bool → KeyKind → List ℕ
 type_name false kind = key_name_of kind
 type_name true kind = certificate_name_of kind
 
--- RSA's two names that are good, by the hash; those of certificates have an ending
+-- RSA's two accepted names, by the hash; those of certificates have a suffix
 abbrev pub rsa_sha256_name : Bool → List ℕ
 rsa_sha256_name false = codes "rsa-sha2-256"
 rsa_sha256_name true = codes "rsa-sha2-256-cert-v01@openssh.com"
@@ -39,7 +39,7 @@ wanted_algorithm Rsa cert name =
     else if is_weak_name name then Err WeakSignature else Err WrongAlgorithm
 wanted_algorithm kind cert name = if bytes_eq name (type_name cert kind) then Ok (key_name_of kind) else Err WrongAlgorithm
 
--- why a signature of an algorithm that was not asked for is refused
+-- the refusal of a signature that does not have the algorithm that was asked for
 abbrev pub other_algorithm : KeyKind → List ℕ → AuditError
 other_algorithm Rsa algorithm = if bytes_eq algorithm (key_name_of Rsa) then WeakSignature else WrongAlgorithm
 other_algorithm kind algorithm = WrongAlgorithm
@@ -53,7 +53,7 @@ fit_test Yes = Ok tt
 fit_test Weak = Err CertSignature
 fit_test No = Err CertSignature
 
--- a certificate's own signature fits the key that signed it
+-- the algorithm of a certificate's own signature fits its signer
 abbrev pub signer_test : Offer → Result (Unit {0}) AuditError
 signer_test (plain key) = Ok tt
 signer_test (certified c) = fit_test (fit_of (kind_of c.signer) c.signature.algorithm)

@@ -1,7 +1,7 @@
--- What claims in memory stand for.
+-- The values of claims that are read in place.
 use Rattle.ssh_keys.specs.Signature.{signature_of}
-use Rattle.ssh_offers.specs.declared.host_claim.HostClaimView.{HostClaimView}
-use Rattle.ssh_offers.specs.declared.login_claim.LoginClaimView.{LoginClaimView}
+use Rattle.ssh_offers.specs.declared.claim.HostClaimView.{HostClaimView}
+use Rattle.ssh_offers.specs.declared.claim.LoginClaimView.{LoginClaimView}
 use Rattle.ssh_offers.specs.Query.{host_check_of, login_of}
 use Rattle.ssh_offers.specs.HostClaim.{HostClaim}
 use Rattle.ssh_offers.specs.LoginClaim.{LoginClaim}

@@ -1,12 +1,12 @@
--- A host's key whose offer and signature were read.
+-- The claim of a host's key: an offer and a signature that were read and fit together.
 use Rattle.std.specs.Prelude.{Result, Ok, Err}
 use Rattle.ssh_wire.specs.Reading.{◌>>=◌}
 use Rattle.ssh_keys.specs.declared.signature.Fit.{Fit}
 use Rattle.ssh_keys.specs.declared.signature.Fit.TheVariants.{Yes, Weak, No}
 use Rattle.ssh_keys.specs.PublicKey.{kind_of}
 use Rattle.ssh_keys.specs.Signature.{fit_of, signature_in}
-use Rattle.ssh_offers.specs.declared.error.AuditError.{AuditError}
-use Rattle.ssh_offers.specs.declared.error.AuditError.TheVariants.{Offer as BadOffer, Signature, WeakSignature, WrongAlgorithm}
+use Rattle.ssh_offers.specs.declared.claim.AuditError.{AuditError}
+use Rattle.ssh_offers.specs.declared.claim.AuditError.TheVariants.{Offer as BadOffer, Signature, WeakSignature, WrongAlgorithm}
 use Rattle.ssh_offers.specs.Query.{HostCheck}
 use Rattle.ssh_offers.specs.Offer.{Offer, offer_in, plain_key}
 use Rattle.ssh_offers.specs.Algorithms.{signer_test}
@@ -16,7 +16,7 @@ pub record HostClaim : Type 0 where
   pub query : HostCheck
   pub offer : Offer
 
--- whether a signature's algorithm serves the key that made it: RSA with SHA-1 is weak (RFC 8332)
+-- whether a signature's algorithm fits the key that made it: RSA with SHA-1 is weak (RFC 8332)
 abbrev pub fitting_test : Fit → Result (Unit {0}) AuditError
 fitting_test Yes = Ok tt
 fitting_test Weak = Err WeakSignature

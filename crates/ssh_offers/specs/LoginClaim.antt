@@ -1,12 +1,12 @@
--- A login whose offer, signature and address were read.
+-- The claim of a login: an offer, a signature and an address that were read and fit together.
 use Rattle.std.specs.Prelude.{Option, Some, None, Result, Ok, Err}
 use Rattle.ssh_wire.specs.Reading.{◌>>=◌}
 use Rattle.ssh_keys.specs.PublicKey.{kind_of}
 use Rattle.ssh_keys.specs.Signature.{Signature as SignatureValue, signature_in}
 use Rattle.ssh_patterns.specs.declared.address.Address.{Address as AddressValue}
 use Rattle.ssh_patterns.specs.AddressReading.{address_of}
-use Rattle.ssh_offers.specs.declared.error.AuditError.{AuditError}
-use Rattle.ssh_offers.specs.declared.error.AuditError.TheVariants.{Offer as BadOffer, Signature, Address}
+use Rattle.ssh_offers.specs.declared.claim.AuditError.{AuditError}
+use Rattle.ssh_offers.specs.declared.claim.AuditError.TheVariants.{Offer as BadOffer, Signature, Address}
 use Rattle.ssh_offers.specs.Query.{Login}
 use Rattle.ssh_offers.specs.Offer.{Offer, is_certified, offer_in, plain_key}
 use Rattle.ssh_offers.specs.Refusal.{or_refuse}

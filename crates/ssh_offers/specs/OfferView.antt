@@ -1,4 +1,4 @@
--- The offer that a view stands for.
+-- The value of an offer that is read in place.
 use Rattle.ssh_keys.specs.KeyOf.{key_of}
 use Rattle.ssh_certs.specs.CertificateOf.{certificate_of}
 use Rattle.ssh_offers.specs.declared.offer.Offer as view

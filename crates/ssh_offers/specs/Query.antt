@@ -1,10 +1,10 @@
--- What a login and a host's key ask, without where their texts lie in memory.
+-- The values of the queries about a login and a host's key, wherever their texts are in memory.
 use Rattle.std.specs.Prelude.{ℕ, List, Option, option_copied}
 use Rattle.jiff.specs.Types.{TimeZone}
 use Rattle.jiff.specs.Words.{plain_zone}
-use Rattle.ssh_offers.specs.declared.query.EmptyPrincipals.{EmptyPrincipals}
-use Rattle.ssh_offers.specs.declared.query.HostQuery.{HostQuery}
-use Rattle.ssh_offers.specs.declared.query.LoginQuery.{LoginQuery}
+use Rattle.ssh_offers.specs.declared.claim.EmptyPrincipals.{EmptyPrincipals}
+use Rattle.ssh_offers.specs.declared.claim.HostQuery.{HostQuery}
+use Rattle.ssh_offers.specs.declared.claim.LoginQuery.{LoginQuery}
 
 pub record Login : Type 0 where
   -- the blob of a plain key or of a certificate, and that of the signature over the login bytes (RFC 4252 section 7)
@@ -14,16 +14,16 @@ pub record Login : Type 0 where
   pub algorithm : List ℕ
   pub session : List ℕ
   pub user : List ℕ
-  -- the client: its host name, where one is known, and the text of its address
+  -- the client: its host name, if known, and the text of its address
   pub host : Option (List ℕ)
   pub address : List ℕ
   -- seconds since 1970-01-01 in UTC
   pub now : ℕ
-  -- that of expiry times which name none
+  -- the time zone of expiry times that name none
   pub zone : TimeZone
   -- whether a certificate without principals is for all or for none
   pub empty_principals : EmptyPrincipals
-  -- how many bits the number n of an RSA key has at least
+  -- the fewest bits of the modulus of an RSA key
   pub rsa_minimum : ℕ
 
 pub record HostCheck : Type 0 where
@@ -34,7 +34,7 @@ pub record HostCheck : Type 0 where
   -- the host as the client names it, and its port
   pub host : List ℕ
   pub port : ℕ
-  -- as of a login
+  -- as for a login
   pub now : ℕ
   pub empty_principals : EmptyPrincipals
   pub rsa_minimum : ℕ

@@ -7,16 +7,17 @@ use Rattle.ssh_keys.specs.declared.kind.KeyKind.TheVariants.{Rsa, P256, P384, P5
 use Rattle.ssh_keys.specs.PublicKey.{PublicKey, ed25519, p256, p384, p521, rsa, sk_ed25519, sk_p256}
 use Rattle.ssh_keys.specs.Signature.{fit_of}
 use Rattle.ssh_certs.specs.Certificate.{Certificate}
-use Rattle.ssh_offers.specs.declared.error.AuditError.{AuditError}
-use Rattle.ssh_offers.specs.declared.error.AuditError.TheVariants.{CertSignature, WeakSignature, WrongAlgorithm}
+use Rattle.ssh_offers.specs.declared.claim.AuditError.{AuditError}
+use Rattle.ssh_offers.specs.declared.claim.AuditError.TheVariants.{CertSignature, WeakSignature, WrongAlgorithm}
 use Rattle.ssh_offers.specs.Algorithms.{pairing_test, signer_test, wanted_algorithm}
-use Rattle.ssh_offers.specs.declared.query.EmptyPrincipals.TheVariants.{Any}
+use Rattle.ssh_offers.specs.declared.claim.EmptyPrincipals.TheVariants.{Any}
 use Rattle.ssh_offers.specs.Evidence.{login_bytes}
 use Rattle.ssh_offers.specs.HostClaim.{fitting_test}
 use Rattle.ssh_offers.specs.Offer.{certified, plain}
 use Rattle.ssh_offers.specs.Query.{Login}
 
--- the name asks a plain key of this kind for a signature of this algorithm; it asks a certificate for one; it is refused
+-- The name asks a plain key of this kind for a signature of this algorithm; it asks a certificate for one; it is
+-- refused.
 abbrev Asks : KeyKind → List ℕ → List ℕ → Type 0
 Asks kind name algorithm = wanted_algorithm kind false name ≡ Ok algorithm
 
@@ -63,7 +64,7 @@ WeakNames =
     × Refused Ed25519 (codes "ssh-rsa") WrongAlgorithm
     × RefusedCertified P256 (codes "ssh-rsa-cert-v01@openssh.com") WrongAlgorithm
 
--- a certificate's name of a plain key, and a plain key's of a certificate
+-- a certificate's name with a plain key, and a plain key's name with a certificate
 abbrev pub NamesOfTheOther : Type 0
 NamesOfTheOther =
     Refused Rsa (codes "rsa-sha2-256-cert-v01@openssh.com") WrongAlgorithm
@@ -124,7 +125,7 @@ SignaturesAsPaired =
     × PairedErr Ed25519 (codes "ssh-ed25519") (codes "sk-ssh-ed25519@openssh.com") WrongAlgorithm
     × PairedErr P256 (codes "ecdsa-sha2-nistp256") (codes "ecdsa-sha2-nistp384") WrongAlgorithm
 
--- a host's key or a file signature of a key of this kind: signed by this algorithm
+-- a host's key or a file signature of a key of this kind, signed by this algorithm
 abbrev FitsOk : KeyKind → List ℕ → Type 0
 FitsOk kind algorithm = fitting_test (fit_of kind algorithm) ≡ Ok tt
 
@@ -184,7 +185,7 @@ SignedErr signer algorithm = signer_test (certified (certificate_by signer algor
 abbrev point : ℕ → List ℕ
 point len = 4 ∷ replicate len 9
 
--- what signs a certificate: a key of each kind, by its algorithm; RSA with SHA-1 and others do not
+-- the signature of a certificate by a key of each kind, with its algorithm; RSA with SHA-1 and others do not fit
 abbrev pub SignersOfCertificates : Type 0
 SignersOfCertificates =
     SignedOk (rsa 65537 128) (codes "rsa-sha2-256")
@@ -238,7 +239,7 @@ signed_bytes =
     ∷ 0 ∷ 0 ∷ 0 ∷ 14 ∷ (codes "ssh-connection" ++ 0 ∷ 0 ∷ 0 ∷ 9 ∷ (codes "publickey" ++ 1
     ∷ 0 ∷ 0 ∷ 0 ∷ 11 ∷ (codes "ssh-ed25519" ++ 0 ∷ 0 ∷ 0 ∷ 51 ∷ sample_key_blob)))
 
--- They are the same whatever the signature, the host, the address, the moment and the zone.
+-- They do not depend on the signature, the host, the address, the moment and the zone.
 abbrev pub LoginBytesSpelled : Type 0
 LoginBytesSpelled =
     (length signed_bytes ≡ 118)

@@ -2,14 +2,14 @@
 use Rattle.std.specs.Prelude.{◌≡◌, ◌⊎◌, ◌&&◌, not, ℕ, Bool, List, [], ◌∷◌, Option}
 use Rattle.std.specs.List.{list_any, position}
 use Rattle.std.specs.Str.{bytes_eq}
-use Rattle.ssh_offers.specs.declared.query.Signed.{Signed}
+use Rattle.ssh_offers.specs.declared.claim.Signed.{Signed}
 
--- an equal one is among them
+-- an equal signature is in the list
 abbrev pub Has : List Signed → Signed → Type 0
 Has [] s = ⊥
 Has (v ∷ vouched) s = (v ≡ s) ⊎ Has vouched s
 
--- each signature of the evidence is among those vouched for
+-- each signature of the evidence is in the list of vouched ones
 abbrev pub AllVouched : List Signed → List Signed → Type 0
 AllVouched vouched [] = Unit {0}
 AllVouched vouched (s ∷ evidence) = Has vouched s × AllVouched vouched evidence

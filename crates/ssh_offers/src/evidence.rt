@@ -1,36 +1,106 @@
-//! What a decision rests on, and which of it is vouched for.
+//! The evidence: the signatures that a decision depends on, and which of them are vouched for.
 
-ghost use Rattle.std.specs.Prelude.{◌≡◌, ◌∷◌, ◌<◌, ◌^◌, length, not, IfOk};
+ghost use Rattle.std.specs.Prelude.{◌≡◌, ◌↔◌, [], ◌++◌, ◌∷◌, length, IsTrue, OnErr, OnOk, ◌<◌, ◌^◌, not, IfOk};
 ghost use Rattle.std.specs.List.{position};
 ghost use Rattle.ssh_keys.specs.PublicKey.{key_blob};
 ghost use Rattle.ssh_certs.specs.CertificateOf.{certificate_of};
 ghost use Rattle.ssh_offers.specs.Query.{login_of};
 ghost use Rattle.ssh_offers.specs.Offer.{plain_key};
 ghost use Rattle.ssh_offers.specs.OfferView.{offer_of};
-ghost use Rattle.ssh_offers.specs.Evidence.{
-  certificate_signed,
-  host_evidence,
-  host_signed,
-  login_bytes,
-  login_evidence,
-  login_signed,
-  signer_evidence,
-};
+ghost use Rattle.ssh_offers.specs.Evidence.{certificate_signed, host_evidence, host_signed, login_bytes, login_evidence, login_signed, signer_evidence};
 ghost use Rattle.ssh_offers.specs.ClaimViews.{claim_of, host_claim_of};
 ghost use Rattle.ssh_offers.specs.Vouching.{is_same, is_vouched, first_unvouched};
+ghost use Rattle.ssh_offers.specs.FileSignature.{file_signed, sshsig_evidence};
+ghost use Rattle.ssh_offers.specs.FileSignatureView.{sshsig_claim_of};
 
-use crate::host_claim::HostClaimView;
-use crate::items::Items;
-use crate::login_claim::LoginClaimView;
+use crate::claim::{HostClaimView, LoginClaimView, LoginQuery, Signed, SshsigClaimView};
 use crate::offer::Offer;
-use crate::query::{LoginQuery, Signed};
+use ssh_bodies::sshsig_message;
 use ssh_certs::CertView;
 use ssh_keys::write_key;
 use ssh_text::Bytes;
 use ssh_wire::put_string;
 use std::alloc::{AllocError, Global};
+use std::marker::Model;
 
-/// The number of a user authentication request (RFC 4252 section 6).
+/// A list that contracts see as its items alone, without capacity and allocator.
+#[derive(Debug, Drop)]
+pub struct Items<T> {
+    items: Vec<T>,
+}
+
+impl<T> Model for Items<T> {
+    ghost use Rattle.std.specs.Prelude.{List};
+
+    ghost Value = { List T };
+
+    ghost view = { λ l. l.items.items };
+}
+
+impl<T> Items<T> {
+    /// An empty list.
+    pub fn new(alloc: Global) -> Self
+        ensures { result ≡ [] }
+    {
+        Items {
+            items: Vec::new(alloc),
+        }
+    }
+
+    /// Takes over the vector's items.
+    pub fn from_vec(items: Vec<T>) -> Self
+        ensures { result ≡ items.items }
+    {
+        Items { items }
+    }
+
+    /// How many items there are.
+    pub fn len(&self) -> usize
+        ensures { result ≡ length self.now }
+    {
+        self.items.len()
+    }
+
+    /// Whether there are no items.
+    pub fn is_empty(&self) -> bool
+        ensures { IsTrue result ↔ (self.now ≡ []) }
+    {
+        self.items.is_empty()
+    }
+
+    /// The items in order.
+    pub fn as_slice(&self) -> &[T]
+        ensures { result.now ≡ self.now }
+    {
+        self.items.as_slice()
+    }
+}
+
+impl<T: Drop> Items<T> {
+    /// Adds an item at the end; on an `Err` nothing changes.
+    pub fn push(&mut self, item: T) -> Result<(), AllocError>
+        ensures ok { OnOk result (self.new ≡ self.old ++ item ∷ []) }
+        ensures err { OnErr result (self.new ≡ self.old) }
+    {
+        self.items.push(item)?;
+        Ok(())
+    }
+}
+
+/// Lists are equal where their items are, one by one.
+impl<T: PartialEq> PartialEq for Items<T> {
+    ghost use Rattle.std.specs.Cmp.Lexicographic.{lists_per, pointwise};
+
+    ghost eq = { pointwise T.eq };
+
+    ghost laws = { lists_per T.laws };
+
+    fn eq(&self, other: &Self) -> bool {
+        self.as_slice() == other.as_slice()
+    }
+}
+
+/// The message number of a user authentication request (RFC 4252 section 6).
 const USERAUTH_REQUEST: u8 = 50;
 
 /// The bytes that a client signs for a login (RFC 4252 section 7).
@@ -54,7 +124,8 @@ fn login_bytes(alloc: Global, query: &LoginQuery<'_>) -> Result<Vec<u8>, AllocEr
     Ok(out)
 }
 
-/// The blob of the key that is to be used. `Err` is out of memory.
+/// The blob of the plain key: the offered one, or the one in the certificate. Fails only when
+/// memory cannot be allocated.
 pub fn plain_blob(alloc: Global, offer: &Offer<'_>) -> Result<Vec<u8>, AllocError>
     ensures { IfOk result (λ blob. blob.items ≡ key_blob (plain_key (offer_of offer.now))) }
 {
@@ -63,7 +134,7 @@ pub fn plain_blob(alloc: Global, offer: &Offer<'_>) -> Result<Vec<u8>, AllocErro
     Ok(blob)
 }
 
-/// The signature of a login, by the key that is to be used.
+/// The signature over the login bytes, by the plain key.
 #[tactic(auto, unfolding(crate::specs::Evidence::login_signed))]
 fn login_signed(alloc: Global, claim: &LoginClaimView<'_>) -> Result<Signed, AllocError>
     ensures { IfOk result (λ signed.
@@ -77,7 +148,7 @@ fn login_signed(alloc: Global, claim: &LoginClaimView<'_>) -> Result<Signed, All
     })
 }
 
-/// The signature of a certificate, by its signer.
+/// The signature over a certificate, by its signer.
 #[tactic(auto, unfolding(crate::specs::Evidence::certificate_signed))]
 fn certificate_signed(alloc: Global, certificate: &CertView<'_>) -> Result<Signed, AllocError>
     ensures { IfOk result (λ signed. signed ≡ certificate_signed (certificate_of certificate.now)) }
@@ -89,7 +160,7 @@ fn certificate_signed(alloc: Global, certificate: &CertView<'_>) -> Result<Signe
     })
 }
 
-/// A signature of what is offered, and of a certificate its signer's.
+/// The offered key's signature, and for a certificate its signer's after it.
 fn with_signer(alloc: Global, first: Signed, offer: &Offer<'_>) -> Result<Items<Signed>, AllocError>
     ensures { IfOk result (λ evidence. evidence ≡ first ∷ signer_evidence (offer_of offer.now)) }
 {
@@ -101,8 +172,8 @@ fn with_signer(alloc: Global, first: Signed, offer: &Offer<'_>) -> Result<Items<
     Ok(Items::from_vec(evidence))
 }
 
-/// What has to be vouched for, of a login: the offered key's signature over the login bytes, and of
-/// a certificate its signer's. `Err` is out of memory.
+/// The evidence of a login: the offered key's signature over the login bytes, and for a certificate
+/// its signer's. Fails only when memory cannot be allocated.
 pub fn login_evidence(
     alloc: Global,
     claim: &LoginClaimView<'_>,
@@ -114,7 +185,7 @@ pub fn login_evidence(
     Ok(evidence)
 }
 
-/// The signature of the exchange hash, by the host's key.
+/// The signature over the exchange hash, by the host's key.
 #[tactic(auto, unfolding(crate::specs::Evidence::host_signed))]
 fn host_signed(alloc: Global, claim: &HostClaimView<'_>) -> Result<Signed, AllocError>
     ensures { IfOk result (λ signed.
@@ -128,8 +199,8 @@ fn host_signed(alloc: Global, claim: &HostClaimView<'_>) -> Result<Signed, Alloc
     })
 }
 
-/// What has to be vouched for, of a host: its key's signature over the exchange hash, and of a
-/// certificate its signer's. `Err` is out of memory.
+/// The evidence of a host: its key's signature over the exchange hash, and for a certificate its
+/// signer's. Fails only when memory cannot be allocated.
 pub fn host_evidence(alloc: Global, claim: &HostClaimView<'_>) -> Result<Items<Signed>, AllocError>
     ensures { IfOk result (λ evidence. evidence ≡ host_evidence (host_claim_of claim.now)) }
 {
@@ -152,11 +223,44 @@ fn is_vouched(vouched: &[Signed], signed: &Signed) -> bool
     vouched.iter().any(|v| is_same(v, signed))
 }
 
-/// The least index of the evidence that is not vouched for.
+/// The least index of the evidence, from 0, that is not vouched for.
 pub fn first_unvouched(vouched: &[Signed], evidence: &[Signed]) -> Option<usize>
     ensures { result ≡ first_unvouched vouched.now evidence.now }
 {
     evidence
         .iter()
         .position(|signed| !is_vouched(vouched, signed))
+}
+
+/// The signature over a message, by the key of a file signature.
+#[tactic(auto, unfolding(crate::specs::FileSignature::file_signed))]
+fn file_signed(
+    alloc: Global,
+    claim: &SshsigClaimView<'_>,
+    message: &[u8],
+) -> Result<Signed, AllocError>
+    ensures { IfOk result (λ signed. signed ≡ file_signed (sshsig_claim_of claim.now) message.now) }
+{
+    let view = &claim.file_signature;
+    Ok(Signed {
+        key: Bytes::new(view.key_blob.to_vec(alloc)?),
+        message: Bytes::new(sshsig_message(alloc, view, message)?),
+        signature: Bytes::new(view.signature_blob.to_vec(alloc)?),
+    })
+}
+
+/// The evidence of a file signature of this message: the signature over the bytes that
+/// PROTOCOL.sshsig gives. Fails only when memory cannot be allocated.
+pub fn sshsig_evidence(
+    alloc: Global,
+    claim: &SshsigClaimView<'_>,
+    message: &[u8],
+) -> Result<Items<Signed>, AllocError>
+    ensures { IfOk result
+        (λ evidence. evidence ≡ sshsig_evidence (sshsig_claim_of claim.now) message.now) }
+{
+    let signed = file_signed(alloc, claim, message)?;
+    let mut evidence = Vec::new(alloc);
+    evidence.push(signed)?;
+    Ok(Items::from_vec(evidence))
 }

@@ -1,8 +1,8 @@
-//! What is offered for a login or by a host, or signed in a file signature, what is refused before
-//! any line is read, and the evidence that a decision rests on.
+//! Offers of keys and certificates: the query about a login, a host's key or a file signature, what
+//! is refused before any line is read, and the evidence that a decision depends on.
 //!
-//! A caller that asks what of a login nobody vouches for yet, by its number (a test runs these
-//! lines):
+//! A caller that asks for the first signature of a login that is not vouched for, by its index (a
+//! test runs these lines):
 //!
 //! ```
 //! let claim = LoginClaimView::read(query)?;
@@ -11,26 +11,16 @@
 //! ```
 #![tactic(auto)]
 
-mod algorithm;
-mod blobs;
-mod error;
+mod claim;
 mod evidence;
-mod file_evidence;
-mod host_claim;
-mod items;
 mod laws;
-mod login_claim;
 mod offer;
-mod query;
-mod samples;
-mod sshsig_claim;
 
-pub use error::{AuditError, OfferError};
-pub use evidence::{first_unvouched, host_evidence, login_evidence, plain_blob};
-pub use file_evidence::sshsig_evidence;
-pub use host_claim::HostClaimView;
-pub use items::Items;
-pub use login_claim::LoginClaimView;
+pub use claim::{
+    AuditError, EmptyPrincipals, HostClaimView, HostQuery, LoginClaimView, LoginQuery, OfferError,
+    Signed, SshsigClaimView,
+};
+pub use evidence::{
+    Items, first_unvouched, host_evidence, login_evidence, plain_blob, sshsig_evidence,
+};
 pub use offer::Offer;
-pub use query::{EmptyPrincipals, HostQuery, LoginQuery, Signed};
-pub use sshsig_claim::SshsigClaimView;

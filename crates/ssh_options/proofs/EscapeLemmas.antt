@@ -1,14 +1,8 @@
 -- Values with an escaped quote, and without.
-use Rattle.std.proofs.Common.{◌≡◌, ℕ, length, true, false, ◌&&◌, ◌==◌, List, [], ◌∷◌, refl, ap, inl, inr}
-use Rattle.std.specs.List.{list_all}
-use Rattle.std.specs.Char.{is_ascii_digit}
-use Rattle.std.proofs.lemmas.Bool.{cases_Bool, or_parts, or_cases, or_right, or_left, and_parts, and_right, eqb-true}
-use Rattle.ssh_text.specs.Text.{without_last}
-use Rattle.ssh_options.specs.OptionText.{begins_with_quote, unescaped}
-use Rattle.ssh_options.specs.OptionsInPlace.{has_escape, has_quote}
-use Rattle.ssh_expiry.specs.Expiry.{without_z, is_civil_text, is_expiry_text}
+use Rattle.ssh_options.proofs.Imports.{◌≡◌, ℕ, length, true, false, ◌&&◌, ◌==◌, List, [], ◌∷◌, refl, ap, inl, inr, list_all, is_ascii_digit, cases_Bool, or_parts, or_cases, or_right, or_left, and_parts, and_right, eqb-true, without_last, begins_with_quote, unescaped, has_escape, has_quote, without_z, is_civil_text}
+use Rattle.ssh_options.specs.Expiry.{is_expiry_text}
 
--- where no quote is escaped, what stands between the quotes is the value
+-- where no quote is escaped, the bytes between the quotes are the value
 pub plain_unescaped : (text : List ℕ) → has_escape text ≡ false → unescaped text ≡ text
 plain_unescaped [] h = refl
 plain_unescaped (c ∷ cs) h =
@@ -33,7 +27,7 @@ quote-some (c ∷ cs) h z =
     let none : length (unescaped (34 ∷ cs)) ≡ 0 = rw e at z in
     cc
 
--- a value of no bytes stands between quotes as no bytes
+-- an empty value has no bytes between its quotes
 pub unescaped_none : (text : List ℕ) → length (unescaped text) ≡ 0 → length text ≡ 0
 unescaped_none [] h = refl
 unescaped_none (c ∷ cs) h =
@@ -50,7 +44,7 @@ escape_has_quote (c ∷ cs) h =
       | inr e ↦ rw e (or_right (c == 34) (has_quote (unescaped cs)) (escape_has_quote cs (rw e at h)))
     ]
 
--- the byte dropped at the end is no quote
+-- the byte dropped at the end is not a quote
 quote-kept : (text : List ℕ) → has_quote text ≡ true → has_quote (without_last 90 text) ≡ true
 quote-kept [] h = h
 quote-kept (c ∷ []) h =
@@ -75,7 +69,7 @@ quote-no_digits (c ∷ cs) h =
 no_form : (digits : List ℕ) → list_all is_ascii_digit digits ≡ false → is_civil_text digits ≡ false
 no_form digits h = rw (and_right _ (list_all is_ascii_digit digits) h) refl
 
--- a value with an escaped quote is no expiry time
+-- a value with an escaped quote is not an expiry time
 pub escape_no_expiry : (text : List ℕ) → has_escape text ≡ true → is_expiry_text (unescaped text) ≡ false
 unfolding is_expiry_text
 escape_no_expiry text h = no_form (without_z (unescaped text)) (quote-no_digits (without_z (unescaped text)) (quote-kept (unescaped text) (escape_has_quote text h)))

@@ -1,11 +1,6 @@
 -- The walk over the options at the front of a line: their items are those of the text that ends at the first blank
 -- outside quotes, and what follows the last of them follows that text.
-use Rattle.std.proofs.Common.{◌≡◌, ℕ, true, false, not, ◌&&◌, ◌==◌, if◌then◌else◌, inl, inr, List, [], ◌∷◌, Option, Some, None, option_map, length, drop, refl, sym, ap, ◌∙◌}
-use Rattle.std.specs.Prelude.{option_and_then}
-use Rattle.std.proofs.lemmas.Bool.{cases_Bool, eqb-true, and_parts}
-use Rattle.ssh_text.specs.Text.{is_blank}
-use Rattle.ssh_options.specs.OptionText.{option_text_of, is_open_quote, turned, is_name_byte, name_part, after_name, unescaped}
-use Rattle.ssh_options.specs.OptionTexts.{Following, front_items, after_options, first_item, split_at_quote, split_value, after_item, texts_following, rest_following}
+use Rattle.ssh_options.proofs.Imports.{◌≡◌, ℕ, true, false, not, ◌&&◌, ◌==◌, if◌then◌else◌, inl, inr, List, [], ◌∷◌, Option, Some, None, option_map, length, drop, refl, sym, ap, ◌∙◌, option_and_then, cases_Bool, eqb-true, and_parts, is_blank, option_text_of, is_open_quote, turned, is_name_byte, name_part, after_name, unescaped, Following, front_items, after_options, first_item, split_at_quote, split_value, after_item, texts_following, rest_following}
 use Rattle.ssh_options.proofs.OptionLemmas.{plain-from_name_byte, other_byte}
 use Rattle.ssh_options.proofs.WalkLemmas.{item_end, items_after, before_items, walked_value, with_name, first_walked}
 
@@ -13,7 +8,7 @@ use Rattle.ssh_options.proofs.WalkLemmas.{item_end, items_after, before_items, w
 abbrev front : List ℕ → List ℕ
 front text = option_text_of false 0 text
 
--- what stands before a text changes nothing, but for a backslash
+-- what comes before a text changes nothing, except a backslash
 on : (last : ℕ) (text : List ℕ) → (last == 92) ≡ false → option_text_of false last text ≡ front text
 on last [] h = refl
 on last (c ∷ cs) h = rw h refl
@@ -105,7 +100,7 @@ value-front (c ∷ d ∷ cs) =
       | inr v ↦ no-value-front c d cs v
     ]
 
--- ---- what stands after the item
+-- ---- what follows the item
 
 abbrev next_front : Following → Option (List ℕ)
 next_front following = if following.0 then Some (front following.1) else None

@@ -1,11 +1,7 @@
--- Options that are read where they stand are those that their text says.
-use Rattle.std.proofs.Common.{◌≡◌, ℕ, Bool, true, false, cond, List, [], ◌∷◌, ◌++◌, Option, Some, None, Result, Ok, Err, refl, sym, ap, ◌∙◌, append_assoc, append-nil}
-use Rattle.ssh_options.specs.AuthOption.{AuthOption}
-use Rattle.ssh_options.specs.declared.cause.LineCause.{LineCause}
-use Rattle.ssh_options.specs.declared.cause.LineCause.TheVariants as causes
-use Rattle.ssh_options.specs.OptionText.{OptionItem, option_items, option_item, each_item, option_of, repeats, has_bad_expiry, and_option, and_item, options_from, options_of}
-use Rattle.ssh_options.specs.OptionsInPlace.{fault_in}
-use Rattle.ssh_options.specs.OptionsInLine.{each_option, or_none, options_in}
+-- Options that are read in place are those of their text.
+use Rattle.ssh_options.proofs.Imports.{◌≡◌, ℕ, Bool, true, false, cond, List, [], ◌∷◌, ◌++◌, Option, Some, None, Result, Ok, Err, refl, sym, ap, ◌∙◌, append_assoc, append-nil, AuthOption, LineCause, OptionItem, option_items, option_item, each_item, option_of, repeats, has_bad_expiry, and_option, and_item, options_from, fault_in, each_option, or_none, options_in}
+use Rattle.ssh_options.specs.declared.option_text.LineCause.TheVariants as causes
+use Rattle.ssh_options.specs.OptionText.{options_of}
 use Rattle.ssh_options.proofs.ItemLemmas.{from_texts, from_texts_all, from_texts-next, from_texts-refused}
 
 -- the options of the items, after those before them
@@ -74,7 +70,7 @@ found text h =
     let said = in_line-from (option_items false 0 text) [] kept.0 (sym kept.1 ∙ from_texts_all text) in
     (kept.0, kept.1, said.each ∙ ap (λ o. Some o) (sym said.whole))
 
--- a text without a fault says the options of its items
+-- a text without an error gives the options of its items
 pub said_options : (text : List ℕ) → None ≡ fault_in (options_of text) → options_of text ≡ Ok (options_in (option_items false 0 text))
 said_options text h = let f = found text h in f.1 ∙ ap (λ o. Ok (or_none o)) (sym f.2)
 

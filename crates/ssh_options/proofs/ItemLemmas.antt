@@ -1,11 +1,8 @@
 -- The items of an option text, one by one.
-use Rattle.std.proofs.Common.{◌≡◌, ℕ, Bool, true, false, not, ◌&&◌, cond, ◌==◌, List, [], ◌∷◌, Option, Some, None, Result, Ok, Err, refl, sym, ap, ◌∙◌}
-use Rattle.std.specs.List.{onto_first}
-use Rattle.std.specs.Prelude.{option_map, option_and_then}
-use Rattle.ssh_options.specs.AuthOption.{AuthOption}
-use Rattle.ssh_options.specs.declared.cause.LineCause.{LineCause}
-use Rattle.ssh_options.specs.declared.cause.LineCause.TheVariants as causes
-use Rattle.ssh_options.specs.OptionText.{OptionItem, option_items, is_open_quote, turned, option_item, each_item, and_item, options_from, options_of_items, options_of}
+use Rattle.ssh_options.proofs.Imports.{◌≡◌, ℕ, Bool, true, false, not, ◌&&◌, cond, ◌==◌, List, [], ◌∷◌, Option, Some, None, Result, Ok, Err, refl, sym, ap, ◌∙◌, onto_first, option_and_then, AuthOption, LineCause, OptionItem, option_items, is_open_quote, turned, option_item, each_item, and_item, options_from, options_of_items}
+use Rattle.std.specs.Prelude.{option_map}
+use Rattle.ssh_options.specs.declared.option_text.LineCause.TheVariants as causes
+use Rattle.ssh_options.specs.OptionText.{options_of}
 
 some-step : (stops : Bool) (c : ℕ) (others items : List (List ℕ)) → cond stops ([] ∷ others) (onto_first c items) ≡ [] → ⊥
 some-step true c others items h = cc

@@ -1,3 +1,4 @@
+pub mod Imports
 pub mod ValueLemmas
 pub mod ItemLemmas
 pub mod RowLemmas
@@ -10,3 +11,5 @@ pub mod EscapeLemmas
 pub mod SeenLemmas
 pub mod InLineLemmas
 pub mod OptionFaultLemmas
+pub mod ExpiryLemmas
+pub mod MomentLemmas

@@ -1,16 +1,9 @@
--- An option text that is read as one with a fault has that fault.
-use Rattle.std.proofs.Common.{◌≡◌, ◌≢◌, ℕ, Bool, true, false, if◌then◌else◌, inl, inr, List, [], ◌∷◌, ◌++◌, Option, Some, None, Result, Ok, Err, refl, sym, ap, subst, ◌∙◌, append_assoc, append-nil}
-use Rattle.std.specs.List.{AllZip, join_with_byte}
-use Rattle.std.proofs.lemmas.Bool.{cases_Bool}
-use Rattle.ssh_options.specs.AuthOption.{AuthOption, Switch, Setting}
-use Rattle.ssh_options.specs.declared.option.ValueName.TheVariants.{Command}
-use Rattle.ssh_options.specs.declared.option.OptionName.{OptionName}
-use Rattle.ssh_options.specs.declared.option.OptionName.TheVariants as names
-use Rattle.ssh_options.specs.declared.cause.LineCause.{LineCause}
-use Rattle.ssh_options.specs.declared.cause.LineCause.TheVariants as causes
-use Rattle.ssh_options.specs.OptionNames.{option_row, name_in, flag_name, value_name, option_named, same_name}
-use Rattle.ssh_options.specs.OptionText.{OptionItem, AreAllowed, can_be_quoted, repeats, has_bad_expiry, option_items, after_name, value_of, named_item, option_item, each_item, option_by_name, option_of, and_option, options_from, options_of_items, options_of}
-use Rattle.ssh_options.specs.OptionFaults.{SpellsValue, SpellsItem, SpellsItemList, SaysOption, IsItemFault, IsOptionsFault}
+-- An option text for which an error is computed has that error.
+use Rattle.ssh_options.proofs.Imports.{◌≡◌, ◌≢◌, ℕ, Bool, true, false, if◌then◌else◌, inl, inr, List, [], ◌∷◌, ◌++◌, Option, Some, None, Result, Ok, Err, refl, sym, ap, subst, ◌∙◌, append_assoc, append-nil, AllZip, join_with_byte, cases_Bool, AuthOption, Switch, Setting, Command, LineOption, LineCause, name_in, flag_name, value_name, option_named, same_name, OptionItem, AreAllowed, can_be_quoted, repeats, has_bad_expiry, option_items, after_name, value_of, named_item, option_item, each_item, option_by_name, option_of, and_option, options_from, options_of_items, SpellsValue, SpellsItem, SpellsItemList, SaysOption, IsItemFault, IsOptionsFault}
+use Rattle.ssh_options.specs.declared.option.LineOption.TheVariants as names
+use Rattle.ssh_options.specs.declared.option_text.LineCause.TheVariants as causes
+use Rattle.ssh_options.specs.OptionNames.{option_row}
+use Rattle.ssh_options.specs.OptionText.{options_of}
 use Rattle.ssh_options.proofs.ValueLemmas.{unescaped-escaped, closed-escaped}
 use Rattle.ssh_options.proofs.OptionLemmas.{AllQuotable, AreNameBytes, stops_name, after_name-at, backslash-after_quote, flag-found, items-after_name, items-after_value, lower-equal, name_part-at, value-found}
 use Rattle.ssh_options.proofs.ReadOptions.{AreTested, each-by, named-same, read_item, some_items, tested-allowed}
@@ -92,7 +85,7 @@ text-spelled text items h =
 
 -- ---- an item
 
-says-by : (item : OptionItem) (value : Option (List ℕ)) (named : Option OptionName) (option : AuthOption) → item.value ≡ value
+says-by : (item : OptionItem) (value : Option (List ℕ)) (named : Option LineOption) (option : AuthOption) → item.value ≡ value
     → option_named item.name ≡ named → option_by_name named value ≡ Ok option → SaysOption item option
 says-by item value None option v n h = cc
 says-by item None (Some (names.Switch flag)) option v n h =
@@ -107,18 +100,18 @@ says-by item (Some value) (Some (names.Setting name)) option v n h =
 says : (item : OptionItem) (option : AuthOption) → option_of item ≡ Ok option → SaysOption item option
 says item option h = says-by item item.value (option_named item.name) option refl refl h
 
-option-found : (option : OptionName) (name : List ℕ) → same_name name (name_in (option_row option)) ≡ true → option_named name ≡ Some option
+option-found : (option : LineOption) (name : List ℕ) → same_name name (name_in (option_row option)) ≡ true → option_named name ≡ Some option
 option-found (names.Switch flag) name h = flag-found flag name (lower-equal name (flag_name flag) h)
 option-found (names.Setting value) name h = value-found value name (lower-equal name (value_name value) h)
 
-unlisted : (name : List ℕ) → option_named name ≡ None → (option : OptionName) → same_name name (name_in (option_row option)) ≡ false
+unlisted : (name : List ℕ) → option_named name ≡ None → (option : LineOption) → same_name name (name_in (option_row option)) ≡ false
 unlisted name n option =
     elim (cases_Bool (same_name name (name_in (option_row option)))) [
       | inl e ↦ let f : None ≡ Some option = sym n ∙ option-found option name e in cc
       | inr e ↦ e
     ]
 
-item-fault : (item : OptionItem) (value : Option (List ℕ)) (named : Option OptionName) (before : List AuthOption) (cause : LineCause)
+item-fault : (item : OptionItem) (value : Option (List ℕ)) (named : Option LineOption) (before : List AuthOption) (cause : LineCause)
     → item.value ≡ value → option_named item.name ≡ named → option_by_name named value ≡ Err cause → IsItemFault cause before item
 item-fault item value None before cause v n h =
     let e : causes.UnknownOption ≡ cause = cc in
@@ -133,7 +126,7 @@ item-fault item None (Some (names.Setting name)) before cause v n h =
     subst (λ x. IsItemFault x before item) e (inr (name, named-same item.name (names.Setting name) n, v))
 item-fault item (Some value) (Some (names.Setting name)) before cause v n h = cc
 
--- ---- the first fault, from the left
+-- ---- the first error, from the left
 
 record FirstFault (before : List AuthOption) (items : List OptionItem) (cause : LineCause) : Type 0 where
   pub front : List OptionItem
@@ -257,7 +250,7 @@ text-fault text (Some items) cause i h =
     of-item cause text first.front first.rest first.item first.more spelled first.say (tested-allowed [] first.more quotable first.tested)
     first.fault
 
--- An option text that is read as one with a fault has that fault.
+-- An option text for which an error is computed has that error.
 pub options_of-fault : (text : List ℕ) (cause : LineCause) → options_of text ≡ Err cause → IsOptionsFault cause text
 unfolding options_of
 options_of-fault text cause h = text-fault text (each_item (option_items false 0 text)) cause refl h

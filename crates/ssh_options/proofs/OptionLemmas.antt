@@ -1,23 +1,13 @@
 -- The options of a text that spells them.
-use Rattle.std.proofs.Common.{◌≡◌, ℕ, ◌+◌, nat_lt, Bool, true, false, not, cond, ◌==◌, inl, inr, List, [], ◌∷◌, ◌++◌, Option, Some, None, is_some, Ok, refl, sym, ap, subst, ◌∙◌, arith, append_assoc, append-nil}
-use Rattle.std.specs.List.{AllByRecursion, list_all, onto_first, AllZip}
-use Rattle.std.specs.Str.{str_to_ascii_lowercase}
-use Rattle.std.proofs.lemmas.Bool.{cases_Bool, and_parts, eqb-true, ne_eqb, ltb-true, ltb-false}
-use Rattle.std.proofs.lemmas.Slice.Eq.{bytes_eq-Decides}
-use Rattle.ssh_options.specs.declared.option.Flag.{Flag}
-use Rattle.ssh_options.specs.declared.option.Flag.TheVariants.{AgentForwarding, CertAuthority, NoAgentForwarding, NoPortForwarding, NoPty, NoUserRc, NoX11Forwarding, PortForwarding, Pty, NoTouchRequired, VerifyRequired, Restrict, UserRc, X11Forwarding}
-use Rattle.ssh_options.specs.declared.option.ValueName.{ValueName}
-use Rattle.ssh_options.specs.declared.option.ValueName.TheVariants.{Command, Environment, ExpiryTime, From, PermitListen, PermitOpen, Principals, Tunnel}
-use Rattle.ssh_options.specs.AuthOption.{AuthOption, Switch, Setting}
-use Rattle.ssh_options.specs.declared.option.OptionName.TheVariants as names
-use Rattle.ssh_text.specs.Text.{is_blank}
-use Rattle.ssh_options.specs.OptionNames.{option_row, row_named, flag_name, value_name, option_named, same_name}
-use Rattle.ssh_options.specs.OptionText.{OptionItem, escaped, ends_with_backslash, option_name, value_part, SpellsOption, SpellsItems, AreAllowed, can_be_quoted, option_text_of, option_items, is_name_byte, name_part, after_name, value_of, named_item, option_item, each_item, option_of, options_from, options_of}
+use Rattle.ssh_options.proofs.Imports.{◌≡◌, ℕ, ◌+◌, nat_lt, Bool, true, false, not, cond, ◌==◌, inl, inr, List, [], ◌∷◌, ◌++◌, Option, Some, None, is_some, Ok, refl, sym, ap, subst, ◌∙◌, arith, append_assoc, append-nil, AllByRecursion, list_all, onto_first, AllZip, str_to_ascii_lowercase, cases_Bool, and_parts, eqb-true, ne_eqb, ltb-true, ltb-false, bytes_eq-Decides, Flag, AgentForwarding, CertAuthority, NoAgentForwarding, NoPortForwarding, NoPty, NoUserRc, NoX11Forwarding, PortForwarding, Pty, NoTouchRequired, VerifyRequired, Restrict, UserRc, X11Forwarding, ValueName, Command, Environment, ExpiryTime, From, PermitListen, PermitOpen, Principals, Tunnel, AuthOption, Switch, Setting, is_blank, flag_name, value_name, option_named, same_name, OptionItem, escaped, ends_with_backslash, option_name, value_part, SpellsOption, SpellsItems, AreAllowed, can_be_quoted, option_text_of, option_items, is_name_byte, name_part, after_name, value_of, named_item, option_item, each_item, option_of, options_from}
+use Rattle.ssh_options.specs.declared.option.LineOption.TheVariants as names
+use Rattle.ssh_options.specs.OptionNames.{option_row, row_named}
+use Rattle.ssh_options.specs.OptionText.{options_of}
 use Rattle.ssh_options.proofs.ValueLemmas.{unescaped-escaped, closed-escaped}
 
 -- ---- the bytes of names
 
--- a byte of a name is no blank, comma, quote or equals sign
+-- a byte of a name is not a blank, comma, quote or equals sign
 pub record IsPlain (c : ℕ) : Type 0 where
   pub blank : is_blank c ≡ false
   pub comma : (c == 44) ≡ false
@@ -260,7 +250,7 @@ item_of-named option (c ∷ cs) h q =
 
 -- ---- the options
 
--- what the options and their text say of reading
+-- what follows for reading from the options and their text
 pub record AreRead (options : List AuthOption) (text : List ℕ) : Type 0 where
   pub texts : List (List ℕ)
   pub items : List OptionItem
@@ -350,7 +340,7 @@ quotable options a = allowed-quotable [] options a
 abbrev pub is_option_name : List ℕ → Bool
 is_option_name text = is_some (option_named text)
 
--- the text begins with the name of an option, and what follows is no byte of a name
+-- the text begins with the name of an option, and what follows is not a byte of a name
 pub record BeginsWithName (text : List ℕ) : Type 0 where
   pub first : ℕ
   pub others : List ℕ

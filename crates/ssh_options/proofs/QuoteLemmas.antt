@@ -1,9 +1,5 @@
--- The closing quote is found at the first quote that no backslash stands before.
-use Rattle.std.proofs.Common.{◌≡◌, ℕ, zero, suc, ◌<◌, ◌+◌, true, false, ◌==◌, List, [], ◌∷◌, ◌++◌, Option, Some, None, option_map, length, take, drop, slice_index, refl, sym, ap, ◌∙◌, append_assoc, take-add, drop-drop, arith}
-use Rattle.std.proofs.lemmas.Bool.{eqb-true, false_from_ne_true}
-use Rattle.memchr.specs.Find.{Nowhere, Passes, is_byte}
-use Rattle.ssh_text.specs.Text.{ends_with}
-use Rattle.ssh_options.specs.OptionTexts.{split_at_quote}
+-- The closing quote is the first quote without a backslash before it.
+use Rattle.ssh_options.proofs.Imports.{◌≡◌, ℕ, zero, suc, ◌<◌, ◌+◌, true, false, ◌==◌, List, [], ◌∷◌, ◌++◌, Option, Some, None, option_map, length, take, drop, slice_index, refl, sym, ap, ◌∙◌, append_assoc, take-add, drop-drop, arith, eqb-true, false_from_ne_true, Nowhere, Passes, is_byte, ends_with, split_at_quote}
 
 -- none of the first bytes is a quote
 abbrev pub NoQuote : List ℕ → ℕ → Type 0
@@ -12,7 +8,7 @@ NoQuote text n = (i : ℕ) → i < n → (slice_index text i == 34) ≡ false
 pub no_quote : (text : List ℕ) (n : ℕ) → Nowhere (Passes (is_byte 34) text) 0 n → NoQuote text n
 no_quote text n h = λ i lt. false_from_ne_true (slice_index text i == 34) (h i (omega arith) lt)
 
--- the byte before the place, where this byte stands before the text
+-- the byte before the place, where this byte comes before the text
 abbrev before : ℕ → ℕ → List ℕ → ℕ
 before last zero text = last
 before last (suc k) [] = last
@@ -62,12 +58,12 @@ ends-before last (c ∷ cs) zero lt = refl
 ends-before last (c ∷ []) (suc k) lt = absurd (omega arith)
 ends-before last (c ∷ d ∷ cs) (suc k) lt = ends-before c (d ∷ cs) k (omega arith)
 
--- after a quote a text ends with a backslash where one stands before the place
+-- after a quote, a text ends with a backslash where there is one before the place
 ends-at : (text : List ℕ) (k : ℕ) → k < length text → ends_with 92 (take k text) ≡ (before 34 k text == 92)
 ends-at text zero lt = refl
 ends-at text (suc k) lt = ends-before 34 text k (omega arith)
 
--- the first quote closes where no backslash stands before it
+-- the first quote closes where there is no backslash before it
 pub closes : (text : List ℕ) (k : ℕ) → k < length text → NoQuote text k → (slice_index text k == 34) ≡ true → ends_with 92 (take k text) ≡ false
     → split_at_quote 34 text ≡ Some (take k text, drop (suc k) text)
 closes text k lt clear is closed = closes-at 34 text k lt clear is (sym (ends-at text k lt) ∙ closed)

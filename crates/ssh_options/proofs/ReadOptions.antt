@@ -1,18 +1,10 @@
 -- Options that are read are spelled by their text.
-use Rattle.std.proofs.Common.{◌≡◌, ◌≢◌, ℕ, Bool, true, false, not, ◌&&◌, ◌==◌, if◌then◌else◌, ◌⊎◌, inl, inr, List, [], ◌∷◌, ◌++◌, length, drop, bytes_eq, Option, Some, None, option_map, find, Result, Ok, Err, refl, sym, ap, subst, ◌∙◌, arith, append_assoc, append-nil}
-use Rattle.std.specs.List.{AllByRecursion, AllZip, list_all, onto_first, join_with_byte}
-use Rattle.std.proofs.lemmas.Bool.{cases_Bool, and_parts, eqb-true, ne_eqb}
-use Rattle.std.proofs.lemmas.Slice.Eq.{bytes_eq-Decides}
-use Rattle.ssh_options.specs.AuthOption.{AuthOption, Switch, Setting}
-use Rattle.ssh_options.specs.declared.cause.LineCause.{LineCause}
-use Rattle.ssh_options.specs.declared.cause.LineCause.TheVariants as causes
-use Rattle.ssh_text.specs.Text.{is_blank}
-use Rattle.ssh_options.specs.declared.option.OptionName.{OptionName}
-use Rattle.ssh_options.specs.declared.option.OptionName.TheVariants as names
-use Rattle.ssh_options.specs.OptionNames.{OptionRow, options, option_row, row_named, name_in, option_named, same_name}
-use Rattle.ssh_options.specs.OptionFaults.{SpellsValue, SpellsItem}
-use Rattle.ssh_options.specs.OptionText.{OptionItem, escaped, unescaped, ends_with_backslash, SpellsOption, SpellsItems, AreAllowed, can_be_quoted, repeats, has_bad_expiry, option_text_of, option_items, is_open_quote, turned, is_name_byte, name_part, after_name, value_of, named_item, option_item, each_item, option_by_name, option_of, and_option, options_from, options_of_items, options_of, closed_by_quote}
-use Rattle.ssh_text.proofs.TextLemmas.{ends_word}
+use Rattle.ssh_options.proofs.Imports.{◌≡◌, ◌≢◌, ℕ, Bool, true, false, not, ◌&&◌, ◌==◌, if◌then◌else◌, ◌⊎◌, inl, inr, List, [], ◌∷◌, ◌++◌, length, drop, Option, Some, None, option_map, find, Result, Ok, Err, refl, sym, ap, subst, ◌∙◌, arith, append_assoc, append-nil, AllByRecursion, AllZip, list_all, onto_first, join_with_byte, cases_Bool, and_parts, eqb-true, ne_eqb, bytes_eq-Decides, AuthOption, Switch, Setting, LineCause, is_blank, LineOption, OptionRow, options, name_in, option_named, same_name, SpellsValue, SpellsItem, OptionItem, escaped, unescaped, ends_with_backslash, SpellsOption, SpellsItems, AreAllowed, can_be_quoted, repeats, has_bad_expiry, option_text_of, option_items, is_open_quote, turned, is_name_byte, name_part, after_name, value_of, named_item, option_item, each_item, option_by_name, option_of, and_option, options_from, options_of_items, closed_by_quote, ends_word}
+use Rattle.std.proofs.Common.{bytes_eq}
+use Rattle.ssh_options.specs.declared.option_text.LineCause.TheVariants as causes
+use Rattle.ssh_options.specs.declared.option.LineOption.TheVariants as names
+use Rattle.ssh_options.specs.OptionNames.{option_row, row_named}
+use Rattle.ssh_options.specs.OptionText.{options_of}
 use Rattle.ssh_options.proofs.OptionLemmas.{AreNameBytes}
 
 -- ---- values
@@ -70,7 +62,7 @@ backslash_other c rest q h =
     let e : unescaped (92 ∷ c ∷ rest) ≡ 92 ∷ unescaped (c ∷ rest) = ap (λ b. if b then unescaped (c ∷ rest) else 92 ∷ unescaped (c ∷ rest)) q in
     ap escaped e ∙ ap (λ s. 92 ∷ s) h
 
--- what stands between quotes is the escaped form of what it stands for
+-- the bytes between the quotes are the escaped form of the value
 abbrev Both : ℕ → List ℕ → Type 0
 Both last raw =
     ((last == 34) ≡ false → escaped (unescaped (last ∷ raw)) ≡ last ∷ raw)
@@ -209,19 +201,19 @@ read_item text item h =
 -- ---- options by name
 
 -- the row's name is the name of its option
-abbrev is_own : OptionRow → Bool
-is_own row = bytes_eq (name_in (option_row row.option)) row.name
+abbrev is_key_or_signer : OptionRow → Bool
+is_key_or_signer row = bytes_eq (name_in (option_row row.option)) row.name
 
-each_own : list_all is_own options ≡ true
+each_own : list_all is_key_or_signer options ≡ true
 unfolding option_row
 each_own = refl
 
 -- the option of a row that is found has the name
-found-own : (name : List ℕ) (rows : List OptionRow) (row : OptionRow) → list_all is_own rows ≡ true
+found-own : (name : List ℕ) (rows : List OptionRow) (row : OptionRow) → list_all is_key_or_signer rows ≡ true
     → find (λ r. same_name name r.name) rows ≡ Some row → same_name name (name_in (option_row row.option)) ≡ true
 found-own name [] row own h = cc
 found-own name (r ∷ rows) row own h =
-    let parts = and_parts (is_own r) (list_all is_own rows) own in
+    let parts = and_parts (is_key_or_signer r) (list_all is_key_or_signer rows) own in
     elim (cases_Bool (same_name name r.name)) [
       | inl e ↦
           let g : Some r ≡ Some row = rw e at h in let k : r ≡ row = cc in
@@ -230,23 +222,23 @@ found-own name (r ∷ rows) row own h =
       | inr e ↦ let g : find (λ r. same_name name r.name) rows ≡ Some row = rw e at h in found-own name rows row parts.1 g
     ]
 
-named-by : (name : List ℕ) (option : OptionName) (found : Option OptionRow) → row_named name ≡ found
+named-by : (name : List ℕ) (option : LineOption) (found : Option OptionRow) → row_named name ≡ found
     → option_map (λ row. row.option) found ≡ Some option → same_name name (name_in (option_row option)) ≡ true
 unfolding row_named
 named-by name option None r h = cc
 named-by name option (Some row) r h =
     let e : row.option ≡ option = cc in
-    let P : OptionName → Type 0 = λ x. same_name name (name_in (option_row x)) ≡ true in
+    let P : LineOption → Type 0 = λ x. same_name name (name_in (option_row x)) ≡ true in
     subst P e (found-own name options row each_own r)
 
-pub named-same : (name : List ℕ) (option : OptionName) → option_named name ≡ Some option → same_name name (name_in (option_row option)) ≡ true
+pub named-same : (name : List ℕ) (option : LineOption) → option_named name ≡ Some option → same_name name (name_in (option_row option)) ≡ true
 named-same name option h = named-by name option (row_named name) refl h
 
 pub record ReadOption (text : List ℕ) (option : AuthOption) : Type 0 where
   pub spelled : SpellsOption option text
   pub quotable : can_be_quoted option ≡ true
 
-option-by : (text name part : List ℕ) (value : Option (List ℕ)) (option : AuthOption) (named : Option OptionName)
+option-by : (text name part : List ℕ) (value : Option (List ℕ)) (option : AuthOption) (named : Option LineOption)
     → text ≡ name ++ part → SpellsValue value part → option_named name ≡ named
     → option_by_name named value ≡ Ok option → ReadOption text option
 option-by text name part value option None w r n h = cc

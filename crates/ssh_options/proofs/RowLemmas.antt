@@ -1,12 +1,7 @@
 -- The rows of the list of options, in memory and in the definitions.
-use Rattle.std.proofs.Common.{◌≡◌, Bool, true, inl, inr, List, [], ◌∷◌, map, Option, Some, None, is_some, option_map, find, refl, sym, ap, ◌∙◌}
-use Rattle.std.proofs.lemmas.Bool.{cases_Bool}
-use Rattle.ssh_options.specs.declared.option.Flag.TheVariants.{AgentForwarding, CertAuthority, NoAgentForwarding, NoPortForwarding, NoPty, NoUserRc, NoX11Forwarding, PortForwarding, Pty, NoTouchRequired, VerifyRequired, Restrict, UserRc, X11Forwarding}
-use Rattle.ssh_options.specs.declared.option.ValueName.TheVariants.{Command, Environment, ExpiryTime, From, PermitListen, PermitOpen, Principals, Tunnel}
-use Rattle.ssh_options.specs.declared.option.OptionName.{OptionName}
-use Rattle.ssh_options.specs.declared.option.OptionName.TheVariants.{Switch, Setting}
-use Rattle.ssh_options.specs.OptionNames.{OptionRow, options, option_row}
-use Rattle.ssh_options.specs.OptionTexts.{TableRow, table_row}
+use Rattle.ssh_options.proofs.Imports.{◌≡◌, Bool, true, inl, inr, List, [], ◌∷◌, map, Option, Some, None, is_some, option_map, find, refl, sym, ap, ◌∙◌, cases_Bool, AgentForwarding, CertAuthority, NoAgentForwarding, NoPortForwarding, NoPty, NoUserRc, NoX11Forwarding, PortForwarding, Pty, NoTouchRequired, VerifyRequired, Restrict, UserRc, X11Forwarding, Command, Environment, ExpiryTime, From, PermitListen, PermitOpen, Principals, Tunnel, LineOption, OptionRow, options, TableRow, table_row}
+use Rattle.ssh_options.specs.declared.option.LineOption.TheVariants.{Switch, Setting}
+use Rattle.ssh_options.specs.OptionNames.{option_row}
 
 found-row : (test : OptionRow → Bool) (rows : List TableRow)
     → option_map table_row (find (λ row. test (table_row row)) rows) ≡ find test (map table_row rows)
@@ -21,7 +16,7 @@ row-found test rows None said h = ap (option_map table_row) h ∙ found-row test
 row-found test rows (Some row) said h = ap (option_map table_row) h ∙ found-row test rows ∙ ap (find test) said
 
 -- each option has a row
-has_row : (option : OptionName) → is_some (option_row option) ≡ true
+has_row : (option : LineOption) → is_some (option_row option) ≡ true
 unfolding option_row
 has_row (Switch AgentForwarding) = refl
 has_row (Switch CertAuthority) = refl
@@ -50,5 +45,5 @@ row-some : (row : Option TableRow) → is_some (option_map table_row row) ≡ is
 row-some None = refl
 row-some (Some row) = refl
 
-pub some_row : (option : OptionName) (row : Option TableRow) → option_map table_row row ≡ option_row option → is_some row ≡ true
+pub some_row : (option : LineOption) (row : Option TableRow) → option_map table_row row ≡ option_row option → is_some row ≡ true
 some_row option row h = sym (row-some row) ∙ ap is_some h ∙ has_row option

@@ -1,19 +1,12 @@
--- The first fault of options, found with only what may not stand again in mind.
-use Rattle.std.proofs.Common.{◌≡◌, ℕ, Bool, true, false, ◌||◌, cond, List, [], ◌∷◌, ◌++◌, Option, Some, None, Result, Ok, Err, refl, ap, ◌∙◌}
-use Rattle.std.specs.Prelude.{option_map, option_and_then}
-use Rattle.ssh_options.specs.declared.option.ValueName.{ValueName}
-use Rattle.ssh_options.specs.declared.option.ValueName.TheVariants.{Command, Environment, ExpiryTime, From, PermitListen, PermitOpen, Principals, Tunnel}
-use Rattle.ssh_options.specs.AuthOption.{AuthOption, Switch, Setting}
-use Rattle.ssh_options.specs.declared.option_check.Seen.{Seen}
-use Rattle.ssh_options.specs.declared.cause.LineCause.{LineCause}
-use Rattle.ssh_options.specs.declared.cause.LineCause.TheVariants as causes
-use Rattle.ssh_options.specs.OptionNames.{same_value_name, option_row}
-use Rattle.ssh_options.specs.OptionText.{OptionItem, option_items, option_item, each_item, has_setting, repeats, has_bad_expiry, option_of, and_option, and_item, options_from, options_of_items, options_of}
-use Rattle.ssh_options.specs.OptionTexts.{first_item}
+-- The first error of options, computed with only the state of those that may appear once.
+use Rattle.ssh_options.proofs.Imports.{◌≡◌, ℕ, Bool, true, false, ◌||◌, cond, List, [], ◌∷◌, ◌++◌, Option, Some, None, Result, Ok, Err, refl, ap, ◌∙◌, option_and_then, ValueName, Command, Environment, ExpiryTime, From, PermitListen, PermitOpen, Principals, Tunnel, AuthOption, Switch, Setting, Seen, LineCause, same_value_name, OptionItem, option_items, option_item, each_item, has_setting, repeats, has_bad_expiry, option_of, and_option, and_item, options_from, options_of_items, first_item, seen_of, none_seen, stood, with_name, and_read_seen, and_item_seen, fault_in}
+use Rattle.std.specs.Prelude.{option_map}
+use Rattle.ssh_options.specs.declared.option_text.LineCause.TheVariants as causes
+use Rattle.ssh_options.specs.OptionNames.{option_row}
+use Rattle.ssh_options.specs.OptionText.{options_of}
 use Rattle.ssh_options.proofs.ItemLemmas.{some_items}
-use Rattle.ssh_options.specs.OptionsInPlace.{seen_of, none_seen, stood, with_name, and_read_seen, and_item_seen, fault_in}
 
--- ---- what has stood
+-- ---- which options have been read
 
 or-after : (a b : Bool) (c : Bool) → (a || (b || c)) ≡ ((a || b) || c)
 or-after true b c = refl
@@ -55,7 +48,7 @@ stood-repeats Tunnel value before = refl
 
 -- ---- one more option
 
--- the same options, by what has stood
+-- the same options, by which have been read
 abbrev pub seen_in : Result (List AuthOption) LineCause → Result Seen LineCause
 seen_in (Err cause) = Err cause
 seen_in (Ok options) = Ok (seen_of options)
@@ -95,7 +88,7 @@ abbrev fault_by : Result Seen LineCause → Option (List OptionItem) → Option 
 fault_by so_far None = Some causes.OptionSyntax
 fault_by so_far (Some items) = fault_in (seen_from so_far items)
 
--- the first fault of the options so far and of the items that are left
+-- the first error of the options so far and of the items that are left
 abbrev pub fault_from : Result Seen LineCause → List (List ℕ) → Option LineCause
 fault_from so_far texts = fault_by so_far (each_item texts)
 

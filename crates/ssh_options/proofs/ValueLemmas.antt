@@ -1,7 +1,5 @@
 -- A value and its text between quotes.
-use Rattle.std.proofs.Common.{◌≡◌, ℕ, Bool, true, false, ◌&&◌, ◌==◌, if◌then◌else◌, inl, inr, List, [], ◌∷◌, ◌++◌, Some, refl, sym, ap, subst}
-use Rattle.std.proofs.lemmas.Bool.{cases_Bool, eqb-true}
-use Rattle.ssh_options.specs.OptionText.{escaped, unescaped, ends_with_backslash, begins_with_quote, closed_by_quote}
+use Rattle.ssh_options.proofs.Imports.{◌≡◌, ℕ, Bool, true, false, ◌&&◌, ◌==◌, if◌then◌else◌, inl, inr, List, [], ◌∷◌, ◌++◌, Some, refl, sym, ap, subst, cases_Bool, eqb-true, escaped, unescaped, ends_with_backslash, begins_with_quote, closed_by_quote}
 
 begins-escaped : (v : List ℕ) → begins_with_quote (escaped v) ≡ false
 begins-escaped [] = refl
@@ -11,7 +9,7 @@ begins-escaped (c ∷ cs) =
       | inr e ↦ rw (e, e) refl
     ]
 
--- what stands between the quotes is the value
+-- the bytes between the quotes give the value
 pub unescaped-escaped : (v : List ℕ) → unescaped (escaped v) ≡ v
 unescaped-escaped [] = refl
 unescaped-escaped (c ∷ cs) =

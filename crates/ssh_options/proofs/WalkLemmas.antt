@@ -1,10 +1,5 @@
 -- The walk over the first item of a text ends where the item is cut off.
-use Rattle.std.proofs.Common.{◌≡◌, ℕ, Bool, true, false, not, ◌&&◌, ◌==◌, if◌then◌else◌, inl, inr, List, [], ◌∷◌, Option, Some, None, option_map, length, refl, sym, ap, subst, ◌∙◌, arith}
-use Rattle.std.specs.Prelude.{option_and_then}
-use Rattle.std.specs.List.{onto_first}
-use Rattle.std.proofs.lemmas.Bool.{cases_Bool, eqb-true, ne_eqb}
-use Rattle.ssh_options.specs.OptionText.{OptionItem, option_items, is_open_quote, turned, is_name_byte, name_part, after_name, unescaped, closed_by_quote, value_of, named_item}
-use Rattle.ssh_options.specs.OptionTexts.{first_item, split_at_quote, split_value}
+use Rattle.ssh_options.proofs.Imports.{◌≡◌, ℕ, Bool, true, false, not, ◌&&◌, ◌==◌, if◌then◌else◌, inl, inr, List, [], ◌∷◌, Option, Some, None, option_map, length, refl, sym, ap, subst, ◌∙◌, arith, option_and_then, onto_first, cases_Bool, eqb-true, ne_eqb, OptionItem, option_items, is_open_quote, turned, is_name_byte, name_part, after_name, unescaped, closed_by_quote, value_of, named_item, first_item, split_at_quote, split_value}
 use Rattle.ssh_options.proofs.OptionLemmas.{plain-from_name_byte}
 
 -- a comma before a text is as nothing before it
@@ -14,7 +9,7 @@ comma-before (c ∷ cs) = refl
 
 -- ---- the walk
 
--- what stands after an item of a text that ends with its options: nothing, or a comma and the text of more items
+-- what follows an item of a text that ends with its options: nothing, or a comma and the text of more items
 abbrev pub item_end : List ℕ → Option (Option (List ℕ))
 item_end [] = Some None
 item_end (c ∷ cs) = if c == 44 then Some (Some cs) else None

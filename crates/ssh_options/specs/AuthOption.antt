@@ -3,7 +3,7 @@ use Rattle.std.specs.Prelude.{ℕ, List}
 use Rattle.ssh_options.specs.declared.option.Flag.{Flag}
 use Rattle.ssh_options.specs.declared.option.ValueName.{ValueName}
 
--- a flag, or a name with its value as it is meant: `\"` of the line is a quote
+-- a flag, or a name with its value without escapes, in which `\"` of the line is a quote
 pub data AuthOption : Type 0 where
   Switch : Flag → AuthOption
   Setting : ValueName → List ℕ → AuthOption

@@ -9,3 +9,7 @@ pub mod SameOptions
 pub mod SameLaws
 pub mod OptionFaults
 pub mod AllNames
+pub mod Expiry
+pub mod CivilFacts
+pub mod Moment
+pub mod Samples

@@ -8,21 +8,21 @@ use Rattle.ssh_options.specs.declared.option.Flag.{Flag}
 use Rattle.ssh_options.specs.declared.option.Flag.TheVariants.{AgentForwarding, CertAuthority, NoAgentForwarding, NoPortForwarding, NoPty, NoUserRc, NoX11Forwarding, PortForwarding, Pty, NoTouchRequired, VerifyRequired, Restrict, UserRc, X11Forwarding}
 use Rattle.ssh_options.specs.declared.option.ValueName.{ValueName}
 use Rattle.ssh_options.specs.declared.option.ValueName.TheVariants.{Command, Environment, ExpiryTime, From, PermitListen, PermitOpen, Principals, Tunnel}
-use Rattle.ssh_options.specs.declared.option.OptionName.{OptionName}
-use Rattle.ssh_options.specs.declared.option.OptionName.TheVariants.{Switch, Setting}
+use Rattle.ssh_options.specs.declared.option.LineOption.{LineOption}
+use Rattle.ssh_options.specs.declared.option.LineOption.TheVariants.{Switch, Setting}
 use Rattle.ssh_options.specs.declared.option.Times.{Times}
 use Rattle.ssh_options.specs.declared.option.Times.TheVariants.{Once, Any}
 
--- a row of the list: a name, what it stands for, and how often that may stand in a line
+-- a row of the list: a name, its option, and how often that may appear on a line
 pub record OptionRow : Type 0 where
   pub name : List ℕ
-  pub option : OptionName
+  pub option : LineOption
   pub times : Times
 
-abbrev listed : List ℕ → OptionName → Times → OptionRow
+abbrev listed : List ℕ → LineOption → Times → OptionRow
 listed name option times = record { name = name; option = option; times = times }
 
--- sshd(8)'s list; which options may stand only once: OpenSSH's auth-options.c
+-- the list of sshd(8); which options may appear only once is from OpenSSH's auth-options.c
 abbrev pub options : List OptionRow
 options =
     listed (codes "agent-forwarding") (Switch AgentForwarding) Any
@@ -58,14 +58,14 @@ same_flag = sameb flag_type.the_type
 abbrev pub same_value_name : ValueName → ValueName → Bool
 same_value_name = sameb value_type.the_type
 
-abbrev pub same_option : OptionName → OptionName → Bool
+abbrev pub same_option : LineOption → LineOption → Bool
 same_option (Switch a) (Switch b) = same_flag a b
 same_option (Setting a) (Setting b) = same_value_name a b
 same_option (Switch a) (Setting b) = false
 same_option (Setting a) (Switch b) = false
 
--- the row of an option: each has one
-unfoldable pub option_row : OptionName → Option OptionRow
+-- the row of an option; every option has one
+unfoldable pub option_row : LineOption → Option OptionRow
 option_row option = find (λ row. same_option row.option option) options
 
 abbrev pub name_in : Option OptionRow → List ℕ
@@ -80,14 +80,14 @@ abbrev pub is_single_in : Option OptionRow → Bool
 is_single_in None = false
 is_single_in (Some row) = is_once row.times
 
--- the name of a flag, and of a setting, as sshd(8) spells it
+-- the name of a flag, and of an option with a value, as sshd(8) writes it
 abbrev pub flag_name : Flag → List ℕ
 flag_name flag = name_in (option_row (Switch flag))
 
 abbrev pub value_name : ValueName → List ℕ
 value_name value = name_in (option_row (Setting value))
 
--- whether it may stand once in a line
+-- whether it may appear only once on a line
 abbrev pub is_single : ValueName → Bool
 is_single value = is_single_in (option_row (Setting value))
 
@@ -101,16 +101,16 @@ same_name a b = bytes_eq (str_to_ascii_lowercase a) (str_to_ascii_lowercase b)
 unfoldable pub row_named : List ℕ → Option OptionRow
 row_named name = find (λ row. same_name name row.name) options
 
--- what a name stands for
-abbrev pub option_named : List ℕ → Option OptionName
+-- the option with this name
+abbrev pub option_named : List ℕ → Option LineOption
 option_named name = option_map (λ row. row.option) (row_named name)
 
--- the flag, or the setting, that a name stands for
-abbrev pub flag_in : OptionName → Option Flag
+-- the flag, or the name of an option with a value, that a name gives
+abbrev pub flag_in : LineOption → Option Flag
 flag_in (Switch flag) = Some flag
 flag_in (Setting value) = None
 
-abbrev pub value_in : OptionName → Option ValueName
+abbrev pub value_in : LineOption → Option ValueName
 value_in (Switch flag) = None
 value_in (Setting value) = Some value
 

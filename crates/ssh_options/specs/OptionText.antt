@@ -5,22 +5,22 @@ use Rattle.std.specs.Char.{is_ascii_digit, is_ascii_lowercase, is_ascii_uppercas
 use Rattle.ssh_options.specs.declared.option.ValueName.{ValueName}
 use Rattle.ssh_options.specs.declared.option.ValueName.TheVariants.{ExpiryTime}
 use Rattle.ssh_options.specs.AuthOption.{AuthOption, Switch, Setting}
-use Rattle.ssh_options.specs.declared.cause.LineCause.{LineCause}
-use Rattle.ssh_options.specs.declared.cause.LineCause.TheVariants as causes
+use Rattle.ssh_options.specs.declared.option_text.LineCause.{LineCause}
+use Rattle.ssh_options.specs.declared.option_text.LineCause.TheVariants as causes
 use Rattle.ssh_text.specs.Text.{is_blank}
-use Rattle.ssh_options.specs.declared.option.OptionName.{OptionName}
-use Rattle.ssh_options.specs.declared.option.OptionName.TheVariants as names
+use Rattle.ssh_options.specs.declared.option.LineOption.{LineOption}
+use Rattle.ssh_options.specs.declared.option.LineOption.TheVariants as names
 use Rattle.ssh_options.specs.OptionNames.{flag_name, value_name, option_named, same_name, same_value_name, is_single}
-use Rattle.ssh_expiry.specs.Expiry.{is_expiry_text}
+use Rattle.ssh_options.specs.Expiry.{is_expiry_text}
 
 -- ---- spelling
 
--- a value as it stands between its quotes: a backslash stands before each quote, and every other byte for itself
+-- a value between its quotes: a backslash before each quote, and every other byte unchanged
 abbrev pub escaped : List ℕ → List ℕ
 escaped [] = []
 escaped (c ∷ cs) = (if c == 34 then 92 ∷ 34 ∷ [] else c ∷ []) ++ escaped cs
 
--- a value that ends with a backslash cannot stand between quotes
+-- a value that ends with a backslash cannot be quoted, because the backslash would escape the closing quote
 abbrev pub ends_with_backslash : List ℕ → Bool
 ends_with_backslash [] = false
 ends_with_backslash (c ∷ []) = c == 92
@@ -49,19 +49,19 @@ SpellsItems (option ∷ []) text = SpellsOption option text
 SpellsItems (option ∷ next ∷ options) text =
     (first rest : List ℕ) × SpellsOption option first × SpellsItems (next ∷ options) rest × (text ≡ first ++ 44 ∷ rest)
 
--- ---- what a line may hold
+-- ---- what is allowed on a line
 
 abbrev pub has_setting : ValueName → List AuthOption → Bool
 has_setting name [] = false
 has_setting name (Switch flag ∷ options) = has_setting name options
 has_setting name (Setting other value ∷ options) = same_value_name other name || has_setting name options
 
--- one that may stand once, and stands before
+-- the option may appear only once, and is among those before it
 abbrev pub repeats : List AuthOption → AuthOption → Bool
 repeats before (Switch flag) = false
 repeats before (Setting name value) = is_single name && has_setting name before
 
--- an expiry time that is none
+-- an expiry-time option whose value is not an expiry time
 abbrev pub has_bad_expiry : AuthOption → Bool
 has_bad_expiry (Switch flag) = false
 has_bad_expiry (Setting name value) = same_value_name name ExpiryTime && not (is_expiry_text value)
@@ -70,7 +70,7 @@ abbrev pub can_be_quoted : AuthOption → Bool
 can_be_quoted (Switch flag) = true
 can_be_quoted (Setting name value) = not (ends_with_backslash value)
 
--- the options of a line, after those that stand before them
+-- the options may appear on a line, after those before them
 abbrev pub AreAllowed : List AuthOption → List AuthOption → Type 0
 AreAllowed before [] = Unit {0}
 AreAllowed before (option ∷ options) =
@@ -79,15 +79,14 @@ AreAllowed before (option ∷ options) =
 
 -- ---- reading
 
--- whether a byte is a quote that does not stand right after a backslash
+-- whether a byte is a quote that is not right after a backslash
 abbrev pub is_open_quote : ℕ → ℕ → Bool
 is_open_quote last c = (c == 34) && not (last == 92)
 
 abbrev pub turned : Bool → Bool → Bool
 turned quote inside = if quote then not inside else inside
 
--- The option text ends at the first blank outside quotes: an even number of quotes stands before it, those right
--- after a backslash not counted. `inside` says whether an odd number came before, and `last` is the byte before.
+-- The option text ends at the first blank outside quotes: the number of quotes before it is even, without those right after a backslash. `inside` is true where an odd number came before, and `last` is the byte before.
 abbrev pub option_text_of : Bool → ℕ → List ℕ → List ℕ
 option_text_of inside last [] = []
 option_text_of inside last (c ∷ cs) =
@@ -116,7 +115,7 @@ abbrev pub begins_with_quote : List ℕ → Bool
 begins_with_quote [] = false
 begins_with_quote (c ∷ cs) = c == 34
 
--- `\"` stands for a quote, and every other byte for itself
+-- the value without escapes: a quote for each `\"`, and every other byte unchanged
 abbrev pub unescaped : List ℕ → List ℕ
 unescaped [] = []
 unescaped (c ∷ cs) = if (c == 92) && begins_with_quote cs then unescaped cs else c ∷ unescaped cs
@@ -151,8 +150,8 @@ abbrev pub each_item : List (List ℕ) → Option (List OptionItem)
 each_item [] = Some []
 each_item (text ∷ texts) = option_and_then (λ item. option_map (λ items. item ∷ items) (each_item texts)) (option_item text)
 
--- the option of an item: its name must be listed, and have a value exactly if it is the name of a setting
-abbrev pub option_by_name : Option OptionName → Option (List ℕ) → Result AuthOption LineCause
+-- the option of an item: its name must be listed, and it must have a value exactly if it is not a flag
+abbrev pub option_by_name : Option LineOption → Option (List ℕ) → Result AuthOption LineCause
 option_by_name None value = Err causes.UnknownOption
 option_by_name (Some (names.Switch flag)) None = Ok (Switch flag)
 option_by_name (Some (names.Switch flag)) (Some value) = Err causes.OptionValue
@@ -162,7 +161,7 @@ option_by_name (Some (names.Setting name)) None = Err causes.OptionValue
 abbrev pub option_of : OptionItem → Result AuthOption LineCause
 option_of item = option_by_name (option_named item.name) item.value
 
--- the options with one more, or the first fault
+-- the options with one more, or the first error
 abbrev pub and_option : List AuthOption → Result AuthOption LineCause → Result (List AuthOption) LineCause
 and_option before (Err cause) = Err cause
 and_option before (Ok option) =
@@ -183,6 +182,6 @@ abbrev pub options_of_items : Option (List OptionItem) → Result (List AuthOpti
 options_of_items None = Err causes.OptionSyntax
 options_of_items (Some items) = options_from (Ok []) items
 
--- what an option text says, or its first fault
+-- the options of an option text, or its first error
 unfoldable pub options_of : List ℕ → Result (List AuthOption) LineCause
 options_of text = options_of_items (each_item (option_items false 0 text))

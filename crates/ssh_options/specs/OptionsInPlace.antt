@@ -1,15 +1,15 @@
--- Options that are read where they stand in a line: quotes that are escaped, and what may not stand again.
+-- The first error of options that are read in place, and their escaped quotes.
 use Rattle.std.specs.Prelude.{ℕ, Bool, false, ◌||◌, ◌&&◌, ◌==◌, if◌then◌else◌, List, [], ◌∷◌, Option, Some, None, Result, Ok, Err}
 use Rattle.ssh_options.specs.declared.option.ValueName.{ValueName}
 use Rattle.ssh_options.specs.declared.option.ValueName.TheVariants.{Command, Environment, ExpiryTime, From, PermitListen, PermitOpen, Principals, Tunnel}
 use Rattle.ssh_options.specs.AuthOption.{AuthOption, Switch, Setting}
-use Rattle.ssh_options.specs.declared.option_check.Seen.{Seen}
-use Rattle.ssh_options.specs.declared.cause.LineCause.{LineCause}
-use Rattle.ssh_options.specs.declared.cause.LineCause.TheVariants as causes
+use Rattle.ssh_options.specs.declared.option_text.Seen.{Seen}
+use Rattle.ssh_options.specs.declared.option_text.LineCause.{LineCause}
+use Rattle.ssh_options.specs.declared.option_text.LineCause.TheVariants as causes
 use Rattle.ssh_options.specs.OptionNames.{same_value_name}
 use Rattle.ssh_options.specs.OptionText.{OptionItem, begins_with_quote, has_setting, has_bad_expiry, option_of}
 
--- an escaped quote stands between the quotes
+-- whether there is an escaped quote between the quotes
 abbrev pub has_escape : List ℕ → Bool
 has_escape [] = false
 has_escape (c ∷ cs) = ((c == 92) && begins_with_quote cs) || has_escape cs
@@ -24,9 +24,9 @@ abbrev pub escapes_first : List ℕ → Bool
 escapes_first [] = false
 escapes_first (c ∷ cs) = (c == 92) && begins_with_quote cs
 
--- ---- what may stand once
+-- ---- what may appear only once
 
--- which of the options that may stand once are among the options
+-- which of the options that may appear only once are among the options
 abbrev pub seen_of : List AuthOption → Seen
 seen_of options = record {
   command = has_setting Command options;
@@ -37,7 +37,7 @@ seen_of options = record {
 abbrev pub none_seen : Seen
 none_seen = record { command = false; from = false; principals = false }
 
--- an option of this name may stand once, and has stood
+-- an option of this name may appear only once, and has been read
 abbrev pub stood : Seen → ValueName → Bool
 stood seen Command = seen.command
 stood seen From = seen.from
@@ -55,7 +55,7 @@ with_name seen name = record {
   principals = seen.principals || same_value_name name Principals;
 }
 
--- ---- the first fault, where of the options before an item only that is known
+-- ---- the first error, where only that state is known of the options before an item
 
 abbrev pub and_seen : Seen → AuthOption → Result Seen LineCause
 and_seen seen (Switch flag) = Ok seen
@@ -72,7 +72,7 @@ abbrev pub and_item_seen : Result Seen LineCause → OptionItem → Result Seen 
 and_item_seen (Err cause) item = Err cause
 and_item_seen (Ok seen) item = and_read_seen seen (option_of item)
 
--- the fault, where there is one
+-- the error, if there is one
 abbrev pub fault_in : {A : Type 0} → Result A LineCause → Option LineCause
 fault_in (Ok x) = None
 fault_in (Err cause) = Some cause

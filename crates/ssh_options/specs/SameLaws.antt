@@ -1,4 +1,4 @@
--- The tests for the same options tell just those that are equal.
+-- The tests for equal options are true exactly where the options are equal.
 use Rattle.std.specs.Prelude.{◌≡◌, ℕ, Bool, true, false, ◌&&◌, List, bytes_eq}
 use Rattle.std.specs.Bool.{Decides}
 use Rattle.std.specs.Cmp.{first_so, second_so}
@@ -36,7 +36,7 @@ setting_same a b value other h k = ap (λ name. Setting name value) h ∙ ap (λ
 both_true : (s t : Bool) → s ≡ true → t ≡ true → (s && t) ≡ true
 both_true s t h k = ap (λ b. b && t) h ∙ k
 
--- the test of two options tells whether they are equal
+-- the test of two options decides whether they are equal
 pub option_decides : (a b : AuthOption) → Decides (is_same_option a b) (a ≡ b)
 unfolding flag_or is_switch name_or value_or
 option_decides (Switch a) (Switch b) =
@@ -52,6 +52,6 @@ option_decides (Setting a value) (Setting b other) = (
       ((bytes_decides value other).1 (ap (value_or value) e)),
 )
 
--- that of two lists tells whether they are
+-- the test of two lists decides whether they are equal
 pub options_decide : (a b : List AuthOption) → Decides (are_same_options a b) (a ≡ b)
 options_decide = pointwise_decides option_decides

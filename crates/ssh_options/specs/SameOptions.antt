@@ -11,6 +11,6 @@ is_same_option (Switch a) (Setting b other) = false
 is_same_option (Setting a value) (Switch b) = false
 is_same_option (Setting a value) (Setting b other) = same_value_name a b && bytes_eq value other
 
--- the same of lists, option by option
+-- whether two lists have the same options, one by one
 abbrev pub are_same_options : List AuthOption → List AuthOption → Bool
 are_same_options = pointwise is_same_option

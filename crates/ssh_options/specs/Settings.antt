@@ -1,4 +1,4 @@
--- What an entry's options say (sshd(8), AUTHORIZED_KEYS FILE FORMAT).
+-- The flags and the values among a line's options (sshd(8), AUTHORIZED_KEYS FILE FORMAT).
 use Rattle.std.specs.Prelude.{ℕ, Bool, false, ◌||◌, if◌then◌else◌, List, [], ◌∷◌, Option, Some, None}
 use Rattle.ssh_options.specs.declared.option.Flag.{Flag}
 use Rattle.ssh_options.specs.declared.option.ValueName.{ValueName}
@@ -11,7 +11,7 @@ has_flag flag [] = false
 has_flag flag (Switch other ∷ options) = same_flag other flag || has_flag flag options
 has_flag flag (Setting name value ∷ options) = has_flag flag options
 
--- the values of a setting, in their order
+-- the values of the options with this name, in their order
 abbrev pub settings : ValueName → List AuthOption → List (List ℕ)
 settings name [] = []
 settings name (Switch flag ∷ options) = settings name options
@@ -22,6 +22,6 @@ abbrev pub first_of : List (List ℕ) → Option (List ℕ)
 first_of [] = None
 first_of (value ∷ values) = Some value
 
--- the value of a setting that may stand once
+-- the first value of an option that may appear only once
 abbrev pub setting : ValueName → List AuthOption → Option (List ℕ)
 setting name options = first_of (settings name options)

@@ -1,9 +1,10 @@
-//! The options of authorized_keys lines (sshd(8), AUTHORIZED_KEYS FILE FORMAT).
+//! The options of authorized_keys lines, and their expiry times (sshd(8), AUTHORIZED_KEYS FILE
+//! FORMAT).
 //!
-//! They are read in place: no memory is taken until a caller copies them. A refusal is the first
-//! fault, as `LineCause`: that of the whole text's form, then those of its items from the left. A
-//! caller that asks whether a line grants a terminal, and for its forced command (a test runs these
-//! lines):
+//! Options are read in place: memory is allocated only where a caller copies a value. An option
+//! text that cannot be read gives its first error as a `LineCause`: a wrong form of the whole text,
+//! or else the first error of the items from the left. An example: whether a line grants a
+//! terminal, and its forced command (a test runs these lines):
 //!
 //! ```
 //! let (options, _key) = OptionsView::take(line)?;
@@ -13,19 +14,26 @@
 //!     None => Ok((terminal, None)),
 //! }
 //! ```
+//!
+//! Expiry times are moments in seconds from the start of 1970 in UTC. A text that is not an expiry
+//! time has no moment. An example: whether a line has expired (a test runs these lines):
+//!
+//! ```
+//! let zone = TimeZone::posix("CET-1CEST,M3.5.0,M10.5.0/3")?;
+//! let moment = expiry(alloc, text, &zone)?;
+//! Ok(moment.map(|moment| moment <= now))
+//! ```
 #![tactic(auto)]
 
-mod cause;
+mod expiry_time;
 mod option;
-mod option_check;
 mod option_text;
-mod option_view;
 mod options_view;
 mod samples;
 mod value_view;
 
-pub use cause::LineCause;
+pub use expiry_time::{epoch, expiry, is_expiry_text};
 pub use option::{Flag, ValueName};
-pub use option_view::OptionView;
-pub use options_view::{OptionsView, SettingViews};
+pub use option_text::LineCause;
+pub use options_view::{OptionView, OptionsView, SettingViews};
 pub use value_view::{ValueBytes, ValueView};

@@ -1,21 +1,10 @@
-//! The options of an authorized_keys line.
+//! The names of the options of authorized_keys lines (sshd(8), AUTHORIZED_KEYS FILE FORMAT).
 
 ghost use Rattle.std.specs.Prelude.{◌≡◌, Some, option_map, map};
-ghost use Rattle.ssh_options.specs.OptionNames.{
-  options,
-  option_row,
-  row_named,
-  option_named,
-  flag_name,
-  flag_named,
-  value_name,
-  value_named,
-  is_single,
-  same_name,
-};
+ghost use Rattle.ssh_options.specs.OptionNames.{options, option_row, row_named, option_named, flag_name, flag_named, value_name, value_named, is_single, same_name};
 ghost use Rattle.ssh_options.specs.OptionTexts.{table_row};
 
-use OptionName::{Setting, Switch};
+use LineOption::{Setting, Switch};
 use Times::{Any, Once};
 
 /// An option without a value (sshd(8), AUTHORIZED_KEYS FILE FORMAT).
@@ -50,25 +39,26 @@ pub enum ValueName {
     Tunnel,
 }
 
-/// What a name stands for.
+/// An option: a flag, or the name of an option with a value.
 #[derive(Clone, Copy, PartialEq, Eq)]
-pub(crate) enum OptionName {
+pub(crate) enum LineOption {
     Switch(Flag),
     Setting(ValueName),
 }
 
-/// How often an option may stand in a line.
+/// How often an option may appear on a line.
 #[derive(Clone, Copy, PartialEq, Eq)]
 pub(crate) enum Times {
     Once,
     Any,
 }
 
-/// A row of the list of options: a name, what it stands for, and how often that may stand in a
-/// line.
-type Row = (&'static [u8], OptionName, Times);
+/// A row of the list of options: a name, its option, and how often that may appear on a line.
+type Row = (&'static [u8], LineOption, Times);
 
-/// The options, as sshd(8) lists and spells them. What may stand once is this project's rule.
+/// The options in the order and with the names of sshd(8). Which of them may appear only once is
+/// this project's rule: two `command`, `from` or `principals` options have no meaning that all
+/// readers share.
 const OPTIONS: [Row; 22] = [
     (b"agent-forwarding", Switch(Flag::AgentForwarding), Any),
     (b"cert-authority", Switch(Flag::CertAuthority), Any),
@@ -94,15 +84,14 @@ const OPTIONS: [Row; 22] = [
     (b"tunnel", Setting(ValueName::Tunnel), Any),
 ];
 
-/// The rows of the list.
 fn options() -> &'static [Row]
     ensures { map table_row result.now ≡ options }
 {
     &OPTIONS
 }
 
-/// The row of an option: each has one.
-fn row_of(option: OptionName) -> Row
+/// The row of an option. Every option has one.
+fn row_of(option: LineOption) -> Row
     ensures { option_row option ≡ Some (table_row result) }
 {
     options()
@@ -119,8 +108,8 @@ fn row_named(name: &[u8]) -> Option<Row>
     options().iter().copied().find(|row| same_name(name, row.0))
 }
 
-/// What the name stands for, in any ASCII case.
-pub(crate) fn option_named(name: &[u8]) -> Option<OptionName>
+/// The option with this name, in any ASCII case.
+pub(crate) fn option_named(name: &[u8]) -> Option<LineOption>
     ensures { result ≡ option_named name.now }
 {
     let row = row_named(name)?;
@@ -146,20 +135,21 @@ impl Flag {
         Flag::X11Forwarding,
     ];
 
-    /// The name, as sshd(8) spells it.
+    /// The name as sshd(8) writes it.
     pub fn name(self) -> &'static [u8]
         ensures { result.now ≡ flag_name self }
     {
-        row_of(OptionName::Switch(self)).0
+        row_of(LineOption::Switch(self)).0
     }
 
-    /// The flag with this name, in any ASCII case.
+    /// The flag with this name, in any ASCII case. `None` also for the name of an option with a
+    /// value.
     pub fn named(name: &[u8]) -> Option<Flag>
         ensures { result ≡ flag_named name.now }
     {
         match option_named(name)? {
-            OptionName::Switch(flag) => Some(flag),
-            OptionName::Setting(_) => None,
+            LineOption::Switch(flag) => Some(flag),
+            LineOption::Setting(_) => None,
         }
     }
 }
@@ -177,32 +167,32 @@ impl ValueName {
         ValueName::Tunnel,
     ];
 
-    /// The name, as sshd(8) spells it.
+    /// The name as sshd(8) writes it.
     pub fn name(self) -> &'static [u8]
         ensures { result.now ≡ value_name self }
     {
-        row_of(OptionName::Setting(self)).0
+        row_of(LineOption::Setting(self)).0
     }
 
-    /// The option with this name, in any ASCII case.
+    /// The option with this name, in any ASCII case. `None` also for the name of a flag.
     pub fn named(name: &[u8]) -> Option<ValueName>
         ensures { result ≡ value_named name.now }
     {
         match option_named(name)? {
-            OptionName::Switch(_) => None,
-            OptionName::Setting(value) => Some(value),
+            LineOption::Switch(_) => None,
+            LineOption::Setting(value) => Some(value),
         }
     }
 
-    /// It may stand once in a line (this project's rule).
+    /// Whether it may appear only once on a line (this project's rule).
     pub fn is_single(self) -> bool
         ensures { result ≡ is_single self }
     {
-        row_of(OptionName::Setting(self)).2 == Times::Once
+        row_of(LineOption::Setting(self)).2 == Times::Once
     }
 }
 
-/// The names are the same without regard to ASCII case.
+/// The names are equal without regard to ASCII case.
 pub(crate) fn same_name(a: &[u8], b: &[u8]) -> bool
     ensures { result ≡ same_name a.now b.now }
 {

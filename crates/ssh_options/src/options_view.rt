@@ -1,35 +1,55 @@
-//! The options of a line, in its text.
+//! The options at the front of an authorized_keys line, read in place.
 
-ghost use Rattle.std.specs.Prelude.{
-  ◌≡◌,
-  ◌↔◌,
-  [],
-  List,
-  IfOk,
-  IsTrue,
-  drop,
-  false,
-  length,
-  option_map,
-};
-ghost use Rattle.std.specs.Iterator.{YieldsFirst, YieldsFirstBy, item_count};
+ghost use Rattle.std.specs.Prelude.{◌≡◌, ◌↔◌, [], List, IfOk, IsTrue, drop, false, length, option_map};
 ghost use Rattle.ssh_wire.specs.Reading.{Gives};
-ghost use Rattle.ssh_options.specs.OptionText.{option_text_of, options_of};
-ghost use Rattle.ssh_options.specs.OptionTexts.{front_items};
+ghost use Rattle.ssh_options.specs.OptionText.{option_name, option_of, option_text_of, options_of};
+ghost use Rattle.ssh_options.specs.OptionTexts.{plain_item, front_items};
+ghost use Rattle.ssh_options.specs.OptionsInLine.{option_in_line, option_taken, first_option};
+ghost use Rattle.std.specs.Iterator.{YieldsFirst, YieldsFirstBy, item_count};
 ghost use Rattle.ssh_options.specs.SameOptions.{are_same_options};
 ghost use Rattle.ssh_options.specs.Settings.{has_flag, settings};
-ghost use Rattle.ssh_options.specs.OptionsInLine.{option_in_line, option_taken, first_option};
 
-use crate::cause::LineCause;
-use crate::option::{Flag, ValueName};
-use crate::option_check::after_options;
-use crate::option_text::{After, take_item};
-use crate::option_view::{OptionView, view_option};
+use crate::option::{Flag, LineOption, ValueName, option_named};
+use crate::option_text::{After, ItemText, LineCause, after_options, take_item};
 use crate::value_view::ValueView;
 use std::marker::Model;
 
-/// The options of a line that are left, at the front of what is left of the line. Contracts see them
-/// as the list.
+/// An option of an authorized_keys line. A value refers to the bytes of the line.
+#[derive(Debug, Drop, PartialEq, Eq)]
+pub enum OptionView<'a> {
+    Switch(Flag),
+    Setting(ValueName, ValueView<'a>),
+}
+
+/// The option of an item. Its name must be listed, and it must have a value exactly if it is not a
+/// flag.
+pub(crate) fn view_option(item: ItemText<'_>) -> Result<OptionView<'_>, LineCause>
+    ensures { Gives option_in_line result (option_of (plain_item item.entry)) }
+{
+    match (option_named(item.name), item.value) {
+        (None, _) => Err(LineCause::UnknownOption),
+        (Some(LineOption::Switch(flag)), None) => Ok(OptionView::Switch(flag)),
+        (Some(LineOption::Setting(name)), Some(quoted)) => {
+            Ok(OptionView::Setting(name, ValueView::new(quoted)))
+        }
+        _ => Err(LineCause::OptionValue),
+    }
+}
+
+impl OptionView<'_> {
+    /// The name as sshd(8) writes it, whatever case the line has.
+    pub fn name(&self) -> &'static [u8]
+        ensures { result.now ≡ option_name (option_in_line self.now) }
+    {
+        match self {
+            OptionView::Switch(flag) => flag.name(),
+            OptionView::Setting(name, _) => name.name(),
+        }
+    }
+}
+
+/// The options that have not been read yet, at the front of the rest of the line. Contracts see
+/// them as a list of options.
 #[derive(Debug, Drop)]
 pub struct OptionsView<'a> {
     rest: Option<&'a [u8]>,
@@ -50,7 +70,7 @@ impl<'a> Model for OptionsView<'a> {
         ≡ Some (options_in (texts_left (option_copied o.rest))) };
 }
 
-/// The first option at the front of a text, and what stands after it, if its item is an option.
+/// The first option at the front of a text, and what follows it, if its item is an option.
 fn take_option(text: &[u8]) -> Option<(OptionView<'_>, After<'_>)>
     ensures { option_map option_taken result ≡ first_option (front_items text.now) }
 {
@@ -62,7 +82,7 @@ fn take_option(text: &[u8]) -> Option<(OptionView<'_>, After<'_>)>
 }
 
 impl<'a> OptionsView<'a> {
-    /// No options.
+    /// No options, as for a line that begins with its key type.
     pub fn none() -> OptionsView<'a>
         ensures { result ≡ [] }
     {
@@ -71,8 +91,8 @@ impl<'a> OptionsView<'a> {
 
     /// The options at the front of a text, and what follows them (sshd(8), AUTHORIZED_KEYS FILE
     /// FORMAT). They end at the first blank outside quotes, a space or a tab; a quote right after a
-    /// backslash does not count. Or their first fault: that of the form of all, then those of the items
-    /// from the left. No memory is taken.
+    /// backslash does not count. Or their first error: a wrong form of the whole text, or else the
+    /// first error of the items from the left. Nothing is allocated.
     pub fn take(text: &'a [u8]) -> Result<(OptionsView<'a>, &'a [u8]), LineCause>
         ensures options { Gives (λ parts. parts.0) result
             (options_of (option_text_of false 0 text.entry.now)) }
@@ -83,7 +103,7 @@ impl<'a> OptionsView<'a> {
         Ok((OptionsView { rest: Some(text) }, rest))
     }
 
-    /// The same options again.
+    /// The same options, to be read again from here.
     pub fn again(&self) -> OptionsView<'a>
         ensures { result ≡ self.now }
     {
@@ -97,7 +117,7 @@ impl<'a> OptionsView<'a> {
         has_flag(flag, self.again())
     }
 
-    /// The values of the option with this name, in their order.
+    /// The values of the options with this name, in their order.
     pub fn settings(&self, name: ValueName) -> SettingViews<'a>
         ensures { result ≡ settings name self.now }
     {
@@ -122,8 +142,7 @@ impl<'a> Iterator for OptionsView<'a> {
     }
 }
 
-/// Lists of options are equal exactly where the options are, one by one,
-/// whatever of their values the lines escape.
+/// Lists are equal where their options are equal, one by one. A value counts without its escapes.
 impl PartialEq for OptionsView<'_> {
     ghost use Rattle.std.specs.Cmp.{decided, partial_equiv_from_equiv};
     ghost use Rattle.ssh_options.specs.SameLaws.{options_decide};
@@ -150,7 +169,6 @@ impl Eq for OptionsView<'_> {
     ghost laws = { decided are_same_options options_decide };
 }
 
-/// Whether both lists have the same options, one by one.
 fn are_same_options(options: OptionsView<'_>, mut others: OptionsView<'_>) -> bool
     ensures { result ≡ are_same_options options.entry others.entry }
 {
@@ -162,7 +180,6 @@ fn are_same_options(options: OptionsView<'_>, mut others: OptionsView<'_>) -> bo
     others.next().is_none()
 }
 
-/// Whether the flag is among the options.
 fn has_flag(flag: Flag, options: OptionsView<'_>) -> bool
     ensures { result ≡ has_flag flag options.entry }
 {
@@ -176,8 +193,8 @@ fn has_flag(flag: Flag, options: OptionsView<'_>) -> bool
     false
 }
 
-/// The values of the options with one name, in their line and in their order. Contracts see those
-/// that are left.
+/// The values of the options with one name, in their order. Contracts see the values that have not
+/// been read yet.
 #[derive(Debug, Drop)]
 pub struct SettingViews<'a> {
     name: ValueName,

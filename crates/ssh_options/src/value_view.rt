@@ -1,19 +1,19 @@
-//! The value of an option, in its line.
+//! The value of an option, read in place in its line.
 
 ghost use Rattle.std.specs.Prelude.{◌≡◌, ◌↔◌, length, IfOk, IfSome, IsOk, IsSome, IsTrue, bytes_eq, false};
 ghost use Rattle.std.specs.Iterator.{YieldsFirst, item_count};
-ghost use Rattle.ssh_expiry.specs.Expiry.{is_expiry_text};
+ghost use Rattle.ssh_options.specs.Expiry.{is_expiry_text};
 ghost use Rattle.ssh_options.specs.OptionText.{unescaped};
 ghost use Rattle.ssh_options.specs.OptionsInPlace.{has_escape, has_quote, escapes_first};
 
+use crate::expiry_time::is_expiry_text;
 use crate::option_text::{begins_with_quote, unescape};
-use ssh_expiry::is_expiry_text;
 use ssh_text::Bytes;
 use std::alloc::{AllocError, Global};
 use std::marker::Model;
 
-/// The value of an option, as it stands between its quotes. Contracts see the value that is meant:
-/// `\"` of the line is a quote.
+/// The value of an option: the bytes between its quotes. Contracts see the value without its
+/// escapes, in which `\"` is a quote.
 #[derive(Debug, Drop)]
 pub struct ValueView<'a> {
     quoted: &'a [u8],
@@ -28,7 +28,7 @@ impl<'a> Model for ValueView<'a> {
     ghost view = { λ v. unescaped v.quoted.now };
 }
 
-/// There is an escaped quote in what stands between quotes.
+/// Whether `\"` is among the bytes between quotes.
 fn has_escape(quoted: &[u8]) -> bool
     ensures { result ≡ has_escape quoted.now }
 {
@@ -41,14 +41,15 @@ fn has_escape(quoted: &[u8]) -> bool
 }
 
 impl<'a> ValueView<'a> {
-    /// The value that stands between quotes.
+    /// The value of the bytes between quotes.
     pub(crate) fn new(quoted: &'a [u8]) -> ValueView<'a>
         ensures { result ≡ unescaped quoted.entry.now }
     {
         ValueView { quoted }
     }
 
-    /// The value in its line; none where a quote stands in it, which the line escapes.
+    /// The value as a slice of its line. `None` where it has an escaped quote, because its bytes
+    /// are then not those of the line: use `bytes` or `to_bytes`.
     #[tactic(auto, using(crate::proofs::EscapeLemmas::plain_unescaped, crate::proofs::EscapeLemmas::escape_has_quote))]
     pub fn in_place(&self) -> Option<&'a [u8]>
         ensures value { IfSome result (λ text. text.now ≡ self.now) }
@@ -61,21 +62,22 @@ impl<'a> ValueView<'a> {
         }
     }
 
-    /// The bytes of the value, one by one.
+    /// The bytes of the value without its escapes.
     pub fn bytes(&self) -> ValueBytes<'a>
         ensures { result ≡ self.now }
     {
         ValueBytes { rest: self.quoted }
     }
 
-    /// The value is this text.
+    /// Whether the value is this text.
     pub fn is_text(&self, text: &[u8]) -> bool
         ensures { IsTrue result ↔ (self.now ≡ text.now) }
     {
         is_text(self.bytes(), text)
     }
 
-    /// The value is an expiry time.
+    /// Whether the value is an expiry time. One with an escaped quote is not, because it has a
+    /// quote.
     #[tactic(auto, using(crate::proofs::EscapeLemmas::plain_unescaped, crate::proofs::EscapeLemmas::escape_no_expiry))]
     pub(crate) fn is_expiry_text(&self) -> bool
         ensures { result ≡ is_expiry_text self.now }
@@ -83,11 +85,11 @@ impl<'a> ValueView<'a> {
         !has_escape(self.quoted) && is_expiry_text(self.quoted)
     }
 
-    /// The value, copied. `Err` means out of memory, and nothing else.
+    /// A copy of the value without its escapes. Fails only when memory cannot be allocated.
     #[tactic(auto, using(crate::proofs::EscapeLemmas::unescaped_none))]
     pub fn to_bytes(&self, alloc: Global) -> Result<Bytes, AllocError>
         ensures value { IfOk result (λ value. value ≡ self.now) }
-        // A value of no bytes takes no memory.
+        // An empty value allocates nothing.
         ensures spare { length self.now ≡ 0 → IsOk result }
     {
         let value = unescape(alloc, self.quoted)?;
@@ -95,7 +97,7 @@ impl<'a> ValueView<'a> {
     }
 }
 
-/// Values are equal exactly where what is meant is, whatever of it the lines escape.
+/// Values are equal without their escapes.
 impl PartialEq for ValueView<'_> {
     ghost use Rattle.std.specs.Cmp.{partial_equiv_from_equiv};
     ghost use Rattle.std.specs.Cmp.Lexicographic.{nat_list_eq_equiv};
@@ -119,7 +121,7 @@ impl Eq for ValueView<'_> {
     ghost laws = { nat_list_eq_equiv };
 }
 
-/// Whether the bytes that are left are the same.
+/// Whether the bytes that have not been read yet are the same.
 fn are_same_bytes(bytes: ValueBytes<'_>, mut other: ValueBytes<'_>) -> bool
     ensures { result ≡ bytes_eq bytes.entry other.entry }
 {
@@ -131,7 +133,7 @@ fn are_same_bytes(bytes: ValueBytes<'_>, mut other: ValueBytes<'_>) -> bool
     other.next().is_none()
 }
 
-/// The bytes of a value in its line. Contracts see those that are left.
+/// The bytes of a value without its escapes. Contracts see the bytes that have not been read yet.
 #[derive(Debug, Drop)]
 pub struct ValueBytes<'a> {
     rest: &'a [u8],
@@ -146,7 +148,7 @@ impl<'a> Model for ValueBytes<'a> {
     ghost view = { λ v. unescaped v.rest.now };
 }
 
-/// What stands between quotes, without the backslash in front that escapes a quote.
+/// The bytes without the backslash in front, if that escapes a quote.
 fn without_escape(quoted: &[u8]) -> &[u8]
     ensures value { unescaped result.now ≡ unescaped quoted.now }
     ensures plain { escapes_first result.now ≡ false }
@@ -173,7 +175,7 @@ impl Iterator for ValueBytes<'_> {
     }
 }
 
-/// The bytes that are left are this text.
+/// Whether the bytes that have not been read yet are this text.
 fn is_text(mut bytes: ValueBytes<'_>, text: &[u8]) -> bool
     ensures { result ≡ bytes_eq bytes.entry text.now }
 {

@@ -1,21 +1,11 @@
 -- The address that is computed from a text is the one that its grammar gives it, both ways.
-use Rattle.std.proofs.Common.{w32, ◌≡◌, ℕ, ◌+◌, ◌-◌, ◌<◌, ◌==◌, Bool, true, false, inl, inr, if◌then◌else◌, nat_lt, List, [], ◌∷◌, ◌++◌, length, codes, replicate, Option, Some, None, option_map, IfOk, ok_or, refl, sym, ap, ◌∙◌, append_assoc, length-append, lit≤, arith}
-use Rattle.std.specs.Int.{from_be_bytes}
-use Rattle.std.specs.List.{list_any}
-use Rattle.std.proofs.lemmas.Bool.{lt-ltb, ltb-true, eqb-true}
-use Rattle.std.proofs.lemmas.List.{append-nil, length-replicate}
-use Rattle.ssh_patterns.specs.declared.address.Address.{Address}
-use Rattle.ssh_patterns.specs.declared.error.PatternError.{PatternError}
-use Rattle.ssh_patterns.specs.declared.address.Address.TheVariants.{V4, V6}
-use Rattle.ssh_patterns.specs.AddressText.{AreOctets, dotted, colon, IsGroup, AreGroups, AreGroupsAtEnd, pairs, AreEightGroups, IsAddressText}
-use Rattle.ssh_patterns.specs.AddressReading.{groups_of, octets_of, filled, by_cut, eight_groups_of, address_of}
-use Rattle.ssh_patterns.specs.Cut.{after_mark, cut_here, cut_at}
-use Rattle.ssh_patterns.specs.Digits.{number_to_base}
+use Rattle.ssh_patterns.proofs.Imports.{w32, ◌≡◌, ℕ, ◌+◌, ◌-◌, ◌<◌, ◌==◌, Bool, true, false, inl, inr, if◌then◌else◌, nat_lt, List, [], ◌∷◌, ◌++◌, length, codes, replicate, Option, Some, None, option_map, IfOk, ok_or, refl, sym, ap, ◌∙◌, append_assoc, length-append, lit≤, arith, from_be_bytes, list_any, lt-ltb, ltb-true, eqb-true, append-nil, length-replicate, Address, PatternError, V4, V6, AreOctets, dotted, colon, IsGroup, AreGroups, AreGroupsAtEnd, pairs, AreEightGroups, IsAddressText, by_cut, after_mark, cut_here, cut_at, number_to_base}
+use Rattle.ssh_patterns.specs.AddressReading.{groups_of, octets_of, filled, eight_groups_of, address_of}
 use Rattle.ssh_patterns.proofs.CutLemmas.{following, after-nil, after_mark-whole}
 use Rattle.ssh_patterns.proofs.OctetLemmas.{octets_of-dotted, octets_of-some, neither, and_then-some, some-is}
 use Rattle.ssh_patterns.proofs.SpelledLemmas.{group-has_no, dotted-has_no_colon, dotted-has_dot, has-some, colon_within, map-some, groups_of-some, groups_of-some_at_end, groups_of-groups, groups_of-end}
 
--- ---- where `::` stands
+-- ---- the place of `::`
 
 abbrev double : List ℕ
 double = codes "::"
@@ -32,7 +22,7 @@ here-alone : (c : ℕ) (cut : Option (List ℕ × List ℕ)) → cut_here None c
 here-alone c None = refl
 here-alone c (Some cut) = refl
 
--- no mark begins among bytes that are no colons
+-- no mark begins among bytes that are not colons
 skip : (front rest : List ℕ) → list_any (λ c. c == colon) front ≡ false → cut_at double (front ++ rest) ≡ following front (cut_at double rest)
 skip [] rest h = sym (after-nil (cut_at double rest))
 skip (c ∷ front) rest h =
@@ -242,7 +232,7 @@ be-number (a ∷ b ∷ []) n len h = absurd (omega (arith, len))
 be-number (a ∷ b ∷ c ∷ []) n len h = absurd (omega (arith, len))
 be-number (a ∷ b ∷ c ∷ d ∷ e ∷ more) n len h = absurd (omega (arith, len))
 
--- four octets are an address: no colon stands among them
+-- four octets are an address: there is no colon among them
 pub octets-address : (text octets : List ℕ) (n : ℕ) → octets_of text ≡ Some octets → n ≡ from_be_bytes w32 octets
     → Some (V4 n) ≡ address_of text
 octets-address text octets n h is =

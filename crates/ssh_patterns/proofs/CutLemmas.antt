@@ -1,12 +1,6 @@
 -- Where a text is cut, as a loop over its bytes finds it.
-use Rattle.std.proofs.Common.{◌≡◌, ◌≢◌, ◌≤◌, min, ℕ, zero, suc, arith, slice_index, ◌-◌, ◌+◌, ◌<◌, ◌==◌, Bool, true, false, if◌then◌else◌, cond, List, [], ◌∷◌, ◌++◌, length, take, drop, get_or, Option, Some, None, refl, sym, ap, add-one, append_assoc, length-append, nat_lt, option_and_then, ◌∙◌, inl, inr, eqb-true, eq-eqb, option_map}
-use Rattle.std.proofs.Math.Seq.{take-suc, drop-cons}
-use Rattle.std.proofs.lemmas.List.{append-nil}
-use Rattle.std.specs.List.{slice_split, onto_first}
-use Rattle.std.proofs.lemmas.Bool.{false_from_ne_true, lt-ltb, le-ltb, cases_lt}
-use Rattle.std.proofs.lemmas.List.{length-drop, length-take-le, take_all}
-use Rattle.memchr.specs.Find.{Nowhere, Passes, is_byte}
-use Rattle.ssh_patterns.specs.Cut.{after_mark, cut_here, cut_at, cut_near}
+use Rattle.ssh_patterns.proofs.Imports.{◌≡◌, ◌≢◌, ◌≤◌, min, ℕ, zero, suc, arith, slice_index, ◌-◌, ◌+◌, ◌<◌, ◌==◌, Bool, true, false, if◌then◌else◌, cond, List, [], ◌∷◌, ◌++◌, length, take, drop, get_or, Option, Some, None, refl, sym, ap, add-one, append_assoc, length-append, nat_lt, option_and_then, ◌∙◌, inl, inr, option_map, take-suc, drop-cons, append-nil, slice_split, onto_first, false_from_ne_true, lt-ltb, le-ltb, cases_lt, length-drop, length-take-le, take_all, Nowhere, Passes, is_byte, after_mark, cut_here, cut_at, cut_near}
+use Rattle.std.proofs.Common.{eqb-true, eq-eqb}
 
 pub after_mark-front : (mark rest : List ℕ) → after_mark mark (mark ++ rest) ≡ Some rest
 after_mark-front [] rest = refl
@@ -48,7 +42,7 @@ cut-cons : (mark : List ℕ) (c : ℕ) (cs : List ℕ) → after_mark mark (c �
     → cut_at mark (c ∷ cs) ≡ cut_here None c (cut_at mark cs)
 cut-cons mark c cs h = rw h refl
 
--- where no mark stands, the cut lies further on
+-- where there is no mark, the cut is further on
 pub cut-later : (mark text : List ℕ) (at : ℕ) → at < length text → after_mark mark (drop at text) ≡ None
     → following (take at text) (cut_at mark (drop at text)) ≡ following (take (at + 1) text) (cut_at mark (drop (at + 1) text))
 cut-later mark text at lt h =
@@ -57,7 +51,7 @@ cut-later mark text at lt h =
     rw (add-one, d, cut-cons mark (get_or text at 0) (drop (suc at) text) none, take-suc text at 0 lt)
     (after-cons (take at text) (get_or text at 0) (cut_at mark (drop (suc at) text)))
 
--- where the mark stands, it is cut
+-- where the mark is, the text is cut
 pub cut-here : (mark text after front : List ℕ) → 0 < length mark → text ≡ mark ++ after
     → following front (cut_at mark text) ≡ Some (front, after)
 cut-here [] text after front some e = absurd (omega arith)

@@ -1,13 +1,5 @@
 -- Numbers in digits, as a loop over the bytes reads them.
-use Rattle.std.proofs.Common.{◌≡◌, ℕ, ◌+◌, ◌*◌, ◌^◌, ◌<◌, ◌≤◌, Bool, true, false, if◌then◌else◌, List, [], ◌∷◌, length, drop, get_or, Option, Some, None, refl, sym, add-one, arith}
-use Rattle.std.proofs.Math.Seq.{drop-cons}
-use Rattle.std.proofs.Math.Nat.{mul-le-mul_left, pow-le-pow_right}
-use Rattle.std.proofs.lemmas.Bool.{lt-ltb, le-ltb, ltb-true, le-leb, and_parts}
-use Rattle.std.specs.List.{list_all}
-use Rattle.std.specs.Char.{is_digit, digit_value}
-use Rattle.std.specs.Str.Parse.{digits_value, digits_value_after, AllDigits}
-use Rattle.std.proofs.lemmas.Int.Digits.{digits_value-lt}
-use Rattle.ssh_patterns.specs.Digits.{number_in_radix, below}
+use Rattle.ssh_patterns.proofs.Imports.{◌≡◌, ℕ, ◌+◌, ◌*◌, ◌^◌, ◌<◌, ◌≤◌, Bool, true, false, if◌then◌else◌, List, [], ◌∷◌, length, drop, get_or, Option, Some, None, refl, sym, add-one, arith, drop-cons, mul-le-mul_left, pow-le-pow_right, lt-ltb, le-ltb, ltb-true, le-leb, and_parts, list_all, is_digit, digit_value, digits_value, digits_value_after, AllDigits, digits_value-lt, number_in_radix, below}
 use Rattle.ssh_patterns.specs.AddressReading.{group_of}
 
 -- the number that these digits spell after those of n

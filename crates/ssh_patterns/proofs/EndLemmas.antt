@@ -1,9 +1,5 @@
 -- A pattern and a text whose last bytes are the same, or not.
-use Rattle.std.proofs.Common.{◌≡◌, ℕ, suc, ◌+◌, ◌-◌, ◌*◌, ◌≤◌, ◌==◌, Bool, true, false, ◌||◌, ◌&&◌, List, [], ◌∷◌, ◌++◌, length, take, get_or, map, length-append, refl, sym, ap, ◌∙◌, arith}
-use Rattle.std.proofs.Math.Bool.{or-false}
-use Rattle.std.proofs.lemmas.Bool.{ne_eqb}
-use Rattle.std.proofs.lemmas.List.{map-append}
-use Rattle.ssh_patterns.specs.Matching.{is_match, is_empty, some_rest, first_and_rest, star, question}
+use Rattle.ssh_patterns.proofs.Imports.{◌≡◌, ℕ, suc, ◌+◌, ◌-◌, ◌*◌, ◌≤◌, ◌==◌, Bool, true, false, ◌||◌, ◌&&◌, List, [], ◌∷◌, ◌++◌, length, take, get_or, map, length-append, refl, sym, ap, ◌∙◌, arith, or-false, ne_eqb, map-append, is_match, is_empty, some_rest, first_and_rest, star, question}
 
 and-false : (a : Bool) → (a && false) ≡ false
 and-false true = refl
@@ -13,7 +9,7 @@ not-empty : (text : List ℕ) (x : ℕ) → is_empty (text ++ x ∷ []) ≡ fals
 not-empty [] x = refl
 not-empty (y ∷ text) x = refl
 
--- a pattern that ends with a byte that is no star does not match the empty text
+-- a pattern that ends with a byte that is not a star does not match the empty text
 none-by : (s : Bool) (d c : ℕ) (pattern : List ℕ) → (d == star) ≡ s → is_match (pattern ++ c ∷ []) [] ≡ false
     → is_match (d ∷ (pattern ++ c ∷ [])) [] ≡ false
 none-by true d c pattern e h = rw e h
@@ -23,7 +19,7 @@ none-empty : (pattern : List ℕ) (c : ℕ) → (c == star) ≡ false → is_mat
 none-empty [] c plain = rw plain refl
 none-empty (d ∷ pattern) c plain = none-by (d == star) d c pattern refl (none-empty pattern c plain)
 
--- whether a byte of the pattern that is no star takes a byte of the text
+-- whether a byte of the pattern that is not a star takes a byte of the text
 abbrev pub takes : ℕ → ℕ → Bool
 takes c x = (c == question) || (c == x)
 
@@ -60,7 +56,7 @@ last-by : (c x : ℕ) → (c == star) ≡ false → Ends [] c x
 last-by c x plain [] = rw plain refl
 last-by c x plain (y ∷ text) = rw (plain, not-empty text x) (and-false (takes c y) ∙ sym (and-false (takes c x)))
 
--- The law: the last byte of the pattern, where it is no star, takes the last byte of the text.
+-- The law: the last byte of the pattern, where it is not a star, takes the last byte of the text.
 pub ends : (pattern text : List ℕ) (c x : ℕ) → (c == star) ≡ false
     → is_match (pattern ++ c ∷ []) (text ++ x ∷ []) ≡ (takes c x && is_match pattern text)
 ends [] text c x plain = last-by c x plain text
@@ -85,7 +81,7 @@ pub front-length : (text : List ℕ) → 1 ≤ length text → length (take (len
 front-length text some =
     sym (ap length (split-last text some) ∙ length-append (take (length text - 1) text) (get_or text (length text - 1) 0 ∷ []))
 
--- one turn of the loop from the end, where the bytes as they are compared are c and x
+-- one step of the loop from the end, where the bytes as they are compared are c and x
 last-turn : (f : ℕ → ℕ) (pattern text : List ℕ) (c x : ℕ) → 1 ≤ length pattern → 1 ≤ length text
     → c ≡ f (get_or pattern (length pattern - 1) 0) → x ≡ f (get_or text (length text - 1) 0) → (c ≡ star → ⊥)
     → is_match (map f pattern) (map f text)
@@ -108,14 +104,14 @@ pub last-same : (f : ℕ → ℕ) (pattern text : List ℕ) (c x : ℕ) → 1 �
 last-same f pattern text c x p t is_c is_x plain same =
     rw (last-turn f pattern text c x p t is_c is_x plain, same) refl
 
-turns-by : (wanted left passed turns : ℕ) → turns ≤ (wanted + 1) * (left + 1)
-    → passed + turns ≤ (wanted + passed + 1) * (left + passed + 1)
-turns-by wanted left passed turns h = omega (arith, h)
+steps-by : (wanted left passed steps : ℕ) → steps ≤ (wanted + 1) * (left + 1)
+    → passed + steps ≤ (wanted + passed + 1) * (left + passed + 1)
+steps-by wanted left passed steps h = omega (arith, h)
 
--- the turns from both sides
-pub both-turns : (pattern text wanted left turns : ℕ) → wanted + text ≡ left + pattern → left ≤ text
-    → turns ≤ (wanted + 1) * (left + 1) → text - left + turns ≤ (pattern + 1) * (text + 1)
-both-turns pattern text wanted left turns lengths shorter h =
+-- the steps from both sides
+pub both-steps : (pattern text wanted left steps : ℕ) → wanted + text ≡ left + pattern → left ≤ text
+    → steps ≤ (wanted + 1) * (left + 1) → text - left + steps ≤ (pattern + 1) * (text + 1)
+both-steps pattern text wanted left steps lengths shorter h =
     let p : wanted + (text - left) ≡ pattern = omega arith in
     let t : left + (text - left) ≡ text = omega arith in
-    rw (p, t) at (turns-by wanted left (text - left) turns h)
+    rw (p, t) at (steps-by wanted left (text - left) steps h)

@@ -1,9 +1,6 @@
 -- Why the last star alone need ever take more: where a later point of an earlier star matches, the last star matches too.
-use Rattle.std.proofs.Common.{◌≡◌, ℕ, zero, suc, Bool, true, false, ◌||◌, ◌==◌, if◌then◌else◌, inl, inr, List, [], ◌∷◌, drop, Option, Some, None, IfSome, refl, sym, ap, ◌∙◌, eqb-true}
-use Rattle.std.proofs.lemmas.Bool.{or_cases, and_parts}
-use Rattle.std.proofs.Math.Bool.{or-false}
-use Rattle.std.proofs.Math.Seq.{drop-nil}
-use Rattle.ssh_patterns.specs.Matching.{is_match, some_rest, after_star, after_byte, star, question}
+use Rattle.ssh_patterns.proofs.Imports.{◌≡◌, ℕ, zero, suc, Bool, true, false, ◌||◌, ◌==◌, if◌then◌else◌, inl, inr, List, [], ◌∷◌, drop, Option, Some, None, IfSome, refl, sym, ap, ◌∙◌, or_cases, and_parts, or-false, drop-nil, is_match, some_rest, after_star, after_byte, star, question}
+use Rattle.std.proofs.Common.{eqb-true}
 use Rattle.ssh_patterns.proofs.MatchLemmas.{or_right}
 
 -- whether the pattern matches some bytes further on, one at least
@@ -16,7 +13,7 @@ abbrev pub elsewhere : Option (List ℕ × List ℕ) → Bool
 elsewhere None = false
 elsewhere (Some back) = later back.0 back.1
 
--- What matches some bytes after the point to go back to also matches as many bytes after where the text now stands.
+-- What matches some bytes after the point to go back to also matches as many bytes after the current place in the text.
 abbrev pub Keeps : List ℕ → List ℕ → List ℕ → List ℕ → Type 0
 Keeps after from pattern text = (n : ℕ) → is_match after (drop n from) ≡ true → is_match pattern (drop n text) ≡ true
 
@@ -60,7 +57,7 @@ byte-after c x rest others zero plain h =
 byte-after c x rest [] (suc n) plain h = let none : false ≡ true = rw (plain, drop-nil n) at h in cc
 byte-after c x rest (y ∷ others) (suc n) plain h = byte-after c y rest others n plain h
 
--- past a byte that is no star
+-- past a byte that is not a star
 pub keeps-byte : (after from : List ℕ) (c x : ℕ) (rest others : List ℕ) → (c == star) ≡ false
     → Keeps after from (c ∷ rest) (x ∷ others) → Keeps after from rest others
 keeps-byte after from c x rest others plain keeps n h = byte-after c x rest others n plain (keeps n h)

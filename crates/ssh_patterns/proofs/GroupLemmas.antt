@@ -1,11 +1,5 @@
--- Groups of 16 bits, kept as one number.
-use Rattle.std.proofs.Common.{◌≡◌, ℕ, zero, suc, ◌+◌, ◌*◌, ◌/◌, ◌%◌, ◌^◌, ◌<◌, ◌≤◌, nat_lt, if◌then◌else◌, List, [], ◌∷◌, ◌++◌, length, replicate, Some, None, refl, sym, ap, inl, inr, ◌∙◌, add-zero, add-suc, add-one, append_assoc, length-append, arith}
-use Rattle.std.proofs.Math.Nat.{pow-suc, mod-eq_of_lt, pow-le-pow_right, one-le-pow}
-use Rattle.std.proofs.lemmas.Nat.{pow-add, mul-add-lt}
-use Rattle.std.proofs.lemmas.List.{replicate_more, append-nil}
-use Rattle.std.proofs.lemmas.Bool.{lt-ltb, le-ltb, lt-leb, le-leb, cases_lt}
-use Rattle.ssh_patterns.specs.Digits.{number_to_base}
-use Rattle.ssh_patterns.specs.Groups.{groups_in, few}
+-- The 16-bit groups of an IPv6 address, stored together as one number.
+use Rattle.ssh_patterns.proofs.Imports.{◌≡◌, ℕ, zero, suc, ◌+◌, ◌*◌, ◌/◌, ◌%◌, ◌^◌, ◌<◌, ◌≤◌, nat_lt, if◌then◌else◌, List, [], ◌∷◌, ◌++◌, length, replicate, Some, None, refl, sym, ap, inl, inr, ◌∙◌, add-zero, add-suc, add-one, append_assoc, length-append, arith, pow-suc, mod-eq_of_lt, pow-le-pow_right, one-le-pow, pow-add, mul-add-lt, replicate_more, append-nil, lt-ltb, le-ltb, lt-leb, le-leb, cases_lt, number_to_base, groups_in, few}
 
 pub length-groups_in : (k n : ℕ) → length (groups_in k n) ≡ k
 length-groups_in zero n = refl
@@ -32,7 +26,7 @@ pub groups_in-zeros : (k : ℕ) → groups_in k 0 ≡ replicate k 0
 groups_in-zeros zero = refl
 groups_in-zeros (suc k) = ap (λ s. s ++ 0 ∷ []) (groups_in-zeros k) ∙ replicate_more k 0 ∙ ap (λ m. replicate m 0) (add-one k)
 
--- what is less than a power of the base is below the number that stands before it
+-- what is less than a power of the base is below the number that comes before it
 pub joined-fits : (m n k j : ℕ) → m < 65536 ^ k → n < 65536 ^ j → m * 65536 ^ j + n < 65536 ^ (k + j)
 joined-fits m n k j hm hn =
     rw (pow-add 65536 k j) (omega (arith, mul-add-lt m (65536 ^ j) n (65536 ^ k) hm hn))

@@ -1,11 +1,8 @@
 -- Lists, piece by piece.
-use Rattle.std.proofs.Common.{◌≡◌, ℕ, ◌+◌, ◌*◌, ◌≤◌, ◌++◌, ◌∙◌, ap, arith, length-append, Bool, true, false, not, ◌||◌, ◌&&◌, List, [], ◌∷◌, map, length, refl}
-use Rattle.std.specs.List.{list_any}
-use Rattle.std.proofs.lemmas.Nat.{mul-le}
-use Rattle.ssh_patterns.specs.declared.permit.Permit.{Permit}
-use Rattle.ssh_patterns.specs.Lists.{Item, item_of, items_of, pieces, permit, permits, permit_by, is_yes}
+use Rattle.ssh_patterns.proofs.Imports.{◌≡◌, ℕ, ◌+◌, ◌*◌, ◌≤◌, ◌++◌, ◌∙◌, ap, arith, length-append, Bool, true, false, not, ◌||◌, ◌&&◌, List, [], ◌∷◌, map, length, refl, list_any, mul-le, Permit, Item, item_of, items_of, pieces, permit, permits, is_yes}
+use Rattle.ssh_patterns.specs.Lists.{permit_by}
 
--- what the pieces that are left say after some items were refused or matched
+-- the answer of the pieces that are left, after some items were refused or matched
 abbrev pub verdict_after : (Item → Bool) → (List ℕ → Bool) → Bool → Bool → List (List ℕ) → Permit
 verdict_after is_bad matches refused matched left =
     permit (list_any is_bad (map item_of left))
@@ -24,10 +21,10 @@ piece-lengths comma list piece left e =
     let whole : length list ≡ length piece + length (comma ∷ left) = ap length e ∙ length-append piece (comma ∷ left) in
     omega (arith, whole)
 
--- The turns for one more item: its bytes and its end are among those of the list.
-pub more-turns : (turns taken item piece left pieces whole width : ℕ) → turns + (pieces + 1) * width ≤ whole
-    → taken ≤ (item + 1) * width → item ≤ piece → piece + 1 + left ≤ pieces + 1 → turns + taken + left * width ≤ whole
-more-turns turns taken item piece left pieces whole width now here short parts =
+-- The steps for one more item: its bytes and its end are among those of the list.
+pub more-steps : (steps taken item piece left pieces whole width : ℕ) → steps + (pieces + 1) * width ≤ whole
+    → taken ≤ (item + 1) * width → item ≤ piece → piece + 1 + left ≤ pieces + 1 → steps + taken + left * width ≤ whole
+more-steps steps taken item piece left pieces whole width now here short parts =
     omega (arith, now, here, mul-le (item + 1 + left) width (pieces + 1) width (omega (arith, short, parts)) (omega arith))
 
 none_bad : (items : List Item) → list_any (λ item. false) items ≡ false
@@ -38,7 +35,7 @@ yes-by : (p : Bool) → is_yes (permit false p) ≡ p
 yes-by true = refl
 yes-by false = refl
 
--- where no item is bad, a list says yes or no
+-- where no item is bad, the answer of a list is yes or no
 pub yes-permits : (matches : List ℕ → Bool) (list : List ℕ)
     → is_yes (permit_by (λ item. false) matches list) ≡ permits matches (items_of list)
 unfolding permit_by

@@ -1,8 +1,5 @@
 -- `is_match` tests `Matches`.
-use Rattle.std.proofs.Common.{◌≡◌, ℕ, Bool, true, false, ◌||◌, ◌==◌, if◌then◌else◌, inl, inr, List, [], ◌∷◌, ◌++◌, ◌↔◌, refl, sym, ap, map, MatchBool, IsTrue}
-use Rattle.std.proofs.lemmas.Bool.{or_cases, and_parts, and_from, eqb-true, eq-eqb}
-use Rattle.ssh_patterns.specs.Matching.{Matches, is_match, some_rest, first_and_rest, star, question, folded}
-use Rattle.ssh_patterns.specs.declared.pattern.Case.TheVariants.{Exact}
+use Rattle.ssh_patterns.proofs.Imports.{◌≡◌, ℕ, Bool, true, false, ◌||◌, ◌==◌, if◌then◌else◌, inl, inr, List, [], ◌∷◌, ◌++◌, ◌↔◌, refl, sym, ap, map, MatchBool, IsTrue, or_cases, and_parts, and_from, eqb-true, eq-eqb, Matches, is_match, some_rest, first_and_rest, star, question, folded, Exact}
 
 pub or_right : (a b : Bool) → b ≡ true → (a || b) ≡ true
 or_right true b h = refl

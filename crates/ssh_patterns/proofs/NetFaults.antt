@@ -1,14 +1,8 @@
 -- When a text is refused as a net, and why.
-use Rattle.std.proofs.Common.{◌≡◌, ◌≢◌, ℕ, ◌+◌, ◌%◌, ◌==◌, ◌↔◌, Bool, true, false, if◌then◌else◌, List, ◌∷◌, ◌++◌, decimal, codes, Option, Some, None, Result, Ok, Err, ok_or, refl, ap, ◌∙◌, arith}
-use Rattle.std.proofs.lemmas.Bool.{eqb-false, ne_eqb}
-use Rattle.ssh_patterns.specs.declared.address.Address.{Address}
-use Rattle.ssh_patterns.specs.declared.error.PatternError.{PatternError}
-use Rattle.ssh_patterns.specs.declared.error.PatternError.TheVariants as errors
-use Rattle.ssh_patterns.specs.AddressText.{IsAddressText}
+use Rattle.ssh_patterns.proofs.Imports.{◌≡◌, ◌≢◌, ℕ, ◌+◌, ◌%◌, ◌==◌, ◌↔◌, Bool, true, false, if◌then◌else◌, List, ◌∷◌, ◌++◌, decimal, codes, Option, Some, None, Result, Ok, Err, ok_or, refl, ap, ◌∙◌, arith, eqb-false, ne_eqb, Address, PatternError, IsAddressText, Block, width, block_number, size, cut_at, slash, HasBase, HasHostBits, prefix_of, ◌>>=◌}
+use Rattle.ssh_patterns.specs.declared.address.PatternError.TheVariants as errors
 use Rattle.ssh_patterns.specs.AddressReading.{address_of}
-use Rattle.ssh_patterns.specs.Block.{Block, width, block_number, size}
-use Rattle.ssh_patterns.specs.Cut.{cut_at}
-use Rattle.ssh_patterns.specs.Nets.{slash, HasBase, HasHostBits, prefix_of, ◌>>=◌, net_of}
+use Rattle.ssh_patterns.specs.Nets.{net_of}
 use Rattle.ssh_patterns.proofs.CutLemmas.{parts-cut}
 use Rattle.ssh_patterns.proofs.OctetLemmas.{limited-decimal, limited-some, cut_at-front}
 use Rattle.ssh_patterns.proofs.AddressLaw.{address-read, address-some}

@@ -1,23 +1,14 @@
 -- The net that is computed from a text is the one that its grammar gives it, both ways.
-use Rattle.std.proofs.Common.{◌≡◌, ℕ, ◌+◌, ◌/◌, ◌%◌, ◌≤◌, ◌==◌, ◌↔◌, IsTrue, Bool, true, false, inl, inr, if◌then◌else◌, List, [], ◌∷◌, ◌++◌, decimal, codes, Option, Some, None, Result, Ok, Err, IfOk, ok_or, append_assoc, refl, sym, ap, ◌∙◌, lit≤, arith}
-use Rattle.std.specs.List.{list_any}
-use Rattle.std.proofs.lemmas.Bool.{eqb-true, eq-eqb, and_parts}
-use Rattle.ssh_patterns.specs.declared.address.Address.{Address}
-use Rattle.ssh_patterns.specs.declared.address.Address.TheVariants.{V4, V6}
-use Rattle.ssh_patterns.specs.declared.error.PatternError.{PatternError}
-use Rattle.ssh_patterns.specs.declared.error.PatternError.TheVariants as errors
-use Rattle.ssh_patterns.specs.AddressText.{AreOctets, dotted, colon, AreGroups, AreGroupsAtEnd, IsAddressText}
-use Rattle.ssh_patterns.specs.AddressReading.{address_of, octet_before, v4_before_slash}
-use Rattle.ssh_patterns.specs.Block.{Block, width, block_number, size}
-use Rattle.ssh_patterns.specs.Cut.{cut_at}
-use Rattle.ssh_patterns.specs.Digits.{number_to_base}
-use Rattle.ssh_patterns.specs.Nets.{slash, IsNetText, AreOfOneFamily, LiesIn, same_family, in_net, prefix_of, ◌>>=◌, net_of, net_from}
+use Rattle.ssh_patterns.proofs.Imports.{◌≡◌, ℕ, ◌+◌, ◌/◌, ◌%◌, ◌≤◌, ◌==◌, ◌↔◌, IsTrue, Bool, true, false, inl, inr, if◌then◌else◌, List, [], ◌∷◌, ◌++◌, decimal, codes, Option, Some, None, Result, Ok, Err, IfOk, ok_or, append_assoc, refl, sym, ap, ◌∙◌, lit≤, arith, list_any, eqb-true, eq-eqb, and_parts, Address, V4, V6, PatternError, AreOctets, dotted, colon, AreGroups, AreGroupsAtEnd, IsAddressText, octet_before, v4_before_slash, Block, width, block_number, size, cut_at, number_to_base, slash, IsNetText, AreOfOneFamily, LiesIn, same_family, in_net, prefix_of, ◌>>=◌, net_from}
+use Rattle.ssh_patterns.specs.declared.address.PatternError.TheVariants as errors
+use Rattle.ssh_patterns.specs.AddressReading.{address_of}
+use Rattle.ssh_patterns.specs.Nets.{net_of}
 use Rattle.ssh_patterns.proofs.CutLemmas.{parts-cut}
 use Rattle.ssh_patterns.proofs.OctetLemmas.{limited-decimal, limited-some, cut_at-front, and_then-some, some-is, octet_before-some}
 use Rattle.ssh_patterns.proofs.SpelledLemmas.{group-has_no, joined-has_no, dotted-has_no}
 use Rattle.ssh_patterns.proofs.AddressLaw.{address-read, address-some}
 
--- ---- no slash stands in an address
+-- ---- there is no slash in an address
 
 groups-has_no : (groups text : List ℕ) → AreGroups groups text → list_any (λ b. b == slash) text ≡ false
 groups-has_no [] text h = rw h refl

@@ -1,8 +1,5 @@
 -- The first bits of a number, and the last ones.
-use Rattle.std.proofs.Common.{◌≡◌, ℕ, ◌/◌, ◌%◌, ◌^◌, ◌<◌, ◌≤◌, ◌==◌, nat_lt, if◌then◌else◌, refl, sym, ap, inl, inr, arith}
-use Rattle.std.proofs.Math.Nat.{mod-eq_of_lt, div-eq_of_lt}
-use Rattle.std.proofs.Math.Pow.{pow_mono}
-use Rattle.std.proofs.lemmas.Bool.{lt-ltb, le-ltb, cases_lt}
+use Rattle.ssh_patterns.proofs.Imports.{◌≡◌, ℕ, ◌/◌, ◌%◌, ◌^◌, ◌<◌, ◌≤◌, ◌==◌, nat_lt, if◌then◌else◌, refl, sym, ap, inl, inr, arith, mod-eq_of_lt, div-eq_of_lt, pow_mono, lt-ltb, le-ltb, cases_lt}
 
 -- a number of 128 bits has none before its last 128 bits or more
 small : (n bits : ℕ) → n < 2 ^ 128 → 128 ≤ bits → n < 2 ^ bits

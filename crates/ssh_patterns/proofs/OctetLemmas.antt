@@ -1,15 +1,6 @@
 -- Octets in decimal with dots, and their numbers.
-use Rattle.std.proofs.Common.{◌≡◌, ℕ, ◌<◌, ◌≤◌, ◌==◌, Bool, true, false, not, ◌||◌, if◌then◌else◌, nat_lt, List, [], ◌∷◌, ◌++◌, length, get_or, lit≤, decimal, codes, Option, Some, None, option_and_then, refl, sym, ap, ◌∙◌, inl, inr, arith}
-use Rattle.std.specs.List.{list_any, list_all}
-use Rattle.std.specs.Char.{is_digit, digit_value}
-use Rattle.std.specs.Str.Parse.{AllDigits, digits_value}
-use Rattle.std.proofs.lemmas.Bool.{lt-ltb, ltb-true, ltb-false, cases_lt, eqb-true, eq-eqb, ne_eqb, false≢true}
-use Rattle.std.proofs.lemmas.Fmt.{length-decimal-le, decimal_is_IsNumeral, decimal_digit, first_decimal, decimal-digits_value}
-use Rattle.std.proofs.lemmas.Str.Parse.{numerals_by_value, tells_digits}
-use Rattle.ssh_patterns.specs.AddressText.{AreOctets, dotted}
-use Rattle.ssh_patterns.specs.AddressReading.{octet_of, octet_before, octets_of}
-use Rattle.ssh_patterns.specs.Cut.{cut_at, cut_near}
-use Rattle.ssh_patterns.specs.Digits.{number_in_radix, decimal_of, below}
+use Rattle.ssh_patterns.proofs.Imports.{◌≡◌, ℕ, ◌<◌, ◌≤◌, ◌==◌, Bool, true, false, not, ◌||◌, if◌then◌else◌, nat_lt, List, [], ◌∷◌, ◌++◌, length, get_or, lit≤, decimal, codes, Option, Some, None, option_and_then, refl, sym, ap, ◌∙◌, inl, inr, arith, list_any, list_all, is_digit, digit_value, AllDigits, digits_value, lt-ltb, ltb-true, ltb-false, cases_lt, eqb-true, eq-eqb, ne_eqb, false≢true, length-decimal-le, decimal_is_IsNumeral, decimal_digit, first_decimal, decimal-digits_value, numerals_by_value, tells_digits, AreOctets, dotted, octet_of, octet_before, cut_at, cut_near, number_in_radix, decimal_of, below}
+use Rattle.ssh_patterns.specs.AddressReading.{octets_of}
 use Rattle.ssh_patterns.proofs.DigitLemmas.{AllDigits-from, below-small}
 use Rattle.ssh_patterns.proofs.CutLemmas.{parts-cut}
 
@@ -29,7 +20,7 @@ number_of-some radix ds n h =
     let parts = number-by (list_all (λ c. is_digit c radix) ds) (digits_value radix ds) n h in
     (AllDigits-from radix ds parts.0, parts.1)
 
--- a byte that is no digit stands nowhere among digits
+-- a byte that is not a digit is not among digits
 pub no_byte : (radix byte : ℕ) (ds : List ℕ) → radix ≤ digit_value byte → AllDigits radix ds → list_any (λ c. c == byte) ds ≡ false
 no_byte radix byte [] h all = refl
 no_byte radix byte (c ∷ ds) h all =
@@ -197,7 +188,7 @@ long-by ds (Some o) e long =
     let is = octet_of-some ds o e in
     absurd (omega (arith, small-octet o is.0, ap length is.1))
 
--- the octet before a cut, and what stands after it
+-- the octet before a cut, and what follows it
 abbrev then_octet : List ℕ × List ℕ → Option (ℕ × List ℕ)
 then_octet cut = option_and_then {U = ℕ × List ℕ} (λ o. Some (o, cut.1)) (octet_of cut.0)
 
@@ -212,7 +203,7 @@ octet-by : (cut : Option (List ℕ × List ℕ))
 octet-by None = refl
 octet-by (Some cut) = near-by (nat_lt (length cut.0) 4) cut refl
 
--- where no such byte is near, no octet stands before one
+-- where no such byte is near, there is no octet before one
 pub no-octet : (mark : ℕ) (text : List ℕ) → cut_near 4 (mark ∷ []) text ≡ None → None ≡ octet_before mark text
 no-octet mark text h = sym (ap (option_and_then then_octet) h) ∙ octet-by (cut_at (mark ∷ []) text)
 

@@ -1,16 +1,7 @@
 -- An IPv4 address has one text, which matches itself as a pattern.
-use Rattle.std.proofs.Common.{option_map, ◌≡◌, ℕ, ◌+◌, ◌*◌, ◌<◌, ◌==◌, Bool, true, false, ◌||◌, if◌then◌else◌, inl, inr, List, [], ◌∷◌, map, length, Option, Some, None, refl, sym, ap, ◌∙◌, lit≤, arith}
-use Rattle.std.specs.List.{AllByRecursion, list_any}
-use Rattle.std.specs.Char.{to_ascii_lowercase}
-use Rattle.std.proofs.lemmas.Bool.{eqb-true, eq-eqb, ne_eqb, lt-ltb, le-ltb, cases_lt}
-use Rattle.ssh_patterns.specs.declared.address.Address.{Address}
-use Rattle.ssh_patterns.specs.declared.address.Address.TheVariants.{V4, V6}
-use Rattle.ssh_patterns.specs.AddressText.{colon, dotted}
+use Rattle.ssh_patterns.proofs.Imports.{option_map, ◌≡◌, ℕ, ◌+◌, ◌*◌, ◌<◌, ◌==◌, Bool, true, false, ◌||◌, if◌then◌else◌, inl, inr, List, [], ◌∷◌, map, length, Option, Some, None, refl, sym, ap, ◌∙◌, lit≤, arith, AllByRecursion, list_any, to_ascii_lowercase, eqb-true, eq-eqb, ne_eqb, lt-ltb, le-ltb, cases_lt, Address, V4, V6, colon, dotted, number_to_base, is_match, is_empty, star, question, net_if_slash, Source, has_slash, is_address, is_v6_address, host_matches, is_match_in_lower_case, source_item, is_bad_source}
 use Rattle.ssh_patterns.specs.AddressReading.{address_of, octets_of}
-use Rattle.ssh_patterns.specs.Digits.{number_to_base}
-use Rattle.ssh_patterns.specs.Matching.{is_match, is_empty, star, question}
-use Rattle.ssh_patterns.specs.Nets.{net_of, net_if_slash}
-use Rattle.ssh_patterns.specs.Lists.{Source, has_slash, is_address, is_v6_address, host_matches, is_match_in_lower_case, source_item, is_bad_source}
+use Rattle.ssh_patterns.specs.Nets.{net_of}
 use Rattle.ssh_patterns.proofs.OctetLemmas.{neither, or_true}
 use Rattle.ssh_patterns.proofs.SpelledLemmas.{dotted-has_no}
 use Rattle.ssh_patterns.proofs.AddressLaw.{address-some}

@@ -1,14 +1,8 @@
 -- Groups between colons, part by part.
-use Rattle.std.proofs.Common.{◌≡◌, ℕ, ◌+◌, ◌<◌, ◌≤◌, Bool, true, false, List, [], ◌∷◌, ◌++◌, length, codes, ◌==◌, nat_le, if◌then◌else◌, Option, Some, None, option_and_then, refl, sym, ap, append_assoc, length-append, arith}
-use Rattle.std.proofs.lemmas.Bool.{leb-false, le-ltb}
-use Rattle.std.specs.List.{slice_split}
-use Rattle.ssh_patterns.specs.AddressReading.{group_of, last_groups_of, groups_of_parts, groups_of, filled, eight_groups_of}
-use Rattle.ssh_patterns.specs.AddressText.{colon}
-use Rattle.ssh_patterns.specs.Cut.{cut_at}
-use Rattle.ssh_patterns.specs.Groups.{few}
+use Rattle.ssh_patterns.proofs.Imports.{◌≡◌, ℕ, ◌+◌, ◌<◌, ◌≤◌, Bool, true, false, List, [], ◌∷◌, ◌++◌, length, codes, ◌==◌, nat_le, if◌then◌else◌, Option, Some, None, option_and_then, refl, sym, ap, append_assoc, length-append, arith, leb-false, le-ltb, slice_split, groups_of_parts, colon, cut_at, few, length-slice_split}
+use Rattle.ssh_patterns.specs.AddressReading.{group_of, last_groups_of, groups_of, filled, eight_groups_of}
 use Rattle.ssh_patterns.proofs.GroupLemmas.{few-no}
 use Rattle.ssh_patterns.proofs.CutLemmas.{parts-cut, parts-uncut}
-use Rattle.std.proofs.lemmas.List.Splits.{length-slice_split}
 
 -- these groups and those, if they are a few
 abbrev pub joined_to : List ℕ → Option (List ℕ) → Option (List ℕ)

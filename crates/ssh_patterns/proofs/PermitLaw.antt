@@ -1,13 +1,8 @@
 -- What a list permits, item by item.
-use Rattle.std.proofs.Common.{◌≡◌, ℕ, ◌↔◌, IsTrue, Bool, true, false, not, ◌&&◌, List, refl, sym, ap, ◌∙◌}
-use Rattle.std.specs.List.{Any, list_any}
-use Rattle.std.specs.Str.{str_to_ascii_lowercase}
-use Rattle.std.proofs.lemmas.Bool.{and_parts, and_from, false≢true}
-use Rattle.std.proofs.lemmas.List.Folds.{Any-from_list_any, list_any-from_Any}
-use Rattle.ssh_patterns.specs.Lists.{Item, items_of, Permits, permits, is_match_in_lower_case, MatchesInLowerCase}
+use Rattle.ssh_patterns.proofs.Imports.{◌≡◌, ℕ, ◌↔◌, IsTrue, Bool, true, false, not, ◌&&◌, List, refl, sym, ap, ◌∙◌, Any, list_any, str_to_ascii_lowercase, and_parts, and_from, false≢true, Any-from_list_any, list_any-from_Any, Item, items_of, Permits, permits, is_match_in_lower_case, MatchesInLowerCase}
 use Rattle.ssh_patterns.proofs.MatchLemmas.{is_match-tests}
 
--- a test of one thing that says whether a fact holds of it
+-- a test that decides whether a fact holds of one thing
 abbrev pub Tells : {X : Type 0} → (X → Bool) → (X → Type 0) → Type 0
 Tells {X} p P = (x : X) → IsTrue (p x) ↔ P x
 

@@ -1,18 +1,8 @@
--- What lists of nets and addresses say, item by item.
-use Rattle.std.proofs.Common.{◌≡◌, ℕ, ◌==◌, ◌↔◌, Bool, true, false, not, ◌||◌, ◌&&◌, if◌then◌else◌, inl, inr, List, [], ◌∷◌, decimal, Option, Some, None, is_some, Result, Ok, Err, is_ok, refl, sym, ap, ◌∙◌}
-use Rattle.std.specs.List.{Any, list_any}
-use Rattle.std.proofs.lemmas.Bool.{and_parts, and_from, or_cases, eqb-true, eq-eqb, false≢true}
-use Rattle.std.proofs.lemmas.List.Folds.{list_any-append}
-use Rattle.ssh_patterns.specs.declared.address.Address.{Address}
-use Rattle.ssh_patterns.specs.declared.address.Address.TheVariants.{V4, V6}
-use Rattle.ssh_patterns.specs.declared.error.PatternError.{PatternError}
-use Rattle.ssh_patterns.specs.declared.permit.Permit.TheVariants.{Yes, Bad}
-use Rattle.ssh_patterns.specs.AddressText.{IsAddressText}
+-- The answers of lists of nets and addresses, item by item.
+use Rattle.ssh_patterns.proofs.Imports.{◌≡◌, ℕ, ◌==◌, ◌↔◌, Bool, true, false, not, ◌||◌, ◌&&◌, if◌then◌else◌, inl, inr, List, [], ◌∷◌, decimal, Option, Some, None, is_some, Result, Ok, Err, is_ok, refl, sym, ap, ◌∙◌, Any, list_any, and_parts, and_from, or_cases, eqb-true, eq-eqb, false≢true, list_any-append, Address, V4, V6, PatternError, Yes, Bad, IsAddressText, Block, is_empty, slash, IsNetText, same_address, Item, items_of, Permits, permit, permits, has_slash, net_has, is_address, host_matches, OnHost, is_match_in_lower_case, Source, FitsAddress, FitsSource, IsBadSource, is_bad_source, source_item, cidr_item, IsBadCidr, is_bad_cidr}
 use Rattle.ssh_patterns.specs.AddressReading.{address_of}
-use Rattle.ssh_patterns.specs.Block.{Block}
-use Rattle.ssh_patterns.specs.Matching.{is_empty}
-use Rattle.ssh_patterns.specs.Nets.{slash, IsNetText, same_address, net_of}
-use Rattle.ssh_patterns.specs.Lists.{Item, items_of, Permits, permit, permits, permit_by, has_slash, net_has, is_address, host_matches, OnHost, is_match_in_lower_case, Source, FitsAddress, FitsSource, IsBadSource, is_bad_source, source_item, cidr_item, IsBadCidr, is_bad_cidr}
+use Rattle.ssh_patterns.specs.Nets.{net_of}
+use Rattle.ssh_patterns.specs.Lists.{permit_by}
 use Rattle.ssh_patterns.proofs.MatchLemmas.{or_left, or_right}
 use Rattle.ssh_patterns.proofs.OctetLemmas.{or_true, some-is}
 use Rattle.ssh_patterns.proofs.AddressLaw.{address-read, address-some}
@@ -188,7 +178,7 @@ or_assoc : (a b c : Bool) → ((a || b) || c) ≡ (a || (b || c))
 or_assoc true b c = refl
 or_assoc false b c = refl
 
--- what an item says of a source whose address is known
+-- the answer of an item for a source whose address is known
 abbrev known_item : Source → Address → List ℕ → Bool
 known_item source address item =
     if has_slash item then net_has (net_of item) address

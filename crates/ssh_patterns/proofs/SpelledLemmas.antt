@@ -1,14 +1,6 @@
 -- What the groups of a text are, in the terms of its grammar.
-use Rattle.std.proofs.Common.{◌≡◌, ℕ, ◌<◌, ◌≤◌, ◌==◌, Bool, true, false, ◌&&◌, ◌⊎◌, inl, inr, if◌then◌else◌, nat_le, List, [], ◌∷◌, ◌++◌, length, decimal, Option, Some, None, option_map, refl, sym, ap, ◌∙◌, append_assoc, lit≤, arith}
-use Rattle.std.specs.List.{list_any, join_with_byte}
-use Rattle.std.specs.Char.{digit_value}
-use Rattle.std.proofs.lemmas.Bool.{leb-true, le-leb, and_parts}
-use Rattle.std.proofs.lemmas.List.Folds.{list_any-append}
-use Rattle.std.proofs.lemmas.List.Splits.{join_with_byte-slice_split, length-slice_split}
-use Rattle.ssh_patterns.specs.AddressText.{AreOctets, dotted, dot, colon, IsGroup, AreGroups, AreGroupsAtEnd, before_dotted, pairs}
-use Rattle.ssh_patterns.specs.AddressReading.{group_of, last_groups_of, groups_of_parts, groups_of, octets_of}
-use Rattle.ssh_patterns.specs.Cut.{cut_at}
-use Rattle.ssh_patterns.specs.Digits.{number_in_radix}
+use Rattle.ssh_patterns.proofs.Imports.{◌≡◌, ℕ, ◌<◌, ◌≤◌, ◌==◌, Bool, true, false, ◌&&◌, ◌⊎◌, inl, inr, if◌then◌else◌, nat_le, List, [], ◌∷◌, ◌++◌, length, decimal, Option, Some, None, option_map, refl, sym, ap, ◌∙◌, append_assoc, lit≤, arith, list_any, join_with_byte, digit_value, leb-true, le-leb, and_parts, list_any-append, join_with_byte-slice_split, length-slice_split, AreOctets, dotted, dot, colon, IsGroup, AreGroups, AreGroupsAtEnd, before_dotted, pairs, groups_of_parts, cut_at, number_in_radix}
+use Rattle.ssh_patterns.specs.AddressReading.{group_of, last_groups_of, groups_of, octets_of}
 use Rattle.ssh_patterns.proofs.DigitLemmas.{AllDigits-from}
 use Rattle.ssh_patterns.proofs.CutLemmas.{parts-cut, parts-uncut}
 use Rattle.ssh_patterns.proofs.PartLemmas.{colon_parts, parts-first}

@@ -11,7 +11,7 @@ use Rattle.ssh_patterns.specs.Digits.{number_in_radix, decimal_of, below, number
 abbrev pub octet_of : List ℕ → Option ℕ
 octet_of text = below 256 (decimal_of text)
 
--- the octet before the first such byte, and what stands after the byte
+-- the octet before the first such byte, and what follows the byte
 abbrev pub octet_before : ℕ → List ℕ → Option (ℕ × List ℕ)
 octet_before mark text = do
   cut ← cut_at (mark ∷ []) text
@@ -30,17 +30,17 @@ octets_of text = do
   d ← octet_of third.1
   Some (a ∷ b ∷ c ∷ d ∷ [])
 
--- the group that one to four hexadecimal digits spell
+-- the group that one to four hexadecimal digits give
 unfoldable pub group_of : List ℕ → Option ℕ
 group_of text = if nat_le 1 (length text) && nat_le (length text) 4 then number_in_radix 16 text else None
 
--- the one group of a text, or the two of four decimal numbers where these may stand
+-- the one group of a text, or the two of four decimal numbers where these are allowed
 unfoldable pub last_groups_of : Bool → List ℕ → Option (List ℕ)
 last_groups_of dotted_too text =
     if dotted_too && list_any (λ c. c == dot) text then option_map pairs (octets_of text)
     else option_map (λ group. group ∷ []) (group_of text)
 
--- the groups of the parts between colons, of which the last may be dotted
+-- the groups of the parts between colons; the last part may be dotted where that is allowed
 abbrev pub groups_of_parts : Bool → List (List ℕ) → Option (List ℕ)
 groups_of_parts dotted_too [] = Some []
 groups_of_parts dotted_too (part ∷ []) = last_groups_of dotted_too part
@@ -49,18 +49,18 @@ groups_of_parts dotted_too (part ∷ next ∷ parts) = do
   groups ← groups_of_parts dotted_too (next ∷ parts)
   Some (group ∷ groups)
 
--- the groups of a text, none at all being the empty text
+-- the groups of a text; no groups for the empty text
 unfoldable pub groups_of : Bool → List ℕ → Option (List ℕ)
 groups_of dotted_too [] = Some []
 groups_of dotted_too (c ∷ cs) = groups_of_parts dotted_too (slice_split (λ b. b == colon) (c ∷ cs))
 
--- the groups of both sides with zeros between them, where these stand for a group at least
+-- the groups of both sides with zeros between them; the zeros replace at least one group
 unfoldable pub filled : List ℕ → List ℕ → Option (List ℕ)
 filled front back =
     if nat_lt (length front + length back) 8 then Some (front ++ replicate (8 - length front - length back) 0 ++ back)
     else None
 
--- the eight groups of a text: on both sides of a cut, or without one
+-- the eight groups of a text that is cut at `::`, or that has none
 abbrev pub by_cut : Option (List ℕ × List ℕ) → List ℕ → Option (List ℕ)
 by_cut None text = do
   groups ← groups_of true text
@@ -80,7 +80,7 @@ address_of text =
     if list_any (λ c. c == colon) text then option_map (λ groups. V6 (number_to_base 65536 0 groups)) (eight_groups_of text)
     else option_map (λ octets. V4 (number_to_base 256 0 octets)) (octets_of text)
 
--- the IPv4 address before a slash, and what stands after the slash
+-- the IPv4 address before a slash, and what follows the slash
 abbrev pub v4_before_slash : List ℕ → Option (Address × List ℕ)
 v4_before_slash text = do
   first ← octet_before dot text

@@ -1,7 +1,7 @@
 -- Texts that are cut at a mark.
 use Rattle.std.specs.Prelude.{ℕ, nat_lt, ◌==◌, if◌then◌else◌, length, List, [], ◌∷◌, Option, Some, None, option_and_then, option_map}
 
--- a step, and what comes after it where the step found something (a `do` block of finding wants this name)
+-- a step, and the next one where the first found something (a `do` block over `Option` uses this name)
 infixl 10 ◌>>=◌
 abbrev pub ◌>>=◌ : {A B : Type 0} → Option A → (A → Option B) → Option B
 found >>= next = option_and_then next found
@@ -12,17 +12,17 @@ after_mark [] text = Some text
 after_mark (m ∷ ms) [] = None
 after_mark (m ∷ ms) (c ∷ cs) = if c == m then after_mark ms cs else None
 
--- a mark at the front, or else the cut of what follows the first byte
+-- the cut here where the mark is at the front, or else the cut of what follows the first byte
 abbrev pub cut_here : Option (List ℕ) → ℕ → Option (List ℕ × List ℕ) → Option (List ℕ × List ℕ)
 cut_here (Some after) c later = Some ([], after)
 cut_here None c later = option_map (λ cut. (c ∷ cut.0, cut.1)) later
 
--- what stands before and after the first mark of one byte or more
+-- the parts before and after the first place where a mark of at least one byte begins
 abbrev pub cut_at : List ℕ → List ℕ → Option (List ℕ × List ℕ)
 cut_at mark [] = None
 cut_at mark (c ∷ cs) = cut_here (after_mark mark (c ∷ cs)) c (cut_at mark cs)
 
--- the cut at the first mark, where fewer bytes than the limit stand before it
+-- the cut at the first mark, where fewer bytes than the limit come before it
 abbrev pub cut_near : ℕ → List ℕ → List ℕ → Option (List ℕ × List ℕ)
 cut_near limit mark text = do
   cut ← cut_at mark text

@@ -12,8 +12,7 @@ star = 42
 abbrev pub question : ℕ
 question = 63
 
--- The empty pattern matches the empty text alone. `*` stands for any bytes at the front of the text,
--- `?` for its first byte whatever that is, and any other byte for itself (ssh_config(5), PATTERNS).
+-- The empty pattern matches the empty text alone. `*` matches any bytes at the front of the text, also none, `?` matches its first byte whatever it is, and any other byte matches itself (ssh_config(5), PATTERNS).
 abbrev pub Matches : List ℕ → List ℕ → Type 0
 Matches [] text = text ≡ []
 Matches (c ∷ pattern) text =
@@ -23,7 +22,7 @@ Matches (c ∷ pattern) text =
     ((first : ℕ) × (rest : List ℕ) × (text ≡ first ∷ rest) × Matches pattern rest)
     ((rest : List ℕ) × (text ≡ c ∷ rest) × Matches pattern rest))
 
--- whether what is left passes the test after some bytes are taken from the front
+-- whether some rest of the text passes the test, after any number of bytes at the front
 abbrev pub some_rest : (List ℕ → Bool) → List ℕ → Bool
 some_rest test [] = test []
 some_rest test (x ∷ xs) = test (x ∷ xs) || some_rest test xs
@@ -45,12 +44,12 @@ is_match (c ∷ pattern) text =
     if c == star then some_rest (is_match pattern) text
     else first_and_rest (λ x. (c == question) || (c == x)) (is_match pattern) text
 
--- what stands after a star at the front of a pattern
+-- what follows a star at the front of a pattern
 abbrev pub after_star : List ℕ → Option (List ℕ)
 after_star [] = None
 after_star (c ∷ pattern) = if c == star then Some pattern else None
 
--- what stands after the first bytes of a pattern and of a text, where the first is `?` or they are the same
+-- what follows the first bytes of a pattern and of a text, where the pattern's first byte is `?` or the two are equal
 abbrev pub after_byte : List ℕ → List ℕ → Option (List ℕ × List ℕ)
 after_byte [] text = None
 after_byte (c ∷ pattern) [] = None

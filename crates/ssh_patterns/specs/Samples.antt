@@ -1,8 +1,8 @@
 -- Worked examples of the definitions, each computed.
 use Rattle.std.specs.Prelude.{◌≡◌, true, false, [], codes, refl, Some, None, Ok, Err}
 use Rattle.ssh_patterns.specs.declared.address.Address.TheVariants.{V4, V6}
-use Rattle.ssh_patterns.specs.declared.permit.Permit.TheVariants.{Yes, No, Bad}
-use Rattle.ssh_patterns.specs.declared.error.PatternError.TheVariants as errors
+use Rattle.ssh_patterns.specs.declared.list.Permit.TheVariants.{Yes, No, Bad}
+use Rattle.ssh_patterns.specs.declared.address.PatternError.TheVariants as errors
 use Rattle.ssh_patterns.specs.AddressReading.{octets_of, group_of, last_groups_of, groups_of, filled, eight_groups_of, address_of}
 use Rattle.ssh_patterns.specs.Matching.{is_match}
 use Rattle.ssh_patterns.specs.Nets.{net_of}

@@ -1,7 +1,8 @@
-//! Patterns, addresses, nets and the lists that are made of them (ssh_config(5), PATTERNS).
+//! Patterns, addresses, nets (CIDR blocks) and the lists that are made of them (ssh_config(5),
+//! PATTERNS; sshd(8), from=).
 //!
-//! Nothing here takes memory. A caller that lets hosts of a list in, from one net (a test runs these
-//! lines):
+//! No call allocates memory. An example: a host passes if its address is in one net and its name is
+//! permitted by a pattern list (a test runs these lines):
 //!
 //! ```
 //! let net = parse_net(b"192.0.2.0/24")?;
@@ -11,22 +12,14 @@
 #![tactic(auto)]
 
 mod address;
-mod error;
-mod groups;
-mod hosts;
 mod list;
 mod net;
 mod pattern;
-mod permit;
 mod samples;
 mod sources;
-mod text;
 
-pub use address::{Address, parse_address};
-pub use error::PatternError;
-pub use hosts::{host_list, host_list_counted};
-pub use list::first_piece;
+pub use address::{Address, PatternError, parse_address};
+pub use list::{Permit, first_piece, host_list, host_list_counted};
 pub use net::{Net, contains, parse_net};
 pub use pattern::{matches, matches_counted};
-pub use permit::Permit;
 pub use sources::{cidr_list, source_list, source_list_counted};

@@ -1,27 +1,16 @@
-//! Nets: the addresses of one family that share their first bits (RFC 4632, section 3.1).
+//! Nets (CIDR blocks): the addresses of one family that share their first bits (RFC 4632, section
+//! 3.1).
 
 ghost use Rattle.std.specs.Prelude.{◌≡◌, ◌↔◌, IsTrue, IfOk, Ok, Err, ◌/◌, ◌%◌, ◌^◌, ◌==◌};
 ghost use Rattle.ssh_patterns.specs.Block.{Block, block_number, width};
-ghost use Rattle.ssh_patterns.specs.Nets.{
-  IsNetText,
-  HasBase,
-  HasHostBits,
-  LiesIn,
-  in_net,
-  net_from,
-  net_between,
-  net_if_slash,
-  net_of,
-  prefix_of,
-};
+ghost use Rattle.ssh_patterns.specs.Nets.{IsNetText, HasBase, HasHostBits, LiesIn, in_net, net_from, net_between, net_if_slash, net_of, prefix_of};
 
-use crate::address::{Address, read_address, v4_before_slash};
-use crate::error::PatternError;
-use crate::text::{cut, decimal};
+use crate::address::{Address, PatternError, read_address, v4_before_slash};
+use crate::pattern::{cut, decimal};
 use std::marker::Model;
 
-/// A net: the addresses of one family that share the first bits of its base, in which no later bit
-/// is set.
+/// A net: the addresses of one family that share the first bits of its base. No bit of the base
+/// past the prefix length is set.
 #[derive(Clone, Copy, Debug, PartialEq, Eq)]
 pub struct Net {
     base: Address,
@@ -41,14 +30,14 @@ impl Model for Net {
 }
 
 impl Net {
-    /// The base: the first address of the net.
+    /// The first address of the net.
     pub fn base(&self) -> Address
         ensures { result ≡ self.now.base }
     {
         self.base
     }
 
-    /// The length: how many first bits the addresses of the net share.
+    /// The prefix length in bits, up to 32 (IPv4) or 128 (IPv6).
     pub fn prefix(&self) -> u8
         ensures { result ≡ self.now.prefix }
     {
@@ -56,7 +45,7 @@ impl Net {
     }
 }
 
-/// The bits of an address of this family.
+/// The number of bits of an address of this family.
 fn width(address: Address) -> u8
     ensures { result ≡ width address }
 {
@@ -75,14 +64,14 @@ fn number(address: Address) -> u128
     }
 }
 
-/// The number without its last bits.
+/// The number shifted right by so many bits, which may be 128.
 fn without_last(number: u128, bits: u32) -> u128
     ensures { result ≡ number / 2 ^ bits }
 {
     number.unbounded_shr(bits)
 }
 
-/// Whether none of the last bits is set.
+/// Whether none of the last bits is set. There may be 128 of them.
 fn has_last_clear(number: u128, bits: u32) -> bool
     ensures { result ≡ (number % 2 ^ bits == 0) }
 {
@@ -92,14 +81,14 @@ fn has_last_clear(number: u128, bits: u32) -> bool
     }
 }
 
-/// The length of a net of this family.
+/// The prefix length that a text gives for this family.
 fn prefix(base: Address, text: &[u8]) -> Option<u8>
     ensures { result ≡ prefix_of base text.now }
 {
     decimal(text).filter(|prefix| *prefix <= width(base))
 }
 
-/// The net of a base and the text of its length, or the first fault.
+/// The net of a base and the text of its prefix length, or the first error.
 fn net_from(base: Address, length: &[u8]) -> Result<Net, PatternError>
     ensures { result ≡ net_from base length.now }
 {
@@ -110,7 +99,7 @@ fn net_from(base: Address, length: &[u8]) -> Result<Net, PatternError>
     Ok(Net { base, prefix })
 }
 
-/// The net of the texts before and after a slash, or the first fault.
+/// The net of the texts before and after a slash, or the first error.
 fn net_between(base: &[u8], length: &[u8]) -> Result<Net, PatternError>
     ensures { result ≡ net_between base.now length.now }
 {
@@ -120,8 +109,8 @@ fn net_between(base: &[u8], length: &[u8]) -> Result<Net, PatternError>
     }
 }
 
-/// The net that a text spells, or the first fault. An IPv4 address before the slash is read as it
-/// comes, with no search for the slash.
+/// The net that a text spells, or the first error. The common case, an IPv4 address before the
+/// slash, is read without a search for the slash.
 #[tactic(auto, unfolding(crate::specs::Nets::net_of))]
 fn read_net(text: &[u8]) -> Result<Net, PatternError>
     ensures { result ≡ net_of text.now }
@@ -135,7 +124,8 @@ fn read_net(text: &[u8]) -> Result<Net, PatternError>
     }
 }
 
-/// The net that a text with a slash spells, or the first fault. Nothing where there is no slash.
+/// The net that a text with a slash spells, or the first error. `None` where there is no slash,
+/// because the item is then an address or a pattern.
 pub(crate) fn net_if_slash(text: &[u8]) -> Option<Result<Net, PatternError>>
     ensures { result ≡ net_if_slash text.now }
 {
@@ -146,26 +136,27 @@ pub(crate) fn net_if_slash(text: &[u8]) -> Option<Result<Net, PatternError>>
     }
 }
 
-/// The net that a text spells: an address, a slash and the net's length in decimal without leading
-/// zeros, up to 32 or 128 by the address's family (RFC 4632, section 3.1; RFC 4291, section 2.3).
-/// Without a slash, or without an address before the first one, the fault is `Address`; then comes
-/// `Length`; then `HostBits`, where a bit past the length is set.
+/// Reads a net: an address, a slash and the prefix length in decimal without leading zeros, up to
+/// 32 or 128 by the address's family (RFC 4632, section 3.1; RFC 4291, section 2.3). Without a
+/// slash, or without an address before the first one, the error is `Address`; else `Length` where
+/// the prefix length is wrong; else `HostBits` where a bit past the prefix length is set.
 pub fn parse_net(text: &[u8]) -> Result<Net, PatternError>
-    // What is read is spelled by the text.
+    // A net that is returned is one that the text spells.
     ensures spelled { IfOk result (λ net. IsNetText net text.now) }
-    // What the text spells is read, so it spells one net at most.
+    // A net that the text spells is returned, so a text spells at most one net.
     ensures only { (net : Block) → IsNetText net text.now → result ≡ Ok net }
-    // No address stands before a slash.
+    // There is no address before a slash.
     ensures address { (result ≡ Err PatternError.Address) ↔ (¬ HasBase text.now) }
-    // It would be a net, but for its bits past the length.
+    // It would be a net, but for its bits past the prefix length.
     ensures host_bits { (result ≡ Err PatternError.HostBits) ↔ HasHostBits text.now }
-    // What it is, or the first fault.
+    // The net or the first error.
     ensures value { result ≡ net_of text.now }
 {
     read_net(text)
 }
 
-/// Whether the address is of the net's family and shares its first bits.
+/// Whether the address is of the net's family and shares its first bits. An IPv4-mapped IPv6
+/// address is in no IPv4 net.
 pub fn contains(net: &Net, address: &Address) -> bool
     ensures rule { IsTrue result ↔ LiesIn net.now address.now }
     ensures value { result ≡ in_net net.now address.now }

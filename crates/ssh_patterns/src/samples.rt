@@ -1,14 +1,9 @@
-//! Worked examples of the definitions. No call needs these functions: the check proves what they
-//! ensure.
+//! Worked examples of the definitions. No caller needs these functions: the check proves their
+//! `ensures`.
 
-ghost use Rattle.ssh_patterns.specs.Samples.{
-  MatchingSamples,
-  AddressSamples,
-  NetSamples,
-  ListSamples,
-};
+ghost use Rattle.ssh_patterns.specs.Samples.{MatchingSamples, AddressSamples, NetSamples, ListSamples};
 
-/// Patterns, addresses, nets and lists, as the definitions read them.
+/// The answers of the definitions for some patterns, addresses, nets and lists.
 fn read_samples()
     ensures matching { MatchingSamples }
     ensures addresses { AddressSamples }

@@ -1,32 +1,19 @@
-//! Lists of the sources of a login: of a `from` option and of a certificate's `source-address`.
+//! Lists that restrict where a login comes from: the `from` option and a certificate's
+//! `source-address`.
 
 ghost use Rattle.std.specs.Prelude.{◌≡◌, ◌↔◌, ◌≤◌, ◌+◌, ◌*◌, ◌||◌, IsSome, length, option_copied};
 ghost use Rattle.std.specs.List.{Any};
 ghost use Rattle.ssh_patterns.specs.AddressReading.{address_of};
-ghost use Rattle.ssh_patterns.specs.Lists.{
-  is_address,
-  is_v6_address,
-  host_matches,
-  is_match_in_lower_case,
-  items_of,
-  Permits,
-  FitsSource,
-  IsBadSource,
-  host_length,
-  source_list,
-  FitsAddress,
-  IsBadCidr,
-  cidr_list,
-};
+ghost use Rattle.ssh_patterns.specs.Lists.{is_address, is_v6_address, host_matches, is_match_in_lower_case, items_of, Permits, FitsSource, IsBadSource, host_length, source_list, FitsAddress, IsBadCidr, cidr_list};
 
 use crate::address::{Address, read_address};
-use crate::list::{Asked, permit};
+use crate::list::{ItemMatcher, Permit, list_permit};
 use crate::net::{contains, net_if_slash};
 use crate::pattern::{Case, matches_in};
-use crate::permit::Permit;
 use std::marker::Model;
 
-/// Whether an item is the text of this address, whatever its spelling.
+/// Whether an item is a text of this address. An IPv6 address has many texts, so the addresses are
+/// compared.
 fn is_address(item: &[u8], address: Address) -> bool
     ensures { result ≡ is_address (address_of item.now) address }
 {
@@ -36,8 +23,8 @@ fn is_address(item: &[u8], address: Address) -> bool
     }
 }
 
-/// Whether an item is the text of this IPv6 address, whatever its spelling. An IPv4 address has one
-/// text alone, which it matches as a pattern.
+/// Whether an item is a text of this IPv6 address. An IPv4 address has only one text, which it
+/// matches as a pattern.
 fn is_v6_address(item: &[u8], address: Address) -> bool
     ensures { result ≡ is_v6_address (address_of item.now) address }
 {
@@ -47,7 +34,7 @@ fn is_v6_address(item: &[u8], address: Address) -> bool
     }
 }
 
-/// Whether a host name, if one is known, matches a pattern in ASCII lower case, and the turns that
+/// Whether the host name, if it is known, matches a pattern in ASCII lower case, and the steps that
 /// this took.
 fn host_matches(host: Option<&[u8]>, pattern: &[u8]) -> (bool, u128)
     ensures value { result.0 ≡ host_matches (option_copied host.entry) pattern.now }
@@ -60,23 +47,23 @@ fn host_matches(host: Option<&[u8]>, pattern: &[u8]) -> (bool, u128)
     }
 }
 
-/// Whether a host name, if one is known, or else the text of an address matches a pattern in ASCII
-/// lower case, and the turns that this took.
+/// Whether the host name, if it is known, or else the address text matches a pattern in ASCII lower
+/// case, and the steps that this took.
 fn name_matches(host: Option<&[u8]>, text: &[u8], pattern: &[u8]) -> (bool, u128)
     ensures value { result.0 ≡ (host_matches (option_copied host.entry) pattern.now
         || is_match_in_lower_case text.now pattern.now) }
     ensures most { result.1 ≤ (length pattern.now + 1) *
         (host_length (option_copied host.entry) + length text.now + 2) }
 {
-    let (on_host, turns) = host_matches(host, pattern);
+    let (on_host, steps) = host_matches(host, pattern);
     if on_host {
-        return (true, turns);
+        return (true, steps);
     }
     let (on_text, more) = matches_in(Case::Lower, pattern, text);
-    (on_text, turns + more)
+    (on_text, steps + more)
 }
 
-/// What the list of a `from` option is asked about. The address is that of the text.
+/// The source of a login, which is matched against a `from` list. The address is that of the text.
 #[derive(Drop)]
 struct Source<'a> {
     host: Option<&'a [u8]>,
@@ -96,7 +83,7 @@ impl<'a> Model for Source<'a> {
     ghost invariant = { λ s. address_of s.text.now ≡ Some s.address };
 }
 
-impl<'a> Asked for Source<'a> {
+impl<'a> ItemMatcher for Source<'a> {
     ghost use Rattle.std.specs.Prelude.{length, ◌+◌};
     ghost use Rattle.ssh_patterns.specs.Lists.{is_bad_source, source_item, host_length};
 
@@ -104,9 +91,9 @@ impl<'a> Asked for Source<'a> {
 
     ghost is_match = { λ source item. source_item source item };
 
-    ghost most_turns = { λ source. host_length source.host + length source.text + 2 };
+    ghost most_steps = { λ source. host_length source.host + length source.text + 2 };
 
-    ghost least_turns = { λ source. 0 };
+    ghost least_steps = { λ source. 0 };
 
     fn judge(&self, _negated: bool, item: &[u8]) -> Option<(bool, u128)> {
         if item.is_empty() {
@@ -120,16 +107,16 @@ impl<'a> Asked for Source<'a> {
     }
 }
 
-impl Asked for Address {
+impl ItemMatcher for Address {
     ghost use Rattle.ssh_patterns.specs.Lists.{is_bad_cidr, cidr_item};
 
     ghost is_bad = { λ address item. is_bad_cidr item };
 
     ghost is_match = { λ address item. cidr_item address item };
 
-    ghost most_turns = { λ address. 0 };
+    ghost most_steps = { λ address. 0 };
 
-    ghost least_turns = { λ address. 0 };
+    ghost least_steps = { λ address. 0 };
 
     fn judge(&self, negated: bool, item: &[u8]) -> Option<(bool, u128)> {
         if negated {
@@ -142,14 +129,14 @@ impl Asked for Address {
     }
 }
 
-/// `source_list`, and the turns of the matching loop over all its items, as `matches_counted`
-/// counts them: none for an item with a slash, and at most `(list.len() + 1) *
-/// (host.len() + address_text.len() + 2)`, where no host counts as an empty one.
+/// `source_list`, and the steps of the matcher over all items, as `matches_counted` counts them:
+/// none for an item with a slash, and at most `(list.len() + 1) * (host.len() + address_text.len()
+/// + 2)` in all, where an unknown host has length 0.
 pub fn source_list_counted(list: &[u8], host: Option<&[u8]>, address_text: &[u8]) -> (Permit, u128)
     requires { IsSome (address_of address_text.now) }
-    // Some item cannot stand in such a list.
+    // Some item is not allowed in such a list.
     ensures bad { (result.0 ≡ Permit.Bad) ↔ Any IsBadSource (items_of list.now) }
-    // Else no negated item fits the source, and some other does.
+    // Else no negated item matches the source, and some other item does.
     ensures yes { (result.0 ≡ Permit.Yes) ↔ ((¬ Any IsBadSource (items_of list.now))
         × Permits
         (FitsSource (record { host = option_copied host.entry; text = address_text.now }))
@@ -159,7 +146,7 @@ pub fn source_list_counted(list: &[u8], host: Option<&[u8]>, address_text: &[u8]
         (host_length (option_copied host.entry) + length address_text.now + 2) }
 {
     match read_address(address_text) {
-        Some(address) => permit(
+        Some(address) => list_permit(
             list,
             &Source {
                 host,
@@ -171,18 +158,18 @@ pub fn source_list_counted(list: &[u8], host: Option<&[u8]>, address_text: &[u8]
     }
 }
 
-/// What the list of a `from` option says of a login's source: a host name, where one is known, and
-/// the text of an address (sshd(8), AUTHORIZED_KEYS FILE FORMAT). An item with a slash matches an
-/// address in its net. One without matches the same address, and as a pattern the host name and the
-/// address text, in ASCII lower case. It is `Bad` where an item is empty, or has a slash and is no
-/// net (this project's rule). The matching loop takes at most
-/// `(list.len() + 1) * (host.len() + address_text.len() + 2)` turns over all items, as
-/// `source_list_counted` counts them.
+/// The answer of a `from` list for the source of a login: a host name, if it is known, and the text
+/// of an address (sshd(8), AUTHORIZED_KEYS FILE FORMAT). An item with a slash matches an address in
+/// its net. An item without a slash matches the same address, and as a pattern the host name and
+/// the address text, in ASCII lower case. The answer is `Bad` where an item is empty, or has a
+/// slash and is not a net (this project's rule). The matcher takes at most `(list.len() + 1) *
+/// (host.len() + address_text.len() + 2)` steps over all items, as `source_list_counted` counts
+/// them.
 pub fn source_list(list: &[u8], host: Option<&[u8]>, address_text: &[u8]) -> Permit
     requires { IsSome (address_of address_text.now) }
-    // Some item cannot stand in such a list.
+    // Some item is not allowed in such a list.
     ensures bad { (result ≡ Permit.Bad) ↔ Any IsBadSource (items_of list.now) }
-    // Else no negated item fits the source, and some other does.
+    // Else no negated item matches the source, and some other item does.
     ensures yes { (result ≡ Permit.Yes) ↔ ((¬ Any IsBadSource (items_of list.now))
         × Permits
         (FitsSource (record { host = option_copied host.entry; text = address_text.now }))
@@ -192,17 +179,17 @@ pub fn source_list(list: &[u8], host: Option<&[u8]>, address_text: &[u8]) -> Per
     source_list_counted(list, host, address_text).0
 }
 
-/// What the list of a certificate's `source-address` says of an address (PROTOCOL.certkeys):
-/// whether it is an item, or lies in the net that an item spells. It is `Bad` where an item is
+/// The answer of a certificate's `source-address` list for an address (PROTOCOL.certkeys): whether
+/// the address is an item, or is in the net of an item. The answer is `Bad` where an item is
 /// negated, or is neither a net nor an address (this project's rule). One pass over the list;
 /// nothing is matched as a pattern.
 pub fn cidr_list(list: &[u8], address: &Address) -> Permit
-    // Some item cannot stand in such a list.
+    // Some item is not allowed in such a list.
     ensures bad { (result ≡ Permit.Bad) ↔ Any IsBadCidr (items_of list.now) }
-    // Else some item fits the address.
+    // Else some item matches the address.
     ensures yes { (result ≡ Permit.Yes) ↔ ((¬ Any IsBadCidr (items_of list.now))
         × Permits (FitsAddress address.now) list.now) }
     ensures value { result ≡ cidr_list list.now address.now }
 {
-    permit(list, address).0
+    list_permit(list, address).0
 }

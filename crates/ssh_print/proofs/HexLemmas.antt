@@ -1,10 +1,7 @@
 -- The kit's hex writes the digits that are defined here.
-use Rattle.std.proofs.Common.{◌≡◌, ◌∙◌, ◌*◌, ◌<◌, ◌/◌, ◌%◌, ℕ, zero, suc, List, [], ◌∷◌, ◌++◌, length, slice_index, take, refl, ap, arith}
-use Rattle.std.specs.Prelude.{IsOk, OnOk, Result, Ok, Err}
-use Rattle.std.proofs.Math.Seq.{take-append_seam}
-use Rattle.hex.specs.Hex.{IsBytes, encode_lower, encode_with, lower_digits}
-use Rattle.hex.specs.declared.error.FromHexError.{FromHexError}
-use Rattle.ssh_print.specs.Texts.{hex_digit, hex_digits, hex_text}
+use Rattle.ssh_print.proofs.Imports.{◌≡◌, ◌∙◌, ◌*◌, ◌<◌, ◌/◌, ◌%◌, ℕ, zero, suc, List, [], ◌∷◌, ◌++◌, length, slice_index, take, refl, ap, arith, IsOk, OnOk, take-append_seam, IsBytes, encode_lower, lower_digits, FromHexError, hex_digit, hex_digits, hex_text}
+use Rattle.std.specs.Prelude.{Result, Ok, Err}
+use Rattle.hex.specs.Hex.{encode_with}
 
 -- the sixteen digits
 digit-same : (d : ℕ) → d < 16 → slice_index lower_digits d ≡ hex_digit d
@@ -45,7 +42,7 @@ pairs-long : (bytes : List ℕ) → length (hex_digits bytes) ≡ 2 * length byt
 pairs-long [] = refl
 pairs-long (b ∷ bytes) = let more : length (hex_digits bytes) ≡ 2 * length bytes = pairs-long bytes in omega (arith, more)
 
--- what was written into as much room as it needs, at the front of more
+-- what was written into exactly the room that it needs, at the front of more room
 pub written-same : (r : Result (Unit {0}) FromHexError) (bytes written behind : List ℕ) → IsBytes bytes → IsOk r → OnOk r (written ≡ encode_lower bytes)
     → take (2 * length bytes) (written ++ behind) ≡ hex_digits bytes
 written-same (Err e) bytes written behind is ok h = cc

@@ -1,4 +1,12 @@
+pub mod Imports
 mod HexLemmas
 mod PartLemmas
 pub mod PlainLemmas
 pub mod ReadingLemmas
+mod ShowLemmas
+pub mod TopLineLemmas
+mod TableLemmas
+mod StandInLemmas
+pub mod DenialLemmas
+mod ScanLemmas
+mod HostLemmas

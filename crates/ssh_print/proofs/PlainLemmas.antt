@@ -1,9 +1,6 @@
--- A text of plain bytes is printed as it is, and one of verbatim bytes stands so in a string.
-use Rattle.std.proofs.Common.{◌≡◌, ◌∙◌, ℕ, nat_le, nat_lt, ◌==◌, Bool, true, false, not, ◌&&◌, ◌||◌, cond, List, [], ◌∷◌, ◌++◌, ap, refl}
-use Rattle.std.specs.List.{flat_map, list_all}
-use Rattle.std.proofs.lemmas.Bool.{and_from, and_parts}
-use Rattle.ssh_print.specs.Texts.{escaped_text, hex_pair, is_plain_byte}
-use Rattle.ssh_print.specs.Strings.{is_verbatim, quoted_byte}
+-- A text of plain bytes is printed as it is, and one of verbatim bytes is itself in a string.
+use Rattle.ssh_print.proofs.Imports.{◌≡◌, ◌∙◌, ℕ, nat_le, ◌==◌, Bool, true, false, not, ◌&&◌, ◌||◌, cond, List, [], ◌∷◌, ◌++◌, ap, refl, flat_map, list_all, and_from, and_parts, escaped_text, hex_pair, is_plain_byte, is_verbatim, quoted_byte}
+use Rattle.std.proofs.Common.{nat_lt}
 
 pub plain_shown : (text : List ℕ) → list_all is_plain_byte text ≡ true → escaped_text text ≡ text
 plain_shown [] h = refl
@@ -19,7 +16,7 @@ verbatim-parts true true true quote h = cc
 verbatim-parts true false backslash quote h = cc
 verbatim-parts false high backslash quote h = cc
 
--- a verbatim byte is plain, and no backslash stands before it
+-- a verbatim byte is plain, and has no backslash before it
 verbatim-byte : (c : ℕ) → is_verbatim c ≡ true → (is_plain_byte c ≡ true) × ((c == 34 || c == 92) ≡ false)
 verbatim-byte c h = verbatim-parts (nat_le 32 c) (nat_lt c 127) (c == 92) (c == 34) h
 

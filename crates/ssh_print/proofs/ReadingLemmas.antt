@@ -1,9 +1,7 @@
--- A reader takes each string for the text that is printed.
-use Rattle.std.proofs.Common.{◌≡◌, ◌∙◌, ℕ, ◌==◌, Bool, true, false, ◌||◌, cond, List, [], ◌∷◌, ◌++◌, refl, ap, append_assoc}
+-- A JSON reader reads each string as the text that is printed.
+use Rattle.ssh_print.proofs.Imports.{◌≡◌, ◌∙◌, ℕ, ◌==◌, Bool, true, false, ◌||◌, cond, List, [], ◌∷◌, ◌++◌, refl, ap, append_assoc, flat_map, escaped_text, quoted_byte, read_rest, read_string, with_byte}
 use Rattle.std.specs.Prelude.{Some, None}
-use Rattle.std.specs.List.{flat_map}
-use Rattle.ssh_print.specs.Texts.{escaped_text}
-use Rattle.ssh_print.specs.Strings.{json_text, quoted_byte, read_rest, read_string, with_byte}
+use Rattle.ssh_print.specs.Strings.{json_text}
 
 plain-read : (c : ℕ) (text : List ℕ) (read : List ℕ × List ℕ) → (c == 34) ≡ false → (c == 92) ≡ false → read_rest text ≡ Some read
     → read_rest (c ∷ text) ≡ Some (c ∷ read.0, read.1)

@@ -1,25 +1,26 @@
--- The codes of faults, reasons and causes: the outer ones first, then a place. A space stands before each.
+-- The printed codes of faults, reasons and causes: the outermost code first, then inner codes, then a place in bytes.
+-- Each has a space before it.
 use Rattle.std.specs.Prelude.{◌++◌, ℕ, List, [], codes}
 use Rattle.std.specs.Fmt.{decimal}
-use Rattle.ssh_wire.specs.declared.error.WireCause.{WireCause}
-use Rattle.ssh_wire.specs.declared.error.WireCause.TheVariants as wire
-use Rattle.ssh_wire.specs.declared.error.WireError.{WireError}
-use Rattle.ssh_keys.specs.declared.error.KeyError.{KeyError}
-use Rattle.ssh_keys.specs.declared.error.KeyError.TheVariants as key
-use Rattle.ssh_certs.specs.declared.error.CertError.{CertError}
-use Rattle.ssh_certs.specs.declared.error.CertError.TheVariants as cert
+use Rattle.ssh_wire.specs.declared.cursor.WireCause.{WireCause}
+use Rattle.ssh_wire.specs.declared.cursor.WireCause.TheVariants as wire
+use Rattle.ssh_wire.specs.declared.cursor.WireError.{WireError}
+use Rattle.ssh_keys.specs.declared.key.KeyError.{KeyError}
+use Rattle.ssh_keys.specs.declared.key.KeyError.TheVariants as key
+use Rattle.ssh_certs.specs.declared.reading.CertError.{CertError}
+use Rattle.ssh_certs.specs.declared.reading.CertError.TheVariants as cert
 use Rattle.ssh_bodies.specs.declared.error.BodyError.{BodyError}
 use Rattle.ssh_bodies.specs.declared.error.BodyError.TheVariants as body
 use Rattle.ssh_trust.specs.declared.decision.Cause.{Cause}
 use Rattle.ssh_trust.specs.declared.decision.Cause.TheVariants as cause
 use Rattle.ssh_rules.specs.declared.reason.Reason.{Reason}
 use Rattle.ssh_rules.specs.declared.reason.Reason.TheVariants as reason
-use Rattle.ssh_offers.specs.declared.error.AuditError.{AuditError}
-use Rattle.ssh_offers.specs.declared.error.AuditError.TheVariants as error
-use Rattle.ssh_options.specs.declared.cause.LineCause.{LineCause}
-use Rattle.ssh_options.specs.declared.cause.LineCause.TheVariants as line_cause
-use Rattle.ssh_offers.specs.declared.error.OfferError.{OfferError}
-use Rattle.ssh_offers.specs.declared.error.OfferError.TheVariants as offer
+use Rattle.ssh_offers.specs.declared.claim.AuditError.{AuditError}
+use Rattle.ssh_offers.specs.declared.claim.AuditError.TheVariants as error
+use Rattle.ssh_options.specs.declared.option_text.LineCause.{LineCause}
+use Rattle.ssh_options.specs.declared.option_text.LineCause.TheVariants as line_cause
+use Rattle.ssh_offers.specs.declared.claim.OfferError.{OfferError}
+use Rattle.ssh_offers.specs.declared.claim.OfferError.TheVariants as offer
 use Rattle.ssh_print.specs.Texts.{spaced, escaped_text}
 
 abbrev pub wire_code : WireCause → List ℕ
@@ -42,7 +43,7 @@ key_code key.Point = codes " K6"
 key_code key.Length = codes " K7"
 key_code key.TooLong = codes " K8"
 
--- what stands after it
+-- the detail after the code
 abbrev pub key_rest : KeyError → List ℕ
 key_rest (key.Wire e) = wire_codes e
 key_rest _ = []
@@ -61,7 +62,7 @@ cert_code (cert.Signature e) = codes " C7"
 cert_code cert.UnknownType = codes " C8"
 cert_code cert.TooLong = codes " C9"
 
--- what stands after it
+-- the detail after the code
 abbrev pub cert_rest : CertError → List ℕ
 cert_rest (cert.Wire e) = wire_codes e
 cert_rest (cert.Key e) = key_codes e
@@ -90,7 +91,7 @@ body_code (body.Wire e) = codes " B12"
 body_code body.Trailing = codes " B13"
 body_code body.TooLong = codes " B14"
 
--- what stands after it
+-- the detail after the code
 abbrev pub body_rest : BodyError → List ℕ
 body_rest (body.Key e) = key_codes e
 body_rest (body.Wire e) = wire_codes e
@@ -117,7 +118,7 @@ line_code line_cause.Marker = codes "L14"
 line_code line_cause.HashedName = codes "L15"
 line_code line_cause.Names = codes "L16"
 
--- what stands after it
+-- the detail after the code
 abbrev pub line_rest : LineCause → List ℕ
 line_rest (line_cause.KeyBlob e) = key_codes e
 line_rest _ = []
@@ -145,7 +146,7 @@ reason_code reason.CertSourceRefused = codes "G17"
 reason_code reason.CommandConflict = codes "G18"
 reason_code reason.RsaTooSmall = codes "G20"
 
--- what stands after it
+-- the detail after the code
 abbrev pub reason_rest : Reason → List ℕ
 reason_rest (reason.Unreadable e) = line_codes e
 reason_rest (reason.CriticalUnknown name) = spaced (escaped_text name)
@@ -162,7 +163,7 @@ cause_code cause.TouchMissing = codes "N4"
 cause_code cause.VerifyMissing = codes "N5"
 cause_code (cause.NotVouched k) = codes "N6"
 
--- what stands after it
+-- the detail after the code
 abbrev pub cause_rest : Cause → List ℕ
 cause_rest (cause.Revoked n) = spaced (decimal n)
 cause_rest (cause.RevocationUnreadable n) = spaced (decimal n)
@@ -190,7 +191,7 @@ audit_code error.Failed = codes " A10"
 audit_code (error.Body e) = codes " A11"
 audit_code error.Salts = codes " A12"
 
--- what stands after it
+-- the detail after the code
 abbrev pub audit_rest : AuditError → List ℕ
 audit_rest (error.Offer e) = offer_codes e
 audit_rest (error.Signature e) = wire_codes e

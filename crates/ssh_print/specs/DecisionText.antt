@@ -10,14 +10,14 @@ use Rattle.ssh_trust.specs.declared.decision.Decision.{Decision}
 use Rattle.ssh_trust.specs.declared.decision.Decision.TheVariants.{Granted, Denied}
 use Rattle.ssh_rules.specs.declared.reason.Reason.{Reason}
 use Rattle.ssh_rights.specs.declared.rights.Rights.{Rights}
-use Rattle.ssh_offers.specs.declared.query.Signed.{Signed}
+use Rattle.ssh_offers.specs.declared.claim.Signed.{Signed}
 use Rattle.ssh_print.specs.Texts.{hex_text, escaped_text, text_line}
 use Rattle.ssh_print.specs.Codes.{reason_codes, cause_codes}
 
 abbrev pub evidence_line : ℕ → Signed → List ℕ
 evidence_line n s = codes "evidence " ++ decimal n ++ codes " " ++ hex_text s.key ++ codes " " ++ hex_text s.message ++ codes " " ++ hex_text s.signature ++ codes "\n"
 
--- the lines of the evidence, where the first has this index
+-- the lines of the evidence; the first has this index
 abbrev pub evidence_from : ℕ → List Signed → List ℕ
 evidence_from n [] = []
 evidence_from n (s ∷ rest) = evidence_line n s ++ evidence_from (n + 1) rest
@@ -38,7 +38,7 @@ has_no_right r = not (r.port || (r.agent || (r.x11 || (r.pty || r.user_rc))))
 abbrev pub rights_line : Rights → List ℕ
 rights_line r = codes "rights" ++ (if has_no_right r then codes " none" else right_words r) ++ codes "\n"
 
--- a command of no bytes is printed too; what stands before the line is given
+-- an empty command is printed too; the indentation of the line is given
 abbrev pub command_line : List ℕ → Option (List ℕ) → List ℕ
 command_line indent None = []
 command_line indent (Some text) = indent ++ text_line (codes "command ") text
@@ -66,7 +66,7 @@ reason_line r = codes "reason " ++ decimal r.0 ++ reason_codes r.1 ++ codes "\n"
 abbrev pub granted_lines : ℕ → Option Rights → List ℕ
 granted_lines n rights = codes "granted line " ++ decimal n ++ codes "\n" ++ rights_lines [] rights
 
--- what a grant passed over is not printed
+-- the lines that a grant passed over are not printed
 abbrev pub decision_text : Decision → List ℕ
 decision_text (Granted n rights reasons evidence) = granted_lines n rights ++ evidence_lines evidence
 decision_text (Denied why reasons evidence) = cause_line why ++ flat_map reason_line reasons ++ evidence_lines evidence

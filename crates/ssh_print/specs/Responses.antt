@@ -1,10 +1,10 @@
--- What is answered: lines, and a status.
+-- The responses of the program: lines, and a status.
 use Rattle.std.specs.Prelude.{◌++◌, ℕ, List, Result, Ok, Err, codes}
 use Rattle.std.specs.Fmt.{decimal}
 use Rattle.ssh_trust.specs.declared.decision.Decision.{Decision}
 use Rattle.ssh_trust.specs.declared.decision.Decision.TheVariants.{Granted, Denied}
-use Rattle.ssh_offers.specs.declared.error.AuditError.{AuditError}
-use Rattle.ssh_offers.specs.declared.error.AuditError.TheVariants as error
+use Rattle.ssh_offers.specs.declared.claim.AuditError.{AuditError}
+use Rattle.ssh_offers.specs.declared.claim.AuditError.TheVariants as error
 use Rattle.ssh_print.specs.Texts.{escaped_text}
 use Rattle.ssh_print.specs.Codes.{fault_codes}
 use Rattle.ssh_print.specs.DecisionText.{decision_text}
@@ -31,11 +31,11 @@ decision_response (Err e) = refused_response e
 abbrev pub usage_response : Response
 usage_response = fault_response (codes " usage")
 
--- a value of the option of this name that spells none
+-- a value that the option with this name does not accept
 abbrev pub value_response : List ℕ → Response
 value_response name = fault_response (codes " value " ++ name)
 
--- a file that is no trust file, and that is not there, cannot be read or is too long
+-- a file other than a trust file that is missing, cannot be read or is too long
 abbrev pub no_file_response : List ℕ → Response
 no_file_response name = fault_response (codes " file " ++ escaped_text name)
 

@@ -1,20 +1,20 @@
 -- Every printed code, small texts and whole answers, as they are printed.
 use Rattle.std.specs.Prelude.{◌≡◌, [], ◌∷◌, codes, Some, None, Ok, Err, true, false, refl}
 use Rattle.std.specs.Fmt.{digits}
-use Rattle.ssh_wire.specs.declared.error.WireCause.TheVariants as wire
-use Rattle.ssh_keys.specs.declared.error.KeyError.TheVariants as key
-use Rattle.ssh_certs.specs.declared.error.CertError.TheVariants as cert
+use Rattle.ssh_wire.specs.declared.cursor.WireCause.TheVariants as wire
+use Rattle.ssh_keys.specs.declared.key.KeyError.TheVariants as key
+use Rattle.ssh_certs.specs.declared.reading.CertError.TheVariants as cert
 use Rattle.ssh_bodies.specs.declared.error.BodyError.TheVariants as body
-use Rattle.ssh_options.specs.declared.cause.LineCause.TheVariants as line_cause
-use Rattle.ssh_offers.specs.declared.error.AuditError.TheVariants as error
-use Rattle.ssh_offers.specs.declared.error.OfferError.TheVariants as offer
-use Rattle.ssh_offers.specs.declared.query.Signed.{Signed}
+use Rattle.ssh_options.specs.declared.option_text.LineCause.TheVariants as line_cause
+use Rattle.ssh_offers.specs.declared.claim.AuditError.TheVariants as error
+use Rattle.ssh_offers.specs.declared.claim.OfferError.TheVariants as offer
+use Rattle.ssh_offers.specs.declared.claim.Signed.{Signed}
 use Rattle.ssh_rights.specs.declared.rights.CarriedName.TheVariants as carried
 use Rattle.ssh_rights.specs.declared.rights.Rights.{Rights}
 use Rattle.ssh_rules.specs.declared.reason.Reason.TheVariants as reason
 use Rattle.ssh_trust.specs.declared.decision.Cause.TheVariants as cause
 use Rattle.ssh_trust.specs.declared.decision.Decision.TheVariants.{Granted, Denied}
-use Rattle.ssh_trust.specs.declared.sshsig_answer.SshsigAnswer.TheVariants.{Vouched, OtherNamespace, NotVouched}
+use Rattle.ssh_trust.specs.declared.decision.SshsigAnswer.TheVariants.{Vouched, OtherNamespace, NotVouched}
 use Rattle.ssh_print.specs.Texts.{hex_text, escaped_text, text_line, word_line}
 use Rattle.ssh_print.specs.Codes.{wire_codes, key_codes, cert_codes, body_codes, line_codes, reason_codes, cause_codes, fault_codes}
 use Rattle.ssh_print.specs.DecisionText.{evidence_lines, rights_lines}
@@ -115,7 +115,7 @@ pub line_codes_shown : LineCodesShown
 unfolding digits
 line_codes_shown = (refl, refl, refl, refl, refl, refl, refl, refl, refl, refl, refl, refl, refl, refl, refl, refl)
 
--- G1 to G20, but for G2 and G5, which are never printed
+-- G1 to G20, except G2 and G5, which are never printed
 abbrev pub ReasonCodesShown : Type 0
 ReasonCodesShown =
     (reason_codes (reason.Unreadable line_cause.RetiredType) ≡ codes " G1 L9")
@@ -177,7 +177,7 @@ fault_codes_shown = (refl, refl, refl, refl, refl, refl, refl, refl, refl, refl,
 
 -- ---- small texts
 
--- hexadecimal, a dash for no bytes; and what is escaped: all but the bytes 20 to 7e, and of these the backslash (5c)
+-- hexadecimal, and `-` for no bytes; every byte except 20 to 7e is escaped, and so is the backslash (5c)
 abbrev pub TextsShown : Type 0
 TextsShown =
     (hex_text [] ≡ codes "-")
@@ -217,7 +217,7 @@ some_rights = record {
 abbrev no_rights : Rights
 no_rights = record { port = false; agent = false; x11 = false; pty = false; user_rc = false; command = Some []; carried = [] }
 
--- rights, the forced command, and what is carried
+-- rights, the forced command, and the options that are passed on unread
 abbrev pub RightsShown : Type 0
 RightsShown =
     (rights_lines [] None ≡ [])

@@ -1,9 +1,9 @@
--- What is printed of the answer to a file signature. Each line ends with an LF.
+-- What is printed for the answer to a file signature. Each line ends with an LF.
 use Rattle.std.specs.Prelude.{◌++◌, ℕ, List, Result, Ok, Err, codes}
-use Rattle.ssh_offers.specs.declared.error.AuditError.{AuditError}
+use Rattle.ssh_offers.specs.declared.claim.AuditError.{AuditError}
 use Rattle.ssh_trust.specs.declared.decision.Cause.TheVariants.{NotVouched as Unvouched}
-use Rattle.ssh_trust.specs.declared.sshsig_answer.SshsigAnswer.{SshsigAnswer}
-use Rattle.ssh_trust.specs.declared.sshsig_answer.SshsigAnswer.TheVariants.{Vouched, OtherNamespace, NotVouched}
+use Rattle.ssh_trust.specs.declared.decision.SshsigAnswer.{SshsigAnswer}
+use Rattle.ssh_trust.specs.declared.decision.SshsigAnswer.TheVariants.{Vouched, OtherNamespace, NotVouched}
 use Rattle.ssh_print.specs.DecisionText.{cause_line, evidence_lines}
 use Rattle.ssh_print.specs.Responses.{Response, refused_response}
 

@@ -1,4 +1,4 @@
--- Small texts that are printed, and lines of a word and what stands after it.
+-- Small printed texts, and lines of a word and a value.
 use Rattle.std.specs.Prelude.{◌++◌, ◌∷◌, [], ◌==◌, ◌&&◌, ◌+◌, ◌/◌, ◌%◌, ℕ, Bool, not, List, codes, nat_lt, nat_le, if◌then◌else◌}
 use Rattle.std.specs.List.{flat_map}
 
@@ -18,12 +18,12 @@ hex_pair b = hex_digit (b / 16) ∷ hex_digit (b % 16) ∷ []
 abbrev pub hex_digits : List ℕ → List ℕ
 hex_digits bytes = flat_map hex_pair bytes
 
--- the same, a dash for no bytes
+-- the same, and `-` for no bytes
 abbrev pub hex_text : List ℕ → List ℕ
 hex_text [] = 45 ∷ []
 hex_text (b ∷ bytes) = hex_digits (b ∷ bytes)
 
--- printable ASCII but for the backslash (92)
+-- printable ASCII except the backslash (92)
 abbrev pub is_plain_byte : ℕ → Bool
 is_plain_byte b = nat_le 32 b && (nat_lt b 127 && not (b == 92))
 
@@ -36,10 +36,10 @@ escaped_text text = flat_map escaped_byte text
 
 -- ---- lines, each of which ends with an LF
 
--- a word, with a space after it, and what stands there
+-- a word, with a space after it, and a value
 unfoldable pub word_line : List ℕ → List ℕ → List ℕ
 word_line word said = word ++ said ++ codes "\n"
 
--- the same of bytes that may be any
+-- the same for bytes of any kind
 abbrev pub text_line : List ℕ → List ℕ → List ℕ
 text_line word text = word_line word (escaped_text text)

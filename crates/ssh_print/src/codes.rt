@@ -1,26 +1,9 @@
-//! The codes of faults, reasons and causes: the outer ones first, then a place.
+//! The printed codes of faults, reasons and causes: the outermost code first, then inner codes,
+//! then a place in bytes.
 
 ghost use Rattle.std.specs.Prelude.{◌≡◌, ◌++◌, IfOk, OnOk};
 ghost use Rattle.std.specs.Fmt.{decimal};
-ghost use Rattle.ssh_print.specs.Codes.{
-  audit_code,
-  body_code,
-  body_codes,
-  cause_code,
-  cause_codes,
-  cert_code,
-  cert_codes,
-  fault_codes,
-  key_code,
-  key_codes,
-  line_code,
-  line_codes,
-  offer_codes,
-  wire_code,
-  wire_codes,
-  reason_code,
-  reason_codes,
-};
+ghost use Rattle.ssh_print.specs.Codes.{audit_code, body_code, body_codes, cause_code, cause_codes, cert_code, cert_codes, fault_codes, key_code, key_codes, line_code, line_codes, offer_codes, wire_code, wire_codes, reason_code, reason_codes};
 ghost use Rattle.ssh_print.specs.Texts.{spaced};
 
 use crate::text::{push_escaped, push_number};
@@ -46,7 +29,7 @@ fn wire_code(cause: WireCause) -> &'static [u8]
     }
 }
 
-/// The code of a wire fault, `V1` to `V5`, and its place, each after a space.
+/// The code of a wire fault, `V1` to `V5`, and its place in bytes, each after a space.
 fn push_wire_codes(alloc: Global, out: &mut Vec<u8>, error: WireError) -> Result<(), AllocError>
     ensures { OnOk result (out.new.items ≡ out.old.items ++ wire_codes error) }
 {
@@ -71,7 +54,7 @@ fn key_code(error: KeyError) -> &'static [u8]
     }
 }
 
-/// The codes of a key fault, `K1` to `K8`; after `K1` those of its wire fault.
+/// The codes of a key fault, `K1` to `K8`, followed by those of the wire fault for `K1`.
 fn push_key_codes(alloc: Global, out: &mut Vec<u8>, error: KeyError) -> Result<(), AllocError>
     ensures { OnOk result (out.new.items ≡ out.old.items ++ key_codes error) }
 {
@@ -82,7 +65,7 @@ fn push_key_codes(alloc: Global, out: &mut Vec<u8>, error: KeyError) -> Result<(
     }
 }
 
-/// The code of a line's cause, `L1` to `L16`.
+/// The code of a fault on a line, `L1` to `L16`.
 pub fn line_code(cause: LineCause) -> &'static str
     ensures { result.now ≡ line_code cause }
 {
@@ -106,7 +89,7 @@ pub fn line_code(cause: LineCause) -> &'static str
     }
 }
 
-/// The codes of a line's cause: its own, after `L11` those of its key fault.
+/// The codes of a fault on a line, followed by those of the key fault for `L11`.
 fn push_line_codes(alloc: Global, out: &mut Vec<u8>, cause: LineCause) -> Result<(), AllocError>
     ensures { OnOk result (out.new.items ≡ out.old.items ++ line_codes cause) }
 {
@@ -142,7 +125,8 @@ fn cert_code(error: CertError) -> &'static [u8]
     }
 }
 
-/// The codes of a certificate's fault, `C1` to `C9`; after some those of an inner fault or a place.
+/// The codes of a certificate's fault, `C1` to `C9`, in some cases followed by those of an inner
+/// fault or by a place.
 fn push_cert_codes(alloc: Global, out: &mut Vec<u8>, error: CertError) -> Result<(), AllocError>
     ensures { OnOk result (out.new.items ≡ out.old.items ++ cert_codes error) }
 {
@@ -176,7 +160,8 @@ fn body_code(error: BodyError) -> &'static [u8]
     }
 }
 
-/// The codes of a body's fault, `B1` to `B14`; after `B11` and `B12` those of an inner fault.
+/// The codes of a body's fault, `B1` to `B14`, followed by those of the inner fault for `B11` and
+/// `B12`.
 fn push_body_codes(alloc: Global, out: &mut Vec<u8>, error: BodyError) -> Result<(), AllocError>
     ensures { OnOk result (out.new.items ≡ out.old.items ++ body_codes error) }
 {
@@ -188,7 +173,7 @@ fn push_body_codes(alloc: Global, out: &mut Vec<u8>, error: BodyError) -> Result
     }
 }
 
-/// The codes of a line's cause, `L1` to `L16`, each after a space.
+/// The codes of a fault on a line, `L1` to `L16` and inner ones, each after a space.
 pub fn line_codes(alloc: Global, cause: LineCause) -> Result<Vec<u8>, AllocError>
     ensures { IfOk result (λ v. v.items ≡ line_codes cause) }
 {
@@ -197,7 +182,7 @@ pub fn line_codes(alloc: Global, cause: LineCause) -> Result<Vec<u8>, AllocError
     Ok(codes)
 }
 
-/// The codes of a certificate's fault, `C1` to `C9`, each after a space.
+/// The codes of a certificate's fault, `C1` to `C9` and inner ones, each after a space.
 pub fn cert_codes(alloc: Global, error: CertError) -> Result<Vec<u8>, AllocError>
     ensures { IfOk result (λ v. v.items ≡ cert_codes error) }
 {
@@ -206,7 +191,7 @@ pub fn cert_codes(alloc: Global, error: CertError) -> Result<Vec<u8>, AllocError
     Ok(codes)
 }
 
-/// The codes of a body's fault, `B1` to `B14`, each after a space.
+/// The codes of a body's fault, `B1` to `B14` and inner ones, each after a space.
 pub fn body_codes(alloc: Global, error: BodyError) -> Result<Vec<u8>, AllocError>
     ensures { IfOk result (λ v. v.items ≡ body_codes error) }
 {
@@ -215,7 +200,7 @@ pub fn body_codes(alloc: Global, error: BodyError) -> Result<Vec<u8>, AllocError
     Ok(codes)
 }
 
-/// The codes of what a blob's offer is refused for.
+/// The codes of the fault for which an offered blob is refused.
 fn push_offer_codes(alloc: Global, out: &mut Vec<u8>, error: OfferError) -> Result<(), AllocError>
     ensures { OnOk result (out.new.items ≡ out.old.items ++ offer_codes error) }
 {
@@ -244,7 +229,7 @@ fn audit_code(error: AuditError) -> &'static [u8]
     }
 }
 
-/// The codes of a fault.
+/// The codes of an audit's fault, `A1` to `A12` and inner ones, each after a space.
 pub(crate) fn push_fault_codes(
     alloc: Global,
     out: &mut Vec<u8>,
@@ -261,7 +246,7 @@ pub(crate) fn push_fault_codes(
     }
 }
 
-/// The codes of a fault, each after a space.
+/// The codes of an audit's fault, `A1` to `A12` and inner ones, each after a space.
 pub fn fault_codes(alloc: Global, error: AuditError) -> Result<Vec<u8>, AllocError>
     ensures { IfOk result (λ v. v.items ≡ fault_codes error) }
 {
@@ -270,7 +255,7 @@ pub fn fault_codes(alloc: Global, error: AuditError) -> Result<Vec<u8>, AllocErr
     Ok(codes)
 }
 
-/// The code of a reason, `G1` to `G20`.
+/// The code of a reason why a line does not admit an offer, `G1` to `G20`.
 pub fn reason_code(reason: &Reason) -> &'static str
     ensures { result.now ≡ reason_code reason.now }
 {
@@ -296,7 +281,7 @@ pub fn reason_code(reason: &Reason) -> &'static str
     }
 }
 
-/// The code of a reason after a space, without what stands after it.
+/// The code of a reason, after a space, without its detail.
 pub(crate) fn push_reason_code(out: &mut Vec<u8>, reason: &Reason) -> Result<(), AllocError>
     ensures { OnOk result (out.new.items ≡ out.old.items ++ spaced (reason_code reason.now)) }
 {
@@ -305,8 +290,8 @@ pub(crate) fn push_reason_code(out: &mut Vec<u8>, reason: &Reason) -> Result<(),
     Ok(())
 }
 
-/// The codes of a reason: its own, after `G1` those of the line's cause, after `G13` the name of the
-/// option.
+/// The codes of a reason, followed by those of the line's fault for `G1` and by the option's name
+/// for `G13`.
 pub(crate) fn push_reason_codes(
     alloc: Global,
     out: &mut Vec<u8>,
@@ -325,7 +310,7 @@ pub(crate) fn push_reason_codes(
     }
 }
 
-/// The codes of a reason, each after a space.
+/// The codes of a reason with their detail, each after a space.
 pub fn reason_codes(alloc: Global, reason: &Reason) -> Result<Vec<u8>, AllocError>
     ensures { IfOk result (λ v. v.items ≡ reason_codes reason.now) }
 {
@@ -348,8 +333,8 @@ pub fn cause_code(cause: Cause) -> &'static str
     }
 }
 
-/// The codes of why an offer is denied: its own, after `N1` and `N2` the number of the line, after
-/// `N6` the index of what nobody vouches for.
+/// The codes of why an offer is denied. They are followed by the line number for `N1` and `N2`, and
+/// by the index of the evidence that is not vouched for, for `N6`.
 pub(crate) fn push_cause_codes(
     alloc: Global,
     out: &mut Vec<u8>,
@@ -369,7 +354,7 @@ pub(crate) fn push_cause_codes(
     }
 }
 
-/// The codes of why an offer is denied, each after a space.
+/// The codes of why an offer is denied, with their detail, each after a space.
 pub fn cause_codes(alloc: Global, cause: Cause) -> Result<Vec<u8>, AllocError>
     ensures { IfOk result (λ v. v.items ≡ cause_codes cause) }
 {

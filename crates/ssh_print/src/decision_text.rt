@@ -1,31 +1,22 @@
-//! The lines of a decision but those of its evidence, which are made where they are written.
+//! The printed lines of a decision, except those of its evidence, whose digits are made only when
+//! they are written.
 
 ghost use Rattle.std.specs.Prelude.{◌≡◌, ◌++◌, IfOk, IsOk, None, OnOk};
 ghost use Rattle.std.specs.List.{flat_map};
 ghost use Rattle.ssh_print.specs.Codes.{reason_codes};
-ghost use Rattle.ssh_print.specs.DecisionText.{
-  carried_line,
-  carried_word,
-  cause_line,
-  command_line,
-  granted_lines,
-  has_no_right,
-  reason_line,
-  right_word,
-  right_words,
-  rights_line,
-  rights_lines,
-};
+ghost use Rattle.ssh_print.specs.DecisionText.{carried_line, carried_word, cause_line, command_line, granted_lines, has_no_right, reason_line, right_word, right_words, rights_line, rights_lines};
 ghost use Rattle.ssh_print.specs.TextParts.{text_bytes};
+ghost use Rattle.ssh_print.specs.ResponseView.{response};
+ghost use Rattle.ssh_print.specs.SshsigText.{sshsig_response};
 
 use crate::codes::{push_cause_codes, push_reason_code, push_reason_codes};
-use crate::line::push_text_line;
-use crate::parts::Text;
-use crate::text::{push_escaped, push_number};
+use crate::response::{DENIED, DONE, Response, audit_fault};
+use crate::text::{Text, push_escaped, push_number, push_text_line};
+use ssh_offers::AuditError;
 use ssh_rights::{Carried, CarriedName, Rights};
 use ssh_rules::Reason;
 use ssh_text::Bytes;
-use ssh_trust::Cause;
+use ssh_trust::{Cause, SshsigAnswer};
 use std::alloc::{AllocError, Global};
 
 fn right_word(is_on: bool, word: &'static [u8]) -> &'static [u8]
@@ -51,7 +42,7 @@ fn has_no_right(rights: &Rights) -> bool
     !(rights.port || rights.agent || rights.x11 || rights.pty || rights.user_rc)
 }
 
-/// Where no right is on, the line says so.
+/// The line of the rights that are on; `rights none` if none is.
 fn push_rights_line(out: &mut Vec<u8>, rights: &Rights) -> Result<(), AllocError>
     ensures { OnOk result (out.new.items ≡ out.old.items ++ rights_line rights.now) }
 {
@@ -79,7 +70,7 @@ fn push_command_line(
     Ok(())
 }
 
-/// The name of an option, as sshd(8) spells it.
+/// The name of an option, as in sshd(8).
 fn carried_word(name: CarriedName) -> &'static [u8]
     ensures { result.now ≡ carried_word name }
 {
@@ -113,8 +104,8 @@ fn push_carried(out: &mut Vec<u8>, indent: &[u8], carried: &[Carried]) -> Result
     Ok(())
 }
 
-/// What a login may do: its rights, the command that is forced, and the texts that are carried on;
-/// for a host's key nothing.
+/// The lines of what a login may do: its rights, its forced command, and the options that are
+/// passed on unread. There are none for a host's key.
 fn push_rights(out: &mut Vec<u8>, indent: &[u8], rights: &Option<Rights>) -> Result<(), AllocError>
     ensures ok { OnOk result (out.new.items ≡ out.old.items ++ rights_lines indent.now rights.now) }
     ensures spare { rights.now ≡ None → IsOk result }
@@ -128,7 +119,8 @@ fn push_rights(out: &mut Vec<u8>, indent: &[u8], rights: &Option<Rights>) -> Res
     Ok(())
 }
 
-/// The lines of what a login may do, each after this indent; for a host's key none.
+/// The lines of what a login may do, each after this indent. There are none, and nothing is
+/// allocated, for a host's key.
 pub fn rights_lines(
     alloc: Global,
     indent: &[u8],
@@ -142,7 +134,7 @@ pub fn rights_lines(
     Ok(lines)
 }
 
-/// The first line of what is denied.
+/// The first line of a denial.
 pub(crate) fn push_cause_line(
     alloc: Global,
     out: &mut Vec<u8>,
@@ -156,7 +148,7 @@ pub(crate) fn push_cause_line(
     Ok(())
 }
 
-/// The codes of a reason. The name of an option is shared with it, and not copied.
+/// The codes of a reason. The option's name in it is shared, not copied, since it may be long.
 fn push_reason(alloc: Global, text: &mut Text, reason: &Reason) -> Result<(), AllocError>
     ensures { OnOk result (text_bytes text.new ≡ text_bytes text.old ++ reason_codes reason.now) }
 {
@@ -187,7 +179,7 @@ fn push_reason_line(
     Ok(())
 }
 
-/// The lines of the reasons. A name that a reason tells is shared with it, and not copied.
+/// The lines of the reasons. The option names in them are shared, not copied.
 pub(crate) fn push_reasons(
     alloc: Global,
     text: &mut Text,
@@ -202,7 +194,7 @@ pub(crate) fn push_reasons(
     Ok(())
 }
 
-/// The line of a grant, and those of what it grants.
+/// The lines of a grant: the number of the line that admits, and the rights.
 pub(crate) fn push_granted(
     alloc: Global,
     out: &mut Vec<u8>,
@@ -216,4 +208,38 @@ pub(crate) fn push_granted(
     out.push(b'\n')?;
     push_rights(out, b"", rights)?;
     Ok(())
+}
+
+/// The response for the answer to a file signature, or for its fault. The evidence of the answer is
+/// moved, not copied.
+pub fn sshsig_response(
+    alloc: Global,
+    answer: Result<SshsigAnswer, AuditError>,
+) -> Result<Response, AllocError>
+    ensures { IfOk result (λ r. response r ≡ sshsig_response answer) }
+{
+    let mut text = Vec::new(alloc);
+    match answer {
+        Ok(SshsigAnswer::Vouched { evidence }) => {
+            text.extend_from_slice(b"vouched\n")?;
+            Ok(Response {
+                status: DONE,
+                text: Text::from(text),
+                evidence,
+            })
+        }
+        Ok(SshsigAnswer::OtherNamespace) => {
+            text.extend_from_slice(b"denied namespace\n")?;
+            Ok(Response::new(DENIED, text))
+        }
+        Ok(SshsigAnswer::NotVouched { evidence }) => {
+            push_cause_line(alloc, &mut text, Cause::NotVouched(0))?;
+            Ok(Response {
+                status: DENIED,
+                text: Text::from(text),
+                evidence,
+            })
+        }
+        Err(error) => audit_fault(alloc, error),
+    }
 }

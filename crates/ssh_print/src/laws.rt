@@ -1,12 +1,88 @@
-//! Laws of the definitions, each proved on a function without a body.
+//! Laws of the definitions, and worked examples. The check proves what each function ensures; no
+//! code calls them.
 
-ghost use Rattle.std.specs.Prelude.{◌≡◌, ◌++◌, ℕ, List, Some};
+ghost use Rattle.std.specs.Prelude.{◌≡◌, ◌++◌, ℕ, List, Some, false, slice_get};
 ghost use Rattle.ssh_print.specs.Strings.{json_text, read_string};
 ghost use Rattle.ssh_print.specs.Texts.{escaped_text};
+ghost use Rattle.ssh_print.specs.declared.showing.ShowKind.{ShowKind};
+ghost use Rattle.ssh_print.specs.Showing.{Shows};
+ghost use Rattle.ssh_print.specs.Responses.{Response};
+ghost use Rattle.ssh_entries.specs.AuthGrammar.{auth_line};
+ghost use Rattle.ssh_entries.specs.declared.auth_line.AuthLine.TheVariants.{Unreadable};
+ghost use Rattle.ssh_offers.specs.LoginClaim.{LoginClaim};
+ghost use Rattle.ssh_offers.specs.declared.claim.Signed.{Signed};
+ghost use Rattle.ssh_options.specs.declared.option_text.LineCause.{LineCause};
+ghost use Rattle.ssh_rules.specs.declared.reason.Reason.{Reason};
+ghost use Rattle.ssh_text.specs.Text.{lines_of};
+ghost use Rattle.ssh_trust.specs.declared.decision.Cause.{Cause};
+ghost use Rattle.ssh_trust.specs.declared.decision.Decision.TheVariants.{Denied};
+ghost use Rattle.ssh_print.specs.Denials.{HoldsAnother};
+ghost use Rattle.ssh_print.specs.OtherLines.{login_other};
+ghost use Rattle.ssh_print.specs.PossibleLines.{sought_blob};
+ghost use Rattle.ssh_print.specs.Samples.{BodyCodesShown, CauseCodesShown, CertCodesShown, DecisionsShown, FaultCodesShown, FaultsShown, KeyCodesShown, LineCodesShown, ReasonCodesShown, RightsShown, SignaturesShown, TextsShown, WireCodesShown};
+ghost use Rattle.ssh_print.specs.ShowSamples.{KeysShown, WordsShown};
+ghost use Rattle.ssh_print.specs.ExplainSamples.{LinesShown, RowsAreFound, UnknownShown};
 
-/// A reader of JSON takes a string for the text that is printed of the bytes, and goes on after it: the
-/// string ends nowhere before.
+/// A JSON reader reads the string that is printed for some bytes as their escaped text, and goes on
+/// right after it: the string does not end before.
 fn string_rule()
     ensures { (text rest : List ℕ)
         → read_string (json_text text ++ rest) ≡ Some (escaped_text text, rest) }
+{}
+
+/// `show` has exactly one response for a file.
+fn show_rule()
+    ensures { (kind : ShowKind) (file : List ℕ) (a b : Response)
+        → Shows kind file a
+        → Shows kind file b
+        → a ≡ b }
+{}
+
+/// Suppose a login is denied and no line is reported by which OpenSSH may admit it. Then every
+/// unreadable line of the file holds another key where OpenSSH looks for one.
+fn unread_rule()
+    ensures { (claim : LoginClaim) (file line : List ℕ) (why : Cause) (reasons : List (ℕ × Reason))
+        (evidence : List Signed) (i : ℕ) (cause : LineCause)
+        → (login_other claim file (Denied why reasons evidence)).may_admit ≡ false
+        → slice_get (lines_of file) i ≡ Some line
+        → auth_line line ≡ Unreadable cause
+        → HoldsAnother line (sought_blob claim) }
+{}
+
+/// Every printed code.
+fn codes_as_printed()
+    ensures fields { WireCodesShown }
+    ensures keys { KeyCodesShown }
+    ensures certificates { CertCodesShown }
+    ensures bodies { BodyCodesShown }
+    ensures lines { LineCodesShown }
+    ensures reasons { ReasonCodesShown }
+    ensures causes { CauseCodesShown }
+    ensures faults { FaultCodesShown }
+{}
+
+/// Small texts, and whole answers with their status.
+fn answers_as_printed()
+    ensures texts { TextsShown }
+    ensures rights { RightsShown }
+    ensures decisions { DecisionsShown }
+    ensures signatures { SignaturesShown }
+    ensures faults { FaultsShown }
+{}
+
+/// Words and lines, as they are read and printed.
+fn lines_as_shown()
+    ensures words { WordsShown }
+    ensures keys { KeysShown }
+{}
+
+/// Lines of codes, and a code without a row.
+fn lines_as_written()
+    ensures lines { LinesShown }
+    ensures unknown { UnknownShown }
+{}
+
+/// Each row is the row of its own code: no two rows have the same code.
+fn rows_as_found()
+    ensures { RowsAreFound }
 {}

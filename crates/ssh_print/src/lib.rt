@@ -1,37 +1,60 @@
-//! The printed lines of decisions, of answers to file signatures and of faults, each answer with
-//! its status; and texts as strings of JSON (RFC 8259, section 7).
+//! What the program prints: the lines and the status of decisions, of answers to file signatures
+//! and of faults, and JSON strings (RFC 8259, section 7).
+//!
+//! The lines that `show` prints for a public key, a certificate, the public half of a private key
+//! and a file signature.
+//!
+//! The meaning of the printed codes, and what to do about them.
+//!
+//! A row of the table has both for one code. A caller that has a code to explain:
+//!
+//! ```
+//! if let Some(row) = row_of("G8") {
+//!     println!(rt; "{}: {}", row.code, row.sentence)?;
+//! }
+//! ```
+//!
+//! Whether a key would be admitted if its signatures are good. This needs a stand-in for the
+//! missing signature, the decision on a trust file if all evidence is vouched for, and the printed
+//! answer.
 #![tactic(auto)]
 
-mod answer;
+mod admission_text;
+mod asked_key;
+mod cert;
 mod codes;
 mod decision_text;
-mod escaped_piece;
-mod hex_piece;
-mod json_text;
+mod escaped;
+mod explaining;
+mod host_otherwise;
+mod known_possible;
 mod laws;
-mod line;
-mod parts;
-mod plain;
+mod otherwise;
+mod possible;
 mod response;
-mod samples;
-mod sshsig_text;
+mod show_key;
+mod showing;
+mod table;
 mod text;
 
-pub use answer::{
-    audit_fault, decision_response, fault_response, file_fault, usage_fault, value_fault,
-    vouch_fault,
-};
+pub use admission_text::{Subject, answer_text};
+pub use asked_key::{login_algorithm, stand_in};
 pub use codes::{
     body_codes, cause_code, cause_codes, cert_codes, fault_codes, line_code, line_codes,
     reason_code, reason_codes,
 };
-pub use decision_text::rights_lines;
-pub use escaped_piece::{EscapedPiece, PIECE_LIMIT};
-pub use hex_piece::HexPiece;
-pub use json_text::push_json_text;
-pub use line::{push_number_line, push_text_line, push_word_line};
-pub use parts::{Part, Text};
-pub use plain::push_shown;
-pub use response::{DONE, FAULT, Response};
-pub use sshsig_text::sshsig_response;
-pub use text::{push_escaped, push_hex, push_number};
+pub use decision_text::{rights_lines, sshsig_response};
+pub use escaped::{EscapedPiece, PIECE_LIMIT, push_json_text, push_shown};
+pub use explaining::{ExplainError, Row, explain, explain_all, row_of};
+pub use host_otherwise::other_host;
+pub use otherwise::{Otherwise, other_login};
+pub use response::{
+    DONE, FAULT, HexPiece, Response, audit_fault, decision_response, fault_response, file_fault,
+    usage_fault, value_fault, vouch_fault,
+};
+pub use show_key::date_text;
+pub use showing::{OfferedKey, ShowError, ShowKind, read_offer, show, show_fault, show_kind};
+pub use text::{
+    Part, Text, push_escaped, push_hex, push_number, push_number_line, push_text_line,
+    push_word_line,
+};

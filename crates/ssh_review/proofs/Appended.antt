@@ -1,5 +1,5 @@
 -- What two calls in a row append.
-use Rattle.std.proofs.Common.{◌≡◌, ◌∙◌, ℕ, List, ◌++◌, ap, append_assoc}
+use Rattle.ssh_review.proofs.Imports.{◌≡◌, ◌∙◌, ℕ, List, ◌++◌, ap, append_assoc}
 
 pub both : (before first second between after : List ℕ) → between ≡ before ++ first → after ≡ between ++ second
     → after ≡ before ++ (first ++ second)

@@ -1,38 +1,11 @@
--- What is told of a line of bytes is of bytes.
-use Rattle.std.proofs.Common.{◌≡◌, ℕ, zero, suc, ◌<◌, ◌==◌, Bool, true, false, cond, List, [], ◌∷◌, ◌++◌, take, refl, sym, subst, inl, inr, arith}
-use Rattle.std.specs.Prelude.{Option, Some, None, option_map}
-use Rattle.std.specs.List.{AllByRecursion, onto_first}
-use Rattle.std.specs.Str.{IsAscii}
-use Rattle.std.proofs.lemmas.Bool.{eqb-true}
-use Rattle.base64.specs.Engines.{standard}
-use Rattle.base64.specs.GeneralPurpose.{encode_of}
-use Rattle.base64.proofs.EngineFacts.{IsAscii-encode_of}
-use Rattle.jiff.specs.Types.{TimeZone}
+-- What is printed of a line of bytes consists of bytes.
+use Rattle.ssh_review.proofs.Imports.{◌≡◌, ℕ, zero, suc, ◌<◌, ◌==◌, Bool, true, false, cond, List, [], ◌∷◌, ◌++◌, take, refl, sym, subst, inl, inr, arith, Option, Some, None, option_map, AllByRecursion, onto_first, IsAscii, eqb-true, standard, encode_of, IsAscii-encode_of, TimeZone, SpellsTail, lines_of, key_name_of, PublicKey, key_blob, kind_of, AuthOption, Switch, Setting, ValueName, same_value_name, SpellsItems, SpellsOption, escaped, quoted, first_of, setting, settings, AuthEntry, SpellsEntry, SpellsOptions, auth_line, Entry, base64, SpellsKey, auth_line-spells, plain, Carried, CarriedName, carried_by, carried_name, carried_texts, command_of, AreBytes, AreBytesIfAny, HasByteValue, HaveByteValues, IsHeldOfBytes, IsOfBytes}
 use Rattle.sha2.specs.Sha256.{sha256}
-use Rattle.ssh_text.specs.Text.{SpellsTail, lines_of}
 use Rattle.ssh_keys.specs.Fingerprint.{digest_text_of, fingerprint_of}
-use Rattle.ssh_keys.specs.Names.{key_name_of}
-use Rattle.ssh_keys.specs.PublicKey.{PublicKey, key_blob, kind_of}
-use Rattle.ssh_options.specs.AuthOption.{AuthOption, Switch, Setting}
-use Rattle.ssh_options.specs.declared.option.ValueName.{ValueName}
 use Rattle.ssh_options.specs.declared.option.ValueName.TheVariants as value
-use Rattle.ssh_options.specs.OptionNames.{same_value_name}
-use Rattle.ssh_options.specs.OptionText.{SpellsItems, SpellsOption, escaped, quoted}
-use Rattle.ssh_options.specs.Settings.{first_of, setting, settings}
-use Rattle.ssh_lines.specs.AuthEntry.{AuthEntry}
-use Rattle.ssh_lines.specs.AuthGrammar.{SpellsEntry, SpellsOptions, auth_line}
-use Rattle.ssh_lines.specs.declared.entry.AuthLine.TheVariants.{Entry}
-use Rattle.ssh_names.specs.Names.{base64}
-use Rattle.ssh_lines.specs.KeyPart.{SpellsKey}
-use Rattle.ssh_lines.proofs.ReadAuth.{auth_line-spells}
-use Rattle.ssh_offers.specs.Offer.{plain}
-use Rattle.ssh_rights.specs.declared.rights.Carried.{Carried}
-use Rattle.ssh_rights.specs.declared.rights.CarriedName.{CarriedName}
-use Rattle.ssh_rights.specs.Rights.{carried_by, carried_name, carried_texts, command_of, rights_of}
+use Rattle.ssh_rights.specs.Rights.{rights_of}
 use Rattle.ssh_findings.specs.Facts.{facts_of}
-use Rattle.ssh_held_keys.specs.HeldKey.{held_of as told_of}
-use Rattle.ssh_offers.specs.FirstRefusal.{AreBytes}
-use Rattle.ssh_review_json.specs.OneLine.{AreBytesIfAny, HasByteValue, HaveByteValues, IsHeldOfBytes, IsOfBytes}
+use Rattle.ssh_findings.specs.HeldKey.{held_of as told_of}
 
 -- ---- parts
 
@@ -152,13 +125,13 @@ facts-bytes zone e h = record {
   principals = setting-bytes value.Principals e.options h.values;
 }
 
--- what is told of the entry of a line of bytes is of bytes
+-- what is printed of the entry of a line of bytes consists of bytes
 pub entry-facts : (zone : TimeZone) (line : List ℕ) (e : AuthEntry) → AreBytes line → auth_line line ≡ Entry e
     → IsOfBytes (facts_of zone e) × HaveByteValues e.options
 entry-facts zone line e h is =
     let bytes = spelled-bytes e line (auth_line-spells line e h is) h in (facts-bytes zone e bytes, bytes.values)
 
--- what is told of the key on a line that cannot be read is of bytes
+-- what is printed of the key on a line that cannot be read consists of bytes
 pub held-bytes : (key : Option PublicKey) → IsHeldOfBytes (option_map told_of key)
 held-bytes None = tt
 held-bytes (Some key) = fingerprint-bytes key

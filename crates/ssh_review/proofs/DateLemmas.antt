@@ -1,9 +1,6 @@
 -- A date text is the date of its moment.
-use Rattle.std.proofs.Common.{◌≡◌, ◌∙◌, ℕ, nat_le, Bool, true, false, List, refl, sym, ap, inl, inr, arith}
-use Rattle.std.proofs.lemmas.Bool.{leb-true, leb-false}
-use Rattle.jiff.proofs.Family.{same_datetime}
-use Rattle.ssh_show.specs.ShownTexts.{IsDateText, clock_text, last_second}
-use Rattle.ssh_review.specs.Dates.{clock_at, date_by, date_of}
+use Rattle.ssh_review.proofs.Imports.{◌≡◌, ◌∙◌, ℕ, nat_le, Bool, true, false, List, refl, sym, ap, inl, inr, arith, leb-true, leb-false, same_datetime, IsDateText, clock_text, last_second, clock_at, date_by}
+use Rattle.ssh_review.specs.Dates.{date_of}
 
 by-is : (moment : ℕ) (text : List ℕ) (b : Bool) (e : nat_le moment last_second ≡ b) → IsDateText moment text → text ≡ date_by moment b e
 by-is moment text true e (inl x) = absurd (omega (arith, x.0, leb-true moment last_second e))

@@ -1,17 +1,7 @@
 -- The date of a moment is printable.
-use Rattle.std.proofs.Common.{◌≡◌, ℕ, suc, ◌+◌, ◌/◌, ◌%◌, ◌<◌, nat_le, Bool, true, false, [], ◌∷◌, refl, arith}
-use Rattle.std.specs.Prelude.{ℤ, pos, negsuc, None, codes}
-use Rattle.std.proofs.lemmas.Bool.{and_from, leb-true}
-use Rattle.jiff.specs.Types.{DateTime}
-use Rattle.jiff_core.specs.Calendar.{IsYear}
-use Rattle.jiff_core.specs.declared.civil.date.Date.{Date}
-use Rattle.jiff_core.specs.declared.civil.time.Time.{Time}
-use Rattle.jiff_core.proofs.CalendarLemmas.{days_in_month_bounds}
-use Rattle.jiff_core.proofs.SignedLemmas.{signed_arith}
-use Rattle.jiff_fmt.specs.Text.{date_text, pad2, pad4, time_text, year_text}
-use Rattle.ssh_show.specs.ShownTexts.{clock_text, last_second}
-use Rattle.ssh_review.specs.Dates.{clock_at, clock_at-whole, date_by, date_of, moment_date, moment_text}
-use Rattle.ssh_review_json.proofs.PrintableLemmas.{ArePrintable, join, signed-printable, within, word}
+use Rattle.ssh_review.proofs.Imports.{◌≡◌, ℕ, suc, ◌+◌, ◌/◌, ◌%◌, ◌<◌, nat_le, Bool, true, false, [], ◌∷◌, refl, arith, ℤ, pos, negsuc, None, codes, and_from, leb-true, DateTime, IsYear, Date, Time, days_in_month_bounds, signed_arith, date_text, pad2, pad4, time_text, year_text, clock_text, last_second, clock_at, clock_at-whole, date_by, moment_date, moment_text}
+use Rattle.ssh_review.specs.Dates.{date_of}
+use Rattle.ssh_review.proofs.PrintableLemmas.{ArePrintable, join, signed-printable, within, word}
 
 two-printable : (n : ℕ) → n < 100 → ArePrintable (pad2 n)
 two-printable n h = record {

@@ -1,16 +1,8 @@
 -- Digests are bytes, and their texts are printable.
-use Rattle.std.proofs.Common.{◌≡◌, ◌∙◌, ℕ, zero, suc, ◌+◌, ◌*◌, ◌<◌, ◌/◌, ◌%◌, Bool, true, false, ◌&&◌, List, [], ◌∷◌, length, take, refl, sym, inl, inr, arith}
-use Rattle.std.specs.Int.{byte_at, bytes_high_first, to_be_bytes, w32}
-use Rattle.std.specs.Prelude.{replicate, slice_index}
-use Rattle.std.proofs.lemmas.Bool.{and_from, cases_Bool}
-use Rattle.std.proofs.lemmas.List.Folds.{list_all_at}
-use Rattle.base64.specs.Engines.{standard}
-use Rattle.base64.specs.GeneralPurpose.{encode_of}
-use Rattle.base64.specs.Rfc4648.{encode_symbols, padding_len}
-use Rattle.sha2.specs.Sha256.{digest_bytes, final_hash, initial_hash_256, sha256}
-use Rattle.ssh_offers.specs.FirstRefusal.{AreBytes}
-use Rattle.ssh_review_json.specs.OneLine.{are_printable, is_printable}
-use Rattle.ssh_review_json.proofs.PrintableLemmas.{ArePrintable, bytes-append, join, word}
+use Rattle.ssh_review.proofs.Imports.{◌≡◌, ◌∙◌, ℕ, zero, suc, ◌+◌, ◌*◌, ◌<◌, ◌/◌, ◌%◌, Bool, true, false, ◌&&◌, List, [], ◌∷◌, length, take, refl, sym, inl, inr, arith, byte_at, bytes_high_first, to_be_bytes, w32, replicate, slice_index, and_from, cases_Bool, list_all_at, standard, encode_of, padding_len, final_hash, initial_hash_256, AreBytes, are_printable, is_printable}
+use Rattle.base64.specs.Rfc4648.{encode_symbols}
+use Rattle.sha2.specs.Sha256.{digest_bytes, sha256}
+use Rattle.ssh_review.proofs.PrintableLemmas.{ArePrintable, bytes-append, join, word}
 
 -- ---- bytes
 

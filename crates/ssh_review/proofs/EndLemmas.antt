@@ -1,16 +1,7 @@
 -- The end of a file and the total are one line each as JSON objects.
-use Rattle.std.proofs.Common.{◌≡◌, ℕ, true, List, refl}
-use Rattle.std.specs.Prelude.{codes}
-use Rattle.ssh_offers.specs.FirstRefusal.{AreBytes}
-use Rattle.ssh_review_json.specs.OneLine.{is_line}
-use Rattle.ssh_review_json.proofs.ObjectLemmas.{null-printable, number-printable, said-printable}
-use Rattle.ssh_review_json.proofs.PrintableLemmas.{ArePrintable, hex-printable, join, line-from, string-printable, word}
-use Rattle.ssh_review.specs.declared.counts.Counts.{Counts}
-use Rattle.ssh_review.specs.declared.counts.FileFault.{FileFault}
-use Rattle.ssh_review.specs.declared.counts.FileFault.TheVariants.{Unread, TooLong}
-use Rattle.ssh_review.specs.declared.counts.Total.{Total}
-use Rattle.ssh_review.specs.Counting.{no_counts}
-use Rattle.ssh_review.specs.Ends.{fault_code}
+use Rattle.ssh_review.proofs.Imports.{◌≡◌, ℕ, true, List, refl, codes, AreBytes, is_line, Counts, FileFault, Unread, TooLong, Total, no_counts, fault_code}
+use Rattle.ssh_review.proofs.ObjectLemmas.{null-printable, number-printable, said-printable}
+use Rattle.ssh_review.proofs.PrintableLemmas.{ArePrintable, hex-printable, join, line-from, string-printable, word}
 use Rattle.ssh_review.specs.EndObjects.{counts_fields, end_head, end_object, fault_object, total_head, total_object}
 
 head-printable : (name : List ℕ) → AreBytes name → ArePrintable (end_head name)

@@ -1,3 +1,4 @@
+pub mod Imports
 pub mod Appended
 pub mod DateLemmas
 pub mod LineLemmas
@@ -11,3 +12,14 @@ pub mod TextLemmas
 pub mod EndLemmas
 pub mod RecordLemmas
 pub mod ReviewLemmas
+pub mod UnquotedLemmas
+pub mod PrintableLemmas
+pub mod WordLemmas
+pub mod ObjectLemmas
+pub mod CountLemmas
+pub mod HostReviewByteLemmas
+pub mod HostReviewTextLemmas
+pub mod HostReviewObjectLemmas
+pub mod HostReviewReviewLemmas
+pub mod LoopLemmas
+pub mod HostReviewMemoryLemmas

@@ -1,27 +1,9 @@
 -- The loop over the lines of a file: what is written and counted so far, and what is left.
-use Rattle.std.proofs.Common.{◌≡◌, ◌∙◌, ℕ, suc, ◌+◌, ◌*◌, ◌<◌, ◌≤◌, ◌^◌, ◌==◌, Bool, true, false, not, ◌&&◌, cond, List, [], ◌∷◌, ◌++◌, length, sym, ap, length-append, arith}
-use Rattle.std.specs.List.{flat_map, onto_first}
-use Rattle.std.specs.Prelude.{Option, Some, None}
-use Rattle.ssh_lines.specs.declared.entry.AuthLine.{AuthLine}
-use Rattle.ssh_lines.specs.declared.entry.AuthLine.TheVariants.{Blank, Comment, Entry, Unreadable}
-use Rattle.ssh_lines.specs.AuthGrammar.{auth_line}
-use Rattle.ssh_text.specs.Text.{file_limit, lines_of, numbered}
-use Rattle.ssh_review.specs.declared.counts.Counts.{Counts}
-use Rattle.ssh_findings.specs.declared.code.Code.{Code}
-use Rattle.ssh_findings.specs.declared.facts.Facts.{Facts}
-use Rattle.ssh_findings.specs.declared.finding.Finding.{Finding}
+use Rattle.ssh_review.proofs.Imports.{◌≡◌, ◌∙◌, ℕ, suc, ◌+◌, ◌*◌, ◌<◌, ◌≤◌, ◌^◌, ◌==◌, Bool, true, false, not, ◌&&◌, cond, List, [], ◌∷◌, ◌++◌, length, sym, ap, length-append, arith, flat_map, onto_first, Option, Some, None, AuthLine, Blank, Comment, Entry, Unreadable, auth_line, file_limit, lines_of, numbered, Counts, Code, Facts, Finding, Asking, is_told, plus, Ground, condition_findings, forces_but_forwards, ground_finding, ground_findings, policy_findings, reading_findings, all_grounds, has_ground, told_some, key_blob, Held, repeat_after, code_of, counts_of, held_by_line, line_counts}
 use Rattle.ssh_findings.specs.declared.finding.Finding.TheVariants as finding
-use Rattle.ssh_findings.specs.Asking.{Asking, is_told}
-use Rattle.ssh_review.specs.Counting.{plus}
-use Rattle.ssh_findings.specs.declared.grounds.Ground.{Ground}
-use Rattle.ssh_findings.specs.EntryFindings.{condition_findings, entry_findings, forces_but_forwards, ground_finding, ground_findings, policy_findings, reading_findings}
-use Rattle.ssh_findings.specs.OpenSsh.{all_grounds, has_ground}
-use Rattle.ssh_findings.specs.Telling.{told_if, told_some}
-use Rattle.ssh_keys.specs.PublicKey.{key_blob}
-use Rattle.ssh_findings.specs.Earlier.{Held, repeat_after}
+use Rattle.ssh_findings.specs.EntryFindings.{entry_findings}
+use Rattle.ssh_findings.specs.Telling.{told_if}
 use Rattle.ssh_findings.specs.Facts.{facts_of}
-use Rattle.ssh_findings.specs.Findings.{code_of}
-use Rattle.ssh_review.specs.Lines.{counts_of, held_by_line, line_counts}
 
 -- ---- how much is counted at most
 
@@ -62,7 +44,7 @@ readings-short : (asking : Asking) (f : Facts) → length (reading_findings aski
 readings-short asking f =
     one-more _ _ (four _ _ _ _ (if-short asking _ _) (if-short asking _ _) (if-short asking _ _) (if-short asking _ _)) (if-short asking _ _)
 
--- a ground is told once at most
+-- a ground is reported once at most
 each-ground-short : (asking : Asking) (f : Facts) (gs : List Ground) → length (flat_map (λ g. ground_finding asking f g) gs) ≤ length gs
 each-ground-short asking f [] = omega arith
 each-ground-short asking f (g ∷ gs) =

@@ -1,37 +1,11 @@
--- What is kept of the lines of a file while it is reviewed is no more than the file.
-use Rattle.std.proofs.Common.{◌≡◌, ◌∙◌, ℕ, suc, ◌+◌, ◌≤◌, ◌==◌, Bool, true, false, cond, List, [], ◌∷◌, ◌++◌, length, ap, refl, arith, length-append}
-use Rattle.std.specs.Prelude.{Option, Some, None, replicate}
-use Rattle.std.specs.List.{AllByRecursion, onto_first}
-use Rattle.base64.specs.Engines.{standard}
-use Rattle.base64.specs.Rfc4648.{encode_symbols, padding_len}
-use Rattle.base64.proofs.RoundTrip.{length-encode_symbols}
-use Rattle.jiff.specs.Types.{TimeZone}
-use Rattle.ssh_text.specs.Text.{lines_of, numbered}
-use Rattle.ssh_keys.specs.Names.{key_name_of}
-use Rattle.ssh_keys.specs.PublicKey.{PublicKey, key_blob, kind_of}
-use Rattle.ssh_names.specs.Names.{base64}
-use Rattle.ssh_options.specs.AuthOption.{AuthOption, Switch, Setting}
-use Rattle.ssh_options.specs.declared.option.ValueName.{ValueName}
-use Rattle.ssh_options.specs.declared.option.ValueName.TheVariants.{Command}
-use Rattle.ssh_options.specs.OptionNames.{same_value_name}
-use Rattle.ssh_options.specs.OptionText.{SpellsItems, SpellsOption, escaped, quoted}
-use Rattle.ssh_options.specs.Settings.{first_of, setting, settings}
-use Rattle.ssh_lines.specs.AuthEntry.{AuthEntry}
-use Rattle.ssh_lines.specs.AuthGrammar.{SpellsEntry, SpellsOptions, auth_line}
-use Rattle.ssh_lines.specs.declared.entry.AuthLine.{AuthLine}
-use Rattle.ssh_lines.specs.declared.entry.AuthLine.TheVariants.{Blank, Comment, Entry, Unreadable}
-use Rattle.ssh_lines.specs.KeyPart.{SpellsKey}
-use Rattle.ssh_lines.proofs.ReadAuth.{auth_line-spells}
-use Rattle.ssh_offers.specs.Offer.{plain}
-use Rattle.ssh_rights.specs.Rights.{command_of, rights_of}
-use Rattle.ssh_findings.specs.Asking.{Asking}
+-- What is stored of the lines of a file during a review is no more than the file.
+use Rattle.ssh_review.proofs.Imports.{◌≡◌, ◌∙◌, ℕ, suc, ◌+◌, ◌≤◌, ◌==◌, Bool, true, false, cond, List, [], ◌∷◌, ◌++◌, length, ap, refl, arith, length-append, Option, Some, None, replicate, AllByRecursion, onto_first, standard, padding_len, length-encode_symbols, TimeZone, lines_of, numbered, key_name_of, PublicKey, key_blob, kind_of, base64, AuthOption, Switch, Setting, ValueName, Command, same_value_name, SpellsItems, SpellsOption, escaped, quoted, first_of, setting, settings, AuthEntry, SpellsEntry, SpellsOptions, auth_line, AuthLine, Blank, Comment, Entry, Unreadable, SpellsKey, auth_line-spells, plain, command_of, Asking, entry_bytes, text_bytes, AreBytes, line_bytes, lines_bytes}
+use Rattle.base64.specs.Rfc4648.{encode_symbols}
+use Rattle.ssh_rights.specs.Rights.{rights_of}
 use Rattle.ssh_findings.specs.Facts.{facts_of}
-use Rattle.ssh_findings.specs.Memory.{entry_bytes, text_bytes}
-use Rattle.ssh_offers.specs.FirstRefusal.{AreBytes}
-use Rattle.ssh_review.specs.Memory.{line_bytes, lines_bytes}
 use Rattle.ssh_review.proofs.ByteLemmas.{lines-bytes}
 
--- ---- a forced command stands in the options
+-- ---- a forced command is among the options
 
 escaped-long : (text : List ℕ) → length text ≤ length (escaped text)
 escaped-long [] = omega arith

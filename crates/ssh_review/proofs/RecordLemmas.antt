@@ -1,17 +1,7 @@
 -- The record of a line is one line as a JSON object.
-use Rattle.std.proofs.Common.{◌≡◌, ◌⊎◌, ℕ, true, List, [], refl, inl, inr}
-use Rattle.ssh_lines.specs.declared.entry.AuthLine.{AuthLine}
-use Rattle.ssh_lines.specs.declared.entry.AuthLine.TheVariants.{Blank, Comment, Entry, Unreadable}
-use Rattle.ssh_lines.specs.AuthGrammar.{auth_line}
-use Rattle.ssh_findings.specs.Asking.{Asking}
-use Rattle.ssh_findings.specs.Earlier.{Held}
+use Rattle.ssh_review.proofs.Imports.{◌≡◌, ◌⊎◌, ℕ, true, List, [], refl, inl, inr, AuthLine, Blank, Comment, Entry, Unreadable, auth_line, Asking, Held, held_key, AreBytes, is_line, Json, key_told, line_findings, line_record, shadow_line}
 use Rattle.ssh_findings.specs.Facts.{facts_of}
-use Rattle.ssh_held_keys.specs.HeldKey.{held_key}
-use Rattle.ssh_offers.specs.FirstRefusal.{AreBytes}
-use Rattle.ssh_review_json.specs.OneLine.{is_line}
-use Rattle.ssh_review_json.proofs.ObjectLemmas.{entry-line, unreadable-line}
-use Rattle.ssh_review.specs.declared.form.Form.TheVariants.{Json}
-use Rattle.ssh_review.specs.Lines.{key_told, line_findings, line_record, shadow_line}
+use Rattle.ssh_review.proofs.ObjectLemmas.{entry-line, unreadable-line}
 use Rattle.ssh_review.proofs.ByteLemmas.{entry-facts, held-bytes}
 
 record-by : (asking : Asking) (name : List ℕ) (earlier : List Held) (n : ℕ) (line : List ℕ) (said : AuthLine)

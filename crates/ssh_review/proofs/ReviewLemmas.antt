@@ -1,34 +1,12 @@
 -- A review is of printable bytes and LFs, in each form.
-use Rattle.std.proofs.Common.{◌≡◌, ◌+◌, ℕ, nat_lt, Bool, true, false, cond, List, [], ◌∷◌, ◌++◌, length, refl}
-use Rattle.std.specs.Prelude.{Option, Some, None, codes, option_map}
-use Rattle.std.specs.List.{AllByRecursion}
-use Rattle.jiff.specs.Types.{TimeZone}
+use Rattle.ssh_review.proofs.Imports.{◌≡◌, ◌+◌, ℕ, nat_lt, Bool, true, false, cond, List, [], ◌∷◌, ◌++◌, length, refl, Option, Some, None, codes, option_map, AllByRecursion, TimeZone, file_limit, lines_of, numbered, PublicKey, key_blob, AuthLine, Blank, Comment, Entry, Unreadable, AuthEntry, auth_line, Asking, Held, held_key, AreBytes, are_printable, Counts, FileFault, TooLong, Total, Form, Text, Json, count_text, counts_text, end_line, file_fault_line, total_line, counts_of, held_by_line, key_told, line_findings, line_record, records_of, shadow_line, auth_review, fault_review}
 use Rattle.sha2.specs.Sha256.{sha256}
-use Rattle.ssh_text.specs.Text.{file_limit, lines_of, numbered}
 use Rattle.ssh_keys.specs.Fingerprint.{digest_text_of, fingerprint_of}
-use Rattle.ssh_keys.specs.PublicKey.{PublicKey, key_blob}
-use Rattle.ssh_lines.specs.declared.entry.AuthLine.{AuthLine}
-use Rattle.ssh_lines.specs.declared.entry.AuthLine.TheVariants.{Blank, Comment, Entry, Unreadable}
-use Rattle.ssh_lines.specs.AuthEntry.{AuthEntry}
-use Rattle.ssh_lines.specs.AuthGrammar.{auth_line}
-use Rattle.ssh_findings.specs.Asking.{Asking}
-use Rattle.ssh_findings.specs.Earlier.{Held}
 use Rattle.ssh_findings.specs.Facts.{facts_of}
-use Rattle.ssh_held_keys.specs.HeldKey.{held_key, held_of as told_of}
-use Rattle.ssh_offers.specs.FirstRefusal.{AreBytes}
-use Rattle.ssh_review_json.specs.OneLine.{are_printable}
-use Rattle.ssh_review_json.proofs.ObjectLemmas.{entry-line, unreadable-line}
-use Rattle.ssh_review_json.proofs.PrintableLemmas.{ArePrintable, decimal-printable, escaped-printable, hex-printable, join, word}
-use Rattle.ssh_review.specs.declared.counts.Counts.{Counts}
-use Rattle.ssh_review.specs.declared.counts.FileFault.{FileFault}
-use Rattle.ssh_review.specs.declared.counts.FileFault.TheVariants.{TooLong}
-use Rattle.ssh_review.specs.declared.counts.Total.{Total}
-use Rattle.ssh_review.specs.declared.form.Form.{Form}
-use Rattle.ssh_review.specs.declared.form.Form.TheVariants.{Text, Json}
-use Rattle.ssh_review.specs.Ends.{count_text, counts_text}
-use Rattle.ssh_review.specs.Forms.{end_line, file_fault_line, total_line}
-use Rattle.ssh_review.specs.Lines.{counts_of, held_by_line, key_told, line_findings, line_record, records_of, shadow_line}
-use Rattle.ssh_review.specs.Reviews.{auth_review, fault_review, whole_review}
+use Rattle.ssh_findings.specs.HeldKey.{held_of as told_of}
+use Rattle.ssh_review.proofs.ObjectLemmas.{entry-line, unreadable-line}
+use Rattle.ssh_review.proofs.PrintableLemmas.{ArePrintable, decimal-printable, escaped-printable, hex-printable, join, word}
+use Rattle.ssh_review.specs.Reviews.{whole_review}
 use Rattle.ssh_review.proofs.ByteLemmas.{entry-facts, held-bytes, lines-bytes}
 use Rattle.ssh_review.proofs.DigestLemmas.{base64-printable, digest-bytes}
 use Rattle.ssh_review.proofs.EndLemmas.{code-printable, end-line, fault-line, total-line}

@@ -1,10 +1,6 @@
 -- Texts of printable bytes and LFs, one after the other.
-use Rattle.std.proofs.Common.{◌≡◌, ◌∙◌, ℕ, ◌==◌, Bool, true, false, ◌&&◌, ◌||◌, cond, List, [], ◌∷◌, ◌++◌, length, refl, ap, arith}
-use Rattle.std.proofs.lemmas.Bool.{eqb-true}
-use Rattle.std.proofs.lemmas.List.Folds.{list_all-append}
-use Rattle.ssh_review_json.specs.OneLine.{are_printable, is_line, is_printable}
-use Rattle.ssh_review_json.proofs.PrintableLemmas.{ArePrintable}
-use Rattle.ssh_review.specs.Shown.{are_shown, is_shown}
+use Rattle.ssh_review.proofs.Imports.{◌≡◌, ◌∙◌, ℕ, ◌==◌, Bool, true, false, ◌&&◌, ◌||◌, cond, List, [], ◌∷◌, ◌++◌, length, refl, ap, arith, eqb-true, list_all-append, are_printable, is_line, is_printable, are_shown, is_shown}
+use Rattle.ssh_review.proofs.PrintableLemmas.{ArePrintable}
 
 -- A text is of printable bytes and LFs. As a record, so that a proof finds the text.
 pub record AreShown (text : List ℕ) : Type 0 where

@@ -1,15 +1,5 @@
--- One more line of a file: what is written, counted and kept then.
-use Rattle.std.proofs.Common.{◌≡◌, ◌∙◌, ℕ, ◌+◌, ◌≤◌, List, ◌∷◌, ◌++◌, refl, sym, ap, append_assoc, arith}
-use Rattle.std.proofs.Math.Nat.{add_assoc}
-use Rattle.ssh_lines.specs.declared.entry.AuthLine.{AuthLine}
-use Rattle.ssh_lines.specs.AuthGrammar.{auth_line}
-use Rattle.ssh_findings.specs.Asking.{Asking}
-use Rattle.ssh_findings.specs.Earlier.{Held}
-use Rattle.ssh_review.specs.declared.counts.Counts.{Counts}
-use Rattle.ssh_review.specs.declared.form.Form.{Form}
-use Rattle.ssh_review.specs.Counting.{plus}
-use Rattle.ssh_review.specs.Lines.{counts_of, held_by_line, held_lines, line_counts, line_record, records_of}
-use Rattle.ssh_review.specs.Memory.{line_bytes, lines_bytes}
+-- One more line of a file: what is written, counted and stored then.
+use Rattle.ssh_review.proofs.Imports.{◌≡◌, ◌∙◌, ℕ, ◌+◌, ◌≤◌, List, ◌∷◌, ◌++◌, refl, sym, ap, append_assoc, arith, add_assoc, AuthLine, auth_line, Asking, Held, Counts, Form, plus, counts_of, held_by_line, held_lines, line_counts, line_record, records_of, line_bytes, lines_bytes}
 
 plus-assoc : (a b c : Counts) → plus (plus a b) c ≡ plus a (plus b c)
 plus-assoc a b c =

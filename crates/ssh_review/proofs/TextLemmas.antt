@@ -1,32 +1,13 @@
 -- The records of lines, as text, are of printable bytes and LFs.
-use Rattle.std.proofs.Common.{◌≡◌, ℕ, Bool, true, false, List, [], ◌∷◌, ◌++◌, refl}
-use Rattle.std.specs.Prelude.{ℤ, Option, Some, None, codes}
-use Rattle.std.specs.Fmt.{decimal}
-use Rattle.std.specs.List.{AllByRecursion, flat_map}
-use Rattle.ssh_keys.specs.declared.kind.KeyKind.{KeyKind}
-use Rattle.ssh_options.specs.declared.cause.LineCause.{LineCause}
-use Rattle.ssh_options.specs.declared.cause.LineCause.TheVariants as cause
-use Rattle.ssh_rights.specs.declared.rights.Carried.{Carried}
-use Rattle.ssh_rights.specs.declared.rights.CarriedName.{CarriedName}
+use Rattle.ssh_review.proofs.Imports.{◌≡◌, ℕ, Bool, true, false, List, [], ◌∷◌, ◌++◌, refl, ℤ, Option, Some, None, codes, decimal, AllByRecursion, flat_map, KeyKind, LineCause, Carried, CarriedName, Rights, carried_word, Facts, Finding, HeldKey, code_text, code_of, detail_of, AreBytes, AreBytesIfAny, IsOfBytes, are_printable, bits_text, carried_inset, comment_text, held_words, place_text, role_word, cause_text, detail_part, finding_head, finding_line, sentence_of, short_sentence, unreadable_sentence, are_shown}
+use Rattle.ssh_options.specs.declared.option_text.LineCause.TheVariants as cause
 use Rattle.ssh_rights.specs.declared.rights.CarriedName.TheVariants as carried
-use Rattle.ssh_rights.specs.declared.rights.Rights.{Rights}
-use Rattle.ssh_print.specs.DecisionText.{carried_word}
 use Rattle.ssh_print.specs.Texts.{word_line}
-use Rattle.ssh_explain.specs.Table.{answers, lines, reasons, row_of, table}
-use Rattle.ssh_findings.specs.declared.facts.Facts.{Facts}
-use Rattle.ssh_findings.specs.declared.finding.Finding.{Finding}
+use Rattle.ssh_print.specs.Table.{answers, lines, reasons, row_of, table}
 use Rattle.ssh_findings.specs.declared.finding.Finding.TheVariants as finding
-use Rattle.ssh_held_keys.specs.declared.held.HeldKey.{HeldKey}
-use Rattle.ssh_findings.specs.Codes.{code_text}
-use Rattle.ssh_findings.specs.Findings.{code_of}
-use Rattle.ssh_review_json.specs.Details.{detail_of}
-use Rattle.ssh_offers.specs.FirstRefusal.{AreBytes}
-use Rattle.ssh_review_json.specs.OneLine.{AreBytesIfAny, IsOfBytes, are_printable}
-use Rattle.ssh_review_json.proofs.PrintableLemmas.{ArePrintable, decimal-printable, escaped-printable, join, word}
-use Rattle.ssh_review_json.proofs.WordLemmas.{code-printable, detail-printable, kind-printable, rights-printable}
-use Rattle.ssh_review.specs.Records.{bits_text, carried_inset, comment_text, entry_head, entry_text, fingerprint_word, flag_line, held_words, key_words, limit_lines, place_text, right_lines, rights_inset, role_word, setting_line, unreadable_text, until_line}
-use Rattle.ssh_review.specs.Sentences.{cause_text, detail_part, finding_head, finding_line, sentence_of, short_sentence, unreadable_sentence}
-use Rattle.ssh_review.specs.Shown.{are_shown}
+use Rattle.ssh_review.proofs.PrintableLemmas.{ArePrintable, decimal-printable, escaped-printable, join, word}
+use Rattle.ssh_review.proofs.WordLemmas.{code-printable, detail-printable, kind-printable, rights-printable}
+use Rattle.ssh_review.specs.Records.{entry_head, entry_text, fingerprint_word, flag_line, key_words, limit_lines, right_lines, rights_inset, setting_line, unreadable_text, until_line}
 use Rattle.ssh_review.proofs.DateTextLemmas.{moment-printable}
 use Rattle.ssh_review.proofs.ShownLemmas.{AreShown, add, seen, show}
 

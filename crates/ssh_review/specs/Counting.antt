@@ -1,8 +1,8 @@
--- What a review counts (this project's rule).
+-- The counts of the lines of an authorized_keys file (this project's rule).
 use Rattle.std.specs.Prelude.{ℕ, ◌+◌}
-use Rattle.ssh_lines.specs.declared.entry.AuthLine.{AuthLine}
-use Rattle.ssh_lines.specs.declared.entry.AuthLine.TheVariants.{Blank, Comment, Entry, Unreadable}
-use Rattle.ssh_review.specs.declared.counts.Counts.{Counts}
+use Rattle.ssh_entries.specs.declared.auth_line.AuthLine.{AuthLine}
+use Rattle.ssh_entries.specs.declared.auth_line.AuthLine.TheVariants.{Blank, Comment, Entry, Unreadable}
+use Rattle.ssh_review.specs.declared.end.Counts.{Counts}
 
 abbrev pub no_counts : Counts
 no_counts = record { lines = 0; keys = 0; unreadable = 0; findings = 0 }
@@ -15,7 +15,7 @@ plus a b = record {
   findings = a.findings + b.findings;
 }
 
--- of a line with so many findings: an entry is a key, an authority's too
+-- the counts of a line with this number of findings: an entry counts as a key, a certificate authority too
 abbrev pub counts_with : AuthLine → ℕ → Counts
 counts_with Blank findings = record { lines = 1; keys = 0; unreadable = 0; findings = findings }
 counts_with Comment findings = record { lines = 1; keys = 0; unreadable = 0; findings = findings }

@@ -12,7 +12,7 @@ use Rattle.jiff_core.proofs.SignedLemmas.{signed_arith}
 use Rattle.jiff_core.proofs.CalendarLemmas.{days_from_civil-day_count}
 use Rattle.jiff_core.proofs.DateTimeLemmas.{civil_nanos-parts}
 use Rattle.jiff_core.proofs.MarchLemmas.{day_count-early, day_count-late, day_in_early_month, day_in_month, leap_day, leap_day-shift, march_days-suc, month_and_day}
-use Rattle.ssh_show.specs.ShownTexts.{IsClockAt, clock_text, last_second}
+use Rattle.ssh_print.specs.ShownTexts.{IsClockAt, clock_text, last_second}
 
 -- ---- days, by years that begin in March, counted from the year -10000
 
@@ -99,7 +99,7 @@ day_by days h march false e = early_day days h march (leb-false _ _ e)
 day_at : (days : ℕ) → days ≤ 2932896 → DayAt days
 day_at days h = let march = march_day (days + 4371893) (omega arith) in day_by days h march (nat_le ((5 * march.day + 461) / 153) 12) refl
 
--- what a clock in UTC shows at a moment
+-- the clock in UTC at a moment
 pub record ClockAt (moment : ℕ) : Type 0 where
   pub shown : DateTime
   pub is : IsClockAt moment shown
@@ -122,7 +122,7 @@ clock_at moment h =
     } in
     record { shown = shown; is = civil_nanos-parts shown ∙ omega (arith, signed_arith, day.is) }
 
--- no clock shows a part of a second
+-- no such clock shows a part of a second
 pub clock_at-whole : (moment : ℕ) (h : moment ≤ last_second) → (clock_at moment h).shown.time.subsec_nanosecond ≡ 0
 unfolding clock_at
 clock_at-whole moment h = refl
@@ -137,11 +137,11 @@ date_by moment false e = codes "-"
 unfoldable pub date_of : ℕ → List ℕ
 date_of moment = date_by moment (nat_le moment last_second) refl
 
--- the same of a moment before 1970 too, which has a dash
+-- the same for a moment before 1970 too, which has a dash
 abbrev pub moment_date : ℤ → List ℕ
 moment_date (pos moment) = date_of moment
 moment_date (negsuc n) = codes "-"
 
--- a moment in seconds from 1970-01-01 in UTC, and its date
+-- a moment in seconds since 1970-01-01 in UTC, and its date
 abbrev pub moment_text : ℤ → List ℕ
 moment_text moment = signed_decimal moment ++ codes " " ++ moment_date moment

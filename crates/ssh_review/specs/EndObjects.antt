@@ -1,11 +1,11 @@
 -- The end of a file and the total, as JSON objects (this project's rule). Each is one line.
 use Rattle.std.specs.Prelude.{◌++◌, ℕ, List, codes}
 use Rattle.ssh_print.specs.Texts.{hex_text}
-use Rattle.ssh_review_json.specs.Fields.{null_field, number_field, text_field}
+use Rattle.ssh_review.specs.Fields.{null_field, number_field, text_field}
 use Rattle.ssh_print.specs.Strings.{json_text}
-use Rattle.ssh_review.specs.declared.counts.Counts.{Counts}
-use Rattle.ssh_review.specs.declared.counts.FileFault.{FileFault}
-use Rattle.ssh_review.specs.declared.counts.Total.{Total}
+use Rattle.ssh_review.specs.declared.end.Counts.{Counts}
+use Rattle.ssh_review.specs.declared.end.FileFault.{FileFault}
+use Rattle.ssh_review.specs.declared.end.Total.{Total}
 use Rattle.ssh_review.specs.Counting.{no_counts}
 use Rattle.ssh_review.specs.Ends.{fault_code}
 
@@ -27,7 +27,7 @@ unfoldable pub fault_object : List ℕ → FileFault → List ℕ
 fault_object name fault =
     end_head name ++ counts_fields no_counts ++ null_field (codes "sha256") ++ text_field (codes "fault") (fault_code fault) ++ codes "}\n"
 
--- What all files come to. The number of the format rises where a field is added or changes.
+-- The number of the format and of the files. The number of the format rises when a field is added or changes.
 unfoldable pub total_head : Total → List ℕ
 total_head t =
     codes "{\"is\":\"total\"" ++ number_field (codes "format") 1 ++ number_field (codes "files") t.files

@@ -2,12 +2,12 @@
 use Rattle.std.specs.Prelude.{◌++◌, ℕ, List, codes}
 use Rattle.std.specs.Fmt.{decimal}
 use Rattle.ssh_print.specs.Texts.{escaped_text, hex_text}
-use Rattle.ssh_review.specs.declared.counts.Counts.{Counts}
-use Rattle.ssh_review.specs.declared.counts.FileFault.{FileFault}
-use Rattle.ssh_review.specs.declared.counts.FileFault.TheVariants.{Unread, TooLong}
-use Rattle.ssh_review.specs.declared.counts.Total.{Total}
+use Rattle.ssh_review.specs.declared.end.Counts.{Counts}
+use Rattle.ssh_review.specs.declared.end.FileFault.{FileFault}
+use Rattle.ssh_review.specs.declared.end.FileFault.TheVariants.{Unread, TooLong}
+use Rattle.ssh_review.specs.declared.end.Total.{Total}
 
--- a number and what it counts
+-- a number and the name of what is counted
 abbrev pub count_text : ℕ → List ℕ → List ℕ
 count_text number what = decimal number ++ what
 
@@ -28,7 +28,7 @@ fault_code TooLong = codes "A7"
 abbrev pub fault_text : List ℕ → FileFault → List ℕ
 fault_text name fault = escaped_text name ++ codes ": fault " ++ fault_code fault ++ codes "\n"
 
--- what all files come to
+-- the total of all files
 abbrev pub total_text : Total → List ℕ
 total_text t =
     codes "total: " ++ count_text t.files (codes " files, ") ++ count_text t.faults (codes " faults, ")

@@ -1,25 +1,26 @@
--- The records, the ends and the total of a review in each form (this project's rule).
+-- The records, the ends and the total of a review in each output format (this project's rule).
 use Rattle.std.specs.Prelude.{ℕ, List, Option}
 use Rattle.ssh_options.specs.AuthOption.{AuthOption}
 use Rattle.ssh_findings.specs.declared.facts.Facts.{Facts}
 use Rattle.ssh_findings.specs.declared.finding.Finding.{Finding}
-use Rattle.ssh_held_keys.specs.declared.held.HeldKey.{HeldKey}
-use Rattle.ssh_review_json.specs.Objects.{entry_object, unreadable_object}
-use Rattle.ssh_review.specs.declared.counts.Counts.{Counts}
-use Rattle.ssh_review.specs.declared.counts.FileFault.{FileFault}
-use Rattle.ssh_review.specs.declared.counts.Total.{Total}
-use Rattle.ssh_review.specs.declared.form.Form.{Form}
-use Rattle.ssh_review.specs.declared.form.Form.TheVariants.{Text, Json}
+use Rattle.ssh_findings.specs.declared.recovered_key.HeldKey.{HeldKey}
+use Rattle.ssh_review.specs.Objects.{entry_object, unreadable_object}
+use Rattle.ssh_review.specs.declared.end.Counts.{Counts}
+use Rattle.ssh_review.specs.declared.end.FileFault.{FileFault}
+use Rattle.ssh_review.specs.declared.end.Total.{Total}
+use Rattle.ssh_review.specs.declared.end.Form.{Form}
+use Rattle.ssh_review.specs.declared.end.Form.TheVariants.{Text, Json}
 use Rattle.ssh_review.specs.Records.{entry_text, unreadable_text}
 use Rattle.ssh_review.specs.Ends.{end_text, fault_text, total_text}
 use Rattle.ssh_review.specs.EndObjects.{end_object, fault_object, total_object}
 
--- The record of an entry with these options, with the line that lets its key in first, if there is one, and what is found and told.
+-- The record of an entry with these options, with the line that lets its key in first, if there is one, and the
+-- reported findings.
 abbrev pub entry_record : Form → List ℕ → ℕ → Facts → List AuthOption → Option ℕ → List Finding → List ℕ
 entry_record Text name n f options shadowed_by found = entry_text name n f found
 entry_record Json name n f options shadowed_by found = entry_object name n f options shadowed_by found
 
--- the record of a line that cannot be read, with the key that stands on it, if there is one
+-- the record of a line that cannot be read, with its recovered key (the key that OpenSSH reads there), if there is one
 abbrev pub unreadable_record : Form → List ℕ → ℕ → Option HeldKey → List Finding → List ℕ
 unreadable_record Text name n held found = unreadable_text name n held found
 unreadable_record Json name n held found = unreadable_object name n held found
@@ -34,7 +35,7 @@ abbrev pub file_fault_line : Form → List ℕ → FileFault → List ℕ
 file_fault_line Text name fault = fault_text name fault
 file_fault_line Json name fault = fault_object name fault
 
--- what all files come to
+-- the total of all files
 abbrev pub total_line : Form → Total → List ℕ
 total_line Text t = total_text t
 total_line Json t = total_object t

@@ -1,11 +1,11 @@
--- The records of a file's lines, and what they count.
+-- The records of an authorized_keys file's lines, and their counts.
 use Rattle.std.specs.Prelude.{◌++◌, ◌∷◌, [], ℕ, List, Option, option_map, length}
-use Rattle.ssh_lines.specs.declared.entry.AuthLine.{AuthLine}
-use Rattle.ssh_lines.specs.declared.entry.AuthLine.TheVariants.{Blank, Comment, Entry, Unreadable}
-use Rattle.ssh_lines.specs.AuthEntry.{AuthEntry}
-use Rattle.ssh_lines.specs.AuthGrammar.{auth_line}
-use Rattle.ssh_review.specs.declared.counts.Counts.{Counts}
-use Rattle.ssh_review.specs.declared.form.Form.{Form}
+use Rattle.ssh_entries.specs.declared.auth_line.AuthLine.{AuthLine}
+use Rattle.ssh_entries.specs.declared.auth_line.AuthLine.TheVariants.{Blank, Comment, Entry, Unreadable}
+use Rattle.ssh_entries.specs.AuthEntry.{AuthEntry}
+use Rattle.ssh_entries.specs.AuthGrammar.{auth_line}
+use Rattle.ssh_review.specs.declared.end.Counts.{Counts}
+use Rattle.ssh_review.specs.declared.end.Form.{Form}
 use Rattle.ssh_findings.specs.declared.finding.Finding.{Finding}
 use Rattle.ssh_keys.specs.PublicKey.{key_blob}
 use Rattle.ssh_findings.specs.Asking.{Asking}
@@ -13,26 +13,26 @@ use Rattle.ssh_findings.specs.Earlier.{Held, held_entry, shadow}
 use Rattle.ssh_review.specs.Counting.{counts_with, no_counts, plus}
 use Rattle.ssh_findings.specs.EntryFindings.{entry_findings, unreadable_findings}
 use Rattle.ssh_findings.specs.Facts.{facts_of}
-use Rattle.ssh_held_keys.specs.declared.held.HeldKey.{HeldKey}
-use Rattle.ssh_held_keys.specs.HeldKey.{held_key, held_of as told_of}
+use Rattle.ssh_findings.specs.declared.recovered_key.HeldKey.{HeldKey}
+use Rattle.ssh_findings.specs.HeldKey.{held_key, held_of as told_of}
 use Rattle.ssh_review.specs.Forms.{entry_record, unreadable_record}
 
--- what is found of a line after these entries, and told
+-- the reported findings of a line after these entries
 abbrev pub line_findings : Asking → List Held → AuthLine → List Finding
 line_findings asking earlier Blank = []
 line_findings asking earlier Comment = []
 line_findings asking earlier (Entry entry) = entry_findings asking earlier (key_blob entry.key) (facts_of asking.zone entry)
 line_findings asking earlier (Unreadable cause) = unreadable_findings asking cause
 
--- the number of the first earlier line that lets the key of an entry in, whatever its own line says
+-- the number of the first earlier line that lets the key of an entry in
 abbrev pub shadow_line : Asking → List Held → AuthEntry → Option ℕ
 shadow_line asking earlier entry = option_map (λ d. d.line) (shadow earlier (key_blob entry.key) (facts_of asking.zone entry))
 
--- what is told of the key on a line that cannot be read, if there is one
+-- the recovered key of a line that cannot be read (the key that OpenSSH reads there), if there is one
 abbrev pub key_told : List ℕ → Option HeldKey
 key_told line = option_map told_of (held_key line)
 
--- The record of a line, with its number, that says this: of an entry, or of a line that cannot be read. Blank lines and comments have none.
+-- The record of a line with this reading (an entry, for example), and its number. Blank lines and comments have none.
 abbrev pub line_record : Form → Asking → List ℕ → List Held → ℕ × List ℕ → AuthLine → List ℕ
 line_record form asking name earlier (n, line) Blank = []
 line_record form asking name earlier (n, line) Comment = []
@@ -45,14 +45,14 @@ line_record form asking name earlier (n, line) (Unreadable cause) =
 abbrev pub line_counts : Asking → List Held → AuthLine → Counts
 line_counts asking earlier line = counts_with line (length (line_findings asking earlier line))
 
--- the entry of a line, with its number
+-- the facts of the line's entry that later lines need, with its number
 abbrev pub held_by_line : Asking → ℕ × AuthLine → List Held
 held_by_line asking (n, Blank) = []
 held_by_line asking (n, Comment) = []
 held_by_line asking (n, Entry entry) = held_entry asking.zone n entry ∷ []
 held_by_line asking (n, Unreadable cause) = []
 
--- the entries of lines, each with its number
+-- the same of lines, each with its number
 abbrev pub held_lines : Asking → List (ℕ × List ℕ) → List Held
 held_lines asking [] = []
 held_lines asking (line ∷ lines) = held_by_line asking (line.0, auth_line line.1) ++ held_lines asking lines
@@ -64,7 +64,7 @@ records_of form asking name earlier (line ∷ lines) =
     line_record form asking name earlier line (auth_line line.1)
     ++ records_of form asking name (earlier ++ held_by_line asking (line.0, auth_line line.1)) lines
 
--- what lines count
+-- the sums of the counts of lines
 abbrev pub counts_of : Asking → List Held → List (ℕ × List ℕ) → Counts
 counts_of asking earlier [] = no_counts
 counts_of asking earlier (line ∷ lines) =

@@ -1,4 +1,5 @@
--- The record of a line, as text (this project's rule). Each line ends with an LF; all but the first begin with four spaces.
+-- The records of authorized_keys lines, as text (this project's rule). Each line ends with an LF; all but the first
+-- begin with four spaces.
 use Rattle.std.specs.Prelude.{◌++◌, ◌∷◌, [], ℕ, ℤ, Bool, List, Option, Some, None, codes, if◌then◌else◌}
 use Rattle.std.specs.List.{flat_map}
 use Rattle.std.specs.Fmt.{decimal}
@@ -10,8 +11,8 @@ use Rattle.ssh_print.specs.DecisionText.{carried_word}
 use Rattle.ssh_print.specs.Texts.{escaped_text, text_line, word_line}
 use Rattle.ssh_findings.specs.declared.facts.Facts.{Facts}
 use Rattle.ssh_findings.specs.declared.finding.Finding.{Finding}
-use Rattle.ssh_held_keys.specs.declared.held.HeldKey.{HeldKey}
-use Rattle.ssh_review_json.specs.RightsWords.{rights_words}
+use Rattle.ssh_findings.specs.declared.recovered_key.HeldKey.{HeldKey}
+use Rattle.ssh_review.specs.RightsWords.{rights_words}
 use Rattle.ssh_review.specs.Dates.{moment_text}
 use Rattle.ssh_review.specs.Sentences.{finding_line}
 
@@ -22,7 +23,7 @@ place_text name number = escaped_text name ++ codes ":" ++ decimal number ++ cod
 abbrev pub role_word : Bool → List ℕ
 role_word is_authority = if is_authority then codes "authority " else codes "key "
 
--- the size of an RSA key
+-- the number of bits of an RSA key
 abbrev pub bits_text : Option ℕ → List ℕ
 bits_text None = []
 bits_text (Some bits) = codes " " ++ decimal bits
@@ -32,7 +33,7 @@ abbrev pub comment_text : List ℕ → List ℕ
 comment_text [] = []
 comment_text (c ∷ cs) = codes " " ++ escaped_text (c ∷ cs)
 
--- as `ssh-keygen -l` prints it
+-- a fingerprint as `ssh-keygen -l` prints it
 unfoldable pub fingerprint_word : List ℕ → List ℕ
 fingerprint_word fingerprint = codes " SHA256:" ++ fingerprint
 
@@ -40,7 +41,7 @@ fingerprint_word fingerprint = codes " SHA256:" ++ fingerprint
 unfoldable pub key_words : KeyKind → Option ℕ → List ℕ → List ℕ
 key_words kind bits fingerprint = key_name_of kind ++ bits_text bits ++ fingerprint_word fingerprint
 
--- which key, and whose
+-- the key and the comment
 unfoldable pub entry_head : Facts → List ℕ
 entry_head f =
     role_word f.is_authority ++ key_words f.kind f.bits f.fingerprint ++ comment_text f.comment ++ codes "\n"
@@ -54,23 +55,24 @@ unfoldable pub setting_line : List ℕ → Option (List ℕ) → List ℕ
 setting_line word None = []
 setting_line word (Some text) = text_line word text
 
--- a text that is carried on
+-- the text of an option that is listed as it is, without reading it
 abbrev pub carried_inset : Carried → List ℕ
 carried_inset c = codes "    carry " ++ carried_word c.name ++ codes " " ++ escaped_text c.text ++ codes "\n"
 
--- what the line leaves to the key: the rights, the command that is forced, the texts that are carried on
+-- the rights that the line gives: the rights that are on, the forced command, and the texts of options that are listed
+-- as they are
 unfoldable pub right_lines : Rights → List ℕ
 right_lines r = rights_inset r ++ setting_line (codes "    command ") r.command ++ flat_map carried_inset r.carried
 
 unfoldable pub flag_line : Bool → List ℕ → List ℕ
 flag_line stands line = if stands then line else []
 
--- up to when it is good, as a moment and as a date
+-- the moment at which the entry expires, and its date
 unfoldable pub until_line : Option ℤ → List ℕ
 until_line None = []
 until_line (Some moment) = word_line (codes "    expires ") (moment_text moment)
 
--- what limits the key: flags of security keys, sources, principals, time
+-- the limits of the key: flags of security keys, addresses, principals, time
 unfoldable pub limit_lines : Facts → List ℕ
 limit_lines f =
     flag_line f.no_touch_required (codes "    no-touch-required\n")
@@ -79,17 +81,17 @@ limit_lines f =
     ++ setting_line (codes "    principals ") f.principals
     ++ until_line f.until
 
--- the record of an entry with what is found and told
+-- the record of an entry with the reported findings
 unfoldable pub entry_text : List ℕ → ℕ → Facts → List Finding → List ℕ
 entry_text name n f found =
     place_text name n ++ entry_head f ++ right_lines f.rights ++ limit_lines f ++ flat_map finding_line found
 
--- the key on a line that cannot be read, if there is one
+-- the recovered key of a line that cannot be read, if there is one
 abbrev pub held_words : Option HeldKey → List ℕ
 held_words None = []
 held_words (Some held) = codes " " ++ key_words held.kind held.bits held.fingerprint
 
--- the record of a line that cannot be read, with the key that stands on it, if there is one, and what is found and told
+-- the record of a line that cannot be read, with its recovered key, if there is one, and the reported findings
 unfoldable pub unreadable_text : List ℕ → ℕ → Option HeldKey → List Finding → List ℕ
 unreadable_text name n held found =
     place_text name n ++ codes "unreadable" ++ held_words held ++ codes "\n" ++ flat_map finding_line found

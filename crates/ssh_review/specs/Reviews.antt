@@ -1,18 +1,18 @@
--- The review of a file: what its lines say, and its end (this project's rule).
+-- The review of an authorized_keys file: the records of its lines, and its end (this project's rule).
 use Rattle.std.specs.Prelude.{◌++◌, ℕ, nat_lt, List, [], length, Option, Some, None, if◌then◌else◌}
 use Rattle.sha2.specs.Sha256.{sha256}
 use Rattle.ssh_text.specs.Text.{file_limit, lines_of, numbered}
-use Rattle.ssh_review.specs.declared.counts.Counts.{Counts}
-use Rattle.ssh_review.specs.declared.counts.FileFault.{FileFault}
-use Rattle.ssh_review.specs.declared.counts.FileFault.TheVariants.{TooLong}
-use Rattle.ssh_review.specs.declared.counts.Reviewed.{Reviewed}
-use Rattle.ssh_review.specs.declared.form.Form.{Form}
+use Rattle.ssh_review.specs.declared.end.Counts.{Counts}
+use Rattle.ssh_review.specs.declared.end.FileFault.{FileFault}
+use Rattle.ssh_review.specs.declared.end.FileFault.TheVariants.{TooLong}
+use Rattle.ssh_review.specs.declared.end.Reviewed.{Reviewed}
+use Rattle.ssh_review.specs.declared.end.Form.{Form}
 use Rattle.ssh_findings.specs.Asking.{Asking}
 use Rattle.ssh_review.specs.Counting.{no_counts}
 use Rattle.ssh_review.specs.Forms.{end_line, file_fault_line}
 use Rattle.ssh_review.specs.Lines.{counts_of, records_of}
 
--- the text, what is counted, and why there is no review
+-- the text, the counts, and why there is no review
 pub record Review : Type 0 where
   pub text : List ℕ
   pub counts : Counts
@@ -30,7 +30,7 @@ whole_review form asking name file = record {
   fault = None;
 }
 
--- Of a file with a fault nothing but its end is told.
+-- For a file with a fault only the end with the fault is printed.
 abbrev pub fault_review : Form → List ℕ → FileFault → Review
 fault_review form name fault = record { text = file_fault_line form name fault; counts = no_counts; fault = Some fault }
 

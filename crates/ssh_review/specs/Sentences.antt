@@ -1,24 +1,24 @@
--- The words of findings: each sentence stands here (this project's rule).
+-- The sentences of findings (this project's rule).
 use Rattle.std.specs.Prelude.{◌++◌, ◌∷◌, ℕ, List, [], Option, Some, None, codes}
 use Rattle.std.specs.Fmt.{decimal}
-use Rattle.ssh_options.specs.declared.cause.LineCause.{LineCause}
+use Rattle.ssh_options.specs.declared.option_text.LineCause.{LineCause}
 use Rattle.ssh_print.specs.Codes.{line_code}
-use Rattle.ssh_explain.specs.Table.{Told, row_of}
+use Rattle.ssh_print.specs.Table.{CodeRow, row_of}
 use Rattle.ssh_findings.specs.declared.finding.Finding.{Finding}
 use Rattle.ssh_findings.specs.declared.finding.Finding.TheVariants as finding
 use Rattle.ssh_findings.specs.Codes.{code_text}
 use Rattle.ssh_findings.specs.Findings.{code_of}
-use Rattle.ssh_review_json.specs.Details.{detail_of}
+use Rattle.ssh_review.specs.Details.{detail_of}
 
-abbrev pub finding_sentence : Option Told → List ℕ
+abbrev pub finding_sentence : Option CodeRow → List ℕ
 finding_sentence None = []
 finding_sentence (Some row) = row.sentence
 
--- why a line cannot be read: what the table of codes says of the code
+-- why a line cannot be read: the sentence of its code in the table of codes
 abbrev pub cause_text : LineCause → List ℕ
 cause_text why = finding_sentence (row_of (line_code why))
 
--- the sentence of a finding that names no number and no fault
+-- the sentence of a finding that contains no number and no line error
 abbrev pub plain_sentence : Finding → List ℕ
 plain_sentence (finding.Unreadable why) = []
 plain_sentence (finding.SameKey line) = []
@@ -42,11 +42,11 @@ plain_sentence finding.AnyPrincipal = codes "whoever it certifies for the user's
 plain_sentence finding.NoComment = codes "nothing says whose key this is: no comment"
 plain_sentence (finding.MayRefuse g) = codes "OpenSSH may refuse this line, and a later one then decides"
 
--- of a line that cannot be read
+-- the sentence of a line that cannot be read
 abbrev pub unreadable_sentence : LineCause → List ℕ
 unreadable_sentence why = codes "cannot be read here, and OpenSSH may read it: " ++ cause_text why
 
--- of an RSA key with too few bits
+-- the sentence of an RSA key with too few bits
 abbrev pub short_sentence : ℕ → List ℕ
 short_sentence bits = codes "an RSA key of " ++ decimal bits ++ codes " bits is too short"
 
@@ -74,12 +74,12 @@ sentence_of finding.AnyPrincipal = plain_sentence finding.AnyPrincipal
 sentence_of finding.NoComment = plain_sentence finding.NoComment
 sentence_of (finding.MayRefuse g) = plain_sentence (finding.MayRefuse g)
 
--- what stands after the code, after a space, if it is any
+-- the detail after the code, after a space, if there is one
 abbrev pub detail_part : List ℕ → List ℕ
 detail_part [] = []
 detail_part (c ∷ cs) = codes " " ++ c ∷ cs
 
--- the front of the line of a finding: its code, and what stands after it
+-- the start of the line of a finding: its code and its detail
 abbrev pub finding_head : List ℕ → List ℕ → List ℕ
 finding_head code said = codes "    " ++ code ++ detail_part said ++ codes ": "
 

@@ -1,7 +1,7 @@
--- What a terminal is given: printable ASCII (RFC 20), and LFs.
+-- The bytes that a terminal is given: printable ASCII (RFC 20), and LFs.
 use Rattle.std.specs.Prelude.{◌||◌, ◌==◌, ℕ, Bool, List}
 use Rattle.std.specs.List.{list_all}
-use Rattle.ssh_review_json.specs.OneLine.{is_printable}
+use Rattle.ssh_review.specs.OneLine.{is_printable}
 
 -- a printable byte, or the LF (10) that ends a line
 abbrev pub is_shown : ℕ → Bool

@@ -1,13 +1,88 @@
-//! The end of a file and the total, as text.
+//! The counts of a review, and the end of a file and of the whole review, as text and as JSON.
 
-ghost use Rattle.std.specs.Prelude.{◌≡◌, ◌++◌, OnOk};
+ghost use Rattle.std.specs.Prelude.{◌≡◌, ◌+◌, ◌<◌, ◌^◌, ◌++◌, OnOk};
+ghost use Rattle.ssh_review.specs.Counting.{no_counts, plus};
 ghost use Rattle.ssh_review.specs.Ends.{count_text, counts_text, end_text, fault_code, fault_text, total_text};
+ghost use Rattle.ssh_review.specs.EndObjects.{counts_fields, end_head, end_object, fault_object, total_head, total_object};
 
-use crate::counts::{Counts, FileFault, Total};
-use ssh_print::{push_escaped, push_hex, push_number};
+use crate::fields::{push_null_field, push_number_field, push_text_field};
+use ssh_print::{push_escaped, push_hex, push_json_text, push_number};
 use std::alloc::{AllocError, Global};
 
-/// A number and what it counts.
+/// The output format of a review.
+#[derive(Clone, Copy, Debug, PartialEq, Eq)]
+pub enum Form {
+    /// Lines of text for people.
+    Text,
+    /// JSON lines for programs: one object on each line.
+    Json,
+}
+
+/// The counts of a file's lines.
+#[derive(Clone, Copy, Debug, PartialEq, Eq)]
+pub struct Counts {
+    /// All lines, also blank ones and comments.
+    pub lines: u64,
+    /// Entries, also certificate authorities.
+    pub keys: u64,
+    /// Lines that cannot be read, unreadable revocations among them.
+    pub unreadable: u64,
+    /// Findings that are reported.
+    pub findings: u64,
+}
+
+impl Counts {
+    pub const NONE: Counts = Counts {
+        lines: 0,
+        keys: 0,
+        unreadable: 0,
+        findings: 0,
+    };
+
+    /// The sum of both.
+    pub fn plus(self, other: Counts) -> Counts
+        requires lines { self.lines + other.lines < 2 ^ 64 }
+        requires keys { self.keys + other.keys < 2 ^ 64 }
+        requires unreadable { self.unreadable + other.unreadable < 2 ^ 64 }
+        requires findings { self.findings + other.findings < 2 ^ 64 }
+        ensures { result ≡ plus self other }
+    {
+        Counts {
+            lines: self.lines + other.lines,
+            keys: self.keys + other.keys,
+            unreadable: self.unreadable + other.unreadable,
+            findings: self.findings + other.findings,
+        }
+    }
+}
+
+/// Why a file is not reviewed.
+#[derive(Clone, Copy, Debug, PartialEq, Eq)]
+pub enum FileFault {
+    /// A9: the file is missing, or cannot be read.
+    Unread,
+    /// A7: it is longer than 67,108,864 bytes.
+    TooLong,
+}
+
+/// The review of a file: its text and counts, or why it was not reviewed. Then the text is only the
+/// file's end, and all counts are 0.
+#[derive(Debug, Drop)]
+pub struct Reviewed {
+    pub text: Vec<u8>,
+    pub counts: Counts,
+    pub fault: Option<FileFault>,
+}
+
+/// The total of all files of a review.
+#[derive(Clone, Copy, Debug, PartialEq, Eq)]
+pub struct Total {
+    pub files: u64,
+    /// Files that were not reviewed.
+    pub faults: u64,
+    pub counts: Counts,
+}
+
 fn push_count(alloc: Global, out: &mut Vec<u8>, number: u64, what: &[u8]) -> Result<(), AllocError>
     ensures { OnOk result (out.new.items ≡ out.old.items ++ count_text number what.now) }
 {
@@ -26,7 +101,7 @@ fn push_counts(alloc: Global, out: &mut Vec<u8>, counts: Counts) -> Result<(), A
     Ok(())
 }
 
-/// The end of a file that was reviewed.
+/// Appends the end of a file that was reviewed, as text.
 pub(crate) fn push_end_text(
     alloc: Global,
     out: &mut Vec<u8>,
@@ -46,7 +121,7 @@ pub(crate) fn push_end_text(
     Ok(())
 }
 
-/// The code of a fault, as `ssh_print` prints it.
+/// The code of a fault, as it is printed.
 pub(crate) fn fault_code(fault: FileFault) -> &'static [u8]
     ensures { result.now ≡ fault_code fault }
 {
@@ -56,7 +131,7 @@ pub(crate) fn fault_code(fault: FileFault) -> &'static [u8]
     }
 }
 
-/// The end of a file with a fault.
+/// Appends the end of a file with a fault, as text.
 pub(crate) fn push_fault_text(
     out: &mut Vec<u8>,
     name: &[u8],
@@ -71,7 +146,7 @@ pub(crate) fn push_fault_text(
     Ok(())
 }
 
-/// What all files come to.
+/// Appends the total of all files, as text.
 pub(crate) fn push_total_text(
     alloc: Global,
     out: &mut Vec<u8>,
@@ -84,5 +159,96 @@ pub(crate) fn push_total_text(
     push_count(alloc, out, total.faults, b" faults, ")?;
     push_counts(alloc, out, total.counts)?;
     out.push(b'\n')?;
+    Ok(())
+}
+
+/// Appends the first fields of a file's end: the file's name, and that it is an end.
+#[tactic(auto, unfolding(crate::specs::EndObjects::end_head))]
+fn push_end_head(alloc: Global, out: &mut Vec<u8>, name: &[u8]) -> Result<(), AllocError>
+    ensures { OnOk result (out.new.items ≡ out.old.items ++ end_head name.now) }
+{
+    out.extend_from_slice(b"{\"file\":")?;
+    push_json_text(alloc, out, name)?;
+    push_text_field(alloc, out, b"is", b"end")?;
+    Ok(())
+}
+
+#[tactic(auto, unfolding(crate::specs::EndObjects::counts_fields))]
+fn push_counts_fields(alloc: Global, out: &mut Vec<u8>, counts: Counts) -> Result<(), AllocError>
+    ensures { OnOk result (out.new.items ≡ out.old.items ++ counts_fields counts) }
+{
+    push_number_field(alloc, out, b"lines", counts.lines)?;
+    push_number_field(alloc, out, b"keys", counts.keys)?;
+    push_number_field(alloc, out, b"unreadable", counts.unreadable)?;
+    push_number_field(alloc, out, b"findings", counts.findings)?;
+    Ok(())
+}
+
+/// Appends the end of a file that was reviewed, as a JSON object.
+#[tactic(auto, unfolding(crate::specs::EndObjects::end_object))]
+pub(crate) fn push_end_object(
+    alloc: Global,
+    out: &mut Vec<u8>,
+    name: &[u8],
+    counts: Counts,
+    digest: &[u8],
+) -> Result<(), AllocError>
+    ensures { OnOk result
+        (out.new.items ≡ out.old.items ++ end_object name.now counts digest.now) }
+{
+    let mut hex = Vec::new(alloc);
+    push_hex(&mut hex, digest)?;
+    push_end_head(alloc, out, name)?;
+    push_counts_fields(alloc, out, counts)?;
+    push_text_field(alloc, out, b"sha256", &hex)?;
+    push_null_field(out, b"fault")?;
+    out.extend_from_slice(b"}\n")?;
+    Ok(())
+}
+
+/// Appends the end of a file with a fault, as a JSON object. Its counts are 0 and its `sha256` is
+/// `null`.
+#[tactic(auto, unfolding(crate::specs::EndObjects::fault_object))]
+pub(crate) fn push_fault_object(
+    alloc: Global,
+    out: &mut Vec<u8>,
+    name: &[u8],
+    fault: FileFault,
+) -> Result<(), AllocError>
+    ensures { OnOk result (out.new.items ≡ out.old.items ++ fault_object name.now fault) }
+{
+    push_end_head(alloc, out, name)?;
+    push_counts_fields(alloc, out, Counts::NONE)?;
+    push_null_field(out, b"sha256")?;
+    push_text_field(alloc, out, b"fault", fault_code(fault))?;
+    out.extend_from_slice(b"}\n")?;
+    Ok(())
+}
+
+/// Appends the number of the JSON format, which rises when a field is added or changes, and how
+/// many files there are.
+#[tactic(auto, unfolding(crate::specs::EndObjects::total_head))]
+fn push_total_head(alloc: Global, out: &mut Vec<u8>, total: &Total) -> Result<(), AllocError>
+    ensures { OnOk result (out.new.items ≡ out.old.items ++ total_head total.now) }
+{
+    out.extend_from_slice(b"{\"is\":\"total\"")?;
+    push_number_field(alloc, out, b"format", 1)?;
+    push_number_field(alloc, out, b"files", total.files)?;
+    push_number_field(alloc, out, b"faults", total.faults)?;
+    Ok(())
+}
+
+/// Appends the total of all files, as a JSON object.
+#[tactic(auto, unfolding(crate::specs::EndObjects::total_object))]
+pub(crate) fn push_total_object(
+    alloc: Global,
+    out: &mut Vec<u8>,
+    total: &Total,
+) -> Result<(), AllocError>
+    ensures { OnOk result (out.new.items ≡ out.old.items ++ total_object total.now) }
+{
+    push_total_head(alloc, out, total)?;
+    push_counts_fields(alloc, out, total.counts)?;
+    out.extend_from_slice(b"}\n")?;
     Ok(())
 }

@@ -1,24 +1,34 @@
-//! Laws of the definitions, each proved on a function without a body.
+//! Laws about the output of a review, proved of functions without a body.
 
-ghost use Rattle.std.specs.Prelude.{◌≡◌, ◌⊎◌, [], ℕ, true, List};
-ghost use Rattle.ssh_lines.specs.AuthGrammar.{auth_line};
+ghost use Rattle.std.specs.Prelude.{◌≡◌, ◌⊎◌, [], ℕ, true, List, Option};
+ghost use Rattle.ssh_entries.specs.AuthGrammar.{auth_line};
 ghost use Rattle.ssh_findings.specs.Asking.{Asking};
 ghost use Rattle.ssh_findings.specs.Earlier.{Held};
 ghost use Rattle.ssh_offers.specs.FirstRefusal.{AreBytes};
-ghost use Rattle.ssh_review_json.specs.OneLine.{is_line};
-ghost use Rattle.ssh_review.specs.declared.counts.Counts.{Counts};
-ghost use Rattle.ssh_review.specs.declared.counts.FileFault.{FileFault};
-ghost use Rattle.ssh_review.specs.declared.counts.Total.{Total};
-ghost use Rattle.ssh_review.specs.declared.form.Form.{Form};
-ghost use Rattle.ssh_review.specs.declared.form.Form.TheVariants.{Json};
+ghost use Rattle.ssh_review.specs.OneLine.{is_line, HaveByteValues, IsHeldOfBytes, IsOfBytes, are_printable};
+ghost use Rattle.ssh_review.specs.declared.end.Counts.{Counts};
+ghost use Rattle.ssh_review.specs.declared.end.FileFault.{FileFault};
+ghost use Rattle.ssh_review.specs.declared.end.Total.{Total};
+ghost use Rattle.ssh_review.specs.declared.end.Form.{Form};
+ghost use Rattle.ssh_review.specs.declared.end.Form.TheVariants.{Json};
 ghost use Rattle.ssh_review.specs.EndObjects.{end_object, fault_object, total_object};
 ghost use Rattle.ssh_review.specs.Forms.{file_fault_line, total_line};
 ghost use Rattle.ssh_review.specs.Lines.{line_record};
 ghost use Rattle.ssh_review.specs.Reviews.{auth_review};
 ghost use Rattle.ssh_review.specs.Shown.{are_shown};
+ghost use Rattle.ssh_options.specs.AuthOption.{AuthOption};
+ghost use Rattle.ssh_findings.specs.declared.facts.Facts.{Facts};
+ghost use Rattle.ssh_findings.specs.declared.finding.Finding.{Finding};
+ghost use Rattle.ssh_findings.specs.declared.recovered_key.HeldKey.{HeldKey};
+ghost use Rattle.ssh_review.specs.Objects.{entry_object, unreadable_object};
+ghost use Rattle.ssh_print.specs.Strings.{json_text};
+ghost use Rattle.ssh_entries.specs.KnownGrammar.{known_line};
+ghost use Rattle.ssh_findings.specs.HostLines.{HostLine};
+ghost use Rattle.ssh_review.specs.HostReviewLines.{host_line_record};
+ghost use Rattle.ssh_review.specs.HostReviewReviews.{known_review};
 
-/// As JSON each record, each end and the total is one line of printable ASCII, whatever bytes stand in
-/// the file and in its name.
+/// In JSON each record, each end and the total is one line of printable ASCII, whatever bytes are
+/// in the file and in its name.
 fn one_line_rule()
     ensures one { (asking : Asking) (name : List ℕ) (earlier : List Held) (n : ℕ) (line : List ℕ)
         → AreBytes name
@@ -35,8 +45,8 @@ fn one_line_rule()
     ensures total { (t : Total) → is_line (total_object t) ≡ true }
 {}
 
-/// In each form nothing but printable ASCII and the LFs at the ends of lines comes out, whatever bytes
-/// stand in the file and in its name.
+/// In both formats the output is printable ASCII and the LFs at the ends of lines, whatever bytes
+/// are in the file and in its name.
 fn shown_rule()
     ensures review { (form : Form) (asking : Asking) (name file : List ℕ)
         → AreBytes name
@@ -46,4 +56,39 @@ fn shown_rule()
         → AreBytes name
         → are_shown (file_fault_line form name fault) ≡ true }
     ensures total { (form : Form) (t : Total) → are_shown (total_line form t) ≡ true }
+{}
+
+/// Each record is one line of printable ASCII, whatever bytes it is given: no byte of a file can
+/// break a reader of lines, or a terminal.
+fn json_lines_rule()
+    ensures string { (text : List ℕ) → AreBytes text → are_printable (json_text text) ≡ true }
+    ensures entry { (name : List ℕ) (n : ℕ) (f : Facts) (options : List AuthOption)
+        (shadowed_by : Option ℕ) (found : List Finding)
+        → AreBytes name
+        → IsOfBytes f
+        → HaveByteValues options
+        → is_line (entry_object name n f options shadowed_by found) ≡ true }
+    ensures unreadable { (name : List ℕ) (n : ℕ) (held : Option HeldKey) (found : List Finding)
+        → AreBytes name
+        → IsHeldOfBytes held
+        → is_line (unreadable_object name n held found) ≡ true }
+{}
+
+/// In JSON each record of a `known_hosts` file is one line of printable ASCII, whatever bytes are
+/// in the file and in its name.
+fn host_one_line_rule()
+    ensures { (asking : Asking) (name : List ℕ) (earlier : List HostLine) (n : ℕ) (line : List ℕ)
+        → AreBytes name
+        → AreBytes line
+        → (host_line_record Json asking name earlier n line (known_line line) ≡ [])
+        ⊎ (is_line (host_line_record Json asking name earlier n line (known_line line)) ≡ true) }
+{}
+
+/// For a `known_hosts` file too, in both formats the output is printable ASCII and the LFs at the
+/// ends of lines.
+fn host_shown_rule()
+    ensures { (form : Form) (asking : Asking) (name file : List ℕ)
+        → AreBytes name
+        → AreBytes file
+        → are_shown (known_review form asking name file).text ≡ true }
 {}

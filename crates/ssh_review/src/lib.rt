@@ -1,32 +1,47 @@
-//! Reviews of authorized_keys files: who gets in, by which line, with which rights, and what has to
-//! be mended.
+//! Reviews of `authorized_keys` and `known_hosts` files: who is let in and which keys are trusted,
+//! by which line, and what is wrong with each line.
 //!
-//! A review of a file is a record for each entry and each line that cannot be read, and an end with
-//! counts and the SHA-256 of the bytes, as text or as JSON lines. It needs no clock, no network, no signature and no other
-//! file. A caller that reviews a file and tells whether something has to be mended:
+//! The review of an `authorized_keys` file has a record for each entry and each line that cannot be
+//! read, and an end with counts and the SHA-256 of the bytes, as text or as JSON lines. It needs no
+//! clock, no network, no signature and no other file. Each call makes a new text, and returns all
+//! of it or `AllocError`. A caller that reviews a file and returns whether something was found:
 //!
 //! ```
-//! let asked = Asked { now, zone, rsa_minimum: 2048, told: Code::by_default() };
+//! let asked = ReviewOptions { now, zone, rsa_minimum: 2048, told: Code::by_default() };
 //! let reviewed = review_auth(alloc, Form::Text, &asked, name, file)?;
+//! out.extend_from_slice(&reviewed.text)?;
+//! Ok(reviewed.counts.findings > 0)
+//! ```
+//!
+//! In JSON a record is an object on one line. All of its fields are always there, in the same
+//! order, with `null` where there is no value. A string is the text that the text format prints of
+//! the same bytes, with a backslash before each quote and each backslash. So both formats write a
+//! value in the same way.
+//!
+//! The review of a `known_hosts` file has a record for each entry, each revocation and each line
+//! that cannot be read: which keys are trusted for which names, and which are revoked. Its end and
+//! its formats are the same. A caller that reviews a file and returns whether something was found:
+//!
+//! ```
+//! let asked = ReviewOptions { now, zone, rsa_minimum: 2048, told: Code::by_default() };
+//! let reviewed = review_known(alloc, Form::Text, &asked, name, file)?;
 //! out.extend_from_slice(&reviewed.text)?;
 //! Ok(reviewed.counts.findings > 0)
 //! ```
 #![tactic(auto)]
 
-mod counts;
-mod date;
+mod auth_review;
 mod end;
-mod end_object;
-mod form;
+mod fields;
+mod host_json_record;
+mod host_record;
+mod host_review;
+mod host_sentence;
+mod json_record;
 mod laws;
-mod lines;
 mod record;
-mod review;
 mod sentence;
 
-pub use counts::{Counts, FileFault, Reviewed, Total};
-pub use form::Form;
-pub use lines::push_records;
-pub use record::{push_comment, push_fingerprint, push_held, push_key, push_place, role_word};
-pub use review::{push_end, review_auth, review_fault, total_line};
-pub use sentence::{push_finding_head, push_short_sentence, push_unreadable_sentence};
+pub use auth_review::{review_auth, review_fault, total_line};
+pub use end::{Counts, FileFault, Form, Reviewed, Total};
+pub use host_review::review_known;

@@ -1,43 +1,27 @@
-//! The record of a line, as text.
+//! The record of a line of an `authorized_keys` file, as text, and the parts that all records have.
 
 ghost use Rattle.std.specs.Prelude.{◌≡◌, ◌++◌, OnOk};
 ghost use Rattle.std.specs.List.{flat_map};
 ghost use Rattle.ssh_print.specs.DecisionText.{carried_word};
-ghost use Rattle.ssh_review.specs.Records.{
-  bits_text,
-  carried_inset,
-  comment_text,
-  entry_head,
-  entry_text,
-  fingerprint_word,
-  flag_line,
-  held_words,
-  key_words,
-  limit_lines,
-  place_text,
-  right_lines,
-  rights_inset,
-  role_word,
-  setting_line,
-  unreadable_text,
-  until_line,
-};
+ghost use Rattle.ssh_review.specs.Records.{bits_text, carried_inset, comment_text, entry_head, entry_text, fingerprint_word, flag_line, held_words, key_words, limit_lines, place_text, right_lines, rights_inset, role_word, setting_line, unreadable_text, until_line};
 ghost use Rattle.ssh_review.specs.Sentences.{finding_line};
 
-use crate::date::moment_text;
+use crate::fields::{moment_text, push_rights_words};
+use crate::json_record::LineRef;
 use crate::sentence::push_finding;
-use ssh_findings::{Facts, Finding};
-use ssh_held_keys::HeldKey;
+use ssh_findings::{Facts, Finding, HeldKey};
 use ssh_keys::KeyKind;
 use ssh_print::{push_number, push_shown, push_text_line, push_word_line};
-use ssh_review_json::{Place, push_rights_words};
 use ssh_rights::{Carried, CarriedName, Rights};
 use ssh_text::Bytes;
 use std::alloc::{AllocError, Global};
 
-/// The place of a line, at the end: its file's name and its number. After an `Err`, which is want of
-/// memory, a part of it may stand there.
-pub fn push_place(alloc: Global, out: &mut Vec<u8>, place: &Place<'_>) -> Result<(), AllocError>
+/// Appends a file's name and a line's number.
+pub(crate) fn push_place(
+    alloc: Global,
+    out: &mut Vec<u8>,
+    place: &LineRef<'_>,
+) -> Result<(), AllocError>
     ensures { OnOk result (out.new.items
         ≡ out.old.items ++ place_text place.entry.now.name.now place.entry.now.number) }
 {
@@ -48,14 +32,14 @@ pub fn push_place(alloc: Global, out: &mut Vec<u8>, place: &Place<'_>) -> Result
     Ok(())
 }
 
-/// What the key of an entry is, before its type: an authority, or a key.
-pub fn role_word(is_authority: bool) -> &'static [u8]
+/// What the key of an entry is, before its type: a certificate authority, or a key.
+pub(crate) fn role_word(is_authority: bool) -> &'static [u8]
     ensures { result.now ≡ role_word is_authority }
 {
     if is_authority { b"authority " } else { b"key " }
 }
 
-/// The size of an RSA key, after a space.
+/// Appends the number of bits of an RSA key, after a space.
 fn push_bits(alloc: Global, out: &mut Vec<u8>, bits: Option<u32>) -> Result<(), AllocError>
     ensures { OnOk result (out.new.items ≡ out.old.items ++ bits_text bits) }
 {
@@ -66,9 +50,8 @@ fn push_bits(alloc: Global, out: &mut Vec<u8>, bits: Option<u32>) -> Result<(), 
     Ok(())
 }
 
-/// A comment, after a space, if it has bytes, at the end. After an `Err`, which is want of memory, a
-/// part of it may stand there.
-pub fn push_comment(out: &mut Vec<u8>, comment: &[u8]) -> Result<(), AllocError>
+/// Appends a comment after a space, if it has bytes.
+pub(crate) fn push_comment(out: &mut Vec<u8>, comment: &[u8]) -> Result<(), AllocError>
     ensures { OnOk result (out.new.items ≡ out.old.items ++ comment_text comment.now) }
 {
     if !comment.is_empty() {
@@ -78,10 +61,9 @@ pub fn push_comment(out: &mut Vec<u8>, comment: &[u8]) -> Result<(), AllocError>
     Ok(())
 }
 
-/// A fingerprint as `ssh-keygen -l` prints it, after a space, at the end. After an `Err`, which is
-/// want of memory, a part of it may stand there.
+/// Appends a fingerprint as `ssh-keygen -l` prints it, after a space.
 #[tactic(auto, unfolding(crate::specs::Records::fingerprint_word))]
-pub fn push_fingerprint(out: &mut Vec<u8>, fingerprint: &[u8]) -> Result<(), AllocError>
+pub(crate) fn push_fingerprint(out: &mut Vec<u8>, fingerprint: &[u8]) -> Result<(), AllocError>
     ensures { OnOk result (out.new.items ≡ out.old.items ++ fingerprint_word fingerprint.now) }
 {
     out.extend_from_slice(b" SHA256:")?;
@@ -89,10 +71,9 @@ pub fn push_fingerprint(out: &mut Vec<u8>, fingerprint: &[u8]) -> Result<(), All
     Ok(())
 }
 
-/// The type of a key, the size of an RSA key, and the fingerprint, at the end. After an `Err`, which
-/// is want of memory, a part of it may stand there.
+/// Appends the type of a key, the bits of an RSA key, and the fingerprint.
 #[tactic(auto, unfolding(crate::specs::Records::key_words))]
-pub fn push_key(
+pub(crate) fn push_key(
     alloc: Global,
     out: &mut Vec<u8>,
     kind: KeyKind,
@@ -107,7 +88,7 @@ pub fn push_key(
     Ok(())
 }
 
-/// The first line of an entry, after its place.
+/// Appends the first line of an entry's record, after its place.
 #[tactic(auto, unfolding(crate::specs::Records::entry_head))]
 fn push_head(alloc: Global, out: &mut Vec<u8>, facts: &Facts) -> Result<(), AllocError>
     ensures { OnOk result (out.new.items ≡ out.old.items ++ entry_head facts.now) }
@@ -129,7 +110,7 @@ fn push_rights(alloc: Global, out: &mut Vec<u8>, rights: &Rights) -> Result<(), 
     Ok(())
 }
 
-/// The line of an option's value, if there is one.
+/// Appends the line of an option's value, if there is one.
 #[tactic(auto, unfolding(crate::specs::Records::setting_line))]
 fn push_setting(out: &mut Vec<u8>, word: &[u8], value: &Option<Bytes>) -> Result<(), AllocError>
     ensures { OnOk result (out.new.items ≡ out.old.items ++ setting_line word.now value.now) }
@@ -140,7 +121,7 @@ fn push_setting(out: &mut Vec<u8>, word: &[u8], value: &Option<Bytes>) -> Result
     }
 }
 
-/// The name of an option, as sshd(8) spells it.
+/// The name of an option in sshd(8).
 fn carried_word(name: CarriedName) -> &'static [u8]
     ensures { result.now ≡ carried_word name }
 {
@@ -172,7 +153,7 @@ fn push_each_carried(out: &mut Vec<u8>, carried: &[Carried]) -> Result<(), Alloc
     Ok(())
 }
 
-/// What the line leaves to the key.
+/// Appends the rights that the line gives to the key.
 fn push_right_lines(alloc: Global, out: &mut Vec<u8>, rights: &Rights) -> Result<(), AllocError>
     ensures { OnOk result (out.new.items ≡ out.old.items ++ right_lines rights.now) }
 {
@@ -182,7 +163,7 @@ fn push_right_lines(alloc: Global, out: &mut Vec<u8>, rights: &Rights) -> Result
     Ok(())
 }
 
-/// A line of its own, where a flag stands.
+/// Appends this line if a flag is set.
 #[tactic(auto, unfolding(crate::specs::Records::flag_line))]
 fn push_flag(out: &mut Vec<u8>, stands: bool, line: &[u8]) -> Result<(), AllocError>
     ensures { OnOk result (out.new.items ≡ out.old.items ++ flag_line stands line.now) }
@@ -193,7 +174,7 @@ fn push_flag(out: &mut Vec<u8>, stands: bool, line: &[u8]) -> Result<(), AllocEr
     Ok(())
 }
 
-/// The line of the moment up to which an entry is good, if there is one.
+/// Appends the line of the moment at which an entry expires, if there is one.
 #[tactic(auto, unfolding(crate::specs::Records::until_line))]
 fn push_until(alloc: Global, out: &mut Vec<u8>, until: Option<i64>) -> Result<(), AllocError>
     ensures { OnOk result (out.new.items ≡ out.old.items ++ until_line until) }
@@ -207,7 +188,7 @@ fn push_until(alloc: Global, out: &mut Vec<u8>, until: Option<i64>) -> Result<()
     }
 }
 
-/// What limits the key.
+/// Appends the limits of the key.
 fn push_limits(alloc: Global, out: &mut Vec<u8>, facts: &Facts) -> Result<(), AllocError>
     ensures { OnOk result (out.new.items ≡ out.old.items ++ limit_lines facts.now) }
 {
@@ -228,12 +209,12 @@ fn push_findings(alloc: Global, out: &mut Vec<u8>, found: &[Finding]) -> Result<
     Ok(())
 }
 
-/// The record of an entry.
+/// Appends the record of an entry.
 #[tactic(auto, unfolding(crate::specs::Records::entry_text))]
 pub(crate) fn push_entry_text(
     alloc: Global,
     out: &mut Vec<u8>,
-    place: &Place<'_>,
+    place: &LineRef<'_>,
     facts: &Facts,
     found: &[Finding],
 ) -> Result<(), AllocError>
@@ -248,9 +229,13 @@ pub(crate) fn push_entry_text(
     Ok(())
 }
 
-/// The key on a line that cannot be read, after a space, if there is one, at the end. After an `Err`,
-/// which is want of memory, a part of it may stand there.
-pub fn push_held(alloc: Global, out: &mut Vec<u8>, held: Option<HeldKey>) -> Result<(), AllocError>
+/// Appends the key that OpenSSH reads on a line which is unreadable here, after a space, if there
+/// is one.
+pub(crate) fn push_held(
+    alloc: Global,
+    out: &mut Vec<u8>,
+    held: Option<HeldKey>,
+) -> Result<(), AllocError>
     ensures { OnOk result (out.new.items ≡ out.old.items ++ held_words held) }
 {
     if let Some(held) = held {
@@ -260,12 +245,12 @@ pub fn push_held(alloc: Global, out: &mut Vec<u8>, held: Option<HeldKey>) -> Res
     Ok(())
 }
 
-/// The record of a line that cannot be read.
+/// Appends the record of a line that cannot be read.
 #[tactic(auto, unfolding(crate::specs::Records::unreadable_text))]
 pub(crate) fn push_unreadable_text(
     alloc: Global,
     out: &mut Vec<u8>,
-    place: &Place<'_>,
+    place: &LineRef<'_>,
     held: Option<HeldKey>,
     found: &[Finding],
 ) -> Result<(), AllocError>

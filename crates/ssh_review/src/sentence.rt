@@ -1,24 +1,66 @@
-//! The words of findings: each sentence stands here.
+//! The details and sentences of the findings of an `authorized_keys` file.
 
-ghost use Rattle.std.specs.Prelude.{◌≡◌, ◌++◌, OnOk, codes};
+ghost use Rattle.std.specs.Prelude.{◌≡◌, IfOk, codes, ◌++◌, OnOk};
 ghost use Rattle.std.specs.Fmt.{decimal};
-ghost use Rattle.ssh_review.specs.Sentences.{
-  cause_text,
-  detail_part,
-  finding_head,
-  finding_line,
-  plain_sentence,
-  sentence_of,
-  short_sentence,
-  unreadable_sentence,
-};
+ghost use Rattle.ssh_review.specs.Details.{cause_detail, detail_of, plain_detail};
+ghost use Rattle.ssh_review.specs.Sentences.{cause_text, detail_part, finding_head, finding_line, plain_sentence, sentence_of, short_sentence, unreadable_sentence};
 
-use ssh_explain::row_of;
 use ssh_findings::{Coded, Finding};
 use ssh_options::LineCause;
-use ssh_print::{line_code, push_number};
-use ssh_review_json::detail;
+use ssh_print::{line_code, line_codes, push_number, row_of};
 use std::alloc::{AllocError, Global};
+
+/// The part of the line that a finding is about, where its code covers several.
+fn plain_detail(finding: Finding) -> &'static [u8]
+    ensures { result.now ≡ plain_detail finding }
+{
+    match finding {
+        Finding::BadSources => b"from",
+        Finding::SourcesHere => b"from-here",
+        Finding::NoPrincipal => b"principals",
+        Finding::PlainPrincipals => b"principals",
+        Finding::EmptyPrincipal => b"empty-principal",
+        Finding::VerifyIgnored => b"verify-required",
+        Finding::LocalTime => b"local-time",
+        Finding::ShortAddress => b"short-address",
+        Finding::MayRefuse(ground) => ground.word(),
+        _ => b"",
+    }
+}
+
+/// The codes of a line's error, separated by spaces.
+pub(crate) fn cause_detail(alloc: Global, cause: LineCause) -> Result<Vec<u8>, AllocError>
+    ensures { IfOk result (λ text. text.items ≡ cause_detail cause) }
+{
+    let codes = line_codes(alloc, cause)?;
+    match codes.as_slice() {
+        [_, rest @ ..] => Vec::from_slice(alloc, rest),
+        [] => Ok(codes),
+    }
+}
+
+/// A number, in decimal.
+pub(crate) fn number_detail(alloc: Global, number: u64) -> Result<Vec<u8>, AllocError>
+    ensures { IfOk result (λ text. text.items ≡ decimal number) }
+{
+    let digits = number.to_string(alloc)?;
+    Vec::from_slice(alloc, digits.as_bytes())
+}
+
+/// The detail after the code of a finding: the codes of a line's error, the number of another line,
+/// the bits of a key, or the part of the line. It has no bytes where the code alone is enough.
+pub(crate) fn detail(alloc: Global, finding: Finding) -> Result<Vec<u8>, AllocError>
+    ensures { IfOk result (λ text. text.items ≡ detail_of finding) }
+{
+    match finding {
+        Finding::Unreadable(cause) => cause_detail(alloc, cause),
+        Finding::SameKey(line) | Finding::NeverDecides(line) | Finding::GivesMore(line) => {
+            number_detail(alloc, line)
+        }
+        Finding::ShortKey(bits) => number_detail(alloc, bits as u64),
+        _ => Vec::from_slice(alloc, plain_detail(finding)),
+    }
+}
 
 /// Why a line cannot be read, by the table of codes.
 fn cause_text(cause: LineCause) -> &'static [u8]
@@ -30,7 +72,7 @@ fn cause_text(cause: LineCause) -> &'static [u8]
     }
 }
 
-/// The sentence of a finding that names no number and no fault; of any other no bytes.
+/// The sentence of a finding that contains no number and no line error; no bytes for any other.
 fn plain_sentence(finding: Finding) -> &'static [u8]
     ensures { result.now ≡ plain_sentence finding }
 {
@@ -73,7 +115,7 @@ fn plain_sentence(finding: Finding) -> &'static [u8]
     }
 }
 
-/// A number between words.
+/// Appends a number between two texts.
 fn push_between(
     alloc: Global,
     out: &mut Vec<u8>,
@@ -90,7 +132,6 @@ fn push_between(
     Ok(())
 }
 
-/// Words, and what they lead to.
 fn push_both(out: &mut Vec<u8>, before: &[u8], after: &[u8]) -> Result<(), AllocError>
     ensures { OnOk result (out.new.items ≡ out.old.items ++ (before.now ++ after.now)) }
 {
@@ -99,9 +140,11 @@ fn push_both(out: &mut Vec<u8>, before: &[u8], after: &[u8]) -> Result<(), Alloc
     Ok(())
 }
 
-/// The sentence of a line that cannot be read for this cause, at the end. After an `Err`, which is
-/// want of memory, a part of it may stand there.
-pub fn push_unreadable_sentence(out: &mut Vec<u8>, cause: LineCause) -> Result<(), AllocError>
+/// Appends the sentence of a line that cannot be read, with its cause.
+pub(crate) fn push_unreadable_sentence(
+    out: &mut Vec<u8>,
+    cause: LineCause,
+) -> Result<(), AllocError>
     ensures { OnOk result (out.new.items ≡ out.old.items ++ unreadable_sentence cause) }
 {
     push_both(
@@ -111,9 +154,12 @@ pub fn push_unreadable_sentence(out: &mut Vec<u8>, cause: LineCause) -> Result<(
     )
 }
 
-/// The sentence of an RSA key of so many bits, which are too few, at the end. After an `Err`, which
-/// is want of memory, a part of it may stand there.
-pub fn push_short_sentence(alloc: Global, out: &mut Vec<u8>, bits: u32) -> Result<(), AllocError>
+/// Appends the sentence of an RSA key with too few bits.
+pub(crate) fn push_short_sentence(
+    alloc: Global,
+    out: &mut Vec<u8>,
+    bits: u32,
+) -> Result<(), AllocError>
     ensures { OnOk result (out.new.items ≡ out.old.items ++ short_sentence bits) }
 {
     push_between(
@@ -167,7 +213,7 @@ fn push_sentence(alloc: Global, out: &mut Vec<u8>, finding: Finding) -> Result<(
     Ok(())
 }
 
-/// What stands after the code of a finding, after a space, if it is any.
+/// Appends the detail of a finding after a space, if it has one.
 fn push_detail(out: &mut Vec<u8>, said: &[u8]) -> Result<(), AllocError>
     ensures { OnOk result (out.new.items ≡ out.old.items ++ detail_part said.now) }
 {
@@ -178,9 +224,12 @@ fn push_detail(out: &mut Vec<u8>, said: &[u8]) -> Result<(), AllocError>
     Ok(())
 }
 
-/// The front of the line of a finding with this code and what stands after it, at the end. After an
-/// `Err`, which is want of memory, a part of it may stand there.
-pub fn push_finding_head(out: &mut Vec<u8>, code: &[u8], said: &[u8]) -> Result<(), AllocError>
+/// Appends the start of a finding's line: its code and detail.
+pub(crate) fn push_finding_head(
+    out: &mut Vec<u8>,
+    code: &[u8],
+    said: &[u8],
+) -> Result<(), AllocError>
     ensures { OnOk result (out.new.items ≡ out.old.items ++ finding_head code.now said.now) }
 {
     out.extend_from_slice(b"    ")?;
@@ -190,7 +239,7 @@ pub fn push_finding_head(out: &mut Vec<u8>, code: &[u8], said: &[u8]) -> Result<
     Ok(())
 }
 
-/// The line of a finding.
+/// Appends the line of a finding.
 pub(crate) fn push_finding(
     alloc: Global,
     out: &mut Vec<u8>,

@@ -1,12 +1,6 @@
 -- What is answered, by the lengths of the file and of the new one, and by how many salts there are.
-use Rattle.std.proofs.Common.{◌≡◌, ℕ, ◌<◌, ◌≤◌, List, [], length, Ok, Err, refl, sym, ap, subst, ◌∙◌}
-use Rattle.std.proofs.lemmas.Bool.{le-ltb, lt-ltb}
-use Rattle.ssh_rewriting.specs.declared.error.RewriteError.TheVariants.{TooLong}
-use Rattle.ssh_rewriting.specs.declared.hash_error.HashError.TheVariants as hashing
-use Rattle.ssh_rewriting.specs.Answer.{hashed, rewritten}
-use Rattle.ssh_text.specs.Text.{file_limit, lines_of}
-use Rattle.ssh_rewriting.specs.Bounded.{bounded_lines}
-use Rattle.ssh_rewriting.specs.HashedFile.{hashed_file, hashed_lines, names_hidden}
+use Rattle.ssh_rewriting.proofs.Imports.{◌≡◌, ℕ, ◌<◌, ◌≤◌, List, [], length, Ok, Err, refl, sym, ap, subst, ◌∙◌, le-ltb, lt-ltb, TooLong, hashed, rewritten, file_limit, lines_of, bounded_lines, hashed_file, hashed_lines, names_hidden}
+use Rattle.ssh_rewriting.specs.declared.hash.HashError.TheVariants as hashing
 use Rattle.ssh_rewriting.proofs.BoundedLemmas.{bounded-short, bounded-long}
 
 short-both : (old new : List ℕ) → length old ≤ file_limit → length new ≤ file_limit → rewritten old new ≡ Ok new

@@ -1,21 +1,6 @@
 -- The canonical line of an authorized_keys entry spells it, and is no longer than the line that it comes from.
-use Rattle.std.proofs.Common.{◌≡◌, ℕ, ◌+◌, ◌≤◌, true, List, [], ◌∷◌, ◌++◌, length, length-append, map, refl, sym, ap, subst, ◌∙◌, arith, append_assoc}
-use Rattle.std.specs.List.{join_with_byte}
-use Rattle.std.specs.Char.{to_ascii_lowercase}
-use Rattle.std.specs.Str.{str_to_ascii_lowercase}
-use Rattle.std.proofs.lemmas.Bool.{eqb-false}
-use Rattle.std.proofs.lemmas.List.{length-map}
-use Rattle.std.proofs.lemmas.Slice.Eq.{bytes_eq-Decides}
-use Rattle.ssh_options.specs.AuthOption.{AuthOption}
-use Rattle.ssh_options.specs.OptionNames.{same_name}
-use Rattle.ssh_options.specs.OptionText.{option_name, value_part, SpellsOption, SpellsItems}
-use Rattle.ssh_options.proofs.OptionLemmas.{AreNameBytes, other_byte, spelled-bytes}
-use Rattle.ssh_text.specs.Scan.{HasNoNewline}
-use Rattle.ssh_lines.specs.AuthEntry.{AuthEntry}
-use Rattle.ssh_lines.specs.declared.entry.AuthLine.TheVariants.{Entry}
-use Rattle.ssh_lines.specs.AuthGrammar.{SpellsEntry, SpellsOptions, auth_line}
-use Rattle.ssh_lines.proofs.AuthLemmas.{auth_line-spelled}
-use Rattle.ssh_rewriting.specs.Canonical.{option_text, options_part, key_text, comment_part, canonical_auth}
+use Rattle.ssh_rewriting.proofs.Imports.{◌≡◌, ℕ, ◌+◌, ◌≤◌, true, List, [], ◌∷◌, ◌++◌, length, length-append, map, refl, sym, ap, subst, ◌∙◌, arith, append_assoc, join_with_byte, to_ascii_lowercase, str_to_ascii_lowercase, eqb-false, length-map, bytes_eq-Decides, AuthOption, same_name, option_name, value_part, SpellsOption, SpellsItems, AreNameBytes, other_byte, spelled-bytes, HasNoNewline, AuthEntry, SpellsEntry, SpellsOptions, auth_line, auth_line-spelled, option_text, options_part, key_text, comment_part, canonical_auth}
+use Rattle.ssh_entries.specs.declared.auth_line.AuthLine.TheVariants.{Entry}
 use Rattle.ssh_rewriting.proofs.KeyTextLemmas.{none-front, none-back, none-append, blank-none, one_gap, gap-length, written_key, spells-key, key-length, none-key}
 
 -- ---- options

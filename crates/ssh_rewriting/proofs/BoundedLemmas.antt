@@ -1,9 +1,5 @@
 -- Lines that are written as long as a file is within its limit: all of them, or a file past the limit.
-use Rattle.std.proofs.Common.{◌≡◌, ℕ, ◌<◌, ◌≤◌, false, nat_lt, inl, inr, List, [], ◌∷◌, ◌++◌, length, length-append, refl, sym, ap, subst, ◌∙◌, arith, append_assoc, append-nil}
-use Rattle.std.proofs.lemmas.Bool.{cases_lt, le-ltb, lt-ltb}
-use Rattle.ssh_text.specs.Text.{file_limit}
-use Rattle.ssh_text.specs.Scan.{with_newlines}
-use Rattle.ssh_rewriting.specs.Bounded.{bounded_line, bounded_lines}
+use Rattle.ssh_rewriting.proofs.Imports.{◌≡◌, ℕ, ◌<◌, ◌≤◌, false, nat_lt, inl, inr, List, [], ◌∷◌, ◌++◌, length, length-append, refl, sym, ap, subst, ◌∙◌, arith, append_assoc, append-nil, cases_lt, le-ltb, lt-ltb, file_limit, with_newlines, bounded_line, bounded_lines}
 
 full-line : (file line : List ℕ) → file_limit < length file → bounded_line file line ≡ file
 full-line file line h = rw (lt-ltb file_limit (length file) h) refl

@@ -1,12 +1,5 @@
 -- A file of lines that keep what they say, each on one line, says the same; where each stands for itself, so does the file.
-use Rattle.std.proofs.Common.{◌≡◌, ℕ, ◌+◌, ◌≤◌, inl, inr, List, [], ◌∷◌, ◌++◌, length, length-append, map, refl, sym, ap, subst, ◌∙◌, arith}
-use Rattle.std.specs.List.{AllByRecursion}
-use Rattle.ssh_names.proofs.ByteLemmas.{AreBytes, AreBytes-front, AreBytes-back}
-use Rattle.ssh_text.specs.Text.{lines_of, AreLines}
-use Rattle.ssh_text.specs.Scan.{HasNoNewline, with_newlines}
-use Rattle.ssh_text.proofs.LineLemmas.{lines_of-are}
-use Rattle.ssh_text.proofs.NewlineLemmas.{lines_of-whole}
-use Rattle.ssh_rewriting.specs.CanonicalFile.{file_with}
+use Rattle.ssh_rewriting.proofs.Imports.{◌≡◌, ℕ, ◌+◌, ◌≤◌, inl, inr, List, [], ◌∷◌, ◌++◌, length, length-append, map, refl, sym, ap, subst, ◌∙◌, arith, AllByRecursion, AreBytes, AreBytes-front, AreBytes-back, lines_of, AreLines, HasNoNewline, with_newlines, lines_of-are, lines_of-whole, file_with}
 
 -- what is written in place of a line
 pub record IsKept {A : Type 0} (read : List ℕ → A) (written : List ℕ → List ℕ) (line : List ℕ) : Type 0 where

@@ -1,10 +1,5 @@
 -- The file whose names are hidden as it is written, line by line.
-use Rattle.std.proofs.Common.{◌≡◌, ℕ, ◌+◌, ◌-◌, ◌≤◌, List, [], ◌∷◌, ◌++◌, length, drop, refl, sym, ap, ◌∙◌, arith, length-append, length-drop}
-use Rattle.std.specs.List.{flat_map}
-use Rattle.ssh_text.specs.Text.{lines_of, numbered}
-use Rattle.ssh_lines.specs.KnownGrammar.{known_line}
-use Rattle.ssh_rewriting.specs.Bounded.{bounded_line, bounded_lines}
-use Rattle.ssh_rewriting.specs.HashedFile.{hashed_lines, hidden_entry, hidden_names, lines_in_place, names_hidden}
+use Rattle.ssh_rewriting.proofs.Imports.{◌≡◌, ℕ, ◌+◌, ◌-◌, ◌≤◌, List, [], ◌∷◌, ◌++◌, length, drop, refl, sym, ap, ◌∙◌, arith, length-append, length-drop, flat_map, lines_of, numbered, known_line, bounded_line, bounded_lines, hashed_lines, hidden_entry, hidden_names, lines_in_place, names_hidden}
 
 -- the lines in place of the lines that are left
 abbrev pub lines_left : List (ℕ × List ℕ) → List (List ℕ) → List (List ℕ)

@@ -1,21 +1,6 @@
--- A file whose names are hidden says what the file says, with each hidden name in place of its entry.
-use Rattle.std.proofs.Common.{◌≡◌, ℕ, ◌<◌, ◌≤◌, nat_le, List, [], ◌∷◌, ◌++◌, length, map, drop, refl, ap, ◌∙◌, zero, suc, arith}
-use Rattle.std.specs.Prelude.{Option, Some, None, slice_index_or}
-use Rattle.std.specs.List.{zip, flat_map, AllByRecursion}
-use Rattle.std.proofs.lemmas.Bool.{and_parts, leb-true}
-use Rattle.std.proofs.lemmas.List.{map-append}
-use Rattle.ssh_text.specs.Text.{lines_of, line_limit}
-use Rattle.ssh_text.specs.Scan.{HasNoNewline}
-use Rattle.ssh_text.proofs.NewlineLemmas.{lines_of-whole}
-use Rattle.ssh_names.specs.Names.{IsTwentyBytes, hidden}
-use Rattle.ssh_names.proofs.ByteLemmas.{AreBytes, AreBytes-back, AreBytes-front, IsBytes-from_all}
-use Rattle.ssh_lines.specs.KnownEntry.{KnownEntry}
-use Rattle.ssh_lines.specs.declared.known.KnownLine.{KnownLine}
-use Rattle.ssh_lines.specs.declared.known.KnownLine.TheVariants as known
-use Rattle.ssh_lines.specs.KnownGrammar.{SpellsKnown, known_line}
-use Rattle.ssh_lines.proofs.ReadKnown.{known_line-spells}
-use Rattle.ssh_rewriting.specs.Facts.{known_facts}
-use Rattle.ssh_rewriting.specs.HashedFile.{are_plain, hashed_facts, hashed_file, hashed_length, hashed_line, hashed_lines, hidden_entry, hidden_names, lines_in_place, lower_names, said_in_place}
+-- A file with hashed names is read as the old file is, with one entry for each hashed name.
+use Rattle.ssh_rewriting.proofs.Imports.{◌≡◌, ℕ, ◌<◌, ◌≤◌, nat_le, List, [], ◌∷◌, ◌++◌, length, map, drop, refl, ap, ◌∙◌, zero, suc, arith, Option, Some, None, slice_index_or, zip, flat_map, AllByRecursion, and_parts, leb-true, map-append, lines_of, line_limit, HasNoNewline, lines_of-whole, IsTwentyBytes, hidden, AreBytes, AreBytes-back, AreBytes-front, IsBytes-from_all, KnownEntry, KnownLine, SpellsKnown, known_line, known_line-spells, known_facts, are_plain, hashed_facts, hashed_file, hashed_length, hashed_line, hashed_lines, hidden_entry, hidden_names, lines_in_place, lower_names, said_in_place}
+use Rattle.ssh_entries.specs.declared.known_line.KnownLine.TheVariants as known
 use Rattle.ssh_rewriting.proofs.FileLemmas.{AreGood, IsGood, good}
 use Rattle.ssh_rewriting.proofs.HiddenLemmas.{hidden-is}
 use Rattle.ssh_rewriting.proofs.HashedLineLemmas.{hashed-read, hashed-none}
@@ -52,7 +37,7 @@ has-room line entry g h =
 
 -- ---- one line
 
--- the lines that hide names, and what is said on them
+-- the lines with hashed names, and what they are read as
 abbrev written : KnownEntry → List ℕ × List ℕ → List ℕ
 written entry x = hashed_line entry x.0 x.1
 
@@ -105,7 +90,7 @@ lines-none (line ∷ lines) salts g =
     all-append (lines_in_place (hidden_entry (known_line line)) line salts) (hashed_lines lines (drop n salts))
     (place-none (hidden_entry (known_line line)) line salts refl g.0) (lines-none lines (drop n salts) g.1)
 
--- What a file says after its names are hidden.
+-- What a file is read as after its names are hashed.
 pub hashed-says : (file : List ℕ) (salts : List (List ℕ)) → AreBytes file → AreSalts salts
     → known_facts (hashed_file file salts) ≡ hashed_facts (known_facts file) salts
 hashed-says file salts b s =

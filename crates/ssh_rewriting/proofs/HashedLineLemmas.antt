@@ -1,24 +1,7 @@
 -- The line that hides a name spells its entry with that name hidden, has as many bytes whatever the name, and is one line.
-use Rattle.std.proofs.Common.{◌≡◌, ◌≢◌, ℕ, ◌+◌, ◌*◌, ◌/◌, ◌%◌, ◌≤◌, Bool, true, false, not, ◌==◌, List, [], ◌∷◌, ◌++◌, length, length-append, codes, replicate, slice_index, refl, ap, ◌∙◌, arith}
-use Rattle.std.specs.List.{list_all}
-use Rattle.std.proofs.lemmas.Bool.{and_parts}
-use Rattle.base64.specs.Rfc4648.{encode_symbols, padding_len}
-use Rattle.base64.specs.Engines.{standard}
-use Rattle.ssh_text.specs.Text.{line_limit, HasNoBlank}
-use Rattle.ssh_text.specs.Scan.{HasNoNewline}
-use Rattle.ssh_names.specs.Names.{IsTwentyBytes, base64, hashed_field, hidden, name_hash}
-use Rattle.ssh_names.proofs.HashedLemmas.{hidden-spelled, length-hashed}
-use Rattle.ssh_lines.specs.declared.marker.Marker.{Marker}
-use Rattle.ssh_lines.specs.declared.marker.Marker.TheVariants as markers
-use Rattle.ssh_lines.specs.Front.{begins_with}
-use Rattle.ssh_lines.specs.KnownEntry.{KnownEntry}
-use Rattle.ssh_lines.specs.declared.known.KnownLine.TheVariants.{Entry}
-use Rattle.ssh_lines.specs.Markers.{SpellsMarker}
-use Rattle.ssh_lines.specs.KnownGrammar.{SpellsKnown, known_line}
-use Rattle.ssh_lines.proofs.KeyLemmas.{HasNoBlank-append, HasNoBlank-from_test, base64-no_blank, index-passes, list_all-append, replicate-passes}
-use Rattle.ssh_lines.proofs.ReadKnown.{known_line-spelled}
-use Rattle.ssh_rewriting.specs.Canonical.{marker_part, line_with_names}
-use Rattle.ssh_rewriting.specs.HashedFile.{hashed_length, hashed_line}
+use Rattle.ssh_rewriting.proofs.Imports.{◌≡◌, ◌≢◌, ℕ, ◌+◌, ◌*◌, ◌/◌, ◌%◌, ◌≤◌, Bool, true, false, not, ◌==◌, List, [], ◌∷◌, ◌++◌, length, length-append, codes, replicate, slice_index, refl, ap, ◌∙◌, arith, list_all, and_parts, padding_len, standard, line_limit, HasNoBlank, HasNoNewline, IsTwentyBytes, base64, hashed_field, hidden, name_hash, hidden-spelled, length-hashed, Marker, begins_with, KnownEntry, Entry, SpellsMarker, SpellsKnown, known_line, HasNoBlank-append, HasNoBlank-from_test, base64-no_blank, index-passes, list_all-append, replicate-passes, known_line-spelled, marker_part, line_with_names, hashed_length, hashed_line}
+use Rattle.base64.specs.Rfc4648.{encode_symbols}
+use Rattle.ssh_entries.specs.declared.known_view.Marker.TheVariants as markers
 use Rattle.ssh_rewriting.proofs.KeyTextLemmas.{one_gap}
 use Rattle.ssh_rewriting.proofs.KnownLineLemmas.{with-spelled, with-none}
 

@@ -1,20 +1,6 @@
 -- A file whose names are hidden names what the file names, and nothing else but for a hash that two names share.
-use Rattle.std.proofs.Common.{◌≡◌, ◌⊎◌, ℕ, ◌≤◌, true, false, nat_le, inl, inr, List, [], ◌∷◌, ◌++◌, length, map, drop, bytes_eq, refl, sym, ap, subst, ◌∙◌, arith, length-append, length-drop}
-use Rattle.std.specs.Prelude.{Option, Some, None}
-use Rattle.std.specs.List.{zip, flat_map}
-use Rattle.std.specs.Str.{str_to_ascii_lowercase}
-use Rattle.std.proofs.lemmas.Bool.{and_parts, cases_Bool}
-use Rattle.std.proofs.lemmas.Slice.Eq.{bytes_eq-Decides}
-use Rattle.ssh_text.specs.Text.{line_limit, lines_of}
-use Rattle.ssh_names.specs.Names.{NamesHost, hidden, lookup_name, name_hash}
-use Rattle.ssh_names.proofs.ByteLemmas.{AreBytes}
-use Rattle.ssh_lines.specs.KnownEntry.{KnownEntry}
-use Rattle.ssh_lines.specs.declared.known.KnownLine.{KnownLine}
-use Rattle.ssh_lines.specs.declared.known.KnownLine.TheVariants as known
-use Rattle.ssh_lines.specs.KnownGrammar.{known_line}
-use Rattle.ssh_rewriting.specs.Facts.{known_facts}
-use Rattle.ssh_rewriting.specs.HashedFile.{are_plain, hashed_facts, hashed_file, hashed_length, hidden_entry, hidden_names, lower_names, names_hidden, names_of_hidden, said_in_place}
-use Rattle.ssh_rewriting.specs.HashedNames.{AddsNoName, IsNamed, KeepsNames, SharesHash}
+use Rattle.ssh_rewriting.proofs.Imports.{◌≡◌, ◌⊎◌, ℕ, ◌≤◌, true, false, nat_le, inl, inr, List, [], ◌∷◌, ◌++◌, length, map, drop, bytes_eq, refl, sym, ap, subst, ◌∙◌, arith, length-append, length-drop, Option, Some, None, zip, flat_map, str_to_ascii_lowercase, and_parts, cases_Bool, bytes_eq-Decides, line_limit, lines_of, NamesHost, hidden, lookup_name, name_hash, AreBytes, KnownEntry, KnownLine, known_line, known_facts, are_plain, hashed_facts, hashed_file, hashed_length, hidden_entry, hidden_names, lower_names, names_hidden, names_of_hidden, said_in_place, AddsNoName, IsNamed, KeepsNames, SharesHash}
+use Rattle.ssh_entries.specs.declared.known_line.KnownLine.TheVariants as known
 use Rattle.ssh_rewriting.proofs.HiddenLemmas.{hidden-is}
 use Rattle.ssh_rewriting.proofs.HashedFactsLemmas.{AreSalts, hashed-says, said}
 use Rattle.ssh_rewriting.proofs.MemberLemmas.{Mem, mem-from, mem-to, mem-left, mem-right, mem-cases, mem-drop}
@@ -23,7 +9,7 @@ use Rattle.ssh_rewriting.proofs.PlainLemmas.{have-name, name-had, lookup-lower}
 plain-of : (entry : KnownEntry) (found : KnownEntry) → hidden_entry (known.Entry entry) ≡ Some found → are_plain found.names ≡ true
 plain-of entry found h = (and_parts (are_plain found.names) (nat_le (hashed_length found) line_limit) (hidden-is (known.Entry entry) found h).1).0
 
--- ---- what is kept
+-- ---- what is preserved
 
 -- an entry stands as it is, or each of its names is hidden
 abbrev Stays : Option KnownEntry → KnownEntry → List KnownLine → Type 0
@@ -155,7 +141,7 @@ names-of_facts : (lines : List (List ℕ)) → flat_map (λ line. hidden_names (
 names-of_facts [] = refl
 names-of_facts (line ∷ lines) = ap (λ ns. hidden_names (known_line line) ++ ns) (names-of_facts lines)
 
--- an entry that names a host is kept, or hides its name
+-- an entry that names a host is copied as it is, or its name is hashed
 still-named : (o : Option KnownEntry) (new name : List ℕ) (entry : KnownEntry) → hidden_entry (known.Entry entry) ≡ o → str_to_ascii_lowercase name ≡ name
     → NamesHost entry.names name → Stays o entry (known_facts new) → IsNamed new name entry.key entry.marker
 still-named None new name entry e low names h =

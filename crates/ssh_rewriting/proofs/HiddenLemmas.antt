@@ -1,26 +1,7 @@
 -- The lines that hide the names of an entry.
-use Rattle.std.proofs.Common.{◌≡◌, ℕ, ◌+◌, ◌≤◌, true, false, Bool, nat_le, List, [], ◌∷◌, ◌++◌, length, map, drop, replicate, refl, sym, ap, subst, ◌∙◌, arith, length-append}
-use Rattle.std.specs.Prelude.{if◌then◌else◌, Some, None}
-use Rattle.std.proofs.lemmas.Bool.{and_parts}
-use Rattle.std.proofs.lemmas.List.{length-map, length-replicate}
-use Rattle.std.specs.List.{zip}
-use Rattle.std.specs.Str.{str_to_ascii_lowercase}
-use Rattle.base64.specs.Rfc4648.{encoded_size, padding_len}
-use Rattle.base64.proofs.RoundTrip.{length-encode_symbols}
-use Rattle.base64.specs.Engines.{standard}
+use Rattle.ssh_rewriting.proofs.Imports.{◌≡◌, ℕ, ◌+◌, ◌≤◌, true, false, Bool, nat_le, List, [], ◌∷◌, ◌++◌, length, map, drop, replicate, refl, sym, ap, subst, ◌∙◌, arith, length-append, if◌then◌else◌, Some, None, and_parts, length-map, length-replicate, zip, str_to_ascii_lowercase, encoded_size, padding_len, length-encode_symbols, standard, key_name_of, kind_of, key_blob, pieces, base64, Names, Patterns, Hashed, list_of, names_text, line_limit, KnownEntry, KnownLine, comment_part, marker_part, bounded_line, bounded_lines, are_plain, hashed_length, hashed_line, hidden_entry, is_hidden, lower_names}
 use Rattle.base64.specs.Rfc4648.{encode_symbols}
-use Rattle.ssh_keys.specs.Names.{key_name_of}
-use Rattle.ssh_keys.specs.PublicKey.{kind_of, key_blob}
-use Rattle.ssh_patterns.specs.Lists.{pieces}
-use Rattle.ssh_names.specs.Names.{base64}
-use Rattle.ssh_names.specs.Names.{Names, Patterns, Hashed, list_of, names_text}
-use Rattle.ssh_text.specs.Text.{line_limit}
-use Rattle.ssh_lines.specs.KnownEntry.{KnownEntry}
-use Rattle.ssh_lines.specs.declared.known.KnownLine.{KnownLine}
-use Rattle.ssh_lines.specs.declared.known.KnownLine.TheVariants as known
-use Rattle.ssh_rewriting.specs.Canonical.{comment_part, marker_part}
-use Rattle.ssh_rewriting.specs.Bounded.{bounded_line, bounded_lines}
-use Rattle.ssh_rewriting.specs.HashedFile.{are_plain, hashed_length, hashed_line, hidden_entry, is_hidden, lower_names}
+use Rattle.ssh_entries.specs.declared.known_line.KnownLine.TheVariants as known
 
 -- ---- lengths
 

@@ -1,7 +1,6 @@
 -- What stands at the front of a vector that is written to.
-use Rattle.std.proofs.Common.{◌≡◌, ℕ, ◌≤◌, List, ◌++◌, length, take, drop, refl, sym, ap, ◌∙◌, arith}
-use Rattle.std.proofs.lemmas.List.{length-append, take_at, take-append-drop, take-take}
-use Rattle.ssh_wire.specs.Fronts.{Keeps}
+use Rattle.ssh_rewriting.proofs.Imports.{◌≡◌, ℕ, ◌≤◌, List, ◌++◌, length, take, drop, refl, sym, ap, ◌∙◌, arith, take_at, take-append-drop, take-take, Keeps}
+use Rattle.std.proofs.lemmas.List.{length-append}
 
 -- what is kept after more is kept
 keeps_more : (old more middle new : List ℕ) → middle ≡ old ++ more → Keeps middle new → Keeps old new

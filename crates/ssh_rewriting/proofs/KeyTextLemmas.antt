@@ -1,12 +1,5 @@
 -- Key and comment of a canonical line spell what they are made of, and are no longer than what spelled it.
-use Rattle.std.proofs.Common.{◌≡◌, ◌≢◌, ℕ, ◌+◌, ◌≤◌, inl, inr, List, [], ◌∷◌, ◌++◌, length, length-append, refl, sym, ap, subst, ◌∙◌, arith, append_assoc, append-nil}
-use Rattle.ssh_keys.specs.Names.{key_name_of}
-use Rattle.ssh_keys.specs.PublicKey.{PublicKey, kind_of, key_blob}
-use Rattle.ssh_text.specs.Text.{SpellsTail, IsGap}
-use Rattle.ssh_text.specs.Scan.{HasNoNewline}
-use Rattle.ssh_names.specs.Names.{base64}
-use Rattle.ssh_lines.specs.KeyPart.{SpellsKey}
-use Rattle.ssh_rewriting.specs.Canonical.{key_text, comment_part}
+use Rattle.ssh_rewriting.proofs.Imports.{◌≡◌, ◌≢◌, ℕ, ◌+◌, ◌≤◌, inl, inr, List, [], ◌∷◌, ◌++◌, length, length-append, refl, sym, ap, subst, ◌∙◌, arith, append_assoc, append-nil, key_name_of, PublicKey, kind_of, key_blob, SpellsTail, IsGap, HasNoNewline, base64, SpellsKey, key_text, comment_part}
 
 -- ---- no LF
 

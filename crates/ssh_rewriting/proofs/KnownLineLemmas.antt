@@ -1,16 +1,6 @@
 -- The canonical line of a known_hosts entry spells it, and is no longer than the line that it comes from.
-use Rattle.std.proofs.Common.{◌≡◌, ℕ, ◌+◌, ◌≤◌, List, [], ◌∷◌, ◌++◌, length, length-append, refl, sym, ap, subst, ◌∙◌, arith, append_assoc}
-use Rattle.ssh_text.specs.Text.{line_limit, HasNoBlank}
-use Rattle.ssh_text.specs.Scan.{HasNoNewline}
-use Rattle.ssh_names.specs.Names.{Names, SpellsNames}
-use Rattle.ssh_lines.specs.declared.marker.Marker.{Marker}
-use Rattle.ssh_lines.specs.declared.marker.Marker.TheVariants as markers
-use Rattle.ssh_lines.specs.KnownEntry.{KnownEntry}
-use Rattle.ssh_lines.specs.declared.known.KnownLine.TheVariants.{Entry}
-use Rattle.ssh_lines.specs.Markers.{SpellsMarker, authority_marker}
-use Rattle.ssh_lines.specs.KnownGrammar.{SpellsKnown, known_line}
-use Rattle.ssh_lines.proofs.ReadKnown.{known_line-spelled}
-use Rattle.ssh_rewriting.specs.Canonical.{key_text, comment_part, marker_part, line_with_names, canonical_known}
+use Rattle.ssh_rewriting.proofs.Imports.{◌≡◌, ℕ, ◌+◌, ◌≤◌, List, [], ◌∷◌, ◌++◌, length, length-append, refl, sym, ap, subst, ◌∙◌, arith, append_assoc, line_limit, HasNoBlank, HasNoNewline, Names, SpellsNames, Marker, KnownEntry, Entry, SpellsMarker, authority_marker, SpellsKnown, known_line, known_line-spelled, key_text, comment_part, marker_part, line_with_names, canonical_known}
+use Rattle.ssh_entries.specs.declared.known_view.Marker.TheVariants as markers
 use Rattle.ssh_rewriting.proofs.KeyTextLemmas.{none-front, none-back, none-append, blank-none, one_gap, gap-length, written_key, spells-key, key-length, none-key}
 
 -- ---- markers

@@ -1,3 +1,4 @@
+pub mod Imports
 pub mod KeyTextLemmas
 pub mod AuthLineLemmas
 pub mod KnownLineLemmas

@@ -1,17 +1,9 @@
--- What is written in place of a line says what the line says, on one line, and stands for itself.
-use Rattle.std.proofs.Common.{◌≡◌, ℕ, ◌≤◌, List, length, refl, sym, ap, ◌∙◌, arith}
-use Rattle.ssh_text.specs.Scan.{HasNoNewline}
-use Rattle.ssh_lines.specs.declared.entry.AuthLine.{AuthLine}
-use Rattle.ssh_lines.specs.declared.entry.AuthLine.TheVariants as auth
-use Rattle.ssh_lines.specs.declared.known.KnownLine.{KnownLine}
-use Rattle.ssh_lines.specs.declared.known.KnownLine.TheVariants as known
-use Rattle.ssh_lines.specs.AuthGrammar.{auth_line}
-use Rattle.ssh_lines.specs.KnownGrammar.{known_line}
-use Rattle.ssh_lines.proofs.ReadAuth.{auth_line-spells}
-use Rattle.ssh_lines.proofs.ReadKnown.{known_line-spells}
+-- What replaces a line is read as the line is, is one line, and is replaced by itself.
+use Rattle.ssh_rewriting.proofs.Imports.{◌≡◌, ℕ, ◌≤◌, List, length, refl, sym, ap, ◌∙◌, arith, HasNoNewline, AuthLine, KnownLine, auth_line, known_line, auth_line-spells, known_line-spells, auth_or_same, auth_written, known_or_same, known_written}
+use Rattle.ssh_entries.specs.declared.auth_line.AuthLine.TheVariants as auth
+use Rattle.ssh_entries.specs.declared.known_line.KnownLine.TheVariants as known
 use Rattle.ssh_rewriting.proofs.AuthLineLemmas.{canonical-length, canonical-read, canonical-none}
 use Rattle.ssh_rewriting.proofs.KnownLineLemmas.{known-length, known-read, known-none}
-use Rattle.ssh_rewriting.specs.CanonicalFile.{auth_or_same, auth_written, known_or_same, known_written}
 use Rattle.ssh_rewriting.proofs.FileLemmas.{IsGood, KeepsLines}
 
 -- ---- authorized_keys

@@ -1,8 +1,5 @@
 -- The file as it is written, line by line.
-use Rattle.std.proofs.Common.{◌≡◌, ℕ, ◌+◌, List, [], ◌∷◌, ◌++◌, map, refl, sym, ap, ◌∙◌, append_assoc, append-nil}
-use Rattle.ssh_text.specs.Text.{lines_of, numbered}
-use Rattle.ssh_text.specs.Scan.{with_newlines}
-use Rattle.ssh_rewriting.specs.CanonicalFile.{file_with}
+use Rattle.ssh_rewriting.proofs.Imports.{◌≡◌, ℕ, ◌+◌, List, [], ◌∷◌, ◌++◌, map, refl, sym, ap, ◌∙◌, append_assoc, append-nil, lines_of, numbered, with_newlines, file_with}
 
 -- what the lines that are left are written to
 abbrev pub left_written : (List ℕ → List ℕ) → List (ℕ × List ℕ) → List ℕ

@@ -1,6 +1,5 @@
 -- Elements of lists, by recursion.
-use Rattle.std.proofs.Common.{◌≡◌, ◌⊎◌, ℕ, zero, suc, inl, inr, List, [], ◌∷◌, ◌++◌, drop, arith}
-use Rattle.std.specs.List.{Contains}
+use Rattle.ssh_rewriting.proofs.Imports.{◌≡◌, ◌⊎◌, ℕ, zero, suc, inl, inr, List, [], ◌∷◌, ◌++◌, drop, arith, Contains}
 
 -- the list has the element
 abbrev pub Mem : {X : Type 0} → List X → X → Type 0

@@ -1,21 +1,7 @@
 -- Lists without `*`, `?` and `!`: they name what equals one of their pieces in ASCII lower case. Names that hosts are looked up
 -- by are in lower case.
-use Rattle.std.proofs.Common.{◌≡◌, ℕ, zero, suc, ◌+◌, ◌/◌, ◌%◌, ◌<◌, Bool, true, false, not, ◌||◌, ◌&&◌, ◌==◌, inl, inr, List, [], ◌∷◌, ◌++◌, map, codes, bytes_eq, decimal, refl, sym, ap, subst, ◌∙◌, arith}
-use Rattle.std.specs.Prelude.{if◌then◌else◌, cond}
-use Rattle.std.specs.Char.{to_ascii_lowercase}
-use Rattle.std.specs.Fmt.{digits, digits_onto, digit_glyph}
-use Rattle.std.specs.Str.{str_to_ascii_lowercase}
-use Rattle.std.specs.List.{list_any, onto_first, AllByRecursion}
-use Rattle.std.proofs.lemmas.Bool.{cases_lt, lt-ltb, ne_eqb, or_cases, or_parts}
-use Rattle.std.proofs.lemmas.List.{map-append}
-use Rattle.std.proofs.lemmas.Slice.Eq.{bytes_eq-Decides}
-use Rattle.std.proofs.lemmas.Str.Ascii.{lowercase_is, lowercase-lowercase}
-use Rattle.ssh_patterns.specs.Lists.{item_of, items_of, pieces, permits, is_match_in_lower_case, MatchesInLowerCase}
-use Rattle.ssh_patterns.specs.Matching.{is_match}
-use Rattle.ssh_patterns.proofs.MatchLemmas.{or_left, or_right}
-use Rattle.ssh_patterns.proofs.PermitLaw.{permits-tells, lower-tells, not-true}
-use Rattle.ssh_names.specs.Names.{Names, Patterns, Hashed, NamesHost, lookup_name}
-use Rattle.ssh_rewriting.specs.HashedFile.{are_plain, is_pattern_byte, lower_names}
+use Rattle.ssh_rewriting.proofs.Imports.{◌≡◌, ℕ, zero, suc, ◌+◌, ◌/◌, ◌%◌, ◌<◌, Bool, true, false, not, ◌||◌, ◌&&◌, ◌==◌, inl, inr, List, [], ◌∷◌, ◌++◌, map, codes, bytes_eq, decimal, refl, sym, ap, subst, ◌∙◌, arith, if◌then◌else◌, cond, to_ascii_lowercase, digits_onto, digit_glyph, str_to_ascii_lowercase, list_any, onto_first, AllByRecursion, cases_lt, lt-ltb, ne_eqb, or_cases, or_parts, map-append, bytes_eq-Decides, lowercase_is, lowercase-lowercase, item_of, items_of, pieces, permits, is_match_in_lower_case, MatchesInLowerCase, is_match, or_left, or_right, permits-tells, lower-tells, not-true, Names, Patterns, Hashed, NamesHost, lookup_name, are_plain, is_pattern_byte, lower_names}
+use Rattle.std.specs.Fmt.{digits}
 use Rattle.ssh_rewriting.proofs.MemberLemmas.{Mem}
 
 -- no byte of a pattern stands in the text

@@ -1,10 +1,5 @@
 -- Options with commas between them, from the first one on; texts that are written one after the other.
-use Rattle.std.proofs.Common.{◌≡◌, ℕ, false, nat_eq, List, [], ◌∷◌, ◌++◌, length, map, Ok, Err, sym, ap, ◌∙◌, append_assoc, append-nil}
-use Rattle.std.specs.Prelude.{Result, if◌then◌else◌}
-use Rattle.std.specs.Result.{is_ok, OnOk}
-use Rattle.std.specs.List.{join_with_byte, flat_map}
-use Rattle.ssh_options.specs.AuthOption.{AuthOption}
-use Rattle.ssh_rewriting.specs.Canonical.{after_comma, comment_part, option_text, options_part}
+use Rattle.ssh_rewriting.proofs.Imports.{◌≡◌, ℕ, false, nat_eq, List, [], ◌∷◌, ◌++◌, length, map, Ok, Err, sym, ap, ◌∙◌, append_assoc, append-nil, Result, if◌then◌else◌, is_ok, OnOk, join_with_byte, flat_map, AuthOption, after_comma, comment_part, option_text, options_part}
 
 joined_from : (first : AuthOption) (others : List AuthOption)
     → join_with_byte 44 (map option_text (first ∷ others)) ≡ option_text first ++ flat_map after_comma others

@@ -2,15 +2,15 @@
 use Rattle.std.specs.Prelude.{ℕ, List, map}
 use Rattle.ssh_text.specs.Text.{lines_of}
 use Rattle.ssh_text.specs.Scan.{with_newlines}
-use Rattle.ssh_lines.specs.declared.entry.AuthLine.{AuthLine}
-use Rattle.ssh_lines.specs.declared.entry.AuthLine.TheVariants as auth
-use Rattle.ssh_lines.specs.declared.known.KnownLine.{KnownLine}
-use Rattle.ssh_lines.specs.declared.known.KnownLine.TheVariants as known
-use Rattle.ssh_lines.specs.AuthGrammar.{auth_line}
-use Rattle.ssh_lines.specs.KnownGrammar.{known_line}
+use Rattle.ssh_entries.specs.declared.auth_line.AuthLine.{AuthLine}
+use Rattle.ssh_entries.specs.declared.auth_line.AuthLine.TheVariants as auth
+use Rattle.ssh_entries.specs.declared.known_line.KnownLine.{KnownLine}
+use Rattle.ssh_entries.specs.declared.known_line.KnownLine.TheVariants as known
+use Rattle.ssh_entries.specs.AuthGrammar.{auth_line}
+use Rattle.ssh_entries.specs.KnownGrammar.{known_line}
 use Rattle.ssh_rewriting.specs.Canonical.{canonical_auth, canonical_known}
 
--- the lines of a file, each by what stands in its place and ended by an LF
+-- the lines of a file, each replaced and ended by an LF
 abbrev pub file_with : (List ℕ → List ℕ) → List ℕ → List ℕ
 file_with written file = with_newlines (map written (lines_of file))
 

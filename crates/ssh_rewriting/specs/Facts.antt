@@ -1,10 +1,10 @@
--- What a trust file says, line by line. A decision uses a file through its facts alone.
+-- What each line of a trust file is read as. A decision depends on a file through these facts alone.
 use Rattle.std.specs.Prelude.{ℕ, List, map}
 use Rattle.ssh_text.specs.Text.{lines_of}
-use Rattle.ssh_lines.specs.declared.entry.AuthLine.{AuthLine}
-use Rattle.ssh_lines.specs.declared.known.KnownLine.{KnownLine}
-use Rattle.ssh_lines.specs.AuthGrammar.{auth_line}
-use Rattle.ssh_lines.specs.KnownGrammar.{known_line}
+use Rattle.ssh_entries.specs.declared.auth_line.AuthLine.{AuthLine}
+use Rattle.ssh_entries.specs.declared.known_line.KnownLine.{KnownLine}
+use Rattle.ssh_entries.specs.AuthGrammar.{auth_line}
+use Rattle.ssh_entries.specs.KnownGrammar.{known_line}
 
 -- each line's entry or first fault
 abbrev pub auth_facts : List ℕ → List AuthLine

@@ -1,4 +1,4 @@
--- Entries, and the lines that they are written as; files, and what they are written anew as.
+-- Worked entries and the lines that they are written as; worked files, rewritten and with their names hashed.
 use Rattle.std.specs.Prelude.{◌≡◌, ℕ, List, [], ◌∷◌, ◌++◌, codes, refl, replicate, Ok, Err}
 use Rattle.base64.proofs.OnLiterals.{base64_on_literals}
 use Rattle.ssh_text.specs.Scan.{with_newlines}
@@ -12,19 +12,19 @@ use Rattle.ssh_options.specs.declared.option.Flag.TheVariants.{NoX11Forwarding, 
 use Rattle.ssh_options.specs.declared.option.ValueName.TheVariants.{Command, ExpiryTime}
 use Rattle.ssh_options.specs.AuthOption.{AuthOption, Switch, Setting}
 use Rattle.ssh_options.specs.OptionText.{options_of}
-use Rattle.ssh_names.specs.Names.{Names, Patterns, Hashed, names_of, hashed_of, twenty_bytes_of}
-use Rattle.ssh_expiry.specs.Expiry.{is_expiry_text}
-use Rattle.ssh_lines.specs.AuthEntry.{AuthEntry}
-use Rattle.ssh_lines.specs.KnownEntry.{KnownEntry}
-use Rattle.ssh_lines.specs.declared.marker.Marker.{Marker}
-use Rattle.ssh_lines.specs.declared.marker.Marker.TheVariants.{Unmarked, CertAuthority}
-use Rattle.ssh_lines.specs.Samples.{zero_key, zero_line, zero_text}
-use Rattle.ssh_lines.specs.KeyPart.{key_part_of}
-use Rattle.ssh_lines.specs.AuthGrammar.{auth_line}
-use Rattle.ssh_lines.specs.Markers.{first_field_of}
-use Rattle.ssh_lines.specs.KnownGrammar.{known_entry_of_fields, known_line}
+use Rattle.ssh_entries.specs.Names.{Names, Patterns, Hashed, names_of, hashed_of, twenty_bytes_of}
+use Rattle.ssh_options.specs.Expiry.{is_expiry_text}
+use Rattle.ssh_entries.specs.AuthEntry.{AuthEntry}
+use Rattle.ssh_entries.specs.KnownEntry.{KnownEntry}
+use Rattle.ssh_entries.specs.declared.known_view.Marker.{Marker}
+use Rattle.ssh_entries.specs.declared.known_view.Marker.TheVariants.{Unmarked, CertAuthority}
+use Rattle.ssh_entries.specs.Samples.{zero_key, zero_line, zero_text}
+use Rattle.ssh_entries.specs.KeyPart.{key_part_of}
+use Rattle.ssh_entries.specs.AuthGrammar.{auth_line}
+use Rattle.ssh_entries.specs.Markers.{first_field_of}
+use Rattle.ssh_entries.specs.KnownGrammar.{known_entry_of_fields, known_line}
 use Rattle.ssh_rewriting.specs.Canonical.{canonical_auth, canonical_known}
-use Rattle.ssh_rewriting.specs.declared.hash_error.HashError.TheVariants.{TooFewSalts}
+use Rattle.ssh_rewriting.specs.declared.hash.HashError.TheVariants.{TooFewSalts}
 use Rattle.ssh_rewriting.specs.Answer.{hashed, rewritten}
 use Rattle.ssh_rewriting.specs.HashedFile.{hashed_file, hashed_line}
 use Rattle.ssh_rewriting.specs.CanonicalFile.{canonical_auth_file, canonical_known_file}
@@ -66,8 +66,8 @@ known_samples_written = (refl, refl, refl)
 
 -- ---- files
 
--- An authorized_keys file: an entry with blanks, capitals and a CR, one without a need to change, a comment with a CR,
--- an empty line, and a line that cannot be read, without an LF.
+-- An authorized_keys file: an entry with blanks, capitals and a CR, a canonical entry, a comment with a CR, an empty
+-- line, and at the end an unreadable line without an LF.
 abbrev pub AuthFilesWritten : Type 0
 AuthFilesWritten =
     (canonical_auth_file (codes "  PTY,Restrict  ssh-ed25519\t" ++ zero_text ++ codes "  me \r\n"
@@ -93,7 +93,7 @@ pub known_files_written : KnownFilesWritten
 unfolding known_line known_entry_of_fields first_field_of names_of hashed_of twenty_bytes_of key_in key_blob blob_at fields_at public_at string_at plain_kind certificate_kind base64_on_literals
 known_files_written = refl
 
--- ---- files whose names are hidden
+-- ---- files with hashed names
 
 -- salts of bytes 01 and 02
 abbrev first_salt : List ℕ
@@ -102,7 +102,7 @@ first_salt = replicate 20 1
 abbrev second_salt : List ℕ
 second_salt = replicate 20 2
 
--- an entry with two names, its line, and the lines that hide them
+-- an entry with two names, its line, and the lines with their hashes
 abbrev two_names : KnownEntry
 two_names = of_hosts Unmarked (Patterns (codes "A,b")) (codes "c")
 
@@ -112,7 +112,7 @@ two_named = codes "A,b  " ++ zero_line ++ codes " c "
 abbrev two_hidden : List ℕ
 two_hidden = with_newlines (hashed_line two_names first_salt (codes "a") ∷ hashed_line two_names second_salt (codes "b") ∷ [])
 
--- lines that are kept: patterns, and a revocation
+-- lines that are copied as they are: patterns, and a revocation
 abbrev kept_lines : List ℕ
 kept_lines = codes "*.x  " ++ zero_line ++ codes "\na,!b  " ++ zero_line ++ codes "\n@revoked  h " ++ zero_line
 

@@ -1,64 +1,40 @@
-//! The names of a known_hosts line that are hidden, and the lines that hide them.
+//! Which entries of a known_hosts file have their names hashed, and the lines that replace them.
 
-ghost use Rattle.std.specs.Prelude.{
-  ◌≡◌,
-  ◌≢◌,
-  ◌<◌,
-  ◌≤◌,
-  nat_le,
-  [],
-  ◌∷◌,
-  length,
-  map,
-  drop,
-  Err,
-  IfOk,
-  IfErr,
-  OnOk,
-};
+ghost use Rattle.std.specs.Prelude.{◌≡◌, ◌≢◌, ◌<◌, ◌≤◌, nat_le, [], ◌∷◌, length, map, drop, Err, IfOk, IfErr, OnOk};
 ghost use Rattle.std.specs.List.{list_any, zip};
 ghost use Rattle.std.specs.Str.{str_to_ascii_lowercase};
 ghost use Rattle.ssh_text.specs.Text.{line_limit};
 ghost use Rattle.ssh_patterns.specs.Lists.{pieces};
-ghost use Rattle.ssh_names.specs.Names.{names_text};
-ghost use Rattle.ssh_lines.specs.KnownGrammar.{known_line};
+ghost use Rattle.ssh_entries.specs.Names.{names_text};
+ghost use Rattle.ssh_entries.specs.KnownGrammar.{known_line};
 ghost use Rattle.ssh_rewriting.specs.Canonical.{comment_part, marker_part};
-ghost use Rattle.ssh_rewriting.specs.declared.hash_error.HashError.TheVariants.{TooFewSalts, TooLong};
+ghost use Rattle.ssh_rewriting.specs.declared.hash.HashError.TheVariants.{TooFewSalts, TooLong};
 ghost use Rattle.ssh_rewriting.specs.Bounded.{bounded_line, bounded_lines};
-ghost use Rattle.ssh_rewriting.specs.HashedFile.{
-  are_plain,
-  hashed_length,
-  hashed_line,
-  hidden_entry,
-  is_hidden,
-  is_pattern_byte,
-};
+ghost use Rattle.ssh_rewriting.specs.HashedFile.{are_plain, hashed_length, hashed_line, hidden_entry, is_hidden, is_pattern_byte};
 
-use crate::file::is_past_limit;
-use crate::hash_error::HashError;
-use crate::hashed_line::write_hashed_line;
+use crate::hash::{HashError, write_hashed_line};
+use crate::rewrite::is_past_limit;
 use base64::encoded_len;
-use ssh_lines::{KeyBuffer, KnownEntryView, KnownLineView, Marker, read_known_view};
-use ssh_names::HostNames;
+use ssh_entries::{HostNames, KeyBuffer, KnownEntryView, KnownLineView, Marker, read_known_view};
 use ssh_patterns::first_piece;
 use ssh_text::LINE_LIMIT;
 use std::alloc::AllocError;
 
-/// `*` and `?`, which match, and `!`, which negates.
+/// `*` and `?`, which match, and `!`, which negates: names with them are patterns.
 fn is_pattern_byte(byte: u8) -> bool
     ensures { result ≡ is_pattern_byte byte }
 {
     matches!(byte, b'*' | b'?' | b'!')
 }
 
-/// A byte of a pattern stands in the list.
+/// Whether some byte of the list makes it a pattern.
 fn has_pattern_byte(list: &[u8]) -> bool
     ensures { result ≡ list_any is_pattern_byte list.now }
 {
     list.iter().any(|byte| is_pattern_byte(*byte))
 }
 
-/// Names that are not hidden yet, and no patterns.
+/// Whether the names are a list without patterns.
 fn are_plain(names: &HostNames<'_>) -> bool
     ensures { result ≡ are_plain names.now }
 {
@@ -68,7 +44,7 @@ fn are_plain(names: &HostNames<'_>) -> bool
     }
 }
 
-/// The bytes of a marker and its space.
+/// How many bytes a marker and its space have.
 fn marker_len(marker: Marker) -> u128
     ensures { result ≡ length (marker_part marker) }
 {
@@ -78,7 +54,7 @@ fn marker_len(marker: Marker) -> u128
     }
 }
 
-/// The bytes of a comment and its space.
+/// How many bytes a comment and its space have.
 fn comment_len(comment: &[u8]) -> u128
     ensures { result ≡ length (comment_part comment.now) }
 {
@@ -88,7 +64,7 @@ fn comment_len(comment: &[u8]) -> u128
     }
 }
 
-/// Whether a line may have as many bytes as the line that hides a name of the entry.
+/// Whether the line with a hashed name of the entry is within the line limit.
 fn fits(entry: &KnownEntryView<'_>) -> bool
     ensures { result ≡ nat_le (hashed_length entry.now) line_limit }
 {
@@ -100,14 +76,14 @@ fn fits(entry: &KnownEntryView<'_>) -> bool
     marker_len(entry.marker()) + 60 + 1 + key + comment_len(entry.comment()) <= LINE_LIMIT as u128
 }
 
-/// The names of the entry are hidden.
+/// Whether the names of the entry are hashed.
 fn is_hidden(entry: &KnownEntryView<'_>) -> bool
     ensures { result ≡ is_hidden entry.now }
 {
     are_plain(&entry.names()) && fits(entry)
 }
 
-/// The entry of a line whose names are hidden.
+/// The entry of a line whose names are hashed; `None` for a line that is copied as it is.
 pub(crate) fn hidden_entry<'a>(
     line: &'a [u8],
     buffer: &'a mut KeyBuffer,
@@ -120,7 +96,8 @@ pub(crate) fn hidden_entry<'a>(
     }
 }
 
-/// The text in ASCII lower case, in place of what the vector held.
+/// Replaces the vector's content by the text in ASCII lower case: hosts are looked up in lower
+/// case, and a hash is of the bytes as they are.
 fn lower_into(text: &[u8], lower: &mut Vec<u8>) -> Result<(), AllocError>
     ensures { OnOk result (lower.new.items ≡ str_to_ascii_lowercase text.now) }
 {
@@ -130,7 +107,7 @@ fn lower_into(text: &[u8], lower: &mut Vec<u8>) -> Result<(), AllocError>
     Ok(())
 }
 
-/// Writes a line that hides a name, and an LF, at the end of a file that is within the limit.
+/// Appends a line with a hashed name, and an LF, where the file is within the limit.
 fn put_hashed(
     entry: &KnownEntryView<'_>,
     salt: &[u8; 20],
@@ -148,8 +125,8 @@ fn put_hashed(
     Ok(())
 }
 
-/// Writes the line that hides a name of an entry with the next salt, at the end of a file as long as
-/// it is within the limit, and gives the salts that are left.
+/// Appends the line with the hash of this name under the next salt, where the file is within the
+/// limit, and returns the remaining salts.
 fn put_name<'a>(
     entry: &KnownEntryView<'_>,
     name: &[u8],
@@ -173,8 +150,8 @@ fn put_name<'a>(
     Ok(after)
 }
 
-/// Writes the lines that hide the names of an entry, each with the next salt, at the end of a file
-/// as long as it is within the limit, and gives the salts that are left.
+/// Appends a line for each name of an entry, each with the next salt, where the file is within the
+/// limit, and returns the remaining salts.
 pub(crate) fn put_names<'a>(
     entry: &KnownEntryView<'_>,
     salts: &'a [[u8; 20]],

@@ -1,13 +1,13 @@
-//! What stands in place of a line of a known_hosts file.
+//! What replaces a line of a known_hosts file that is rewritten.
 
 ghost use Rattle.ssh_rewriting.specs.CanonicalFile.{known_written};
 
-use crate::kind::Kind;
-use crate::known_line::write_known_line;
-use ssh_lines::{KeyBuffer, KnownLineView, read_known_view};
+use crate::lines::write_known_line;
+use crate::rewrite::Kind;
+use ssh_entries::{KeyBuffer, KnownLineView, read_known_view};
 use std::alloc::AllocError;
 
-/// Files of known_hosts lines.
+/// The kind of known_hosts files.
 pub(crate) struct KnownFile;
 
 impl Kind for KnownFile {

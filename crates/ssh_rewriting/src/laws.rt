@@ -1,29 +1,25 @@
-//! Laws of the definitions, each proved on a function without a body.
+//! Laws of the definitions, and worked examples: the check proves what each function ensures. No call
+//! needs them.
 
 ghost use Rattle.std.specs.Prelude.{◌≡◌, ◌<◌, ◌≤◌, ℕ, List, length};
 ghost use Rattle.std.specs.List.{AllByRecursion};
 ghost use Rattle.ssh_text.specs.Text.{line_limit};
 ghost use Rattle.ssh_text.specs.Scan.{HasNoNewline};
-ghost use Rattle.ssh_names.specs.Names.{IsTwentyBytes, hidden};
-ghost use Rattle.ssh_lines.specs.AuthEntry.{AuthEntry};
-ghost use Rattle.ssh_lines.specs.declared.entry.AuthLine.TheVariants as auth;
-ghost use Rattle.ssh_lines.specs.AuthGrammar.{SpellsEntry, auth_line};
-ghost use Rattle.ssh_lines.specs.KnownEntry.{KnownEntry};
-ghost use Rattle.ssh_lines.specs.declared.known.KnownLine.TheVariants as known;
-ghost use Rattle.ssh_lines.specs.KnownGrammar.{SpellsKnown, known_line};
+ghost use Rattle.ssh_entries.specs.Names.{IsTwentyBytes, hidden};
+ghost use Rattle.ssh_entries.specs.AuthEntry.{AuthEntry};
+ghost use Rattle.ssh_entries.specs.AuthGrammar.{SpellsEntry, auth_line};
+ghost use Rattle.ssh_entries.specs.KnownEntry.{KnownEntry};
+ghost use Rattle.ssh_entries.specs.KnownGrammar.{SpellsKnown, known_line};
 ghost use Rattle.ssh_rewriting.specs.Canonical.{canonical_auth, canonical_known};
-ghost use Rattle.ssh_rewriting.specs.HashedFile.{
-  hashed_facts,
-  hashed_file,
-  hashed_length,
-  hashed_line,
-  names_hidden,
-};
+ghost use Rattle.ssh_rewriting.specs.HashedFile.{hashed_facts, hashed_file, hashed_length, hashed_line, names_hidden};
 ghost use Rattle.ssh_rewriting.specs.HashedNames.{AddsNoName, KeepsNames};
 ghost use Rattle.ssh_rewriting.specs.Facts.{known_facts};
+ghost use Rattle.ssh_rewriting.specs.Samples.{AuthFilesWritten, AuthSamplesWritten, HashedFilesWritten, KnownFilesWritten, KnownSamplesWritten};
+ghost use Rattle.ssh_entries.specs.declared.auth_line.AuthLine.TheVariants as auth;
+ghost use Rattle.ssh_entries.specs.declared.known_line.KnownLine.TheVariants as known;
 
 /// The canonical line of an authorized_keys entry spells that entry and is read as it, is no longer
-/// than a line that spells it, and is one line.
+/// than any line that spells it, and is one line.
 fn canonical_auth_rule()
     ensures spelled { (entry : AuthEntry) (line : List ℕ) →
         SpellsEntry entry line → SpellsEntry entry (canonical_auth entry) }
@@ -36,7 +32,7 @@ fn canonical_auth_rule()
 {}
 
 /// The canonical line of a known_hosts entry spells that entry and is read as it, is no longer than
-/// a line that spells it, and is one line.
+/// any line that spells it, and is one line.
 fn canonical_known_rule()
     ensures spelled { (entry : KnownEntry) (line : List ℕ) →
         SpellsKnown entry line → SpellsKnown entry (canonical_known entry) }
@@ -48,9 +44,9 @@ fn canonical_known_rule()
         SpellsKnown entry line → HasNoNewline line → HasNoNewline (canonical_known entry) }
 {}
 
-/// The line that hides a name of a known_hosts entry after a salt of 20 bytes, where a line may have
-/// as many bytes, spells the entry with that name hidden and is read as it; it has as many bytes
-/// whatever the salt and the name, and is one line.
+/// The line with a hashed name of a known_hosts entry spells the entry with that name hashed and is
+/// read as it, where the salt has 20 bytes and the line is within its limit. It is one line, and
+/// its length does not depend on the salt and the name.
 fn hashed_line_rule()
     ensures spelled { (entry : KnownEntry) (line salt name : List ℕ) → SpellsKnown entry line →
         IsTwentyBytes salt → hashed_length entry ≤ line_limit →
@@ -64,9 +60,9 @@ fn hashed_line_rule()
         HasNoNewline line → HasNoNewline (hashed_line entry salt name) }
 {}
 
-/// A file whose names are hidden says, line by line, what the file says with each hidden name in
-/// place of its entry; it names each host and port that the file names, and no other one but for a
-/// hash that two names share.
+/// A file with hashed names has, line by line, the entries of the old file, with one entry for each
+/// hashed name. It names each host and port that the old file names, and no other, unless two names
+/// have the same hash.
 fn hashed_file_rule()
     ensures facts { (file : List ℕ) (salts : List (List ℕ)) → AllByRecursion (λ c. c < 256) file →
         AllByRecursion IsTwentyBytes salts →
@@ -77,4 +73,17 @@ fn hashed_file_rule()
     ensures adds_no_name { (file : List ℕ) (salts : List (List ℕ)) →
         AllByRecursion (λ c. c < 256) file → AllByRecursion IsTwentyBytes salts →
         AddsNoName file salts (hashed_file file salts) }
+{}
+
+/// Worked entries, and the lines that they are written as.
+fn entries_as_written()
+    ensures auth { AuthSamplesWritten }
+    ensures known { KnownSamplesWritten }
+{}
+
+/// Worked files, rewritten and with their names hashed.
+fn files_as_written()
+    ensures auth { AuthFilesWritten }
+    ensures known { KnownFilesWritten }
+    ensures hashed { HashedFilesWritten }
 {}

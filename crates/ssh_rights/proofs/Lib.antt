@@ -1,3 +1,4 @@
+pub mod Imports
 pub mod RightsLemmas
 pub mod RightsLaw
 pub mod SpareLemmas

@@ -1,25 +1,8 @@
--- The rights of a login, and whether its security key was touched and verified the user: the functions, and the same in the
--- subject's words.
-use Rattle.std.proofs.Common.{◌≡◌, ◌↔◌, ◌⊎◌, ◌||◌, ℕ, Bool, true, false, not, List, Option, Some, None, refl, inl, inr}
-use Rattle.std.specs.Prelude.{bit_and}
-use Rattle.std.specs.Bool.{Decides}
-use Rattle.std.proofs.lemmas.Bool.{and_from, and_parts, or_cases}
-use Rattle.std.proofs.lemmas.Bool.Decides.{Decides-eqb}
-use Rattle.ssh_certs.specs.declared.certificate_option.CertificateOption.TheVariants.{ForceCommand, NoTouchRequired as NoTouchOption, VerifyRequired as VerifyOption}
-use Rattle.ssh_certs.specs.OptionFacts.{AreOnce, HasExtension}
-use Rattle.ssh_certs.specs.OptionTable.{is_critical}
-use Rattle.ssh_certs.proofs.OptionFactLemmas.{extension-of, has-text, insists, named-of, of-extension, text-had}
-use Rattle.ssh_keys.specs.Signature.{Signature}
-use Rattle.ssh_lines.specs.AuthEntry.{AuthEntry}
-use Rattle.ssh_options.specs.AuthOption.{AuthOption}
-use Rattle.ssh_options.specs.declared.option.Flag.TheVariants.{NoTouchRequired, VerifyRequired}
-use Rattle.ssh_options.specs.declared.option.ValueName.TheVariants.{Command}
-use Rattle.ssh_options.specs.Settings.{has_flag, setting}
-use Rattle.ssh_offers.specs.Offer.{Offer, OfCertificate, certified, plain}
-use Rattle.ssh_rights.specs.declared.right.Right.{Right}
-use Rattle.ssh_rights.specs.declared.right.Right.TheVariants.{Port, Agent, X11, Pty, UserRc}
-use Rattle.ssh_rights.specs.Rights.{AreRights, HasRight, OfferForces, command_of, forced_by_offer, has_right, is_on, permit_of, certificate_permits, rights_of}
-use Rattle.ssh_rights.specs.SecurityKeys.{HasSkFlag, IsPresent, OfferAsks, TouchSuffices, VerificationSuffices, has_sk_flag, is_present, is_touch_waived, is_verification_asked, touch_suffices, user_verified, verification_suffices, waives_touch, wants_verification}
+-- The rights of a login, and whether its security key was touched and verified the user: the functions agree with the
+-- relations.
+use Rattle.ssh_rights.proofs.Imports.{◌≡◌, ◌↔◌, ◌⊎◌, ◌||◌, ℕ, Bool, true, false, not, List, Option, Some, None, refl, inl, inr, bit_and, Decides, and_from, and_parts, or_cases, Decides-eqb, ForceCommand, AreOnce, HasExtension, is_critical, extension-of, has-text, insists, named-of, of-extension, text-had, Signature, AuthEntry, AuthOption, NoTouchRequired, VerifyRequired, Command, has_flag, setting, Offer, OfCertificate, certified, plain, Right, Port, Agent, X11, Pty, UserRc, AreRights, HasRight, OfferForces, command_of, forced_by_offer, has_right, is_on, permit_of, certificate_permits, HasSkFlag, IsPresent, OfferAsks, TouchSuffices, VerificationSuffices, has_sk_flag, is_present, is_touch_waived, is_verification_asked, touch_suffices, user_verified, verification_suffices, waives_touch, wants_verification}
+use Rattle.ssh_certs.specs.declared.options.CertificateOption.TheVariants.{NoTouchRequired as NoTouchOption, VerifyRequired as VerifyOption}
+use Rattle.ssh_rights.specs.Rights.{rights_of}
 use Rattle.ssh_rights.proofs.RightsLemmas.{is_then_on, on_is}
 
 -- ---- a right

@@ -1,15 +1,10 @@
--- A right is on as sshd(8) says.
-use Rattle.std.proofs.Common.{◌≡◌, ◌∙◌, ◌++◌, ◌⊎◌, Bool, true, List, [], ◌∷◌, Option, Some, None, ap, sym, refl, inl, inr}
-use Rattle.std.specs.Prelude.{unwrap_or}
-use Rattle.std.specs.List.{AllByRecursion}
-use Rattle.ssh_options.specs.AuthOption.{AuthOption}
-use Rattle.ssh_rights.specs.declared.right.Right.{Right}
-use Rattle.ssh_rights.specs.Rights.{IsOn, is_on, last_word, effect_on}
+-- A right is on as sshd(8) states.
+use Rattle.ssh_rights.proofs.Imports.{◌≡◌, ◌∙◌, ◌++◌, ◌⊎◌, Bool, true, List, [], ◌∷◌, Option, Some, None, ap, sym, refl, inl, inr, unwrap_or, AllByRecursion, AuthOption, Right, IsOn, is_on, last_word, effect_on}
 
 abbrev IsSilent : Right → List AuthOption → Type 0
 IsSilent x options = AllByRecursion (λ o. effect_on x o ≡ None) options
 
--- nothing was said, or this was the last that was said
+-- no option turned it on or off, or this was the last that did
 abbrev IsLast : Right → Bool → List AuthOption → Type 0
 IsLast x b options = (before : List AuthOption) × (o : AuthOption) × (after : List AuthOption)
     × (options ≡ before ++ o ∷ after) × (effect_on x o ≡ Some b) × IsSilent x after

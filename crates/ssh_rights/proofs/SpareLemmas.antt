@@ -1,5 +1,5 @@
 -- Where nothing is carried on, no option carries a text.
-use Rattle.std.proofs.Common.{◌≡◌, ◌++◌, List, [], ◌∷◌, refl}
+use Rattle.ssh_rights.proofs.Imports.{◌≡◌, ◌++◌, List, [], ◌∷◌, refl}
 
 none-in-front : {A : Type 0} (ys zs : List A) → ys ++ zs ≡ [] → ys ≡ []
 none-in-front [] zs h = refl

@@ -1,13 +1,13 @@
 -- Worked options of certificates: which command they force, and which rights they give. The names are those of
 -- PROTOCOL.certkeys.
 use Rattle.std.specs.Prelude.{◌≡◌, ℕ, Bool, true, false, List, [], ◌∷◌, ◌++◌, map, codes, Option, Some, None}
-use Rattle.ssh_certs.specs.declared.certificate_option.CertificateOption.TheVariants.{SourceAddress}
+use Rattle.ssh_certs.specs.declared.options.CertificateOption.TheVariants.{SourceAddress}
 use Rattle.ssh_certs.specs.Certificate.{CertOption}
 use Rattle.ssh_certs.specs.CertificateOptions.{forced_by_certificate, text_of_option}
 use Rattle.ssh_options.specs.AuthOption.{AuthOption, Switch}
 use Rattle.ssh_options.specs.declared.option.Flag.TheVariants as flag
 use Rattle.ssh_offers.specs.Offer.{Offer}
-use Rattle.ssh_rights.specs.declared.right.Right.TheVariants.{Agent, Port, Pty, UserRc, X11}
+use Rattle.ssh_rights.specs.declared.rights.Right.TheVariants.{Agent, Port, Pty, UserRc, X11}
 use Rattle.ssh_rights.specs.Rights.{command_of, has_right}
 use Rattle.ssh_rights.specs.Samples.{bare, certificate, certificate_with, option}
 
@@ -22,7 +22,7 @@ Forces critical command = forced_by_certificate (certificate_with critical []) �
 abbrev ls_forced : CertOption
 ls_forced = option (codes "force-command") (short 2 (codes "ls"))
 
--- The critical option `force-command` alone forces a command, by data of its form; the first of two counts.
+-- Only the critical option `force-command` forces a command, by data of its form; the first of two counts.
 abbrev pub CommandsForced : Type 0
 CommandsForced =
     Forces [] None
@@ -62,8 +62,8 @@ abbrev all_permits : List CertOption
 all_permits = permit (codes "permit-X11-forwarding") ∷ permit (codes "permit-agent-forwarding") ∷ permit (codes "permit-port-forwarding")
     ∷ permit (codes "permit-pty") ∷ permit (codes "permit-user-rc") ∷ []
 
--- A key has every right, and a certificate those of its extensions: by those very names, without data, and not by critical
--- options.
+-- A plain key has every right, and a certificate those of its extensions: by exactly these names, without data, and not
+-- by critical options.
 abbrev pub CertificateRights : Type 0
 CertificateRights =
     Leaves [] bare true true true true true
@@ -78,7 +78,7 @@ CertificateRights =
     × Leaves [] (certificate [] (option (codes "permit-pty") (0 ∷ []) ∷ option (codes "permit-user-rc") (short 0 []) ∷ [])) false false false false false
     × Leaves [] (certificate all_permits []) false false false false false
 
--- The line takes rights away, by the last of its options that speaks of one, and gives a certificate none.
+-- The line takes rights away, by the last of its options that names one, and gives a certificate none.
 abbrev pub LineRights : Type 0
 LineRights =
     Leaves (Switch flag.Restrict ∷ []) bare false false false false false

@@ -1,11 +1,11 @@
--- What a login may do (sshd(8), AUTHORIZED_KEYS FILE FORMAT; PROTOCOL.certkeys).
+-- What an admitted login may do (sshd(8), AUTHORIZED_KEYS FILE FORMAT; PROTOCOL.certkeys).
 use Rattle.std.specs.Prelude.{◌≡◌, ◌↔◌, ◌⊎◌, ℕ, Bool, true, false, ◌&&◌, ◌||◌, if◌then◌else◌, List, [], ◌∷◌, ◌++◌, Option, Some, None, unwrap_or}
 use Rattle.std.specs.List.{AllByRecursion}
-use Rattle.ssh_certs.specs.declared.certificate_option.CertificateOption.{CertificateOption}
-use Rattle.ssh_certs.specs.declared.certificate_option.CertificateOption.TheVariants.{ForceCommand, PermitPortForwarding, PermitAgentForwarding, PermitX11Forwarding, PermitPty, PermitUserRc}
+use Rattle.ssh_certs.specs.declared.options.CertificateOption.{CertificateOption}
+use Rattle.ssh_certs.specs.declared.options.CertificateOption.TheVariants.{ForceCommand, PermitPortForwarding, PermitAgentForwarding, PermitX11Forwarding, PermitPty, PermitUserRc}
 use Rattle.ssh_certs.specs.CertificateOptions.{forced_by_certificate, has_formed}
 use Rattle.ssh_certs.specs.OptionFacts.{HasExtension, HasText}
-use Rattle.ssh_lines.specs.AuthEntry.{AuthEntry}
+use Rattle.ssh_entries.specs.AuthEntry.{AuthEntry}
 use Rattle.ssh_options.specs.AuthOption.{AuthOption, Switch, Setting}
 use Rattle.ssh_options.specs.declared.option.Flag.{Flag}
 use Rattle.ssh_options.specs.declared.option.Flag.TheVariants as flag
@@ -17,8 +17,8 @@ use Rattle.ssh_rights.specs.declared.rights.Carried.{Carried}
 use Rattle.ssh_rights.specs.declared.rights.CarriedName.{CarriedName}
 use Rattle.ssh_rights.specs.declared.rights.CarriedName.TheVariants.{Environment, PermitListen, PermitOpen, Tunnel}
 use Rattle.ssh_rights.specs.declared.rights.Rights.{Rights}
-use Rattle.ssh_rights.specs.declared.right.Right.{Right}
-use Rattle.ssh_rights.specs.declared.right.Right.TheVariants.{Port, Agent, X11, Pty, UserRc}
+use Rattle.ssh_rights.specs.declared.rights.Right.{Right}
+use Rattle.ssh_rights.specs.declared.rights.Right.TheVariants.{Port, Agent, X11, Pty, UserRc}
 use Rattle.ssh_offers.specs.Offer.{Offer, OfCertificate, plain, certified}
 
 -- the flags of a line that turn a right on and off
@@ -36,7 +36,7 @@ turns_off X11 = flag.NoX11Forwarding
 turns_off Pty = flag.NoPty
 turns_off UserRc = flag.NoUserRc
 
--- the extension of a certificate that gives it
+-- the extension of a certificate that gives a right
 abbrev pub permit_of : Right → CertificateOption
 permit_of Port = PermitPortForwarding
 permit_of Agent = PermitAgentForwarding
@@ -44,7 +44,7 @@ permit_of X11 = PermitX11Forwarding
 permit_of Pty = PermitPty
 permit_of UserRc = PermitUserRc
 
--- whether an option turns a right on or off, if it does: `restrict` turns each off
+-- whether an option turns a right on or off, if it does either: `restrict` turns off every right
 abbrev pub effect_on : Right → AuthOption → Option Bool
 effect_on x (Switch f) =
     if same_flag f (turns_on x) then Some true
@@ -68,12 +68,12 @@ abbrev pub OfferForces : Offer → List ℕ → Type 0
 OfferForces (plain key) command = ⊥
 OfferForces (certified c) command = HasText ForceCommand c command
 
--- The line's command is run, and where it has none that of the certificate.
+-- The line's command is forced, and where it has none that of the certificate.
 abbrev pub IsForced : AuthEntry → Offer → List ℕ → Type 0
 IsForced e offer command =
     (setting value.Command e.options ≡ Some command) ⊎ ((setting value.Command e.options ≡ None) × OfferForces offer command)
 
--- the options whose texts are carried on
+-- the options whose texts are passed on to whoever starts the session
 abbrev pub carried_name : ValueName → Option CarriedName
 carried_name value.Command = None
 carried_name value.Environment = Some Environment
@@ -97,7 +97,7 @@ abbrev pub carried_texts : List AuthOption → List Carried
 carried_texts [] = []
 carried_texts (o ∷ options) = carried_of o ++ carried_texts options
 
--- what a login by this line may do
+-- what a login by this line may do, as a relation
 pub record AreRights (e : AuthEntry) (offer : Offer) (rights : Rights) : Type 0 where
   pub port : (rights.port ≡ true) ↔ HasRight Port e offer
   pub agent : (rights.agent ≡ true) ↔ HasRight Agent e offer
@@ -107,9 +107,9 @@ pub record AreRights (e : AuthEntry) (offer : Offer) (rights : Rights) : Type 0 
   pub command : (text : List ℕ) → (rights.command ≡ Some text) ↔ IsForced e offer text
   pub carried : rights.carried ≡ carried_texts e.options
 
--- ======== the same, as functions
+-- ======== as functions
 
--- what the last option that turns it on or off leaves, after what stood before
+-- a right after these options, by the last that turns it on or off, and by its value before them
 abbrev pub last_word : Right → Bool → List AuthOption → Bool
 last_word x said [] = said
 last_word x said (o ∷ options) = last_word x (unwrap_or (effect_on x o) said) options
@@ -117,7 +117,7 @@ last_word x said (o ∷ options) = last_word x (unwrap_or (effect_on x o) said) 
 abbrev pub is_on : Right → List AuthOption → Bool
 is_on x options = last_word x true options
 
--- a certificate has to give the right too
+-- a certificate must give the right too
 abbrev pub certificate_permits : Right → Offer → Bool
 certificate_permits x (plain key) = true
 certificate_permits x (certified c) = has_formed (permit_of x) c
@@ -130,7 +130,7 @@ abbrev pub forced_by_offer : Offer → Option (List ℕ)
 forced_by_offer (plain key) = None
 forced_by_offer (certified c) = forced_by_certificate c
 
--- the command of the line, else that of a certificate
+-- the command of the line, otherwise that of a certificate
 abbrev pub command_of : Option (List ℕ) → Offer → Option (List ℕ)
 command_of (Some command) offer = Some command
 command_of None offer = forced_by_offer offer

@@ -1,5 +1,5 @@
--- Worked logins by security keys: what the flags of a signature show, and what a line and a certificate ask for. The names
--- are those of PROTOCOL.certkeys, the flags those of PROTOCOL.u2f.
+-- Worked logins by security keys: what the flags of a signature show, and what a line and a certificate require. The
+-- names are those of PROTOCOL.certkeys, the flags those of PROTOCOL.u2f.
 use Rattle.std.specs.Prelude.{◌≡◌, ℕ, Bool, true, false, List, [], ◌∷◌, map, codes, replicate, Option, Some, None}
 use Rattle.ssh_keys.specs.PublicKey.{sk_ed25519}
 use Rattle.ssh_keys.specs.Signature.{Signature}
@@ -41,12 +41,12 @@ bare = plain (sk_ed25519 (replicate 32 0) (codes "ssh:"))
 abbrev signature_with : Option (ℕ × ℕ) → Signature
 signature_with sk = record { algorithm = codes "sk-ssh-ed25519@openssh.com"; bytes = 0xaa ∷ []; sk = sk }
 
--- signatures of five sorts: of no security key; with no flag; with 01, the user was present; with 04, the user was verified;
--- with both
+-- Five signatures: of another sort of key; without a flag; with 01, the user was present; with 04, the user was
+-- verified; with both.
 abbrev five_sorts : List (Option (ℕ × ℕ))
 five_sorts = None ∷ Some (0x00, 7) ∷ Some (0x01, 7) ∷ Some (0x04, 7) ∷ Some (0x05, 7) ∷ []
 
--- of these five, which are touched where they have to be, and which verify the user where it is asked for
+-- which of these five pass where a touch is required, and which where user verification may be required
 abbrev Touched : List AuthOption → Offer → (other flags00 flags01 flags04 flags05 : Bool) → Type 0
 Touched options offer other flags00 flags01 flags04 flags05 =
     map (λ sk. touch_suffices options offer (signature_with sk)) five_sorts ≡ other ∷ flags00 ∷ flags01 ∷ flags04 ∷ flags05 ∷ []
@@ -70,7 +70,7 @@ no_touch_extension = option (codes "no-touch-required") []
 abbrev verify_option : CertOption
 verify_option = option (codes "verify-required") []
 
--- A key has to be touched, but where the line says that it need not.
+-- A touch is required, unless the line waives it.
 abbrev pub KeysTouched : Type 0
 KeysTouched =
     Touched [] bare true false true false true
@@ -79,7 +79,7 @@ KeysTouched =
     × Touched (verify ∷ []) bare true false true false true
     × Touched (verify ∷ no_touch ∷ []) bare true true true true true
 
--- With a certificate both have to say it: by an extension of that very name, and without data.
+-- With a certificate both must waive it: the certificate by an extension of exactly that name, and without data.
 abbrev pub CertificatesTouched : Type 0
 CertificatesTouched =
     Touched [] (certificate [] []) true false true false true
@@ -92,7 +92,7 @@ CertificatesTouched =
     × Touched (no_touch ∷ []) (certificate [] (option (codes "verify-required") [] ∷ [])) true false true false true
     × Touched (no_touch ∷ []) (certificate (no_touch_extension ∷ []) []) true false true false true
 
--- Where the line asks for it, the signature has to verify the user; a touch does not, nor does another sort of key.
+-- Where the line requires it, the signature must verify the user; a touch does not, nor does another sort of key.
 abbrev pub KeysVerified : Type 0
 KeysVerified =
     Verified [] bare true true true true true
@@ -100,8 +100,8 @@ KeysVerified =
     × Verified (verify ∷ []) bare false false false true true
     × Verified (no_touch ∷ verify ∷ []) bare false false false true true
 
--- With a certificate it is enough that one of both asks for it, the certificate by a critical option of that very name,
--- whatever its data.
+-- With a certificate it is enough that one of both requires it: the certificate by a critical option of exactly that
+-- name, whatever its data.
 abbrev pub CertificatesVerified : Type 0
 CertificatesVerified =
     Verified [] (certificate [] []) true true true true true

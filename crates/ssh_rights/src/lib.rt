@@ -1,6 +1,7 @@
-//! What a login that a line admits may do, and what its security key has to show.
+//! The rights of a login that a line admits, and whether its security key was touched and verified
+//! the user.
 //!
-//! A caller that asks whether a line leaves a terminal and a shell to an offer (a test runs these
+//! A caller that asks whether an offer gets a terminal and a shell by a line (a test runs these
 //! lines):
 //!
 //! ```
@@ -13,10 +14,6 @@
 #![tactic(auto)]
 
 mod laws;
-mod right;
 mod rights;
-mod samples;
-mod security_key;
 
-pub use rights::{Carried, CarriedName, Rights, rights_of};
-pub use security_key::{touch_suffices, verification_suffices};
+pub use rights::{Carried, CarriedName, Rights, rights_of, touch_suffices, verification_suffices};

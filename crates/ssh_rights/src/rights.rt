@@ -1,28 +1,116 @@
-//! What a login may do.
+//! What an admitted login may do: rights, forced command and other options of its line, and what
+//! its security key must have done.
 
 ghost use Rattle.std.specs.Prelude.{◌≡◌, ◌++◌, [], IfOk, IsOk, None, OnOk, option_copied};
 ghost use Rattle.ssh_options.specs.OptionsInLine.{option_in_line};
+ghost use Rattle.ssh_offers.specs.OfferView.{offer_of};
+ghost use Rattle.ssh_rights.specs.Rights.{effect_on, has_right, is_on, permit_of, certificate_permits, turns_off, turns_on, carried_name, carried_of, carried_texts, command_of, forced_by_offer, rights_of};
 ghost use Rattle.ssh_options.specs.Settings.{setting};
 ghost use Rattle.ssh_options.specs.declared.option.ValueName.TheVariants.{Command};
-ghost use Rattle.ssh_offers.specs.OfferView.{offer_of};
-ghost use Rattle.ssh_rights.specs.Rights.{
-  carried_name,
-  carried_of,
-  carried_texts,
-  command_of,
-  forced_by_offer,
-  rights_of,
-};
+ghost use Rattle.ssh_offers.specs.ClaimViews.{claim_of};
+ghost use Rattle.ssh_rights.specs.SecurityKeys.{has_sk_flag, is_present, is_touch_waived, touch_suffices, is_verification_asked, verification_suffices};
 
-use crate::right::Right;
 use ssh_certs::CertificateOption;
-use ssh_lines::AuthEntryView;
-use ssh_offers::{Items, Offer};
-use ssh_options::{OptionView, OptionsView, ValueName, ValueView};
+use ssh_entries::AuthEntryView;
+use ssh_offers::{Items, LoginClaimView, Offer};
+use ssh_options::{Flag, OptionView, OptionsView, ValueName, ValueView};
 use ssh_text::Bytes;
 use std::alloc::{AllocError, Global};
 
-/// The options whose texts are carried on to whoever starts the session (sshd(8)).
+/// A right that a line can take away, and that a certificate must give by an extension.
+#[derive(Clone, Copy, Debug, PartialEq, Eq)]
+pub(crate) enum Right {
+    Port,
+    Agent,
+    X11,
+    Pty,
+    UserRc,
+}
+
+impl Right {
+    /// The flag of a line that turns the right on (sshd(8)).
+    fn turns_on(self) -> Flag
+        ensures { result ≡ turns_on self }
+    {
+        match self {
+            Right::Port => Flag::PortForwarding,
+            Right::Agent => Flag::AgentForwarding,
+            Right::X11 => Flag::X11Forwarding,
+            Right::Pty => Flag::Pty,
+            Right::UserRc => Flag::UserRc,
+        }
+    }
+
+    /// The flag of a line that turns the right off (sshd(8)). `restrict` turns off every right.
+    fn turns_off(self) -> Flag
+        ensures { result ≡ turns_off self }
+    {
+        match self {
+            Right::Port => Flag::NoPortForwarding,
+            Right::Agent => Flag::NoAgentForwarding,
+            Right::X11 => Flag::NoX11Forwarding,
+            Right::Pty => Flag::NoPty,
+            Right::UserRc => Flag::NoUserRc,
+        }
+    }
+
+    /// The extension of a certificate that gives the right (PROTOCOL.certkeys).
+    fn permit(self) -> CertificateOption
+        ensures { result ≡ permit_of self }
+    {
+        match self {
+            Right::Port => CertificateOption::PermitPortForwarding,
+            Right::Agent => CertificateOption::PermitAgentForwarding,
+            Right::X11 => CertificateOption::PermitX11Forwarding,
+            Right::Pty => CertificateOption::PermitPty,
+            Right::UserRc => CertificateOption::PermitUserRc,
+        }
+    }
+
+    /// Whether an option turns the right on or off; `None` for other options.
+    fn effect(self, option: &OptionView<'_>) -> Option<bool>
+        ensures { result ≡ effect_on self (option_in_line option.now) }
+    {
+        match option {
+            OptionView::Switch(flag) if *flag == self.turns_on() => Some(true),
+            OptionView::Switch(flag) if *flag == self.turns_off() || *flag == Flag::Restrict => {
+                Some(false)
+            }
+            _ => None,
+        }
+    }
+
+    /// Whether the options leave the right on. It is on at first, and the last option that turns it
+    /// on or off wins.
+    fn is_on(self, options: OptionsView<'_>) -> bool
+        ensures { result ≡ is_on self options.entry }
+    {
+        let mut on = true;
+        for option in options {
+            on = self.effect(&option).unwrap_or(on);
+        }
+        on
+    }
+
+    /// Whether the offer gives the right: a plain key always, a certificate by its extension.
+    fn is_permitted(self, offer: &Offer<'_>) -> bool
+        ensures { result ≡ certificate_permits self (offer_of offer.now) }
+    {
+        match offer {
+            Offer::Plain(_) => true,
+            Offer::Certified(certificate) => certificate.has_formed(self.permit()),
+        }
+    }
+
+    /// Whether a login by these options and this offer has the right.
+    pub(crate) fn holds(self, options: OptionsView<'_>, offer: &Offer<'_>) -> bool
+        ensures { result ≡ has_right self options.entry (offer_of offer.now) }
+    {
+        self.is_on(options) && self.is_permitted(offer)
+    }
+}
+
+/// The options whose texts are passed on to whoever starts the session (sshd(8)).
 #[derive(Clone, Copy, Debug, PartialEq, Eq)]
 pub enum CarriedName {
     Environment,
@@ -31,7 +119,7 @@ pub enum CarriedName {
     Tunnel,
 }
 
-/// The text of an option that is carried on.
+/// An option whose text is passed on, without its inner syntax being checked.
 #[derive(Debug, Drop, PartialEq)]
 pub struct Carried {
     pub name: CarriedName,
@@ -47,17 +135,17 @@ pub struct Rights {
     pub agent: bool,
     /// X11 forwarding.
     pub x11: bool,
-    /// A terminal.
+    /// Allocation of a terminal.
     pub pty: bool,
-    /// The user's own `~/.ssh/rc`.
+    /// Execution of the user's own `~/.ssh/rc`.
     pub user_rc: bool,
-    /// The command that is forced by the line or the certificate.
+    /// The command that the line forces, otherwise the one that the certificate forces.
     pub command: Option<Bytes>,
-    /// The texts that are carried on, in the order of the line.
+    /// The options whose texts are passed on, in the order of the line.
     pub carried: Items<Carried>,
 }
 
-/// Whether the texts of an option are carried on, and under which name.
+/// The name under which the text of an option is passed on; `None` if it is not.
 fn carried_name(name: ValueName) -> Option<CarriedName>
     ensures { result ≡ carried_name name }
 {
@@ -71,7 +159,7 @@ fn carried_name(name: ValueName) -> Option<CarriedName>
     }
 }
 
-/// Adds the text of an option, where it is carried on.
+/// Adds an option, if its text is passed on.
 fn carry(
     alloc: Global,
     carried: &mut Vec<Carried>,
@@ -90,7 +178,7 @@ fn carry(
     Ok(())
 }
 
-/// The texts that are carried on, in the order of the line.
+/// The options whose texts are passed on, in the order of the line.
 #[tactic(auto, using(crate::proofs::SpareLemmas::none_in_the_middle))]
 fn carried_texts(alloc: Global, options: OptionsView<'_>) -> Result<Items<Carried>, AllocError>
     ensures value { IfOk result (λ texts. texts ≡ carried_texts options.entry) }
@@ -103,14 +191,14 @@ fn carried_texts(alloc: Global, options: OptionsView<'_>) -> Result<Items<Carrie
     Ok(Items::from_vec(carried))
 }
 
-/// The command that the line forces, in the line.
+/// The command that the line forces, as a view of the line.
 fn line_command<'a>(entry: &AuthEntryView<'a>) -> Option<ValueView<'a>>
     ensures { result ≡ setting Command entry.now.options }
 {
     entry.settings(ValueName::Command).next()
 }
 
-/// The command that the certificate forces, copied.
+/// A copy of the command that the certificate forces.
 fn certificate_command(alloc: Global, offer: &Offer<'_>) -> Result<Option<Bytes>, AllocError>
     ensures value { IfOk result (λ command. command ≡ forced_by_offer (offer_of offer.now)) }
     ensures spare { forced_by_offer (offer_of offer.now) ≡ None → IsOk result }
@@ -138,7 +226,7 @@ fn copied(alloc: Global, text: Option<&[u8]>) -> Result<Option<Bytes>, AllocErro
     }
 }
 
-/// The command that is forced, copied: the line's, else the certificate's.
+/// A copy of the forced command: the line's, otherwise the certificate's.
 fn command(
     alloc: Global,
     line: Option<ValueView<'_>>,
@@ -160,8 +248,8 @@ fn command(
 }
 
 /// What a login by this line and this offer may do: the rights that the line leaves and a
-/// certificate gives, the forced command, and the texts that are carried on. `Err` is out of
-/// memory.
+/// certificate gives, the forced command, and the options whose texts are passed on. Fails only
+/// when memory cannot be allocated.
 #[tactic(auto, unfolding(crate::specs::Rights::rights_of))]
 pub fn rights_of(
     alloc: Global,
@@ -169,8 +257,7 @@ pub fn rights_of(
     offer: &Offer<'_>,
 ) -> Result<Rights, AllocError>
     ensures value { IfOk result (λ rights. rights ≡ rights_of entry.now (offer_of offer.now)) }
-    // Only texts take memory: where no command is forced and nothing is carried on, the rights are
-    // told whatever memory does.
+    // Only texts need memory: without a forced command and such options this never fails.
     ensures spare { carried_texts entry.now.options ≡ []
         → command_of (setting Command entry.now.options) (offer_of offer.now) ≡ None
         → IsOk result }
@@ -186,4 +273,68 @@ pub fn rights_of(
         command,
         carried,
     })
+}
+
+/// The flag of a security key's signature for user presence (PROTOCOL.u2f).
+const USER_PRESENT: u8 = 1;
+
+/// The flag of a security key's signature for user verification (PROTOCOL.u2f).
+const USER_VERIFIED: u8 = 4;
+
+/// Whether this is a security key's signature with the flag.
+fn has_sk_flag(flag: u8, sk: Option<(u8, u32)>) -> bool
+    ensures { result ≡ has_sk_flag flag sk }
+{
+    match sk {
+        None => false,
+        Some((flags, _)) => flags & flag == flag,
+    }
+}
+
+fn is_present(sk: Option<(u8, u32)>) -> bool
+    ensures { result ≡ is_present sk }
+{
+    sk.is_none() || has_sk_flag(USER_PRESENT, sk)
+}
+
+/// A certificate waives the touch by an extension without data; one with data means nothing (this
+/// project's rule).
+fn is_touch_waived(offer: &Offer<'_>) -> bool
+    ensures { result ≡ is_touch_waived (offer_of offer.now) }
+{
+    match offer {
+        Offer::Plain(_) => true,
+        Offer::Certified(certificate) => certificate.has_formed(CertificateOption::NoTouchRequired),
+    }
+}
+
+/// A certificate requires verification by the name of the critical option, whatever its data.
+fn is_verification_asked(offer: &Offer<'_>) -> bool
+    ensures { result ≡ is_verification_asked (offer_of offer.now) }
+{
+    match offer {
+        Offer::Plain(_) => false,
+        Offer::Certified(certificate) => certificate.has_named(CertificateOption::VerifyRequired),
+    }
+}
+
+/// Whether a security key was touched, where a touch is required. It is required unless the line
+/// waives it, and the certificate, if one is offered, waives it too. A signature of any other key
+/// passes.
+pub fn touch_suffices(entry: &AuthEntryView<'_>, claim: &LoginClaimView<'_>) -> bool
+    ensures { result ≡ touch_suffices entry.now.options (claim_of claim.now).offer
+        (claim_of claim.now).signature }
+{
+    is_present(claim.signature.sk)
+        || (entry.has_flag(Flag::NoTouchRequired) && is_touch_waived(&claim.offer))
+}
+
+/// Whether a security key verified the user, where the line or the certificate requires it. A
+/// signature of any other key verifies nobody (this project's rule).
+pub fn verification_suffices(entry: &AuthEntryView<'_>, claim: &LoginClaimView<'_>) -> bool
+    ensures { result ≡ verification_suffices entry.now.options (claim_of claim.now).offer
+        (claim_of claim.now).signature }
+{
+    let wanted = entry.has_flag(Flag::VerifyRequired) || is_verification_asked(&claim.offer);
+    !wanted || has_sk_flag(USER_VERIFIED, claim.signature.sk)
 }

@@ -1,25 +1,8 @@
 -- An entry admits a login exactly where no row of the table holds.
-use Rattle.std.proofs.Common.{◌≡◌, ◌∙◌, ℕ, List, Option, Some, None, sym, refl}
-use Rattle.std.specs.Prelude.{ℤ, pos, ◌≤ℤ◌, false}
-use Rattle.std.specs.List.{AllByRecursion}
-use Rattle.std.proofs.lemmas.Slice.Eq.{bytes_eq-Decides}
-use Rattle.jiff.specs.Types.{TimeZone}
-use Rattle.ssh_keys.specs.PublicKey.{key_blob}
-use Rattle.ssh_certs.specs.Certificate.{Certificate}
-use Rattle.ssh_lines.specs.AuthEntry.{AuthEntry}
-use Rattle.ssh_options.specs.declared.option.ValueName.TheVariants.{ExpiryTime, From, Principals}
-use Rattle.ssh_expiry.specs.Expiry.{IsMoment}
-use Rattle.ssh_expiry.specs.Moment.{moment_of}
-use Rattle.ssh_expiry.proofs.MomentLemmas.{moment-is, moment-only}
-use Rattle.ssh_options.specs.Settings.{setting, settings}
-use Rattle.ssh_patterns.specs.declared.permit.Permit.TheVariants.{Yes}
+use Rattle.ssh_rules.proofs.Imports.{◌≡◌, ◌∙◌, ℕ, List, Option, Some, None, sym, refl, ℤ, pos, ◌≤ℤ◌, AllByRecursion, bytes_eq-Decides, TimeZone, key_blob, Certificate, AuthEntry, ExpiryTime, From, Principals, IsMoment, moment_of, moment-is, moment-only, setting, settings, Yes, Login, Offer, OfCertificate, certified, is_certified, plain, subject, LoginClaim, user_certificate, first_mismatch, or_later, size_row, AdmitsLogin, CriticalMet, IsUnexpired, IsUserInForce, PermitsClient, certificate_mismatch, critical_rows, is_authority, is_expired, is_past, line_rows, offer_mismatch, source_by, user_force_rows}
+use Rattle.std.specs.Prelude.{false}
 use Rattle.ssh_rules.specs.declared.reason.Reason.TheVariants as reason
-use Rattle.ssh_offers.specs.Query.{Login}
-use Rattle.ssh_offers.specs.Offer.{Offer, OfCertificate, certified, is_certified, plain, subject}
-use Rattle.ssh_offers.specs.LoginClaim.{LoginClaim}
-use Rattle.ssh_rules.specs.CertificateForce.{user_certificate}
-use Rattle.ssh_rules.specs.Obstacles.{first_obstacle, or_later, size_row}
-use Rattle.ssh_rules.specs.Admission.{AdmitsLogin, CriticalMet, IsUnexpired, IsUserInForce, PermitsClient, certificate_obstacle, critical_rows, is_authority, is_expired, is_past, line_rows, login_obstacle, offer_obstacle, source_by, user_force_rows}
+use Rattle.ssh_rules.specs.Admission.{login_mismatch}
 use Rattle.ssh_rules.proofs.Tests.{none_of, of_none, both_none, none_both, key_held, held_key, same_role, role_same, off, when_off, permitted, yes_row, not_off, off_not, none-fails, le_z-decides}
 use Rattle.ssh_rules.proofs.CriticalLemmas.{met, met-none}
 use Rattle.ssh_rules.proofs.ForceLemmas.{in_force, force_none}
@@ -61,31 +44,31 @@ of-source (Some list) q h = permits-client q list (h list refl)
 
 -- ---- a certificate
 
-certificate-none : (e : AuthEntry) (claim : LoginClaim) (c : Certificate) → certificate_obstacle e claim c ≡ None
+certificate-none : (e : AuthEntry) (claim : LoginClaim) (c : Certificate) → certificate_mismatch e claim c ≡ None
     → IsUserInForce e claim.query c × CriticalMet e claim.address c
 certificate-none e claim c h =
-    let both = both_none (first_obstacle (user_force_rows e claim.query c)) (first_obstacle (critical_rows e claim.address c)) h in
+    let both = both_none (first_mismatch (user_force_rows e claim.query c)) (first_mismatch (critical_rows e claim.address c)) h in
     (in_force user_certificate claim.query.now claim.query.empty_principals (setting Principals e.options) claim.query.user c (none_of (user_force_rows e claim.query c) both.0), met e claim.address c (none_of (critical_rows e claim.address c) both.1))
 
-offer-none : (e : AuthEntry) (claim : LoginClaim) (o : Offer) → offer_obstacle e claim o ≡ None
+offer-none : (e : AuthEntry) (claim : LoginClaim) (o : Offer) → offer_mismatch e claim o ≡ None
     → OfCertificate (IsUserInForce e claim.query) o × OfCertificate (CriticalMet e claim.address) o
 offer-none e claim (plain key) h = (tt, tt)
 offer-none e claim (certified c) h = certificate-none e claim c h
 
 none-offer : (e : AuthEntry) (claim : LoginClaim) (o : Offer) → OfCertificate (IsUserInForce e claim.query) o → OfCertificate (CriticalMet e claim.address) o
-    → offer_obstacle e claim o ≡ None
+    → offer_mismatch e claim o ≡ None
 none-offer e claim (plain key) f m = refl
 none-offer e claim (certified c) f m =
-    none_both (first_obstacle (user_force_rows e claim.query c)) (first_obstacle (critical_rows e claim.address c)) (of_none (user_force_rows e claim.query c) (force_none user_certificate claim.query.now claim.query.empty_principals (setting Principals e.options) claim.query.user c f)) (of_none (critical_rows e claim.address c) (met-none e claim.address c m))
+    none_both (first_mismatch (user_force_rows e claim.query c)) (first_mismatch (critical_rows e claim.address c)) (of_none (user_force_rows e claim.query c) (force_none user_certificate claim.query.now claim.query.empty_principals (setting Principals e.options) claim.query.user c f)) (of_none (critical_rows e claim.address c) (met-none e claim.address c m))
 
 -- ---- a login
 
-pub admits_where_none : (e : AuthEntry) (claim : LoginClaim) → login_obstacle e claim ≡ None → AdmitsLogin e claim
-unfolding login_obstacle
+pub admits_where_none : (e : AuthEntry) (claim : LoginClaim) → login_mismatch e claim ≡ None → AdmitsLogin e claim
+unfolding login_mismatch
 admits_where_none e claim h =
-    let both = both_none (first_obstacle (line_rows e claim)) (or_later (offer_obstacle e claim claim.offer) (size_row claim.query.rsa_minimum claim.offer)) h in
+    let both = both_none (first_mismatch (line_rows e claim)) (or_later (offer_mismatch e claim claim.offer) (size_row claim.query.rsa_minimum claim.offer)) h in
     let n = none_of (line_rows e claim) both.0 in
-    let later = both_none (offer_obstacle e claim claim.offer) (size_row claim.query.rsa_minimum claim.offer) both.1 in
+    let later = both_none (offer_mismatch e claim claim.offer) (size_row claim.query.rsa_minimum claim.offer) both.1 in
     let offered = offer-none e claim claim.offer later.0 in
     record {
       key = (bytes_eq-Decides (key_blob e.key) (key_blob (subject claim.offer))).0 (key_held _ n.0);
@@ -97,10 +80,10 @@ admits_where_none e claim h =
       sizes = all_long claim.query.rsa_minimum claim.offer (off _ reason.RsaTooSmall later.1);
     }
 
-pub none_where_admits : (e : AuthEntry) (claim : LoginClaim) → AdmitsLogin e claim → login_obstacle e claim ≡ None
-unfolding login_obstacle
+pub none_where_admits : (e : AuthEntry) (claim : LoginClaim) → AdmitsLogin e claim → login_mismatch e claim ≡ None
+unfolding login_mismatch
 none_where_admits e claim a =
-    none_both (first_obstacle (line_rows e claim)) (or_later (offer_obstacle e claim claim.offer) (size_row claim.query.rsa_minimum claim.offer))
+    none_both (first_mismatch (line_rows e claim)) (or_later (offer_mismatch e claim claim.offer) (size_row claim.query.rsa_minimum claim.offer))
     (of_none (line_rows e claim) (
       held_key _ ((bytes_eq-Decides (key_blob e.key) (key_blob (subject claim.offer))).1 a.key),
       (
@@ -114,4 +97,4 @@ none_where_admits e claim a =
         ),
       ),
     ))
-    (none_both (offer_obstacle e claim claim.offer) (size_row claim.query.rsa_minimum claim.offer) (none-offer e claim claim.offer a.in_force a.critical) (when_off _ reason.RsaTooSmall (none_short claim.query.rsa_minimum claim.offer a.sizes)))
+    (none_both (offer_mismatch e claim claim.offer) (size_row claim.query.rsa_minimum claim.offer) (none-offer e claim claim.offer a.in_force a.critical) (when_off _ reason.RsaTooSmall (none_short claim.query.rsa_minimum claim.offer a.sizes)))

@@ -1,25 +1,7 @@
 -- A certificate's critical options are met exactly where none of their rows holds.
-use Rattle.std.proofs.Common.{◌≡◌, ◌∙◌, ℕ, Bool, true, false, List, [], ◌∷◌, Option, Some, None, ap, sym, refl}
-use Rattle.std.specs.Prelude.{◌≢◌, is_some}
-use Rattle.std.specs.List.{AllByRecursion}
-use Rattle.std.specs.Str.{bytes_eq}
-use Rattle.std.proofs.lemmas.Slice.Eq.{bytes_eq-Decides}
-use Rattle.ssh_certs.specs.declared.certificate_option.CertificateOption.{CertificateOption}
-use Rattle.ssh_certs.specs.declared.certificate_option.CertificateOption.TheVariants.{ForceCommand, SourceAddress}
-use Rattle.ssh_certs.specs.Certificate.{Certificate, CertOption}
-use Rattle.ssh_certs.specs.CertificateOptions.{forced_by_certificate, has_option, text_of_option}
-use Rattle.ssh_certs.specs.OptionFacts.{AreOnce, IsKnownOption}
+use Rattle.ssh_rules.proofs.Imports.{◌≡◌, ◌∙◌, ℕ, Bool, true, false, List, [], ◌∷◌, Option, Some, None, ap, sym, refl, ◌≢◌, is_some, AllByRecursion, bytes_eq, bytes_eq-Decides, CertificateOption, ForceCommand, SourceAddress, Certificate, CertOption, forced_by_certificate, has_option, text_of_option, AreOnce, IsKnownOption, is-known, known-is, of-text, text-of, AuthEntry, Command, setting, Address, Yes, CriticalMet, PermitsAddress, commands_differ, critical_rows, first_unknown, fits_known, has_its_form, has_two, is_known, has_repeats, certificate_source_by, unknown_row}
 use Rattle.ssh_certs.specs.OptionTable.{critical_named}
-use Rattle.ssh_certs.proofs.OptionFactLemmas.{is-known, known-is, of-text, text-of}
-use Rattle.ssh_lines.specs.AuthEntry.{AuthEntry}
-use Rattle.ssh_options.specs.declared.option.ValueName.TheVariants.{Command}
-use Rattle.ssh_options.specs.Settings.{setting}
-use Rattle.ssh_patterns.specs.declared.address.Address.{Address}
-use Rattle.ssh_patterns.specs.declared.permit.Permit.TheVariants.{Yes}
 use Rattle.ssh_rules.specs.declared.reason.Reason.TheVariants as reason
-use Rattle.ssh_rules.specs.Admission.{CriticalMet, PermitsAddress, commands_differ, critical_rows}
-use Rattle.ssh_rules.specs.CertificateRules.{first_unknown, fits_known, has_its_form, has_two, is_known, has_repeats, certificate_source_by}
-use Rattle.ssh_rules.specs.Obstacles.{unknown_row}
 use Rattle.ssh_rules.proofs.SourceLemmas.{address-permitted, permits-address}
 use Rattle.ssh_rules.proofs.Tests.{NoneHolds, each-decides, none-fails, not_off, off, off_not, permitted, when_off, yes_row}
 

@@ -1,9 +1,6 @@
 -- A certificate is in force exactly where no row of its part of the table holds.
-use Rattle.std.proofs.Common.{ℕ, List, Option}
-use Rattle.ssh_certs.specs.Certificate.{Certificate}
-use Rattle.ssh_offers.specs.declared.query.EmptyPrincipals.{EmptyPrincipals}
+use Rattle.ssh_rules.proofs.Imports.{ℕ, List, Option, Certificate, EmptyPrincipals, InForce, force_rows}
 use Rattle.ssh_rules.specs.declared.reason.Reason.TheVariants as reason
-use Rattle.ssh_rules.specs.CertificateForce.{InForce, force_rows}
 use Rattle.ssh_rules.proofs.Tests.{NoneHolds, off, when_off, not_off, off_not, same_number, number_off, in_time, time_in}
 use Rattle.ssh_rules.proofs.Principals.{served, served_named, serving}
 

@@ -1,27 +1,8 @@
 -- A line that has a key holds the piece of its base64, and so does an entry of an authorized_keys file.
-use Rattle.std.proofs.Common.{◌≡◌, ◌∙◌, ◌-◌, ◌*◌, ◌/◌, ◌%◌, ◌+◌, ◌≤◌, ℕ, nat_lt, Bool, true, false, List, ◌++◌, length, take, drop, Option, Some, None, refl, sym, ap, subst, arith, append_assoc}
-use Rattle.std.specs.Prelude.{◌↔◌, IsTrue, is_some}
-use Rattle.std.proofs.lemmas.Bool.{false≢true, ltb-false}
-use Rattle.std.proofs.lemmas.List.{get_or_append_left, get_or-append-add, length-append, length-drop, length-take-le, take-append-drop}
-use Rattle.base64.specs.Engines.{standard}
-use Rattle.base64.proofs.EngineFacts.{encode_of-append}
-use Rattle.memchr.specs.Find.{FindsNeedle}
-use Rattle.ssh_keys.specs.Names.{key_name_of}
-use Rattle.ssh_keys.specs.PublicKey.{PublicKey, key_blob, kind_of}
-use Rattle.ssh_lines.specs.AuthEntry.{AuthEntry}
-use Rattle.ssh_lines.specs.AuthGrammar.{SpellsEntry, auth_line}
-use Rattle.ssh_lines.specs.declared.entry.AuthLine.{AuthLine}
-use Rattle.ssh_lines.specs.declared.entry.AuthLine.TheVariants as auth
-use Rattle.ssh_lines.specs.KeyPart.{SpellsKey}
-use Rattle.ssh_lines.proofs.ReadAuth.{auth_line-spells}
-use Rattle.ssh_names.proofs.ByteLemmas.{AreBytes}
-use Rattle.ssh_names.specs.Names.{base64}
-use Rattle.ssh_offers.specs.LoginClaim.{LoginClaim}
-use Rattle.ssh_offers.specs.Offer.{subject}
-use Rattle.ssh_rules.specs.Admission.{login_obstacle}
-use Rattle.ssh_rules.specs.declared.reason.Obstacle.{Obstacle}
-use Rattle.ssh_rules.specs.KeyPiece.{AdmitsNothing, Holds, HoldsPiece, piece_bytes, piece_place}
-use Rattle.ssh_rules.specs.Verdict.{login_verdict, verdict_by}
+use Rattle.ssh_rules.proofs.Imports.{◌≡◌, ◌∙◌, ◌-◌, ◌*◌, ◌/◌, ◌%◌, ◌+◌, ◌≤◌, ℕ, nat_lt, Bool, true, false, List, ◌++◌, length, take, drop, Option, Some, None, refl, sym, ap, subst, arith, append_assoc, ◌↔◌, IsTrue, is_some, false≢true, ltb-false, get_or_append_left, get_or-append-add, length-append, length-drop, length-take-le, take-append-drop, standard, encode_of-append, FindsNeedle, key_name_of, PublicKey, key_blob, kind_of, AuthEntry, SpellsEntry, auth_line, AuthLine, SpellsKey, auth_line-spells, AreBytes, base64, LoginClaim, subject, Mismatch, AdmitsNothing, Holds, HoldsPiece, piece_place, login_verdict, verdict_by}
+use Rattle.ssh_entries.specs.declared.auth_line.AuthLine.TheVariants as auth
+use Rattle.ssh_rules.specs.Admission.{login_mismatch}
+use Rattle.ssh_rules.specs.KeyNeedle.{piece_bytes}
 use Rattle.ssh_rules.proofs.AdmissionLemmas.{admits_where_none}
 
 -- ---- texts in texts
@@ -100,9 +81,9 @@ entry-holds entry line (_, (front, options, key, _, _, spelled, whole)) =
 -- ---- verdicts
 
 -- what something stands against is not admitted
-pub none-admitted : {E : Type 0} (o : Option Obstacle) (e : E) → (o ≡ None → ⊥) → AdmitsNothing (verdict_by o e)
+pub none-admitted : {E : Type 0} (o : Option Mismatch) (e : E) → (o ≡ None → ⊥) → AdmitsNothing (verdict_by o e)
 none-admitted None e h = h refl
-none-admitted (Some obstacle) e h = tt
+none-admitted (Some mismatch) e h = tt
 
 login-by : (claim : LoginClaim) (line : List ℕ) (said : AuthLine) → auth_line line ≡ said → AreBytes line
     → (HoldsPiece line (key_blob (subject claim.offer)) → ⊥) → AdmitsNothing (login_verdict claim said)
@@ -110,10 +91,10 @@ login-by claim line auth.Blank is bytes lacks = tt
 login-by claim line auth.Comment is bytes lacks = tt
 login-by claim line (auth.Unreadable why) is bytes lacks = tt
 login-by claim line (auth.Entry e) is bytes lacks =
-    none-admitted (login_obstacle e claim) e (λ none.
+    none-admitted (login_mismatch e claim) e (λ none.
     lacks (subst (HoldsPiece line) (admits_where_none e claim none).key (entry-holds e line (auth_line-spells line e bytes is))))
 
--- a line without the piece of the key that is sought does not admit the login
+-- a line without the piece of the key that is looked for does not admit the login
 pub no_login : (claim : LoginClaim) (line : List ℕ) → AreBytes line
     → (HoldsPiece line (key_blob (subject claim.offer)) → ⊥) → AdmitsNothing (login_verdict claim (auth_line line))
 no_login claim line bytes lacks = login-by claim line (auth_line line) refl bytes lacks

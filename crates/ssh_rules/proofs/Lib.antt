@@ -1,3 +1,4 @@
+pub mod Imports
 pub mod Tests
 pub mod Principals
 pub mod ForceLemmas

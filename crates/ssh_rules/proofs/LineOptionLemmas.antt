@@ -1,14 +1,6 @@
 -- What is noted of options one by one is what is noted of all.
-use Rattle.std.proofs.Common.{◌≡◌, ◌||◌, Bool, true, false, List, [], ◌∷◌, Option, Some, None, refl}
-use Rattle.std.specs.Prelude.{ℕ, if◌then◌else◌, is_some}
-use Rattle.std.specs.Option.{option_or}
-use Rattle.ssh_options.specs.AuthOption.{AuthOption, Setting, Switch}
-use Rattle.ssh_options.specs.declared.option.Flag.TheVariants.{CertAuthority}
-use Rattle.ssh_options.specs.declared.option.ValueName.TheVariants.{Command, ExpiryTime, From, Principals}
-use Rattle.ssh_options.specs.OptionNames.{same_flag, same_value_name}
-use Rattle.ssh_options.specs.Settings.{first_of, has_flag, setting, settings}
-use Rattle.ssh_rules.specs.declared.line_options.LineOptions.{LineOptions}
-use Rattle.ssh_rules.specs.LineOptions.{noted_after}
+use Rattle.ssh_rules.proofs.Imports.{◌≡◌, ◌||◌, Bool, true, false, List, [], ◌∷◌, Option, Some, None, refl, if◌then◌else◌, is_some, option_or, AuthOption, Setting, Switch, CertAuthority, Command, ExpiryTime, From, Principals, same_flag, same_value_name, first_of, has_flag, setting, settings, LineOptions, noted_after}
+use Rattle.std.specs.Prelude.{ℕ}
 
 -- before the first option
 abbrev pub none_noted : LineOptions

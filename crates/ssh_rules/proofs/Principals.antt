@@ -1,18 +1,6 @@
 -- Whom a certificate serves.
-use Rattle.std.proofs.Common.{◌≡◌, ◌≢◌, ◌⊎◌, ◌∙◌, ◌==◌, ◌||◌, ◌<◌, ℕ, zero, suc, Bool, true, false, List, [], ◌∷◌, Option, Some, None, length, ap, sym, refl, inl, inr, arith}
-use Rattle.std.specs.Prelude.{◌↔◌, Contains, IsTrue}
-use Rattle.std.specs.Bool.{Decides}
-use Rattle.std.specs.List.{list_any, slice_index_or}
-use Rattle.std.specs.Str.{bytes_eq}
-use Rattle.std.proofs.lemmas.Bool.{ne_eqb}
-use Rattle.std.proofs.lemmas.Bool.Decides.{Decides-eqb, same_from_decides}
-use Rattle.std.proofs.lemmas.Slice.Eq.{bytes_eq-Decides}
-use Rattle.ssh_certs.specs.Certificate.{Certificate}
-use Rattle.ssh_certs.specs.Rules.{HasPrincipal, no_principals}
-use Rattle.ssh_offers.specs.declared.query.EmptyPrincipals.{EmptyPrincipals}
-use Rattle.ssh_offers.specs.declared.query.EmptyPrincipals.TheVariants.{Any, Never}
-use Rattle.ssh_rules.specs.CertificateRules.{has_principal, is_listed, listed_names, serves}
-use Rattle.ssh_rules.specs.CertificateForce.{IsForAll, Serves, is_for_none}
+use Rattle.ssh_rules.proofs.Imports.{◌≡◌, ◌⊎◌, ◌∙◌, ◌==◌, ◌||◌, ◌<◌, ℕ, zero, suc, Bool, true, false, List, [], ◌∷◌, Option, Some, None, length, ap, sym, refl, inl, inr, arith, ◌↔◌, Contains, IsTrue, Decides, list_any, slice_index_or, bytes_eq, ne_eqb, Decides-eqb, same_from_decides, bytes_eq-Decides, Certificate, HasPrincipal, no_principals, EmptyPrincipals, Any, Never, has_principal, is_listed, listed_names, serves, IsForAll, Serves, is_for_none}
+use Rattle.std.proofs.Common.{◌≢◌}
 
 or-true : (a : Bool) {b : Bool} → b ≡ true → (a || b) ≡ true
 or-true true h = refl

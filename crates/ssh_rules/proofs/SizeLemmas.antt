@@ -1,10 +1,5 @@
 -- The keys of an offer are long enough exactly where none is too short.
-use Rattle.std.proofs.Common.{◌≡◌, ℕ, Bool, true, false, not, refl}
-use Rattle.ssh_keys.specs.Fingerprint.{IsRsaAtLeast, is_rsa_below}
-use Rattle.ssh_keys.specs.PublicKey.{PublicKey}
-use Rattle.ssh_keys.proofs.RsaSizes.{at_least-decides}
-use Rattle.ssh_offers.specs.Offer.{Offer, certified, plain}
-use Rattle.ssh_rules.specs.KeySizes.{AreLongEnough, has_short_key}
+use Rattle.ssh_rules.proofs.Imports.{◌≡◌, ℕ, Bool, true, false, not, refl, IsRsaAtLeast, is_rsa_below, PublicKey, at_least-decides, Offer, certified, plain, AreLongEnough, has_short_key}
 use Rattle.ssh_rules.proofs.Tests.{or_off, off_or}
 
 on_not : (b : Bool) → b ≡ false → not b ≡ true

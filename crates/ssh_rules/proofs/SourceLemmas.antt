@@ -1,16 +1,7 @@
 -- What lists of sources permit: the verdict of the readers, and the same in the subject's words.
-use Rattle.std.proofs.Common.{◌≡◌, ◌∙◌, ◌||◌, ℕ, Bool, true, false, if◌then◌else◌, inl, inr, List, Option, Some, None, sym, refl}
-use Rattle.std.proofs.lemmas.Bool.{or_cases}
-use Rattle.ssh_patterns.specs.declared.address.Address.{Address}
-use Rattle.ssh_patterns.specs.declared.permit.Permit.TheVariants.{Yes}
+use Rattle.ssh_rules.proofs.Imports.{◌≡◌, ◌∙◌, ◌||◌, ℕ, Bool, true, false, inl, inr, List, Option, Some, None, sym, refl, or_cases, Address, Yes, FitsAddress, FitsSource, IsBadCidr, IsBadSource, OnHost, Source, cidr_item, cidr_list, has_slash, host_matches, is_bad_cidr, is_bad_source, is_match_in_lower_case, source_item, source_list, address-read, or_left, or_right, Tells, lower-tells, bad_cidr-tells, bad_source-tells, cidr-tells, says-yes, source-tells, Login, PermitsAddress, PermitsClient}
+use Rattle.std.proofs.Common.{if◌then◌else◌}
 use Rattle.ssh_patterns.specs.AddressReading.{address_of}
-use Rattle.ssh_patterns.specs.Lists.{FitsAddress, FitsSource, IsBadCidr, IsBadSource, OnHost, Source, cidr_item, cidr_list, has_slash, host_matches, is_bad_cidr, is_bad_source, is_match_in_lower_case, source_item, source_list}
-use Rattle.ssh_patterns.proofs.AddressLaw.{address-read}
-use Rattle.ssh_patterns.proofs.MatchLemmas.{or_left, or_right}
-use Rattle.ssh_patterns.proofs.PermitLaw.{Tells, lower-tells}
-use Rattle.ssh_patterns.proofs.SourceLaw.{bad_cidr-tells, bad_source-tells, cidr-tells, says-yes, source-tells}
-use Rattle.ssh_offers.specs.Query.{Login}
-use Rattle.ssh_rules.specs.Admission.{PermitsAddress, PermitsClient}
 
 -- ---- a client whose address text spells none: nothing but patterns fits
 

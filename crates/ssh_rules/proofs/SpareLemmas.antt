@@ -1,24 +1,11 @@
 -- What is answered whatever memory does: tests of a few values.
-use Rattle.std.proofs.Common.{◌≡◌, ◌&&◌, ◌||◌, Bool, true, false, List, ◌∷◌, Option, Some, None, refl}
-use Rattle.std.specs.List.{list_any}
-use Rattle.std.specs.Str.{bytes_eq}
-use Rattle.ssh_keys.specs.PublicKey.{key_blob}
-use Rattle.ssh_lines.specs.AuthEntry.{AuthEntry}
-use Rattle.ssh_lines.specs.declared.entry.AuthLine.TheVariants.{Entry}
-use Rattle.ssh_offers.specs.LoginClaim.{LoginClaim}
-use Rattle.ssh_offers.specs.Offer.{is_certified, subject}
-use Rattle.ssh_options.specs.declared.option.ValueName.TheVariants.{From, Principals}
-use Rattle.ssh_options.specs.Settings.{setting}
-use Rattle.ssh_rules.specs.Admission.{is_authority, line_rows, login_obstacle, offer_obstacle}
-use Rattle.ssh_rules.specs.declared.reason.Obstacle.{Obstacle}
-use Rattle.ssh_rules.specs.Obstacles.{first_obstacle, key_row, or_later, role_row, size_row}
-use Rattle.ssh_rules.specs.Spare.{has_escaped, is_about, is_escaped, is_in_role, is_named, needs_memory, owns_name}
-use Rattle.ssh_rules.specs.Verdict.{verdict_by}
+use Rattle.ssh_rules.proofs.Imports.{◌≡◌, ◌&&◌, ◌||◌, Bool, true, false, List, ◌∷◌, Option, Some, None, refl, list_any, bytes_eq, key_blob, AuthEntry, Entry, LoginClaim, is_certified, subject, From, Principals, setting, is_authority, line_rows, offer_mismatch, Mismatch, first_mismatch, key_row, or_later, role_row, size_row, has_escaped, is_about, is_escaped, is_in_role, is_named, needs_memory, owns_name, verdict_by}
+use Rattle.ssh_rules.specs.Admission.{login_mismatch}
 use Rattle.ssh_rules.proofs.Tests.{or_off}
 
 -- ---- a line about the key, in its role
 
-pub about_by_rows : (same authority certified : Bool) (rows : List (Option Obstacle)) → first_obstacle (key_row same ∷ role_row authority certified ∷ rows) ≡ None
+pub about_by_rows : (same authority certified : Bool) (rows : List (Option Mismatch)) → first_mismatch (key_row same ∷ role_row authority certified ∷ rows) ≡ None
     → (same && is_in_role authority certified) ≡ true
 about_by_rows true true true rows h = refl
 about_by_rows true true false rows h = cc
@@ -63,11 +50,11 @@ fewer_off false role a b k h = cc
 
 -- ---- what stands against an entry
 
-pub named_later : (a b : Option Obstacle) → is_named (or_later a b) ≡ false → is_named a ≡ false
+pub named_later : (a b : Option Mismatch) → is_named (or_later a b) ≡ false → is_named a ≡ false
 named_later None b h = refl
 named_later (Some o) b h = h
 
-pub verdict_named : {E : Type 0} (o : Option Obstacle) (e : E) → owns_name (verdict_by o e) ≡ is_named o
+pub verdict_named : {E : Type 0} (o : Option Mismatch) (e : E) → owns_name (verdict_by o e) ≡ is_named o
 verdict_named None e = refl
 verdict_named (Some o) e = refl
 
@@ -79,25 +66,25 @@ first_plain p x rest all e h = (or_off (p x) (list_any p rest) (rw e at h)).0
 -- ---- entries
 
 pub entry_off : (e : AuthEntry) (claim : LoginClaim) → needs_memory claim (Entry e) ≡ false
-    → (is_about e claim && (has_escaped e || is_named (login_obstacle e claim))) ≡ false
-entry_off e claim h = rw (verdict_named (login_obstacle e claim) e) at h
+    → (is_about e claim && (has_escaped e || is_named (login_mismatch e claim))) ≡ false
+entry_off e claim h = rw (verdict_named (login_mismatch e claim) e) at h
 
 -- an entry that holds the key, in its role, has no value with a quote
 pub held_off : (noted e : AuthEntry) (said claim : LoginClaim) → noted ≡ e → said ≡ claim
     → bytes_eq (key_blob e.key) (key_blob (subject claim.offer)) ≡ true
-    → (is_about e claim && (has_escaped e || is_named (login_obstacle e claim))) ≡ false
+    → (is_about e claim && (has_escaped e || is_named (login_mismatch e claim))) ≡ false
     → (is_in_role (is_authority noted) (is_certified said.offer) && has_escaped noted) ≡ false
 held_off noted e said claim same told holds h =
     rw (same, told) (fewer_off _ (is_in_role (is_authority e) (is_certified claim.offer)) (has_escaped e) _ holds h)
 
 -- where no row about the line holds, the entry is about the key; so no principals have a quote, and no option is named
-pub passed_line : (e : AuthEntry) (claim : LoginClaim) → first_obstacle (line_rows e claim) ≡ None
-    → (is_about e claim && (has_escaped e || is_named (login_obstacle e claim))) ≡ false
-    → (is_escaped (setting Principals e.options) ≡ false) × (is_named (offer_obstacle e claim claim.offer) ≡ false)
-unfolding login_obstacle
+pub passed_line : (e : AuthEntry) (claim : LoginClaim) → first_mismatch (line_rows e claim) ≡ None
+    → (is_about e claim && (has_escaped e || is_named (login_mismatch e claim))) ≡ false
+    → (is_escaped (setting Principals e.options) ≡ false) × (is_named (offer_mismatch e claim claim.offer) ≡ false)
+unfolding login_mismatch
 passed_line e claim none h =
-    let sought = about_by_rows (bytes_eq (key_blob e.key) (key_blob (subject claim.offer))) (is_authority e) (is_certified claim.offer) _ none in
-    let escaped = first_off (is_about e claim) (has_escaped e) _ sought h in
-    let named : is_named (login_obstacle e claim) ≡ false = rest_off (is_about e claim) (has_escaped e) _ sought h in
-    let later : is_named (or_later (offer_obstacle e claim claim.offer) (size_row claim.query.rsa_minimum claim.offer)) ≡ false = rw none at named in
-    ((or_off _ _ (or_off _ _ escaped).1).1, named_later (offer_obstacle e claim claim.offer) _ later)
+    let matcher = about_by_rows (bytes_eq (key_blob e.key) (key_blob (subject claim.offer))) (is_authority e) (is_certified claim.offer) _ none in
+    let escaped = first_off (is_about e claim) (has_escaped e) _ matcher h in
+    let named : is_named (login_mismatch e claim) ≡ false = rest_off (is_about e claim) (has_escaped e) _ matcher h in
+    let later : is_named (or_later (offer_mismatch e claim claim.offer) (size_row claim.query.rsa_minimum claim.offer)) ≡ false = rw none at named in
+    ((or_off _ _ (or_off _ _ escaped).1).1, named_later (offer_mismatch e claim claim.offer) _ later)

@@ -1,42 +1,29 @@
--- What tests and the rows of a table say.
-use Rattle.std.proofs.Common.{◌≡◌, ◌∙◌, ◌==◌, ◌&&◌, ◌||◌, ◌≤◌, ◌<◌, ℕ, Bool, true, false, not, List, [], ◌∷◌, Option, Some, None, sym, refl, nat_lt}
-use Rattle.std.specs.Prelude.{T, ℤ, ◌≤ℤ◌, nat_le}
-use Rattle.std.specs.Bool.{Decides}
-use Rattle.std.specs.Int.Signed.{le_z, le_z_yes}
-use Rattle.std.specs.List.{AllByRecursion, list_all, list_any}
-use Rattle.std.proofs.lemmas.Bool.{ltb-false, le-ltb, leb-false, lt-leb}
-use Rattle.std.proofs.lemmas.Bool.Decides.{Decides-eqb}
-use Rattle.ssh_certs.specs.Certificate.{Certificate}
-use Rattle.ssh_certs.specs.Rules.{time_of}
-use Rattle.ssh_patterns.specs.declared.permit.Permit.{Permit}
-use Rattle.ssh_patterns.specs.declared.permit.Permit.TheVariants.{Yes, No, Bad}
-use Rattle.ssh_rules.specs.declared.reason.Obstacle.{Obstacle}
-use Rattle.ssh_rules.specs.declared.reason.Reason.{Reason}
-use Rattle.ssh_rules.specs.Obstacles.{first_obstacle, key_row, or_later, permit_row, role_row, time_row, when}
+-- The meaning of tests and of the rows of a table.
+use Rattle.ssh_rules.proofs.Imports.{◌≡◌, ◌∙◌, ◌==◌, ◌&&◌, ◌||◌, ◌≤◌, ◌<◌, ℕ, Bool, true, false, not, List, [], ◌∷◌, Option, Some, None, sym, refl, nat_lt, T, ℤ, ◌≤ℤ◌, nat_le, Decides, le_z, le_z_yes, AllByRecursion, list_all, list_any, ltb-false, le-ltb, leb-false, lt-leb, Decides-eqb, Certificate, time_of, Permit, Yes, No, Bad, Mismatch, Reason, first_mismatch, key_row, or_later, permit_row, role_row, time_row, when}
 
 -- ---- rows
 
 -- no row holds
-abbrev pub NoneHolds : List (Option Obstacle) → Type 0
+abbrev pub NoneHolds : List (Option Mismatch) → Type 0
 NoneHolds rows = AllByRecursion (λ row. row ≡ None) rows
 
-pub none_of : (rows : List (Option Obstacle)) → first_obstacle rows ≡ None → NoneHolds rows
+pub none_of : (rows : List (Option Mismatch)) → first_mismatch rows ≡ None → NoneHolds rows
 none_of [] h = tt
 none_of (None ∷ rows) h = (refl, none_of rows h)
 none_of (Some o ∷ rows) h = cc
 
-pub of_none : (rows : List (Option Obstacle)) → NoneHolds rows → first_obstacle rows ≡ None
+pub of_none : (rows : List (Option Mismatch)) → NoneHolds rows → first_mismatch rows ≡ None
 of_none [] h = refl
 of_none (None ∷ rows) h = of_none rows h.1
 of_none (Some o ∷ rows) h =
     let bad : Some o ≡ None = h.0 in
     cc
 
-pub both_none : (a b : Option Obstacle) → or_later a b ≡ None → (a ≡ None) × (b ≡ None)
+pub both_none : (a b : Option Mismatch) → or_later a b ≡ None → (a ≡ None) × (b ≡ None)
 both_none None b h = (refl, h)
 both_none (Some o) b h = cc
 
-pub none_both : (a b : Option Obstacle) → a ≡ None → b ≡ None → or_later a b ≡ None
+pub none_both : (a b : Option Mismatch) → a ≡ None → b ≡ None → or_later a b ≡ None
 none_both None b h k = k
 none_both (Some o) b h k = cc
 

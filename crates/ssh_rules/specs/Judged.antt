@@ -1,4 +1,4 @@
--- What is found of a login's certificate once, since no line changes it.
+-- What is checked of a login's certificate once, because no line changes it.
 use Rattle.std.specs.Prelude.{◌≡◌, ℕ, List, [], Option, Some, None}
 use Rattle.ssh_patterns.specs.declared.address.Address.{Address}
 use Rattle.ssh_certs.specs.Certificate.{Certificate}
@@ -6,7 +6,7 @@ use Rattle.ssh_offers.specs.LoginClaim.{LoginClaim}
 use Rattle.ssh_offers.specs.Offer.{Offer, OfCertificate, certified, plain}
 use Rattle.ssh_rules.specs.CertificateRules.{first_unknown}
 
--- a certificate, and what a login asks of it: an address and a user
+-- a certificate, and the address and the user that a login checks it for
 pub record Judged : Type 0 where
   pub certificate : Certificate
   pub address : Address
@@ -20,7 +20,7 @@ judged_by claim (certified c) = Some (record { certificate = c; address = claim.
 abbrev pub judged_of : LoginClaim → Option Judged
 judged_of claim = judged_by claim claim.offer
 
--- a certificate of which nothing is kept: each critical option is one that a login knows, and it names no principal
+-- a certificate whose check allocates nothing: all its critical options are supported, and it names no principal
 pub record IsPlainlyJudged (c : Certificate) : Type 0 where
   pub known : first_unknown c.critical ≡ None
   pub nameless : c.principals ≡ []

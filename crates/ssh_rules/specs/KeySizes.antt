@@ -1,9 +1,9 @@
--- How long RSA keys have to be (this project's rule).
+-- How many bits RSA keys must have (this project's rule).
 use Rattle.std.specs.Prelude.{ℕ, Bool, ◌||◌}
 use Rattle.ssh_keys.specs.Fingerprint.{IsRsaAtLeast, is_rsa_below}
 use Rattle.ssh_offers.specs.Offer.{Offer, certified, plain}
 
--- The offered key has so many bits if it is RSA's, and so has a certificate's signer.
+-- The offered key has this many bits if it is RSA's, and so has a certificate's signer.
 abbrev pub AreLongEnough : ℕ → Offer → Type 0
 AreLongEnough bits (plain key) = IsRsaAtLeast bits key
 AreLongEnough bits (certified c) = IsRsaAtLeast bits c.key × IsRsaAtLeast bits c.signer

@@ -1,13 +1,13 @@
 pub mod CertificateRules
 pub mod KeySizes
-pub mod Obstacles
+pub mod Mismatches
 pub mod CertificateForce
 pub mod Admission
 pub mod LineOptions
 pub mod Judged
 pub mod ValueText
 pub mod Verdict
-pub mod KeyPiece
+pub mod KeyNeedle
 pub mod Spare
 pub mod Samples
 pub mod Turns

@@ -1,37 +1,37 @@
--- Worked certificates of users: their critical options, their time and their kind. The names and the numbers are those of
--- PROTOCOL.certkeys.
+-- Worked examples of users' certificates: critical options, validity period and kind. The names and the numbers are
+-- those of PROTOCOL.certkeys.
 use Rattle.std.specs.Prelude.{◌≡◌, ℕ, Bool, true, false, List, [], ◌∷◌, ◌++◌, codes, replicate, Option, Some, None}
 use Rattle.jiff.specs.Types.{UTC}
 use Rattle.ssh_keys.specs.PublicKey.{PublicKey, ed25519, rsa}
 use Rattle.ssh_certs.specs.Certificate.{Certificate, CertOption}
-use Rattle.ssh_lines.specs.AuthEntry.{AuthEntry}
+use Rattle.ssh_entries.specs.AuthEntry.{AuthEntry}
 use Rattle.ssh_options.specs.AuthOption.{AuthOption, Setting}
 use Rattle.ssh_options.specs.declared.option.ValueName.TheVariants.{Command, Principals}
 use Rattle.ssh_patterns.specs.declared.address.Address.TheVariants.{V4}
-use Rattle.ssh_offers.specs.declared.query.EmptyPrincipals.{EmptyPrincipals}
-use Rattle.ssh_offers.specs.declared.query.EmptyPrincipals.TheVariants.{Any, Never}
+use Rattle.ssh_offers.specs.declared.claim.EmptyPrincipals.{EmptyPrincipals}
+use Rattle.ssh_offers.specs.declared.claim.EmptyPrincipals.TheVariants.{Any, Never}
 use Rattle.ssh_offers.specs.Offer.{certified, plain}
 use Rattle.ssh_offers.specs.LoginClaim.{LoginClaim}
-use Rattle.ssh_rules.specs.declared.reason.Obstacle.{Obstacle}
-use Rattle.ssh_rules.specs.declared.reason.Obstacle.TheVariants.{Listed}
+use Rattle.ssh_rules.specs.declared.reason.Mismatch.{Mismatch}
+use Rattle.ssh_rules.specs.declared.reason.Mismatch.TheVariants.{Listed}
 use Rattle.ssh_rules.specs.declared.reason.Reason.{Reason}
 use Rattle.ssh_rules.specs.declared.reason.Reason.TheVariants as reason
 use Rattle.ssh_rules.specs.declared.reason.Reason.TheVariants.{WrongCertKind, NotYetValid, NoLongerValid, PrincipalRefused, CriticalUnknown, CriticalRepeated, CriticalData, CertSourceBad, CertSourceRefused, CommandConflict, RsaTooSmall}
-use Rattle.ssh_rules.specs.Admission.{certificate_obstacle}
+use Rattle.ssh_rules.specs.Admission.{certificate_mismatch}
 use Rattle.ssh_rules.specs.CertificateRules.{first_unknown, has_its_form, is_known, has_repeats}
-use Rattle.ssh_rules.specs.Obstacles.{size_row}
+use Rattle.ssh_rules.specs.Mismatches.{size_row}
 
 -- an option of a certificate with this name and data
 abbrev pub option : List ℕ → List ℕ → CertOption
 option name value = record { name = name; value = value }
 
--- a string of up to 255 bytes
+-- a string of up to 255 bytes, with its length prefix
 abbrev pub short : ℕ → List ℕ → List ℕ
 short len text = 0 ∷ 0 ∷ 0 ∷ len ∷ text
 
 -- ---- names and data of critical options
 
--- the three names that a login knows, and others
+-- the three names that a login supports, and others
 abbrev pub NamesKnown : Type 0
 NamesKnown =
     (is_known (codes "force-command") ≡ true)
@@ -66,7 +66,7 @@ FormsJudged =
     × Formed (codes "source-address") [] false
     × Formed (codes "source-address") (short 8 (codes "10.0.0.1,")) false
 
--- names that stand twice, one after the other or not
+-- names that occur twice, next to each other or not
 abbrev pub RepetitionsFound : Type 0
 RepetitionsFound =
     (has_repeats [] ≡ false)
@@ -95,8 +95,8 @@ certificate kind principals critical = record {
   signature = record { algorithm = codes "ssh-ed25519"; bytes = 0xaa ∷ []; sk = None };
 }
 
--- a line of the signer's key with these options, and a login by the certificate, of ann from 10.0.0.1 at this moment,
--- where a certificate without principals is for such users
+-- A line of the signer's key with these options, and a login of ann from 10.0.0.1 by the certificate at this moment.
+-- `empty` is whom a certificate without principals is for.
 abbrev line : List AuthOption → AuthEntry
 line options = record { options = options; key = ed25519 (replicate 32 1); comment = [] }
 
@@ -120,23 +120,23 @@ login now empty c = record {
   address = V4 0x0a000001;
 }
 
--- why the line does not admit the certificate; nothing where it does
-abbrev Obstructs : List AuthOption → ℕ → Certificate → Option Obstacle → Type 0
-Obstructs options now c obstacle = certificate_obstacle (line options) (login now Any c) c ≡ obstacle
+-- why the line does not admit the certificate; none where it does
+abbrev Obstructs : List AuthOption → ℕ → Certificate → Option Mismatch → Type 0
+Obstructs options now c mismatch = certificate_mismatch (line options) (login now Any c) c ≡ mismatch
 
--- the same where a certificate without principals is for none
-abbrev ObstructsNamed : List AuthOption → Certificate → Option Obstacle → Type 0
-ObstructsNamed options c obstacle = certificate_obstacle (line options) (login 150 Never c) c ≡ obstacle
+-- the same where a certificate without principals is for nobody
+abbrev ObstructsNamed : List AuthOption → Certificate → Option Mismatch → Type 0
+ObstructsNamed options c mismatch = certificate_mismatch (line options) (login 150 Never c) c ≡ mismatch
 
--- a certificate of ann's, with these critical options, in its time
-abbrev Insists : List AuthOption → List CertOption → Option Obstacle → Type 0
-Insists options critical obstacle = Obstructs options 150 (certificate 1 (codes "ann" ∷ []) critical) obstacle
+-- a certificate of ann's, with these critical options, in its validity period
+abbrev Insists : List AuthOption → List CertOption → Option Mismatch → Type 0
+Insists options critical mismatch = Obstructs options 150 (certificate 1 (codes "ann" ∷ []) critical) mismatch
 
--- by this reason
-abbrev pub because : Reason → Option Obstacle
+-- the mismatch with this reason
+abbrev pub because : Reason → Option Mismatch
 because why = Some (Listed why)
 
--- 1 is a user's certificate; it is in force from its first moment on, and no longer at its last
+-- 1 is a user's certificate; it is in force from `valid after` on, and no longer at `valid before`
 abbrev pub UsersCertificates : Type 0
 UsersCertificates =
     Obstructs [] 150 (certificate 1 (codes "ann" ∷ []) []) None
@@ -157,8 +157,8 @@ UsersCertificates =
     × Obstructs [] 99 (certificate 2 (codes "bob" ∷ []) []) (because WrongCertKind)
     × Obstructs [] 99 (certificate 1 (codes "bob" ∷ []) []) (because NotYetValid)
 
--- A certificate without principals is for none where that is asked, and what it insists on is not looked at then; one
--- with principals is judged as ever.
+-- A certificate without principals is for nobody where the query asks for that, and then its critical options are not
+-- looked at; one with principals is checked as usual.
 abbrev pub UsersNamed : Type 0
 UsersNamed =
     ObstructsNamed [] (certificate 1 [] []) (because reason.EmptyPrincipals)
@@ -168,7 +168,7 @@ UsersNamed =
     × ObstructsNamed [] (certificate 1 [] (option (codes "x") [] ∷ [])) (because reason.EmptyPrincipals)
     × ObstructsNamed [] (certificate 1 ([] ∷ []) []) (because PrincipalRefused)
 
--- what a user's certificate insists on
+-- critical options of a user's certificate that are met, and that are not
 abbrev pub CriticalOptionsJudged : Type 0
 CriticalOptionsJudged =
     Insists [] (option (codes "verify-required") [] ∷ []) None
@@ -192,10 +192,11 @@ CriticalOptionsJudged =
 abbrev certified_by : PublicKey → PublicKey → Certificate
 certified_by key signer = record (certificate 1 (codes "ann" ∷ []) []) { key = key; signer = signer }
 
-abbrev of_size : Option Obstacle → Type 0
+abbrev of_size : Option Mismatch → Type 0
 of_size row = row ≡ because RsaTooSmall
 
--- by the count of binary digits, of the offered key and of the signer: 128 has eight, 127 seven; no other key is asked
+-- by the count of binary digits, of the offered key and of the signer: 128 has eight, 127 seven; only RSA keys are
+-- checked
 abbrev pub SizesJudged : Type 0
 SizesJudged =
     of_size (size_row 9 (plain (rsa 65537 128)))

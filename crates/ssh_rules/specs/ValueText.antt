@@ -1,7 +1,7 @@
--- The text of an option's value, wherever it lies.
+-- The text of an option's value, whether it is borrowed from the line or copied.
 use Rattle.std.specs.Prelude.{ℕ, List}
-use Rattle.ssh_rules.specs.declared.value_text.ValueText.{ValueText}
-use Rattle.ssh_rules.specs.declared.value_text.ValueText.TheVariants.{InPlace, Copied}
+use Rattle.ssh_rules.specs.declared.options.ValueText.{ValueText}
+use Rattle.ssh_rules.specs.declared.options.ValueText.TheVariants.{InPlace, Copied}
 
 abbrev pub text_of : ValueText → List ℕ
 text_of (InPlace text) = text.now

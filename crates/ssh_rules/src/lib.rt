@@ -1,11 +1,13 @@
-//! Whether one line of an authorized_keys file admits a login, and the first reason why it does not;
-//! and of it what is asked of a host's key too, by `ssh_host_rules`: the reasons, what stands against
-//! a certificate or a key, and the piece of a key's base64.
+//! Whether one line of an authorized_keys file admits a login, and the first reason why it does
+//! not.
+//!
+//! For hosts' keys `ssh_host_rules` uses parts of this crate too: the reasons, the checks of a
+//! certificate and of a key's size, and the search for a key's base64 in a line.
 //!
 //! A caller that asks why a line does not admit a login (a test runs these lines):
 //!
 //! ```
-//! match login_verdict(alloc, read_auth_view(line, &mut buffer), sought)? {
+//! match login_verdict(alloc, read_auth_view(line, &mut buffer), matcher)? {
 //!     LineVerdict::Admits(_) => Ok(None),
 //!     LineVerdict::Skips(reason) => Ok(reason),
 //! }
@@ -14,25 +16,16 @@
 
 mod admission;
 mod certificate;
-mod judged;
-mod key_piece;
 mod laws;
-mod line_options;
-mod noted_entry;
-mod obstacle;
-mod option_name;
+mod login_matcher;
+mod options;
 mod reason;
-mod samples;
-mod sought_login;
-mod value_text;
-mod verdict;
 
+pub use admission::{LineVerdict, listed_reason, login_verdict, login_verdict_counted};
 pub use certificate::serves;
-pub use key_piece::KeyPiece;
-pub use obstacle::{
-    period_obstacle, principal_obstacle, role_obstacle, size_obstacle, unknown_obstacle,
+pub use login_matcher::{KeyNeedle, LoginMatcher};
+pub use options::{SharedName, kept_name};
+pub use reason::{
+    Mismatch, Reason, period_mismatch, principal_mismatch, role_mismatch, size_mismatch,
+    unknown_mismatch,
 };
-pub use option_name::{OptionName, kept_name};
-pub use reason::{Obstacle, Reason};
-pub use sought_login::SoughtLogin;
-pub use verdict::{LineVerdict, listed_reason, login_verdict, login_verdict_counted};

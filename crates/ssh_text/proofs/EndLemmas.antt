@@ -1,8 +1,5 @@
 -- The end of a line and of a comment, by the last byte.
-use Rattle.std.proofs.Common.{◌≡◌, ℕ, ◌+◌, ◌-◌, ◌<◌, true, false, ◌==◌, List, [], ◌∷◌, ◌++◌, length, take, slice_index, refl, sym, ap, ◌∙◌, arith, append-nil}
-use Rattle.std.proofs.lemmas.Bool.{ne_eqb, eq-eqb}
-use Rattle.std.proofs.lemmas.List.{take_more, take_all}
-use Rattle.ssh_text.specs.Text.{without_last, ends_with, is_trailing, before_trailing, without_trailing}
+use Rattle.ssh_text.proofs.Imports.{◌≡◌, ℕ, ◌+◌, ◌-◌, ◌<◌, true, false, ◌==◌, List, [], ◌∷◌, ◌++◌, length, take, slice_index, refl, sym, ap, ◌∙◌, arith, append-nil, ne_eqb, eq-eqb, take_more, take_all, without_last, ends_with, is_trailing, before_trailing, without_trailing}
 use Rattle.ssh_text.proofs.TextLemmas.{without_trailing-after}
 
 abbrev last : List ℕ → ℕ
@@ -11,7 +8,7 @@ last s = slice_index s (length s - 1)
 abbrev front : List ℕ → List ℕ
 front s = take (length s - 1) s
 
--- what stands before the last byte, and that byte
+-- what comes before the last byte, and that byte
 last_cut : (s : List ℕ) → 0 < length s → front s ++ last s ∷ [] ≡ s
 last_cut s some =
     let one : length s - 1 + 1 ≡ length s = omega arith in

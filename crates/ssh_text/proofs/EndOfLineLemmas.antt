@@ -1,8 +1,5 @@
 -- The first LF ends the line.
-use Rattle.std.proofs.Common.{◌≡◌, ℕ, zero, suc, ◌<◌, true, false, List, [], ◌∷◌, length, slice_index, refl, ap, arith}
-use Rattle.std.proofs.lemmas.Bool.{false_from_ne_true}
-use Rattle.memchr.specs.Find.{Nowhere, Passes, is_byte}
-use Rattle.ssh_text.specs.Text.{line_len}
+use Rattle.ssh_text.proofs.Imports.{◌≡◌, ℕ, zero, suc, ◌<◌, true, false, List, [], ◌∷◌, length, slice_index, refl, ap, arith, false_from_ne_true, Nowhere, Passes, is_byte, line_len}
 
 -- none of the first bytes is an LF
 abbrev NoNewline : List ℕ → ℕ → Type 0

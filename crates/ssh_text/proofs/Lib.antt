@@ -1,3 +1,4 @@
+pub mod Imports
 pub mod LineLemmas
 pub mod EndOfLineLemmas
 pub mod NewlineLemmas

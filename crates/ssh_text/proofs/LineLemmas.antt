@@ -1,13 +1,10 @@
 -- The lines of a file, as a function and as a relation.
-use Rattle.std.proofs.Common.{◌≡◌, ◌≢◌, ℕ, suc, ◌+◌, ◌<◌, Bool, true, false, cond, ◌==◌, if◌then◌else◌, inl, inr, List, [], ◌∷◌, ◌++◌, length, take, drop, refl, ap, ◌∙◌, arith}
-use Rattle.std.specs.List.{onto_first, AllByRecursion}
-use Rattle.std.proofs.lemmas.Bool.{eqb-true, eqb-false, ne_eqb}
-use Rattle.ssh_text.specs.Text.{lines_of, numbered, line_len, AreLines}
+use Rattle.ssh_text.proofs.Imports.{◌≡◌, ◌≢◌, ℕ, suc, ◌+◌, ◌<◌, Bool, true, false, cond, ◌==◌, if◌then◌else◌, inl, inr, List, [], ◌∷◌, ◌++◌, length, take, drop, refl, ap, ◌∙◌, arith, onto_first, AllByRecursion, eqb-true, eqb-false, ne_eqb, lines_of, numbered, line_len, AreLines}
 
 abbrev HasNoNewline : List ℕ → Type 0
 HasNoNewline line = AllByRecursion (λ c. c ≢ 10) line
 
--- what stands before the first LF is the first line
+-- what comes before the first LF is the first line
 pub lines_of-first : (line rest : List ℕ) → HasNoNewline line → lines_of (line ++ 10 ∷ rest) ≡ line ∷ lines_of rest
 lines_of-first [] rest h = refl
 lines_of-first (c ∷ line) rest h =

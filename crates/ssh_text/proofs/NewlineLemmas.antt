@@ -1,12 +1,5 @@
 -- Bytes cut at their LFs.
-use Rattle.std.proofs.Common.{◌≡◌, ◌≢◌, ℕ, suc, ◌+◌, Bool, true, false, cond, ◌||◌, ◌==◌, inl, inr, List, [], ◌∷◌, ◌++◌, length, take, refl, sym, ap, ◌∙◌, arith, append_assoc, append-nil}
-use Rattle.std.specs.Prelude.{Some, slice_get}
-use Rattle.std.specs.List.{count_by, AllByRecursion}
-use Rattle.std.proofs.lemmas.Bool.{cases_Bool, eqb-true, eqb-false, ne_eqb}
-use Rattle.std.proofs.lemmas.List.{length-append, take_all}
-use Rattle.std.proofs.lemmas.List.Sums.{sum_by-append}
-use Rattle.ssh_text.specs.Text.{lines_of, line_len}
-use Rattle.ssh_text.specs.Scan.{HasNoNewline, has_newline, is_newline, up_to_newline, unfinished, whole_lines, with_newlines}
+use Rattle.ssh_text.proofs.Imports.{◌≡◌, ◌≢◌, ℕ, suc, ◌+◌, Bool, true, false, cond, ◌||◌, ◌==◌, inl, inr, List, [], ◌∷◌, ◌++◌, length, take, refl, sym, ap, ◌∙◌, arith, append_assoc, append-nil, Some, slice_get, count_by, AllByRecursion, cases_Bool, eqb-true, eqb-false, ne_eqb, length-append, take_all, sum_by-append, lines_of, line_len, HasNoNewline, has_newline, is_newline, up_to_newline, unfinished, whole_lines, with_newlines}
 use Rattle.ssh_text.proofs.LineLemmas.{lines_of-first}
 
 -- ---- the first LF of a piece
@@ -37,7 +30,7 @@ found (c ∷ cs) e =
       | inr t ↦ rw t (found cs (λ f. e (ap (λ b. cond b 0 (suc (line_len cs))) t ∙ ap suc f)))
     ]
 
--- what holds with an LF further on, where the first byte is none
+-- what holds with an LF further on, where the first byte is not one
 later : (cs : List ℕ) (b : Bool) → b ≡ false → (b || has_newline cs) ≡ true → has_newline cs ≡ true
 later cs false t e = e
 later cs true t e = cc

@@ -1,12 +1,5 @@
 -- The lines that come out of pieces are those of the file.
-use Rattle.std.proofs.Common.{◌≡◌, ◌≢◌, ℕ, zero, suc, ◌+◌, ◌-◌, ◌<◌, ◌≤◌, Bool, true, false, ◌==◌, List, [], ◌∷◌, ◌++◌, length, take, refl, sym, ap, subst, ◌∙◌, arith, append_assoc, append-nil}
-use Rattle.std.specs.Prelude.{Some, slice_get}
-use Rattle.std.specs.List.{concat}
-use Rattle.std.proofs.lemmas.Bool.{eqb-true, eqb-false}
-use Rattle.std.proofs.lemmas.List.{take-append-drop, length-drop}
-use Rattle.ssh_text.specs.Text.{lines_of, line_len, numbered}
-use Rattle.ssh_text.specs.Scan.{HasNoNewline, has_newline, up_to_newline, after_newline, unfinished, whole_lines, with_newlines, IsLastLine}
-use Rattle.ssh_text.specs.Pieces.{ComeOut, ComesLast, ComeOutOf}
+use Rattle.ssh_text.proofs.Imports.{◌≡◌, ◌≢◌, ℕ, zero, suc, ◌+◌, ◌-◌, ◌<◌, ◌≤◌, Bool, true, false, ◌==◌, List, [], ◌∷◌, ◌++◌, length, take, refl, sym, ap, subst, ◌∙◌, arith, append_assoc, append-nil, Some, slice_get, concat, eqb-true, eqb-false, take-append-drop, length-drop, lines_of, line_len, numbered, HasNoNewline, has_newline, up_to_newline, after_newline, unfinished, whole_lines, with_newlines, IsLastLine, ComeOut, ComesLast, ComeOutOf}
 use Rattle.ssh_text.proofs.LineLemmas.{lines_of-last}
 use Rattle.ssh_text.proofs.ScanLemmas.{at-last}
 use Rattle.ssh_text.proofs.NewlineLemmas.{AreFree, AreFree-push, with_newlines-push, lines_of-after, lines_of-whole, unfinished-after, whole_lines-after, free-front, free-none, free-append, up_to-found, length-push, get-last}

@@ -1,7 +1,5 @@
 -- Cutting a line into its words, blanks and comment.
-use Rattle.std.proofs.Common.{◌≡◌, ◌≢◌, ℕ, true, false, ◌==◌, ◌⊎◌, inl, inr, List, [], ◌∷◌, ◌++◌, refl, sym, ap, ◌∙◌, append_assoc}
-use Rattle.std.proofs.lemmas.Bool.{cases_Bool, eqb-true}
-use Rattle.ssh_text.specs.Text.{is_blank, skip_blanks, first_word, after_word, without_cr, is_trailing, before_trailing, without_trailing, comment_of, AreBlanks, begins_with_blank, IsComment, SpellsTail}
+use Rattle.ssh_text.proofs.Imports.{◌≡◌, ◌≢◌, ℕ, true, false, ◌==◌, ◌⊎◌, inl, inr, List, [], ◌∷◌, ◌++◌, refl, sym, ap, ◌∙◌, append_assoc, cases_Bool, eqb-true, is_blank, skip_blanks, first_word, after_word, without_cr, is_trailing, before_trailing, without_trailing, comment_of, AreBlanks, begins_with_blank, IsComment, SpellsTail}
 use Rattle.ssh_text.proofs.TextLemmas.{ends_word, AreTrailing}
 
 pub record Skipped (text : List ℕ) : Type 0 where
@@ -100,7 +98,7 @@ no_gap c cs gap rest b e r none =
     let f : begins_with_blank (c ∷ cs) ≡ begins_with_blank rest = ap begins_with_blank (e ∙ ap (λ g. g ++ rest) none) in
     let g : true ≡ false = sym b ∙ f ∙ r in cc
 
--- what stands after the base64 field is a tail with the comment
+-- what follows the base64 field is a tail with the comment
 pub spells-tail : (rest cr : List ℕ) → ends_word rest ≡ true → IsCr cr → SpellsTail (comment_of rest) (rest ++ cr)
 spells-tail [] cr e is = inl (refl, is)
 spells-tail (c ∷ cs) cr e is =

@@ -1,9 +1,5 @@
--- What a scanner stands for, call by call.
-use Rattle.std.proofs.Common.{◌≡◌, ℕ, suc, ◌+◌, ◌-◌, ◌<◌, ◌≤◌, ◌^◌, ◌↔◌, IsTrue, not, zero, Bool, true, false, if◌then◌else◌, inl, inr, List, [], ◌∷◌, ◌++◌, length, refl, sym, ap, ◌∙◌, arith, append_assoc, append-nil}
-use Rattle.std.proofs.lemmas.List.{length-append}
-use Rattle.ssh_text.specs.Text.{lines_of, line_limit}
-use Rattle.ssh_text.specs.Kept.{Kept, KeepsLine, kept_count}
-use Rattle.ssh_text.specs.Scan.{Scan, IsScan, open_count, lines_begun, StandsFor, HasNoNewline, unfinished, with_newlines, IsLastLine}
+-- The state of a scanner, call by call.
+use Rattle.ssh_text.proofs.Imports.{◌≡◌, ℕ, suc, ◌+◌, ◌-◌, ◌<◌, ◌≤◌, ◌^◌, ◌↔◌, IsTrue, not, zero, Bool, true, false, if◌then◌else◌, inl, inr, List, [], ◌∷◌, ◌++◌, length, refl, sym, ap, ◌∙◌, arith, append_assoc, append-nil, length-append, lines_of, line_limit, Kept, KeepsLine, kept_count, Scan, IsScan, open_count, lines_begun, StandsFor, HasNoNewline, unfinished, with_newlines, IsLastLine}
 use Rattle.ssh_text.proofs.LineLemmas.{lines_of-last}
 use Rattle.ssh_text.proofs.NewlineLemmas.{AreFree, AreFree-push, with_newlines-push, lines_of-after, lines_of-whole, unfinished-after, free-append, length-push, get-last}
 

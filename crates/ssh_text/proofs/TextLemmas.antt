@@ -1,8 +1,5 @@
 -- Words, blanks, tails and comments.
-use Rattle.std.proofs.Common.{◌≡◌, ◌≢◌, ℕ, Bool, true, false, ◌==◌, inl, inr, List, [], ◌∷◌, ◌++◌, bytes_eq, refl, ap, ◌∙◌, append_assoc}
-use Rattle.std.specs.List.{AllByRecursion}
-use Rattle.std.proofs.lemmas.Bool.{cases_Bool, eqb-true}
-use Rattle.ssh_text.specs.Text.{is_blank, skip_blanks, first_word, after_word, without_cr, is_trailing, before_trailing, without_trailing, comment_of, AreBlanks, HasNoBlank, begins_with_blank, IsComment, SpellsTail}
+use Rattle.ssh_text.proofs.Imports.{◌≡◌, ◌≢◌, ℕ, Bool, true, false, ◌==◌, inl, inr, List, [], ◌∷◌, ◌++◌, bytes_eq, refl, ap, ◌∙◌, append_assoc, AllByRecursion, cases_Bool, eqb-true, is_blank, skip_blanks, first_word, after_word, without_cr, is_trailing, before_trailing, without_trailing, comment_of, AreBlanks, HasNoBlank, begins_with_blank, IsComment, SpellsTail}
 
 -- nothing, or a blank first
 abbrev pub ends_word : List ℕ → Bool
@@ -52,7 +49,7 @@ AreTrailing-skip (c ∷ cs) h =
       | inr e ↦ rw e h
     ]
 
--- blanks, a comment, and what may stand after it
+-- blanks, a comment, and what may follow it
 pub comment_of-at : (gap comment after : List ℕ) → AreBlanks gap → IsComment comment → AreTrailing after
     → comment_of (gap ++ comment ++ after) ≡ comment
 comment_of-at gap [] after g c a =

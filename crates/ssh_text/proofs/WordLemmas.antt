@@ -1,8 +1,5 @@
 -- The first blank ends the first word.
-use Rattle.std.proofs.Common.{◌≡◌, ℕ, zero, suc, ◌<◌, true, false, List, [], ◌∷◌, length, take, drop, slice_index, refl, ap, arith}
-use Rattle.std.proofs.lemmas.Bool.{false_from_ne_true}
-use Rattle.memchr.specs.Find.{Nowhere, Passes, is_byte2}
-use Rattle.ssh_text.specs.Text.{is_blank, first_word, after_word}
+use Rattle.ssh_text.proofs.Imports.{◌≡◌, ℕ, zero, suc, ◌<◌, true, false, List, [], ◌∷◌, length, take, drop, slice_index, refl, ap, arith, false_from_ne_true, Nowhere, Passes, is_byte2, is_blank, first_word, after_word}
 
 -- none of the first bytes is a blank
 abbrev NoBlank : List ℕ → ℕ → Type 0

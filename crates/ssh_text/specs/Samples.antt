@@ -1,4 +1,4 @@
--- Worked files, as the definitions cut them.
+-- Worked examples of files and pieces, as the definitions cut them.
 use Rattle.std.specs.Prelude.{◌≡◌, [], ◌∷◌, codes, refl, true, false}
 use Rattle.ssh_text.specs.Text.{lines_of, numbered}
 use Rattle.ssh_text.specs.Scan.{after_newline, has_newline, unfinished, up_to_newline, whole_lines}
@@ -13,7 +13,7 @@ FileSamplesRead =
 pub file_samples_read : FileSamplesRead
 file_samples_read = (refl, refl, refl)
 
--- what a piece holds of lines
+-- which lines a piece ends and begins
 abbrev pub PieceSamplesRead : Type 0
 PieceSamplesRead =
     (whole_lines (codes "a\n\nb") ≡ codes "a" ∷ [] ∷ [])

@@ -1,8 +1,8 @@
--- Lines of a file and the fields of a line (sshd(8), AUTHORIZED_KEYS FILE FORMAT and SSH_KNOWN_HOSTS FILE FORMAT).
+-- The lines of a file and the fields of a line (sshd(8), AUTHORIZED_KEYS FILE FORMAT and SSH_KNOWN_HOSTS FILE FORMAT).
 use Rattle.std.specs.Prelude.{◌≡◌, ◌≢◌, ℕ, suc, ◌+◌, ◌-◌, ◌<◌, Bool, true, false, ◌||◌, ◌==◌, if◌then◌else◌, ◌⊎◌, List, [], ◌∷◌, ◌++◌, Some, slice_get}
 use Rattle.std.specs.List.{onto_first, AllByRecursion}
 
--- the most bytes of a line without its LF
+-- the most bytes of a line without its LF (this project's rule)
 abbrev pub line_limit : ℕ
 line_limit = 65536
 
@@ -12,7 +12,7 @@ file_limit = 67108864
 
 -- ---- lines
 
--- how many bytes stand before the first LF
+-- how many bytes come before the first LF
 abbrev pub line_len : List ℕ → ℕ
 line_len [] = 0
 line_len (c ∷ cs) = if c == 10 then 0 else suc (line_len cs)
@@ -30,7 +30,7 @@ AreLines (line ∷ lines) file =
     × (((rest : List ℕ) × (file ≡ line ++ 10 ∷ rest) × AreLines lines rest)
     ⊎ ((lines ≡ []) × (file ≡ line) × (line ≢ [])))
 
--- each line with its number, the first having this one
+-- each line with its number; the first has this number
 abbrev pub numbered : ℕ → List (List ℕ) → List (ℕ × List ℕ)
 numbered n [] = []
 numbered n (line ∷ lines) = (n, line) ∷ numbered (n + 1) lines
@@ -66,11 +66,11 @@ abbrev pub skip_blanks : List ℕ → List ℕ
 skip_blanks [] = []
 skip_blanks (c ∷ cs) = if is_blank c then skip_blanks cs else c ∷ cs
 
--- what a line says, apart from a CR at its end and blanks at its front
+-- a line without the CR at its end and the blanks at its front
 abbrev pub body_of : List ℕ → List ℕ
 body_of line = skip_blanks (without_cr line)
 
--- up to the first blank, and from it on
+-- the text up to the first blank, and the text from it on
 abbrev pub first_word : List ℕ → List ℕ
 first_word [] = []
 first_word (c ∷ cs) = if is_blank c then [] else c ∷ first_word cs
@@ -79,7 +79,7 @@ abbrev pub after_word : List ℕ → List ℕ
 after_word [] = []
 after_word (c ∷ cs) = if is_blank c then c ∷ cs else after_word cs
 
--- what stands after the first field and the blanks after it
+-- what follows the first field and the blanks after it
 abbrev pub next_field : List ℕ → List ℕ
 next_field text = skip_blanks (after_word text)
 

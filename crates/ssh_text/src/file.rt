@@ -1,4 +1,4 @@
-//! The lines of a file.
+//! Cuts a whole file into lines, and states the limits of lines and files.
 
 ghost use Rattle.std.specs.Prelude.{◌≡◌, ◌≤◌, length, drop};
 ghost use Rattle.std.specs.Iterator.{YieldsFirstBy, item_count};
@@ -7,7 +7,8 @@ ghost use Rattle.ssh_text.specs.Text.{lines_of, numbered, line_len};
 use memchr::memchr;
 use std::marker::Model;
 
-/// The most bytes that a line may have, without its LF and with its CR.
+/// The most bytes that a line may have, without its LF and with its CR (this project's rule).
+/// sshd(8) allows 8 kilobytes, and sshd 9.2 reads longer lines.
 pub const LINE_LIMIT: usize = 65_536;
 
 /// The most bytes that a trust file may have (this project's rule).
@@ -15,7 +16,7 @@ pub const FILE_LIMIT: usize = 67_108_864;
 
 /// The lines of a file, each with its number, from 1, and without its LF. The file is cut at every
 /// LF; a last piece without one counts if it is not empty. Contracts see the next line's number and
-/// the bytes that are left.
+/// the bytes that have not been read yet.
 #[derive(Debug, Drop)]
 pub struct Lines<'a> {
     number: u64,
@@ -33,7 +34,6 @@ impl<'a> Model for Lines<'a> {
 }
 
 impl<'a> Lines<'a> {
-    /// The lines of the file.
     pub fn new(file: &'a [u8]) -> Lines<'a>
         ensures { result ≡ (1, file.now) }
     {
@@ -75,7 +75,7 @@ fn after_newline(text: &[u8]) -> &[u8]
     }
 }
 
-/// How many bytes stand before the first LF.
+/// How many bytes come before the first LF; all of them if there is none.
 pub(crate) fn line_len(text: &[u8]) -> usize
     ensures value { result ≡ line_len text.now }
     ensures bound { result ≤ length text.now }

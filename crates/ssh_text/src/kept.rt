@@ -1,21 +1,6 @@
-//! A line as far as it is kept.
+//! A buffer for the bytes of one line, which stores no line past the limit.
 
-ghost use Rattle.std.specs.Prelude.{
-  ◌≡◌,
-  ◌↔◌,
-  ◌<◌,
-  ◌≤◌,
-  ◌+◌,
-  IsTrue,
-  IsOk,
-  ◌++◌,
-  [],
-  length,
-  List,
-  ℕ,
-  OnOk,
-  OnErr,
-};
+ghost use Rattle.std.specs.Prelude.{◌≡◌, ◌↔◌, ◌<◌, ◌≤◌, ◌+◌, IsTrue, IsOk, ◌++◌, [], length, List, ℕ, OnOk, OnErr};
 ghost use Rattle.ssh_text.specs.Text.{line_limit};
 ghost use Rattle.ssh_text.specs.Kept.{KeepsLine, kept_count};
 
@@ -23,8 +8,8 @@ use crate::file::LINE_LIMIT;
 use std::alloc::{AllocError, Global};
 use std::marker::Model;
 
-/// The bytes of a line, or the mark that it is longer than a line may be. The buffer is used again
-/// for each line.
+/// The bytes of a line, or the mark that it is longer than `LINE_LIMIT`. One buffer serves all
+/// lines of a file.
 #[derive(Debug, Drop)]
 pub(crate) struct KeptLine {
     bytes: Vec<u8>,
@@ -44,7 +29,7 @@ impl Model for KeptLine {
 }
 
 impl KeptLine {
-    /// The line that has no bytes.
+    /// An empty line.
     pub(crate) fn new(alloc: Global) -> KeptLine
         ensures keeps { KeepsLine result [] }
         ensures bound { length result.bytes ≤ line_limit }
@@ -61,7 +46,7 @@ impl KeptLine {
         self.too_long
     }
 
-    /// The line has no bytes.
+    /// Whether the line has no bytes. A line that is too long is not empty.
     pub(crate) fn is_empty(&self) -> bool
         ensures { (line : List ℕ) → KeepsLine self.now line → (IsTrue result ↔ (length line ≡ 0)) }
     {
@@ -75,7 +60,7 @@ impl KeptLine {
         &self.bytes
     }
 
-    /// Begins a line that has no bytes.
+    /// Begins an empty line.
     pub(crate) fn clear(&mut self)
         ensures keeps { KeepsLine self.new [] }
         ensures count { kept_count self.new ≡ 0 }
@@ -85,7 +70,7 @@ impl KeptLine {
         self.too_long = false;
     }
 
-    /// Adds bytes to the line. Where memory is refused, it stays as it was.
+    /// Appends bytes to the line. On an `Err` the line is unchanged.
     pub(crate) fn append(&mut self, part: &[u8]) -> Result<(), AllocError>
         ensures ok { OnOk result
             ((line : List ℕ) → KeepsLine self.old line → KeepsLine self.new (line ++ part.now)) }
@@ -110,7 +95,7 @@ impl KeptLine {
         Ok(())
     }
 
-    /// Begins the next line with these bytes. Where memory is refused, the line before stays.
+    /// Begins the next line with these bytes. On an `Err` the line before is unchanged.
     pub(crate) fn begin(&mut self, part: &[u8]) -> Result<(), AllocError>
         ensures ok { OnOk result (KeepsLine self.new part.now) }
         ensures count { OnOk result (kept_count self.new ≤ length part.now) }
@@ -130,7 +115,8 @@ impl KeptLine {
     }
 }
 
-/// Puts these bytes in the place of those in the buffer, which grows before a byte is lost.
+/// Replaces the bytes of the buffer. The buffer grows before a byte is overwritten, so that an
+/// `Err` changes nothing.
 fn replace(buffer: &mut Vec<u8>, part: &[u8]) -> Result<(), AllocError>
     ensures ok { OnOk result (buffer.new.items ≡ part.now) }
     ensures err { OnErr result (buffer.new.items ≡ buffer.old.items) }

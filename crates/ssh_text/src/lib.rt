@@ -1,9 +1,9 @@
-//! The lines of files, and their words.
+//! Cuts files into lines, and lines into words, blanks and a comment (sshd(8)).
 //!
 //! Lines are counted from 1 and come without their LF. `Lines` cuts a whole file, whatever the
-//! length of its lines; `Scanner` takes a file in pieces, keeps at most one line, and tells of a
-//! line past the limit that it is too long. A caller that looks for the first line that begins with
-//! a word (a test runs these lines):
+//! length of its lines. `Scanner` reads a file in pieces, stores at most one line, and reports a
+//! line past the limit as too long. An example: the first line that begins with a word (a test runs
+//! these lines):
 //!
 //! ```
 //! for (number, line) in Lines::new(file) {
@@ -16,15 +16,12 @@
 //! ```
 #![tactic(auto)]
 
-mod bytes;
 mod file;
 mod kept;
 mod laws;
-mod samples;
 mod scanner;
 mod text;
 
-pub use bytes::Bytes;
 pub use file::{FILE_LIMIT, LINE_LIMIT, Lines};
 pub use scanner::{Line, Scanner};
-pub use text::{comment_in, ends_with, is_blank, skip_blanks, split_word, without_last};
+pub use text::{Bytes, comment_in, ends_with, is_blank, skip_blanks, split_word, without_last};

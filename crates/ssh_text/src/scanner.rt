@@ -1,49 +1,16 @@
-//! The lines of a file that comes in pieces.
+//! Cuts a file that is read in pieces into lines, with at most one line in memory.
 
-ghost use Rattle.std.specs.Prelude.{
-  ◌≡◌,
-  ◌↔◌,
-  ◌<◌,
-  ◌≤◌,
-  ◌+◌,
-  ◌^◌,
-  ◌++◌,
-  ◌∷◌,
-  [],
-  length,
-  take,
-  true,
-  false,
-  List,
-  ℕ,
-  IsOk,
-  IsTrue,
-  IsSome,
-  IfSome,
-  None,
-  IfOk,
-  OnOk,
-  OnErr,
-};
+ghost use Rattle.std.specs.Prelude.{◌≡◌, ◌↔◌, ◌<◌, ◌≤◌, ◌+◌, ◌^◌, ◌++◌, ◌∷◌, [], length, take, true, false, List, ℕ, IsOk, IsTrue, IsSome, IfSome, None, IfOk, OnOk, OnErr};
 ghost use Rattle.ssh_text.specs.Text.{line_len, line_limit};
-ghost use Rattle.ssh_text.specs.Scan.{
-  HasNoNewline,
-  IsLastLine,
-  IsReadyLine,
-  StandsFor,
-  has_newline,
-  lines_begun,
-  unfinished,
-  up_to_newline,
-};
+ghost use Rattle.ssh_text.specs.Scan.{HasNoNewline, IsLastLine, IsReadyLine, StandsFor, has_newline, lines_begun, unfinished, up_to_newline};
 
 use crate::file::line_len;
 use crate::kept::KeptLine;
 use std::alloc::{AllocError, Global};
 use std::marker::Model;
 
-/// The lines of a file that comes in pieces, cut anywhere. It keeps the bytes of one line at most,
-/// and none of a line that is longer than a line may be.
+/// Reads a file in pieces that may end anywhere. It stores the bytes of at most one line, and no
+/// bytes of a line that is longer than `LINE_LIMIT`.
 #[derive(Debug, Drop)]
 pub struct Scanner {
     used: u64,
@@ -67,8 +34,8 @@ impl Model for Scanner {
         { used = s.used; lines = s.lines; kept = s.kept; ended = s.ended; ready = s.ready }) };
 }
 
-/// A line that is ready: its bytes without the LF, or the mark that they are more than a line may
-/// have.
+/// A line that is complete: its bytes without the LF, or the mark that there are more than
+/// `LINE_LIMIT`.
 #[derive(Clone, Copy, Debug, PartialEq, Eq)]
 pub enum Line<'a> {
     Whole(&'a [u8]),
@@ -76,7 +43,7 @@ pub enum Line<'a> {
 }
 
 impl Scanner {
-    /// A scanner that has used no bytes.
+    /// A scanner that has read no bytes.
     pub fn new(alloc: Global) -> Scanner
         ensures stands_for { StandsFor result [] }
         ensures ready { result.ready ≡ false }
@@ -91,7 +58,7 @@ impl Scanner {
         }
     }
 
-    /// How many bytes were used.
+    /// How many bytes of the file have been read.
     pub fn used(&self) -> u64
         ensures value { result ≡ self.now.used }
         ensures count { (bytes : List ℕ) → StandsFor self.now bytes → result ≡ length bytes }
@@ -100,8 +67,8 @@ impl Scanner {
         self.used
     }
 
-    /// Uses the piece up to and with its first LF, or all of it, and says how many bytes that is
-    /// and whether a line is ready. Where memory is refused, nothing is used.
+    /// Reads the piece up to and including its first LF, or all of it. Returns how many bytes were
+    /// read, and whether a line is complete. On an `Err` nothing was read.
     pub fn feed(&mut self, piece: &[u8]) -> Result<(usize, bool), AllocError>
         requires { self.old.used + length piece.now < 2 ^ 64 }
         ensures count { IfOk result (λ fed. fed.0 ≡ length (up_to_newline piece.now)) }
@@ -118,12 +85,12 @@ impl Scanner {
         ensures used { IfOk result (λ fed. self.new.used ≡ self.old.used + fed.0) }
         ensures bounded { length self.new.kept.bytes ≤ line_limit }
         ensures err { OnErr result (self.new ≡ self.old) }
-        // What makes a line too long is used whatever memory does,
+        // Bytes that make a line too long need no memory,
         ensures spare { (bytes : List ℕ)
             → StandsFor self.old bytes
             → line_limit < length (unfinished bytes) + line_len piece.now
             → IsOk result }
-        // and so is a piece of no bytes, and the LF that a piece begins with.
+        // and neither do an empty piece and a piece that begins with an LF.
         ensures nothing { line_len piece.now ≡ 0 → IsOk result }
     {
         let end = line_len(piece);
@@ -135,7 +102,7 @@ impl Scanner {
         Ok((end + 1, true))
     }
 
-    /// Uses bytes that have no LF.
+    /// Reads bytes that have no LF.
     fn take_part(&mut self, part: &[u8]) -> Result<(), AllocError>
         requires { self.old.used + length part.now < 2 ^ 64 }
         ensures stands_for { OnOk result (HasNoNewline part.now
@@ -165,7 +132,7 @@ impl Scanner {
         Ok(())
     }
 
-    /// Uses the LF of the line that the scanner is in.
+    /// Reads the LF of the current line.
     fn take_newline(&mut self)
         requires open { self.old.ended ≡ false }
         requires fits { self.old.used + 1 < 2 ^ 64 }
@@ -182,8 +149,8 @@ impl Scanner {
     }
 
     /// The line that the piece begins with, and its number, where no line is unfinished and the
-    /// piece has an LF: the line is used with its LF and lies in the piece, whatever its length, so
-    /// that it needs no copy. Else nothing is used.
+    /// piece has an LF. The line is read with its LF, whatever its length, and is a slice of the
+    /// piece, so that it needs no copy. On `None` nothing was read.
     pub fn whole_line<'a>(&mut self, piece: &'a [u8]) -> Option<(u64, &'a [u8])>
         requires { self.old.used + length piece.now < 2 ^ 64 }
         ensures found { (bytes : List ℕ)
@@ -229,7 +196,7 @@ impl Scanner {
         self.kept.is_empty()
     }
 
-    /// How many lines were begun and are finished.
+    /// How many lines are complete.
     fn lines_begun(&self) -> u64
         ensures value { result ≡ lines_begun self.now }
         ensures bound { result ≤ self.now.used }
@@ -241,7 +208,7 @@ impl Scanner {
         }
     }
 
-    /// Uses a line and its LF, and keeps none of it. Its number is what comes back.
+    /// Reads a line and its LF without storing it, and returns its number.
     fn pass_line(&mut self, line: &[u8]) -> u64
         requires { self.old.used + (length line.now + 1) < 2 ^ 64 }
         ensures line { HasNoNewline line.now
@@ -267,7 +234,7 @@ impl Scanner {
         number
     }
 
-    /// The line that is ready, and its number.
+    /// The line that is complete, and its number.
     pub fn line(&self) -> (u64, Line<'_>)
         requires { self.now.ready ≡ true }
         ensures { (bytes : List ℕ) → StandsFor self.now bytes → IsReadyLine bytes result }
@@ -279,7 +246,8 @@ impl Scanner {
         (number, Line::Whole(self.kept.as_slice()))
     }
 
-    /// Ends the file, and says whether a last line without an LF is ready.
+    /// Ends the file, and returns whether there is a last line without an LF, which `line` then
+    /// returns.
     pub fn finish(&mut self) -> bool
         ensures stands_for { (bytes : List ℕ)
             → StandsFor self.old bytes

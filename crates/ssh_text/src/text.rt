@@ -1,19 +1,10 @@
-//! The parts of a line: its words, its blanks and its comment.
+//! Cuts a line into words, blanks and a comment, and holds copied bytes.
 
-ghost use Rattle.std.specs.Prelude.{◌≡◌, ◌≤◌, length, take, drop};
-ghost use Rattle.ssh_text.specs.Text.{
-  is_blank,
-  is_trailing,
-  without_last,
-  ends_with,
-  skip_blanks,
-  first_word,
-  after_word,
-  without_trailing,
-  comment_of,
-};
+ghost use Rattle.std.specs.Prelude.{◌≡◌, ◌≤◌, length, take, drop, ◌↔◌, IsTrue};
+ghost use Rattle.ssh_text.specs.Text.{is_blank, is_trailing, without_last, ends_with, skip_blanks, first_word, after_word, without_trailing, comment_of};
 
 use memchr::memchr2;
+use std::marker::Model;
 
 /// A space or a tab.
 pub fn is_blank(byte: u8) -> bool
@@ -29,7 +20,7 @@ fn is_trailing(byte: u8) -> bool
     is_blank(byte) || byte == b'\r'
 }
 
-/// The text without this byte at its end, if it ends with it.
+/// The text without this byte at its end, if it ends with it. Only one is removed.
 pub fn without_last(byte: u8, text: &[u8]) -> &[u8]
     ensures { result.now ≡ without_last byte text.now }
 {
@@ -39,7 +30,7 @@ pub fn without_last(byte: u8, text: &[u8]) -> &[u8]
     if *last == byte { front } else { text }
 }
 
-/// The text ends with this byte.
+/// Whether the text ends with this byte.
 pub fn ends_with(byte: u8, text: &[u8]) -> bool
     ensures { result ≡ ends_with byte text.now }
 {
@@ -61,7 +52,7 @@ pub fn skip_blanks(text: &[u8]) -> &[u8]
     &[]
 }
 
-/// How many bytes stand before the first blank.
+/// How many bytes come before the first blank.
 fn word_len(text: &[u8]) -> usize
     ensures word { take result text.now ≡ first_word text.now }
     ensures rest { drop result text.now ≡ after_word text.now }
@@ -73,7 +64,7 @@ fn word_len(text: &[u8]) -> usize
     }
 }
 
-/// The first word, and what follows it.
+/// The first word, and what follows it, from the blank on.
 pub fn split_word(text: &[u8]) -> (&[u8], &[u8])
     ensures word { result.0.now ≡ first_word text.now }
     ensures rest { result.1.now ≡ after_word text.now }
@@ -95,9 +86,61 @@ fn without_trailing(text: &[u8]) -> &[u8]
     kept
 }
 
-/// The comment in what follows the base64 field.
+/// The comment in what follows the base64 field: without blanks in front, and without spaces, tabs
+/// and CRs at the end.
 pub fn comment_in(text: &[u8]) -> &[u8]
     ensures { result.now ≡ comment_of text.now }
 {
     without_trailing(skip_blanks(text))
+}
+
+/// Bytes in allocated memory. Contracts see them as a list.
+#[derive(Debug, Drop)]
+pub struct Bytes {
+    kept: Vec<u8>,
+}
+
+impl Model for Bytes {
+    ghost use Rattle.std.specs.Prelude.{List, ℕ};
+
+    ghost Value = { List ℕ };
+
+    ghost view = { λ b. b.kept.items };
+}
+
+impl Bytes {
+    pub fn new(kept: Vec<u8>) -> Bytes
+        ensures { result ≡ kept.items }
+    {
+        Bytes { kept }
+    }
+
+    pub fn as_slice(&self) -> &[u8]
+        ensures { result.now ≡ self.now }
+    {
+        &self.kept
+    }
+}
+
+/// Equal where the bytes are equal; the allocations do not matter.
+impl PartialEq for Bytes {
+    ghost use Rattle.std.specs.Cmp.{partial_equiv_from_equiv};
+    ghost use Rattle.std.specs.Cmp.Lexicographic.{nat_list_eq_equiv};
+    ghost use Rattle.std.specs.Str.{bytes_eq};
+
+    ghost eq = { bytes_eq };
+
+    ghost laws = { partial_equiv_from_equiv nat_list_eq_equiv };
+
+    fn eq(&self, other: &Self) -> bool
+        ensures same { IsTrue result ↔ (self.now ≡ other.now) }
+    {
+        self.as_slice() == other.as_slice()
+    }
+}
+
+impl Eq for Bytes {
+    ghost use Rattle.std.specs.Cmp.Lexicographic.{nat_list_eq_equiv};
+
+    ghost laws = { nat_list_eq_equiv };
 }

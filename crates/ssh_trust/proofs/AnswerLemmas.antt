@@ -1,12 +1,5 @@
 -- What is answered by an audit, whatever it searches for.
-use Rattle.std.proofs.Common.{◌≡◌, ◌∙◌, ◌+◌, ◌<◌, ◌≤◌, ◌↔◌, ℕ, List, length, nat_lt, Result, Ok, Err, subst, refl, inl, inr, arith}
-use Rattle.std.proofs.lemmas.Bool.{cases_Bool, le-ltb, lt-ltb, ltb-false, ltb-true}
-use Rattle.std.specs.Prelude.{IfOk}
-use Rattle.ssh_text.specs.Text.{file_limit}
-use Rattle.ssh_offers.specs.declared.error.AuditError.{AuditError}
-use Rattle.ssh_offers.specs.declared.error.AuditError.TheVariants.{FileTooLong, Memory}
-use Rattle.ssh_trust.specs.declared.decision.Decision.{Decision}
-use Rattle.ssh_trust.specs.Answer.{GivesOrMemory, OfClaim, RefusesAs, if_short}
+use Rattle.ssh_trust.proofs.Imports.{◌≡◌, ◌∙◌, ◌+◌, ◌<◌, ◌≤◌, ◌↔◌, ℕ, List, length, nat_lt, Result, Ok, Err, subst, refl, inl, inr, arith, cases_Bool, le-ltb, lt-ltb, ltb-false, ltb-true, IfOk, file_limit, AuditError, FileTooLong, Memory, Decision, GivesOrMemory, OfClaim, RefusesAs, if_short}
 
 pub err-inj : {A : Type 0} (e f : AuditError) → ◌≡◌ {A = Result A AuditError} (Err e) (Err f) → e ≡ f
 err-inj e f h = cc
@@ -20,7 +13,7 @@ pub of-claim : {Q : Type 0} (r : Result Q AuditError) (P : Q → Type 0) → ((c
 of-claim (Ok claim) P h = h claim refl
 of-claim (Err e) P h = tt
 
--- what follows from what is said of a decision on what is claimed is said of it too
+-- what each decision on the claim implies holds of the result too
 pub decided-too : {Q : Type 0} (r : Result Q AuditError) (claim : Q) (result : Result Decision AuditError) (P R : Q → Decision → Type 0) → ((d : Decision) → P claim d → R claim d)
     → r ≡ Ok claim → OfClaim r (λ c. IfOk result (P c)) → IfOk result (R claim)
 decided-too (Err e) claim result P R f is h = cc

@@ -1,17 +1,5 @@
 -- What an audit has read, whatever it searches for: no piece, one more line, or a piece without one.
-use Rattle.std.proofs.Common.{◌≡◌, ℕ, zero, suc, ◌+◌, ◌<◌, ◌≤◌, true, false, List, [], ◌∷◌, ◌++◌, length, take, drop, append_assoc, refl, sym, ap, subst, ◌∙◌, arith}
-use Rattle.std.proofs.lemmas.List.{length-append, take_all, take-append-drop}
-use Rattle.std.proofs.Math.Seq.{take-add}
-use Rattle.ssh_text.specs.declared.scanner.Line.{Line}
-use Rattle.ssh_text.specs.declared.scanner.Line.TheVariants.{Whole, TooLong}
-use Rattle.ssh_text.specs.Text.{file_limit, line_len, lines_of, numbered}
-use Rattle.ssh_text.specs.Scan.{IsLastLine, IsReadyLine, has_newline, up_to_newline, unfinished, whole_lines}
-use Rattle.ssh_text.proofs.PieceLemmas.{adds-none, adds-one, ends-none, ends-one}
-use Rattle.ssh_trust.specs.declared.pieces.Pieces.{Pieces}
-use Rattle.ssh_trust.specs.Audit.{HasRead, HasTaken}
-use Rattle.ssh_trust.specs.declared.search.Search.{Search}
-use Rattle.ssh_trust.specs.FileLines.{IsHandedLine}
-use Rattle.ssh_trust.specs.Findings.{HasFound}
+use Rattle.ssh_trust.proofs.Imports.{◌≡◌, ℕ, zero, suc, ◌+◌, ◌<◌, ◌≤◌, true, false, List, [], ◌∷◌, ◌++◌, length, take, drop, append_assoc, refl, sym, ap, subst, ◌∙◌, arith, length-append, take_all, take-append-drop, take-add, Line, Whole, TooLong, file_limit, line_len, lines_of, numbered, IsLastLine, IsReadyLine, has_newline, up_to_newline, unfinished, whole_lines, adds-none, adds-one, ends-none, ends-one, Pieces, HasRead, HasTaken, Search, IsHandedLine, HasFound}
 use Rattle.ssh_trust.specs.Scan.{after_lines}
 use Rattle.ssh_trust.specs.Turns.{least_over, most_over}
 use Rattle.ssh_trust.proofs.CandidateLemmas.{AreBytes, bytes-append}
@@ -22,11 +10,11 @@ use Rattle.ssh_trust.proofs.TurnLemmas.{least_over-push, most_over-push}
 
 -- before any line
 pub found-none-yet : {C T S : Type 0} (claimed : T → C) (nothing : S) (add : C → S → ℕ × List ℕ → S) (most : C → List ℕ → ℕ) (least : C → S → ℕ × List ℕ → ℕ) (claim : C) (search : Search T S)
-    → claimed search.sought ≡ claim → search.said ≡ nothing → search.turns ≡ 0 → HasFound claimed nothing add most least claim [] search
+    → claimed search.matcher ≡ claim → search.state ≡ nothing → search.steps ≡ 0 → HasFound claimed nothing add most least claim [] search
 unfolding after_lines most_over least_over
-found-none-yet claimed nothing add most least claim search asked said none = record {
-  sought = asked;
-  said = said;
+found-none-yet claimed nothing add most least claim search asked state none = record {
+  matcher = asked;
+  state = state;
   few = omega (arith, none);
   enough = omega (arith, none);
 }
@@ -34,16 +22,16 @@ found-none-yet claimed nothing add most least claim search asked said none = rec
 -- one more line
 pub found-push : {C T S : Type 0} (claimed : T → C) (nothing : S) (add : C → S → ℕ × List ℕ → S) (most : C → List ℕ → ℕ) (least : C → S → ℕ × List ℕ → ℕ) (claim : C) (old new : Search T S)
     (lines : List (ℕ × List ℕ)) (x : ℕ × List ℕ) (taken : ℕ) → HasFound claimed nothing add most least claim lines old
-    → new.sought ≡ old.sought → new.said ≡ add (claimed old.sought) old.said x → new.turns ≤ old.turns + taken → old.turns ≤ new.turns → taken ≤ new.turns
-    → taken ≤ most (claimed old.sought) x.1 → least (claimed old.sought) old.said x ≤ taken → HasFound claimed nothing add most least claim (lines ++ x ∷ []) new
+    → new.matcher ≡ old.matcher → new.state ≡ add (claimed old.matcher) old.state x → new.steps ≤ old.steps + taken → old.steps ≤ new.steps → taken ≤ new.steps
+    → taken ≤ most (claimed old.matcher) x.1 → least (claimed old.matcher) old.state x ≤ taken → HasFound claimed nothing add most least claim (lines ++ x ∷ []) new
 found-push {S = S} claimed nothing add most least claim old new lines x taken h same more sum grown one few enough =
-    let above : taken ≤ most claim x.1 = subst (λ c. taken ≤ most c x.1) h.sought few in
+    let above : taken ≤ most claim x.1 = subst (λ c. taken ≤ most c x.1) h.matcher few in
     let below : least claim (after_lines (add claim) nothing lines) x ≤ taken =
-    subst (λ s. least claim s x ≤ taken) h.said (subst (λ c. least c old.said x ≤ taken) h.sought enough) in
+    subst (λ s. least claim s x ≤ taken) h.state (subst (λ c. least c old.state x ≤ taken) h.matcher enough) in
     record {
-      sought = ap claimed same ∙ h.sought;
-      said =
-          more ∙ ap (λ c. add c old.said x) h.sought ∙ ap (λ (s : S). add claim s x) h.said
+      matcher = ap claimed same ∙ h.matcher;
+      state =
+          more ∙ ap (λ c. add c old.state x) h.matcher ∙ ap (λ (s : S). add claim s x) h.state
           ∙ sym (after_lines-push (add claim) nothing lines x);
       few = omega (arith, sum, above, h.few, most_over-push (most claim) lines x);
       enough = omega (arith, grown, one, below, h.enough, least_over-push (add claim) (least claim) nothing lines x);

@@ -1,15 +1,5 @@
--- The candidate by what each line is to an offer is the candidate in the subject's words.
-use Rattle.std.proofs.Common.{◌≡◌, ◌∙◌, ◌+◌, ◌-◌, ◌<◌, get_or, ℕ, zero, suc, List, [], ◌∷◌, ◌++◌, map, Option, Some, None, ap, subst, sym, refl, inl, inr, arith}
-use Rattle.std.specs.Prelude.{slice_get}
-use Rattle.std.specs.List.{AllByRecursion}
-use Rattle.ssh_text.specs.Text.{AreLines, lines_of}
-use Rattle.ssh_text.proofs.LineLemmas.{lines_of-are, lines_of-only}
-use Rattle.ssh_rules.specs.declared.reason.Obstacle.{Obstacle}
-use Rattle.ssh_rules.specs.declared.verdict.LineVerdict.{LineVerdict}
-use Rattle.ssh_rules.specs.declared.verdict.LineVerdict.TheVariants.{Admits, Skips}
-use Rattle.ssh_rules.specs.Verdict.{verdict_by}
-use Rattle.ssh_trust.specs.FileLines.{StandsAt}
-use Rattle.ssh_trust.specs.Candidate.{IsFirstAdmitted, candidate_of, first_admitted}
+-- The candidate as a function of the lines' verdicts is the candidate as a relation.
+use Rattle.ssh_trust.proofs.Imports.{◌≡◌, ◌∙◌, ◌+◌, ◌-◌, ◌<◌, get_or, ℕ, zero, suc, List, [], ◌∷◌, ◌++◌, map, Option, Some, None, ap, subst, sym, refl, inl, inr, arith, slice_get, AllByRecursion, AreLines, lines_of, lines_of-are, lines_of-only, Mismatch, LineVerdict, Admits, Skips, verdict_by, StandsAt, IsFirstAdmitted, candidate_of, first_admitted}
 
 abbrev pub AreBytes : List ℕ → Type 0
 AreBytes text = AllByRecursion (λ c. c < 256) text
@@ -103,7 +93,7 @@ at-place file i k line number stands =
 
 -- ---- a line that admits
 
-pub admits-by : {E : Type 0} (o : Option Obstacle) (f e : E) → verdict_by o f ≡ Admits e → (o ≡ None) × (f ≡ e)
+pub admits-by : {E : Type 0} (o : Option Mismatch) (f e : E) → verdict_by o f ≡ Admits e → (o ≡ None) × (f ≡ e)
 admits-by None f e h =
     let same : f ≡ e = cc in
     (refl, same)

@@ -1,35 +1,9 @@
--- A decision means what is said of granted and denied hosts' keys.
-use Rattle.std.proofs.Common.{◌≡◌, ◌∙◌, ◌+◌, ◌-◌, ◌<◌, ◌⊎◌, ◌||◌, cond, ℕ, zero, suc, Bool, true, false, List, [], ◌∷◌, map, Option, Some, None, ap, subst, sym, refl, inl, inr, arith}
-use Rattle.std.specs.Prelude.{option_map, slice_get}
-use Rattle.std.specs.Bool.{Decides}
-use Rattle.std.specs.Str.{bytes_eq}
-use Rattle.std.proofs.lemmas.Slice.Eq.{bytes_eq-Decides}
-use Rattle.ssh_keys.specs.PublicKey.{key_blob}
-use Rattle.ssh_lines.specs.KnownEntry.{KnownEntry}
-use Rattle.ssh_lines.specs.declared.known.KnownLine.{KnownLine}
-use Rattle.ssh_lines.specs.declared.known.KnownLine.TheVariants.{Blank, Comment, Entry, Revoked, RevokedUnreadable, Unreadable}
-use Rattle.ssh_text.specs.Text.{lines_of}
-use Rattle.ssh_lines.specs.KnownGrammar.{Blind, SpellsKnown, known_line}
-use Rattle.ssh_lines.proofs.ReadKnown.{known_line-spelled, known_line-spells}
-use Rattle.ssh_lines.proofs.RevokedLemmas.{blind-read, read-blind, read-revokes, revokes-read}
-use Rattle.ssh_text.proofs.LineLemmas.{lines_of-are}
-use Rattle.ssh_offers.specs.declared.query.Signed.{Signed}
-use Rattle.ssh_offers.specs.Evidence.{host_evidence}
-use Rattle.ssh_offers.specs.HostClaim.{HostClaim}
-use Rattle.ssh_offers.specs.Offer.{Offer, certified, plain}
-use Rattle.ssh_offers.specs.Vouching.{first_unvouched}
-use Rattle.ssh_offers.proofs.VouchingLemmas.{none_unvouched, all_vouched}
-use Rattle.ssh_rules.specs.declared.reason.Obstacle.{Obstacle}
-use Rattle.ssh_rules.specs.declared.reason.Reason.{Reason}
-use Rattle.ssh_rules.specs.declared.verdict.LineVerdict.TheVariants.{Admits}
-use Rattle.ssh_host_rules.specs.HostAdmission.{AdmitsHost, host_obstacle}
-use Rattle.ssh_host_rules.specs.Revocation.{IsOwn, is_own, may_revoke, revokes_offer}
-use Rattle.ssh_rules.specs.Verdict.{verdict_by}
-use Rattle.ssh_host_rules.specs.Verdict.{host_verdict}
-use Rattle.ssh_host_rules.proofs.HostAdmissionLemmas.{host_where_none, none_where_host}
-use Rattle.ssh_trust.specs.Candidate.{candidate_of, reasons_of}
-use Rattle.ssh_trust.specs.HostDecision.{HoldsAt, HostMeans, IsLeast, RevokesOwn, host_decision, host_decision_by, revocation_cause}
-use Rattle.ssh_trust.specs.HostScan.{first_number, host_line_verdict, host_scan_of, is_blind, admitting_number, revokes_by}
+-- A decision has the meaning that is stated for granted and denied hosts' keys.
+use Rattle.ssh_trust.proofs.Imports.{◌≡◌, ◌∙◌, ◌+◌, ◌-◌, ◌<◌, ◌⊎◌, ◌||◌, cond, ℕ, zero, suc, Bool, true, false, List, [], ◌∷◌, map, Option, Some, None, ap, subst, sym, refl, inl, inr, arith, option_map, slice_get, Decides, bytes_eq, bytes_eq-Decides, key_blob, KnownEntry, KnownLine, Blank, Comment, Entry, Revoked, RevokedUnreadable, lines_of, Blind, SpellsKnown, known_line-spelled, known_line-spells, blind-read, read-blind, read-revokes, revokes-read, lines_of-are, Signed, host_evidence, HostClaim, Offer, certified, plain, first_unvouched, none_unvouched, all_vouched, Mismatch, Reason, Admits, AdmitsHost, host_mismatch, IsOwn, is_key_or_signer, may_revoke, revokes_offer, verdict_by, host_verdict, host_where_none, none_where_host, candidate_of, reasons_of, HoldsAt, HostMeans, IsLeast, RevokesOwn, host_decision_by, revocation_cause, first_number, host_line_verdict, is_blind, admitting_number, revokes_by}
+use Rattle.ssh_entries.specs.declared.known_line.KnownLine.TheVariants.{Unreadable}
+use Rattle.ssh_entries.specs.KnownGrammar.{known_line}
+use Rattle.ssh_trust.specs.HostDecision.{host_decision}
+use Rattle.ssh_trust.specs.HostScan.{host_scan_of}
 use Rattle.ssh_trust.proofs.CandidateLemmas.{AreBytes, Judges, admits-by, at-place, candidate-is, line-bytes, line-of, no-candidate, some-same}
 
 -- ---- a line that admits
@@ -41,13 +15,13 @@ admits-line claim (Unreadable why) e h = cc
 admits-line claim (Revoked blob) e h = cc
 admits-line claim RevokedUnreadable e h = cc
 admits-line claim (Entry f) e h =
-    let both = admits-by (host_obstacle f claim) f e h in
+    let both = admits-by (host_mismatch f claim) f e h in
     (ap Entry both.1, subst (λ (x : KnownEntry). AdmitsHost x claim) both.1 (host_where_none f claim both.0))
 
 pub host-judges : (claim : HostClaim) → Judges KnownEntry SpellsKnown (λ e. AdmitsHost e claim) (host_line_verdict claim)
 host-judges claim = record {
   found = λ line e bytes h. let is = admits-line claim (known_line line) e h in (known_line-spells line e bytes is.0, is.1);
-  only = λ line e spelled admits. ap (host_verdict claim) (known_line-spelled e line spelled) ∙ ap (λ (o : Option Obstacle). verdict_by o e) (none_where_host e claim admits);
+  only = λ line e spelled admits. ap (host_verdict claim) (known_line-spelled e line spelled) ∙ ap (λ (o : Option Mismatch). verdict_by o e) (none_where_host e claim admits);
 }
 
 -- ---- the first line that passes
@@ -155,7 +129,7 @@ or-left : (r s : Bool) → r ≡ true → (r || s) ≡ true
 or-left true s h = refl
 or-left false s h = cc
 
-own-decides : (offer : Offer) (blob : List ℕ) → Decides (is_own offer blob) (IsOwn offer blob)
+own-decides : (offer : Offer) (blob : List ℕ) → Decides (is_key_or_signer offer blob) (IsOwn offer blob)
 own-decides (plain key) blob = bytes_eq-Decides blob (key_blob key)
 own-decides (certified c) blob = (
   λ h. own-by (key_blob c.key) (key_blob c.signer) blob (bytes_eq blob (key_blob c.key)) refl h,
@@ -187,8 +161,8 @@ blinding line (Unreadable why) e h = cc
 blinding line (Revoked blob) e h = cc
 blinding line RevokedUnreadable e h = read-blind line e
 
-pub blind-decides : DecidesLines is_blind Blind
-blind-decides line bytes = (
+pub unreadable_revocation-decides : DecidesLines is_blind Blind
+unreadable_revocation-decides line bytes = (
   λ h. blinding line (known_line line) refl h,
   λ h. ap may_revoke (blind-read line bytes h),
 )
@@ -217,7 +191,7 @@ trusts file claim vouched reasons bytes r b (Some found) c None v = (
   record {
     candidate = candidate-is (host_line_verdict claim) (host-judges claim) file found.0 found.1 bytes c;
     unrevoked = none-at (revokes_by claim) (RevokesOwn claim.offer) (revokes-decides claim) file bytes r;
-    sighted = none-at is_blind Blind blind-decides file bytes b;
+    no_unreadable_revocation = none-at is_blind Blind unreadable_revocation-decides file bytes b;
     all_vouched = none_unvouched vouched (host_evidence claim) v;
   },
   refl,
@@ -226,16 +200,16 @@ trusts file claim vouched reasons bytes r b (Some found) c None v = (
 
 means-by : (file : List ℕ) (claim : HostClaim) (vouched : List Signed) (reasons : List (ℕ × Reason)) → AreBytes file
     → (revoked : Option ℕ) → first_number (revokes_by claim) 1 (lines_of file) ≡ revoked
-    → (blind : Option ℕ) → first_number is_blind 1 (lines_of file) ≡ blind
+    → (unreadable_revocation : Option ℕ) → first_number is_blind 1 (lines_of file) ≡ unreadable_revocation
     → (u : Option ℕ) → first_unvouched vouched (host_evidence claim) ≡ u
-    → HostMeans file claim vouched (host_decision_by (revocation_cause revoked blind)
+    → HostMeans file claim vouched (host_decision_by (revocation_cause revoked unreadable_revocation)
     (option_map admitting_number (candidate_of (map (host_line_verdict claim) (lines_of file)))) u reasons (host_evidence claim))
-means-by file claim vouched reasons bytes (Some n) r blind b u v =
+means-by file claim vouched reasons bytes (Some n) r unreadable_revocation b u v =
     let least = least-at (revokes_by claim) (RevokesOwn claim.offer) (revokes-decides claim) file bytes n r in
     (λ i e grant. grant.unrevoked n least.holds, least, refl)
 means-by file claim vouched reasons bytes None r (Some n) b u v =
-    let least = least-at is_blind Blind blind-decides file bytes n b in
-    (λ i e grant. grant.sighted n least.holds, least, refl)
+    let least = least-at is_blind Blind unreadable_revocation-decides file bytes n b in
+    (λ i e grant. grant.no_unreadable_revocation n least.holds, least, refl)
 means-by file claim vouched reasons bytes None r None b u v = trusts file claim vouched reasons bytes r b _ refl u v
 
 pub host_means : (file : List ℕ) (claim : HostClaim) (vouched : List Signed) → AreBytes file → HostMeans file claim vouched (host_decision file claim vouched)

@@ -1,18 +1,8 @@
 -- The scan of a known_hosts file, line by line.
-use Rattle.std.proofs.Common.{◌≡◌, ◌∙◌, ◌+◌, ℕ, Bool, true, false, cond, List, [], ◌∷◌, map, Option, Some, None, ap, refl, sym}
-use Rattle.std.specs.Prelude.{is_some}
-use Rattle.ssh_lines.specs.KnownEntry.{KnownEntry}
-use Rattle.ssh_lines.specs.declared.known.KnownLine.{KnownLine}
-use Rattle.ssh_lines.specs.KnownGrammar.{known_line}
-use Rattle.ssh_rules.specs.declared.verdict.LineVerdict.{LineVerdict}
-use Rattle.ssh_host_rules.specs.Revocation.{may_revoke, revokes_offer}
-use Rattle.ssh_host_rules.specs.Verdict.{host_verdict}
-use Rattle.ssh_text.specs.Text.{lines_of, numbered}
-use Rattle.ssh_offers.specs.HostClaim.{HostClaim}
-use Rattle.ssh_trust.specs.declared.host_scan.HostScan.{HostScan}
-use Rattle.ssh_trust.specs.declared.scan.Scan.{Scan}
-use Rattle.ssh_trust.specs.Scan.{after_lines, scan_of, scan_verdict}
-use Rattle.ssh_trust.specs.HostScan.{empty_host_scan, first_number, first_so_far, host_line_verdict, host_scan_line, host_scan_of, is_blind, admitting_number, revokes_by}
+use Rattle.ssh_trust.proofs.Imports.{◌≡◌, ◌∙◌, ◌+◌, ℕ, Bool, true, false, cond, List, [], ◌∷◌, map, Option, Some, None, ap, refl, sym, is_some, KnownEntry, KnownLine, LineVerdict, may_revoke, revokes_offer, host_verdict, lines_of, numbered, HostClaim, HostScan, Scan, scan_of, scan_verdict, empty_host_scan, first_number, first_so_far, host_line_verdict, host_scan_line, is_blind, admitting_number, revokes_by}
+use Rattle.ssh_entries.specs.KnownGrammar.{known_line}
+use Rattle.ssh_trust.specs.Scan.{after_lines}
+use Rattle.ssh_trust.specs.HostScan.{host_scan_of}
 use Rattle.ssh_trust.proofs.ScanLemmas.{scanned, scanned-scan_of}
 
 -- ---- its three parts
@@ -40,14 +30,14 @@ first-numbered holds n (line ∷ lines) = first-by holds n lines (numbered (n + 
 parts : (claim : HostClaim) (s : HostScan) (xs : List (ℕ × List ℕ)) → after_lines (host_scan_line claim) s xs ≡ record {
   admission = scanned admitting_number (host_line_verdict claim) s.admission xs;
   revoked = first_after s.revoked (revokes_by claim) xs;
-  blind = first_after s.blind is_blind xs;
+  unreadable_revocation = first_after s.unreadable_revocation is_blind xs;
 }
 unfolding after_lines first_after
 parts claim s [] = refl
 parts claim s (x ∷ xs) = parts claim (host_scan_line claim s x) xs
 
 host_scan : Scan ℕ → Option ℕ → Option ℕ → HostScan
-host_scan admission revoked blind = record { admission = admission; revoked = revoked; blind = blind }
+host_scan admission revoked unreadable_revocation = record { admission = admission; revoked = revoked; unreadable_revocation = unreadable_revocation }
 
 -- all lines of a file
 pub host_scanned-all : (claim : HostClaim) (file : List ℕ) → after_lines (host_scan_line claim) empty_host_scan (numbered 1 (lines_of file)) ≡ host_scan_of claim file
@@ -63,21 +53,21 @@ host_scanned-all claim file =
 
 -- ---- one more line, as it is read
 
--- after the candidate no more is said
-pub line-noted : (claim : HostClaim) (s new : HostScan) (n : ℕ) (line : List ℕ) (read : KnownLine) (revokes blinds : Bool) → read ≡ known_line line
-    → revokes ≡ revokes_offer claim.offer read → blinds ≡ may_revoke read
-    → new ≡ record s { revoked = first_so_far s.revoked n revokes; blind = first_so_far s.blind n blinds }
+-- after the candidate no more is state
+pub line-noted : (claim : HostClaim) (s new : HostScan) (n : ℕ) (line : List ℕ) (read : KnownLine) (revokes is_unreadable : Bool) → read ≡ known_line line
+    → revokes ≡ revokes_offer claim.offer read → is_unreadable ≡ may_revoke read
+    → new ≡ record s { revoked = first_so_far s.revoked n revokes; unreadable_revocation = first_so_far s.unreadable_revocation n is_unreadable }
     → is_some new.admission.candidate ≡ true → new ≡ host_scan_line claim s (n, line)
-line-noted claim s new n line read revokes blinds is r b noted settled =
+line-noted claim s new n line read revokes is_unreadable is r b noted settled =
     let before : is_some s.admission.candidate ≡ true = ap (λ (t : HostScan). is_some t.admission.candidate) (sym noted) ∙ settled in
     rw (noted, r, b, is, before) refl
 
 -- before it the line's verdict is added
-pub line-judged : (claim : HostClaim) (s new : HostScan) (admission : Scan ℕ) (n : ℕ) (line : List ℕ) (read : KnownLine) (revokes blinds : Bool) (verdict : LineVerdict KnownEntry)
-    → read ≡ known_line line → revokes ≡ revokes_offer claim.offer read → blinds ≡ may_revoke read
-    → new ≡ record s { revoked = first_so_far s.revoked n revokes; blind = first_so_far s.blind n blinds }
+pub line-judged : (claim : HostClaim) (s new : HostScan) (admission : Scan ℕ) (n : ℕ) (line : List ℕ) (read : KnownLine) (revokes is_unreadable : Bool) (verdict : LineVerdict KnownEntry)
+    → read ≡ known_line line → revokes ≡ revokes_offer claim.offer read → is_unreadable ≡ may_revoke read
+    → new ≡ record s { revoked = first_so_far s.revoked n revokes; unreadable_revocation = first_so_far s.unreadable_revocation n is_unreadable }
     → is_some new.admission.candidate ≡ false → verdict ≡ host_verdict claim read → admission ≡ scan_verdict admitting_number new.admission n verdict
-    → record { admission = admission; revoked = new.revoked; blind = new.blind } ≡ host_scan_line claim s (n, line)
-line-judged claim s new admission n line read revokes blinds verdict is r b noted none judged added =
+    → record { admission = admission; revoked = new.revoked; unreadable_revocation = new.unreadable_revocation } ≡ host_scan_line claim s (n, line)
+line-judged claim s new admission n line read revokes is_unreadable verdict is r b noted none judged added =
     let before : is_some s.admission.candidate ≡ false = ap (λ (t : HostScan). is_some t.admission.candidate) (sym noted) ∙ none in
     rw (added, judged, noted, r, b, is, before) refl

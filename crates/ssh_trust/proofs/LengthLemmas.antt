@@ -1,29 +1,10 @@
--- The lists that are matched stand on their lines, so that a line takes no more turns than by its length.
-use Rattle.std.proofs.Common.{◌≡◌, ◌∙◌, ℕ, suc, ◌+◌, ◌*◌, ◌≤◌, ◌==◌, Bool, true, false, cond, List, [], ◌∷◌, ◌++◌, length, Option, Some, None, ap, refl, arith, length-append}
-use Rattle.std.proofs.lemmas.Nat.{mul-le}
-use Rattle.ssh_names.specs.Names.{names_text}
-use Rattle.ssh_options.specs.AuthOption.{AuthOption, Switch, Setting}
-use Rattle.ssh_options.specs.declared.option.ValueName.{ValueName}
-use Rattle.ssh_options.specs.declared.option.ValueName.TheVariants.{From}
-use Rattle.ssh_options.specs.OptionNames.{same_value_name}
-use Rattle.ssh_options.specs.OptionText.{SpellsItems, SpellsOption, escaped, quoted}
-use Rattle.ssh_options.specs.Settings.{first_of, setting, settings}
-use Rattle.ssh_lines.specs.AuthEntry.{AuthEntry}
-use Rattle.ssh_lines.specs.AuthGrammar.{SpellsEntry, SpellsOptions, auth_line}
-use Rattle.ssh_lines.specs.declared.entry.AuthLine.{AuthLine}
-use Rattle.ssh_lines.specs.declared.entry.AuthLine.TheVariants as auth
-use Rattle.ssh_lines.specs.KnownEntry.{KnownEntry}
-use Rattle.ssh_lines.specs.KnownGrammar.{SpellsKnown, known_line}
-use Rattle.ssh_lines.specs.declared.known.KnownLine.{KnownLine}
-use Rattle.ssh_lines.specs.declared.known.KnownLine.TheVariants as known
-use Rattle.ssh_lines.proofs.ReadAuth.{auth_line-spells}
-use Rattle.ssh_lines.proofs.ReadKnown.{known_line-spells}
-use Rattle.ssh_offers.specs.HostClaim.{HostClaim}
-use Rattle.ssh_offers.specs.LoginClaim.{LoginClaim}
-use Rattle.ssh_offers.specs.Query.{Login}
-use Rattle.ssh_rules.specs.Turns.{login_most, login_width, source_most}
-use Rattle.ssh_host_rules.specs.Turns.{host_most, host_width}
-use Rattle.ssh_trust.specs.Turns.{host_line_most, login_line_most}
+-- The lists that are matched stand on their lines, so that a line takes no more steps than by its length.
+use Rattle.ssh_trust.proofs.Imports.{◌≡◌, ◌∙◌, ℕ, suc, ◌+◌, ◌*◌, ◌≤◌, ◌==◌, Bool, true, false, cond, List, [], ◌∷◌, ◌++◌, length, Option, Some, None, ap, refl, arith, mul-le, names_text, AuthOption, Switch, Setting, ValueName, From, same_value_name, SpellsItems, SpellsOption, escaped, quoted, first_of, setting, settings, AuthEntry, SpellsEntry, SpellsOptions, AuthLine, KnownEntry, SpellsKnown, KnownLine, auth_line-spells, known_line-spells, HostClaim, LoginClaim, Login, login_most, login_width, source_most, host_most, host_width, host_line_most, login_line_most}
+use Rattle.std.proofs.Common.{length-append}
+use Rattle.ssh_entries.specs.AuthGrammar.{auth_line}
+use Rattle.ssh_entries.specs.declared.auth_line.AuthLine.TheVariants as auth
+use Rattle.ssh_entries.specs.KnownGrammar.{known_line}
+use Rattle.ssh_entries.specs.declared.known_line.KnownLine.TheVariants as known
 use Rattle.ssh_trust.proofs.CandidateLemmas.{AreBytes}
 
 -- ---- the value of an option
@@ -38,7 +19,7 @@ escaped-long (c ∷ cs) = go (c == 34) (escaped-long cs)
 
 abbrev value_length : AuthOption → ℕ
 value_length (Switch flag) = 0
-value_length (Setting name said) = length said
+value_length (Setting name state) = length state
 
 abbrev text_length : Option (List ℕ) → ℕ
 text_length None = 0
@@ -46,16 +27,16 @@ text_length (Some text) = length text
 
 option-long : (option : AuthOption) (text : List ℕ) → SpellsOption option text → value_length option ≤ length text
 option-long (Switch flag) text h = omega arith
-option-long (Setting name said) text (spelled, same, is) =
-    let whole : length text ≡ length spelled + suc (suc (length (escaped said ++ 34 ∷ []))) = ap length is ∙ length-append spelled (quoted said) in
-    omega (arith, whole, length-append (escaped said) (34 ∷ []), escaped-long said)
+option-long (Setting name state) text (spelled, same, is) =
+    let whole : length text ≡ length spelled + suc (suc (length (escaped state ++ 34 ∷ []))) = ap length is ∙ length-append spelled (quoted state) in
+    omega (arith, whole, length-append (escaped state) (34 ∷ []), escaped-long state)
 
 one_more : (name : ValueName) (option : AuthOption) (options : List AuthOption) (n : ℕ)
     → value_length option ≤ n → text_length (setting name options) ≤ n → text_length (setting name (option ∷ options)) ≤ n
 one_more name (Switch flag) options n h k = k
-one_more name (Setting other said) options n h k = go (same_value_name other name)
+one_more name (Setting other state) options n h k = go (same_value_name other name)
   where
-    go : (b : Bool) → text_length (first_of (cond b (said ∷ settings name options) (settings name options))) ≤ n
+    go : (b : Bool) → text_length (first_of (cond b (state ∷ settings name options) (settings name options))) ≤ n
     go true = h
     go false = k
 
@@ -74,43 +55,43 @@ options-long name (option ∷ options) text (items, gap, spelled, blanks, allowe
     omega (arith, whole, items-long name (option ∷ options) items spelled)
 
 entry-long : (name : ValueName) (e : AuthEntry) (line : List ℕ) → SpellsEntry e line → text_length (setting name e.options) ≤ length line
-entry-long name e line (short, (blank, options, key, blanks, spelled, said, is)) =
+entry-long name e line (short, (blank, options, key, blanks, spelled, state, is)) =
     let whole : length line ≡ length (blank ++ options) + length key = ap length is ∙ length-append (blank ++ options) key in
     omega (arith, whole, length-append blank options, options-long name e.options options spelled)
 
--- ---- the turns of a line of authorized_keys
+-- ---- the steps of a line of authorized_keys
 
-list-turns : (list : Option (List ℕ)) (q : Login) (n : ℕ) → text_length list ≤ n → source_most list q ≤ (n + 1) * login_width q
-list-turns None q n h = omega arith
-list-turns (Some list) q n h = mul-le (length list + 1) (login_width q) (n + 1) (login_width q) (omega (arith, h)) (omega arith)
+list-steps : (list : Option (List ℕ)) (q : Login) (n : ℕ) → text_length list ≤ n → source_most list q ≤ (n + 1) * login_width q
+list-steps None q n h = omega arith
+list-steps (Some list) q n h = mul-le (length list + 1) (login_width q) (n + 1) (login_width q) (omega (arith, h)) (omega arith)
 
-login-said : (claim : LoginClaim) (line : List ℕ) (said : AuthLine) → AreBytes line → auth_line line ≡ said → login_most claim said ≤ (length line + 1) * login_width claim.query
-login-said claim line auth.Blank h is = omega arith
-login-said claim line auth.Comment h is = omega arith
-login-said claim line (auth.Entry e) h is =
-    list-turns (setting From e.options) claim.query (length line) (entry-long From e line (auth_line-spells line e h is))
-login-said claim line (auth.Unreadable cause) h is = omega arith
+login-state : (claim : LoginClaim) (line : List ℕ) (state : AuthLine) → AreBytes line → auth_line line ≡ state → login_most claim state ≤ (length line + 1) * login_width claim.query
+login-state claim line auth.Blank h is = omega arith
+login-state claim line auth.Comment h is = omega arith
+login-state claim line (auth.Entry e) h is =
+    list-steps (setting From e.options) claim.query (length line) (entry-long From e line (auth_line-spells line e h is))
+login-state claim line (auth.Unreadable cause) h is = omega arith
 
 pub login-fits : (claim : LoginClaim) (line : List ℕ) → AreBytes line → login_line_most claim line ≤ (length line + 1) * login_width claim.query
-login-fits claim line h = login-said claim line (auth_line line) h refl
+login-fits claim line h = login-state claim line (auth_line line) h refl
 
--- ---- the turns of a line of known_hosts
+-- ---- the steps of a line of known_hosts
 
 names-long : (e : KnownEntry) (line : List ℕ) → SpellsKnown e line → length (names_text e.names) ≤ length line
-names-long e line (short, (blank, marker, names, gap, key, blanks, marked, named, solid, gaps, said, is)) =
+names-long e line (short, (blank, marker, names, gap, key, blanks, marked, named, solid, gaps, state, is)) =
     let whole : length line ≡ length (blank ++ marker ++ names ++ gap) + length key = ap length is ∙ length-append (blank ++ marker ++ names ++ gap) key in
     let same : length names ≡ length (names_text e.names) = ap length named.text in
     omega (arith, whole, same, length-append (blank ++ marker ++ names) gap, length-append (blank ++ marker) names)
 
-host-said : (claim : HostClaim) (line : List ℕ) (said : KnownLine) → AreBytes line → known_line line ≡ said → host_most claim said ≤ (length line + 1) * host_width claim.query
-host-said claim line known.Blank h is = omega arith
-host-said claim line known.Comment h is = omega arith
-host-said claim line (known.Entry e) h is =
+host-state : (claim : HostClaim) (line : List ℕ) (state : KnownLine) → AreBytes line → known_line line ≡ state → host_most claim state ≤ (length line + 1) * host_width claim.query
+host-state claim line known.Blank h is = omega arith
+host-state claim line known.Comment h is = omega arith
+host-state claim line (known.Entry e) h is =
     mul-le (length (names_text e.names) + 1) (host_width claim.query) (length line + 1) (host_width claim.query)
     (omega (arith, names-long e line (known_line-spells line e h is))) (omega arith)
-host-said claim line (known.Revoked bytes) h is = omega arith
-host-said claim line known.RevokedUnreadable h is = omega arith
-host-said claim line (known.Unreadable cause) h is = omega arith
+host-state claim line (known.Revoked bytes) h is = omega arith
+host-state claim line known.RevokedUnreadable h is = omega arith
+host-state claim line (known.Unreadable cause) h is = omega arith
 
 pub host-fits : (claim : HostClaim) (line : List ℕ) → AreBytes line → host_line_most claim line ≤ (length line + 1) * host_width claim.query
-host-fits claim line h = host-said claim line (known_line line) h refl
+host-fits claim line h = host-state claim line (known_line line) h refl

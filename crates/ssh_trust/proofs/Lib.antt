@@ -1,3 +1,4 @@
+pub mod Imports
 pub mod ScanLemmas
 pub mod AuditLemmas
 pub mod LongLines

@@ -1,32 +1,8 @@
--- A decision means what is said of granted and denied logins.
-use Rattle.std.proofs.Common.{◌≡◌, ◌∙◌, ℕ, Bool, true, false, List, Option, Some, None, ap, subst, sym, refl}
-use Rattle.std.specs.Prelude.{option_map}
-use Rattle.ssh_lines.specs.AuthEntry.{AuthEntry}
-use Rattle.ssh_lines.specs.declared.entry.AuthLine.{AuthLine}
-use Rattle.ssh_lines.specs.declared.entry.AuthLine.TheVariants.{Blank, Comment, Entry, Unreadable}
-use Rattle.ssh_lines.specs.AuthGrammar.{SpellsEntry, auth_line}
-use Rattle.ssh_lines.proofs.AuthLemmas.{auth_line-spelled}
-use Rattle.ssh_lines.proofs.ReadAuth.{auth_line-spells}
-use Rattle.ssh_rules.specs.declared.reason.Obstacle.{Obstacle}
-use Rattle.ssh_rules.specs.declared.verdict.LineVerdict.TheVariants.{Admits}
-use Rattle.ssh_rules.specs.declared.reason.Reason.{Reason}
-use Rattle.ssh_offers.specs.declared.query.Signed.{Signed}
-use Rattle.ssh_offers.specs.LoginClaim.{LoginClaim}
-use Rattle.ssh_offers.specs.Evidence.{login_evidence}
-use Rattle.ssh_offers.specs.Vouching.{first_unvouched}
-use Rattle.ssh_patterns.specs.declared.address.Address.{Address}
-use Rattle.ssh_offers.specs.Offer.{Offer, OfCertificate, certified, plain}
-use Rattle.ssh_rights.specs.Rights.{rights_of}
-use Rattle.ssh_rights.specs.SecurityKeys.{touch_suffices, verification_suffices}
-use Rattle.ssh_rights.proofs.RightsLaw.{OptionsOnce, are-rights, touch-is, verification-is}
-use Rattle.ssh_rules.specs.Admission.{AdmitsLogin, CriticalMet, login_obstacle}
-use Rattle.ssh_rules.specs.Verdict.{login_verdict, verdict_by}
-use Rattle.ssh_trust.specs.declared.decision.Decision.{Decision}
-use Rattle.ssh_trust.specs.declared.decision.Decision.TheVariants.{Granted, Denied}
-use Rattle.ssh_trust.specs.Candidate.{candidate_of, reasons_of}
-use Rattle.ssh_trust.specs.LoginDecision.{IsCandidate, IsGrant, LoginMeans, cause_by, candidate_at, decision_by, decision_of, line_verdict, login_decision, verdicts}
-use Rattle.ssh_rules.proofs.AdmissionLemmas.{admits_where_none, none_where_admits}
-use Rattle.ssh_offers.proofs.VouchingLemmas.{none_unvouched, all_vouched}
+-- A decision has the meaning that is stated for granted and denied logins.
+use Rattle.ssh_trust.proofs.Imports.{◌≡◌, ◌∙◌, ℕ, Bool, true, false, List, Option, Some, None, ap, subst, sym, refl, option_map, AuthEntry, AuthLine, Unreadable, SpellsEntry, auth_line-spelled, auth_line-spells, Mismatch, Admits, Reason, Signed, LoginClaim, login_evidence, first_unvouched, Address, Offer, OfCertificate, certified, plain, rights_of, touch_suffices, verification_suffices, OptionsOnce, are-rights, touch-is, verification-is, AdmitsLogin, CriticalMet, login_mismatch, login_verdict, verdict_by, Decision, Granted, Denied, candidate_of, reasons_of, IsCandidate, IsGrant, LoginMeans, cause_by, candidate_at, decision_by, decision_of, line_verdict, verdicts, admits_where_none, none_where_admits, none_unvouched, all_vouched}
+use Rattle.ssh_entries.specs.declared.auth_line.AuthLine.TheVariants.{Blank, Comment, Entry}
+use Rattle.ssh_entries.specs.AuthGrammar.{auth_line}
+use Rattle.ssh_trust.specs.LoginDecision.{login_decision}
 use Rattle.ssh_trust.proofs.CandidateLemmas.{AreBytes, Judges, admits-by, candidate-is, no-candidate, one-candidate}
 
 -- ---- a line that admits
@@ -36,13 +12,13 @@ admits-line claim Blank e h = cc
 admits-line claim Comment e h = cc
 admits-line claim (Unreadable why) e h = cc
 admits-line claim (Entry f) e h =
-    let both = admits-by (login_obstacle f claim) f e h in
+    let both = admits-by (login_mismatch f claim) f e h in
     (ap Entry both.1, subst (λ (x : AuthEntry). AdmitsLogin x claim) both.1 (admits_where_none f claim both.0))
 
 pub login-judges : (claim : LoginClaim) → Judges AuthEntry SpellsEntry (λ e. AdmitsLogin e claim) (line_verdict claim)
 login-judges claim = record {
   found = λ line e bytes h. let is = admits-line claim (auth_line line) e h in (auth_line-spells line e bytes is.0, is.1);
-  only = λ line e spelled admits. ap (login_verdict claim) (auth_line-spelled e line spelled) ∙ ap (λ (o : Option Obstacle). verdict_by o e) (none_where_admits e claim admits);
+  only = λ line e spelled admits. ap (login_verdict claim) (auth_line-spelled e line spelled) ∙ ap (λ (o : Option Mismatch). verdict_by o e) (none_where_admits e claim admits);
 }
 
 -- ---- the decision
@@ -56,7 +32,7 @@ touched_by claim e = touch_suffices e.options claim.offer claim.signature
 abbrev pub verified_by : LoginClaim → AuthEntry → Bool
 verified_by claim e = verification_suffices e.options claim.offer claim.signature
 
--- what the functions make of a granted login, and what is said of a denied one
+-- a granted login by the functions, and the meaning of a denied one
 abbrev pub LoginReading : List ℕ → LoginClaim → List Signed → Decision → Type 0
 LoginReading file claim vouched (Granted line rights reasons evidence) =
     (e : AuthEntry) × IsGrant file claim vouched line e × (rights ≡ Some (rights_of e claim.offer)) × (evidence ≡ login_evidence claim)
@@ -115,6 +91,6 @@ means-of file claim vouched (Granted line rights reasons evidence) (e, grant, gi
     (e, grant, (rights_of e claim.offer, given, are-rights e claim.offer (once-of e claim.address claim.offer grant.candidate.admits.critical)), evidence_is)
 means-of file claim vouched (Denied why reasons evidence) h = h
 
--- a decision means what is said of it
+-- a decision has the meaning that is stated for its case
 pub login_means : (file : List ℕ) (claim : LoginClaim) (vouched : List Signed) → AreBytes file → LoginMeans file claim vouched (login_decision file claim vouched)
 login_means file claim vouched bytes = means-of file claim vouched (login_decision file claim vouched) (login_reading file claim vouched bytes)

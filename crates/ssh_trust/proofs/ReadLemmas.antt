@@ -1,18 +1,6 @@
 -- What a reader gave, read by read, and what is answered on it.
-use Rattle.std.proofs.Common.{◌≡◌, ◌∙◌, ◌+◌, ◌<◌, ◌≤◌, ◌↔◌, ℕ, Bool, true, false, List, [], ◌++◌, length, nat_lt, Option, Some, None, Result, Ok, Err, inl, inr, refl, sym, ap, subst, arith, append-nil, append_assoc}
-use Rattle.std.specs.Prelude.{IfOk, OnErr, OnOk}
-use Rattle.std.specs.Io.KnownBytes.{Consumes, IsAtEnd, Keeps}
-use Rattle.std.proofs.lemmas.Bool.{cases_Bool, lt-ltb, ltb-false, ltb-true}
-use Rattle.std.proofs.lemmas.List.{length-append}
-use Rattle.ssh_offers.specs.declared.error.AuditError.{AuditError}
-use Rattle.ssh_offers.specs.declared.error.AuditError.TheVariants.{Offer, Signature, WrongAlgorithm, WeakSignature, CertSignature, Address, FileTooLong, Memory, Read, Failed, Body, Salts}
-use Rattle.ssh_trust.specs.declared.decision.Decision.{Decision}
-use Rattle.ssh_trust.specs.declared.pieces.Pieces.{Pieces}
-use Rattle.ssh_trust.specs.declared.search.Search.{Search}
-use Rattle.ssh_trust.specs.Answer.{GivesOrMemory, RefusesAs, if_short}
-use Rattle.ssh_text.specs.Text.{file_limit}
-use Rattle.ssh_trust.specs.Audit.{HasRead, HasTaken}
-use Rattle.ssh_trust.specs.Reads.{AnswersReader, HoldsOfRead, IsFedBy, StopsBy, piece_size}
+use Rattle.ssh_trust.proofs.Imports.{◌≡◌, ◌∙◌, ◌+◌, ◌<◌, ◌≤◌, ◌↔◌, ℕ, Bool, true, false, List, [], ◌++◌, length, nat_lt, Option, Some, None, Result, Ok, Err, inl, inr, refl, sym, ap, subst, arith, append-nil, append_assoc, IfOk, OnErr, OnOk, Consumes, IsAtEnd, Keeps, cases_Bool, lt-ltb, ltb-false, ltb-true, length-append, AuditError, Signature, WrongAlgorithm, WeakSignature, CertSignature, FileTooLong, Memory, Read, Failed, Body, Salts, Decision, Pieces, Search, GivesOrMemory, RefusesAs, if_short, file_limit, HasRead, HasTaken, AnswersReader, HoldsOfRead, IsFedBy, StopsBy, piece_size}
+use Rattle.ssh_offers.specs.declared.claim.AuditError.TheVariants.{Offer, Address}
 use Rattle.ssh_trust.proofs.AuditLemmas.{taken-more}
 use Rattle.ssh_trust.proofs.AnswerLemmas.{err-inj}
 use Rattle.ssh_trust.proofs.CandidateLemmas.{AreBytes}
@@ -37,7 +25,7 @@ consumes-kept (Some was) (Some is) (Some are) xs h k = h ∙ ap (λ s. xs ++ s) 
 
 -- ---- the loop
 
--- the audit stands for the bytes before, and for what the reader gave so far
+-- the audit represents the bytes before, and what the reader gave so far
 pub record IsFeeding {T S : Type 0} (Found : List (ℕ × List ℕ) → Search T S → Type 0) (audit : Pieces T S) (bytes : List ℕ) (old now : Option (List ℕ)) : Type 0 where
   pub given : List ℕ
   pub consumed : Consumes old now given

@@ -1,16 +1,5 @@
 -- The refusal of a login's offer is no failed read.
-use Rattle.std.proofs.Common.{◌≡◌, ◌∙◌, Bool, true, false, ℕ, List, Result, Ok, Err, inl, inr, subst, sym, if◌then◌else◌}
-use Rattle.std.specs.Prelude.{⊤}
-use Rattle.std.specs.Str.{bytes_eq}
-use Rattle.ssh_keys.specs.declared.kind.KeyKind.{KeyKind}
-use Rattle.ssh_keys.specs.declared.kind.KeyKind.TheVariants.{Rsa, P256, P384, P521, Ed25519, SkP256, SkEd25519}
-use Rattle.ssh_keys.specs.Names.{key_name_of}
-use Rattle.ssh_offers.specs.declared.error.AuditError.{AuditError}
-use Rattle.ssh_offers.specs.declared.error.AuditError.TheVariants.{WrongAlgorithm, WeakSignature, Read}
-use Rattle.ssh_offers.specs.Algorithms.{other_algorithm, rsa_sha256_name, rsa_sha512_name, is_weak_name, type_name, wanted_algorithm}
-use Rattle.ssh_offers.specs.FirstRefusal.{IsLoginRefusal, kind_offered}
-use Rattle.ssh_offers.specs.Offer.{is_certified}
-use Rattle.ssh_offers.specs.Query.{Login}
+use Rattle.ssh_trust.proofs.Imports.{◌≡◌, ◌∙◌, Bool, true, false, ℕ, List, Result, Ok, Err, inl, inr, subst, sym, if◌then◌else◌, ⊤, bytes_eq, KeyKind, Rsa, P256, P384, P521, Ed25519, SkP256, SkEd25519, key_name_of, AuditError, WrongAlgorithm, WeakSignature, Read, other_algorithm, rsa_sha256_name, rsa_sha512_name, is_weak_name, type_name, wanted_algorithm, IsLoginRefusal, kind_offered, is_certified, Login}
 
 abbrev IsNoRead : AuditError → Type 0
 IsNoRead Read = ⊥

@@ -1,16 +1,7 @@
 -- The scan for a candidate, line by line.
-use Rattle.std.proofs.Common.{◌≡◌, ℕ, suc, ◌+◌, ◌≤◌, Bool, true, false, cond, ltb, List, [], ◌∷◌, ◌++◌, length, take, map, Option, Some, None, refl, sym, ap, ◌∙◌, arith}
-use Rattle.std.specs.Prelude.{is_some, option_map}
-use Rattle.std.specs.List.{position_or_len}
-use Rattle.std.proofs.lemmas.Bool.{ltb-true, ltb-false}
-use Rattle.std.proofs.lemmas.List.{append-nil, append_assoc, take_all, take_at, length_push}
-use Rattle.ssh_text.specs.Text.{lines_of, numbered}
-use Rattle.ssh_rules.specs.declared.reason.Reason.{Reason}
-use Rattle.ssh_rules.specs.declared.verdict.LineVerdict.{LineVerdict}
-use Rattle.ssh_rules.specs.declared.verdict.LineVerdict.TheVariants.{Admits, Skips}
-use Rattle.ssh_trust.specs.declared.scan.Scan.{Scan}
-use Rattle.ssh_trust.specs.Candidate.{admits, before_candidate, first_admitted, reasons_from, with_reason}
-use Rattle.ssh_trust.specs.Scan.{after_lines, empty_scan, listed_with, scan_line, scan_of, scan_verdict}
+use Rattle.ssh_trust.proofs.Imports.{◌≡◌, ℕ, suc, ◌+◌, ◌≤◌, Bool, true, false, cond, ltb, List, [], ◌∷◌, ◌++◌, length, take, map, Option, Some, None, refl, sym, ap, ◌∙◌, arith, is_some, option_map, position_or_len, ltb-true, ltb-false, take_all, take_at, length_push, lines_of, numbered, Reason, LineVerdict, Admits, Skips, Scan, admits, before_candidate, first_admitted, reasons_from, with_reason, empty_scan, listed_with, scan_line, scan_of, scan_verdict}
+use Rattle.std.proofs.lemmas.List.{append-nil, append_assoc}
+use Rattle.ssh_trust.specs.Scan.{after_lines}
 
 abbrev scan_with : {C : Type 0} → Option C → List (ℕ × Reason) → Scan C
 scan_with candidate reasons = record { candidate = candidate; reasons = reasons }
@@ -57,7 +48,7 @@ listed-take : (rs : List (ℕ × Reason)) (n : ℕ) (why : Option Reason) (rest 
 listed-take rs n None rest le = refl
 listed-take rs n (Some why) rest le = take-cond (ltb (length rs) 100) rs (n, why) rest refl le
 
--- ---- the scan is what the lines say
+-- ---- the scan is the state after the lines
 
 abbrev scan_by : {E C : Type 0} → (ℕ × E → C) → List (ℕ × Reason) → ℕ → List (LineVerdict E) → Scan C
 scan_by give rs n lines =

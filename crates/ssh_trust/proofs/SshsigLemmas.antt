@@ -1,19 +1,6 @@
--- What is answered to a file signature means what is said of it.
-use Rattle.std.proofs.Common.{◌≡◌, ◌∙◌, ℕ, true, false, List, Option, Some, None, Result, Ok, Err, refl, subst, sym, inl, inr}
-use Rattle.std.specs.Prelude.{◌≢◌}
-use Rattle.std.specs.Str.{bytes_eq}
-use Rattle.std.proofs.lemmas.Bool.{cases_Bool}
-use Rattle.std.proofs.lemmas.Slice.Eq.{bytes_eq-Decides}
-use Rattle.ssh_bodies.specs.Sshsig.{Sshsig, IsSshsigBlob}
-use Rattle.ssh_offers.specs.declared.error.AuditError.{AuditError}
-use Rattle.ssh_offers.specs.declared.query.Signed.{Signed}
-use Rattle.ssh_offers.specs.FileSignature.{AlgorithmServes, sshsig_evidence}
-use Rattle.ssh_offers.specs.Vouching.{first_unvouched}
-use Rattle.ssh_offers.proofs.VouchingLemmas.{none_unvouched, all_vouched}
-use Rattle.ssh_trust.specs.Answer.{OfClaim}
-use Rattle.ssh_trust.specs.declared.sshsig_answer.SshsigAnswer.{SshsigAnswer}
-use Rattle.ssh_trust.specs.declared.sshsig_answer.SshsigAnswer.TheVariants.{OtherNamespace}
-use Rattle.ssh_trust.specs.SshsigAnswer.{IsOfBody, SshsigMeans, sshsig_answer, vouching_answer}
+-- The answer to a file signature has the meaning that is stated for its case.
+use Rattle.ssh_trust.proofs.Imports.{◌≡◌, ◌∙◌, ℕ, true, false, List, Option, Some, None, Result, Ok, Err, refl, subst, sym, inl, inr, ◌≢◌, bytes_eq, cases_Bool, bytes_eq-Decides, Sshsig, IsSshsigBlob, AuditError, Signed, AlgorithmServes, sshsig_evidence, first_unvouched, none_unvouched, all_vouched, OfClaim, SshsigAnswer, OtherNamespace, IsOfBody, SshsigMeans, vouching_answer}
+use Rattle.ssh_trust.specs.SshsigAnswer.{sshsig_answer}
 
 means-by : (body message namespace : List ℕ) (vouched : List Signed) (v : Sshsig) → IsOfBody body v → v.namespace ≡ namespace
     → (u : Option ℕ) → first_unvouched vouched (sshsig_evidence v message) ≡ u
@@ -35,7 +22,7 @@ sig_means body message namespace vouched v own =
       | inr e ↦ rw e (v, own, different v.namespace namespace e)
     ]
 
--- the answer to the file signature of a body means what is said of it
+-- the answer to the file signature of a body has the meaning that is stated for its case
 pub answered_means : (body message namespace : List ℕ) (vouched : List Signed) (v : Sshsig) (a : SshsigAnswer) → IsSshsigBlob v body → AlgorithmServes v
     → a ≡ sshsig_answer v message namespace vouched → SshsigMeans body message namespace vouched a
 answered_means body message namespace vouched v a spelled serves h =

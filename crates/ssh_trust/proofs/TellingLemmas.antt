@@ -1,46 +1,15 @@
 -- What the cause and the reasons of a denial mean.
-use Rattle.std.proofs.Common.{◌≡◌, ◌∙◌, ◌↔◌, ◌⊎◌, ◌+◌, ◌-◌, ◌≤◌, ◌<◌, not, cond, ℕ, zero, suc, Bool, true, false, List, [], ◌∷◌, length, map, take, Option, Some, None, ap, subst, sym, refl, inl, inr, arith}
-use Rattle.std.specs.Prelude.{Contains, option_map, slice_get}
-use Rattle.std.specs.List.{position_or_len}
-use Rattle.std.proofs.lemmas.Bool.{cases_Bool, ltb-true}
-use Rattle.ssh_lines.specs.AuthEntry.{AuthEntry}
-use Rattle.ssh_lines.specs.declared.entry.AuthLine.{AuthLine}
-use Rattle.ssh_lines.specs.declared.entry.AuthLine.TheVariants as auth
-use Rattle.ssh_lines.specs.KnownEntry.{KnownEntry}
-use Rattle.ssh_lines.specs.declared.known.KnownLine.{KnownLine}
-use Rattle.ssh_lines.specs.declared.known.KnownLine.TheVariants as known
-use Rattle.ssh_lines.specs.AuthGrammar.{auth_line}
-use Rattle.ssh_lines.specs.KnownGrammar.{Blind, known_line}
-use Rattle.ssh_text.specs.Text.{lines_of}
-use Rattle.ssh_lines.proofs.AuthLemmas.{auth_line-spelled}
-use Rattle.ssh_lines.proofs.ReadAuth.{auth_line-spells}
-use Rattle.ssh_lines.proofs.ReadKnown.{known_line-spelled, known_line-spells}
-use Rattle.ssh_text.proofs.LineLemmas.{lines_of-are}
-use Rattle.ssh_offers.specs.declared.query.Signed.{Signed}
-use Rattle.ssh_offers.specs.Evidence.{host_evidence, login_evidence}
-use Rattle.ssh_offers.specs.HostClaim.{HostClaim}
-use Rattle.ssh_offers.specs.LoginClaim.{LoginClaim}
-use Rattle.ssh_offers.specs.Vouching.{Has, first_unvouched, is_vouched}
-use Rattle.ssh_offers.proofs.VouchingLemmas.{any-has, has-any}
-use Rattle.ssh_rules.specs.declared.reason.Obstacle.{Obstacle}
-use Rattle.ssh_rules.specs.declared.reason.Obstacle.TheVariants.{Listed, OtherHost, OtherKey}
-use Rattle.ssh_rules.specs.declared.reason.Reason.{Reason}
+use Rattle.ssh_trust.proofs.Imports.{◌≡◌, ◌∙◌, ◌↔◌, ◌⊎◌, ◌+◌, ◌-◌, ◌≤◌, ◌<◌, not, cond, ℕ, zero, suc, Bool, true, false, List, [], ◌∷◌, length, map, take, Option, Some, None, ap, subst, sym, refl, inl, inr, arith, Contains, option_map, slice_get, position_or_len, cases_Bool, ltb-true, AuthEntry, AuthLine, KnownEntry, KnownLine, Blind, lines_of, auth_line-spelled, auth_line-spells, known_line-spelled, known_line-spells, lines_of-are, Signed, host_evidence, login_evidence, HostClaim, LoginClaim, Has, first_unvouched, is_vouched, any-has, has-any, Mismatch, Listed, OtherHost, OtherKey, Reason, LineVerdict, Admits, Skips, login_mismatch, host_mismatch, login_verdict, verdict_by, host_verdict, IsFirstAdmitted, admits, before_candidate, candidate_of, first_admitted, reasons_from, reasons_of, with_reason, IsCandidate, candidate_at, cause_by, decision_by, decision_of, line_verdict, verdicts, AreReasons, HostTells, HostReason, IsPassedOver, IsFirstUnvouched, LoginTells, LoginReason, RisesFrom, IsHostCandidate, RevokesOwn, host_decision_by, revocation_cause, first_number, host_line_verdict, is_blind, admitting_number, revokes_by, TouchSuffices, VerificationSuffices, touch-is, verification-is}
+use Rattle.ssh_entries.specs.declared.auth_line.AuthLine.TheVariants as auth
+use Rattle.ssh_entries.specs.declared.known_line.KnownLine.TheVariants as known
+use Rattle.ssh_entries.specs.AuthGrammar.{auth_line}
+use Rattle.ssh_entries.specs.KnownGrammar.{known_line}
 use Rattle.ssh_rules.specs.declared.reason.Reason.TheVariants.{Unreadable}
-use Rattle.ssh_rules.specs.declared.verdict.LineVerdict.{LineVerdict}
-use Rattle.ssh_rules.specs.declared.verdict.LineVerdict.TheVariants.{Admits, Skips}
-use Rattle.ssh_rules.specs.Admission.{login_obstacle}
-use Rattle.ssh_host_rules.specs.HostAdmission.{host_obstacle}
-use Rattle.ssh_rules.specs.Verdict.{login_verdict, verdict_by}
-use Rattle.ssh_host_rules.specs.Verdict.{host_verdict}
-use Rattle.ssh_trust.specs.Candidate.{IsFirstAdmitted, admits, before_candidate, candidate_of, first_admitted, reasons_from, reasons_of, with_reason}
-use Rattle.ssh_trust.specs.LoginDecision.{IsCandidate, candidate_at, cause_by, decision_by, decision_of, line_verdict, login_decision, verdicts}
-use Rattle.ssh_trust.specs.Telling.{AreReasons, HostTells, HostReason, IsPassedOver, IsFirstUnvouched, LoginTells, LoginReason, RisesFrom}
-use Rattle.ssh_trust.specs.HostDecision.{IsHostCandidate, RevokesOwn, host_decision, host_decision_by, revocation_cause}
-use Rattle.ssh_trust.specs.HostScan.{first_number, host_line_verdict, host_scan_of, is_blind, admitting_number, revokes_by}
+use Rattle.ssh_trust.specs.LoginDecision.{login_decision}
+use Rattle.ssh_trust.specs.HostDecision.{host_decision}
+use Rattle.ssh_trust.specs.HostScan.{host_scan_of}
 use Rattle.ssh_trust.proofs.CandidateLemmas.{AreBytes, Judges, at-place, candidate-is, line-bytes, line-of, map-at, map-from, no-candidate, some-same, stands-admits}
-use Rattle.ssh_trust.proofs.HostMeaningLemmas.{blind-decides, host-judges, least-at, none-at, revokes-decides}
-use Rattle.ssh_rights.specs.SecurityKeys.{TouchSuffices, VerificationSuffices}
-use Rattle.ssh_rights.proofs.RightsLaw.{touch-is, verification-is}
+use Rattle.ssh_trust.proofs.HostMeaningLemmas.{unreadable_revocation-decides, host-judges, least-at, none-at, revokes-decides}
 use Rattle.ssh_trust.proofs.MeaningLemmas.{login-judges, touched_by, verified_by}
 
 -- ---- lists
@@ -213,7 +182,7 @@ first-below n (Skips w ∷ js) (suc j) e at =
     let le = r.2 in
     (r.0, r.1, omega (arith, le))
 
--- ---- the reasons in the subject's words
+-- ---- the reasons as relations
 
 -- a line passes for a reason exactly where it has that reason
 abbrev TellsReasons : {E : Type 0} → (List ℕ → LineVerdict E) → (List ℕ → Reason → Type 0) → Type 0
@@ -259,12 +228,12 @@ are-reasons {E = E} {Spells = Spells} {IsAdmitting = IsAdmitting} {Reasoned = Re
         let after = p.before first.0.0 first.0.1 (candidate-is verdict judges file first.0.0 first.0.1 bytes first.1) in
         absurd (omega (arith, low, after, le, one)))
 
--- an entry with an obstacle
-obstacle-is : {E : Type 0} (o : Option Obstacle) (e : E) (why : Reason) → verdict_by o e ≡ Skips (Some why) → o ≡ Some (Listed why)
-obstacle-is None e why h = cc
-obstacle-is (Some OtherKey) e why h = let bad : None ≡ Some why = passes-same None (Some why) h in cc
-obstacle-is (Some OtherHost) e why h = let bad : None ≡ Some why = passes-same None (Some why) h in cc
-obstacle-is (Some (Listed w)) e why h = ap (λ (r : Reason). Some (Listed r)) (some-same w why (passes-same (Some w) (Some why) h))
+-- an entry with an mismatch
+mismatch-is : {E : Type 0} (o : Option Mismatch) (e : E) (why : Reason) → verdict_by o e ≡ Skips (Some why) → o ≡ Some (Listed why)
+mismatch-is None e why h = cc
+mismatch-is (Some OtherKey) e why h = let bad : None ≡ Some why = passes-same None (Some why) h in cc
+mismatch-is (Some OtherHost) e why h = let bad : None ≡ Some why = passes-same None (Some why) h in cc
+mismatch-is (Some (Listed w)) e why h = ap (λ (r : Reason). Some (Listed r)) (some-same w why (passes-same (Some w) (Some why) h))
 
 unread-is : {E : Type 0} (w why : Reason) → ◌≡◌ {A = LineVerdict E} (Skips (Some w)) (Skips (Some why)) → why ≡ w
 unread-is w why h = sym (some-same w why (passes-same (Some w) (Some why) h))
@@ -279,14 +248,14 @@ login-reason : (claim : LoginClaim) (line : List ℕ) → AreBytes line → (why
 login-reason claim line bytes why auth.Blank e h = absurd (nothing-listed {E = AuthEntry} why h)
 login-reason claim line bytes why auth.Comment e h = absurd (nothing-listed {E = AuthEntry} why h)
 login-reason claim line bytes why (auth.Unreadable cause) e h = inl (cause, e, unread-is {E = AuthEntry} (Unreadable cause) why h)
-login-reason claim line bytes why (auth.Entry f) e h = inr (f, auth_line-spells line f bytes e, obstacle-is (login_obstacle f claim) f why h)
+login-reason claim line bytes why (auth.Entry f) e h = inr (f, auth_line-spells line f bytes e, mismatch-is (login_mismatch f claim) f why h)
 
 login-tells : (claim : LoginClaim) → TellsReasons (line_verdict claim) (LoginReason claim)
 login-tells claim line bytes why = (login-reason claim line bytes why (auth_line line) refl, back)
   where
     back : LoginReason claim line why → line_verdict claim line ≡ Skips (Some why)
     back (inl (cause, e, w)) = ap (login_verdict claim) e ∙ ap (λ (r : Reason). Skips (Some r)) (sym w)
-    back (inr (f, spelled, o)) = ap (login_verdict claim) (auth_line-spelled f line spelled) ∙ ap (λ (x : Option Obstacle). verdict_by x f) o
+    back (inr (f, spelled, o)) = ap (login_verdict claim) (auth_line-spelled f line spelled) ∙ ap (λ (x : Option Mismatch). verdict_by x f) o
 
 login-reasons : (file : List ℕ) (claim : LoginClaim) → AreBytes file
     → AreReasons (IsPassedOver AuthEntry (IsCandidate file claim) (LoginReason claim) file) (reasons_of (verdicts claim file))
@@ -335,14 +304,14 @@ host-reason claim line bytes why known.Comment e h = absurd (nothing-listed {E =
 host-reason claim line bytes why (known.Revoked blob) e h = absurd (nothing-listed {E = KnownEntry} why h)
 host-reason claim line bytes why known.RevokedUnreadable e h = absurd (nothing-listed {E = KnownEntry} why h)
 host-reason claim line bytes why (known.Unreadable cause) e h = inl (cause, e, unread-is {E = KnownEntry} (Unreadable cause) why h)
-host-reason claim line bytes why (known.Entry f) e h = inr (f, known_line-spells line f bytes e, obstacle-is (host_obstacle f claim) f why h)
+host-reason claim line bytes why (known.Entry f) e h = inr (f, known_line-spells line f bytes e, mismatch-is (host_mismatch f claim) f why h)
 
 host-tells : (claim : HostClaim) → TellsReasons (host_line_verdict claim) (HostReason claim)
 host-tells claim line bytes why = (host-reason claim line bytes why (known_line line) refl, back)
   where
     back : HostReason claim line why → host_line_verdict claim line ≡ Skips (Some why)
     back (inl (cause, e, w)) = ap (host_verdict claim) e ∙ ap (λ (r : Reason). Skips (Some r)) (sym w)
-    back (inr (f, spelled, o)) = ap (host_verdict claim) (known_line-spelled f line spelled) ∙ ap (λ (x : Option Obstacle). verdict_by x f) o
+    back (inr (f, spelled, o)) = ap (host_verdict claim) (known_line-spelled f line spelled) ∙ ap (λ (x : Option Mismatch). verdict_by x f) o
 
 abbrev host_verdicts : HostClaim → List ℕ → List (LineVerdict KnownEntry)
 host_verdicts claim file = map (host_line_verdict claim) (lines_of file)
@@ -358,26 +327,26 @@ host-trust-by : (file : List ℕ) (claim : HostClaim) (vouched : List Signed) �
     → HostTells file claim vouched (host_decision_by None (option_map admitting_number c) u (reasons_of (host_verdicts claim file)) (host_evidence claim))
 host-trust-by file claim vouched bytes r b None c u v =
     let unrevoked = none-at (revokes_by claim) (RevokesOwn claim.offer) (revokes-decides claim) file bytes r in
-    let sighted = none-at is_blind Blind blind-decides file bytes b in
-    (((unrevoked, sighted), no-candidate (host_line_verdict claim) (host-judges claim) file c), host-reasons file claim bytes)
+    let no_unreadable_revocation = none-at is_blind Blind unreadable_revocation-decides file bytes b in
+    (((unrevoked, no_unreadable_revocation), no-candidate (host_line_verdict claim) (host-judges claim) file c), host-reasons file claim bytes)
 host-trust-by file claim vouched bytes r b (Some found) c (Some k) v =
     let unrevoked = none-at (revokes_by claim) (RevokesOwn claim.offer) (revokes-decides claim) file bytes r in
-    let sighted = none-at is_blind Blind blind-decides file bytes b in
+    let no_unreadable_revocation = none-at is_blind Blind unreadable_revocation-decides file bytes b in
     let candidate = candidate-is (host_line_verdict claim) (host-judges claim) file found.0 found.1 bytes c in
-    (((unrevoked, sighted), (found.0, found.1, candidate, first-unvouched vouched (host_evidence claim) k v)), host-reasons file claim bytes)
+    (((unrevoked, no_unreadable_revocation), (found.0, found.1, candidate, first-unvouched vouched (host_evidence claim) k v)), host-reasons file claim bytes)
 host-trust-by file claim vouched bytes r b (Some found) c None v = host-reasons file claim bytes
 
 host-told-by : (file : List ℕ) (claim : HostClaim) (vouched : List Signed) → AreBytes file
     → (revoked : Option ℕ) → first_number (revokes_by claim) 1 (lines_of file) ≡ revoked
-    → (blind : Option ℕ) → first_number is_blind 1 (lines_of file) ≡ blind
-    → HostTells file claim vouched (host_decision_by (revocation_cause revoked blind)
+    → (unreadable_revocation : Option ℕ) → first_number is_blind 1 (lines_of file) ≡ unreadable_revocation
+    → HostTells file claim vouched (host_decision_by (revocation_cause revoked unreadable_revocation)
     (option_map admitting_number (candidate_of (host_verdicts claim file))) (first_unvouched vouched (host_evidence claim))
     (reasons_of (host_verdicts claim file)) (host_evidence claim))
-host-told-by file claim vouched bytes (Some n) r blind b =
+host-told-by file claim vouched bytes (Some n) r unreadable_revocation b =
     (least-at (revokes_by claim) (RevokesOwn claim.offer) (revokes-decides claim) file bytes n r, host-reasons file claim bytes)
 host-told-by file claim vouched bytes None r (Some n) b =
     let unrevoked = none-at (revokes_by claim) (RevokesOwn claim.offer) (revokes-decides claim) file bytes r in
-    ((unrevoked, least-at is_blind Blind blind-decides file bytes n b), host-reasons file claim bytes)
+    ((unrevoked, least-at is_blind Blind unreadable_revocation-decides file bytes n b), host-reasons file claim bytes)
 host-told-by file claim vouched bytes None r None b = host-trust-by file claim vouched bytes r b _ refl _ refl
 
 pub host_told : (file : List ℕ) (claim : HostClaim) (vouched : List Signed) → AreBytes file → HostTells file claim vouched (host_decision file claim vouched)

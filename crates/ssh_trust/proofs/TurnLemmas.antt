@@ -1,25 +1,9 @@
--- The turns of the matching loop over the lines of a file.
-use Rattle.std.proofs.Common.{◌≡◌, ◌∙◌, ℕ, ◌+◌, ◌*◌, ◌≤◌, ◌<◌, ◌==◌, Bool, true, false, cond, List, [], ◌∷◌, ◌++◌, length, map, Option, Some, None, ap, sym, subst, refl, arith}
-use Rattle.std.specs.Prelude.{IsSome, if◌then◌else◌, is_some, max}
-use Rattle.std.specs.List.{AllByRecursion, onto_first}
-use Rattle.std.proofs.lemmas.Nat.{mul-le}
-use Rattle.ssh_text.specs.Text.{lines_of, numbered}
-use Rattle.ssh_lines.specs.declared.known.KnownLine.{KnownLine}
-use Rattle.ssh_lines.specs.KnownEntry.{KnownEntry}
-use Rattle.ssh_lines.specs.KnownGrammar.{known_line}
-use Rattle.ssh_names.specs.Names.{Names, Patterns, Hashed, list_of}
-use Rattle.ssh_offers.specs.HostClaim.{HostClaim}
-use Rattle.ssh_rules.specs.declared.verdict.LineVerdict.{LineVerdict}
-use Rattle.ssh_rules.specs.declared.verdict.LineVerdict.TheVariants.{Admits, Skips}
-use Rattle.ssh_host_rules.specs.HostAdmission.{looked_up}
-use Rattle.ssh_host_rules.specs.Turns.{host_least, names_least}
-use Rattle.ssh_host_rules.specs.Verdict.{host_verdict}
-use Rattle.ssh_trust.specs.declared.host_scan.HostScan.{HostScan}
-use Rattle.ssh_trust.specs.declared.scan.Scan.{Scan}
-use Rattle.ssh_trust.specs.Candidate.{candidate_of, first_admitted}
-use Rattle.ssh_trust.specs.HostScan.{admitting_number, empty_host_scan, first_so_far, host_line_verdict, host_scan_line}
-use Rattle.ssh_trust.specs.Scan.{after_lines, scan_verdict}
-use Rattle.ssh_trust.specs.Turns.{AreNameTurns, host_line_least, least_over, most_over}
+-- The steps of the matching loop over the lines of a file.
+use Rattle.ssh_trust.proofs.Imports.{◌≡◌, ◌∙◌, ℕ, ◌+◌, ◌*◌, ◌≤◌, ◌<◌, ◌==◌, Bool, true, false, cond, List, [], ◌∷◌, ◌++◌, length, map, Option, Some, None, ap, sym, subst, refl, arith, IsSome, is_some, max, AllByRecursion, onto_first, mul-le, lines_of, numbered, KnownLine, KnownEntry, Names, Patterns, Hashed, list_of, HostClaim, LineVerdict, Admits, Skips, looked_up, host_least, names_least, host_verdict, HostScan, Scan, candidate_of, first_admitted, admitting_number, empty_host_scan, first_so_far, host_line_verdict, host_scan_line, scan_verdict, AreNameTurns, host_line_least}
+use Rattle.std.specs.Prelude.{if◌then◌else◌}
+use Rattle.ssh_entries.specs.KnownGrammar.{known_line}
+use Rattle.ssh_trust.specs.Scan.{after_lines}
+use Rattle.ssh_trust.specs.Turns.{least_over, most_over}
 use Rattle.ssh_trust.proofs.CandidateLemmas.{AreBytes, candidate-is, no-candidate, one-candidate, some-same}
 use Rattle.ssh_trust.proofs.HostMeaningLemmas.{host-judges}
 
@@ -82,10 +66,10 @@ file-most most width file each h =
 -- ---- one line of known_hosts, as it is read
 
 -- after the candidate
-pub settled-least : (claim : HostClaim) (s new : HostScan) (n : ℕ) (line : List ℕ) (revokes blinds : Bool)
-    → new ≡ record s { revoked = first_so_far s.revoked n revokes; blind = first_so_far s.blind n blinds }
+pub settled-least : (claim : HostClaim) (s new : HostScan) (n : ℕ) (line : List ℕ) (revokes is_unreadable : Bool)
+    → new ≡ record s { revoked = first_so_far s.revoked n revokes; unreadable_revocation = first_so_far s.unreadable_revocation n is_unreadable }
     → is_some new.admission.candidate ≡ true → host_line_least claim s (n, line) ≤ 0
-settled-least claim s new n line revokes blinds noted settled =
+settled-least claim s new n line revokes is_unreadable noted settled =
     let before : is_some s.admission.candidate ≡ true = ap (λ (t : HostScan). is_some t.admission.candidate) (sym noted) ∙ settled in
     rw before (omega arith)
 
@@ -140,9 +124,9 @@ listed-least : (names : Names) (name : List ℕ) → IsSome (list_of names) → 
 listed-least (Patterns list) name h = refl
 listed-least (Hashed salt hash) name h = cc
 
-pub name-turns : (claim : HostClaim) (file : List ℕ) (taken : ℕ) → AreBytes file
+pub name-steps : (claim : HostClaim) (file : List ℕ) (taken : ℕ) → AreBytes file
     → host_fewest claim empty_host_scan (numbered 1 (lines_of file)) ≤ taken → AreNameTurns file claim taken
-name-turns claim file taken bytes enough i e candidate listed = go (candidate_of (map (host_line_verdict claim) (lines_of file))) refl
+name-steps claim file taken bytes enough i e candidate listed = go (candidate_of (map (host_line_verdict claim) (lines_of file))) refl
   where
     go : (found : Option (ℕ × KnownEntry)) → candidate_of (map (host_line_verdict claim) (lines_of file)) ≡ found → length (looked_up claim.query) ≤ taken
     go None is = absurd (no-candidate (host_line_verdict claim) (host-judges claim) file is i e candidate)

@@ -2,11 +2,11 @@
 use Rattle.std.specs.Prelude.{ℕ, ◌+◌, ◌<◌, Bool, true, false, List, [], ◌∷◌, take, Option, Some, None}
 use Rattle.std.specs.List.{position_or_len}
 use Rattle.ssh_rules.specs.declared.reason.Reason.{Reason}
-use Rattle.ssh_rules.specs.declared.verdict.LineVerdict.{LineVerdict}
-use Rattle.ssh_rules.specs.declared.verdict.LineVerdict.TheVariants.{Admits, Skips}
+use Rattle.ssh_rules.specs.declared.admission.LineVerdict.{LineVerdict}
+use Rattle.ssh_rules.specs.declared.admission.LineVerdict.TheVariants.{Admits, Skips}
 use Rattle.ssh_trust.specs.FileLines.{StandsAt}
 
--- ======== in the subject's words
+-- ======== as a relation
 
 -- the least line that spells an entry that admits
 pub record IsFirstAdmitted (E : Type 0) (Spells : E → List ℕ → Type 0) (IsAdmitting : E → Type 0) (file : List ℕ) (i : ℕ) (e : E) : Type 0 where
@@ -16,13 +16,13 @@ pub record IsFirstAdmitted (E : Type 0) (Spells : E → List ℕ → Type 0) (Is
   pub admits : IsAdmitting e
   pub least : (j : ℕ) (other : List ℕ) (f : E) → j < i → StandsAt file j other → Spells f other → IsAdmitting f → ⊥
 
--- ======== as a function of what each line is to the offer
+-- ======== as a function of the verdicts on the lines
 
 abbrev pub admits : {E : Type 0} → LineVerdict E → Bool
 admits (Admits e) = true
 admits (Skips why) = false
 
--- the first line that admits, with its number, where the first line has this one
+-- the first line that admits, with its number, where the first of these lines has number n
 abbrev pub first_admitted : {E : Type 0} → ℕ → List (LineVerdict E) → Option (ℕ × E)
 first_admitted n [] = None
 first_admitted n (Admits e ∷ more) = Some (n, e)
@@ -37,7 +37,7 @@ abbrev pub with_reason : ℕ → Option Reason → List (ℕ × Reason) → List
 with_reason n None rest = rest
 with_reason n (Some why) rest = (n, why) ∷ rest
 
--- those of the lines, where the first line has this number
+-- the reasons of the lines, where the first of these lines has this number
 abbrev pub reasons_from : {E : Type 0} → ℕ → List (LineVerdict E) → List (ℕ × Reason)
 reasons_from n [] = []
 reasons_from n (Admits e ∷ more) = reasons_from (n + 1) more

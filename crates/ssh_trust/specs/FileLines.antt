@@ -1,4 +1,4 @@
--- A line of a file by its number, and as it is handed on.
+-- Which line of a file has which number, and how the scanner hands a line on.
 use Rattle.std.specs.Prelude.{◌≡◌, ℕ, ◌-◌, ◌<◌, List, Some, length, slice_get}
 use Rattle.ssh_text.specs.declared.scanner.Line.{Line}
 use Rattle.ssh_text.specs.declared.scanner.Line.TheVariants.{Whole, TooLong}
@@ -11,7 +11,7 @@ pub record StandsAt (file : List ℕ) (i : ℕ) (line : List ℕ) : Type 0 where
   pub from_one : 0 < i
   pub stands : slice_get lines (i - 1) ≡ Some line
 
--- a line that is handed on has these bytes, or is marked, where they are more than a line may have
+-- the scanner hands on these bytes, or only the mark `TooLong` where they are more than a line may have
 abbrev pub IsHandedLine : Line → List ℕ → Type 0
 IsHandedLine (Whole text) line = text.now ≡ line
 IsHandedLine TooLong line = line_limit < length line

@@ -1,16 +1,17 @@
--- What the lines of a known_hosts file say to a host's key. The whole file counts, for a later line may revoke.
+-- The state of the search for a host's key in a known_hosts file. The whole file counts, because a later line may still
+-- revoke the key.
 use Rattle.std.specs.Prelude.{ℕ, ◌+◌, Bool, true, false, if◌then◌else◌, List, [], ◌∷◌, map, Option, Some, None}
-use Rattle.ssh_lines.specs.KnownEntry.{KnownEntry}
-use Rattle.ssh_lines.specs.KnownGrammar.{known_line}
+use Rattle.ssh_entries.specs.KnownEntry.{KnownEntry}
+use Rattle.ssh_entries.specs.KnownGrammar.{known_line}
 use Rattle.ssh_text.specs.Text.{lines_of}
 use Rattle.ssh_offers.specs.HostClaim.{HostClaim}
-use Rattle.ssh_rules.specs.declared.verdict.LineVerdict.{LineVerdict}
+use Rattle.ssh_rules.specs.declared.admission.LineVerdict.{LineVerdict}
 use Rattle.ssh_host_rules.specs.Revocation.{may_revoke, revokes_offer}
 use Rattle.ssh_host_rules.specs.Verdict.{host_verdict}
 use Rattle.ssh_trust.specs.declared.host_scan.HostScan.{HostScan}
 use Rattle.ssh_trust.specs.Scan.{empty_scan, scan_line, scan_of}
 
--- what a line is to the host's key
+-- the verdict of a line on the host's key
 abbrev pub host_line_verdict : HostClaim → List ℕ → LineVerdict KnownEntry
 host_line_verdict claim line = host_verdict claim (known_line line)
 
@@ -22,7 +23,7 @@ revokes_by claim line = revokes_offer claim.offer (known_line line)
 abbrev pub is_blind : List ℕ → Bool
 is_blind line = may_revoke (known_line line)
 
--- the number of the first line of which this holds, where the first line has this one
+-- the number of the first line with this property, where the first of these lines has number n
 abbrev pub first_number : (List ℕ → Bool) → ℕ → List (List ℕ) → Option ℕ
 first_number holds n [] = None
 first_number holds n (line ∷ lines) = if holds line then Some n else first_number holds (n + 1) lines
@@ -31,20 +32,20 @@ first_number holds n (line ∷ lines) = if holds line then Some n else first_num
 abbrev pub admitting_number : ℕ × KnownEntry → ℕ
 admitting_number c = c.0
 
--- what a whole file says
+-- the state after a whole file
 unfoldable pub host_scan_of : HostClaim → List ℕ → HostScan
 host_scan_of claim file = record {
   admission = scan_of admitting_number (map (host_line_verdict claim) (lines_of file));
   revoked = first_number (revokes_by claim) 1 (lines_of file);
-  blind = first_number is_blind 1 (lines_of file);
+  unreadable_revocation = first_number is_blind 1 (lines_of file);
 }
 
 -- ---- line by line
 
 abbrev pub empty_host_scan : HostScan
-empty_host_scan = record { admission = empty_scan; revoked = None; blind = None }
+empty_host_scan = record { admission = empty_scan; revoked = None; unreadable_revocation = None }
 
--- the first number so far, after one more line
+-- the number of the first line so far with the property, after one more line
 abbrev pub first_so_far : Option ℕ → ℕ → Bool → Option ℕ
 first_so_far (Some first) n holds = Some first
 first_so_far None n true = Some n
@@ -54,5 +55,5 @@ abbrev pub host_scan_line : HostClaim → HostScan → ℕ × List ℕ → HostS
 host_scan_line claim s x = record {
   admission = scan_line admitting_number (host_line_verdict claim) s.admission x;
   revoked = first_so_far s.revoked x.0 (revokes_by claim x.1);
-  blind = first_so_far s.blind x.0 (is_blind x.1);
+  unreadable_revocation = first_so_far s.unreadable_revocation x.0 (is_blind x.1);
 }

@@ -1,20 +1,20 @@
--- The decision on a login.
+-- The decision on a login: what it means, and as a function.
 use Rattle.std.specs.Prelude.{◌≡◌, ℕ, Bool, true, false, List, map, Option, Some, None}
-use Rattle.ssh_lines.specs.AuthEntry.{AuthEntry}
+use Rattle.ssh_entries.specs.AuthEntry.{AuthEntry}
 use Rattle.ssh_text.specs.Text.{lines_of}
-use Rattle.ssh_lines.specs.AuthGrammar.{SpellsEntry, auth_line}
-use Rattle.ssh_rules.specs.declared.verdict.LineVerdict.{LineVerdict}
+use Rattle.ssh_entries.specs.AuthGrammar.{SpellsEntry, auth_line}
+use Rattle.ssh_rules.specs.declared.admission.LineVerdict.{LineVerdict}
 use Rattle.ssh_rules.specs.Verdict.{login_verdict}
 use Rattle.ssh_trust.specs.declared.login_scan.Candidate.{Candidate}
 use Rattle.ssh_trust.specs.Candidate.{IsFirstAdmitted}
-use Rattle.ssh_trust.specs.declared.scan.Scan.{Scan}
+use Rattle.ssh_trust.specs.declared.search.Scan.{Scan}
 use Rattle.ssh_trust.specs.Scan.{scan_line, scan_of}
 use Rattle.ssh_trust.specs.declared.decision.Cause.{Cause}
 use Rattle.ssh_trust.specs.declared.decision.Cause.TheVariants.{NoLine, TouchMissing, VerifyMissing, NotVouched}
 use Rattle.ssh_trust.specs.declared.decision.Decision.{Decision}
 use Rattle.ssh_trust.specs.declared.decision.Decision.TheVariants.{Granted, Denied}
 use Rattle.ssh_rules.specs.declared.reason.Reason.{Reason}
-use Rattle.ssh_offers.specs.declared.query.Signed.{Signed}
+use Rattle.ssh_offers.specs.declared.claim.Signed.{Signed}
 use Rattle.ssh_offers.specs.LoginClaim.{LoginClaim}
 use Rattle.ssh_rules.specs.Admission.{AdmitsLogin}
 use Rattle.ssh_offers.specs.Evidence.{login_evidence}
@@ -23,21 +23,22 @@ use Rattle.ssh_rights.specs.Rights.{AreRights, rights_of}
 use Rattle.ssh_rights.specs.SecurityKeys.{TouchSuffices, VerificationSuffices, touch_suffices, verification_suffices}
 use Rattle.ssh_offers.specs.Vouching.{AllVouched, first_unvouched}
 
--- ======== in the subject's words
+-- ======== as a relation
 
 -- the least line that spells an entry that admits the login
 abbrev pub IsCandidate : List ℕ → LoginClaim → ℕ → AuthEntry → Type 0
 IsCandidate file claim i e = IsFirstAdmitted AuthEntry SpellsEntry (λ f. AdmitsLogin f claim) file i e
 
--- what a granted login stands on
+-- the conditions of a grant
 pub record IsGrant (file : List ℕ) (claim : LoginClaim) (vouched : List Signed) (i : ℕ) (e : AuthEntry) : Type 0 where
   pub candidate : IsCandidate file claim i e
-  -- A security key was touched, and verified the user, where line or certificate ask for it.
+  -- A security key was touched, and verified the user, where the line or the certificate requires it.
   pub touched : TouchSuffices e.options claim.offer claim.signature
   pub verified : VerificationSuffices e.options claim.offer claim.signature
   pub all_vouched : AllVouched vouched (login_evidence claim)
 
--- Granted names the candidate, with its rights and the evidence. Denied means that no line is one to grant at.
+-- Granted names the candidate, with its rights and the evidence. Denied means that no line satisfies the conditions of
+-- a grant.
 abbrev pub LoginMeans : List ℕ → LoginClaim → List Signed → Decision → Type 0
 LoginMeans file claim vouched (Granted line rights reasons evidence) =
     (e : AuthEntry) × IsGrant file claim vouched line e
@@ -45,9 +46,9 @@ LoginMeans file claim vouched (Granted line rights reasons evidence) =
 LoginMeans file claim vouched (Denied why reasons evidence) =
     ((i : ℕ) (e : AuthEntry) → IsGrant file claim vouched i e → ⊥) × (evidence ≡ login_evidence claim)
 
--- ======== the answer, as a function
+-- ======== as a function
 
--- ---- what each line is to the login
+-- ---- the verdict of each line
 
 abbrev pub line_verdict : LoginClaim → List ℕ → LineVerdict AuthEntry
 line_verdict claim line = login_verdict claim (auth_line line)
@@ -66,7 +67,7 @@ candidate_at claim c = record {
   rights = rights_of c.1 claim.offer;
 }
 
--- what is said of a login with one more line
+-- the state after one more line
 abbrev pub login_scan_line : LoginClaim → Scan Candidate → ℕ × List ℕ → Scan Candidate
 login_scan_line claim s x = scan_line (candidate_at claim) (line_verdict claim) s x
 
@@ -74,7 +75,7 @@ abbrev pub vouching_cause : Option ℕ → Option Cause
 vouching_cause None = None
 vouching_cause (Some index) = Some (NotVouched index)
 
--- why a login by a line is denied: the first cause that holds
+-- why a login by a line that admits it is denied: the first cause that holds
 abbrev pub cause_by : Bool → Bool → Option ℕ → Option Cause
 cause_by false verified unvouched = Some TouchMissing
 cause_by true false unvouched = Some VerifyMissing

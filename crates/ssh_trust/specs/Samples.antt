@@ -1,11 +1,11 @@
 -- Worked decisions: the causes in their order, the reasons that are listed, and a file at the limit.
 use Rattle.std.specs.Prelude.{◌≡◌, ℕ, Bool, true, false, List, [], ◌∷◌, ◌++◌, codes, replicate, length, Option, Some, None, slice_get, Ok, Err, refl}
-use Rattle.ssh_offers.specs.declared.error.AuditError.TheVariants.{FileTooLong}
-use Rattle.ssh_offers.specs.declared.query.Signed.{Signed}
+use Rattle.ssh_offers.specs.declared.claim.AuditError.TheVariants.{FileTooLong}
+use Rattle.ssh_offers.specs.declared.claim.Signed.{Signed}
 use Rattle.ssh_rights.specs.declared.rights.Rights.{Rights}
 use Rattle.ssh_rules.specs.declared.reason.Reason.TheVariants.{Expired, SourceRefused}
-use Rattle.ssh_rules.specs.declared.verdict.LineVerdict.{LineVerdict}
-use Rattle.ssh_rules.specs.declared.verdict.LineVerdict.TheVariants.{Admits, Skips}
+use Rattle.ssh_rules.specs.declared.admission.LineVerdict.{LineVerdict}
+use Rattle.ssh_rules.specs.declared.admission.LineVerdict.TheVariants.{Admits, Skips}
 use Rattle.ssh_trust.specs.declared.decision.Cause.TheVariants.{NoLine, NotVouched, Revoked, RevocationUnreadable, TouchMissing, VerifyMissing}
 use Rattle.ssh_trust.specs.declared.decision.Decision.{Decision}
 use Rattle.ssh_trust.specs.declared.decision.Decision.TheVariants.{Granted, Denied}
@@ -30,7 +30,8 @@ by_signer = signed (codes "ca") (codes "cert") (codes "sig")
 abbrev both : List Signed
 both = by_key ∷ by_signer ∷ []
 
--- the first of them, and one that is as the second but for its key, its message or its signature
+-- The first of them, and one that equals the second but for its key. The next two differ from the second in the message
+-- and in the signature.
 abbrev but_key : List Signed
 but_key = by_key ∷ signed (codes "cb") (codes "cert") (codes "sig") ∷ []
 
@@ -49,7 +50,7 @@ no_rights = record { port = false; agent = false; x11 = false; pty = false; user
 abbrev seventh : Bool → Bool → Option Candidate
 seventh touched verified = Some (record { line = 7; touched = touched; verified = verified; rights = no_rights })
 
--- N3 before all, N4 before N5, that before N6, which names the first that nobody vouches for
+-- N3 comes before all, N4 before N5, N5 before N6; N6 names the first signature that is not vouched for
 abbrev pub LoginCausesInOrder : Type 0
 LoginCausesInOrder =
     (decision_of both [] None [] ≡ Denied NoLine [] both)
@@ -73,28 +74,28 @@ login_causes_in_order = (refl, refl, refl, refl, refl, refl, refl, refl, refl, r
 -- ---- hosts' keys
 
 -- the numbers of the first line that admits, of the first that revokes, and of the first that may
-abbrev said : Option ℕ → Option ℕ → Option ℕ → HostScan
-said candidate revoked blind = record { admission = record { candidate = candidate; reasons = [] }; revoked = revoked; blind = blind }
+abbrev state : Option ℕ → Option ℕ → Option ℕ → HostScan
+state candidate revoked unreadable_revocation = record { admission = record { candidate = candidate; reasons = [] }; revoked = revoked; unreadable_revocation = unreadable_revocation }
 
--- N1 before N2, wherever their lines stand, both before N3, and that before N6; a host gets no rights
+-- N1 comes before N2, wherever their lines are, both before N3, and N3 before N6; a host gets no rights
 abbrev pub HostCausesInOrder : Type 0
 HostCausesInOrder =
-    (host_decision_of (said (Some 2) (Some 5) (Some 3)) both both ≡ Denied (Revoked 5) [] both)
-    × (host_decision_of (said None (Some 5) None) [] both ≡ Denied (Revoked 5) [] both)
-    × (host_decision_of (said (Some 2) None (Some 3)) both both ≡ Denied (RevocationUnreadable 3) [] both)
-    × (host_decision_of (said None None (Some 3)) [] both ≡ Denied (RevocationUnreadable 3) [] both)
-    × (host_decision_of (said None None None) [] both ≡ Denied NoLine [] both)
-    × (host_decision_of (said None None None) both both ≡ Denied NoLine [] both)
-    × (host_decision_of (said (Some 2) None None) [] both ≡ Denied (NotVouched 0) [] both)
-    × (host_decision_of (said (Some 2) None None) (by_key ∷ []) both ≡ Denied (NotVouched 1) [] both)
-    × (host_decision_of (said (Some 2) None None) both both ≡ Granted 2 None [] both)
+    (host_decision_of (state (Some 2) (Some 5) (Some 3)) both both ≡ Denied (Revoked 5) [] both)
+    × (host_decision_of (state None (Some 5) None) [] both ≡ Denied (Revoked 5) [] both)
+    × (host_decision_of (state (Some 2) None (Some 3)) both both ≡ Denied (RevocationUnreadable 3) [] both)
+    × (host_decision_of (state None None (Some 3)) [] both ≡ Denied (RevocationUnreadable 3) [] both)
+    × (host_decision_of (state None None None) [] both ≡ Denied NoLine [] both)
+    × (host_decision_of (state None None None) both both ≡ Denied NoLine [] both)
+    × (host_decision_of (state (Some 2) None None) [] both ≡ Denied (NotVouched 0) [] both)
+    × (host_decision_of (state (Some 2) None None) (by_key ∷ []) both ≡ Denied (NotVouched 1) [] both)
+    × (host_decision_of (state (Some 2) None None) both both ≡ Granted 2 None [] both)
 
 pub host_causes_in_order : HostCausesInOrder
 host_causes_in_order = (refl, refl, refl, refl, refl, refl, refl, refl, refl)
 
--- ---- what each line is to an offer
+-- ---- the verdicts of lines
 
--- the line of another key, of a source that is refused, and of an entry that admits
+-- the verdict of a line with another key, and that of one whose list of sources refuses the client
 abbrev other : LineVerdict ℕ
 other = Skips None
 
@@ -126,7 +127,7 @@ reasons_listed = (refl, refl, refl, refl, refl, refl, refl)
 
 -- ---- the limit of a file
 
--- 64 MiB are decided on, and a byte more is not
+-- a file of 64 MiB is decided, and one of a byte more is not
 abbrev pub FileAtLimit : Type 0
 FileAtLimit =
     ((file : List ℕ) (d : Decision) → length file ≡ 67108864 → if_short file d ≡ Ok d)

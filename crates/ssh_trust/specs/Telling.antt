@@ -1,24 +1,24 @@
--- Why lines are passed over, and why a login and a host's key are denied, in the subject's words (this project's rule).
+-- What the reasons of passed-over lines and the cause of a denial mean, as relations (this project's rules).
 use Rattle.std.specs.Prelude.{◌≡◌, ◌↔◌, ◌⊎◌, ◌≤◌, ◌<◌, ◌+◌, ℕ, List, [], ◌∷◌, Contains, Option, Some, slice_get, take}
-use Rattle.ssh_lines.specs.AuthEntry.{AuthEntry}
-use Rattle.ssh_lines.specs.declared.entry.AuthLine.TheVariants as auth
-use Rattle.ssh_lines.specs.KnownEntry.{KnownEntry}
-use Rattle.ssh_lines.specs.declared.known.KnownLine.TheVariants as known
-use Rattle.ssh_lines.specs.AuthGrammar.{SpellsEntry, auth_line}
-use Rattle.ssh_lines.specs.KnownGrammar.{SpellsKnown, known_line}
-use Rattle.ssh_offers.specs.declared.query.Signed.{Signed}
+use Rattle.ssh_entries.specs.AuthEntry.{AuthEntry}
+use Rattle.ssh_entries.specs.declared.auth_line.AuthLine.TheVariants as auth
+use Rattle.ssh_entries.specs.KnownEntry.{KnownEntry}
+use Rattle.ssh_entries.specs.declared.known_line.KnownLine.TheVariants as known
+use Rattle.ssh_entries.specs.AuthGrammar.{SpellsEntry, auth_line}
+use Rattle.ssh_entries.specs.KnownGrammar.{SpellsKnown, known_line}
+use Rattle.ssh_offers.specs.declared.claim.Signed.{Signed}
 use Rattle.ssh_offers.specs.Evidence.{host_evidence, login_evidence}
 use Rattle.ssh_offers.specs.HostClaim.{HostClaim}
 use Rattle.ssh_offers.specs.LoginClaim.{LoginClaim}
 use Rattle.ssh_offers.specs.Vouching.{Has}
-use Rattle.ssh_options.specs.declared.cause.LineCause.{LineCause}
+use Rattle.ssh_options.specs.declared.option_text.LineCause.{LineCause}
 use Rattle.ssh_rights.specs.SecurityKeys.{TouchSuffices, VerificationSuffices}
-use Rattle.ssh_rules.specs.declared.reason.Obstacle.{Obstacle}
-use Rattle.ssh_rules.specs.declared.reason.Obstacle.TheVariants.{Listed}
+use Rattle.ssh_rules.specs.declared.reason.Mismatch.{Mismatch}
+use Rattle.ssh_rules.specs.declared.reason.Mismatch.TheVariants.{Listed}
 use Rattle.ssh_rules.specs.declared.reason.Reason.{Reason}
 use Rattle.ssh_rules.specs.declared.reason.Reason.TheVariants.{Unreadable}
-use Rattle.ssh_rules.specs.Admission.{login_obstacle}
-use Rattle.ssh_host_rules.specs.HostAdmission.{host_obstacle}
+use Rattle.ssh_rules.specs.Admission.{login_mismatch}
+use Rattle.ssh_host_rules.specs.HostAdmission.{host_mismatch}
 use Rattle.ssh_trust.specs.declared.decision.Cause.{Cause}
 use Rattle.ssh_trust.specs.declared.decision.Cause.TheVariants.{NoLine, NotVouched, Revoked, RevocationUnreadable, TouchMissing, VerifyMissing}
 use Rattle.ssh_trust.specs.declared.decision.Decision.{Decision}
@@ -26,17 +26,18 @@ use Rattle.ssh_trust.specs.declared.decision.Decision.TheVariants.{Granted, Deni
 use Rattle.ssh_trust.specs.Candidate.{reason_limit}
 use Rattle.ssh_trust.specs.LoginDecision.{IsCandidate, LoginMeans}
 use Rattle.ssh_trust.specs.FileLines.{StandsAt}
-use Rattle.ssh_trust.specs.HostDecision.{BlindAt, HostMeans, IsHostCandidate, IsLeast, RevokesAt}
+use Rattle.ssh_trust.specs.HostDecision.{UnreadableRevocationAt, HostMeans, IsHostCandidate, IsLeast, RevokesAt}
 
 -- ---- the reasons
 
--- this is the reason why the line does not admit: it has no reading, for this cause, or it spells an entry that has this first reason against the offer
-abbrev pub HasReason : {E : Type 0} → (List ℕ → LineCause → Type 0) → (E → List ℕ → Type 0) → (E → Option Obstacle) → List ℕ → Reason → Type 0
-HasReason {E = E} IsUnread Spells obstacle line why =
+-- This is why the line does not admit: it cannot be read, for this cause, or it spells an entry that has this first
+-- reason against the offer.
+abbrev pub HasReason : {E : Type 0} → (List ℕ → LineCause → Type 0) → (E → List ℕ → Type 0) → (E → Option Mismatch) → List ℕ → Reason → Type 0
+HasReason {E = E} IsUnread Spells mismatch line why =
     ((cause : LineCause) × IsUnread line cause × (why ≡ Unreadable cause))
-    ⊎ ((e : E) × Spells e line × (obstacle e ≡ Some (Listed why)))
+    ⊎ ((e : E) × Spells e line × (mismatch e ≡ Some (Listed why)))
 
--- line n has this reason, and stands before the candidate, where there is one
+-- line n has this reason, and is before the candidate, where there is one
 pub record IsPassedOver (E : Type 0) (IsFirst : ℕ → E → Type 0) (Reasoned : List ℕ → Reason → Type 0) (file : List ℕ) (n : ℕ) (why : Reason) : Type 0 where
   pub line : List ℕ
   pub stands : StandsAt file n line
@@ -57,7 +58,7 @@ pub record AreReasons (IsPassed : ℕ → Reason → Type 0) (reasons : List (�
 
 -- ---- the evidence
 
--- the signature of this index is not vouched for, and each before it is
+-- the signature with this index is not vouched for, and each before it is
 pub record IsFirstUnvouched (vouched evidence : List Signed) (index : ℕ) : Type 0 where
   pub signed : Signed
   pub stands : slice_get evidence index ≡ Some signed
@@ -67,9 +68,9 @@ pub record IsFirstUnvouched (vouched evidence : List Signed) (index : ℕ) : Typ
 -- ---- logins
 
 abbrev pub LoginReason : LoginClaim → List ℕ → Reason → Type 0
-LoginReason claim line why = HasReason (λ l cause. auth_line l ≡ auth.Unreadable cause) SpellsEntry (λ e. login_obstacle e claim) line why
+LoginReason claim line why = HasReason (λ l cause. auth_line l ≡ auth.Unreadable cause) SpellsEntry (λ e. login_mismatch e claim) line why
 
--- a touch is asked before a verification, and that before the signatures
+-- a missing touch comes before a missing verification, and that before a signature that is not vouched for
 abbrev pub LoginCause : List ℕ → LoginClaim → List Signed → Cause → Type 0
 LoginCause file claim vouched NoLine = (i : ℕ) (e : AuthEntry) → IsCandidate file claim i e → ⊥
 LoginCause file claim vouched TouchMissing =
@@ -83,7 +84,7 @@ LoginCause file claim vouched (NotVouched index) =
 LoginCause file claim vouched (Revoked n) = ⊥
 LoginCause file claim vouched (RevocationUnreadable n) = ⊥
 
--- what is told of the lines: by both answers the reasons of those that were passed over, by a denial its cause too
+-- the reasons of the lines that were passed over, for both cases, and for a denial its cause too
 abbrev pub LoginTells : List ℕ → LoginClaim → List Signed → Decision → Type 0
 LoginTells file claim vouched (Granted line rights reasons evidence) =
     AreReasons (IsPassedOver AuthEntry (IsCandidate file claim) (LoginReason claim) file) reasons
@@ -97,23 +98,23 @@ LoginDecides file claim vouched decision = LoginMeans file claim vouched decisio
 -- ---- hosts
 
 abbrev pub HostReason : HostClaim → List ℕ → Reason → Type 0
-HostReason claim line why = HasReason (λ l cause. known_line l ≡ known.Unreadable cause) SpellsKnown (λ e. host_obstacle e claim) line why
+HostReason claim line why = HasReason (λ l cause. known_line l ≡ known.Unreadable cause) SpellsKnown (λ e. host_mismatch e claim) line why
 
 -- no line of the whole file revokes the key or the signer, or may revoke any key
 abbrev pub IsUnrevoked : List ℕ → HostClaim → Type 0
-IsUnrevoked file claim = ((n : ℕ) → RevokesAt file claim.offer n → ⊥) × ((n : ℕ) → BlindAt file n → ⊥)
+IsUnrevoked file claim = ((n : ℕ) → RevokesAt file claim.offer n → ⊥) × ((n : ℕ) → UnreadableRevocationAt file n → ⊥)
 
 -- a revocation comes first, then a line that may be one
 abbrev pub HostCause : List ℕ → HostClaim → List Signed → Cause → Type 0
 HostCause file claim vouched (Revoked n) = IsLeast (RevokesAt file claim.offer) n
-HostCause file claim vouched (RevocationUnreadable n) = ((k : ℕ) → RevokesAt file claim.offer k → ⊥) × IsLeast (BlindAt file) n
+HostCause file claim vouched (RevocationUnreadable n) = ((k : ℕ) → RevokesAt file claim.offer k → ⊥) × IsLeast (UnreadableRevocationAt file) n
 HostCause file claim vouched NoLine = IsUnrevoked file claim × ((i : ℕ) (e : KnownEntry) → IsHostCandidate file claim i e → ⊥)
 HostCause file claim vouched (NotVouched index) =
     IsUnrevoked file claim × ((i : ℕ) × (e : KnownEntry) × IsHostCandidate file claim i e × IsFirstUnvouched vouched (host_evidence claim) index)
 HostCause file claim vouched TouchMissing = ⊥
 HostCause file claim vouched VerifyMissing = ⊥
 
--- the same of a host's key
+-- the same for a host's key
 abbrev pub HostTells : List ℕ → HostClaim → List Signed → Decision → Type 0
 HostTells file claim vouched (Granted line rights reasons evidence) =
     AreReasons (IsPassedOver KnownEntry (IsHostCandidate file claim) (HostReason claim) file) reasons

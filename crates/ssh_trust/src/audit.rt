@@ -1,30 +1,8 @@
-//! An audit of a trust file that comes in pieces, whatever is asked of it.
+//! `LoginAudit` and `HostAudit`: a query is answered by a trust file that is fed in pieces of any
+//! size.
 
-ghost use Rattle.std.specs.Prelude.{
-  ◌≡◌,
-  ◌↔◌,
-  ◌<◌,
-  ◌≤◌,
-  ◌+◌,
-  ◌*◌,
-  ◌++◌,
-  [],
-  true,
-  length,
-  List,
-  ℕ,
-  Err,
-  IfOk,
-  IsOk,
-  OnOk,
-  OnErr,
-};
-ghost use Rattle.ssh_offers.specs.declared.error.AuditError.TheVariants.{
-  Failed,
-  FileTooLong,
-  Memory,
-  Read,
-};
+ghost use Rattle.std.specs.Prelude.{◌≡◌, ◌↔◌, ◌<◌, ◌≤◌, ◌+◌, ◌*◌, ◌++◌, [], true, length, List, ℕ, Err, IfOk, IsOk, OnOk, OnErr};
+ghost use Rattle.ssh_offers.specs.declared.claim.AuditError.TheVariants.{Failed, FileTooLong, Memory, Read};
 ghost use Rattle.ssh_text.specs.Text.{file_limit};
 ghost use Rattle.ssh_trust.specs.Answer.{GivesOrMemory, OfClaim, RefusesAs, decided, if_short};
 ghost use Rattle.ssh_trust.specs.Audit.{IsBounded, HasAudited};
@@ -33,37 +11,36 @@ ghost use Rattle.ssh_trust.specs.Reads.{AnswersReader, HoldsOfRead, IsFedBy};
 use crate::decision::Decision;
 use crate::host_scan::HostScan;
 use crate::login_scan::Candidate;
-use crate::pieces::Pieces;
-use crate::scan::Scan;
-use crate::search::Search;
-use crate::sought::{Listing, Sought};
-use crate::source::Source;
-use ssh_host_rules::SoughtHost;
+use crate::matcher::{Listing, Matcher};
+use crate::reader::Source;
+use crate::search::{Pieces, Scan, Search};
+use ssh_host_rules::HostMatcher;
 use ssh_offers::{AuditError, Signed};
-use ssh_rules::SoughtLogin;
+use ssh_rules::LoginMatcher;
 use std::alloc::Global;
 use std::marker::Model;
 
-/// Answers a login by an authorized_keys file that comes in pieces, cut anywhere. Whatever the file
-/// holds, besides the query and what is made of it once an audit keeps one unfinished line of
-/// 65,536 bytes, one buffer for keys of 49,152 bytes, one candidate and 100 reasons at most.
-pub type LoginAudit<'a> = Audit<SoughtLogin<'a>, Scan<Candidate>>;
+/// Answers a login by an authorized_keys file that is fed in pieces, cut anywhere. An audit stores
+/// the query, what is derived from it once, and at most one unfinished line of 65,536 bytes, one
+/// key buffer of 49,152 bytes, one candidate and 100 reasons. This does not depend on the file.
+pub type LoginAudit<'a> = Audit<LoginMatcher<'a>, Scan<Candidate>>;
 
-/// Answers a host's key by a known_hosts file that comes in pieces, cut anywhere. The whole file
-/// counts, for a later line may revoke. Whatever it holds, besides the query and what is made of it
-/// once an audit keeps one unfinished line of 65,536 bytes, one buffer for keys of 49,152 bytes, the
-/// number of one candidate, those of two lines that revoke or may, and 100 reasons at most.
-pub type HostAudit<'a> = Audit<SoughtHost<'a>, HostScan>;
+/// Answers a host's key by a known_hosts file that is fed in pieces, cut anywhere. The whole file
+/// counts, because a later line may still revoke the key. An audit stores the query, what is
+/// derived from it once, and at most one unfinished line of 65,536 bytes, one key buffer of 49,152
+/// bytes and 100 reasons. It also stores three line numbers: of the candidate, of the first line
+/// that revokes the key, and of the first that may. This does not depend on the file.
+pub type HostAudit<'a> = Audit<HostMatcher<'a>, HostScan>;
 
-/// Answers a query by a trust file that comes in pieces: `LoginAudit` or `HostAudit`. It has what is
-/// sought and what the lines say to it.
+/// Answers a query by a trust file that is fed in pieces: `LoginAudit` or `HostAudit`. It holds a
+/// matcher and the state after the lines so far.
 #[derive(Drop)]
 pub struct Audit<T, S: Listing> {
     pieces: Pieces<T, S>,
 }
 
 impl<T, S: Listing> Model for Audit<T, S> {
-    ghost use Rattle.ssh_trust.specs.declared.pieces.Pieces.{Pieces};
+    ghost use Rattle.ssh_trust.specs.declared.search.Pieces.{Pieces};
     ghost use Rattle.ssh_trust.specs.Audit.{IsBounded};
 
     ghost Value = { Pieces T S };
@@ -73,23 +50,23 @@ impl<T, S: Listing> Model for Audit<T, S> {
     ghost invariant = { λ s. IsBounded S.reasons s.pieces };
 }
 
-impl<T: Sought<Said = S> + Drop, S: Listing + Drop> Audit<T, S> {
-    /// An audit that took no piece. An offer is refused by `A1` to `A6`, that of a host by `A1` to
-    /// `A5`, before any memory is taken, and out of memory is `A8`. The session and the user of a
-    /// login have fewer than 2^32 bytes each.
+impl<T: Matcher<State = S> + Drop, S: Listing + Drop> Audit<T, S> {
+    /// An audit that has taken no piece yet. A login's offer is refused by `A1` to `A6`, a host's
+    /// by `A1` to `A5`, before any memory is allocated; `A8` when memory cannot be allocated. The
+    /// session and the user of a login must have fewer than 2^32 bytes each.
     pub fn new(alloc: Global, query: &T::Query) -> Result<Audit<T, S>, AuditError>
         requires can_ask { T.can_ask query.now }
-        // A refused offer is answered by its first refusal, whatever memory does.
+        // A refused offer is answered by its first refusal, whether or not memory can be allocated.
         ensures refused { RefusesAs (T.claim query.entry.now) result }
-        // Else the audit stands for no bytes,
+        // Otherwise the audit represents the empty file,
         ensures made { OfClaim (T.claim query.entry.now)
             (λ claim. IfOk result (λ audit. HasAudited T.claimed T.nothing T.add T.most T.least claim audit [])) }
-        // or memory was refused.
+        // or memory could not be allocated.
         ensures else_memory { OfClaim (T.claim query.entry.now)
             (λ claim. OnErr result (result ≡ Err Memory)) }
-        // It keeps no more than it may.
+        // What it stores is bounded.
         ensures bounded { IfOk result (IsBounded S.reasons) }
-        // Nothing is read.
+        // No reader is involved, so there is no read error.
         ensures unread { result ≡ Err Read → ⊥ }
     {
         let search = Search::<T, S>::new(alloc, query)?;
@@ -98,80 +75,81 @@ impl<T: Sought<Said = S> + Drop, S: Listing + Drop> Audit<T, S> {
         })
     }
 
-    /// Takes a piece whole. A piece that makes the file longer than 67,108,864 bytes is `A7`, and
-    /// out of memory is `A8`: after either the audit answers `A10` for ever.
+    /// Takes a whole piece. A piece that makes the file longer than 67,108,864 bytes is `A7`, and
+    /// `A8` is returned when memory cannot be allocated: after either, every later call returns
+    /// `A10`.
     pub fn feed(&mut self, piece: &[u8]) -> Result<(), AuditError>
-        // The audit stands for the piece too.
+        // The audit now represents the file with this piece appended.
         ensures taken { OnOk result ((claim : T.Claim) (bytes : List ℕ)
             → HasAudited T.claimed T.nothing T.add T.most T.least claim self.old bytes
             → HasAudited T.claimed T.nothing T.add T.most T.least claim self.new (bytes ++ piece.now)) }
-        // A7 is answered exactly past the limit,
+        // A7 is returned exactly past the limit,
         ensures too_long { (claim : T.Claim) (bytes : List ℕ)
             → HasAudited T.claimed T.nothing T.add T.most T.least claim self.old bytes
             → ((result ≡ Err FileTooLong) ↔ (file_limit < length bytes + length piece.now)) }
-        // A10 exactly after a refusal,
+        // A10 exactly after an earlier refusal,
         ensures failed { (result ≡ Err Failed) ↔ (self.old.failed ≡ true) }
-        // and else nothing but out of memory.
+        // and otherwise only the memory error.
         ensures else_memory { (claim : T.Claim) (bytes : List ℕ)
             → HasAudited T.claimed T.nothing T.add T.most T.least claim self.old bytes
             → length bytes + length piece.now ≤ file_limit
             → OnErr result (result ≡ Err Memory) }
-        // A piece of no bytes takes no memory.
+        // An empty piece allocates nothing.
         ensures nothing { (claim : T.Claim) (bytes : List ℕ)
             → HasAudited T.claimed T.nothing T.add T.most T.least claim self.old bytes
             → length piece.now ≡ 0
             → IsOk result }
-        // A refusal is for ever.
+        // After a refusal the audit stays failed.
         ensures left { OnErr result (self.new.failed ≡ true) }
-        // The audit keeps no more than it may.
+        // What the audit stores is bounded.
         ensures bounded { IsBounded S.reasons self.new }
     {
         self.pieces.feed(piece)?;
         Ok(())
     }
 
-    /// Takes what a reader has left, up to its end, in reads of at most 4,096 bytes. A failed read is
-    /// `A9`, and after it the audit answers `A10`.
+    /// Takes what is left of a reader, up to its end, in reads of at most 4,096 bytes. A failed
+    /// read is `A9`, and every later call returns `A10`.
     pub(crate) fn feed_from<R: Source>(&mut self, reader: &mut R) -> Result<(), AuditError>
-        // A9 is answered exactly where the last read failed.
+        // A9 is returned exactly where the last read failed.
         ensures read { result ≡ Err Read → R.failed reader.old reader.new }
         ensures unfailed { (result ≡ Err Read → ⊥) → R.unfailed reader.old reader.new }
-        // The audit stands for what the reader gave too.
+        // The audit now represents the file with what the reader gave appended.
         ensures fed { (claim : T.Claim) (bytes : List ℕ)
             → HasAudited T.claimed T.nothing T.add T.most T.least claim self.old bytes
             → IsFedBy (λ given. HasAudited T.claimed T.nothing T.add T.most T.least claim self.new (bytes ++ given))
             (R.left reader.old) (R.left reader.new) (length bytes) result }
-        // A refusal is for ever.
+        // After a refusal the audit stays failed.
         ensures left { OnErr result (self.new.failed ≡ true) }
-        // The audit keeps no more than it may.
+        // What the audit stores is bounded.
         ensures bounded { IsBounded S.reasons self.new }
     {
         self.pieces.feed_from(reader)
     }
 
-    /// `finish`, and the turns of the matching loop over all lines, as `matches_counted` counts them:
-    /// at most `(len + 1) * w` for a file of `len` bytes. For a login `w` is two more than the bytes of
-    /// the client's host name, where one is known, and of its address text, and the turns are those of
-    /// `from` lists: a certificate's list of sources takes none, and principals are looked up and not
-    /// matched. For a host's key `w` is one more than the bytes of the name that the host is looked up
-    /// by, and the turns are those of lists of names: no fewer than these bytes where the first line
-    /// that admits has such a list. A hashed name takes none.
+    /// `finish`, and the matcher steps over all lines, as `matches_counted` counts them: at most
+    /// `(len + 1) * w` for a file of `len` bytes. For a login `w` is two more than the bytes of the
+    /// client's host name, if known, and of its address text. Only `from` lists take steps: a
+    /// certificate's list of sources takes none, and principals are looked up and not matched. For
+    /// a host's key `w` is one more than the bytes of the name that the host is looked up by. Only
+    /// lists of names take steps: at least as many as that name has bytes where the first line that
+    /// admits the key has such a list. A hashed name takes none.
     pub fn finish_counted(self, vouched: &[Signed]) -> Result<(Decision, u128), AuditError>
-        // No decision after a refused piece.
+        // There is no decision after a refused piece.
         ensures failed { self.failed ≡ true → result ≡ Err Failed }
-        // A decision means what is said of it.
+        // A decision has the meaning that is stated for its case.
         ensures means { (claim : T.Claim) (bytes : List ℕ)
             → HasAudited T.claimed T.nothing T.add T.most T.least claim self bytes
             → IfOk result (λ counted. T.means bytes claim vouched.now counted.0) }
-        // The whole answer, with cause, reasons and evidence, unless memory was refused.
+        // The whole answer, with cause, reasons and evidence, unless memory could not be allocated.
         ensures answer { (claim : T.Claim) (bytes : List ℕ)
             → HasAudited T.claimed T.nothing T.add T.most T.least claim self bytes
             → GivesOrMemory (if_short bytes (T.decision bytes claim vouched.now)) (decided result) }
-        // No more turns than so many for each byte of the file, and for its end,
+        // At most `w` steps for each byte of the file, and `w` for its end,
         ensures most { (claim : T.Claim) (bytes : List ℕ)
             → HasAudited T.claimed T.nothing T.add T.most T.least claim self bytes
             → IfOk result (λ counted. counted.1 ≤ (length bytes + 1) * T.width claim) }
-        // and for a host's key no fewer than a plain list of names takes that admits it.
+        // and for a host's key at least those of the plain list of names that admits it.
         ensures least { (claim : T.Claim) (bytes : List ℕ)
             → HasAudited T.claimed T.nothing T.add T.most T.least claim self bytes
             → IfOk result (λ counted. T.are_enough bytes claim counted.1) }
@@ -181,16 +159,16 @@ impl<T: Sought<Said = S> + Drop, S: Listing + Drop> Audit<T, S> {
         Ok(counted)
     }
 
-    /// Answers by all pieces, as `login` and `host` answer by the file that they are together. After
-    /// a refused piece the answer is `A10`, and out of memory is `A8`.
+    /// Answers by the concatenation of all pieces, as `login` and `host` answer by a whole file.
+    /// After a refused piece the answer is `A10`; `A8` when memory cannot be allocated.
     pub fn finish(self, vouched: &[Signed]) -> Result<Decision, AuditError>
-        // No decision after a refused piece.
+        // There is no decision after a refused piece.
         ensures failed { self.failed ≡ true → result ≡ Err Failed }
-        // A decision means what is said of it.
+        // A decision has the meaning that is stated for its case.
         ensures means { (claim : T.Claim) (bytes : List ℕ)
             → HasAudited T.claimed T.nothing T.add T.most T.least claim self bytes
             → IfOk result (T.means bytes claim vouched.now) }
-        // The whole answer, with cause, reasons and evidence, unless memory was refused.
+        // The whole answer, with cause, reasons and evidence, unless memory could not be allocated.
         ensures answer { (claim : T.Claim) (bytes : List ℕ)
             → HasAudited T.claimed T.nothing T.add T.most T.least claim self bytes
             → GivesOrMemory (if_short bytes (T.decision bytes claim vouched.now)) result }
@@ -201,7 +179,7 @@ impl<T: Sought<Said = S> + Drop, S: Listing + Drop> Audit<T, S> {
         }
     }
 
-    /// Answers by a whole file.
+    /// Answers by a whole file, fed as one piece.
     pub(crate) fn of_file(
         alloc: Global,
         file: &[u8],
@@ -220,7 +198,7 @@ impl<T: Sought<Said = S> + Drop, S: Listing + Drop> Audit<T, S> {
         audit.finish(vouched)
     }
 
-    /// Answers by what a reader has left.
+    /// Answers by what is left of a reader. A refused offer reads nothing.
     pub(crate) fn of_reader<R: Source>(
         alloc: Global,
         reader: &mut R,

@@ -1,65 +1,46 @@
-//! What the lines of a known_hosts file say to a host's key: one line after the other. The whole
-//! file counts, for a later line may revoke.
+//! The matcher of known_hosts files: the first line that admits a host's key, the lines that revoke
+//! it, and the decision. The whole file counts, because a later line may still revoke the key.
 
-ghost use Rattle.std.specs.Prelude.{
-  ◌≡◌,
-  ◌≤◌,
-  ℕ,
-  false,
-  true,
-  is_some,
-  length,
-  List,
-  Err,
-  IfOk,
-  OnErr,
-  OnOk,
-  ⊤,
-};
-ghost use Rattle.ssh_lines.specs.KnownGrammar.{known_line};
-ghost use Rattle.ssh_lines.specs.KnownSeen.{known_seen};
-ghost use Rattle.ssh_offers.specs.declared.error.AuditError.TheVariants.{Memory};
+ghost use Rattle.std.specs.Prelude.{◌≡◌, ◌≤◌, ℕ, false, true, is_some, length, List, Err, IfOk, OnErr, OnOk, ⊤};
+ghost use Rattle.ssh_entries.specs.KnownGrammar.{known_line};
+ghost use Rattle.ssh_entries.specs.KnownSeen.{known_seen};
+ghost use Rattle.ssh_offers.specs.declared.claim.AuditError.TheVariants.{Memory};
 ghost use Rattle.ssh_offers.specs.ClaimViews.{host_claim_of};
 ghost use Rattle.ssh_offers.specs.HostClaim.{HostClaim, host_claim};
 ghost use Rattle.ssh_offers.specs.Query.{host_check_of};
-ghost use Rattle.ssh_rules.specs.KeyPiece.{AdmitsNothing};
+ghost use Rattle.ssh_rules.specs.KeyNeedle.{AdmitsNothing};
 ghost use Rattle.ssh_host_rules.specs.Revocation.{RevokesNothing};
 ghost use Rattle.ssh_trust.specs.FileLines.{IsHandedLine};
 ghost use Rattle.ssh_trust.specs.Telling.{HostDecides};
-ghost use Rattle.ssh_trust.specs.HostDecision.{host_decision};
-ghost use Rattle.ssh_trust.specs.HostScan.{
-  admitting_number,
-  empty_host_scan,
-  first_so_far,
-  host_line_verdict,
-  host_scan_line,
-};
+ghost use Rattle.ssh_trust.specs.HostDecision.{host_decision, host_decision_of, revocation_cause, trust_by};
+ghost use Rattle.ssh_trust.specs.HostScan.{admitting_number, empty_host_scan, first_so_far, host_line_verdict, host_scan_line};
 ghost use Rattle.ssh_trust.specs.Candidate.{reason_limit};
 ghost use Rattle.ssh_trust.specs.Scan.{scan_line, scan_verdict};
 ghost use Rattle.ssh_host_rules.specs.Turns.{host_width};
 ghost use Rattle.ssh_trust.specs.Turns.{AreNameTurns, host_line_least, host_line_most};
 
-use crate::decision::Decision;
-use crate::host_decide::decide_host;
-use crate::scan::Scan;
-use crate::sought::{Listing, Sought};
-use ssh_host_rules::{SoughtHost, can_revoke, host_verdict_counted, may_revoke};
-use ssh_lines::{KeyBuffer, KnownEntryView, KnownLineView, read_known_view};
-use ssh_offers::{AuditError, HostClaimView, HostQuery, Signed, host_evidence};
-use ssh_rules::LineVerdict;
+use crate::decision::{Cause, Decision};
+use crate::matcher::{Listing, Matcher};
+use crate::search::Scan;
+use ssh_entries::{KeyBuffer, KnownEntryView, KnownLineView, read_known_view};
+use ssh_host_rules::{HostMatcher, can_revoke, host_verdict_counted, may_revoke};
+use ssh_offers::{
+    AuditError, HostClaimView, HostQuery, Items, Signed, first_unvouched, host_evidence,
+};
+use ssh_rules::{LineVerdict, Reason};
 use ssh_text::Line;
 use std::alloc::{AllocError, Global};
 
-/// What the lines so far say.
+/// The state after the lines so far.
 #[derive(Drop)]
 pub struct HostScan {
-    /// The number of the first line that admits the key, from 1, and the reasons of those before
-    /// it.
+    /// The number of the first line that admits the key, from 1, and the reasons of the lines
+    /// before it.
     pub(crate) admission: Scan<u64>,
-    /// The first line that revokes the key or the signer.
+    /// The first line that revokes the key or the certificate's signer.
     pub(crate) revoked: Option<u64>,
     /// The first line that may revoke any key.
-    pub(crate) blind: Option<u64>,
+    pub(crate) unreadable_revocation: Option<u64>,
 }
 
 impl Listing for HostScan {
@@ -67,27 +48,31 @@ impl Listing for HostScan {
 }
 
 impl HostScan {
-    /// Whether a line admits the key.
+    /// Whether a line so far admits the key.
     fn is_settled(&self) -> bool
         ensures { result ≡ is_some self.now.admission.candidate }
     {
         self.admission.candidate.is_some()
     }
 
-    /// Notes whether the line of this number revokes the key or the signer, and whether it may
+    /// Records whether the line with this number revokes the key or the signer, and whether it may
     /// revoke any key.
-    fn note(&mut self, number: u64, revokes: bool, blinds: bool)
+    fn note(&mut self, number: u64, revokes: bool, is_unreadable: bool)
         ensures { self.new ≡ record self.old {
           revoked = first_so_far self.old.revoked number revokes;
-          blind = first_so_far self.old.blind number blinds;
+          unreadable_revocation = first_so_far self.old.unreadable_revocation number is_unreadable;
         } }
     {
         self.revoked = first_so_far(self.revoked, number, revokes);
-        self.blind = first_so_far(self.blind, number, blinds);
+        self.unreadable_revocation = first_so_far(
+            self.unreadable_revocation,
+            number,
+            is_unreadable,
+        );
     }
 }
 
-/// The first number so far, after one more line.
+/// The number of the first line so far that has the property, after one more line.
 fn first_so_far(first: Option<u64>, number: u64, holds: bool) -> Option<u64>
     ensures { result ≡ first_so_far first number holds }
 {
@@ -98,7 +83,8 @@ fn first_so_far(first: Option<u64>, number: u64, holds: bool) -> Option<u64>
     }
 }
 
-/// What a line says; one that is longer than a line may be is a revocation that cannot be read.
+/// The line as read. One that is longer than 65,536 bytes counts as a revocation that cannot be
+/// read, since it may be one.
 #[tactic(auto, using(crate::proofs::LongLines::long_known))]
 fn view_of<'a>(line: Line<'a>, buffer: &'a mut KeyBuffer) -> KnownLineView<'a>
     ensures { (text : List ℕ) → IsHandedLine line.entry text → known_seen result ≡ known_line text }
@@ -109,7 +95,7 @@ fn view_of<'a>(line: Line<'a>, buffer: &'a mut KeyBuffer) -> KnownLineView<'a>
     }
 }
 
-/// Whether the line can be a revocation.
+/// Whether the line can be a revocation, without reading its fields.
 fn can_revoke_at(line: Line<'_>) -> bool
     ensures { (text : List ℕ)
         → IsHandedLine line.entry text
@@ -122,78 +108,80 @@ fn can_revoke_at(line: Line<'_>) -> bool
     }
 }
 
-/// Whether the line can admit the key. One that is longer than a line may be cannot.
+/// Whether the line can admit the key. One that is longer than 65,536 bytes cannot.
 #[tactic(auto, using(crate::proofs::LongLines::long_known_admits_nothing))]
-fn can_admit_at(sought: &SoughtHost<'_>, line: Line<'_>) -> bool
+fn can_admit_at(matcher: &HostMatcher<'_>, line: Line<'_>) -> bool
     ensures { (text : List ℕ)
         → IsHandedLine line.entry text
         → result ≡ false
-        → AdmitsNothing (host_line_verdict sought.now text) }
+        → AdmitsNothing (host_line_verdict matcher.now text) }
 {
     match line {
-        Line::Whole(text) => sought.can_admit(text),
+        Line::Whole(text) => matcher.can_admit(text),
         Line::TooLong => false,
     }
 }
 
-/// Whether the line adds nothing to what admits the key: a line before it does, or enough reasons
-/// are listed and it cannot.
-fn adds_no_admission(sought: &SoughtHost<'_>, line: Line<'_>, said: &Scan<u64>) -> bool
+/// Whether the line cannot change the admission: an earlier line admits the key, or enough reasons
+/// are listed and this line cannot admit it.
+fn adds_no_admission(matcher: &HostMatcher<'_>, line: Line<'_>, state: &Scan<u64>) -> bool
     ensures { (number : ℕ) (text : List ℕ)
         → IsHandedLine line.entry text
         → result ≡ true
-        → said.now ≡ scan_line admitting_number (host_line_verdict sought.now) said.now (number, text) }
+        → state.now ≡ scan_line admitting_number (host_line_verdict matcher.now) state.now (number, text) }
 {
-    said.is_settled() || (!said.has_room() && !can_admit_at(sought, line))
+    state.is_settled() || (!state.has_room() && !can_admit_at(matcher, line))
 }
 
-/// Whether the line adds nothing to what is said, whatever it says: nothing to what admits the key,
-/// and no revocation.
-fn is_passed_over(sought: &SoughtHost<'_>, line: Line<'_>, said: &HostScan) -> bool
+/// Whether the line cannot change the state, so that it need not be read: it cannot change the
+/// admission, and it cannot be a revocation.
+fn is_passed_over(matcher: &HostMatcher<'_>, line: Line<'_>, state: &HostScan) -> bool
     ensures { (number : ℕ) (text : List ℕ)
         → IsHandedLine line.entry text
         → result ≡ true
-        → said.now ≡ host_scan_line sought.now said.now (number, text) }
+        → state.now ≡ host_scan_line matcher.now state.now (number, text) }
 {
-    adds_no_admission(sought, line, &said.admission) && !can_revoke_at(line)
+    adds_no_admission(matcher, line, &state.admission) && !can_revoke_at(line)
 }
 
-/// Takes what the line of this number is to the key, where none before it admits it.
+/// Adds the verdict on the line with this number to the state, where no earlier line admits the
+/// key.
 fn take_verdict(
     number: u64,
     verdict: LineVerdict<KnownEntryView<'_>>,
-    said: &mut Scan<u64>,
+    state: &mut Scan<u64>,
 ) -> Result<(), AllocError>
     ensures value { OnOk result
-        (said.new ≡ scan_verdict admitting_number said.old number verdict.entry) }
-    ensures few { length said.old.reasons ≤ reason_limit → length said.new.reasons ≤ reason_limit }
+        (state.new ≡ scan_verdict admitting_number state.old number verdict.entry) }
+    ensures few { length state.old.reasons ≤ reason_limit → length state.new.reasons ≤ reason_limit }
 {
     match verdict {
         LineVerdict::Admits(_) => {
-            said.candidate = Some(number);
+            state.candidate = Some(number);
             Ok(())
         }
-        LineVerdict::Skips(reason) => said.list(number, reason),
+        LineVerdict::Skips(reason) => state.list(number, reason),
     }
 }
 
-/// What is sought for a claim.
-fn sought_of<'a>(alloc: Global, claim: &HostClaimView<'a>) -> Result<SoughtHost<'a>, AuditError>
-    ensures value { IfOk result (λ sought. sought ≡ host_claim_of claim.now) }
+/// The matcher of a claim; a failed allocation is `A8`.
+fn sought_of<'a>(alloc: Global, claim: &HostClaimView<'a>) -> Result<HostMatcher<'a>, AuditError>
+    ensures value { IfOk result (λ matcher. matcher ≡ host_claim_of claim.now) }
     ensures memory { OnErr result (result ≡ Err Memory) }
 {
-    match SoughtHost::new(alloc, claim) {
-        Ok(sought) => Ok(sought),
+    match HostMatcher::new(alloc, claim) {
+        Ok(matcher) => Ok(matcher),
         Err(_) => Err(AuditError::Memory),
     }
 }
 
-/// The first line that trusts a host's key, and those that revoke it. After the former, and once
-/// enough reasons are listed, a line that can be neither is not read.
-impl<'a> Sought for SoughtHost<'a> {
+/// Scans for the first line that trusts a host's key and for those that revoke it. Once a line
+/// admits the key, or enough reasons are listed, only lines that can still change the answer are
+/// read.
+impl<'a> Matcher for HostMatcher<'a> {
     type Query = HostQuery<'a>;
 
-    type Said = HostScan;
+    type State = HostScan;
 
     ghost Claim = { HostClaim };
 
@@ -219,47 +207,110 @@ impl<'a> Sought for SoughtHost<'a> {
 
     ghost are_enough = { AreNameTurns };
 
-    fn read(alloc: Global, query: &HostQuery<'a>) -> Result<SoughtHost<'a>, AuditError> {
+    fn read(alloc: Global, query: &HostQuery<'a>) -> Result<HostMatcher<'a>, AuditError> {
         let claim = HostClaimView::read(query)?;
         sought_of(alloc, &claim)
     }
 
-    fn silence(&self, alloc: Global) -> HostScan {
+    fn initial_state(&self, alloc: Global) -> HostScan {
         HostScan {
             admission: Scan::new(alloc),
             revoked: None,
-            blind: None,
+            unreadable_revocation: None,
         }
     }
 
-    fn take_line(
+    fn scan_line(
         &self,
         _alloc: Global,
         number: u64,
         line: Line<'_>,
         buffer: &mut KeyBuffer,
-        said: &mut HostScan,
+        state: &mut HostScan,
     ) -> Result<u128, AllocError> {
-        if is_passed_over(self, line, said) {
+        if is_passed_over(self, line, state) {
             return Ok(0);
         }
         let view = view_of(line, buffer);
-        said.note(number, self.is_revoked_by(&view), may_revoke(&view));
-        if said.is_settled() {
+        state.note(number, self.is_revoked_by(&view), may_revoke(&view));
+        // Lines after the candidate are read for revocations alone.
+        if state.is_settled() {
             return Ok(0);
         }
-        let (verdict, turns) = host_verdict_counted(view, self)?;
-        take_verdict(number, verdict, &mut said.admission)?;
-        Ok(turns)
+        let (verdict, steps) = host_verdict_counted(view, self)?;
+        take_verdict(number, verdict, &mut state.admission)?;
+        Ok(steps)
     }
 
     fn decide(
         &self,
         alloc: Global,
-        said: HostScan,
+        state: HostScan,
         vouched: &[Signed],
     ) -> Result<Decision, AllocError> {
         let evidence = host_evidence(alloc, self.claim())?;
-        Ok(decide_host(said, evidence, vouched))
+        Ok(decide_host(state, evidence, vouched))
+    }
+}
+
+/// The cause of a denial by revocation: the first line that revokes the key, else the first that
+/// may.
+fn revocation_cause(revoked: Option<u64>, unreadable_revocation: Option<u64>) -> Option<Cause>
+    ensures { result ≡ revocation_cause revoked unreadable_revocation }
+{
+    match (revoked, unreadable_revocation) {
+        (Some(line), _) => Some(Cause::Revoked(line)),
+        (None, Some(line)) => Some(Cause::RevocationUnreadable(line)),
+        (None, None) => None,
+    }
+}
+
+/// The decision by the candidate's line, where nothing revokes the key.
+fn trust_by(
+    candidate: Option<u64>,
+    unvouched: Option<usize>,
+    reasons: Items<(u64, Reason)>,
+    evidence: Items<Signed>,
+) -> Decision
+    ensures { result ≡ trust_by candidate unvouched reasons evidence }
+{
+    let why = match (candidate, unvouched) {
+        (None, _) => Cause::NoLine,
+        (Some(_), Some(index)) => Cause::NotVouched(index as u64),
+        (Some(line), None) => {
+            return Decision::Granted {
+                line,
+                rights: None,
+                reasons,
+                evidence,
+            };
+        }
+    };
+    Decision::Denied {
+        why,
+        reasons,
+        evidence,
+    }
+}
+
+/// The decision by the state after all lines. A revocation denies whatever line admits the key.
+pub(crate) fn decide_host(scan: HostScan, evidence: Items<Signed>, vouched: &[Signed]) -> Decision
+    ensures { result ≡ host_decision_of scan vouched.now evidence }
+{
+    let HostScan {
+        admission: Scan { candidate, reasons },
+        revoked,
+        unreadable_revocation,
+    } = scan;
+    match revocation_cause(revoked, unreadable_revocation) {
+        Some(why) => Decision::Denied {
+            why,
+            reasons,
+            evidence,
+        },
+        None => {
+            let unvouched = first_unvouched(vouched, evidence.as_slice());
+            trust_by(candidate, unvouched, reasons, evidence)
+        }
     }
 }

@@ -1,10 +1,10 @@
 //! Whether an authorized_keys file admits a login, whether a known_hosts file trusts a host's key,
 //! and whether a file signature is vouched for.
 //!
-//! No signature is computed here: a decision lists what it rests on, each time the key, the signed
-//! bytes and the signature, and takes a list of those that somebody vouches for. A caller that
-//! verifies signatures itself, by a `verify` of its own (a test runs these lines, with either answer
-//! in its place):
+//! No signature is verified here. A decision lists the signatures that it depends on, each with its
+//! key and its signed bytes, and takes a list of those that the caller vouches for. A caller that
+//! verifies signatures itself, by a `verify` of its own (a test runs these lines, once for each
+//! answer of `verify`):
 //!
 //! ```
 //! let evidence = evidence_of_login(alloc, query)?;
@@ -19,34 +19,24 @@
 #![tactic(auto)]
 
 mod audit;
-mod counted;
+mod calls;
 mod decision;
-mod host_decide;
 mod host_scan;
-mod hosts;
 mod laws;
-mod login_decide;
 mod login_scan;
-mod logins;
-mod pieces;
-mod samples;
-mod scan;
+mod matcher;
+mod reader;
 mod search;
-mod sought;
-mod source;
-mod sshsig_answer;
 
 pub use audit::{HostAudit, LoginAudit};
-pub use counted::Counted;
-pub use decision::{Cause, Decision};
-pub use hosts::{evidence_of_host, host, host_from};
-pub use logins::{evidence_of_login, login, login_from};
-pub use scan::REASON_LIMIT;
-pub use source::{PIECE_SIZE, Source};
+pub use calls::{evidence_of_host, evidence_of_login, host, host_from, login, login_from};
+pub use decision::{Cause, Decision, SshsigAnswer, sshsig};
+pub use reader::{Counted, READ_SIZE, Source};
+pub use search::REASON_LIMIT;
 pub use ssh_offers::{
     AuditError, EmptyPrincipals, HostQuery, Items, LoginQuery, OfferError, Signed,
 };
+pub use ssh_rewriting::{HashError, RewriteError, hash_known, rewrite_auth, rewrite_known};
 pub use ssh_rights::{Carried, CarriedName, Rights};
 pub use ssh_rules::Reason;
 pub use ssh_text::FILE_LIMIT;
-pub use sshsig_answer::{SshsigAnswer, sshsig};

@@ -1,69 +1,49 @@
-//! The first line that admits a login, and why the lines before it do not: one line after the
-//! other.
+//! The matcher of authorized_keys files: the first line that admits a login, why the lines before
+//! it do not, and the decision.
 
-ghost use Rattle.std.specs.Prelude.{
-  ◌≡◌,
-  ◌<◌,
-  ◌≤◌,
-  ◌^◌,
-  ℕ,
-  List,
-  false,
-  true,
-  is_some,
-  length,
-  Err,
-  IfOk,
-  OnErr,
-  OnOk,
-  ⊤,
-};
-ghost use Rattle.ssh_lines.specs.AuthGrammar.{auth_line};
-ghost use Rattle.ssh_lines.specs.LineView.{line_seen};
-ghost use Rattle.ssh_offers.specs.declared.error.AuditError.TheVariants.{Memory};
+ghost use Rattle.std.specs.Prelude.{◌≡◌, ◌<◌, ◌≤◌, ◌^◌, ℕ, List, false, true, is_some, length, Err, IfOk, OnErr, OnOk, ⊤};
+ghost use Rattle.ssh_entries.specs.AuthGrammar.{auth_line};
+ghost use Rattle.ssh_entries.specs.LineView.{line_seen};
+ghost use Rattle.ssh_offers.specs.declared.claim.AuditError.TheVariants.{Memory};
 ghost use Rattle.ssh_offers.specs.ClaimViews.{claim_of};
 ghost use Rattle.ssh_offers.specs.LoginClaim.{LoginClaim, login_claim};
 ghost use Rattle.ssh_offers.specs.Query.{login_of};
-ghost use Rattle.ssh_rules.specs.KeyPiece.{AdmitsNothing};
+ghost use Rattle.ssh_rules.specs.KeyNeedle.{AdmitsNothing};
 ghost use Rattle.ssh_trust.specs.Telling.{LoginDecides};
-ghost use Rattle.ssh_trust.specs.LoginDecision.{
-  candidate_at,
-  line_verdict,
-  login_decision,
-  login_scan_line,
-};
+ghost use Rattle.ssh_trust.specs.LoginDecision.{candidate_at, line_verdict, login_decision, login_scan_line, cause_by, decision_at, decision_of};
 ghost use Rattle.ssh_trust.specs.FileLines.{IsHandedLine};
 ghost use Rattle.ssh_trust.specs.Candidate.{reason_limit};
 ghost use Rattle.ssh_trust.specs.Scan.{empty_scan, scan_verdict};
 ghost use Rattle.ssh_rules.specs.Turns.{login_width};
 ghost use Rattle.ssh_trust.specs.Turns.{login_line_most};
 
-use crate::decision::Decision;
-use crate::login_decide::decide_login;
-use crate::scan::Scan;
-use crate::sought::Sought;
-use ssh_lines::{AuthEntryView, AuthLineView, KeyBuffer, read_auth_view};
-use ssh_offers::{AuditError, LoginClaimView, LoginQuery, Signed, login_evidence};
+use crate::decision::{Cause, Decision};
+use crate::matcher::Matcher;
+use crate::search::Scan;
+use ssh_entries::{AuthEntryView, AuthLineView, KeyBuffer, read_auth_view};
+use ssh_offers::{
+    AuditError, Items, LoginClaimView, LoginQuery, Signed, first_unvouched, login_evidence,
+};
 use ssh_options::LineCause;
 use ssh_rights::{Rights, rights_of, touch_suffices, verification_suffices};
-use ssh_rules::{LineVerdict, SoughtLogin, login_verdict_counted};
+use ssh_rules::{LineVerdict, LoginMatcher, Reason, login_verdict_counted};
 use ssh_text::Line;
 use std::alloc::{AllocError, Global};
 
-/// The first line that admits the login, and what it gives.
+/// The first line that admits the login, and what a grant by it needs.
 #[derive(Drop)]
 pub struct Candidate {
     /// Its number, from 1.
     pub(crate) line: u64,
-    /// A security key was touched, where it has to be.
+    /// A security key was touched, or no touch is required.
     pub(crate) touched: bool,
-    /// A security key verified the user, where it has to.
+    /// A security key verified the user, or no verification is required.
     pub(crate) verified: bool,
     /// What a login by this line may do.
     pub(crate) rights: Rights,
 }
 
-/// The candidate that this line's entry is.
+/// The candidate of an entry that admits the login, on the line with this number.
 fn candidate_at(
     alloc: Global,
     line: u64,
@@ -81,29 +61,30 @@ fn candidate_at(
     })
 }
 
-/// Takes what the line of this number is to the login, where none before it admits it.
+/// Adds the verdict on the line with this number to the state, where no earlier line admits the
+/// login.
 fn take_verdict(
     alloc: Global,
     number: u64,
     verdict: LineVerdict<AuthEntryView<'_>>,
     claim: &LoginClaimView<'_>,
-    said: &mut Scan<Candidate>,
+    state: &mut Scan<Candidate>,
 ) -> Result<(), AllocError>
-    ensures value { OnOk result (said.new
-        ≡ scan_verdict (candidate_at (claim_of claim.now)) said.old number verdict.entry) }
-    ensures few { length said.old.reasons ≤ reason_limit → length said.new.reasons ≤ reason_limit }
+    ensures value { OnOk result (state.new
+        ≡ scan_verdict (candidate_at (claim_of claim.now)) state.old number verdict.entry) }
+    ensures few { length state.old.reasons ≤ reason_limit → length state.new.reasons ≤ reason_limit }
 {
     match verdict {
         LineVerdict::Admits(entry) => {
             let candidate = candidate_at(alloc, number, &entry, claim)?;
-            said.candidate = Some(candidate);
+            state.candidate = Some(candidate);
             Ok(())
         }
-        LineVerdict::Skips(reason) => said.list(number, reason),
+        LineVerdict::Skips(reason) => state.list(number, reason),
     }
 }
 
-/// What a line says, where it is not longer than a line may be.
+/// The line as read. One that is longer than 65,536 bytes is unreadable.
 #[tactic(auto, using(crate::proofs::LongLines::long_auth))]
 fn view_of<'a>(line: Line<'a>, buffer: &'a mut KeyBuffer) -> AuthLineView<'a>
     ensures { (text : List ℕ) → IsHandedLine line.entry text → line_seen result ≡ auth_line text }
@@ -114,48 +95,48 @@ fn view_of<'a>(line: Line<'a>, buffer: &'a mut KeyBuffer) -> AuthLineView<'a>
     }
 }
 
-/// Whether the line can admit the login. One that is longer than a line may be cannot.
+/// Whether the line can admit the login. One that is longer than 65,536 bytes cannot.
 #[tactic(auto, using(crate::proofs::LongLines::long_auth_admits_nothing))]
-fn can_admit_at(sought: &SoughtLogin<'_>, line: Line<'_>) -> bool
+fn can_admit_at(matcher: &LoginMatcher<'_>, line: Line<'_>) -> bool
     ensures { (text : List ℕ)
         → IsHandedLine line.entry text
         → result ≡ false
-        → AdmitsNothing (line_verdict sought.now text) }
+        → AdmitsNothing (line_verdict matcher.now text) }
 {
     match line {
-        Line::Whole(text) => sought.can_admit(text),
+        Line::Whole(text) => matcher.can_admit(text),
         Line::TooLong => false,
     }
 }
 
-/// Whether the line adds nothing to what is said, whatever it says: a line before it admits the
-/// login, or enough reasons are listed and it cannot admit.
-fn is_passed_over(sought: &SoughtLogin<'_>, line: Line<'_>, said: &Scan<Candidate>) -> bool
+/// Whether the line cannot change the state, so that it need not be read: an earlier line admits
+/// the login, or enough reasons are listed and this line cannot admit it.
+fn is_passed_over(matcher: &LoginMatcher<'_>, line: Line<'_>, state: &Scan<Candidate>) -> bool
     ensures same { (number : ℕ) (text : List ℕ)
         → IsHandedLine line.entry text
         → result ≡ true
-        → said.now ≡ login_scan_line sought.now said.now (number, text) }
-    ensures unsettled { result ≡ false → is_some said.now.candidate ≡ false }
+        → state.now ≡ login_scan_line matcher.now state.now (number, text) }
+    ensures unsettled { result ≡ false → is_some state.now.candidate ≡ false }
 {
-    said.is_settled() || (!said.has_room() && !can_admit_at(sought, line))
+    state.is_settled() || (!state.has_room() && !can_admit_at(matcher, line))
 }
 
-/// What is sought for a claim.
-fn sought_of<'a>(alloc: Global, claim: &LoginClaimView<'a>) -> Result<SoughtLogin<'a>, AuditError>
-    ensures value { IfOk result (λ sought. sought ≡ claim_of claim.now) }
+/// The matcher of a claim; a failed allocation is `A8`.
+fn sought_of<'a>(alloc: Global, claim: &LoginClaimView<'a>) -> Result<LoginMatcher<'a>, AuditError>
+    ensures value { IfOk result (λ matcher. matcher ≡ claim_of claim.now) }
     ensures memory { OnErr result (result ≡ Err Memory) }
 {
-    match SoughtLogin::new(alloc, claim) {
-        Ok(sought) => Ok(sought),
+    match LoginMatcher::new(alloc, claim) {
+        Ok(matcher) => Ok(matcher),
         Err(_) => Err(AuditError::Memory),
     }
 }
 
-/// The first line that admits the login. Lines after it change nothing.
-impl<'a> Sought for SoughtLogin<'a> {
+/// Scans for the first line that admits the login. Lines after it change nothing.
+impl<'a> Matcher for LoginMatcher<'a> {
     type Query = LoginQuery<'a>;
 
-    type Said = Scan<Candidate>;
+    type State = Scan<Candidate>;
 
     ghost Claim = { LoginClaim };
 
@@ -175,44 +156,101 @@ impl<'a> Sought for SoughtLogin<'a> {
 
     ghost most = { login_line_most };
 
-    ghost least = { λ claim said line. 0 };
+    ghost least = { λ claim state line. 0 };
 
     ghost width = { λ claim. login_width claim.query };
 
-    ghost are_enough = { λ file claim turns. ⊤ };
+    ghost are_enough = { λ file claim steps. ⊤ };
 
-    fn read(alloc: Global, query: &LoginQuery<'a>) -> Result<SoughtLogin<'a>, AuditError> {
+    fn read(alloc: Global, query: &LoginQuery<'a>) -> Result<LoginMatcher<'a>, AuditError> {
         let claim = LoginClaimView::read(query)?;
         sought_of(alloc, &claim)
     }
 
-    fn silence(&self, alloc: Global) -> Scan<Candidate> {
+    fn initial_state(&self, alloc: Global) -> Scan<Candidate> {
         Scan::new(alloc)
     }
 
-    fn take_line(
+    fn scan_line(
         &self,
         alloc: Global,
         number: u64,
         line: Line<'_>,
         buffer: &mut KeyBuffer,
-        said: &mut Scan<Candidate>,
+        state: &mut Scan<Candidate>,
     ) -> Result<u128, AllocError> {
-        if is_passed_over(self, line, said) {
+        if is_passed_over(self, line, state) {
             return Ok(0);
         }
-        let (verdict, turns) = login_verdict_counted(alloc, view_of(line, buffer), self)?;
-        take_verdict(alloc, number, verdict, self.claim(), said)?;
-        Ok(turns)
+        let (verdict, steps) = login_verdict_counted(alloc, view_of(line, buffer), self)?;
+        take_verdict(alloc, number, verdict, self.claim(), state)?;
+        Ok(steps)
     }
 
     fn decide(
         &self,
         alloc: Global,
-        said: Scan<Candidate>,
+        state: Scan<Candidate>,
         vouched: &[Signed],
     ) -> Result<Decision, AllocError> {
         let evidence = login_evidence(alloc, self.claim())?;
-        Ok(decide_login(said, evidence, vouched))
+        Ok(decide_login(state, evidence, vouched))
+    }
+}
+
+/// Why a login by a line that admits it is denied: the first cause that holds.
+fn cause_by(touched: bool, verified: bool, unvouched: Option<usize>) -> Option<Cause>
+    ensures { result ≡ cause_by touched verified unvouched }
+{
+    if !touched {
+        Some(Cause::TouchMissing)
+    } else if !verified {
+        Some(Cause::VerifyMissing)
+    } else {
+        unvouched.map(|index| Cause::NotVouched(index as u64))
+    }
+}
+
+/// The decision where a line admits the login.
+fn decide_at(
+    candidate: Candidate,
+    reasons: Items<(u64, Reason)>,
+    evidence: Items<Signed>,
+    vouched: &[Signed],
+) -> Decision
+    ensures { result ≡ decision_at evidence vouched.now candidate reasons }
+{
+    let unvouched = first_unvouched(vouched, evidence.as_slice());
+    match cause_by(candidate.touched, candidate.verified, unvouched) {
+        Some(why) => Decision::Denied {
+            why,
+            reasons,
+            evidence,
+        },
+        None => Decision::Granted {
+            line: candidate.line,
+            rights: Some(candidate.rights),
+            reasons,
+            evidence,
+        },
+    }
+}
+
+/// The decision by the state after all lines.
+pub(crate) fn decide_login(
+    scan: Scan<Candidate>,
+    evidence: Items<Signed>,
+    vouched: &[Signed],
+) -> Decision
+    ensures { result ≡ decision_of evidence vouched.now scan.candidate scan.reasons }
+{
+    let Scan { candidate, reasons } = scan;
+    match candidate {
+        Some(candidate) => decide_at(candidate, reasons, evidence, vouched),
+        None => Decision::Denied {
+            why: Cause::NoLine,
+            reasons,
+            evidence,
+        },
     }
 }

@@ -1,18 +1,7 @@
--- What least bytes say of their numbers: zero, none, the fewest, the same.
-use Rattle.std.proofs.Common.{◌≡◌, ℕ, suc, ◌+◌, ◌*◌, ◌^◌, ◌<◌, ◌≤◌, Bool, true, false, not, ltb, eqb, List, [], ◌∷◌, ◌++◌, length, reverse, Err, refl, sym, ap, ◌∙◌, arith, inl, inr}
-use Rattle.std.specs.Prelude.{nat_lt, nat_le, ◌&&◌, ◌||◌}
-use Rattle.std.proofs.lemmas.Bool.{cases_lt, ltb-true, lt-ltb, le-ltb, lt-leb, ne_eqb}
-use Rattle.std.specs.Str.{bytes_eq}
-use Rattle.std.proofs.lemmas.Slice.Eq.{bytes_eq-Decides}
-use Rattle.std.proofs.Common.{eq-eqb}
-use Rattle.std.proofs.lemmas.List.{reverse-append}
-use Rattle.ssh_wire.specs.declared.error.WireError.{WireError}
-use Rattle.ssh_wire.specs.Spelling.{worth, natural, is_least, is_not_negative, mpint_bytes, mpint}
-use Rattle.ssh_wire.specs.Position.{Position}
+-- Lemmas about least bytes: those of zero, the shortest ones, and equal ones.
+use Rattle.ssh_wire.proofs.Imports.{◌≡◌, ℕ, suc, ◌+◌, ◌*◌, ◌^◌, ◌<◌, ◌≤◌, Bool, true, false, not, ltb, eqb, List, [], ◌∷◌, ◌++◌, length, reverse, Err, refl, sym, ap, ◌∙◌, arith, inl, inr, nat_lt, nat_le, ◌&&◌, ◌||◌, cases_lt, ltb-true, lt-ltb, le-ltb, lt-leb, ne_eqb, bytes_eq, bytes_eq-Decides, eq-eqb, reverse-append, WireError, worth, natural, is_least, is_not_negative, mpint, Position, IsBytes, IsRefused, refused_none, mpint_bytes-natural, mpint_bytes-are_least, mpint_again}
+use Rattle.ssh_wire.specs.Spelling.{mpint_bytes}
 use Rattle.ssh_wire.specs.Reading.{mpint_at}
-use Rattle.ssh_wire.specs.Fronts.{IsBytes, IsRefused}
-use Rattle.ssh_wire.specs.Laws.{refused_none}
-use Rattle.ssh_wire.specs.MpintLaws.{mpint_bytes-natural, mpint_bytes-are_least, mpint_again}
 
 -- the test for zero
 pub is_zero_by_length : (text : List ℕ) → IsBytes text → is_least text ≡ true → is_not_negative text ≡ true → eqb (length text) 0 ≡ eqb (natural text) 0
@@ -28,14 +17,14 @@ is_zero_by_length (b ∷ text) fits least sign =
           cc)
     ]
 
--- bytes with a needless leading byte, or with the sign set, are no number's
+-- bytes with a needless leading byte, or with the sign set, are not those of any number
 pub not_least_none : (text : List ℕ) → is_least text ≡ false → (n : ℕ) → mpint_bytes n ≡ text → ⊥
 not_least_none text needless n e = let yes : is_least text ≡ true = ap is_least (sym e) ∙ (mpint_bytes-are_least n).least in cc
 
 pub negative_none : (text : List ℕ) → is_not_negative text ≡ false → (n : ℕ) → mpint_bytes n ≡ text → ⊥
 negative_none text sign n e = let yes : is_not_negative text ≡ true = ap is_not_negative (sym e) ∙ (mpint_bytes-are_least n).sign in cc
 
--- where a number is refused none is spelled
+-- where a number is refused, no number is spelled
 pub mpint_is_refused : (at : Position) (e : WireError) → mpint_at at ≡ Err e → e.place ≡ at.place → IsRefused mpint (λ n. length (mpint_bytes n) < 2 ^ 32) at e at
 mpint_is_refused at e h same = record {
   none = λ b. refused_none mpint (λ n. length (mpint_bytes n) < 2 ^ 32) mpint_at mpint_again at e h b.value b.rest b.fits b.begins;
@@ -52,7 +41,7 @@ worth-zero_top (b ∷ low) = ap (λ (n : ℕ). b + 256 * n) (worth-zero_top low)
 natural-zero_top : (rest : List ℕ) → natural (0 ∷ rest) ≡ natural rest
 natural-zero_top rest = ap worth (reverse-append (0 ∷ []) rest) ∙ worth-zero_top (reverse rest)
 
--- what stands after a needless leading byte has a clear sign
+-- what follows a needless leading byte has a clear sign
 needless : (b : ℕ) (rest : List ℕ) → ltb b 128 ≡ true → is_least (b ∷ rest) ≡ false → (b ≡ 0) × (is_not_negative rest ≡ true)
 needless b [] sign not_least =
     elim (cases_lt 0 b) [

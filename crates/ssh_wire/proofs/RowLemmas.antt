@@ -1,16 +1,6 @@
 -- Where the row of fields stops, when a field, or what follows it, does.
-use Rattle.std.proofs.Common.{◌≡◌, ◌≢◌, ℕ, suc, ◌+◌, ◌<◌, ◌^◌, Bool, true, false, not, cond, ltb, List, [], ◌++◌, length, take, Result, Ok, Err, refl, sym, ap, subst, ◌∙◌, append_assoc, arith, inl, inr, ◌⊎◌}
-use Rattle.std.specs.List.{concat}
-use Rattle.std.specs.Int.{Width, w32, byte_len, from_be_bytes}
-use Rattle.std.proofs.lemmas.List.{append-nil, length-append}
-use Rattle.ssh_wire.specs.declared.error.WireCause.TheVariants.{Short, MpintNotMinimal, MpintNegative, Trailing}
-use Rattle.ssh_wire.specs.declared.error.WireError.{WireError}
-use Rattle.ssh_wire.specs.Spelling.{uint32, string, natural, is_least, is_not_negative}
-use Rattle.ssh_wire.specs.Position.{Position, start, advance}
-use Rattle.ssh_wire.specs.Reading.{◌>>=◌, Read, fault, number_at, string_at, mpint_at, pair_at}
-use Rattle.ssh_wire.specs.Fronts.{IsBytes}
-use Rattle.ssh_wire.specs.Laws.{wide32, number_takes, number_again, string_again, refused_none, no_prefix_of}
-use Rattle.ssh_wire.specs.Rows.{StopsAt, GoesOnAt, row_by, FitsBy, number_and_string, FitBoth}
+use Rattle.ssh_wire.proofs.Imports.{◌≡◌, ◌≢◌, ℕ, suc, ◌+◌, ◌<◌, ◌^◌, Bool, true, false, not, cond, ltb, List, [], ◌++◌, length, take, Result, Ok, Err, refl, sym, ap, subst, ◌∙◌, append_assoc, arith, inl, inr, ◌⊎◌, concat, Width, w32, byte_len, from_be_bytes, append-nil, length-append, Short, MpintNotMinimal, MpintNegative, Trailing, WireError, uint32, string, natural, is_least, is_not_negative, Position, start, advance, ◌>>=◌, Read, fault, number_at, pair_at, IsBytes, wide32, number_takes, number_again, string_again, refused_none, no_prefix_of, StopsAt, GoesOnAt, row_by, FitsBy, number_and_string, FitBoth}
+use Rattle.ssh_wire.specs.Reading.{string_at, mpint_at}
 
 -- the first field is refused
 pub stops_first : {A B : Type 0} (spelling : A → List ℕ) (Fits : A → Type 0) (read : Position → Read A) (row : A → B → List (List ℕ)) (FitsRow : A → B → Type 0)
@@ -27,7 +17,7 @@ stops_first {A} {B} spelling Fits read row FitsRow back some fits at e refused =
   longest = λ other more other_fits begins. refused_none spelling Fits read back at e refused other.0 more other_fits.0 (begins ∙ ap (λ (t : List ℕ). t ++ more) (append-nil (spelling other.0)));
 }
 
--- the first field stands, and what follows it stops
+-- the first field is complete, and what follows it stops
 pub stops_after : {A B : Type 0} (spelling : A → List ℕ) (Fits : A → Type 0) (row : A → B → List (List ℕ)) (FitsRow : A → B → Type 0)
     → ((x y : A) (s t : List ℕ) → Fits x → Fits y → spelling x ++ s ≡ spelling y ++ t → (x ≡ y) × (s ≡ t))
     → (a : A) (bytes rest : List ℕ) (place : ℕ) → Fits a → bytes ≡ spelling a ++ rest → StopsAt (row a) (FitsRow a) rest place
@@ -47,7 +37,7 @@ stops_after {A} {B} spelling Fits row FitsRow no_prefix a bytes rest place fits 
       subst (λ (x : A). FitsRow x other.1 → rest ≡ concat (take (suc s.fields) (row x other.1)) ++ more → ⊥) same.0 (λ f g. s.longest other.1 more f g) other_fits.1 same.1;
 }
 
--- the first field stands, and bytes are left after what follows it
+-- the first field is complete, and there are bytes after what follows it
 pub goes_on_after : {A B : Type 0} (spelling : A → List ℕ) (Fits : A → Type 0) (row : A → B → List (List ℕ)) (FitsRow : A → B → Type 0)
     → (a : A) (bytes rest : List ℕ) (place : ℕ) → Fits a → bytes ≡ spelling a ++ rest → GoesOnAt (row a) (FitsRow a) rest place
     → GoesOnAt (row_by spelling row) (FitsBy Fits FitsRow) bytes (length (spelling a) + place)
@@ -108,7 +98,7 @@ pub test_err : {A : Type 0} (b : Bool) (d e : WireError) (x : A) → cond b (Err
 test_err true d e x h = cc
 test_err false d e x h = absurd cc
 
--- a refused field tells its own place
+-- a refused field reports its own place
 pub number_place : (w : Width) (at : Position) (e : WireError) → number_at w at ≡ Err e → e.place ≡ at.place
 number_place w at e h = ap (λ (x : WireError). x.place) (sym (test_err (ltb (length at.rest) (byte_len w)) (record { place = at.place; cause = Short }) e (from_be_bytes w (take (byte_len w) at.rest), advance at (byte_len w)) h))
 
@@ -120,7 +110,7 @@ string_place at e h =
       | inr x ↦ ap (λ (x : WireError). x.place) (sym (test_err (ltb (length ((x.0).1).rest) (x.0).0) (record { place = at.place; cause = Short }) e (take (x.0).0 ((x.0).1).rest, advance (x.0).1 (x.0).0) x.2))
     ]
 
--- the fault of a string
+-- the error of a string
 pub string_is_short : (at : Position) (e : WireError) → string_at at ≡ Err e → e ≡ record { place = at.place; cause = Short }
 unfolding string_at
 string_is_short at e h =
@@ -129,7 +119,7 @@ string_is_short at e h =
       | inr x ↦ sym (test_err (ltb (length ((x.0).1).rest) (x.0).0) (record { place = at.place; cause = Short }) e (take (x.0).0 ((x.0).1).rest, advance (x.0).1 (x.0).0) x.2)
     ]
 
--- the fault of a number of any size is where it begins
+-- the error of a number of any size is at its first byte
 pub record IsNumberFault (at : Position) (e : WireError) : Type 0 where
   pub place : e.place ≡ at.place
   pub not_trailing : e.cause ≢ Trailing

@@ -1,6 +1,6 @@
--- What stands at the front of bytes: the text that was read there, or no value's spelling.
+-- What is at the front of bytes: the spelling that was read there, or no value's spelling.
 use Rattle.std.proofs.Common.{◌≡◌, ℕ, ◌+◌, ◌<◌, List, ◌++◌, length, take, get_or}
-use Rattle.ssh_wire.specs.declared.error.WireError.{WireError}
+use Rattle.ssh_wire.specs.declared.cursor.WireError.{WireError}
 use Rattle.ssh_wire.specs.Position.{Position}
 
 -- each of them is a byte
@@ -11,7 +11,7 @@ IsBytes bytes = (i : ℕ) → get_or bytes i 0 < 256
 abbrev pub Keeps : List ℕ → List ℕ → Type 0
 Keeps old new = take (length old) new ≡ old
 
--- the text lies at the first position, and the second one is after it
+-- the text is at the first position, and the second position is after it
 pub record Took (before : Position) (text : List ℕ) (after : Position) : Type 0 where
   pub parts : before.rest ≡ text ++ after.rest
   pub place : after.place ≡ before.place + length text
@@ -24,7 +24,7 @@ pub record Begins {A : Type 0} (spelling : A → List ℕ) (Fits : A → Type 0)
   pub rest : List ℕ
   pub begins : bytes ≡ spelling value ++ rest
 
--- no value is spelled where the reader stands: the fault is there, and there the reader stays
+-- no value is spelled at the reader's position: the error is there, and the reader stays there
 pub record IsRefused {A : Type 0} (spelling : A → List ℕ) (Fits : A → Type 0) (before : Position) (e : WireError) (after : Position) : Type 0 where
   pub none : ¬ Begins spelling Fits before.rest
   pub place : e.place ≡ before.place

@@ -1,10 +1,5 @@
-use Rattle.std.proofs.Common.{subst}
+use Rattle.ssh_bodies.proofs.Imports.{subst, start, Gives, BodyError, PrivateBody, private_body}
 use Rattle.std.specs.Prelude.{Result}
-use Rattle.ssh_wire.specs.Position.{start}
-use Rattle.ssh_wire.specs.Reading.{Gives}
-use Rattle.ssh_bodies.specs.declared.error.BodyError.{BodyError}
-use Rattle.ssh_bodies.specs.PrivateKey.{PrivateBody}
-use Rattle.ssh_bodies.specs.PrivateOf.{private_body}
 use Rattle.ssh_bodies.proofs.PartLaws.{body_parts_are}
 use Rattle.ssh_bodies.proofs.private.body_fields.Goals as goal
 

@@ -1,4 +1,4 @@
-use Rattle.std.proofs.Common.{arith}
+use Rattle.ssh_bodies.proofs.Imports.{arith}
 use Rattle.ssh_bodies.proofs.PrivateLaws.{private_takes, private_only, private_refused}
 use Rattle.ssh_bodies.proofs.PrivateFaults.{private_fault}
 use Rattle.ssh_bodies.proofs.private.read_private.Goals as goal

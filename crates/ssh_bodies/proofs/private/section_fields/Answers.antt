@@ -1,6 +1,4 @@
-use Rattle.std.proofs.Common.{sym, ◌∙◌}
-use Rattle.ssh_keys.specs.View.{public_key}
-use Rattle.ssh_bodies.specs.PrivateFrom.{private_key}
+use Rattle.ssh_bodies.proofs.Imports.{sym, ◌∙◌, public_key, private_key}
 use Rattle.ssh_bodies.proofs.PrivateKeyLaws.{private_half}
 use Rattle.ssh_bodies.proofs.private.section_fields.Goals as goal
 

@@ -1,6 +1,5 @@
-use Rattle.std.proofs.lemmas.List.{take_all, length-drop}
-use Rattle.std.proofs.Common.{arith, ℕ, ◌-◌, List, rules, ◌≡◌, ◌&&◌, length, drop, true, ap, sym, ◌∙◌, Bool, eqb}
-use Rattle.std.specs.Str.{bytes_eq}
+use Rattle.ssh_bodies.proofs.Imports.{take_all, length-drop, arith, ℕ, ◌-◌, List, rules, ◌≡◌, length, drop, true, ap, sym, ◌∙◌, Bool, eqb, bytes_eq}
+use Rattle.std.proofs.Common.{◌&&◌}
 use Rattle.ssh_bodies.proofs.private_section.is_secret_of.Goals as goal
 
 pub returns-then-secret-eq64 : goal.returns-then-secret-eq64

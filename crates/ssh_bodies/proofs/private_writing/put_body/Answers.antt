@@ -1,8 +1,6 @@
-use Rattle.std.proofs.Common.{◌≡◌, ℕ, ◌-◌, ◌%◌, ◌+◌, [], ◌∷◌, ◌++◌, take, length, ap, ◌∙◌, arith}
-use Rattle.ssh_keys.specs.KeyOf.{key_of}
+use Rattle.ssh_bodies.proofs.Imports.{◌≡◌, ℕ, ◌-◌, ◌%◌, ◌+◌, [], ◌∷◌, ◌++◌, take, length, ap, ◌∙◌, arith, key_of, least_padding, private_body}
 use Rattle.ssh_keys.specs.PublicKey.{key_blob}
-use Rattle.ssh_bodies.specs.PrivateKey.{least_padding, section_front}
-use Rattle.ssh_bodies.specs.PrivateOf.{private_body}
+use Rattle.ssh_bodies.specs.PrivateKey.{section_front}
 use Rattle.ssh_bodies.proofs.PrivateLaws.{body_length, wrote_in_turn}
 use Rattle.ssh_bodies.proofs.Written.{kept_after, on_failure}
 use Rattle.ssh_bodies.proofs.private_writing.put_body.Goals as goal

@@ -1,7 +1,4 @@
-use Rattle.std.proofs.Common.{ap, ◌∙◌, arith}
-use Rattle.ssh_keys.specs.Names.{key_name_of}
-use Rattle.ssh_keys.specs.PublicKey.{PublicKey, kind_of}
-use Rattle.ssh_bodies.specs.PrivateOf.{private_body}
+use Rattle.ssh_bodies.proofs.Imports.{ap, ◌∙◌, arith, key_name_of, PublicKey, kind_of, private_body}
 use Rattle.ssh_bodies.proofs.PrivateLaws.{front_length, wrote_front}
 use Rattle.ssh_bodies.proofs.private_writing.put_front.Goals as goal
 

@@ -1,4 +1,4 @@
-use Rattle.ssh_bodies.specs.PrivateOf.{private_body}
+use Rattle.ssh_bodies.proofs.Imports.{private_body}
 use Rattle.ssh_bodies.proofs.PrivateLaws.{least_is_body, padded_is_more}
 use Rattle.ssh_bodies.proofs.private_writing.write_private.Goals as goal
 

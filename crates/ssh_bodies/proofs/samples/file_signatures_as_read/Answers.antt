@@ -1,4 +1,4 @@
-use Rattle.std.proofs.Common.{refl}
+use Rattle.ssh_bodies.proofs.Imports.{refl}
 use Rattle.ssh_wire.specs.Reading.{string_at}
 use Rattle.ssh_keys.specs.Names.{plain_kind, certificate_kind}
 use Rattle.ssh_keys.specs.PublicKey.{key_blob}

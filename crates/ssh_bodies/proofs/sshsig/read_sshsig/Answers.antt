@@ -1,4 +1,4 @@
-use Rattle.std.proofs.Common.{arith}
+use Rattle.ssh_bodies.proofs.Imports.{arith}
 use Rattle.ssh_bodies.proofs.SshsigLaws.{sshsig_takes, sshsig_only, sshsig_refused}
 use Rattle.ssh_bodies.proofs.SshsigFaults.{sshsig_fault}
 use Rattle.ssh_bodies.proofs.sshsig.read_sshsig.Goals as goal

@@ -1,10 +1,5 @@
-use Rattle.std.proofs.Common.{subst}
+use Rattle.ssh_bodies.proofs.Imports.{subst, start, Gives, BodyError, Sshsig, sshsig_of}
 use Rattle.std.specs.Prelude.{Result}
-use Rattle.ssh_wire.specs.Position.{start}
-use Rattle.ssh_wire.specs.Reading.{Gives}
-use Rattle.ssh_bodies.specs.declared.error.BodyError.{BodyError}
-use Rattle.ssh_bodies.specs.Sshsig.{Sshsig}
-use Rattle.ssh_bodies.specs.SshsigOf.{sshsig_of}
 use Rattle.ssh_bodies.proofs.PartLaws.{sshsig_parts_are}
 use Rattle.ssh_bodies.proofs.sshsig.sshsig_fields.Goals as goal
 

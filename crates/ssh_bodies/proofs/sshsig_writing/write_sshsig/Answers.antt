@@ -1,5 +1,4 @@
-use Rattle.std.proofs.Common.{◌<◌, ◌^◌, ℕ, List, length, refl, sym, subst, ap, arith}
-use Rattle.ssh_bodies.specs.SshsigOf.{sshsig_of}
+use Rattle.ssh_bodies.proofs.Imports.{◌<◌, ◌^◌, ℕ, List, length, refl, sym, subst, ap, arith, sshsig_of}
 use Rattle.ssh_bodies.proofs.SshsigLaws.{strings_short, name_short}
 use Rattle.ssh_bodies.proofs.Written.{wrote_sshsig}
 use Rattle.ssh_bodies.proofs.sshsig_writing.write_sshsig.Goals as goal

@@ -1,6 +1,4 @@
-use Rattle.std.proofs.Common.{◌≡◌}
-use Rattle.ssh_certs.specs.Left.{options_left}
-use Rattle.ssh_certs.specs.CertificateOptions.{has_option}
+use Rattle.ssh_certs.proofs.Imports.{◌≡◌, options_left, has_option}
 use Rattle.ssh_certs.proofs.options.has_option.Given as goal
 
 abbrev pub invariant-loop-other : goal.invariant-loop-other

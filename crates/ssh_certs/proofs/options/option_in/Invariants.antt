@@ -1,6 +1,4 @@
-use Rattle.std.proofs.Common.{◌≡◌}
-use Rattle.ssh_certs.specs.Left.{options_left}
-use Rattle.ssh_certs.specs.CertificateOptions.{option_in}
+use Rattle.ssh_certs.proofs.Imports.{◌≡◌, options_left, option_in}
 use Rattle.ssh_certs.proofs.options.option_in.Given as goal
 
 abbrev pub invariant-loop-other : goal.invariant-loop-other

@@ -1,7 +1,4 @@
-use Rattle.std.proofs.Common.{◌≡◌, ◌<◌, length, rules}
-use Rattle.std.proofs.lemmas.Result.{err_from_is_err_and}
-use Rattle.ssh_certs.specs.CertificateReading.{cert_option_at}
-use Rattle.ssh_certs.specs.Packed.{option_in_packed}
+use Rattle.ssh_certs.proofs.Imports.{◌≡◌, ◌<◌, length, rules, err_from_is_err_and, cert_option_at, option_in_packed}
 use Rattle.ssh_certs.proofs.Items.{spelled_option, FitsOption, option_item, goes_on, shorter, ends, is_done}
 use Rattle.ssh_certs.proofs.packed.check_options.Goals as goal
 

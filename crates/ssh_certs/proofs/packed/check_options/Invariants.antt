@@ -1,5 +1,4 @@
-use Rattle.std.proofs.Common.{length}
-use Rattle.ssh_certs.specs.CertificateReading.{cert_option_at}
+use Rattle.ssh_certs.proofs.Imports.{length, cert_option_at}
 use Rattle.ssh_certs.proofs.Items.{GoesOn}
 use Rattle.ssh_certs.proofs.packed.check_options.Given as goal
 

@@ -1,6 +1,4 @@
-use Rattle.std.proofs.Common.{◌≡◌, ◌<◌, length, rules}
-use Rattle.std.proofs.lemmas.Result.{err_from_is_err_and}
-use Rattle.ssh_wire.specs.Spelling.{string}
+use Rattle.ssh_certs.proofs.Imports.{◌≡◌, ◌<◌, length, rules, err_from_is_err_and, string}
 use Rattle.ssh_wire.specs.Reading.{string_at}
 use Rattle.ssh_certs.proofs.Items.{FitsString, string_item, goes_on, shorter, ends, is_done}
 use Rattle.ssh_certs.proofs.packed.check_principals.Goals as goal

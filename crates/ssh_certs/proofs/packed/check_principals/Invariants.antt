@@ -1,4 +1,4 @@
-use Rattle.std.proofs.Common.{length}
+use Rattle.ssh_certs.proofs.Imports.{length}
 use Rattle.ssh_wire.specs.Reading.{string_at}
 use Rattle.ssh_certs.proofs.Items.{GoesOn}
 use Rattle.ssh_certs.proofs.packed.check_principals.Given as goal

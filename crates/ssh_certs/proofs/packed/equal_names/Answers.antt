@@ -1,10 +1,5 @@
-use Rattle.std.proofs.Common.{◌≡◌, List, ℕ, ap, sym, ◌∙◌, arith}
-use Rattle.std.specs.Cmp.Lexicographic.{same_text, bytes_decides}
-use Rattle.std.specs.List.{flat_map}
-use Rattle.std.specs.Str.{bytes_eq}
-use Rattle.ssh_wire.specs.Spelling.{string}
+use Rattle.ssh_certs.proofs.Imports.{◌≡◌, List, ℕ, ap, sym, ◌∙◌, arith, same_text, bytes_decides, flat_map, bytes_eq, string, names_in_packed}
 use Rattle.ssh_wire.specs.Reading.{string_at}
-use Rattle.ssh_certs.specs.Packed.{names_in_packed}
 use Rattle.ssh_certs.proofs.Items.{FitsString, string_item, unpacked}
 use Rattle.ssh_certs.proofs.packed.equal_names.Goals as goal
 

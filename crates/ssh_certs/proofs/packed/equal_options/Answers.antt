@@ -1,9 +1,4 @@
-use Rattle.std.proofs.Common.{◌≡◌, List, ℕ, ap, sym, ◌∙◌, arith}
-use Rattle.std.specs.Cmp.Lexicographic.{same_text, bytes_decides}
-use Rattle.std.specs.List.{flat_map}
-use Rattle.std.specs.Str.{bytes_eq}
-use Rattle.ssh_certs.specs.CertificateReading.{cert_option_at}
-use Rattle.ssh_certs.specs.Packed.{options_in_packed}
+use Rattle.ssh_certs.proofs.Imports.{◌≡◌, List, ℕ, ap, sym, ◌∙◌, arith, same_text, bytes_decides, flat_map, bytes_eq, cert_option_at, options_in_packed}
 use Rattle.ssh_certs.proofs.Items.{spelled_option, FitsOption, option_item, unpacked}
 use Rattle.ssh_certs.proofs.packed.equal_options.Goals as goal
 

@@ -1,5 +1,4 @@
-use Rattle.std.proofs.Common.{arith}
-use Rattle.ssh_wire.specs.Spelling.{string}
+use Rattle.ssh_certs.proofs.Imports.{arith, string}
 use Rattle.ssh_wire.specs.Reading.{string_at}
 use Rattle.ssh_certs.proofs.Items.{FitsString, string_item, none_left, next_left}
 use Rattle.ssh_certs.proofs.packed.split_name.Goals as goal

@@ -1,6 +1,4 @@
-use Rattle.std.proofs.Common.{arith}
-use Rattle.ssh_certs.specs.CertificateReading.{cert_option_at}
-use Rattle.ssh_certs.specs.Packed.{option_in_packed}
+use Rattle.ssh_certs.proofs.Imports.{arith, cert_option_at, option_in_packed}
 use Rattle.ssh_certs.proofs.Items.{spelled_option, FitsOption, option_item, none_left, next_left}
 use Rattle.ssh_certs.proofs.packed.split_option.Goals as goal
 

@@ -1,10 +1,5 @@
-use Rattle.std.proofs.Common.{subst}
+use Rattle.ssh_certs.proofs.Imports.{subst, start, Gives, CertError, Certificate, certificate_from}
 use Rattle.std.specs.Prelude.{Result}
-use Rattle.ssh_wire.specs.Position.{start}
-use Rattle.ssh_wire.specs.Reading.{Gives}
-use Rattle.ssh_certs.specs.declared.error.CertError.{CertError}
-use Rattle.ssh_certs.specs.Certificate.{Certificate}
-use Rattle.ssh_certs.specs.View.{certificate_from}
 use Rattle.ssh_certs.proofs.PartLaws.{parts_are}
 use Rattle.ssh_certs.proofs.reading.fields_in.Goals as goal
 

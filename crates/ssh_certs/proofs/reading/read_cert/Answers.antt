@@ -1,5 +1,4 @@
-use Rattle.std.proofs.Common.{arith}
-use Rattle.ssh_certs.specs.View.{certificate_from}
+use Rattle.ssh_certs.proofs.Imports.{arith, certificate_from}
 use Rattle.ssh_certs.proofs.CertificateFaults.{certificate_fault}
 use Rattle.ssh_certs.proofs.CertificateLaws.{certificate_takes, certificate_only, certificate_refused, key_is_key}
 use Rattle.ssh_certs.proofs.reading.read_cert.Goals as goal

@@ -1,6 +1,4 @@
-use Rattle.std.proofs.Common.{arith}
-use Rattle.ssh_certs.specs.CertificateReading.{cert_option_at}
-use Rattle.ssh_certs.specs.declared.error.CertError.TheVariants.{Options}
+use Rattle.ssh_certs.proofs.Imports.{arith, cert_option_at, Options}
 use Rattle.ssh_certs.proofs.PackedLists.{string_after, packed_refused}
 use Rattle.ssh_certs.proofs.reading.take_options.Goals as goal
 

@@ -1,6 +1,5 @@
-use Rattle.std.proofs.Common.{arith}
+use Rattle.ssh_certs.proofs.Imports.{arith, Principals}
 use Rattle.ssh_wire.specs.Reading.{string_at}
-use Rattle.ssh_certs.specs.declared.error.CertError.TheVariants.{Principals}
 use Rattle.ssh_certs.proofs.PackedLists.{string_after, packed_refused}
 use Rattle.ssh_certs.proofs.reading.take_principals.Goals as goal
 

@@ -1,5 +1,4 @@
-use Rattle.std.proofs.Common.{ap, ◌∙◌, arith}
-use Rattle.ssh_keys.specs.Names.{certificate_name_of}
+use Rattle.ssh_certs.proofs.Imports.{ap, ◌∙◌, arith, certificate_name_of}
 use Rattle.ssh_certs.proofs.RowLaws.{row_spells}
 use Rattle.ssh_certs.proofs.writing.row.Goals as goal
 

@@ -1,5 +1,4 @@
-use Rattle.std.proofs.Common.{◌≡◌, drop}
-use Rattle.ssh_findings.specs.Carried.{has_open}
+use Rattle.ssh_findings.proofs.Imports.{◌≡◌, drop, has_open}
 use Rattle.ssh_findings.proofs.carried.has_open.Given as goal
 
 abbrev pub invariant-loop-text : goal.invariant-loop-text

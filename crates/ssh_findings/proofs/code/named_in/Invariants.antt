@@ -1,5 +1,4 @@
-use Rattle.std.proofs.Common.{◌≡◌, drop}
-use Rattle.ssh_findings.specs.Codes.{named_in}
+use Rattle.ssh_findings.proofs.Imports.{◌≡◌, drop, named_in}
 use Rattle.ssh_findings.proofs.code.named_in.Given as goal
 
 abbrev pub invariant-loop-code : goal.invariant-loop-code

@@ -1,7 +1,4 @@
-use Rattle.std.proofs.Common.{◌≡◌, option_copied}
-use Rattle.std.specs.List.{list_any}
-use Rattle.ssh_patterns.specs.Lists.{length_left, pieces, pieces_left}
-use Rattle.ssh_findings.specs.OpenSsh.{is_long_item}
+use Rattle.ssh_findings.proofs.Imports.{◌≡◌, option_copied, list_any, length_left, pieces, pieces_left, is_long_item}
 use Rattle.ssh_findings.proofs.openssh.has_long_item.Given as goal
 
 abbrev pub invariant-loop-rest : goal.invariant-loop-rest

@@ -1,7 +1,4 @@
-use Rattle.std.proofs.Common.{◌≡◌, map, option_copied}
-use Rattle.std.specs.List.{list_any}
-use Rattle.ssh_patterns.specs.Lists.{item_of, items_of, length_left, pieces_left}
-use Rattle.ssh_findings.specs.OpenSsh.{is_refused_item}
+use Rattle.ssh_findings.proofs.Imports.{◌≡◌, map, option_copied, list_any, item_of, items_of, length_left, pieces_left, is_refused_item}
 use Rattle.ssh_findings.proofs.sources.refuses_all.Given as goal
 
 abbrev pub invariant-loop-rest : goal.invariant-loop-rest

@@ -1,4 +1,4 @@
-use Rattle.ssh_keys.specs.Samples.{fingerprint_samples}
+use Rattle.ssh_keys.proofs.Imports.{fingerprint_samples}
 use Rattle.ssh_keys.proofs.samples.fingerprints_as_told.Goals as goal
 
 pub returns : goal.returns

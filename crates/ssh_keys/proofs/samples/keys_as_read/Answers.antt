@@ -1,4 +1,4 @@
-use Rattle.ssh_keys.specs.Samples.{key_samples_read}
+use Rattle.ssh_keys.proofs.Imports.{key_samples_read}
 use Rattle.ssh_keys.proofs.samples.keys_as_read.Goals as goal
 
 pub returns : goal.returns

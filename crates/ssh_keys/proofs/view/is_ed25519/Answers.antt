@@ -1,7 +1,4 @@
-use Rattle.std.proofs.Common.{◌≡◌, ◌++◌, ℕ, List, take, drop, length, sym, ap, ◌∙◌}
-use Rattle.std.proofs.lemmas.Bool.{eqb-true}
-use Rattle.std.proofs.lemmas.List.{take-append-drop}
-use Rattle.std.proofs.lemmas.Slice.Eq.{bytes_eq-Decides}
+use Rattle.ssh_keys.proofs.Imports.{◌≡◌, ◌++◌, ℕ, List, take, drop, length, sym, ap, ◌∙◌, eqb-true, take-append-drop, bytes_eq-Decides}
 use Rattle.ssh_keys.proofs.Ed25519.{ed25519_front, ed25519_read}
 use Rattle.ssh_keys.proofs.view.is_ed25519.Goals as goal
 

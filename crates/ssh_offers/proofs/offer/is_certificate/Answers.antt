@@ -1,4 +1,4 @@
-use Rattle.std.proofs.Common.{◌≡◌, true, false, sym, arith, rules}
+use Rattle.ssh_offers.proofs.Imports.{◌≡◌, true, false, sym, arith, rules}
 use Rattle.ssh_offers.specs.Offer.{is_certificate_blob}
 use Rattle.ssh_offers.proofs.NamedLemmas.{certificate-named, named-certificate}
 use Rattle.ssh_offers.proofs.offer.is_certificate.Goals as goal

@@ -1,8 +1,5 @@
-use Rattle.std.proofs.Common.{rules, tests}
-use Rattle.std.proofs.lemmas.Iterator.{YieldsList-from_slice}
-use Rattle.std.proofs.lemmas.Iterator.Consumers.{YieldsList-from_copied}
-use Rattle.std.proofs.lemmas.Iterator.Search.{find_from_yields_List}
-use Rattle.ssh_options.specs.OptionNames.{same_name, row_named}
+use Rattle.ssh_options.proofs.Imports.{rules, tests, YieldsList-from_slice, YieldsList-from_copied, find_from_yields_List, same_name}
+use Rattle.ssh_options.specs.OptionNames.{row_named}
 use Rattle.ssh_options.proofs.RowLemmas.{row-found}
 use Rattle.ssh_options.proofs.option.row_named.Goals as goal
 

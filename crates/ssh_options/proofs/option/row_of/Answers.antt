@@ -1,9 +1,5 @@
-use Rattle.std.proofs.Common.{rules, tests, option_map, sym, ap, ◌∙◌}
-use Rattle.std.proofs.lemmas.Iterator.{YieldsList-from_slice}
-use Rattle.std.proofs.lemmas.Iterator.Consumers.{YieldsList-from_copied}
-use Rattle.std.proofs.lemmas.Iterator.Search.{find_from_yields_List}
-use Rattle.ssh_options.specs.OptionNames.{same_option, option_row}
-use Rattle.ssh_options.specs.OptionTexts.{table_row}
+use Rattle.ssh_options.proofs.Imports.{rules, tests, option_map, sym, ap, ◌∙◌, YieldsList-from_slice, YieldsList-from_copied, find_from_yields_List, same_option, table_row}
+use Rattle.ssh_options.specs.OptionNames.{option_row}
 use Rattle.ssh_options.proofs.RowLemmas.{row-found, some_row}
 use Rattle.ssh_options.proofs.option.row_of.Goals as goal
 

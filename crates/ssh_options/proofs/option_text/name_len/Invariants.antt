@@ -1,5 +1,4 @@
-use Rattle.std.proofs.Common.{◌≡◌, ◌++◌, take, drop}
-use Rattle.ssh_options.specs.OptionText.{name_part, after_name}
+use Rattle.ssh_options.proofs.Imports.{◌≡◌, ◌++◌, take, drop, name_part, after_name}
 use Rattle.ssh_options.proofs.option_text.name_len.Given as goal
 
 abbrev pub invariant-loop-i : goal.invariant-loop-i

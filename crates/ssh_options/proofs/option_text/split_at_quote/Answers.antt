@@ -1,5 +1,4 @@
-use Rattle.std.proofs.Common.{◌≡◌, ◌+◌, ◌-◌, ℕ, List, Some, length, take, drop, sym, ap, ◌∙◌, arith}
-use Rattle.std.proofs.lemmas.List.{length-drop, take_all}
+use Rattle.ssh_options.proofs.Imports.{◌≡◌, ◌+◌, ◌-◌, ℕ, List, Some, length, take, drop, sym, ap, ◌∙◌, arith, length-drop, take_all}
 use Rattle.ssh_options.proofs.QuoteLemmas.{no_quote, split_there, held_after, split_nowhere}
 use Rattle.ssh_options.proofs.option_text.split_at_quote.Goals as goal
 

@@ -1,6 +1,5 @@
-use Rattle.std.proofs.Common.{◌≡◌, ◌++◌, ◌≤◌, ◌-◌, length, take, drop}
+use Rattle.ssh_options.proofs.Imports.{◌≡◌, ◌++◌, ◌≤◌, ◌-◌, length, take, drop, split_at_quote}
 use Rattle.std.specs.Prelude.{option_map}
-use Rattle.ssh_options.specs.OptionTexts.{split_at_quote}
 use Rattle.ssh_options.proofs.option_text.split_at_quote.Given as goal
 
 abbrev pub invariant-loop-len : goal.invariant-loop-len

@@ -1,5 +1,4 @@
-use Rattle.std.proofs.Common.{◌≡◌, length, rules, ap, ◌∙◌}
-use Rattle.ssh_options.specs.OptionTexts.{after_now, split_value, value_taken}
+use Rattle.ssh_options.proofs.Imports.{◌≡◌, length, rules, ap, ◌∙◌, after_now, split_value, value_taken}
 use Rattle.ssh_options.proofs.FrontLemmas.{rest_front, unnamed}
 use Rattle.ssh_options.proofs.option_text.take_item.Goals as goal
 

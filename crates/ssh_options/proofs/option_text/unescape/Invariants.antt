@@ -1,5 +1,4 @@
-use Rattle.std.proofs.Common.{◌≡◌, ◌++◌, drop}
-use Rattle.ssh_options.specs.OptionText.{unescaped}
+use Rattle.ssh_options.proofs.Imports.{◌≡◌, ◌++◌, drop, unescaped}
 use Rattle.ssh_options.proofs.option_text.unescape.Given as goal
 
 abbrev pub invariant-loop-i : goal.invariant-loop-i

@@ -1,5 +1,4 @@
-use Rattle.std.proofs.Common.{◌≡◌}
-use Rattle.ssh_options.specs.SameOptions.{are_same_options}
+use Rattle.ssh_options.proofs.Imports.{◌≡◌, are_same_options}
 use Rattle.ssh_options.proofs.options_view.are_same_options.Given as goal
 
 abbrev pub invariant-loop-option : goal.invariant-loop-option

@@ -1,5 +1,4 @@
-use Rattle.std.proofs.Common.{◌≡◌}
-use Rattle.ssh_options.specs.Settings.{has_flag}
+use Rattle.ssh_options.proofs.Imports.{◌≡◌, has_flag}
 use Rattle.ssh_options.proofs.options_view.has_flag.Given as goal
 
 abbrev pub invariant-loop-option : goal.invariant-loop-option

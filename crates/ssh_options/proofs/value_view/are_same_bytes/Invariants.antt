@@ -1,5 +1,4 @@
-use Rattle.std.proofs.Common.{◌≡◌}
-use Rattle.std.specs.Str.{bytes_eq}
+use Rattle.ssh_options.proofs.Imports.{◌≡◌, bytes_eq}
 use Rattle.ssh_options.proofs.value_view.are_same_bytes.Given as goal
 
 abbrev pub invariant-loop-byte : goal.invariant-loop-byte

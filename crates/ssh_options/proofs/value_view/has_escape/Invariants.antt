@@ -1,5 +1,4 @@
-use Rattle.std.proofs.Common.{◌≡◌, drop}
-use Rattle.ssh_options.specs.OptionsInPlace.{has_escape}
+use Rattle.ssh_options.proofs.Imports.{◌≡◌, drop, has_escape}
 use Rattle.ssh_options.proofs.value_view.has_escape.Given as goal
 
 abbrev pub invariant-loop-i : goal.invariant-loop-i

@@ -1,5 +1,4 @@
-use Rattle.std.proofs.Common.{◌≡◌, drop}
-use Rattle.std.specs.Str.{bytes_eq}
+use Rattle.ssh_options.proofs.Imports.{◌≡◌, drop, bytes_eq}
 use Rattle.ssh_options.proofs.value_view.is_text.Given as goal
 
 abbrev pub invariant-loop-byte : goal.invariant-loop-byte

@@ -1,4 +1,4 @@
-use Rattle.std.proofs.Common.{rules, arith}
+use Rattle.ssh_patterns.proofs.Imports.{rules, arith}
 use Rattle.ssh_patterns.proofs.DigitLemmas.{group-below}
 use Rattle.ssh_patterns.proofs.address.group.Goals as goal
 

@@ -1,4 +1,4 @@
-use Rattle.std.proofs.Common.{◌∙◌, sym, ap, option_map}
+use Rattle.ssh_patterns.proofs.Imports.{◌∙◌, sym, ap, option_map}
 use Rattle.ssh_patterns.proofs.OctetLemmas.{no-octet}
 use Rattle.ssh_patterns.proofs.address.octet_before.Goals as goal
 

@@ -1,5 +1,5 @@
-use Rattle.std.proofs.Common.{◌∙◌, ap, ok_or}
-use Rattle.ssh_patterns.specs.declared.error.PatternError.TheVariants as errors
+use Rattle.ssh_patterns.proofs.Imports.{◌∙◌, ap, ok_or}
+use Rattle.ssh_patterns.specs.declared.address.PatternError.TheVariants as errors
 use Rattle.ssh_patterns.proofs.AddressLaw.{address-read, ok-address}
 use Rattle.ssh_patterns.proofs.address.parse_address.Goals as goal
 

@@ -1,4 +1,4 @@
-use Rattle.std.proofs.Common.{sym}
+use Rattle.ssh_patterns.proofs.Imports.{sym}
 use Rattle.ssh_patterns.proofs.AddressLaw.{octets-address}
 use Rattle.ssh_patterns.proofs.address.read_address.Goals as goal
 

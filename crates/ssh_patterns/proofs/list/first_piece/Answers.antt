@@ -1,4 +1,4 @@
-use Rattle.std.proofs.Common.{sym}
+use Rattle.ssh_patterns.proofs.Imports.{sym}
 use Rattle.ssh_patterns.proofs.CutLemmas.{parts-cut, parts-uncut}
 use Rattle.ssh_patterns.proofs.ListLemmas.{piece-lengths}
 use Rattle.ssh_patterns.proofs.list.first_piece.Goals as goal

@@ -1,4 +1,4 @@
-use Rattle.std.proofs.Common.{arith}
+use Rattle.ssh_patterns.proofs.Imports.{arith}
 use Rattle.ssh_patterns.proofs.NetLemmas.{all_bits}
 use Rattle.ssh_patterns.proofs.net.has_last_clear.Goals as goal
 

@@ -1,4 +1,4 @@
-use Rattle.std.proofs.Common.{◌∙◌}
+use Rattle.ssh_patterns.proofs.Imports.{◌∙◌}
 use Rattle.ssh_patterns.proofs.NetLaw.{net-read, ok-net}
 use Rattle.ssh_patterns.proofs.NetFaults.{no-address, bits-past}
 use Rattle.ssh_patterns.proofs.net.parse_net.Goals as goal

@@ -1,4 +1,4 @@
-use Rattle.std.proofs.Common.{◌∙◌, sym}
+use Rattle.ssh_patterns.proofs.Imports.{◌∙◌, sym}
 use Rattle.ssh_patterns.proofs.NetLaw.{net-from-v4}
 use Rattle.ssh_patterns.proofs.net.read_net.Goals as goal
 

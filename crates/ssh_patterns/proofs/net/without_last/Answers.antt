@@ -1,4 +1,4 @@
-use Rattle.std.proofs.Common.{◌∙◌, arith}
+use Rattle.ssh_patterns.proofs.Imports.{◌∙◌, arith}
 use Rattle.ssh_patterns.proofs.NetLemmas.{first_bits}
 use Rattle.ssh_patterns.proofs.net.without_last.Goals as goal
 

@@ -1,5 +1,4 @@
-use Rattle.std.proofs.Common.{◌∙◌, sym, map}
-use Rattle.ssh_patterns.specs.Matching.{folded}
+use Rattle.ssh_patterns.proofs.Imports.{◌∙◌, sym, map, folded}
 use Rattle.ssh_patterns.proofs.TurnLemmas.{going-start, going-star, going-byte, text-end}
 use Rattle.ssh_patterns.proofs.pattern.matches_from_front.Goals as goal
 

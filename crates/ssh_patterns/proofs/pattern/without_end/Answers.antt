@@ -1,6 +1,4 @@
-use Rattle.std.proofs.Common.{◌∙◌, ◌-◌, ◌==◌, length, get_or, refl, arith}
-use Rattle.std.proofs.lemmas.Bool.{eq-eqb}
-use Rattle.ssh_patterns.specs.Matching.{folded, question}
+use Rattle.ssh_patterns.proofs.Imports.{◌∙◌, ◌-◌, ◌==◌, length, get_or, refl, arith, eq-eqb, folded, question}
 use Rattle.ssh_patterns.proofs.EndLemmas.{front-length, last-differs, last-same}
 use Rattle.ssh_patterns.proofs.MatchLemmas.{or_left, or_right}
 use Rattle.ssh_patterns.proofs.pattern.without_end.Goals.{else-last-ne63-via-then-last-ne63+else-last-fold, else-last-ne63-via-else-last-ne63}

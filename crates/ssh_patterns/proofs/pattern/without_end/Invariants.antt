@@ -1,5 +1,4 @@
-use Rattle.std.proofs.Common.{◌≡◌, ◌+◌, ◌≤◌, length, map}
-use Rattle.ssh_patterns.specs.Matching.{is_match, folded}
+use Rattle.ssh_patterns.proofs.Imports.{◌≡◌, ◌+◌, ◌≤◌, length, map, is_match, folded}
 use Rattle.ssh_patterns.proofs.pattern.without_end.Given as goal
 
 abbrev pub invariant-loop-wanted : goal.invariant-loop-wanted

@@ -1,4 +1,4 @@
-use Rattle.ssh_patterns.specs.Samples.{matching_samples, address_samples, net_samples, list_samples}
+use Rattle.ssh_patterns.proofs.Imports.{matching_samples, address_samples, net_samples, list_samples}
 use Rattle.ssh_patterns.proofs.samples.read_samples.Goals as goal
 
 pub returns : goal.returns

@@ -1,4 +1,4 @@
-use Rattle.std.proofs.Common.{◌∙◌, sym}
+use Rattle.ssh_patterns.proofs.Imports.{◌∙◌, sym}
 use Rattle.ssh_patterns.proofs.OneTextLemmas.{no-colon}
 use Rattle.ssh_patterns.proofs.sources.is_v6_address.Goals as goal
 

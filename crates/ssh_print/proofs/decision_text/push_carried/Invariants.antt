@@ -1,6 +1,4 @@
-use Rattle.std.proofs.Common.{◌≡◌, ◌++◌, drop}
-use Rattle.std.specs.List.{flat_map}
-use Rattle.ssh_print.specs.DecisionText.{carried_line}
+use Rattle.ssh_print.proofs.Imports.{◌≡◌, ◌++◌, drop, flat_map, carried_line}
 use Rattle.ssh_print.proofs.decision_text.push_carried.Given as goal
 
 abbrev pub invariant-loop-text : goal.invariant-loop-text

@@ -1,9 +1,4 @@
-use Rattle.std.proofs.Common.{◌∙◌, ◌++◌, append_assoc, ap}
-use Rattle.std.specs.Prelude.{codes}
-use Rattle.std.specs.Fmt.{decimal}
-use Rattle.std.specs.List.{flat_map}
-use Rattle.ssh_print.specs.Codes.{reason_codes}
-use Rattle.ssh_print.specs.TextParts.{part_bytes}
+use Rattle.ssh_print.proofs.Imports.{◌∙◌, ◌++◌, append_assoc, ap, codes, decimal, flat_map, reason_codes, part_bytes}
 use Rattle.ssh_print.proofs.PartLemmas.{plain_around}
 use Rattle.ssh_print.proofs.decision_text.push_reason_line.Goals as goal
 

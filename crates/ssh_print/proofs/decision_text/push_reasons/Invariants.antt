@@ -1,7 +1,4 @@
-use Rattle.std.proofs.Common.{◌≡◌, ◌++◌, drop}
-use Rattle.std.specs.List.{flat_map}
-use Rattle.ssh_print.specs.DecisionText.{reason_line}
-use Rattle.ssh_print.specs.TextParts.{text_bytes}
+use Rattle.ssh_print.proofs.Imports.{◌≡◌, ◌++◌, drop, flat_map, reason_line, text_bytes}
 use Rattle.ssh_print.proofs.decision_text.push_reasons.Given as goal
 
 abbrev pub invariant-loop-reason : goal.invariant-loop-reason

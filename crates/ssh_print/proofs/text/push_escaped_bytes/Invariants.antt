@@ -1,6 +1,4 @@
-use Rattle.std.proofs.Common.{◌≡◌, ◌++◌, take}
-use Rattle.std.specs.List.{flat_map}
-use Rattle.ssh_print.specs.Texts.{escaped_byte}
+use Rattle.ssh_print.proofs.Imports.{◌≡◌, ◌++◌, take, flat_map, escaped_byte}
 use Rattle.ssh_print.proofs.text.push_escaped_bytes.Given as goal
 
 abbrev pub invariant-loop-byte : goal.invariant-loop-byte

@@ -1,4 +1,4 @@
-use Rattle.std.proofs.Common.{◌≡◌, ◌∙◌, ◌++◌, [], ap, arith}
+use Rattle.ssh_print.proofs.Imports.{◌≡◌, ◌∙◌, ◌++◌, [], ap, arith}
 use Rattle.ssh_print.proofs.HexLemmas.{text-same}
 use Rattle.ssh_print.proofs.text.push_hex.Goals as goal
 

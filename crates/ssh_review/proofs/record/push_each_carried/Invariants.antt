@@ -1,6 +1,4 @@
-use Rattle.std.proofs.Common.{◌≡◌, ◌++◌, drop}
-use Rattle.std.specs.List.{flat_map}
-use Rattle.ssh_review.specs.Records.{carried_inset}
+use Rattle.ssh_review.proofs.Imports.{◌≡◌, ◌++◌, drop, flat_map, carried_inset}
 use Rattle.ssh_review.proofs.record.push_each_carried.Given as goal
 
 abbrev pub invariant-loop-text : goal.invariant-loop-text

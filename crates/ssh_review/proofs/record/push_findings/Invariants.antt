@@ -1,6 +1,4 @@
-use Rattle.std.proofs.Common.{◌≡◌, ◌++◌, drop}
-use Rattle.std.specs.List.{flat_map}
-use Rattle.ssh_review.specs.Sentences.{finding_line}
+use Rattle.ssh_review.proofs.Imports.{◌≡◌, ◌++◌, drop, flat_map, finding_line}
 use Rattle.ssh_review.proofs.record.push_findings.Given as goal
 
 abbrev pub invariant-loop-finding : goal.invariant-loop-finding

@@ -1,6 +1,5 @@
-use Rattle.std.proofs.Common.{◌∙◌, ◌++◌, ap}
-use Rattle.std.specs.List.{flat_map}
-use Rattle.ssh_review.specs.Records.{carried_inset, right_lines}
+use Rattle.ssh_review.proofs.Imports.{◌∙◌, ◌++◌, ap, flat_map, carried_inset}
+use Rattle.ssh_review.specs.Records.{right_lines}
 use Rattle.ssh_review.proofs.Appended.{both}
 use Rattle.ssh_review.proofs.record.push_right_lines.Goals as goal
 

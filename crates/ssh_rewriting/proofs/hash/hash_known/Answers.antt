@@ -1,9 +1,4 @@
-use Rattle.std.proofs.Common.{rules, ◌≡◌, ◌≤◌, length, refl, sym, ap, subst, ◌∙◌, arith}
-use Rattle.ssh_names.proofs.ByteLemmas.{AreBytes-from}
-use Rattle.ssh_text.specs.Text.{file_limit}
-use Rattle.ssh_rewriting.specs.Facts.{known_facts}
-use Rattle.ssh_rewriting.specs.HashedFile.{hashed_file}
-use Rattle.ssh_rewriting.specs.HashedNames.{AddsNoName, KeepsNames}
+use Rattle.ssh_rewriting.proofs.Imports.{rules, ◌≡◌, ◌≤◌, length, refl, sym, ap, subst, ◌∙◌, arith, AreBytes-from, file_limit, known_facts, hashed_file, AddsNoName, KeepsNames}
 use Rattle.ssh_rewriting.proofs.AnswerLemmas.{hashed_whole}
 use Rattle.ssh_rewriting.proofs.HashedFactsLemmas.{hashed-says}
 use Rattle.ssh_rewriting.proofs.HashedNamesLemmas.{hashed-keeps, hashed-adds}

@@ -1,5 +1,4 @@
-use Rattle.std.proofs.Common.{subst}
-use Rattle.ssh_names.proofs.ByteLemmas.{AreBytes, AreBytes-from}
+use Rattle.ssh_rewriting.proofs.Imports.{subst, AreBytes, AreBytes-from}
 use Rattle.ssh_rewriting.proofs.HashedFactsLemmas.{salts-known}
 use Rattle.ssh_rewriting.proofs.hash.know_salts.Goals as goal
 

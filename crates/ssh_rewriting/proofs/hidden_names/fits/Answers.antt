@@ -1,4 +1,4 @@
-use Rattle.std.proofs.Common.{rules}
+use Rattle.ssh_rewriting.proofs.Imports.{rules}
 use Rattle.ssh_rewriting.proofs.HiddenLemmas.{hashed-length}
 use Rattle.ssh_rewriting.proofs.hidden_names.fits.Goals as goal
 

@@ -1,4 +1,4 @@
-use Rattle.ssh_rewriting.specs.HashedFile.{hashed_line}
+use Rattle.ssh_rewriting.proofs.Imports.{hashed_line}
 use Rattle.ssh_rewriting.proofs.BoundedLemmas.{line_written}
 use Rattle.ssh_rewriting.proofs.hidden_names.put_hashed.Goals as goal
 

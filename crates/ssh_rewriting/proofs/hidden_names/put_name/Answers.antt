@@ -1,4 +1,4 @@
-use Rattle.std.proofs.Common.{drop, sym, ap}
+use Rattle.ssh_rewriting.proofs.Imports.{drop, sym, ap}
 use Rattle.ssh_rewriting.proofs.HiddenLemmas.{name-line}
 use Rattle.ssh_rewriting.proofs.hidden_names.put_name.Goals as goal
 

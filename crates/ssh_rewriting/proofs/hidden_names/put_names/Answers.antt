@@ -1,6 +1,4 @@
-use Rattle.std.proofs.Common.{ap, ◌∙◌, option_copied}
-use Rattle.ssh_patterns.specs.Lists.{pieces, pieces_left}
-use Rattle.ssh_names.specs.Names.{names_text}
+use Rattle.ssh_rewriting.proofs.Imports.{ap, ◌∙◌, option_copied, pieces, pieces_left, names_text}
 use Rattle.ssh_rewriting.proofs.HiddenLemmas.{names-step, names-end}
 use Rattle.ssh_rewriting.proofs.hidden_names.put_names.Goals as goal
 

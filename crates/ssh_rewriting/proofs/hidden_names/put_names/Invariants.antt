@@ -1,6 +1,4 @@
-use Rattle.std.proofs.Common.{option_copied}
-use Rattle.ssh_patterns.specs.Lists.{pieces, pieces_left, length_left}
-use Rattle.ssh_names.specs.Names.{names_text}
+use Rattle.ssh_rewriting.proofs.Imports.{option_copied, pieces, pieces_left, length_left, names_text}
 use Rattle.ssh_rewriting.proofs.HiddenLemmas.{NamesLeft}
 use Rattle.ssh_rewriting.proofs.hidden_names.put_names.Given as goal
 

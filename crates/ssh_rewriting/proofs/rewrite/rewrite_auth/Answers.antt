@@ -1,8 +1,4 @@
-use Rattle.std.proofs.Common.{length, arith, sym, ap, ◌∙◌}
-use Rattle.ssh_names.proofs.ByteLemmas.{AreBytes-from}
-use Rattle.ssh_lines.specs.AuthGrammar.{auth_line}
-use Rattle.ssh_rewriting.specs.CanonicalFile.{auth_written, canonical_auth_file}
-use Rattle.ssh_rewriting.specs.Facts.{auth_facts}
+use Rattle.ssh_rewriting.proofs.Imports.{length, arith, sym, ap, ◌∙◌, AreBytes-from, auth_line, auth_written, canonical_auth_file, auth_facts}
 use Rattle.ssh_rewriting.proofs.FileLemmas.{file-length, file-says, file-twice}
 use Rattle.ssh_rewriting.proofs.LineLemmas.{auth-kept}
 use Rattle.ssh_rewriting.proofs.rewrite.rewrite_auth.Goals as goal

@@ -1,8 +1,4 @@
-use Rattle.std.proofs.Common.{length, arith, sym, ap, ◌∙◌}
-use Rattle.ssh_names.proofs.ByteLemmas.{AreBytes-from}
-use Rattle.ssh_lines.specs.KnownGrammar.{known_line}
-use Rattle.ssh_rewriting.specs.CanonicalFile.{known_written, canonical_known_file}
-use Rattle.ssh_rewriting.specs.Facts.{known_facts}
+use Rattle.ssh_rewriting.proofs.Imports.{length, arith, sym, ap, ◌∙◌, AreBytes-from, known_line, known_written, canonical_known_file, known_facts}
 use Rattle.ssh_rewriting.proofs.FileLemmas.{file-length, file-says, file-twice}
 use Rattle.ssh_rewriting.proofs.LineLemmas.{known-kept}
 use Rattle.ssh_rewriting.proofs.rewrite.rewrite_known.Goals as goal

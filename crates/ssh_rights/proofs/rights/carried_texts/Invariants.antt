@@ -1,5 +1,4 @@
-use Rattle.std.proofs.Common.{◌≡◌, ◌++◌}
-use Rattle.ssh_rights.specs.Rights.{carried_texts}
+use Rattle.ssh_rights.proofs.Imports.{◌≡◌, ◌++◌, carried_texts}
 use Rattle.ssh_rights.proofs.rights.carried_texts.Given as goal
 
 abbrev pub invariant-loop-option : goal.invariant-loop-option

@@ -1,5 +1,4 @@
-use Rattle.std.proofs.Common.{◌≡◌, false, true}
-use Rattle.ssh_options.specs.OptionsInPlace.{has_quote}
+use Rattle.ssh_rules.proofs.Imports.{◌≡◌, false, true, has_quote}
 use Rattle.ssh_rules.proofs.SpareLemmas.{first_plain}
 use Rattle.ssh_rules.proofs.admission.is_expired.Goals as goal
 

@@ -1,10 +1,4 @@
-use Rattle.std.proofs.Common.{◌≡◌, false}
-use Rattle.std.specs.List.{list_any}
-use Rattle.ssh_options.specs.declared.option.ValueName.TheVariants.{ExpiryTime}
-use Rattle.ssh_options.specs.OptionsInPlace.{has_quote}
-use Rattle.ssh_options.specs.Settings.{settings}
-use Rattle.ssh_rules.specs.Admission.{is_expired}
-use Rattle.ssh_offers.specs.ClaimViews.{claim_of}
+use Rattle.ssh_rules.proofs.Imports.{◌≡◌, false, list_any, ExpiryTime, has_quote, settings, is_expired, claim_of}
 use Rattle.ssh_rules.proofs.admission.is_expired.Given as goal
 
 abbrev pub invariant-loop-value : goal.invariant-loop-value

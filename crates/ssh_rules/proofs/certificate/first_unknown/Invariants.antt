@@ -1,6 +1,4 @@
-use Rattle.std.proofs.Common.{◌≡◌}
-use Rattle.ssh_certs.specs.Left.{options_left}
-use Rattle.ssh_rules.specs.CertificateRules.{first_unknown}
+use Rattle.ssh_rules.proofs.Imports.{◌≡◌, options_left, first_unknown}
 use Rattle.ssh_rules.proofs.certificate.first_unknown.Given as goal
 
 abbrev pub invariant-loop-name : goal.invariant-loop-name

@@ -1,7 +1,4 @@
-use Rattle.std.proofs.Common.{rules, ◌==◌}
-use Rattle.std.proofs.lemmas.Iterator.Search.{any_from_yields_List}
-use Rattle.std.proofs.lemmas.Iterator.Splits.{YieldsList-from_slice_split}
-use Rattle.ssh_rules.specs.CertificateRules.{is_among}
+use Rattle.ssh_rules.proofs.Imports.{rules, ◌==◌, any_from_yields_List, YieldsList-from_slice_split, is_among}
 use Rattle.ssh_rules.proofs.certificate.has_listed.Goals as goal
 
 pub returns : goal.returns

@@ -1,4 +1,4 @@
-use Rattle.ssh_certs.specs.CertificateOf.{certificate_of}
+use Rattle.ssh_rules.proofs.Imports.{certificate_of}
 use Rattle.ssh_rules.proofs.Principals.{principal-same}
 use Rattle.ssh_rules.proofs.certificate.has_principal.Goals as goal
 

@@ -1,8 +1,4 @@
-use Rattle.std.proofs.Common.{◌≡◌}
-use Rattle.std.specs.List.{list_any}
-use Rattle.ssh_certs.specs.CertificateOf.{certificate_of}
-use Rattle.ssh_certs.specs.Left.{options_left}
-use Rattle.ssh_rules.specs.CertificateRules.{has_two, has_repeats}
+use Rattle.ssh_rules.proofs.Imports.{◌≡◌, list_any, certificate_of, options_left, has_two, has_repeats}
 use Rattle.ssh_rules.proofs.certificate.has_repeated.Given as goal
 
 abbrev pub invariant-loop-name : goal.invariant-loop-name

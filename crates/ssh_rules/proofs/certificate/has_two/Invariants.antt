@@ -1,6 +1,4 @@
-use Rattle.std.proofs.Common.{◌≡◌, length}
-use Rattle.ssh_certs.specs.Left.{options_left}
-use Rattle.ssh_rules.specs.CertificateRules.{has_two}
+use Rattle.ssh_rules.proofs.Imports.{◌≡◌, length, options_left, has_two}
 use Rattle.ssh_rules.proofs.certificate.has_two.Given as goal
 
 abbrev pub invariant-loop-other : goal.invariant-loop-other

@@ -1,7 +1,4 @@
-use Rattle.std.proofs.Common.{◌≡◌}
-use Rattle.ssh_certs.specs.Left.{options_left}
-use Rattle.std.specs.List.{list_all}
-use Rattle.ssh_rules.specs.CertificateRules.{has_its_form}
+use Rattle.ssh_rules.proofs.Imports.{◌≡◌, options_left, list_all, has_its_form}
 use Rattle.ssh_rules.proofs.certificate.have_their_forms.Given as goal
 
 abbrev pub invariant-loop-name : goal.invariant-loop-name

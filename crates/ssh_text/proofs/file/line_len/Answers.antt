@@ -1,4 +1,4 @@
-use Rattle.std.proofs.Common.{length, sym}
+use Rattle.ssh_text.proofs.Imports.{length, sym}
 use Rattle.ssh_text.proofs.EndOfLineLemmas.{no_newline, line_at, line_whole}
 use Rattle.ssh_text.proofs.file.line_len.Goals as goal
 

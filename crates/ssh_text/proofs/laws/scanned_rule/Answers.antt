@@ -1,4 +1,4 @@
-use Rattle.std.proofs.Common.{refl}
+use Rattle.ssh_text.proofs.Imports.{refl}
 use Rattle.ssh_text.proofs.PieceLemmas.{adds-none, adds-one, ends-none, ends-one}
 use Rattle.ssh_text.proofs.laws.scanned_rule.Goals as goal
 

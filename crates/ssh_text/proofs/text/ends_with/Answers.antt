@@ -1,4 +1,4 @@
-use Rattle.std.proofs.Common.{arith, sym}
+use Rattle.ssh_text.proofs.Imports.{arith, sym}
 use Rattle.ssh_text.proofs.EndLemmas.{ends_with-last}
 use Rattle.ssh_text.proofs.text.ends_with.Goals as goal
 

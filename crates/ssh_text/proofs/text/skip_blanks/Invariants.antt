@@ -1,5 +1,4 @@
-use Rattle.std.proofs.Common.{◌≡◌, drop}
-use Rattle.ssh_text.specs.Text.{skip_blanks}
+use Rattle.ssh_text.proofs.Imports.{◌≡◌, drop, skip_blanks}
 use Rattle.ssh_text.proofs.text.skip_blanks.Given as goal
 
 abbrev pub invariant-loop-i : goal.invariant-loop-i

@@ -1,4 +1,4 @@
-use Rattle.std.proofs.Common.{arith}
+use Rattle.ssh_text.proofs.Imports.{arith}
 use Rattle.ssh_text.proofs.EndLemmas.{without_last-is, without_last-other}
 use Rattle.ssh_text.proofs.text.without_last.Goals as goal
 

@@ -1,4 +1,4 @@
-use Rattle.std.proofs.Common.{arith, sym, ◌∙◌}
+use Rattle.ssh_text.proofs.Imports.{arith, sym, ◌∙◌}
 use Rattle.ssh_text.proofs.EndLemmas.{without_trailing-last, without_trailing-other}
 use Rattle.ssh_text.proofs.text.without_trailing.Goals as goal
 

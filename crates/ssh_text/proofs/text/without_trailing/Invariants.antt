@@ -1,5 +1,4 @@
-use Rattle.std.proofs.Common.{◌≡◌, length}
-use Rattle.ssh_text.specs.Text.{without_trailing}
+use Rattle.ssh_text.proofs.Imports.{◌≡◌, length, without_trailing}
 use Rattle.ssh_text.proofs.text.without_trailing.Given as goal
 
 abbrev pub invariant-loop-kept : goal.invariant-loop-kept

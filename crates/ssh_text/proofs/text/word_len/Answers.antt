@@ -1,4 +1,4 @@
-use Rattle.std.proofs.Common.{length, sym}
+use Rattle.ssh_text.proofs.Imports.{length, sym}
 use Rattle.ssh_text.proofs.WordLemmas.{no_blank, word_at, rest_at, word_whole, rest_none}
 use Rattle.ssh_text.proofs.text.word_len.Goals as goal
 

@@ -1,4 +1,4 @@
-use Rattle.std.proofs.Common.{refl}
+use Rattle.ssh_trust.proofs.Imports.{refl}
 use Rattle.ssh_trust.proofs.login_scan.candidate_at.Goals as goal
 
 pub returns : goal.returns

@@ -1,5 +1,4 @@
-use Rattle.ssh_bodies.specs.PrivateFrom.{private_key}
-use Rattle.ssh_bodies.specs.PrivateKey.{private_with}
+use Rattle.ssh_bodies.proofs.Imports.{private_key, private_with}
 use Rattle.ssh_bodies.proofs.Making.{private_from_takes, private_from_only, private_from_refused}
 use Rattle.ssh_bodies.proofs.private_view.PrivateView.from_fields.Goals as goal
 

@@ -1,4 +1,4 @@
-use Rattle.std.proofs.Common.{arith}
+use Rattle.ssh_bodies.proofs.Imports.{arith}
 use Rattle.ssh_bodies.proofs.Making.{sshsig_from_takes, sshsig_from_only, sshsig_from_refused}
 use Rattle.ssh_bodies.proofs.sshsig_view.SshsigView.from_fields.Goals as goal
 

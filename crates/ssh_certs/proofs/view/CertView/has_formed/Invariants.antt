@@ -1,8 +1,4 @@
-use Rattle.std.proofs.Common.{◌≡◌}
-use Rattle.std.specs.List.{list_any}
-use Rattle.ssh_certs.specs.CertificateOf.{certificate_of}
-use Rattle.ssh_certs.specs.CertificateOptions.{has_formed, is_formed}
-use Rattle.ssh_certs.specs.Left.{options_left}
+use Rattle.ssh_certs.proofs.Imports.{◌≡◌, list_any, certificate_of, has_formed, is_formed, options_left}
 use Rattle.ssh_certs.proofs.view.CertView.has_formed.Given as goal
 
 abbrev pub invariant-loop-name : goal.invariant-loop-name

@@ -1,4 +1,4 @@
-use Rattle.ssh_certs.specs.CertificateOf.{certificate_of}
+use Rattle.ssh_certs.proofs.Imports.{certificate_of}
 use Rattle.ssh_certs.proofs.CertificateLaws.{signed_front}
 use Rattle.ssh_certs.proofs.view.CertView.signed_part.Goals as goal
 

@@ -1,7 +1,5 @@
-use Rattle.std.proofs.Common.{ap, sym, ◌∙◌}
-use Rattle.std.specs.Cmp.Lexicographic.{same_text, bytes_decides}
+use Rattle.ssh_certs.proofs.Imports.{ap, sym, ◌∙◌, same_text, bytes_decides, certificate_of}
 use Rattle.ssh_certs.specs.Certificate.{certificate_blob}
-use Rattle.ssh_certs.specs.CertificateOf.{certificate_of}
 use Rattle.ssh_certs.proofs.CertificateLaws.{one_certificate}
 use Rattle.ssh_certs.proofs.view.CertViewPartialEq.eq.Goals as goal
 

@@ -1,4 +1,4 @@
-use Rattle.std.proofs.Common.{◌≡◌, false, true, refl}
+use Rattle.ssh_findings.proofs.Imports.{◌≡◌, false, true, refl}
 use Rattle.ssh_findings.proofs.KeepingLemmas.{authority_there, kept_authority, kept_plain, plain_there}
 use Rattle.ssh_findings.proofs.earlier.Earlier.keep.Goals as goal
 

@@ -1,4 +1,4 @@
-use Rattle.std.proofs.Common.{◌∙◌, ap, option_map}
+use Rattle.ssh_findings.proofs.Imports.{◌∙◌, ap, option_map}
 use Rattle.ssh_findings.proofs.KeepingLemmas.{shadow_line_at}
 use Rattle.ssh_findings.proofs.earlier.Earlier.shadow_line.Goals as goal
 

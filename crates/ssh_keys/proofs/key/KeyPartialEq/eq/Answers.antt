@@ -1,5 +1,4 @@
-use Rattle.std.proofs.Common.{ℕ, List, sym, subst, ◌∙◌}
-use Rattle.ssh_keys.specs.PublicKey.{PublicKey, IsKeyBlob}
+use Rattle.ssh_keys.proofs.Imports.{ℕ, List, sym, subst, ◌∙◌, PublicKey, IsKeyBlob}
 use Rattle.ssh_keys.proofs.Blobs.{told_blobs}
 use Rattle.ssh_keys.proofs.key.KeyPartialEq.eq.Goals as goal
 

@@ -1,5 +1,5 @@
+use Rattle.ssh_keys.proofs.Imports.{public_key}
 use Rattle.ssh_keys.proofs.Ranges.{key_from_takes, key_from_refused}
-use Rattle.ssh_keys.specs.View.{public_key}
 use Rattle.ssh_keys.proofs.view.KeyView.from_fields.Goals as goal
 
 pub invariant_of-result : goal.invariant_of-result

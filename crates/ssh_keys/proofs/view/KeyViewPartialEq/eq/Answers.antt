@@ -1,7 +1,4 @@
-use Rattle.std.specs.Bool.{one_answer}
-use Rattle.std.specs.Cmp.Lexicographic.{bytes_decides}
-use Rattle.std.specs.Str.{bytes_eq}
-use Rattle.ssh_keys.specs.KeyOf.{blob_of}
+use Rattle.ssh_keys.proofs.Imports.{one_answer, bytes_decides, bytes_eq, blob_of}
 use Rattle.ssh_keys.proofs.view.KeyViewPartialEq.eq.Goals as goal
 
 pub returns-clause-blobs : goal.returns-clause-blobs

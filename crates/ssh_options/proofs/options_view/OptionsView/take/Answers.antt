@@ -1,5 +1,4 @@
-use Rattle.std.proofs.Common.{false}
-use Rattle.ssh_options.specs.OptionText.{option_text_of}
+use Rattle.ssh_options.proofs.Imports.{false, option_text_of}
 use Rattle.ssh_options.proofs.InLineLemmas.{said_options, said_each}
 use Rattle.ssh_options.proofs.options_view.OptionsView.take.Goals as goal
 

@@ -1,5 +1,4 @@
-use Rattle.std.proofs.Common.{◌≡◌, length}
-use Rattle.ssh_options.specs.Settings.{settings}
+use Rattle.ssh_options.proofs.Imports.{◌≡◌, length, settings}
 use Rattle.ssh_options.proofs.options_view.SettingViewsIterator.next.Given as goal
 
 abbrev pub invariant-loop-option : goal.invariant-loop-option

@@ -1,5 +1,4 @@
-use Rattle.std.proofs.Common.{◌≡◌, ◌+◌, ◌++◌, ◌∷◌, [], take, sym, ◌∙◌, append_assoc}
-use Rattle.ssh_text.specs.Scan.{HasNoNewline}
+use Rattle.ssh_text.proofs.Imports.{◌≡◌, ◌+◌, ◌++◌, ◌∷◌, [], take, sym, ◌∙◌, append_assoc, HasNoNewline}
 use Rattle.ssh_text.proofs.NewlineLemmas.{free-front, none-found, found, up_to-all, up_to-found}
 use Rattle.ssh_text.proofs.scanner.Scanner.feed.Goals as goal
 

@@ -1,5 +1,4 @@
-use Rattle.std.proofs.Common.{length, sym, subst, arith}
-use Rattle.ssh_text.specs.Scan.{StandsFor}
+use Rattle.ssh_text.proofs.Imports.{length, sym, subst, arith, StandsFor}
 use Rattle.ssh_text.proofs.ScanLemmas.{not-empty, unfinished-ended, unfinished-open}
 use Rattle.ssh_text.proofs.scanner.Scanner.finish.Goals as goal
 

@@ -1,5 +1,4 @@
-use Rattle.std.proofs.Common.{length, refl, sym, subst, ap}
-use Rattle.ssh_text.specs.Scan.{StandsFor}
+use Rattle.ssh_text.proofs.Imports.{length, refl, sym, subst, ap, StandsFor}
 use Rattle.ssh_text.proofs.ScanLemmas.{unfinished-ended, unfinished-open}
 use Rattle.ssh_text.proofs.scanner.Scanner.is_between.Goals as goal
 

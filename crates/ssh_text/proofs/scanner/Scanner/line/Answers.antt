@@ -1,5 +1,4 @@
-use Rattle.std.proofs.Common.{sym, subst, ap, ◌∙◌}
-use Rattle.ssh_text.specs.Scan.{StandsFor}
+use Rattle.ssh_text.proofs.Imports.{sym, subst, ap, ◌∙◌, StandsFor}
 use Rattle.ssh_text.proofs.ScanLemmas.{ready-last}
 use Rattle.ssh_text.proofs.scanner.Scanner.line.Goals as goal
 

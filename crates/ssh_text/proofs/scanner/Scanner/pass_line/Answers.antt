@@ -1,5 +1,4 @@
-use Rattle.std.proofs.Common.{◌∙◌, ap, sym, subst}
-use Rattle.ssh_text.specs.Scan.{StandsFor, lines_begun}
+use Rattle.ssh_text.proofs.Imports.{◌∙◌, ap, sym, subst, StandsFor, lines_begun}
 use Rattle.ssh_text.proofs.ScanLemmas.{passed-line, stands-passed}
 use Rattle.ssh_text.proofs.scanner.Scanner.pass_line.Goals as goal
 

@@ -1,6 +1,4 @@
-use Rattle.std.proofs.Common.{◌≡◌, ◌+◌, ◌<◌, ◌^◌, false, true, length, sym, ap, subst, arith}
-use Rattle.ssh_text.specs.Scan.{StandsFor}
-use Rattle.ssh_text.specs.Text.{line_limit}
+use Rattle.ssh_text.proofs.Imports.{◌≡◌, ◌+◌, ◌<◌, ◌^◌, false, true, length, sym, ap, subst, arith, StandsFor, line_limit}
 use Rattle.ssh_text.proofs.ScanLemmas.{counted-append, counted-begin, stands-append, stands-begin, unfinished-ended, unfinished-open}
 use Rattle.ssh_text.proofs.scanner.Scanner.take_part.Goals.{then-self+in_ok-begin, else-self+in_ok-append}
 use Rattle.ssh_text.proofs.scanner.Scanner.take_part.Goals as goal

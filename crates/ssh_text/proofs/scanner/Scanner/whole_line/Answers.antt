@@ -1,5 +1,4 @@
-use Rattle.std.proofs.Common.{◌≡◌, ◌++◌, ◌∷◌, [], take, false, refl, sym, ◌∙◌}
-use Rattle.ssh_text.specs.Scan.{HasNoNewline, has_newline, up_to_newline}
+use Rattle.ssh_text.proofs.Imports.{◌≡◌, ◌++◌, ◌∷◌, [], take, false, refl, sym, ◌∙◌, HasNoNewline, has_newline, up_to_newline}
 use Rattle.ssh_text.proofs.NewlineLemmas.{free-front, none-found, found, up_to-found}
 use Rattle.ssh_text.proofs.scanner.Scanner.whole_line.Goals as goal
 

@@ -1,11 +1,11 @@
-use Rattle.ssh_trust.specs.Findings.{HasFound}
+use Rattle.ssh_trust.proofs.Imports.{HasFound}
 use Rattle.ssh_trust.proofs.AnswerLemmas.{of-claim}
 use Rattle.ssh_trust.proofs.AuditLemmas.{stands-new}
 use Rattle.ssh_trust.proofs.audit.Audit.new.Goals as goal
 
 pub returns-clause-made : goal.returns-clause-made
 returns-clause-made g c =
-    of-claim (g.T.Sought.claim c.args.query.now) _
+    of-claim (g.T.Matcher.claim c.args.query.now) _
     (λ claim is.
-    stands-new (HasFound g.T.Sought.claimed g.T.Sought.nothing g.T.Sought.add g.T.Sought.most g.T.Sought.least claim) c.new-2.result
+    stands-new (HasFound g.T.Matcher.claimed g.T.Matcher.nothing g.T.Matcher.add g.T.Matcher.most g.T.Matcher.least claim) c.new-2.result
     (c.new-2.ensures.read claim (rw is at c.in_ok-search.ensures.made)) c.new-2.ensures.sound)

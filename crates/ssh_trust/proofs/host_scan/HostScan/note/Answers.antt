@@ -1,4 +1,4 @@
-use Rattle.std.proofs.Common.{refl}
+use Rattle.ssh_trust.proofs.Imports.{refl}
 use Rattle.ssh_trust.proofs.host_scan.HostScan.note.Goals as goal
 
 pub returns : goal.returns

@@ -1,10 +1,10 @@
-use Rattle.std.proofs.Common.{refl}
+use Rattle.ssh_trust.proofs.Imports.{refl}
 use Rattle.ssh_trust.proofs.AnswerLemmas.{of-claim}
 use Rattle.ssh_trust.proofs.AuditLemmas.{found-none-yet}
 use Rattle.ssh_trust.proofs.search.Search.new.Goals as goal
 
 pub returns-clause-made : goal.returns-clause-made
 returns-clause-made g c =
-    of-claim (g.T.Sought.claim c.args.query.now) _
+    of-claim (g.T.Matcher.claim c.args.query.now) _
     (λ claim is.
-    found-none-yet g.T.Sought.claimed g.T.Sought.nothing g.T.Sought.add g.T.Sought.most g.T.Sought.least claim _ (rw is at c.in_ok-sought.ensures.made) c.silence-said.ensures.value refl)
+    found-none-yet g.T.Matcher.claimed g.T.Matcher.nothing g.T.Matcher.add g.T.Matcher.most g.T.Matcher.least claim _ (rw is at c.in_ok-matcher.ensures.made) c.initial_state-state.ensures.value refl)

@@ -1,4 +1,4 @@
-use Rattle.std.proofs.Common.{◌≡◌, Err, rules}
+use Rattle.ssh_wire.proofs.Imports.{◌≡◌, Err, rules}
 use Rattle.ssh_wire.specs.Reading.{mpint_at}
 use Rattle.ssh_wire.proofs.MpintLemmas.{mpint_is_refused}
 use Rattle.ssh_wire.proofs.cursor.Cursor.take_mpint.Goals as goal

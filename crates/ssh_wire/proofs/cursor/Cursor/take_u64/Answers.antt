@@ -1,9 +1,4 @@
-use Rattle.std.proofs.Common.{◌^◌, arith, subst}
-use Rattle.std.proofs.lemmas.Grind.{common_steps}
-use Rattle.std.specs.Int.{w64}
-use Rattle.ssh_wire.specs.Fronts.{IsBytes}
-use Rattle.ssh_wire.specs.Laws.{IsBytes-drop, number_takes, wide64}
-use Rattle.ssh_wire.specs.Position.{Position}
+use Rattle.ssh_wire.proofs.Imports.{◌^◌, arith, subst, common_steps, w64, IsBytes, IsBytes-drop, number_takes, wide64, Position}
 use Rattle.ssh_wire.proofs.cursor.Cursor.take_u64.Goals as goal
 
 pub returns-clause-taken : goal.returns-clause-taken

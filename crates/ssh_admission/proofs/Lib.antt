@@ -1,4 +1,0 @@
-mod StandInLemmas
-pub mod DenialLemmas
-mod ScanLemmas
-mod HostLemmas

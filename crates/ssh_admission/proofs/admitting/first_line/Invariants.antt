@@ -1,9 +1,0 @@
-use Rattle.std.proofs.Common.{◌≡◌}
-use Rattle.ssh_text.specs.Text.{lines_of, numbered}
-use Rattle.ssh_admission.specs.Admitting.{first_line}
-use Rattle.ssh_admission.proofs.admitting.first_line.Given as goal
-
-abbrev pub invariant-loop-number : goal.invariant-loop-number
-invariant-loop-number l =
-    (goal.iterator-loop-number).can_next l.number-iterator × (goal.iterator-loop-number).is_finite l.number-iterator
-    × (first_line l.sought l.firm (numbered (l.number-iterator).0 (lines_of (l.number-iterator).1)) ≡ first_line l.sought l.firm (numbered 1 (lines_of l.file)))

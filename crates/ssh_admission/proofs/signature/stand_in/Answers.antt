@@ -1,5 +1,0 @@
-use Rattle.ssh_admission.proofs.StandInLemmas.{stand_in_signs}
-use Rattle.ssh_admission.proofs.signature.stand_in.Goals as goal
-
-pub write_signature-requires : goal.write_signature-requires
-write_signature-requires c = rw (c.signature_algorithm.ensures, c.security_key.ensures) (stand_in_signs c.args.kind)

@@ -1,7 +1,0 @@
-use Rattle.std.proofs.Common.{◌≡◌, ◌++◌, drop}
-use Rattle.std.specs.List.{flat_map}
-use Rattle.ssh_admission.specs.AnswerText.{passed_line}
-use Rattle.ssh_admission.proofs.text.push_passed_lines.Given as goal
-
-abbrev pub invariant-loop-reason : goal.invariant-loop-reason
-invariant-loop-reason l = l.out.items ++ flat_map passed_line (drop l.reason-index l.reasons) ≡ l.initial.out.items ++ flat_map passed_line l.reasons

@@ -1,9 +1,0 @@
--- What a denial says of the lines that cannot be read.
-use Rattle.std.specs.Prelude.{◌≡◌, ℕ, false, List, bytes_eq, Some}
-use Rattle.ssh_admission.specs.PossibleLines.{held_blob}
-
--- the line holds a key where OpenSSH looks for one, and it is another than the one with this blob
-pub record HoldsAnother (line blob : List ℕ) : Type 0 where
-  pub held : List ℕ
-  pub holds : held_blob line ≡ Some held
-  pub other : bytes_eq held blob ≡ false

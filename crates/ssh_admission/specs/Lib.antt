@@ -1,9 +1,0 @@
-pub mod StandIn
-pub mod AnswerText
-pub mod PossibleLines
-pub mod Admitting
-pub mod OtherLines
-pub mod Denials
-pub mod KnownPossible
-pub mod PassedOver
-pub mod HostOther

@@ -1,5 +1,0 @@
-pub mod AdmissionLemmas
-mod KeyLemmas
-mod ExplainLemmas
-mod QuestionLemmas
-mod DenialLemmas

@@ -1,4 +1,0 @@
-pub mod RowLemmas
-pub mod PlaceLemmas
-pub mod SeekLemmas
-pub mod EntryLemmas

@@ -1,4 +1,0 @@
-pub mod Number
-pub mod Rows
-pub mod Tables
-pub mod Entries

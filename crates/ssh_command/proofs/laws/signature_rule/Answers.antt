@@ -1,5 +1,0 @@
-use Rattle.ssh_command.proofs.DigestLemmas.{digest_answers}
-use Rattle.ssh_command.proofs.laws.signature_rule.Goals as goal
-
-pub returns : goal.returns
-returns c v message namespace vouched = digest_answers v message namespace vouched

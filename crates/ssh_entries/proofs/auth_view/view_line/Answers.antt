@@ -1,0 +1,9 @@
+use Rattle.ssh_entries.proofs.Imports.{arith, sym}
+use Rattle.ssh_entries.proofs.FrontLemmas.{fields-length}
+use Rattle.ssh_entries.proofs.auth_view.view_line.Goals as goal
+
+pub view_entry-requires : goal.view_entry-requires
+view_entry-requires c =
+    let short = fields-length c.args.line.now c.in-Fields.body.now (sym c.in-Fields.ensures) in
+    let room = c.requires in
+    omega arith

@@ -1,2 +1,0 @@
-pub mod ExpiryLemmas
-pub mod MomentLemmas

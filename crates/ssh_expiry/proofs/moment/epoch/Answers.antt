@@ -1,5 +1,0 @@
-use Rattle.ssh_expiry.proofs.MomentLemmas.{epoch-nanos}
-use Rattle.ssh_expiry.proofs.moment.epoch.Goals as goal
-
-pub returns : goal.returns
-returns c = epoch-nanos c.datetime.result c.datetime.ensures.date c.datetime.ensures.time

@@ -1,4 +1,0 @@
-pub mod Expiry
-pub mod CivilFacts
-pub mod Moment
-pub mod Samples

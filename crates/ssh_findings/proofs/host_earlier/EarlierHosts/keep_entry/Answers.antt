@@ -1,0 +1,11 @@
+use Rattle.ssh_findings.proofs.EarlierLemmas.{one_more_authority, one_more_host}
+use Rattle.ssh_findings.proofs.host_earlier.EarlierHosts.keep_entry.Goals as goal
+
+pub returns-then-facts-clause-ok : goal.returns-then-facts-clause-ok
+returns-then-facts-clause-ok c = λ lines s.
+    one_more_authority c.args.self.now c.keep.new.self c.args.line c.args.blob.now c.args.facts.now lines c.if-facts.true c.in_ok-keep.ensures.ok s
+
+pub returns-clause-ok : goal.returns-clause-ok
+returns-clause-ok c = λ lines s.
+    one_more_host c.args.self.now c.keep-2.new.self c.keep_names.new.self c.args.line c.args.blob.now c.args.facts.now lines c.if-facts.false
+    c.in_ok-keep-2.ensures.ok c.in_ok-keep_names.ensures.ok s

@@ -1,0 +1,5 @@
+use Rattle.ssh_findings.proofs.Imports.{decoys_told, hosts_told, spellings_read}
+use Rattle.ssh_findings.proofs.laws.lines_as_told.Goals as goal
+
+pub returns : goal.returns
+returns c = record { decoys = decoys_told; hosts = hosts_told; spellings = spellings_read }

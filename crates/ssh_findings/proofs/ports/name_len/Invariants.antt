@@ -1,7 +1,0 @@
-use Rattle.std.proofs.Common.{◌≡◌, ◌+◌, drop}
-use Rattle.std.specs.List.{prefix_len}
-use Rattle.ssh_findings.specs.OpenSsh.{is_of_name}
-use Rattle.ssh_findings.proofs.ports.name_len.Given as goal
-
-abbrev pub invariant-loop-i : goal.invariant-loop-i
-invariant-loop-i l = prefix_len is_of_name l.text ≡ l.i + prefix_len is_of_name (drop l.i l.text)

@@ -1,0 +1,133 @@
+//! The hash chains below `ByteMap`, and the lowest line number that is stored for a text or for the
+//! keys of a name.
+
+ghost use Rattle.std.specs.Prelude.{◌≡◌, ◌≤◌, length, ◌+◌, OnErr, OnOk};
+ghost use Rattle.ssh_findings.specs.Number.{number};
+ghost use Rattle.ssh_findings.specs.Rows.{LeadBack, LeadToLasts};
+
+use std::alloc::{AllocError, Global};
+use std::hash::{FoldHasher, Hasher};
+
+/// The 64-bit hash of a text.
+pub(crate) fn number(text: &[u8]) -> u64
+    ensures { result ≡ number text.now }
+{
+    let mut hasher = FoldHasher::default();
+    hasher.write(text);
+    hasher.finish()
+}
+
+/// A hash, and one more than the place of the previous hash in its row, or 0.
+#[derive(Clone, Copy, Debug)]
+struct Link {
+    number: u64,
+    before: usize,
+}
+
+/// A chained table of hashes: each has its place in the order of insertion. Its row is the hash
+/// modulo the number of rows.
+#[derive(Debug, Drop)]
+pub(crate) struct Table {
+    /// For each row, one more than the place of its last hash, or 0.
+    lasts: Vec<usize>,
+    links: Vec<Link>,
+    ghost room: { length links.items ≤ length lasts.items },
+    ghost rows: { LeadToLasts lasts.items links.items },
+    ghost back: { LeadBack (length lasts.items) links.items },
+}
+
+impl Table {
+    ghost use Rattle.std.specs.Prelude.{◌≡◌, ◌<◌, ◌%◌, ◌++◌, ◌∷◌, [], IfOk, OnErr, OnOk, slice_index};
+    ghost use Rattle.ssh_findings.specs.Rows.{IsLast};
+    ghost use Rattle.ssh_findings.specs.Tables.{numbers_of, rows_of};
+
+    /// An empty table. Does not allocate.
+    pub(crate) fn new(alloc: Global) -> Table
+        ensures { numbers_of result ≡ [] }
+    {
+        Table {
+            lasts: Vec::new(alloc),
+            links: Vec::new(alloc),
+        }
+    }
+
+    /// The hash at a place.
+    pub(crate) fn number(&self, place: usize) -> u64
+        requires { place < length (numbers_of self.now) }
+        ensures { result ≡ slice_index (numbers_of self.now) place }
+    {
+        self.links[place].number
+    }
+
+    /// One more than the place of the last hash in the row of this hash, or 0.
+    pub(crate) fn last(&self, number: u64) -> usize
+        ensures { IsLast (rows_of self.now) (numbers_of self.now) (number % rows_of self.now)
+            (length (numbers_of self.now)) result }
+    {
+        if self.lasts.is_empty() {
+            return 0;
+        }
+        self.lasts[number as usize % self.lasts.len()]
+    }
+
+    /// One more than the place of the previous hash in the row of this place, or 0.
+    pub(crate) fn before(&self, place: usize) -> usize
+        requires { place < length (numbers_of self.now) }
+        ensures { IsLast (rows_of self.now) (numbers_of self.now)
+            (slice_index (numbers_of self.now) place % rows_of self.now) place result }
+    {
+        self.links[place].before
+    }
+
+    /// Appends a hash to a table with more rows than hashes. If allocation fails, nothing is
+    /// appended.
+    fn link(&mut self, number: u64) -> Result<(), AllocError>
+        requires { length (numbers_of self.old) < rows_of self.old }
+        ensures ok { OnOk result (numbers_of self.new ≡ numbers_of self.old ++ number ∷ []) }
+        ensures rows { rows_of self.new ≡ rows_of self.old }
+        ensures err { OnErr result (numbers_of self.new ≡ numbers_of self.old) }
+    {
+        let row = number as usize % self.lasts.len();
+        let before = self.lasts[row];
+        self.links.push(Link { number, before })?;
+        self.lasts[row] = self.links.len();
+        Ok(())
+    }
+
+    /// An empty table with this many rows.
+    fn with_rows(alloc: Global, rows: usize) -> Result<Table, AllocError>
+        ensures numbers { IfOk result (λ table. numbers_of table ≡ []) }
+        ensures rows { IfOk result (λ table. rows_of table ≡ rows) }
+    {
+        let mut lasts = Vec::new(alloc);
+        lasts.resize(rows, 0)?;
+        let links = Vec::new(alloc);
+        Ok(Table { lasts, links })
+    }
+
+    /// A copy of the table with this many rows.
+    fn in_rows(&self, alloc: Global, rows: usize) -> Result<Table, AllocError>
+        requires { rows_of self.now ≤ rows }
+        ensures numbers { IfOk result (λ table. numbers_of table ≡ numbers_of self.now) }
+        ensures rows { IfOk result (λ table. rows_of table ≡ rows) }
+    {
+        let mut table = Table::with_rows(alloc, rows)?;
+        for link in &self.links {
+            table.link(link.number)?;
+        }
+        Ok(table)
+    }
+
+    /// Appends a hash, and doubles the rows where there are as many hashes. If allocation fails,
+    /// nothing is appended.
+    pub(crate) fn push(&mut self, alloc: Global, number: u64) -> Result<(), AllocError>
+        ensures ok { OnOk result (numbers_of self.new ≡ numbers_of self.old ++ number ∷ []) }
+        ensures err { OnErr result (numbers_of self.new ≡ numbers_of self.old) }
+    {
+        let rows = self.lasts.len();
+        if self.links.len() == rows {
+            *self = self.in_rows(alloc, rows.saturating_mul(2).max(8))?;
+        }
+        self.link(number)
+    }
+}

@@ -1,2 +1,0 @@
-mod LeastLemmas
-mod StandsLemmas

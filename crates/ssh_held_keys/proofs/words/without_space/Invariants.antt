@@ -1,6 +1,0 @@
-use Rattle.std.proofs.Common.{◌≡◌, ◌++◌, drop, filter}
-use Rattle.ssh_held_keys.specs.OpenSshWords.{is_no_space}
-use Rattle.ssh_held_keys.proofs.words.without_space.Given as goal
-
-abbrev pub invariant-loop-i : goal.invariant-loop-i
-invariant-loop-i l = l.kept.items ++ filter is_no_space (drop l.i l.word) ≡ filter is_no_space l.word

@@ -1,5 +1,0 @@
-use Rattle.ssh_inputs.specs.Samples.{vouch_files_read, vouch_files_refused}
-use Rattle.ssh_inputs.proofs.samples.vouch_files_as_read.Goals as goal
-
-pub returns : goal.returns
-returns c = record { read = vouch_files_read; refused = vouch_files_refused }

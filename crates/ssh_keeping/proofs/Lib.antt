@@ -1,4 +1,0 @@
-pub mod ListLemmas
-pub mod HashedFactsLemmas
-pub mod GrantLemmas
-pub mod RewritingLemmas

@@ -1,0 +1,4 @@
+pub mod Grants
+pub mod Listing
+pub mod HostListing
+pub mod HostSpelling

@@ -1,6 +1,0 @@
-pub mod ByteLemmas
-pub mod DecodedBytes
-pub mod FieldLemmas
-pub mod HmacLemmas
-pub mod ListLemmas
-pub mod HashedLemmas

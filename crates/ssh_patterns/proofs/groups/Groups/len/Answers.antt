@@ -1,6 +1,0 @@
-use Rattle.std.proofs.Common.{sym}
-use Rattle.ssh_patterns.proofs.GroupLemmas.{length-groups_in}
-use Rattle.ssh_patterns.proofs.groups.Groups.len.Goals as goal
-
-pub returns-clause-count : goal.returns-clause-count
-returns-clause-count c = rw (← c.self.view_is) (sym (length-groups_in c.self.inside.count c.self.inside.number))

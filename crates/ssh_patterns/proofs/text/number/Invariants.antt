@@ -1,9 +1,0 @@
-use Rattle.std.proofs.Common.{◌≡◌, ◌<◌, drop}
-use Rattle.ssh_patterns.specs.Digits.{number_in_radix, below}
-use Rattle.ssh_patterns.proofs.DigitLemmas.{number_after}
-use Rattle.ssh_patterns.proofs.text.number.Given as goal
-
-abbrev pub invariant-loop-byte : goal.invariant-loop-byte
-invariant-loop-byte l =
-    (l.number < l.limit)
-    × (below l.limit (number_after l.radix l.number (drop l.byte-index l.text)) ≡ below l.limit (number_in_radix l.radix l.text))

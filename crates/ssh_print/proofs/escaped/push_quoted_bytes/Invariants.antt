@@ -1,0 +1,5 @@
+use Rattle.ssh_print.proofs.Imports.{◌≡◌, ◌++◌, take, flat_map, quoted_byte}
+use Rattle.ssh_print.proofs.escaped.push_quoted_bytes.Given as goal
+
+abbrev pub invariant-loop-byte : goal.invariant-loop-byte
+invariant-loop-byte l = l.out.items ≡ l.fn.out.items ++ flat_map quoted_byte (take l.byte-index l.text)

@@ -1,0 +1,8 @@
+use Rattle.ssh_print.proofs.Imports.{◌≡◌, ◌++◌, ◌≤◌, length, lines_of, numbered, known_possible_lines}
+use Rattle.ssh_print.proofs.known_possible.known_possible_lines.Given as goal
+
+abbrev pub invariant-loop-number : goal.invariant-loop-number
+invariant-loop-number l =
+    (goal.iterator-loop-number).can_next l.number-iterator × (goal.iterator-loop-number).is_finite l.number-iterator
+    × (l.found.items ++ known_possible_lines l.blob (numbered (l.number-iterator).0 (lines_of (l.number-iterator).1)) ≡ known_possible_lines l.blob (numbered 1 (lines_of l.file)))
+    × (length l.found.items ≤ 101)

@@ -1,0 +1,257 @@
+//! The printed answer of one trust file to `admits` or `trusts`.
+
+ghost use Rattle.std.specs.Prelude.{◌≡◌, ◌++◌, IfOk, OnOk};
+ghost use Rattle.std.specs.List.{flat_map};
+ghost use Rattle.ssh_print.specs.AnswerText.{answer_text, decision_lines, denied_line, denies, fault_line, fingerprint_line, good_signatures, granted_line, grants, passed_line, reason_sentence, sentence, sought_key, sought_line, owner_word};
+
+use crate::codes::{cause_code, cause_codes, fault_codes, line_code, reason_code, reason_codes};
+use crate::decision_text::rights_lines;
+use crate::explaining::row_of;
+use crate::text::{push_escaped, push_number};
+use sha2::{Digest, Sha256};
+use ssh_keys::digest_text;
+use ssh_offers::{AuditError, Signed};
+use ssh_rules::Reason;
+use ssh_trust::{Cause, Decision};
+use std::alloc::{AllocError, Global};
+
+/// Whose key the question is about.
+#[derive(Clone, Copy, Debug, PartialEq, Eq)]
+pub enum Subject {
+    /// A client's key, looked for in an authorized_keys file.
+    Client,
+    /// A host's key, looked for in a known_hosts file.
+    Host,
+}
+
+/// The indentation of all lines but the first.
+const INDENT: &[u8] = b"    ";
+
+fn grants(who: Subject) -> &'static [u8]
+    ensures { result.now ≡ grants who }
+{
+    match who {
+        Subject::Client => b"admits",
+        Subject::Host => b"trusts",
+    }
+}
+
+fn denies(who: Subject) -> &'static [u8]
+    ensures { result.now ≡ denies who }
+{
+    match who {
+        Subject::Client => b"does not admit",
+        Subject::Host => b"does not trust",
+    }
+}
+
+fn owner_word(who: Subject) -> &'static [u8]
+    ensures { result.now ≡ owner_word who }
+{
+    match who {
+        Subject::Client => b"client",
+        Subject::Host => b"host",
+    }
+}
+
+/// For a certificate the signature of its signer has to be good too.
+fn good_signatures(evidence: &[Signed]) -> &'static [u8]
+    ensures { result.now ≡ good_signatures evidence.now }
+{
+    match evidence {
+        [_, _, ..] => b"'s and the signer's signatures are good",
+        _ => b"'s signature is good",
+    }
+}
+
+/// The sentence that the table has for a code; empty if it has none.
+fn sentence(code: &str) -> &'static str
+    ensures { result.now ≡ sentence code.now }
+{
+    match row_of(code) {
+        Some(row) => row.sentence,
+        None => "",
+    }
+}
+
+/// The sentence for a reason. For a line that cannot be read it is that of the fault on the line.
+fn reason_sentence(reason: &Reason) -> &'static str
+    ensures { result.now ≡ reason_sentence reason.now }
+{
+    match reason {
+        Reason::Unreadable(cause) => sentence(line_code(*cause)),
+        other => sentence(reason_code(other)),
+    }
+}
+
+fn push_passed_line(
+    alloc: Global,
+    out: &mut Vec<u8>,
+    number: u64,
+    reason: &Reason,
+) -> Result<(), AllocError>
+    ensures { OnOk result (out.new.items ≡ out.old.items ++ passed_line (number, reason.now)) }
+{
+    out.extend_from_slice(INDENT)?;
+    push_number(alloc, out, number)?;
+    let codes = reason_codes(alloc, reason)?;
+    out.extend_from_slice(&codes)?;
+    out.extend_from_slice(b": ")?;
+    out.extend_from_slice(reason_sentence(reason).as_bytes())?;
+    out.push(b'\n')?;
+    Ok(())
+}
+
+fn push_passed_lines(
+    alloc: Global,
+    out: &mut Vec<u8>,
+    reasons: &[(u64, Reason)],
+) -> Result<(), AllocError>
+    ensures { OnOk result (out.new.items ≡ out.old.items ++ flat_map passed_line reasons.now) }
+{
+    for reason in reasons {
+        push_passed_line(alloc, out, reason.0, &reason.1)?;
+    }
+    Ok(())
+}
+
+/// The blob of the key that a line must hold. For a certificate it is its signer's, which comes
+/// second in the evidence.
+fn sought_key(evidence: &[Signed]) -> &[u8]
+    ensures { result.now ≡ sought_key evidence.now }
+{
+    match evidence {
+        [] => &[],
+        [key] => key.key.as_slice(),
+        [_, signer, ..] => signer.key.as_slice(),
+    }
+}
+
+/// The line with the fingerprint of the key that was looked for.
+fn push_fingerprint_line(alloc: Global, out: &mut Vec<u8>, key: &[u8]) -> Result<(), AllocError>
+    ensures { OnOk result (out.new.items ≡ out.old.items ++ fingerprint_line key.now) }
+{
+    let digest = Sha256::digest(key);
+    let text = digest_text(alloc, &digest)?;
+    out.extend_from_slice(INDENT)?;
+    out.extend_from_slice(b"looked for SHA256:")?;
+    out.extend_from_slice(&text)?;
+    out.push(b'\n')?;
+    Ok(())
+}
+
+fn push_sought_line(
+    alloc: Global,
+    out: &mut Vec<u8>,
+    why: Cause,
+    evidence: &[Signed],
+) -> Result<(), AllocError>
+    ensures { OnOk result (out.new.items ≡ out.old.items ++ sought_line why evidence.now) }
+{
+    match why {
+        Cause::NoLine => push_fingerprint_line(alloc, out, sought_key(evidence)),
+        _ => Ok(()),
+    }
+}
+
+fn push_granted_line(
+    alloc: Global,
+    out: &mut Vec<u8>,
+    who: Subject,
+    line: u64,
+    evidence: &[Signed],
+) -> Result<(), AllocError>
+    ensures { OnOk result (out.new.items ≡ out.old.items ++ granted_line who line evidence.now) }
+{
+    out.extend_from_slice(grants(who))?;
+    out.extend_from_slice(b" by line ")?;
+    push_number(alloc, out, line)?;
+    out.extend_from_slice(b", if the ")?;
+    out.extend_from_slice(owner_word(who))?;
+    out.extend_from_slice(good_signatures(evidence))?;
+    out.push(b'\n')?;
+    Ok(())
+}
+
+fn push_denied_line(
+    alloc: Global,
+    out: &mut Vec<u8>,
+    who: Subject,
+    why: Cause,
+) -> Result<(), AllocError>
+    ensures { OnOk result (out.new.items ≡ out.old.items ++ denied_line who why) }
+{
+    out.extend_from_slice(denies(who))?;
+    out.push(b':')?;
+    let codes = cause_codes(alloc, why)?;
+    out.extend_from_slice(&codes)?;
+    out.extend_from_slice(b": ")?;
+    out.extend_from_slice(sentence(cause_code(why)).as_bytes())?;
+    out.push(b'\n')?;
+    Ok(())
+}
+
+fn push_decision_lines(
+    alloc: Global,
+    out: &mut Vec<u8>,
+    who: Subject,
+    decision: &Decision,
+) -> Result<(), AllocError>
+    ensures { OnOk result (out.new.items ≡ out.old.items ++ decision_lines who decision.now) }
+{
+    match decision {
+        Decision::Granted {
+            line,
+            rights,
+            reasons,
+            evidence,
+        } => {
+            push_granted_line(alloc, out, who, *line, evidence.as_slice())?;
+            let lines = rights_lines(alloc, INDENT, rights)?;
+            out.extend_from_slice(&lines)?;
+            push_passed_lines(alloc, out, reasons.as_slice())?;
+        }
+        Decision::Denied {
+            why,
+            reasons,
+            evidence,
+        } => {
+            push_denied_line(alloc, out, who, *why)?;
+            push_passed_lines(alloc, out, reasons.as_slice())?;
+            push_sought_line(alloc, out, *why, evidence.as_slice())?;
+        }
+    }
+    Ok(())
+}
+
+fn push_fault_line(alloc: Global, out: &mut Vec<u8>, error: AuditError) -> Result<(), AllocError>
+    ensures { OnOk result (out.new.items ≡ out.old.items ++ fault_line error) }
+{
+    out.extend_from_slice(b"fault")?;
+    let codes = fault_codes(alloc, error)?;
+    out.extend_from_slice(&codes)?;
+    out.push(b'\n')?;
+    Ok(())
+}
+
+/// The printed answer of the trust file with this name, one LF after each line. It has the line
+/// that admits the key and its rights, or why the key is denied. Then come the first 100 lines that
+/// hold the key or cannot be read and were passed over, with the reasons. A fault is printed in
+/// place of an answer.
+pub fn answer_text(
+    alloc: Global,
+    who: Subject,
+    name: &[u8],
+    answer: &Result<Decision, AuditError>,
+) -> Result<Vec<u8>, AllocError>
+    ensures { IfOk result (λ text. text.items ≡ answer_text who name.now answer.now) }
+{
+    let mut out = Vec::new(alloc);
+    push_escaped(&mut out, name)?;
+    out.extend_from_slice(b": ")?;
+    match answer {
+        Ok(decision) => push_decision_lines(alloc, &mut out, who, decision)?,
+        Err(error) => push_fault_line(alloc, &mut out, *error)?,
+    }
+    Ok(out)
+}

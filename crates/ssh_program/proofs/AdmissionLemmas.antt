@@ -1,0 +1,201 @@
+-- From what a trust file decides to what a list of them tells, and from that to what is answered about a key.
+use Rattle.ssh_program.proofs.Imports.{ReadToEnd, end-same, left-end, no-end, ◌≡◌, ◌∙◌, ◌<◌, ℕ, false, List, length, Option, Some, None, Result, Ok, Err, refl, sym, ap, subst, inl, inr, IfOk, lt-ltb, IfTells, SourceState, bytes_at, most_failures, after_whole, top_line, FailsLoad, IsLeft, IsTooLong, KeepsOthers, NoReadFailed, within_limit, ReadError, AuditError, Offer, Signature, WrongAlgorithm, WeakSignature, CertSignature, Address, FileTooLong, Memory, Read, Failed, Body, Salts, Signed, GivesOrMemory, OfClaim, RefusesAs, Decision, refused_response, ShowError, Offered, shown_offer_in, IsFaultOfShow, show_fault_response, Finds, line-offered, Subject, TellsFile, TellsFiles, KeyAsking, Otherness, IsToldUnread, beside_answer, told_by, told_over, unread_fault, AsksBy, AsksFiles, AsksKey, AsksOffer, ToldLines, told_both, nothing_told, offer_or_fault, or_shown_fault, telling, told_of, told_response, Deciding, answer_by, IsFaultOf, is_memory, Alike, file-alike, keeps-same, left-none, none-failed, one-failed, over_limit, read-all, file_limit, nothing_other}
+use Rattle.ssh_files.specs.declared.read.ReadError.TheVariants as fault
+use Rattle.ssh_print.specs.Responses.{Response as Shown}
+use Rattle.ssh_print.specs.declared.showing.ShowError.TheVariants as show
+
+-- ---- one file
+
+answer-given : (given result : Result Decision AuditError) → is_memory result ≡ false → GivesOrMemory given result → given ≡ result
+answer-given given (Ok x) spared h = h
+answer-given given (Err (Offer x)) spared h = h
+answer-given given (Err (Signature x)) spared h = h
+answer-given given (Err WrongAlgorithm) spared h = h
+answer-given given (Err WeakSignature) spared h = h
+answer-given given (Err CertSignature) spared h = h
+answer-given given (Err Address) spared h = h
+answer-given given (Err FileTooLong) spared h = h
+answer-given given (Err Memory) spared h = cc
+answer-given given (Err Read) spared h = h
+answer-given given (Err Failed) spared h = h
+answer-given given (Err (Body x)) spared h = h
+answer-given given (Err Salts) spared h = h
+
+-- what is told by an answer that is given
+pub bytes_told : (who : Subject) (by : Deciding) (beside : Otherness) (evidence : List Signed) (name file : List ℕ) (answer : Result Decision AuditError) (told : ToldLines)
+    → is_memory answer ≡ false → GivesOrMemory (answer_by by file evidence) answer → told ≡ told_of who name (beside_answer beside file answer) answer
+    → told ≡ told_by who by beside evidence name file
+bytes_told who by beside evidence name file answer told spared given is =
+    is ∙ ap (λ (a : Result Decision AuditError). told_of who name (beside_answer beside file a) a) (sym (answer-given (answer_by by file evidence) answer spared given))
+
+-- a file that was read
+pub file_told : {R E : Type 0} (view : R → ToldLines) (who : Subject) (by : Deciding) (beside : Otherness) (evidence : List Signed) (name file bytes : List ℕ) (o t : Option SourceState) (res : Result R E) → bytes ≡ file
+    → IfTells o (λ s. (within_limit (bytes_at s name) ≡ Some file) × IsLeft s (after_whole s name) t) → IfTells o (λ s. KeepsOthers name s t)
+    → IfOk res (λ r. view r ≡ told_by who by beside evidence name bytes)
+    → IfTells o (λ s. IfOk res (λ r. TellsFile (telling who by beside evidence) name s t (view r)))
+file_told view who by beside evidence name file bytes None t res is loads keeps h = tt
+file_told view who by beside evidence name file bytes (Some s) t (Err e) is loads keeps h = λ counts. tt
+file_told view who by beside evidence name file bytes (Some s) t (Ok r) is loads keeps h = λ counts.
+    let load = loads counts in (
+      keeps counts,
+      inr (
+        left-none s (after_whole s name) t load.1,
+        left-end name s t load.1,
+        h ∙ (ap (told_by who by beside evidence name) is ∙ ap (told_over who by beside evidence name) (sym (read-all (bytes_at s name) file load.0))),
+      ),
+    )
+
+told-missing : (who : Subject) (by : Deciding) (beside : Otherness) (evidence : List Signed) (name : List ℕ) → told_over who by beside evidence name None ≡ told_of who name nothing_other (Err (unread_fault by fault.Missing))
+told-missing who (Ok decision) beside evidence name = refl
+told-missing who (Err e) beside evidence name = refl
+
+told-long : (who : Subject) (by : Deciding) (beside : Otherness) (evidence : List Signed) (name : List ℕ) (bytes : Option (List ℕ)) → IsTooLong bytes
+    → told_over who by beside evidence name bytes ≡ told_of who name nothing_other (Err (unread_fault by fault.TooLong))
+told-long who by beside evidence name None h = absurd h
+told-long who (Ok decision) beside evidence name (Some bytes) h = rw (lt-ltb file_limit (length bytes) h) refl
+told-long who (Err e) beside evidence name (Some bytes) h = refl
+
+unread-by : (who : Subject) (by : Deciding) (beside : Otherness) (evidence : List Signed) (name : List ℕ) (s : SourceState) (t : Option SourceState) (e : ReadError) (told : ToldLines) → FailsLoad name (bytes_at s name) s t e
+    → KeepsOthers name s t → IsToldUnread who by name e told → TellsFile (telling who by beside evidence) name s t told
+unread-by who by beside evidence name s t fault.Missing told fails keeps is =
+    (keeps, inr (fails.1, no-end name s t keeps (ap within_limit fails.0), is ∙ (sym (told-missing who by beside evidence name) ∙ sym (ap (told_over who by beside evidence name) fails.0))))
+unread-by who by beside evidence name s t fault.TooLong told fails keeps is = (keeps, inr (fails.1, no-end name s t keeps (over_limit (bytes_at s name) fails.0), is ∙ sym (told-long who by beside evidence name (bytes_at s name) fails.0)))
+unread-by who by beside evidence name s t fault.Failed told fails keeps is = (keeps, inl (fails, is))
+unread-by who by beside evidence name s t fault.Memory told fails keeps is = absurd is
+
+-- one whose bytes could not be had
+pub file_unread : {R E : Type 0} (view : R → ToldLines) (who : Subject) (by : Deciding) (beside : Otherness) (evidence : List Signed) (name : List ℕ) (o t : Option SourceState) (e : ReadError) (res : Result R E)
+    → IfTells o (λ s. FailsLoad name (bytes_at s name) s t e) → IfTells o (λ s. KeepsOthers name s t) → IfOk res (λ r. IsToldUnread who by name e (view r))
+    → IfTells o (λ s. IfOk res (λ r. TellsFile (telling who by beside evidence) name s t (view r)))
+file_unread view who by beside evidence name None t e res fails keeps is = tt
+file_unread view who by beside evidence name (Some s) t e (Err x) fails keeps is = λ counts. tt
+file_unread view who by beside evidence name (Some s) t e (Ok r) fails keeps is = λ counts. unread-by who by beside evidence name s t e (view r) (fails counts) (keeps counts) is
+
+-- ---- what is asked of the files
+
+given-same : (e given : List Signed) → GivesOrMemory (Ok e) (Ok given) → given ≡ e
+given-same e given h = (let same : Ok e ≡ Ok given = h in cc)
+
+asks-told : (who : Subject) (by : Deciding) (beside : Otherness) (rests : Result (List Signed) AuditError) (evidence : List Signed) (names : List (List ℕ)) (s : SourceState) (t : Option SourceState) (told : ToldLines) (r : Shown)
+    → RefusesAs rests (Ok evidence) → OfClaim rests (λ e. GivesOrMemory (Ok e) (Ok evidence)) → r ≡ told_response told
+    → TellsFiles told_both (telling who by beside evidence) nothing_told names s t told → AsksBy who by beside rests names s t r
+asks-told who by beside (Err e) evidence names s t told r refused given is h = cc
+asks-told who by beside (Ok e) evidence names s t told r refused given is h =
+    (told, subst (λ (x : List Signed). TellsFiles told_both (telling who by beside x) nothing_told names s t told) (given-same e evidence given) h, is)
+
+pub asks_told : {R : Type 0} (view : R → Shown) (who : Subject) (by : Deciding) (beside : Otherness) (rests : Result (List Signed) AuditError) (evidence : List Signed) (names : List (List ℕ)) (o t : Option SourceState)
+    (told : ToldLines) (r : R) → RefusesAs rests (Ok evidence) → OfClaim rests (λ e. GivesOrMemory (Ok e) (Ok evidence)) → view r ≡ told_response told
+    → IfTells o (λ s. TellsFiles told_both (telling who by beside evidence) nothing_told names s t told) → IfTells o (λ s. AsksBy who by beside rests names s t (view r))
+asks_told view who by beside rests evidence names None t told r refused given is h = tt
+asks_told view who by beside rests evidence names (Some s) t told r refused given is h = λ counts. asks-told who by beside rests evidence names s t told (view r) refused given is (h counts)
+
+err-same : {A B : Type 0} (a b : B) → ◌≡◌ {A = Result A B} (Err a) (Err b) → a ≡ b
+err-same a b h = cc
+
+never-refused : (e : List Signed) (error : AuditError) → is_memory {A = List Signed} (Err error) ≡ false → GivesOrMemory (Ok e) (Err error) → ⊥
+never-refused e (Offer x) spared h = cc
+never-refused e (Signature x) spared h = cc
+never-refused e WrongAlgorithm spared h = cc
+never-refused e WeakSignature spared h = cc
+never-refused e CertSignature spared h = cc
+never-refused e Address spared h = cc
+never-refused e FileTooLong spared h = cc
+never-refused e Memory spared h = cc
+never-refused e Read spared h = cc
+never-refused e Failed spared h = cc
+never-refused e (Body x) spared h = cc
+never-refused e Salts spared h = cc
+
+asks-refused : (who : Subject) (by : Deciding) (beside : Otherness) (rests : Result (List Signed) AuditError) (error : AuditError) (names : List (List ℕ)) (s : SourceState) (r : Shown)
+    → RefusesAs {A = List Signed} rests (Err error) → OfClaim rests (λ e. GivesOrMemory (Ok e) (Err error)) → is_memory {A = List Signed} (Err error) ≡ false → r ≡ refused_response error
+    → AsksBy who by beside rests names s (Some s) r
+asks-refused who by beside (Err e) error names s r refused given spared is = (refl, is ∙ ap refused_response (err-same error e refused))
+asks-refused who by beside (Ok e) error names s r refused given spared is = absurd (never-refused e error spared given)
+
+pub asks_refused : {R E : Type 0} (view : R → Shown) (who : Subject) (by : Deciding) (beside : Otherness) (rests : Result (List Signed) AuditError) (error : AuditError) (names : List (List ℕ)) (o : Option SourceState) (res : Result R E)
+    → RefusesAs {A = List Signed} rests (Err error) → OfClaim rests (λ e. GivesOrMemory (Ok e) (Err error)) → is_memory {A = List Signed} (Err error) ≡ false → IfOk res (λ r. view r ≡ refused_response error)
+    → IfTells o (λ s. IfOk res (λ r. AsksBy who by beside rests names s o (view r)))
+asks_refused view who by beside rests error names None res refused given spared is = tt
+asks_refused view who by beside rests error names (Some s) (Err x) refused given spared is = λ counts. tt
+asks_refused view who by beside rests error names (Some s) (Ok r) refused given spared is = λ counts. asks-refused who by beside rests error names s (view r) refused given spared is
+
+-- ---- the key's file
+
+pub offer_asked : {R E : Type 0} (view : R → Shown) (asks : Offered → KeyAsking) (file : List ℕ) (offer : Offered) (names : List (List ℕ)) (o t : Option SourceState) (res : Result R E) → shown_offer_in file ≡ Ok offer
+    → IfTells o (λ s. IfOk res (λ r. AsksFiles (asks offer) names s t (view r)))
+    → IfTells o (λ s. IfOk res (λ r. AsksOffer asks (or_shown_fault (shown_offer_in file)) names s t (view r)))
+offer_asked view asks file offer names o t res is h =
+    subst (λ (x : Result Offered ShowError). IfTells o (λ s. IfOk res (λ r. AsksOffer asks (or_shown_fault x) names s t (view r)))) (sym is) h
+
+unoffered : {V : Type 0} (seen : V → Offered) (read : Result Offered ShowError) (error : ShowError) (r : Shown) → Finds seen read (Err error) → IsFaultOfShow error r
+    → (read ≡ Err error) × (r ≡ show_fault_response error)
+unoffered seen read (show.Line cause) r finds is = (finds, is)
+unoffered seen read (show.Cert e) r finds is = (finds, is)
+unoffered seen read (show.Body e) r finds is = (finds, is)
+unoffered seen read show.Memory r finds is = absurd is
+
+unasked : {V : Type 0} (seen : V → Offered) (asks : Offered → KeyAsking) (file : List ℕ) (error : ShowError) (names : List (List ℕ)) (s : SourceState) (r : Shown) → Finds seen (shown_offer_in file) (Err error) → IsFaultOfShow error r
+    → AsksOffer asks (or_shown_fault (shown_offer_in file)) names s (Some s) r
+unasked seen asks file error names s r finds is =
+    let none = unoffered seen (shown_offer_in file) error r finds is in
+    subst (λ (x : Result Offered ShowError). AsksOffer asks (or_shown_fault x) names s (Some s) r) (sym none.0) (refl, none.1)
+
+pub offer_unasked : {R E V : Type 0} (view : R → Shown) (seen : V → Offered) (asks : Offered → KeyAsking) (file : List ℕ) (error : ShowError) (names : List (List ℕ)) (o : Option SourceState) (res : Result R E)
+    → Finds seen (shown_offer_in file) (Err error) → IfOk res (λ r. IsFaultOfShow error (view r))
+    → IfTells o (λ s. IfOk res (λ r. AsksOffer asks (or_shown_fault (shown_offer_in file)) names s o (view r)))
+offer_unasked view seen asks file error names None res finds is = tt
+offer_unasked view seen asks file error names (Some s) (Err x) finds is = λ counts. tt
+offer_unasked view seen asks file error names (Some s) (Ok r) finds is = λ counts. unasked seen asks file error names s (view r) finds is
+
+key-by : (asks : Offered → KeyAsking) (key : List ℕ) (names : List (List ℕ)) (s m : SourceState) (t : Option SourceState) (o : Option (List ℕ)) (r : Shown) → within_limit (bytes_at s key) ≡ o
+    → KeepsOthers key s (Some m) → NoReadFailed s (Some m) → ReadToEnd key s (Some m) → AsksOffer asks (offer_or_fault key o) names m t r → AsksKey asks key names s t r
+key-by asks key names s m t o r is keeps none end h =
+    inr (m, keeps, none, end, subst (λ (x : Option (List ℕ)). AsksOffer asks (offer_or_fault key x) names m t r) (sym is) h)
+
+-- a key's file of which the first line was read
+pub key_asked : {R E : Type 0} (view : R → Shown) (asks : Offered → KeyAsking) (key line read : List ℕ) (names : List (List ℕ)) (o u t : Option SourceState) (res : Result R E) → read ≡ line
+    → IfTells o (λ s. ((file : List ℕ) × (within_limit (bytes_at s key) ≡ Some file) × (line ≡ top_line file)) × IsLeft s (after_whole s key) u)
+    → IfTells o (λ s. KeepsOthers key s u)
+    → IfTells u (λ m. IfOk res (λ r. AsksOffer asks (or_shown_fault (shown_offer_in read)) names m t (view r)))
+    → IfTells o (λ s. IfOk res (λ r. AsksKey asks key names s t (view r)))
+key_asked view asks key line read names None u t res is loads keeps h = tt
+key_asked view asks key line read names (Some s) None t res is loads keeps h = λ counts. absurd ((loads counts).1)
+key_asked view asks key line read names (Some s) (Some m) t (Err x) is loads keeps h = λ counts. tt
+key_asked view asks key line read names (Some s) (Some m) t (Ok r) is loads keeps h = λ counts.
+    let load = loads counts in
+    let file = load.0.0 in
+    let none : m.failures ≡ s.failures = left-none s (after_whole s key) (Some m) load.1 in
+    let tells : m.failures < most_failures = subst (λ (n : ℕ). n < most_failures) (sym none) counts in
+    let same : shown_offer_in read ≡ shown_offer_in file = ap shown_offer_in (is ∙ load.0.2) ∙ line-offered file in
+    key-by asks key names s m t (Some file) (view r) load.0.1 (keeps counts) none (left-end key s (Some m) load.1)
+    (subst (λ (x : Result Offered ShowError). AsksOffer asks (or_shown_fault x) names m t (view r)) same (h tells))
+
+unkeyed : (asks : Offered → KeyAsking) (key : List ℕ) (names : List (List ℕ)) (s : SourceState) (t : Option SourceState) (e : ReadError) (r : Shown) → FailsLoad key (bytes_at s key) s t e → KeepsOthers key s t
+    → IsFaultOf key e r → AsksKey asks key names s t r
+unkeyed asks key names s None fault.Missing r fails keeps is = absurd keeps
+unkeyed asks key names s None fault.TooLong r fails keeps is = absurd keeps
+unkeyed asks key names s (Some m) fault.Missing r fails keeps is = key-by asks key names s m (Some m) None r (ap within_limit fails.0) keeps fails.1 (no-end key s (Some m) keeps (ap within_limit fails.0)) (refl, is)
+unkeyed asks key names s (Some m) fault.TooLong r fails keeps is = key-by asks key names s m (Some m) None r (over_limit (bytes_at s key) fails.0) keeps fails.1 (no-end key s (Some m) keeps (over_limit (bytes_at s key) fails.0)) (refl, is)
+unkeyed asks key names s t fault.Failed r fails keeps is = inl (fails, is)
+unkeyed asks key names s t fault.Memory r fails keeps is = absurd is
+
+-- one whose bytes could not be had
+pub key_unasked : {R E : Type 0} (view : R → Shown) (asks : Offered → KeyAsking) (key : List ℕ) (names : List (List ℕ)) (o t : Option SourceState) (e : ReadError) (res : Result R E)
+    → IfTells o (λ s. FailsLoad key (bytes_at s key) s t e) → IfTells o (λ s. KeepsOthers key s t) → IfOk res (λ r. IsFaultOf key e (view r))
+    → IfTells o (λ s. IfOk res (λ r. AsksKey asks key names s t (view r)))
+key_unasked view asks key names None t e res fails keeps is = tt
+key_unasked view asks key names (Some s) t e (Err x) fails keeps is = λ counts. tt
+key_unasked view asks key names (Some s) t e (Ok r) fails keeps is = λ counts. unkeyed asks key names s t e (view r) (fails counts) (keeps counts) is
+
+-- ---- sources that are alike have the same answers
+
+pub key-same : (asks : Offered → KeyAsking) (key : List ℕ) (names : List (List ℕ)) (a b : SourceState) (u : Option SourceState) (r : Shown) → Alike a b
+    → AsksKey asks key names a u r → AsksKey asks key names b u r
+key-same asks key names a b u r e (inl h) = inl (one-failed a b u key e h.0, h.1)
+key-same asks key names a b u r e (inr (m, keeps, none, end, h)) = inr (
+  m,
+  keeps-same key a b (Some m) e keeps,
+  none-failed b a (Some m) e.failures none,
+  end-same key a b (Some m) e end,
+  subst (λ (o : Option (List ℕ)). AsksOffer asks (offer_or_fault key (within_limit o)) names m u r) (file-alike a b key e) h,
+)

@@ -1,0 +1,38 @@
+pub mod Imports
+mod PartLemmas
+mod DigestLemmas
+mod WrittenText
+mod EvidenceText
+mod VouchingLemmas
+mod SshsigLemmas
+mod EvidenceLemmas
+pub mod GrantingLemmas
+mod RewritingLemmas
+mod HashingLemmas
+mod ShowLemmas
+mod ResponseLemmas
+pub mod GrantedRunLemmas
+mod PlainCommand
+pub mod CommandLineLemmas
+mod SubcommandLemmas
+pub mod AnsweredLemmas
+pub mod SourceLemmas
+pub mod AuditLemmas
+pub mod TextLemmas
+mod ChosenLemmas
+mod OthersLemmas
+mod QuestionLemmas
+mod RestingLemmas
+mod KeptLemmas
+mod LoginLemmas
+mod HostLemmas
+pub mod AdmissionLemmas
+mod KeyLemmas
+mod ExplainLemmas
+mod AnswersQuestionLemmas
+mod DenialLemmas
+mod FileLemmas
+pub mod SpelledLemmas
+pub mod SpelledBytes
+pub mod KeyRunLemmas
+pub mod SignatureRunLemmas

@@ -1,0 +1,10 @@
+use Rattle.ssh_program.proofs.Imports.{length, NoneFailed, TakesUpTo, escaped_text}
+use Rattle.ssh_program.proofs.printing.put_name.Given as goal
+
+abbrev pub invariant-loop-rest : goal.invariant-loop-rest
+invariant-loop-rest g l =
+    TakesUpTo (g.W.Sink.account l.fn.writer) (g.W.Sink.account l.writer) (escaped_text l.fn.name) (escaped_text l.rest)
+    × NoneFailed (g.W.Sink.account l.writer)
+
+abbrev pub decreases-loop-rest : goal.decreases-loop-rest
+decreases-loop-rest g l = length l.rest

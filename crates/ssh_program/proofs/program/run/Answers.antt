@@ -1,0 +1,55 @@
+use Rattle.std.specs.Prelude.{map}
+use Rattle.ssh_program.proofs.GrantedRunLemmas.{host_denied_run, host_granted_run, login_denied_run, login_granted_run}
+use Rattle.ssh_program.proofs.KeyRunLemmas.{client_admitted_run, client_kept_out_run, host_distrusted_run, host_trusted_run}
+use Rattle.ssh_program.proofs.SignatureRunLemmas.{signature_unvouched_run, signature_vouched_run}
+use Rattle.ssh_program.proofs.program.run.Goals as goal
+
+pub returns-clause-login : goal.returns-clause-login
+returns-clause-login g c =
+    login_granted_run (map g.S.AsStr.text c.args.words.now) (g.F.Files.source_state c.args.files.now) (g.F.Files.source_state c.answer.new.files)
+    (g.W.Sink.account c.args.writer.now) (g.W.Sink.account c.answer.new.writer) c.answer.result c.answer.ensures
+
+pub returns-clause-host : goal.returns-clause-host
+returns-clause-host g c =
+    host_granted_run (map g.S.AsStr.text c.args.words.now) (g.F.Files.source_state c.args.files.now) (g.F.Files.source_state c.answer.new.files)
+    (g.W.Sink.account c.args.writer.now) (g.W.Sink.account c.answer.new.writer) c.answer.result c.answer.ensures
+
+pub returns-clause-login_denied : goal.returns-clause-login_denied
+returns-clause-login_denied g c =
+    login_denied_run (map g.S.AsStr.text c.args.words.now) (g.F.Files.source_state c.args.files.now) (g.F.Files.source_state c.answer.new.files)
+    (g.W.Sink.account c.args.writer.now) (g.W.Sink.account c.answer.new.writer) c.answer.result c.answer.ensures
+
+pub returns-clause-host_denied : goal.returns-clause-host_denied
+returns-clause-host_denied g c =
+    host_denied_run (map g.S.AsStr.text c.args.words.now) (g.F.Files.source_state c.args.files.now) (g.F.Files.source_state c.answer.new.files)
+    (g.W.Sink.account c.args.writer.now) (g.W.Sink.account c.answer.new.writer) c.answer.result c.answer.ensures
+
+pub returns-clause-signature : goal.returns-clause-signature
+returns-clause-signature g c =
+    signature_vouched_run (map g.S.AsStr.text c.args.words.now) (g.F.Files.source_state c.args.files.now) (g.F.Files.source_state c.answer.new.files)
+    (g.W.Sink.account c.args.writer.now) (g.W.Sink.account c.answer.new.writer) c.answer.result c.answer.ensures
+
+pub returns-clause-signature_denied : goal.returns-clause-signature_denied
+returns-clause-signature_denied g c =
+    signature_unvouched_run (map g.S.AsStr.text c.args.words.now) (g.F.Files.source_state c.args.files.now) (g.F.Files.source_state c.answer.new.files)
+    (g.W.Sink.account c.args.writer.now) (g.W.Sink.account c.answer.new.writer) c.answer.result c.answer.ensures
+
+pub returns-clause-admits : goal.returns-clause-admits
+returns-clause-admits g c =
+    client_admitted_run (map g.S.AsStr.text c.args.words.now) (g.F.Files.source_state c.args.files.now) (g.F.Files.source_state c.answer.new.files)
+    (g.W.Sink.account c.args.writer.now) (g.W.Sink.account c.answer.new.writer) c.answer.result c.answer.ensures
+
+pub returns-clause-admits_none : goal.returns-clause-admits_none
+returns-clause-admits_none g c =
+    client_kept_out_run (map g.S.AsStr.text c.args.words.now) (g.F.Files.source_state c.args.files.now) (g.F.Files.source_state c.answer.new.files)
+    (g.W.Sink.account c.args.writer.now) (g.W.Sink.account c.answer.new.writer) c.answer.result c.answer.ensures
+
+pub returns-clause-trusts : goal.returns-clause-trusts
+returns-clause-trusts g c =
+    host_trusted_run (map g.S.AsStr.text c.args.words.now) (g.F.Files.source_state c.args.files.now) (g.F.Files.source_state c.answer.new.files)
+    (g.W.Sink.account c.args.writer.now) (g.W.Sink.account c.answer.new.writer) c.answer.result c.answer.ensures
+
+pub returns-clause-trusts_none : goal.returns-clause-trusts_none
+returns-clause-trusts_none g c =
+    host_distrusted_run (map g.S.AsStr.text c.args.words.now) (g.F.Files.source_state c.args.files.now) (g.F.Files.source_state c.answer.new.files)
+    (g.W.Sink.account c.args.writer.now) (g.W.Sink.account c.answer.new.writer) c.answer.result c.answer.ensures

@@ -1,0 +1,17 @@
+use Rattle.ssh_program.proofs.Imports.{ℕ, Ok, map, option_map, rules, plain_zone, response, Zone, rows_in}
+use Rattle.ssh_program.specs.Spelled.{review_spelled}
+use Rattle.ssh_program.proofs.SpelledLemmas.{review_is_spelled, review_responds}
+use Rattle.ssh_program.proofs.AnsweredLemmas.{given_value}
+use Rattle.ssh_program.proofs.review.review_in_zone.Goals as goal
+
+pub returns : goal.returns
+returns g c =
+    let rows = rows_in c.args.words.now in
+    let told = option_map plain_zone c.args.zone in
+    let spelled = review_is_spelled rows told c.in_ok-kind.kind c.in_ok-now.now (plain_zone c.in_ok-zone.zone) c.in_ok-rsa_minimum.rsa_minimum c.in_ok-told.told.items c.in_ok-form.form
+    (map (λ name. name.now) c.in_ok-names.names.now)
+    c.in_ok-kind.ensures c.in_ok-now.ensures (given_value plain_zone Zone c.args.zone c.in_ok-zone.zone c.in_ok-zone.ensures)
+    c.in_ok-rsa_minimum.ensures c.in_ok-told.ensures c.in_ok-form.ensures c.in_ok-names.ensures in
+    review_responds {E = ℕ} response (review_spelled rows told) c.in_ok-kind.kind c.in_ok-form.form _ _ (map (λ name. name.now) c.in_ok-names.names.now)
+    (g.F.Files.source_state c.args.files.now) (g.F.Files.source_state c.review_files.new.files) (Ok c.in_ok-response.response)
+    spelled (search rules) c.in_ok-response.ensures

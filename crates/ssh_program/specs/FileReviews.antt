@@ -1,0 +1,62 @@
+-- The reviews of files, one after the other (this project's rule).
+use Rattle.std.specs.Prelude.{◌≡◌, ◌++◌, ℕ, List, [], Option, Some, None}
+use Rattle.ssh_findings.specs.Asking.{Asking}
+use Rattle.ssh_files.specs.FilesInTurn.{Telling, TellsFiles}
+use Rattle.ssh_files.specs.SourceState.{SourceState}
+use Rattle.ssh_files.specs.declared.read.ReadError.{ReadError}
+use Rattle.ssh_files.specs.declared.read.ReadError.TheVariants as read
+use Rattle.ssh_print.specs.Responses.{Response}
+use Rattle.ssh_review.specs.declared.end.FileFault.TheVariants.{TooLong, Unread}
+use Rattle.ssh_review.specs.declared.end.Total.{Total}
+use Rattle.ssh_review.specs.declared.end.Form.{Form}
+use Rattle.ssh_review.specs.Forms.{total_line}
+use Rattle.ssh_review.specs.Reviews.{Review, auth_review, fault_review}
+use Rattle.ssh_review.specs.HostReviewReviews.{known_review}
+use Rattle.ssh_program.specs.declared.review.ReviewKind.{ReviewKind}
+use Rattle.ssh_program.specs.declared.review.ReviewKind.TheVariants.{Auth, Known}
+use Rattle.ssh_program.specs.declared.review.FileReport.{FileReport}
+use Rattle.ssh_program.specs.Totals.{nothing, total_status, with_review}
+
+-- the output lines of some files, and their total
+pub record Lines : Type 0 where
+  pub total : Total
+  pub text : List ℕ
+
+abbrev pub lines_seen : FileReport → Lines
+lines_seen t = record { total = t.total; text = t.text.items }
+
+abbrev pub no_lines : Lines
+no_lines = record { total = nothing; text = [] }
+
+-- the lines so far, followed by the review of one more file
+abbrev pub with_file : Lines → Review → Lines
+with_file sofar r = record { total = with_review sofar.total r; text = sofar.text ++ r.text }
+
+-- the review of a file of this format, name and bytes
+abbrev pub review_of : ReviewKind → Form → Asking → List ℕ → List ℕ → Review
+review_of Auth form asking name file = auth_review form asking name file
+review_of Known form asking name file = known_review form asking name file
+
+-- the same of the file of this name; a missing file has the fault A9
+abbrev pub review_over : ReviewKind → Form → Asking → List ℕ → Option (List ℕ) → Review
+review_over kind form asking name None = fault_review form name Unread
+review_over kind form asking name (Some file) = review_of kind form asking name file
+
+-- the review of a file whose bytes could not be had, where memory could be allocated
+abbrev pub IsUnreadReview : Form → List ℕ → ReadError → Review → Type 0
+IsUnreadReview form name read.Memory r = ⊥
+IsUnreadReview form name read.TooLong r = r ≡ fault_review form name TooLong
+IsUnreadReview form name read.Missing r = r ≡ fault_review form name Unread
+IsUnreadReview form name read.Failed r = r ≡ fault_review form name Unread
+
+-- a file of which a read fails has the fault A9 too
+abbrev pub telling_review : ReviewKind → Form → Asking → Telling Review
+telling_review kind form asking = record { of_bytes = review_over kind form asking; of_fault = λ name. fault_review form name Unread }
+
+-- the reviews, and the line of their total
+abbrev pub review_response : Form → Lines → Response
+review_response form told = record { status = total_status told.total; text = told.text ++ total_line form told.total }
+
+abbrev pub ReviewsFiles : ReviewKind → Form → Asking → List (List ℕ) → SourceState → Option SourceState → Response → Type 0
+ReviewsFiles kind form asking names s t r =
+    (told : Lines) × TellsFiles with_file (telling_review kind form asking) no_lines names s t told × (r ≡ review_response form told)

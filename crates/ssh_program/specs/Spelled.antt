@@ -1,0 +1,66 @@
+-- The response to `review`, by its options (this project's rule).
+use Rattle.std.specs.Prelude.{◌^◌, ℕ, List, Option, Some, None, Result, Ok, codes, if◌then◌else◌}
+use Rattle.std.specs.Str.{bytes_eq}
+use Rattle.clap.specs.Words.{Row}
+use Rattle.jiff.specs.Types.{TimeZone}
+use Rattle.ssh_findings.specs.Asking.{Asking}
+use Rattle.ssh_findings.specs.Codes.{codes_in, default_codes}
+use Rattle.ssh_files.specs.SourceState.{SourceState}
+use Rattle.ssh_files.specs.Values.{ReadsZone, number_below, zone_text}
+use Rattle.ssh_print.specs.Responses.{Response}
+use Rattle.ssh_review.specs.declared.end.Form.{Form}
+use Rattle.ssh_review.specs.declared.end.Form.TheVariants.{Json, Text}
+use Rattle.ssh_program.specs.declared.review.ReviewKind.{ReviewKind}
+use Rattle.ssh_program.specs.declared.review.ReviewKind.TheVariants.{Auth, Known}
+use Rattle.ssh_program.specs.FileReviews.{ReviewsFiles}
+use Rattle.ssh_wire.specs.Reading.{◌>>=◌}
+use Rattle.ssh_program.specs.declared.args.ArgName.TheVariants as option
+use Rattle.ssh_program.specs.Spelling.{RespondsTo, given, names_needed, or_fault, value, value_or}
+
+-- the format of trust files that `--kind` names
+abbrev pub review_kind_of : List ℕ → Option ReviewKind
+review_kind_of word =
+    if bytes_eq word (codes "auth") then Some Auth
+    else if bytes_eq word (codes "known") then Some Known
+    else None
+
+-- the least number of bits of an RSA key, where the option is not given (NIST SP 800-131A)
+abbrev pub usual_minimum : ℕ
+usual_minimum = 2048
+
+-- the output format that `--form` names
+abbrev pub form_of : List ℕ → Option Form
+form_of word =
+    if bytes_eq word (codes "text") then Some Text
+    else if bytes_eq word (codes "json") then Some Json
+    else None
+
+-- the format of the files, the options of the review, its output format, and the names of the files
+pub record ReviewAsked : Type 0 where
+  pub kind : ReviewKind
+  pub form : Form
+  pub asking : Asking
+  pub names : List (List ℕ)
+
+unfoldable pub review_spelled : List Row → Option TimeZone → Result ReviewAsked Response
+review_spelled rows zone = do
+  kind ← value review_kind_of option.Kind rows
+  now ← value (number_below (2 ^ 64)) option.Now rows
+  zone ← or_fault option.Zone zone
+  rsa_minimum ← value_or usual_minimum (number_below (2 ^ 32)) option.RsaMinimum rows
+  told ← value_or default_codes codes_in option.Findings rows
+  form ← value_or Text form_of option.Form rows
+  names ← names_needed rows
+  Ok (record {
+    kind = kind;
+    form = form;
+    asking = record { now = now; zone = zone; rsa_minimum = rsa_minimum; told = told };
+    names = names;
+  })
+
+abbrev pub ReviewsInZone : List Row → Option TimeZone → SourceState → Option SourceState → Response → Type 0
+ReviewsInZone rows zone = RespondsTo (λ q. ReviewsFiles q.kind q.form q.asking q.names) (review_spelled rows zone)
+
+-- the same in the zone of the option's text
+abbrev pub RespondsToReview : List Row → SourceState → Option SourceState → Response → Type 0
+RespondsToReview rows s t r = (zone : Option TimeZone) × ReadsZone (zone_text (given option.Zone rows)) zone × ReviewsInZone rows zone s t r

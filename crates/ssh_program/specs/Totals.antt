@@ -1,0 +1,39 @@
+-- The total of the files that were reviewed, and the status (this project's rule).
+use Rattle.std.specs.Prelude.{◌+◌, ◌-◌, ◌^◌, ℕ, min, nat_lt, if◌then◌else◌, Option, Some, None}
+use Rattle.ssh_review.specs.declared.end.Counts.{Counts}
+use Rattle.ssh_review.specs.declared.end.FileFault.{FileFault}
+use Rattle.ssh_review.specs.declared.end.Total.{Total}
+use Rattle.ssh_review.specs.Counting.{no_counts}
+use Rattle.ssh_review.specs.Reviews.{Review}
+
+-- a sum of counts stops at 2^64 - 1
+abbrev pub counted : ℕ → ℕ → ℕ
+counted a b = min (a + b) (2 ^ 64 - 1)
+
+abbrev pub with_counts : Counts → Counts → Counts
+with_counts a b = record {
+  lines = counted a.lines b.lines;
+  keys = counted a.keys b.keys;
+  unreadable = counted a.unreadable b.unreadable;
+  findings = counted a.findings b.findings;
+}
+
+abbrev pub fault_count : Option FileFault → ℕ
+fault_count None = 0
+fault_count (Some fault) = 1
+
+-- the total before the first file
+abbrev pub nothing : Total
+nothing = record { files = 0; faults = 0; counts = no_counts }
+
+-- the total with one more file
+abbrev pub with_review : Total → Review → Total
+with_review total r = record {
+  files = counted total.files 1;
+  faults = counted total.faults (fault_count r.fault);
+  counts = with_counts total.counts r.counts;
+}
+
+-- 2 if a file could not be reviewed, else 1 if something was found
+abbrev pub total_status : Total → ℕ
+total_status total = if nat_lt 0 total.faults then 2 else if nat_lt 0 total.counts.findings then 1 else 0

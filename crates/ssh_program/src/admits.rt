@@ -1,0 +1,272 @@
+//! The responses to `admits` and `trusts`: whether trust files would let in the key in a public
+//! key's file.
+
+ghost use Rattle.std.specs.Prelude.{IfOk, map, ◌<◌, ◌^◌, [], length, option_copied, option_map};
+ghost use Rattle.ssh_program.specs.Admissions.{AsksFiles, AsksKey, AsksOffer, KeyAsking, or_shown_fault};
+ghost use Rattle.ssh_files.specs.SourceState.{IfTells};
+ghost use Rattle.ssh_print.specs.ResponseView.{response};
+ghost use Rattle.ssh_print.specs.Offering.{Offered, shown_offer_in, offer_seen};
+ghost use Rattle.jiff.specs.Words.{plain_zone};
+ghost use Rattle.ssh_print.specs.StandIn.{login_algorithm, stand_in};
+ghost use Rattle.ssh_program.specs.Keys.{AdmitsInZone, RespondsToAdmits, login_asking, RespondsToTrusts, host_asking};
+ghost use Rattle.ssh_program.specs.WordsView.{IfAnswered, rows_in};
+
+use crate::admission::ask_files;
+use crate::args::{ArgName, Args};
+use crate::audit::{LoginQuestion, unread};
+use crate::command::CommandError;
+use jiff::tz::TimeZone;
+use ssh_files::{Files, read_top_line, zone_of};
+use ssh_offers::{EmptyPrincipals, HostQuery, LoginQuery};
+use ssh_print::{OfferedKey, Response, Subject, login_algorithm, read_offer, show_fault, stand_in};
+use std::alloc::{AllocError, Global};
+
+/// The names of the input files of `login` and `host`: a trust file, and a vouch file where one is
+/// given.
+#[derive(Clone, Copy)]
+pub struct AuditFiles<'a> {
+    pub trust: &'a str,
+    pub vouch: Option<&'a str>,
+}
+
+/// The options of `sshsig`: the names of the files of the SSHSIG body, of the message, and of the
+/// vouch signatures where one is given. The signature has to be for `namespace`.
+#[derive(Clone, Copy)]
+pub struct SshsigQuestion<'a> {
+    pub body: &'a str,
+    pub message: &'a str,
+    pub namespace: &'a str,
+    pub vouch: Option<&'a str>,
+}
+
+/// All that is asked about a key or certificate, without the key itself.
+pub trait KeyQuestion {
+    /// The question to each trust file about this offer.
+    ghost asks: { Self → Offered → KeyAsking };
+
+    /// The response about this offer by the trust files of these names.
+    fn ask<F: Files>(
+        &self,
+        alloc: Global,
+        offer: &OfferedKey,
+        names: &[&str],
+        files: &mut F,
+    ) -> Result<Response, AllocError>
+        ensures { IfTells (F.source_state files.old) (λ s. IfOk result (λ r.
+            AsksFiles (asks self.entry.now (offer_seen offer.now))
+            (map (λ name. name.now) names.now) s (F.source_state files.new) (response r))) };
+}
+
+/// The response by the first line of the key's file.
+fn ask_line<K: KeyQuestion, F: Files>(
+    alloc: Global,
+    question: &K,
+    line: &[u8],
+    names: &[&str],
+    files: &mut F,
+) -> Result<Response, AllocError>
+    ensures { IfTells (F.source_state files.old) (λ s. IfOk result (λ r.
+        AsksOffer (K.asks question.entry.now) (or_shown_fault (shown_offer_in line.now))
+        (map (λ name. name.now) names.now) s (F.source_state files.new) (response r))) }
+{
+    match read_offer(alloc, line) {
+        Ok(offer) => question.ask(alloc, &offer, names, files),
+        Err(error) => show_fault(alloc, error),
+    }
+}
+
+/// The response about the key in the file of this name. The key's file is read before the trust
+/// files. It is read to its end, and only its first line is stored.
+pub fn ask_key<K: KeyQuestion, F: Files>(
+    alloc: Global,
+    question: &K,
+    key: &str,
+    names: &[&str],
+    files: &mut F,
+) -> Result<Response, AllocError>
+    ensures { IfTells (F.source_state files.old) (λ s. IfOk result (λ r.
+        AsksKey (K.asks question.entry.now) key.now (map (λ name. name.now) names.now) s
+        (F.source_state files.new) (response r))) }
+{
+    match read_top_line(alloc, files, key) {
+        Ok(line) => ask_line(alloc, question, &line, names, files),
+        Err(fault) => unread(alloc, key, fault),
+    }
+}
+
+/// The options of `admits`: a login without its key and signature. The session identifier is empty
+/// and the signature is a stand-in, since no rule looks into either.
+#[derive(Clone, Copy)]
+struct Client<'a> {
+    user: &'a [u8],
+    host: Option<&'a [u8]>,
+    address: &'a [u8],
+    now: u64,
+    zone: &'a TimeZone<'static>,
+    empty_principals: EmptyPrincipals,
+    rsa_minimum: u32,
+    ghost short: { length user.now < 2 ^ 32 },
+}
+
+impl KeyQuestion for Client<'_> {
+    ghost asks = { λ x o. login_asking (record {
+      offered = o.blob;
+      signature = stand_in o.kind;
+      algorithm = login_algorithm o.kind o.is_certificate;
+      session = [];
+      user = x.user.now;
+      host = option_copied x.host;
+      address = x.address.now;
+      now = x.now;
+      zone = plain_zone x.zone.now;
+      empty_principals = x.empty_principals;
+      rsa_minimum = x.rsa_minimum;
+    }) };
+
+    fn ask<F: Files>(
+        &self,
+        alloc: Global,
+        offer: &OfferedKey,
+        names: &[&str],
+        files: &mut F,
+    ) -> Result<Response, AllocError> {
+        let signature = stand_in(alloc, offer.kind)?;
+        let query = LoginQuery {
+            offered: offer.blob.as_slice(),
+            signature: signature.as_slice(),
+            algorithm: login_algorithm(offer.kind, offer.is_certificate),
+            session: b"",
+            user: self.user,
+            host: self.host,
+            address: self.address,
+            now: self.now,
+            zone: self.zone,
+            empty_principals: self.empty_principals,
+            rsa_minimum: self.rsa_minimum,
+        };
+        let question = LoginQuestion { query };
+        let response = ask_files(alloc, Subject::Client, &question, names, files)?;
+        Ok(response)
+    }
+}
+
+/// The response to `admits`, where the option for the zone has been read; `None` where its text is
+/// no zone.
+#[tactic(auto, unfolding(crate::specs::Keys::admits_spelled))]
+fn admits_in_zone<F: Files>(
+    alloc: Global,
+    words: &Args<'_>,
+    zone: Option<TimeZone<'static>>,
+    files: &mut F,
+) -> Result<Response, CommandError>
+    ensures { IfTells (F.source_state files.old) (λ s. IfAnswered result (λ r.
+        AdmitsInZone (rows_in words.now) (option_map plain_zone zone.entry) s
+        (F.source_state files.new) r)) }
+{
+    let key = words.needed(ArgName::Key)?;
+    let user = words.short_text(ArgName::User)?;
+    let now = words.number(ArgName::Now)?;
+    let zone = ArgName::Zone.or_fault(zone)?;
+    let empty_principals = words.empty_principals()?;
+    let rsa_minimum = words.rsa_minimum()?;
+    let address = words.needed(ArgName::Address)?;
+    let names = words.needed_names()?;
+    let client = Client {
+        user: user.as_bytes(),
+        host: words.given(ArgName::Host).map(str::as_bytes),
+        address: address.as_bytes(),
+        now,
+        zone: &zone,
+        empty_principals,
+        rsa_minimum,
+    };
+    let response = ask_key(alloc, &client, key, names, files)?;
+    Ok(response)
+}
+
+/// The response to `admits`: whether `authorized_keys` files let the key in.
+pub fn respond_admits<F: Files>(
+    alloc: Global,
+    words: &Args<'_>,
+    files: &mut F,
+) -> Result<Response, CommandError>
+    ensures { IfTells (F.source_state files.old) (λ s. IfAnswered result (λ r.
+        RespondsToAdmits (rows_in words.now) s (F.source_state files.new) r)) }
+{
+    let zone = zone_of(words.given(ArgName::Zone));
+    admits_in_zone(alloc, words, zone, files)
+}
+
+/// The options of `trusts`: a host without its key and signature. The exchange hash is empty and
+/// the signature is a stand-in, since no rule looks into either.
+#[derive(Clone, Copy)]
+struct Host<'a> {
+    name: &'a [u8],
+    port: u16,
+    now: u64,
+    empty_principals: EmptyPrincipals,
+    rsa_minimum: u32,
+}
+
+impl KeyQuestion for Host<'_> {
+    ghost asks = { λ x o. host_asking (record {
+      offered = o.blob;
+      signature = stand_in o.kind;
+      exchange_hash = [];
+      host = x.name.now;
+      port = x.port;
+      now = x.now;
+      empty_principals = x.empty_principals;
+      rsa_minimum = x.rsa_minimum;
+    }) };
+
+    fn ask<F: Files>(
+        &self,
+        alloc: Global,
+        offer: &OfferedKey,
+        names: &[&str],
+        files: &mut F,
+    ) -> Result<Response, AllocError> {
+        let signature = stand_in(alloc, offer.kind)?;
+        let query = HostQuery {
+            offered: offer.blob.as_slice(),
+            signature: signature.as_slice(),
+            exchange_hash: b"",
+            host: self.name,
+            port: self.port,
+            now: self.now,
+            empty_principals: self.empty_principals,
+            rsa_minimum: self.rsa_minimum,
+        };
+        let response = ask_files(alloc, Subject::Host, &query, names, files)?;
+        Ok(response)
+    }
+}
+
+/// The response to `trusts`: whether `known_hosts` files trust the host's key.
+#[tactic(auto, unfolding(crate::specs::Keys::trusts_spelled))]
+pub fn respond_trusts<F: Files>(
+    alloc: Global,
+    words: &Args<'_>,
+    files: &mut F,
+) -> Result<Response, CommandError>
+    ensures { IfTells (F.source_state files.old) (λ s. IfAnswered result (λ r.
+        RespondsToTrusts (rows_in words.now) s (F.source_state files.new) r)) }
+{
+    let key = words.needed(ArgName::Key)?;
+    let now = words.number(ArgName::Now)?;
+    let port = words.usual_port()?;
+    let empty_principals = words.empty_principals()?;
+    let rsa_minimum = words.rsa_minimum()?;
+    let name = words.needed(ArgName::Host)?;
+    let names = words.needed_names()?;
+    let host = Host {
+        name: name.as_bytes(),
+        port,
+        now,
+        empty_principals,
+        rsa_minimum,
+    };
+    let response = ask_key(alloc, &host, key, names, files)?;
+    Ok(response)
+}

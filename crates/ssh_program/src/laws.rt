@@ -1,0 +1,124 @@
+//! Laws of the definitions, and worked examples: the check proves what each function ensures. No call
+//! needs them.
+
+ghost use Rattle.std.specs.Prelude.{◌≡◌, ◌++◌, ℕ, List, Ok, codes, Some, slice_get};
+ghost use Rattle.std.specs.Fmt.{decimal};
+ghost use Rattle.std.specs.List.{AllByRecursion};
+ghost use Rattle.ssh_bodies.specs.Sshsig.{Sshsig, digest_of};
+ghost use Rattle.ssh_program.specs.Digests.{answer_by_digest};
+ghost use Rattle.ssh_trust.specs.SshsigAnswer.{sshsig_answer};
+ghost use Rattle.ssh_offers.specs.declared.claim.Signed.{Signed as SignedValue, Signed};
+ghost use Rattle.ssh_offers.specs.Query.{HostCheck, Login as LoginAsked, Login};
+ghost use Rattle.ssh_print.specs.DecisionText.{evidence_line};
+ghost use Rattle.ssh_files.specs.SourceState.{SourceState};
+ghost use Rattle.ssh_files.specs.VouchFile.{vouched_of};
+ghost use Rattle.ssh_program.specs.Asked.{AuditFiles};
+ghost use Rattle.ssh_program.specs.Audits.{audit_response, host_by, login_by};
+ghost use Rattle.ssh_program.specs.Granting.{HostBytes, HostDenied, HostGranted, LoginBytes, LoginDenied, LoginGranted, TrustsBytes};
+ghost use Rattle.ssh_program.specs.VouchLines.{HasBytes, vouch_file, vouch_line};
+ghost use Rattle.ssh_entries.specs.AuthGrammar.{auth_line};
+ghost use Rattle.ssh_entries.specs.declared.auth_line.AuthLine.TheVariants.{Unreadable};
+ghost use Rattle.ssh_offers.specs.LoginClaim.{LoginClaim, login_claim};
+ghost use Rattle.ssh_options.specs.declared.option_text.LineCause.{LineCause};
+ghost use Rattle.ssh_text.specs.Text.{lines_of};
+ghost use Rattle.ssh_print.specs.Denials.{HoldsAnother};
+ghost use Rattle.ssh_print.specs.PossibleLines.{sought_blob};
+ghost use Rattle.ssh_program.specs.Admissions.{status_by};
+ghost use Rattle.ssh_program.specs.Keys.{login_asking};
+ghost use Rattle.ssh_trust.specs.declared.decision.Decision.{Decision as DecisionValue};
+ghost use Rattle.ssh_program.specs.FileSamples.{FaultsInOrder, HashFaultsInOrder, RewriteKinds, SignatureFaultsInOrder, TrustFilesLeft, VouchFilesTold, VouchFilesWritten};
+ghost use Rattle.jiff.specs.Types.{TimeZone as Zone};
+ghost use Rattle.ssh_program.specs.Samples.{HostValuesInOrder, LoginAsksMore, LoginSpelled, LoginValuesInOrder, ShowKinds, TextsOfFiles};
+ghost use Rattle.ssh_program.specs.WordsSamples.{HostsAsked, KeysAsked, LoginsAsked, OthersAsked, ReviewsAsked, TextsAsked, UsageTold, WordsRefused};
+ghost use Rattle.ssh_program.specs.AnswersSamples.{AdmitsSpelled, OutcomesSummed, StatusesTold, TrustsSpelled};
+
+/// What is printed of a signature is, after its number, a line of a vouch file; and a vouch file of
+/// such lines vouches for exactly these signatures.
+fn evidence_rule()
+    ensures line { (n : ℕ) (s : SignedValue)
+        → evidence_line n s ≡ codes "evidence " ++ decimal n ++ codes " " ++ vouch_line s
+        ++ codes "\n" }
+    ensures back { (evidence : List SignedValue) → AllByRecursion HasBytes evidence
+        → vouched_of (vouch_file evidence) ≡ Ok evidence }
+{}
+
+/// What is answered to a file signature depends on the message by its digest alone, so the message
+/// is hashed as it is read.
+fn signature_rule()
+    ensures { (v : Sshsig) (message namespace : List ℕ) (vouched : List SignedValue)
+        → sshsig_answer v message namespace vouched
+        ≡ answer_by_digest v (digest_of v.hash message) namespace vouched }
+{}
+
+/// An answer with status 0 is a grant: of a login or of a host's key, by a line of the trust file
+/// that meets all conditions, where the vouch file vouches for all that it rests on. One with status
+/// 1 is a denial: there is no such line. The text is that grant's, or that denial's with its cause.
+fn granted_rule()
+    // What is answered to what is asked of these files.
+    ensures asked_login { (q : LoginAsked) (f : AuditFiles) (s : SourceState) → LoginBytes q → TrustsBytes f s
+        → (audit_response (login_by q) f s).status ≡ 0
+        → LoginGranted q f s (audit_response (login_by q) f s) }
+    ensures asked_host { (q : HostCheck) (f : AuditFiles) (s : SourceState) → HostBytes q → TrustsBytes f s
+        → (audit_response (host_by q) f s).status ≡ 0
+        → HostGranted q f s (audit_response (host_by q) f s) }
+    ensures denied_login { (q : LoginAsked) (f : AuditFiles) (s : SourceState) → LoginBytes q → TrustsBytes f s
+        → (audit_response (login_by q) f s).status ≡ 1
+        → LoginDenied q f s (audit_response (login_by q) f s) }
+    ensures denied_host { (q : HostCheck) (f : AuditFiles) (s : SourceState) → HostBytes q → TrustsBytes f s
+        → (audit_response (host_by q) f s).status ≡ 1
+        → HostDenied q f s (audit_response (host_by q) f s) }
+{}
+
+/// Where `admits` answers status 1 to a file, every line of it that cannot be read holds another key
+/// where sshd looks for one.
+fn denied_rule()
+    ensures { (q : Login) (claim : LoginClaim) (evidence : List Signed) (name file line : List ℕ)
+        (i : ℕ) (cause : LineCause)
+        → login_claim q ≡ Ok claim
+        → status_by (login_asking q) evidence name file ≡ 1
+        → slice_get (lines_of file) i ≡ Some line
+        → auth_line line ≡ Unreadable cause
+        → HoldsAnother line (sought_blob claim) }
+{}
+
+/// What files tell and leave, what is printed as one, and which fault is told where there are two.
+fn files_as_told()
+    ensures vouched { VouchFilesTold }
+    ensures left { TrustFilesLeft }
+    ensures written { VouchFilesWritten }
+    ensures audits { (decision : List ℕ → List SignedValue → DecisionValue)
+        → FaultsInOrder decision }
+    ensures signatures { SignatureFaultsInOrder }
+    ensures rewritten { RewriteKinds }
+    ensures hashed { HashFaultsInOrder }
+{}
+
+/// Which values texts spell, and which fault is told where more than one spells none.
+fn values_as_read()
+    ensures shown { ShowKinds }
+    ensures texts { TextsOfFiles }
+    ensures login { (zone : Zone) → LoginSpelled zone }
+    ensures login_more { (zone : Zone) → LoginAsksMore zone }
+    ensures login_order { LoginValuesInOrder }
+    ensures host_order { HostValuesInOrder }
+{}
+
+/// What words ask for: a subcommand with its options, or nothing; and how the program is called.
+fn words_as_asked()
+    ensures logins { LoginsAsked }
+    ensures hosts { HostsAsked }
+    ensures texts { TextsAsked }
+    ensures keys { KeysAsked }
+    ensures others { OthersAsked }
+    ensures reviews { ReviewsAsked }
+    ensures refused { WordsRefused }
+    ensures usage { UsageTold }
+{}
+
+/// What the options of `admits` and `trusts` spell, what files come to together, and the status of that.
+fn outcomes_as_summed()
+    ensures admits { (zone : Zone) → AdmitsSpelled zone }
+    ensures trusts { TrustsSpelled }
+    ensures summed { OutcomesSummed }
+    ensures statuses { StatusesTold }
+{}

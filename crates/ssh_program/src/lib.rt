@@ -1,0 +1,44 @@
+//! The program without its operating system: it answers a command line over files by name, and
+//! writes the answer.
+//!
+//! `login` and `host` decide on an offer with its signature: the vouch file is read, then the trust
+//! file.
+//!
+//! `admits` and `trusts` decide on a key alone, by any number of trust files. `explain` prints what
+//! codes mean.
+//!
+//! `review` lists the entries and findings of any number of trust files, and then their total.
+//! `rewrite` and `hash` print a new trust file, `show` prints one key, and `sshsig` answers about a
+//! file signature.
+#![tactic(auto)]
+
+mod admission;
+mod admits;
+mod args;
+mod audit;
+mod command;
+mod decisions;
+mod file_question;
+mod laws;
+mod printing;
+mod program;
+mod review;
+mod rewriting;
+mod show;
+mod sink;
+mod sshsig;
+mod subcommand;
+mod texts;
+mod vouching;
+
+pub use admits::{AuditFiles, SshsigQuestion, respond_admits, respond_trusts};
+pub use args::{ArgName, Args, Needed};
+pub use audit::{LoginQuestion, Question, decide_by_file, is_memory, unread};
+pub use command::{CommandError, Request, WordsError, parse, respond_fault};
+pub use decisions::{respond_host, respond_login};
+pub use program::{refuse, run};
+pub use review::respond_review;
+pub use show::respond_explain;
+pub use sink::Sink;
+pub use subcommand::{OptionRow, Subcommand, asks_usage, usage_lines};
+pub use texts::{TextPlace, TextPlaces};

@@ -1,0 +1,315 @@
+//! The response to `review`: trust files one after the other, then their total.
+
+ghost use Rattle.std.specs.Prelude.{◌≡◌, ◌^◌, Some, option_map, IfOk, map};
+ghost use Rattle.ssh_findings.specs.Codes.{codes_in, default_codes};
+ghost use Rattle.ssh_files.specs.Values.{number_below};
+ghost use Rattle.ssh_review.specs.declared.end.Form.TheVariants.{Text};
+ghost use Rattle.ssh_program.specs.Spelled.{form_of, review_kind_of, usual_minimum, RespondsToReview, ReviewsInZone};
+ghost use Rattle.ssh_program.specs.Spelling.{value, value_or};
+ghost use Rattle.ssh_program.specs.WordsView.{Spells, rows_in, IfAnswered};
+ghost use Rattle.ssh_review.specs.Reviews.{review};
+ghost use Rattle.ssh_program.specs.Totals.{fault_count, nothing, total_status, with_counts, with_review};
+ghost use Rattle.ssh_findings.specs.Asking.{asking_of};
+ghost use Rattle.ssh_files.specs.FilesInTurn.{TellsFile, TellsFiles};
+ghost use Rattle.ssh_files.specs.SourceState.{IfTells};
+ghost use Rattle.ssh_print.specs.ResponseView.{response};
+ghost use Rattle.ssh_program.specs.FileReviews.{IsUnreadReview, ReviewsFiles, no_lines, review_of, telling_review, lines_seen, with_file};
+ghost use Rattle.jiff.specs.Words.{plain_zone};
+ghost use Rattle.ssh_program.specs.declared.args.ArgName.TheVariants as option;
+
+use crate::args::{ArgName, Args};
+use crate::command::CommandError;
+use jiff::tz::TimeZone;
+use ssh_files::{Files, ReadError, read_bits, read_whole, zone_of};
+use ssh_findings::{Code, ReviewOptions, parse_codes};
+use ssh_print::{DONE, FAULT, Response};
+use ssh_review::{
+    Counts, FileFault, Form, Reviewed, Total, review_auth, review_fault, review_known, total_line,
+};
+use std::alloc::{AllocError, Global};
+
+/// The format of the files under review.
+#[derive(Clone, Copy, Debug, PartialEq, Eq)]
+pub enum ReviewKind {
+    /// `authorized_keys` files, sshd(8).
+    Auth,
+    /// `known_hosts` files, sshd(8).
+    Known,
+}
+
+/// The format by its name in `--kind`.
+fn read_kind(word: &str) -> Option<ReviewKind>
+    ensures { result ≡ review_kind_of word.now }
+{
+    if word == "auth" {
+        Some(ReviewKind::Auth)
+    } else if word == "known" {
+        Some(ReviewKind::Known)
+    } else {
+        None
+    }
+}
+
+/// The format of the files under review.
+pub fn review_kind(words: &Args<'_>) -> Result<ReviewKind, CommandError>
+    ensures { Spells (λ k. k) (value review_kind_of option.Kind (rows_in words.now)) result }
+{
+    let word = words.needed(ArgName::Kind)?;
+    ArgName::Kind.or_fault(read_kind(word))
+}
+
+/// The least number of bits of an RSA key, where `--rsa-minimum` is not given (NIST SP 800-131A).
+const USUAL_MINIMUM: u32 = 2048;
+
+/// The least number of bits of an RSA key: 2048 where the option is not given.
+pub fn rsa_minimum(words: &Args<'_>) -> Result<u32, CommandError>
+    ensures { Spells (λ n. n) (value_or usual_minimum (number_below (2 ^ 32)) option.RsaMinimum
+        (rows_in words.now)) result }
+{
+    let read = match words.given(ArgName::RsaMinimum) {
+        None => Some(USUAL_MINIMUM),
+        Some(text) => read_bits(text),
+    };
+    ArgName::RsaMinimum.or_fault(read)
+}
+
+/// The codes of the findings that are reported; where the option is not given, those for faults
+/// that are wrong under any policy (F1 to F14 and F22).
+pub fn told_codes(alloc: Global, words: &Args<'_>) -> Result<Vec<Code>, CommandError>
+    ensures { Spells (λ v. v.items) (value_or default_codes codes_in option.Findings
+        (rows_in words.now)) result }
+{
+    let read = match words.given(ArgName::Findings) {
+        None => Some(Vec::from_slice(alloc, Code::by_default())?),
+        Some(text) => parse_codes(alloc, text.as_bytes())?,
+    };
+    ArgName::Findings.or_fault(read)
+}
+
+/// The output format by its name in `--form`.
+fn read_form(word: &str) -> Option<Form>
+    ensures { result ≡ form_of word.now }
+{
+    if word == "text" {
+        Some(Form::Text)
+    } else if word == "json" {
+        Some(Form::Json)
+    } else {
+        None
+    }
+}
+
+/// The output format: text where the option is not given.
+pub fn form(words: &Args<'_>) -> Result<Form, CommandError>
+    ensures { Spells (λ f. f) (value_or Text form_of option.Form (rows_in words.now)) result }
+{
+    let read = match words.given(ArgName::Form) {
+        None => Some(Form::Text),
+        Some(word) => read_form(word),
+    };
+    ArgName::Form.or_fault(read)
+}
+
+/// The status where something was found.
+const FOUND: u8 = 1;
+
+/// The total before the first file.
+pub const NOTHING: Total = Total {
+    files: 0,
+    faults: 0,
+    counts: Counts::NONE,
+};
+
+/// The sums of the counts. A sum stops at 2^64 - 1, since a count that wraps around would be wrong.
+fn with_counts(counts: Counts, more: Counts) -> Counts
+    ensures { result ≡ with_counts counts more }
+{
+    Counts {
+        lines: counts.lines.saturating_add(more.lines),
+        keys: counts.keys.saturating_add(more.keys),
+        unreadable: counts.unreadable.saturating_add(more.unreadable),
+        findings: counts.findings.saturating_add(more.findings),
+    }
+}
+
+fn fault_count(fault: Option<FileFault>) -> u64
+    ensures { result ≡ fault_count fault }
+{
+    match fault {
+        Some(_) => 1,
+        None => 0,
+    }
+}
+
+/// The total with one more file.
+pub fn with_review(total: Total, reviewed: &Reviewed) -> Total
+    ensures { result ≡ with_review total (review reviewed.now) }
+{
+    Total {
+        files: total.files.saturating_add(1),
+        faults: total.faults.saturating_add(fault_count(reviewed.fault)),
+        counts: with_counts(total.counts, reviewed.counts),
+    }
+}
+
+/// The status: 2 if a file could not be reviewed, else 1 if something was found.
+pub fn total_status(total: &Total) -> u8
+    ensures { result ≡ total_status total.now }
+{
+    if total.faults > 0 {
+        FAULT
+    } else if total.counts.findings > 0 {
+        FOUND
+    } else {
+        DONE
+    }
+}
+
+/// The output lines of some files, and their total.
+#[derive(Drop)]
+pub struct FileReport {
+    pub total: Total,
+    pub text: Vec<u8>,
+}
+
+/// The review of a file whose bytes could not be had.
+fn review_unread(
+    alloc: Global,
+    form: Form,
+    name: &[u8],
+    fault: ReadError,
+) -> Result<Reviewed, AllocError>
+    ensures { IfOk result (λ r. IsUnreadReview form name.now fault (review r)) }
+{
+    match fault {
+        ReadError::Memory => Err(AllocError),
+        ReadError::TooLong => review_fault(alloc, form, name, FileFault::TooLong),
+        _ => review_fault(alloc, form, name, FileFault::Unread),
+    }
+}
+
+/// The review of a file with this name and these bytes.
+fn review_bytes(
+    alloc: Global,
+    kind: ReviewKind,
+    form: Form,
+    asked: &ReviewOptions<'_>,
+    name: &[u8],
+    file: &[u8],
+) -> Result<Reviewed, AllocError>
+    ensures { IfOk result
+        (λ r. review r ≡ review_of kind form (asking_of asked.entry.now) name.now file.now) }
+{
+    match kind {
+        ReviewKind::Auth => review_auth(alloc, form, asked, name, file),
+        ReviewKind::Known => review_known(alloc, form, asked, name, file),
+    }
+}
+
+fn review_file<F: Files>(
+    alloc: Global,
+    kind: ReviewKind,
+    form: Form,
+    asked: &ReviewOptions<'_>,
+    name: &str,
+    files: &mut F,
+) -> Result<Reviewed, AllocError>
+    ensures { IfTells (F.source_state files.old) (λ s. IfOk result (λ r.
+        TellsFile (telling_review kind form (asking_of asked.entry.now)) name.now s (F.source_state files.new)
+        (review r))) }
+{
+    match read_whole(alloc, files, name) {
+        Ok(file) => review_bytes(alloc, kind, form, asked, name.as_bytes(), &file),
+        Err(fault) => review_unread(alloc, form, name.as_bytes(), fault),
+    }
+}
+
+/// The reviews of the files of these names, in their order. The text of all is stored before any of
+/// it is written, so a failed allocation leaves no part of a list in the output.
+fn tell_files<F: Files>(
+    alloc: Global,
+    kind: ReviewKind,
+    form: Form,
+    asked: &ReviewOptions<'_>,
+    names: &[&str],
+    files: &mut F,
+) -> Result<FileReport, AllocError>
+    ensures { IfTells (F.source_state files.old) (λ s. IfOk result (λ told.
+        TellsFiles with_file (telling_review kind form (asking_of asked.entry.now)) no_lines
+        (map (λ name. name.now) names.now) s (F.source_state files.new) (lines_seen told))) }
+{
+    let mut total = NOTHING;
+    let mut text = Vec::new(alloc);
+    for name in names {
+        let reviewed = review_file(alloc, kind, form, asked, name, files)?;
+        total = with_review(total, &reviewed);
+        text.extend_from_slice(&reviewed.text)?;
+    }
+    Ok(FileReport { total, text })
+}
+
+/// The response: the reviews of the files of these names, and then their total. A file that cannot
+/// be reviewed has its fault, and the next is reviewed all the same.
+pub fn review_files<F: Files>(
+    alloc: Global,
+    kind: ReviewKind,
+    form: Form,
+    asked: &ReviewOptions<'_>,
+    names: &[&str],
+    files: &mut F,
+) -> Result<Response, AllocError>
+    ensures { IfTells (F.source_state files.old) (λ s. IfOk result (λ r.
+        ReviewsFiles kind form (asking_of asked.entry.now) (map (λ name. name.now) names.now) s
+        (F.source_state files.new) (response r))) }
+{
+    let told = tell_files(alloc, kind, form, asked, names, files)?;
+    let line = total_line(alloc, form, &told.total)?;
+    let status = total_status(&told.total);
+    let mut text = told.text;
+    text.extend_from_slice(&line)?;
+    Ok(Response::new(status, text))
+}
+
+/// The response to `review`, where the option for the zone has been read; `None` where its text is
+/// no zone.
+#[tactic(auto, unfolding(crate::specs::Spelled::review_spelled))]
+fn review_in_zone<F: Files>(
+    alloc: Global,
+    words: &Args<'_>,
+    zone: Option<TimeZone<'static>>,
+    files: &mut F,
+) -> Result<Response, CommandError>
+    ensures { IfTells (F.source_state files.old) (λ s. IfAnswered result (λ r.
+        ReviewsInZone (rows_in words.now) (option_map plain_zone zone.entry) s
+        (F.source_state files.new) r)) }
+{
+    let kind = review_kind(words)?;
+    let now = words.number(ArgName::Now)?;
+    let zone = ArgName::Zone.or_fault(zone)?;
+    let rsa_minimum = rsa_minimum(words)?;
+    let told = told_codes(alloc, words)?;
+    let form = form(words)?;
+    let names = words.needed_names()?;
+    let asked = ReviewOptions {
+        now,
+        zone: &zone,
+        rsa_minimum,
+        told: &told,
+    };
+    let response = review_files(alloc, kind, form, &asked, names, files)?;
+    Ok(response)
+}
+
+/// The response to `review`. The values of the options are read first, then the files in their
+/// order.
+pub fn respond_review<F: Files>(
+    alloc: Global,
+    words: &Args<'_>,
+    files: &mut F,
+) -> Result<Response, CommandError>
+    ensures { IfTells (F.source_state files.old) (λ s. IfAnswered result (λ r.
+        RespondsToReview (rows_in words.now) s (F.source_state files.new) r)) }
+{
+    let zone = zone_of(words.given(ArgName::Zone));
+    review_in_zone(alloc, words, zone, files)
+}

@@ -1,0 +1,275 @@
+//! The table of the subcommands and their options, and the synopsis that is printed of it.
+
+ghost use Rattle.std.specs.Prelude.{◌≡◌, ◌++◌, map, IfOk, OnOk};
+ghost use Rattle.ssh_program.specs.Options.{subcommand_operands, subcommand_options, subcommand_name, subcommand_named, subcommands};
+ghost use Rattle.std.specs.List.{flat_map};
+ghost use Rattle.ssh_program.specs.Usage.{asks_usage, closed, opened, usage_line, usage_lines, usage_names, usage_option};
+
+use crate::args::Needed::{Optional, Required};
+use crate::args::{ArgName, NAMES, Needed};
+use std::alloc::{AllocError, Global};
+
+/// A subcommand, which the first argument names.
+#[derive(Clone, Copy, Debug, PartialEq, Eq)]
+pub enum Subcommand {
+    Show,
+    Login,
+    Host,
+    Sshsig,
+    Rewrite,
+    Hash,
+    Admits,
+    Trusts,
+    Review,
+    Explain,
+}
+
+/// An option of a subcommand, and whether it has to be given.
+pub type OptionRow = (ArgName, Needed);
+
+const SUBCOMMANDS: [Subcommand; 10] = [
+    Subcommand::Show,
+    Subcommand::Login,
+    Subcommand::Host,
+    Subcommand::Sshsig,
+    Subcommand::Rewrite,
+    Subcommand::Hash,
+    Subcommand::Admits,
+    Subcommand::Trusts,
+    Subcommand::Review,
+    Subcommand::Explain,
+];
+
+const SHOW: [OptionRow; 2] = [(ArgName::Kind, Required), (ArgName::File, Required)];
+
+const LOGIN: [OptionRow; 15] = [
+    (ArgName::File, Required),
+    (ArgName::Offer, Optional),
+    (ArgName::OfferFile, Optional),
+    (ArgName::Signature, Optional),
+    (ArgName::SignatureFile, Optional),
+    (ArgName::Algorithm, Required),
+    (ArgName::Session, Required),
+    (ArgName::User, Required),
+    (ArgName::Address, Required),
+    (ArgName::Now, Required),
+    (ArgName::Host, Optional),
+    (ArgName::Zone, Optional),
+    (ArgName::Vouch, Optional),
+    (ArgName::EmptyPrincipals, Optional),
+    (ArgName::RsaMinimum, Optional),
+];
+
+const HOST: [OptionRow; 12] = [
+    (ArgName::File, Required),
+    (ArgName::Offer, Optional),
+    (ArgName::OfferFile, Optional),
+    (ArgName::Signature, Optional),
+    (ArgName::SignatureFile, Optional),
+    (ArgName::Hash, Required),
+    (ArgName::Host, Required),
+    (ArgName::Port, Required),
+    (ArgName::Now, Required),
+    (ArgName::Vouch, Optional),
+    (ArgName::EmptyPrincipals, Optional),
+    (ArgName::RsaMinimum, Optional),
+];
+
+const SSHSIG: [OptionRow; 4] = [
+    (ArgName::Body, Required),
+    (ArgName::Message, Required),
+    (ArgName::Namespace, Required),
+    (ArgName::Vouch, Optional),
+];
+
+const REWRITE: [OptionRow; 2] = [(ArgName::Kind, Required), (ArgName::File, Required)];
+
+const HASH: [OptionRow; 2] = [(ArgName::File, Required), (ArgName::Salts, Required)];
+
+const ADMITS: [OptionRow; 8] = [
+    (ArgName::Key, Required),
+    (ArgName::User, Required),
+    (ArgName::Address, Required),
+    (ArgName::Now, Required),
+    (ArgName::Host, Optional),
+    (ArgName::Zone, Optional),
+    (ArgName::EmptyPrincipals, Optional),
+    (ArgName::RsaMinimum, Optional),
+];
+
+const TRUSTS: [OptionRow; 6] = [
+    (ArgName::Key, Required),
+    (ArgName::Host, Required),
+    (ArgName::Now, Required),
+    (ArgName::Port, Optional),
+    (ArgName::EmptyPrincipals, Optional),
+    (ArgName::RsaMinimum, Optional),
+];
+
+const REVIEW: [OptionRow; 6] = [
+    (ArgName::Kind, Required),
+    (ArgName::Now, Required),
+    (ArgName::Zone, Optional),
+    (ArgName::RsaMinimum, Optional),
+    (ArgName::Findings, Optional),
+    (ArgName::Form, Optional),
+];
+
+impl Subcommand {
+    /// All subcommands, in the order of the synopsis.
+    pub fn all() -> &'static [Subcommand]
+        ensures { result.now ≡ subcommands }
+    {
+        &SUBCOMMANDS
+    }
+
+    /// The name on the command line.
+    pub fn name(self) -> &'static str
+        ensures { result.now ≡ subcommand_name self }
+    {
+        match self {
+            Subcommand::Show => "show",
+            Subcommand::Login => "login",
+            Subcommand::Host => "host",
+            Subcommand::Sshsig => "sshsig",
+            Subcommand::Rewrite => "rewrite",
+            Subcommand::Hash => "hash",
+            Subcommand::Admits => "admits",
+            Subcommand::Trusts => "trusts",
+            Subcommand::Review => "review",
+            Subcommand::Explain => "explain",
+        }
+    }
+
+    /// The subcommand of this name; `None` if there is no such one.
+    pub fn named(name: &str) -> Option<Subcommand>
+        ensures { result ≡ subcommand_named name.now }
+    {
+        Subcommand::all()
+            .iter()
+            .copied()
+            .find(|subcommand| subcommand.name() == name)
+    }
+
+    /// Its options, in the order of the synopsis.
+    pub fn options(self) -> &'static [OptionRow]
+        ensures { result.now ≡ subcommand_options self }
+    {
+        match self {
+            Subcommand::Show => &SHOW,
+            Subcommand::Login => &LOGIN,
+            Subcommand::Host => &HOST,
+            Subcommand::Sshsig => &SSHSIG,
+            Subcommand::Rewrite => &REWRITE,
+            Subcommand::Hash => &HASH,
+            Subcommand::Admits => &ADMITS,
+            Subcommand::Trusts => &TRUSTS,
+            Subcommand::Review => &REVIEW,
+            Subcommand::Explain => &[],
+        }
+    }
+
+    /// Whether it takes operands (names of files, or codes), and whether at least one has to be
+    /// given; `None` if it takes none.
+    pub fn names(self) -> Option<Needed>
+        ensures { result ≡ subcommand_operands self }
+    {
+        match self {
+            Subcommand::Admits | Subcommand::Trusts | Subcommand::Review => Some(Required),
+            Subcommand::Explain => Some(Optional),
+            _ => None,
+        }
+    }
+}
+
+/// A space, and a bracket before what may be left out, as in a synopsis of man-pages(7).
+fn opened(needed: Needed) -> &'static [u8]
+    ensures { result.now ≡ opened needed }
+{
+    match needed {
+        Needed::Required => b" ",
+        Needed::Optional => b" [",
+    }
+}
+
+/// The bracket after what may be left out.
+fn closed(needed: Needed) -> &'static [u8]
+    ensures { result.now ≡ closed needed }
+{
+    match needed {
+        Needed::Required => b"",
+        Needed::Optional => b"]",
+    }
+}
+
+/// On an error the option may have been appended in part.
+fn push_option(out: &mut Vec<u8>, row: OptionRow) -> Result<(), AllocError>
+    ensures { OnOk result (out.new.items ≡ out.old.items ++ usage_option row) }
+{
+    out.extend_from_slice(opened(row.1))?;
+    out.extend_from_slice(b"--")?;
+    out.extend_from_slice(row.0.name().as_bytes())?;
+    out.extend_from_slice(b" VALUE")?;
+    out.extend_from_slice(closed(row.1))?;
+    Ok(())
+}
+
+fn push_options(out: &mut Vec<u8>, rows: &[OptionRow]) -> Result<(), AllocError>
+    ensures { OnOk result (out.new.items ≡ out.old.items ++ flat_map usage_option rows.now) }
+{
+    for row in rows {
+        push_option(out, *row)?;
+    }
+    Ok(())
+}
+
+fn push_names(out: &mut Vec<u8>, names: Option<Needed>) -> Result<(), AllocError>
+    ensures { OnOk result (out.new.items ≡ out.old.items ++ usage_names names) }
+{
+    if let Some(needed) = names {
+        out.extend_from_slice(opened(needed))?;
+        out.extend_from_slice(NAMES.as_bytes())?;
+        out.extend_from_slice(b"..")?;
+        out.extend_from_slice(closed(needed))?;
+    }
+    Ok(())
+}
+
+#[tactic(auto, unfolding(crate::specs::Usage::usage_line))]
+fn push_line(out: &mut Vec<u8>, subcommand: Subcommand) -> Result<(), AllocError>
+    ensures { OnOk result (out.new.items ≡ out.old.items ++ usage_line subcommand) }
+{
+    out.extend_from_slice(b"ssh_audit ")?;
+    out.extend_from_slice(subcommand.name().as_bytes())?;
+    push_options(out, subcommand.options())?;
+    push_names(out, subcommand.names())?;
+    out.push(b'\n')?;
+    Ok(())
+}
+
+fn push_lines(out: &mut Vec<u8>, subcommands: &[Subcommand]) -> Result<(), AllocError>
+    ensures { OnOk result (out.new.items ≡ out.old.items ++ flat_map usage_line subcommands.now) }
+{
+    for subcommand in subcommands {
+        push_line(out, *subcommand)?;
+    }
+    Ok(())
+}
+
+/// The synopsis, one line for each subcommand: its options, each with `VALUE`, and `NAME..` where
+/// it takes operands. What may be left out is in brackets.
+#[tactic(auto, unfolding(crate::specs::Usage::usage_lines))]
+pub fn usage_lines(alloc: Global) -> Result<Vec<u8>, AllocError>
+    ensures { IfOk result (λ text. text.items ≡ usage_lines) }
+{
+    let mut text = Vec::new(alloc);
+    push_lines(&mut text, Subcommand::all())?;
+    Ok(text)
+}
+
+/// Whether `usage` is among these codes: then the synopsis is printed too.
+pub fn asks_usage(codes: &[&str]) -> bool
+    ensures { result ≡ asks_usage (map (λ code. code.now) codes.now) }
+{
+    codes.iter().any(|code| *code == "usage")
+}

@@ -1,7 +1,0 @@
-use Rattle.ssh_questions.proofs.texts.TakenText.base64.Goals as goal
-
-pub returns-in-Word : goal.returns-in-Word
-returns-in-Word c = rw c.in-Word.is (rw c.as_bytes.ensures.value at c.base64.ensures)
-
-pub returns-in-Line : goal.returns-in-Line
-returns-in-Line c = rw c.in-Line.is (rw (c.text_on.ensures, c.deref.ensures.value) at c.base64-in-Line.ensures)

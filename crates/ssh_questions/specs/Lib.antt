@@ -1,8 +1,0 @@
-pub mod Audits
-pub mod ChosenReads
-pub mod FileAnswers
-pub mod Resting
-pub mod Texts
-pub mod TextsView
-pub mod Logins
-pub mod Hosts

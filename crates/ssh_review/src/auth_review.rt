@@ -1,0 +1,293 @@
+//! The review of an `authorized_keys` file: a record for each entry and each unreadable line, and
+//! the end of the file.
+
+ghost use Rattle.std.specs.Prelude.{◌≡◌, ◌+◌, ◌++◌, [], ◌≤◌, List, IfOk, OnOk, length};
+ghost use Rattle.ssh_entries.specs.declared.auth_line.AuthLine.{AuthLine};
+ghost use Rattle.ssh_entries.specs.LineView.{line_seen};
+ghost use Rattle.ssh_text.specs.Text.{file_limit, lines_of, numbered};
+ghost use Rattle.ssh_findings.specs.Asking.{asking_of};
+ghost use Rattle.ssh_findings.specs.Earlier.{Held};
+ghost use Rattle.ssh_findings.specs.Keeping.{RemembersEntries};
+ghost use Rattle.ssh_findings.specs.Memory.{bytes_kept, keys_kept};
+ghost use Rattle.ssh_review.specs.Lines.{counts_of, held_lines, held_by_line, line_counts, line_findings, line_record, records_of};
+ghost use Rattle.ssh_review.specs.Memory.{line_bytes, lines_bytes};
+ghost use Rattle.ssh_review.specs.Forms.{end_line, file_fault_line, total_line};
+ghost use Rattle.ssh_review.specs.Reviews.{auth_review, fault_review, review, whole_review};
+
+use crate::end::{
+    Counts, FileFault, Form, Reviewed, Total, push_end_object, push_end_text, push_fault_object,
+    push_fault_text, push_total_object, push_total_text,
+};
+use crate::json_record::{LineRef, push_entry_object, push_unreadable_object};
+use crate::record::{push_entry_text, push_unreadable_text};
+use sha2::{Digest, Sha256};
+use ssh_entries::{AuthEntryView, AuthLineView, KeyBuffer, read_auth_view};
+use ssh_findings::{Earlier, Facts, ReviewOptions, entry_findings, held_key, unreadable_findings};
+use ssh_options::LineCause;
+use ssh_text::{FILE_LIMIT, Lines};
+use std::alloc::{AllocError, Global};
+
+/// Appends the record of an entry, and stores what later lines need of the entry.
+fn push_entry_line(
+    alloc: Global,
+    form: Form,
+    asked: &ReviewOptions<'_>,
+    place: &LineRef<'_>,
+    entry: &AuthEntryView<'_>,
+    earlier: &mut Earlier,
+    out: &mut Vec<u8>,
+) -> Result<Counts, AllocError>
+    ensures text { OnOk result ((held : List Held) → RemembersEntries earlier.old held
+        → out.new.items ≡ out.old.items ++ line_record form (asking_of asked.entry.now)
+        place.entry.now.name.now held (place.entry.now.number, []) (AuthLine.Entry entry.now)) }
+    ensures counts { IfOk result (λ counts. (held : List Held) → RemembersEntries earlier.old held
+        → counts ≡ line_counts (asking_of asked.entry.now) held (AuthLine.Entry entry.now)) }
+    ensures kept { OnOk result ((held : List Held) → RemembersEntries earlier.old held
+        → RemembersEntries earlier.new (held ++ held_by_line
+        (asking_of asked.entry.now) (place.entry.now.number, AuthLine.Entry entry.now))) }
+    ensures bytes { OnOk result (bytes_kept earlier.new
+        ≤ bytes_kept earlier.old + line_bytes (asking_of asked.entry.now) (AuthLine.Entry entry.now)) }
+    ensures keys { IfOk result
+        (λ counts. keys_kept earlier.new ≤ keys_kept earlier.old + counts.keys) }
+{
+    let facts = Facts::read(alloc, asked.zone, entry)?;
+    let found = entry_findings(alloc, asked, earlier, entry.blob(), &facts)?;
+    let findings = found.len() as u64;
+    match form {
+        Form::Text => push_entry_text(alloc, out, place, &facts, &found)?,
+        Form::Json => {
+            // This field does not depend on which findings are asked for.
+            let shadow = earlier.shadow_line(entry.blob(), &facts);
+            push_entry_object(alloc, out, place, &facts, entry.options(), shadow, &found)?;
+        }
+    }
+    earlier.keep(alloc, place.number, entry.blob(), facts)?;
+    Ok(Counts {
+        lines: 1,
+        keys: 1,
+        unreadable: 0,
+        findings,
+    })
+}
+
+/// Appends the record of a line that cannot be read.
+fn push_unreadable_line(
+    alloc: Global,
+    form: Form,
+    asked: &ReviewOptions<'_>,
+    place: &LineRef<'_>,
+    line: &[u8],
+    cause: LineCause,
+    out: &mut Vec<u8>,
+) -> Result<Counts, AllocError>
+    ensures text { OnOk result (out.new.items ≡ out.old.items ++ line_record form (asking_of asked.entry.now)
+        place.entry.now.name.now [] (place.entry.now.number, line.now) (AuthLine.Unreadable cause)) }
+    ensures counts { IfOk result (λ counts. counts ≡ line_counts (asking_of asked.entry.now)
+        [] (AuthLine.Unreadable cause)) }
+{
+    let held = held_key(alloc, line)?;
+    let found = unreadable_findings(alloc, asked, cause)?;
+    match form {
+        Form::Text => push_unreadable_text(alloc, out, place, held, &found)?,
+        Form::Json => push_unreadable_object(alloc, out, place, held, &found)?,
+    }
+    Ok(Counts {
+        lines: 1,
+        keys: 0,
+        unreadable: 1,
+        findings: found.len() as u64,
+    })
+}
+
+/// Appends the record of a line, if it has one, and returns the line's counts.
+fn push_line(
+    alloc: Global,
+    form: Form,
+    asked: &ReviewOptions<'_>,
+    place: &LineRef<'_>,
+    line: &[u8],
+    view: &AuthLineView<'_>,
+    earlier: &mut Earlier,
+    out: &mut Vec<u8>,
+) -> Result<Counts, AllocError>
+    ensures text { OnOk result ((held : List Held) → RemembersEntries earlier.old held
+        → out.new.items ≡ out.old.items ++ line_record form (asking_of asked.entry.now)
+        place.entry.now.name.now held (place.entry.now.number, line.now) (line_seen view.now)) }
+    ensures counts { IfOk result (λ counts. (held : List Held) → RemembersEntries earlier.old held
+        → counts ≡ line_counts (asking_of asked.entry.now) held (line_seen view.now)) }
+    ensures kept { OnOk result ((held : List Held) → RemembersEntries earlier.old held
+        → RemembersEntries earlier.new (held ++ held_by_line
+        (asking_of asked.entry.now) (place.entry.now.number, line_seen view.now))) }
+    ensures bytes { OnOk result (bytes_kept earlier.new
+        ≤ bytes_kept earlier.old + line_bytes (asking_of asked.entry.now) (line_seen view.now)) }
+    ensures keys { IfOk result
+        (λ counts. keys_kept earlier.new ≤ keys_kept earlier.old + counts.keys) }
+{
+    match view {
+        AuthLineView::Blank | AuthLineView::Comment => Ok(Counts {
+            lines: 1,
+            keys: 0,
+            unreadable: 0,
+            findings: 0,
+        }),
+        AuthLineView::Entry(entry) => push_entry_line(
+            alloc, form, asked, place, entry, earlier, out,
+        ),
+        AuthLineView::Unreadable(cause) => {
+            push_unreadable_line(alloc, form, asked, place, line, *cause, out)
+        }
+    }
+}
+
+/// Appends the records of a file's lines, and returns the counts of the lines. `earlier` has to be
+/// empty; then it stores what later lines need of the file's entries. That is no more bytes than
+/// the file has and no more keys than entries, however often keys repeat.
+fn push_records(
+    alloc: Global,
+    form: Form,
+    asked: &ReviewOptions<'_>,
+    name: &[u8],
+    file: &[u8],
+    earlier: &mut Earlier,
+    out: &mut Vec<u8>,
+) -> Result<Counts, AllocError>
+    requires limit { length file.now ≤ file_limit }
+    requires none { RemembersEntries earlier.old [] }
+    ensures text { OnOk result (out.new.items ≡ out.old.items
+        ++ records_of form (asking_of asked.entry.now) name.now [] (numbered 1 (lines_of file.now))) }
+    ensures counts { IfOk result (λ counts. counts
+        ≡ counts_of (asking_of asked.entry.now) [] (numbered 1 (lines_of file.now))) }
+    ensures kept { OnOk result (RemembersEntries earlier.new
+        (held_lines (asking_of asked.entry.now) (numbered 1 (lines_of file.now)))) }
+    // Of an entry at most its key blob and its forced command are stored.
+    ensures bytes { OnOk result (bytes_kept earlier.new ≤ bytes_kept earlier.old
+        + lines_bytes (asking_of asked.entry.now) (numbered 1 (lines_of file.now))) }
+    ensures keys { IfOk result
+        (λ counts. keys_kept earlier.new ≤ keys_kept earlier.old + counts.keys) }
+    // So no more bytes are stored than the file has.
+    ensures file_bytes { OnOk result
+        (bytes_kept earlier.new ≤ bytes_kept earlier.old + length file.now) }
+    ensures file_keys { OnOk result
+        (keys_kept earlier.new ≤ keys_kept earlier.old + length file.now) }
+{
+    let mut buffer = KeyBuffer::new(alloc)?;
+    let mut counts = Counts::NONE;
+    for (number, line) in Lines::new(file) {
+        let place = LineRef { name, number };
+        let view = read_auth_view(line, &mut buffer);
+        let told = push_line(alloc, form, asked, &place, line, &view, earlier, out)?;
+        counts = counts.plus(told);
+    }
+    Ok(counts)
+}
+
+/// Appends the end of a file that was reviewed.
+pub(crate) fn push_end(
+    alloc: Global,
+    form: Form,
+    out: &mut Vec<u8>,
+    name: &[u8],
+    counts: Counts,
+    digest: &[u8],
+) -> Result<(), AllocError>
+    ensures { OnOk result
+        (out.new.items ≡ out.old.items ++ end_line form name.now counts digest.now) }
+{
+    match form {
+        Form::Text => push_end_text(alloc, out, name, counts, digest),
+        Form::Json => push_end_object(alloc, out, name, counts, digest),
+    }
+}
+
+/// The review of a file within the limit.
+#[tactic(auto, unfolding(crate::specs::Reviews::whole_review))]
+fn whole_review(
+    alloc: Global,
+    form: Form,
+    asked: &ReviewOptions<'_>,
+    name: &[u8],
+    file: &[u8],
+) -> Result<Reviewed, AllocError>
+    requires { length file.now ≤ file_limit }
+    ensures { IfOk result
+        (λ r. review r ≡ whole_review form (asking_of asked.entry.now) name.now file.now) }
+{
+    let mut text = Vec::new(alloc);
+    let mut earlier = Earlier::new(alloc);
+    let counts = push_records(alloc, form, asked, name, file, &mut earlier, &mut text)?;
+    let digest = Sha256::digest(file);
+    push_end(alloc, form, &mut text, name, counts, &digest)?;
+    Ok(Reviewed {
+        text,
+        counts,
+        fault: None,
+    })
+}
+
+/// Appends the end of a file with a fault.
+fn push_fault(
+    alloc: Global,
+    form: Form,
+    out: &mut Vec<u8>,
+    name: &[u8],
+    fault: FileFault,
+) -> Result<(), AllocError>
+    ensures { OnOk result (out.new.items ≡ out.old.items ++ file_fault_line form name.now fault) }
+{
+    match form {
+        Form::Text => push_fault_text(out, name, fault),
+        Form::Json => push_fault_object(alloc, out, name, fault),
+    }
+}
+
+/// The review of a file with a fault: only its end. No part of a list can then be taken for the
+/// whole list.
+pub fn review_fault(
+    alloc: Global,
+    form: Form,
+    name: &[u8],
+    fault: FileFault,
+) -> Result<Reviewed, AllocError>
+    ensures { IfOk result (λ r. review r ≡ fault_review form name.now fault) }
+{
+    let mut text = Vec::new(alloc);
+    push_fault(alloc, form, &mut text, name, fault)?;
+    Ok(Reviewed {
+        text,
+        counts: Counts::NONE,
+        fault: Some(fault),
+    })
+}
+
+/// The review of an `authorized_keys` file of this name and these bytes: a record for each entry
+/// and each line that cannot be read, in their order, and an end with counts and the SHA-256. A
+/// file of more than 67,108,864 bytes has the fault A7. During the review at most as many bytes of
+/// its entries are stored as the file has (see `push_records`).
+pub fn review_auth(
+    alloc: Global,
+    form: Form,
+    asked: &ReviewOptions<'_>,
+    name: &[u8],
+    file: &[u8],
+) -> Result<Reviewed, AllocError>
+    ensures { IfOk result
+        (λ r. review r ≡ auth_review form (asking_of asked.entry.now) name.now file.now) }
+{
+    if file.len() > FILE_LIMIT {
+        review_fault(alloc, form, name, FileFault::TooLong)
+    } else {
+        whole_review(alloc, form, asked, name, file)
+    }
+}
+
+/// The line with the total of all files.
+pub fn total_line(alloc: Global, form: Form, total: &Total) -> Result<Vec<u8>, AllocError>
+    ensures { IfOk result (λ line. line.items ≡ total_line form total.now) }
+{
+    let mut line = Vec::new(alloc);
+    match form {
+        Form::Text => push_total_text(alloc, &mut line, total)?,
+        Form::Json => push_total_object(alloc, &mut line, total)?,
+    }
+    Ok(line)
+}

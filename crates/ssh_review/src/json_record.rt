@@ -1,0 +1,268 @@
+//! The record of a line of an `authorized_keys` file, as a JSON object, and the fields that all
+//! records have.
+
+ghost use Rattle.std.specs.Prelude.{◌≡◌, ◌++◌, OnOk, IfOk};
+ghost use Rattle.std.specs.List.{flat_map};
+ghost use Rattle.ssh_review.specs.Findings.{with_comma, code_object, finding_object, findings_end, findings_list};
+ghost use Rattle.ssh_review.specs.Objects.{empty_fields, entry_object, fingerprint_text, grant_fields, held_fields, is_word, key_fields, no_key_fields, object_head, options_field, owner_fields, rights_field, unreadable_object};
+
+use crate::fields::{
+    push_bits_field, push_moment_or_null, push_null_field, push_number_field, push_number_or_null,
+    push_options, push_rights_words, push_text_field, push_text_or_null,
+};
+use crate::sentence::detail;
+use ssh_findings::{Coded, Facts, Finding, HeldKey};
+use ssh_keys::KeyKind;
+use ssh_options::OptionsView;
+use ssh_print::push_json_text;
+use ssh_rights::Rights;
+use std::alloc::{AllocError, Global};
+
+/// Appends the object of a finding: its code and detail.
+#[tactic(auto, unfolding(crate::specs::Findings::code_object))]
+pub(crate) fn push_code_object(
+    alloc: Global,
+    out: &mut Vec<u8>,
+    code: &[u8],
+    said: &[u8],
+) -> Result<(), AllocError>
+    ensures { OnOk result (out.new.items ≡ out.old.items ++ code_object code.now said.now) }
+{
+    out.extend_from_slice(b"{\"code\":")?;
+    push_json_text(alloc, out, code)?;
+    push_text_field(alloc, out, b"detail", said)?;
+    out.push(b'}')?;
+    Ok(())
+}
+
+fn push_finding_object(alloc: Global, out: &mut Vec<u8>, finding: Finding) -> Result<(), AllocError>
+    ensures { OnOk result (out.new.items ≡ out.old.items ++ finding_object finding) }
+{
+    let said = detail(alloc, finding)?;
+    push_code_object(alloc, out, finding.code().text(), &said)
+}
+
+/// Appends the objects of findings, each after a comma.
+fn push_others(alloc: Global, out: &mut Vec<u8>, found: &[Finding]) -> Result<(), AllocError>
+    ensures { OnOk result (out.new.items ≡ out.old.items ++ flat_map with_comma found.now) }
+{
+    for finding in found {
+        out.push(b',')?;
+        push_finding_object(alloc, out, *finding)?;
+    }
+    Ok(())
+}
+
+/// Appends the objects of findings, separated by commas.
+fn push_findings_list(alloc: Global, out: &mut Vec<u8>, found: &[Finding]) -> Result<(), AllocError>
+    ensures { OnOk result (out.new.items ≡ out.old.items ++ findings_list found.now) }
+{
+    if let [first, others @ ..] = found {
+        push_finding_object(alloc, out, *first)?;
+        push_others(alloc, out, others)?;
+    }
+    Ok(())
+}
+
+/// Appends the last field of a record, its findings, and the end of its line.
+pub(crate) fn push_findings_end(
+    alloc: Global,
+    out: &mut Vec<u8>,
+    found: &[Finding],
+) -> Result<(), AllocError>
+    ensures { OnOk result (out.new.items ≡ out.old.items ++ findings_end found.now) }
+{
+    out.extend_from_slice(b",\"findings\":[")?;
+    push_findings_list(alloc, out, found)?;
+    out.extend_from_slice(b"]}\n")?;
+    Ok(())
+}
+
+/// The length of a fingerprint: `SHA256:`, and a digest in base64 without padding.
+const FINGERPRINT_LEN: usize = 50;
+
+/// A line of a file: the name of the file, and the line's number from 1.
+#[derive(Clone, Copy, Debug)]
+pub(crate) struct LineRef<'a> {
+    pub(crate) name: &'a [u8],
+    pub(crate) number: u64,
+}
+
+/// Appends the first fields of a record: the file, the line, and what the line is.
+#[tactic(auto, unfolding(crate::specs::Objects::object_head))]
+pub(crate) fn push_object_head(
+    alloc: Global,
+    out: &mut Vec<u8>,
+    place: &LineRef<'_>,
+    is: &[u8],
+) -> Result<(), AllocError>
+    ensures { OnOk result (out.new.items
+        ≡ out.old.items ++ object_head place.entry.now.name.now place.entry.now.number is.now) }
+{
+    out.extend_from_slice(b"{\"file\":")?;
+    push_json_text(alloc, out, place.name)?;
+    push_number_field(alloc, out, b"line", place.number)?;
+    push_text_field(alloc, out, b"is", is)?;
+    Ok(())
+}
+
+/// The field `is` of an entry: a certificate authority, or a key.
+pub(crate) fn is_word(is_authority: bool) -> &'static [u8]
+    ensures { result.now ≡ is_word is_authority }
+{
+    if is_authority { b"authority" } else { b"key" }
+}
+
+/// A fingerprint as `ssh-keygen -l` prints it, from its base64.
+pub(crate) fn fingerprint_text(alloc: Global, fingerprint: &[u8]) -> Result<Vec<u8>, AllocError>
+    ensures { IfOk result (λ text. text.items ≡ fingerprint_text fingerprint.now) }
+{
+    let mut text = Vec::with_capacity(alloc, FINGERPRINT_LEN)?;
+    text.extend_from_slice(b"SHA256:")?;
+    text.extend_from_slice(fingerprint)?;
+    Ok(text)
+}
+
+/// Appends the fields of a key: its type, the bits of an RSA key, and the fingerprint.
+#[tactic(auto, unfolding(crate::specs::Objects::key_fields))]
+pub(crate) fn push_key_fields(
+    alloc: Global,
+    out: &mut Vec<u8>,
+    kind: KeyKind,
+    bits: Option<u32>,
+    fingerprint: &[u8],
+) -> Result<(), AllocError>
+    ensures { OnOk result (out.new.items ≡ out.old.items ++ key_fields kind bits fingerprint.now) }
+{
+    let text = fingerprint_text(alloc, fingerprint)?;
+    push_text_field(alloc, out, b"type", kind.name())?;
+    push_bits_field(alloc, out, bits)?;
+    push_text_field(alloc, out, b"key", &text)?;
+    Ok(())
+}
+
+/// Appends the fields of an entry's key, and its comment.
+#[tactic(auto, unfolding(crate::specs::Objects::owner_fields))]
+fn push_owner_fields(alloc: Global, out: &mut Vec<u8>, facts: &Facts) -> Result<(), AllocError>
+    ensures { OnOk result (out.new.items ≡ out.old.items ++ owner_fields facts.now) }
+{
+    push_key_fields(alloc, out, facts.kind, facts.bits, &facts.fingerprint)?;
+    push_text_field(alloc, out, b"comment", facts.comment.as_slice())?;
+    Ok(())
+}
+
+fn push_options_field(
+    alloc: Global,
+    out: &mut Vec<u8>,
+    options: OptionsView<'_>,
+) -> Result<(), AllocError>
+    ensures { OnOk result (out.new.items ≡ out.old.items ++ options_field options.entry) }
+{
+    let mut text = Vec::new(alloc);
+    push_options(&mut text, options)?;
+    push_text_field(alloc, out, b"options", &text)
+}
+
+fn push_rights_field(alloc: Global, out: &mut Vec<u8>, rights: &Rights) -> Result<(), AllocError>
+    ensures { OnOk result (out.new.items ≡ out.old.items ++ rights_field rights.now) }
+{
+    let mut words = Vec::new(alloc);
+    push_rights_words(alloc, &mut words, rights)?;
+    push_text_field(alloc, out, b"rights", &words)
+}
+
+/// Appends the rights that the line gives, and its limits.
+#[tactic(auto, unfolding(crate::specs::Objects::grant_fields))]
+fn push_grant_fields(alloc: Global, out: &mut Vec<u8>, facts: &Facts) -> Result<(), AllocError>
+    ensures { OnOk result (out.new.items ≡ out.old.items ++ grant_fields facts.now) }
+{
+    push_rights_field(alloc, out, &facts.rights)?;
+    push_text_or_null(alloc, out, b"command", &facts.rights.command)?;
+    push_text_or_null(alloc, out, b"from", &facts.from)?;
+    push_text_or_null(alloc, out, b"principals", &facts.principals)?;
+    push_moment_or_null(alloc, out, b"expires", facts.until)?;
+    Ok(())
+}
+
+/// Appends the record of an entry with these options. `shadowed_by` is the line whose entry lets
+/// the key in first, if there is one.
+#[tactic(auto, unfolding(crate::specs::Objects::entry_object))]
+pub(crate) fn push_entry_object(
+    alloc: Global,
+    out: &mut Vec<u8>,
+    place: &LineRef<'_>,
+    facts: &Facts,
+    options: OptionsView<'_>,
+    shadowed_by: Option<u64>,
+    found: &[Finding],
+) -> Result<(), AllocError>
+    ensures { OnOk result (out.new.items ≡ out.old.items ++ entry_object place.entry.now.name.now
+        place.entry.now.number facts.now options.entry shadowed_by found.now) }
+{
+    push_object_head(alloc, out, place, is_word(facts.is_authority))?;
+    push_owner_fields(alloc, out, facts)?;
+    push_options_field(alloc, out, options)?;
+    push_grant_fields(alloc, out, facts)?;
+    push_number_or_null(alloc, out, b"shadowed_by", shadowed_by)?;
+    push_findings_end(alloc, out, found)?;
+    Ok(())
+}
+
+fn push_no_key(out: &mut Vec<u8>) -> Result<(), AllocError>
+    ensures { OnOk result (out.new.items ≡ out.old.items ++ no_key_fields) }
+{
+    push_null_field(out, b"type")?;
+    push_null_field(out, b"bits")?;
+    push_null_field(out, b"key")?;
+    Ok(())
+}
+
+/// Appends the fields of the key that OpenSSH reads on a line which is unreadable here; `null` if
+/// there is no such key.
+pub(crate) fn push_held_fields(
+    alloc: Global,
+    out: &mut Vec<u8>,
+    held: Option<HeldKey>,
+) -> Result<(), AllocError>
+    ensures { OnOk result (out.new.items ≡ out.old.items ++ held_fields held) }
+{
+    match held {
+        Some(held) => push_key_fields(alloc, out, held.kind, held.bits, &held.fingerprint),
+        None => push_no_key(out),
+    }
+}
+
+/// Appends `null` for the fields that only an entry has.
+#[tactic(auto, unfolding(crate::specs::Objects::empty_fields))]
+fn push_empty_fields(out: &mut Vec<u8>) -> Result<(), AllocError>
+    ensures { OnOk result (out.new.items ≡ out.old.items ++ empty_fields) }
+{
+    push_null_field(out, b"comment")?;
+    push_null_field(out, b"options")?;
+    push_null_field(out, b"rights")?;
+    push_null_field(out, b"command")?;
+    push_null_field(out, b"from")?;
+    push_null_field(out, b"principals")?;
+    push_null_field(out, b"expires")?;
+    push_null_field(out, b"shadowed_by")?;
+    Ok(())
+}
+
+/// Appends the record of a line that cannot be read, with its recovered key, if there is one.
+#[tactic(auto, unfolding(crate::specs::Objects::unreadable_object))]
+pub(crate) fn push_unreadable_object(
+    alloc: Global,
+    out: &mut Vec<u8>,
+    place: &LineRef<'_>,
+    held: Option<HeldKey>,
+    found: &[Finding],
+) -> Result<(), AllocError>
+    ensures { OnOk result (out.new.items ≡ out.old.items ++ unreadable_object
+        place.entry.now.name.now place.entry.now.number held found.now) }
+{
+    push_object_head(alloc, out, place, b"unreadable")?;
+    push_held_fields(alloc, out, held)?;
+    push_empty_fields(out)?;
+    push_findings_end(alloc, out, found)?;
+    Ok(())
+}

@@ -1,4 +1,0 @@
-pub mod UnquotedLemmas
-pub mod PrintableLemmas
-pub mod WordLemmas
-pub mod ObjectLemmas

@@ -1,6 +1,0 @@
-use Rattle.ssh_review_json.proofs.ObjectLemmas.{entry-line, unreadable-line}
-use Rattle.ssh_review_json.proofs.PrintableLemmas.{string-printable}
-use Rattle.ssh_review_json.proofs.laws.one_line_rule.Goals as goal
-
-pub returns : goal.returns
-returns c = record { string = λ text h. (string-printable text h).all; entry = entry-line; unreadable = unreadable-line }

@@ -1,8 +1,0 @@
-use Rattle.std.proofs.Common.{◌≡◌, ◌++◌}
-use Rattle.ssh_options.specs.OptionText.{escaped}
-use Rattle.ssh_review_json.proofs.options.push_value_bytes.Given as goal
-
-abbrev pub invariant-loop-byte : goal.invariant-loop-byte
-invariant-loop-byte l =
-    (goal.iterator-loop-byte).can_next l.byte-iterator × (goal.iterator-loop-byte).is_finite l.byte-iterator
-    × (l.fn.out.items ++ escaped l.fn.value ≡ l.out.items ++ escaped l.byte-iterator)

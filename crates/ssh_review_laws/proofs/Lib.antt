@@ -1,6 +1,0 @@
-mod ListLemmas
-mod RecordLemmas
-mod ListingLemmas
-mod SpelledLemmas
-mod HostSpelledLemmas
-mod HostListingLemmas

@@ -1,9 +1,0 @@
-use Rattle.ssh_rewriting.specs.Samples.{auth_files_written, hashed_files_written, known_files_written}
-use Rattle.ssh_rewriting.proofs.samples.files_as_written.Goals as goal
-
-pub returns : goal.returns
-returns c = record {
-  auth = auth_files_written;
-  known = known_files_written;
-  hashed = hashed_files_written;
-}

@@ -1,8 +1,0 @@
-use Rattle.std.proofs.Common.{refl}
-use Rattle.ssh_rights.proofs.samples.rights_as_left.Goals as goal
-
-pub returns : goal.returns
-returns c = record {
-  certificates = (refl, refl, refl, refl, refl, refl, refl, refl, refl, refl, refl);
-  lines = (refl, refl, refl, refl, refl, refl, refl, refl, refl, refl, refl, refl, refl);
-}

@@ -1,2 +1,0 @@
-mod ShowLemmas
-pub mod TopLineLemmas

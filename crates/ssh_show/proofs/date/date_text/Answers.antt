@@ -1,7 +1,0 @@
-use Rattle.std.proofs.Common.{inr}
-use Rattle.std.proofs.lemmas.Result.{IfOk-weaker}
-use Rattle.ssh_show.proofs.date.date_text.Goals as goal
-
-pub returns-in-Some : goal.returns-in-Some
-returns-in-Some c =
-    IfOk-weaker c.clock_text.result _ _ (λ text e. inr (c.in-Some.ensures.0, (c.in-Some.shown, c.in-Some.ensures.1, e))) c.clock_text.ensures

@@ -1,6 +1,0 @@
-pub mod ShownTexts
-pub mod ShownBodies
-pub mod Showing
-pub mod ShownLines
-pub mod Offering
-pub mod Samples

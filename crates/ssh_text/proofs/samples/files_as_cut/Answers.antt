@@ -1,5 +1,0 @@
-use Rattle.ssh_text.specs.Samples.{file_samples_read, piece_samples_read}
-use Rattle.ssh_text.proofs.samples.files_as_cut.Goals as goal
-
-pub returns : goal.returns
-returns c = record { files = file_samples_read; pieces = piece_samples_read }

@@ -1,0 +1,20 @@
+use Rattle.ssh_trust.proofs.Imports.{login_claim, login_of, login-claimed, LoginDecides, LoginTells, LoginMeans, HoldsOfRead}
+use Rattle.ssh_trust.proofs.AnswerLemmas.{decided-too}
+use Rattle.ssh_trust.proofs.ReadLemmas.{read-too}
+use Rattle.ssh_trust.proofs.calls.login_from.Goals as goal
+
+pub returns-clause-means : goal.returns-clause-means
+returns-clause-means g c = λ claim is.
+    let old = g.S.Source.left c.args.reader.now in
+    let new = g.S.Source.left c.of_reader.new.reader in
+    decided-too (login_claim (login_of c.args.query.now)) claim c.of_reader.result (λ x d. HoldsOfRead old new (λ file. LoginDecides file x c.args.vouched.now d))
+    (λ x d. HoldsOfRead old new (λ file. LoginMeans file x c.args.vouched.now d)) (λ d h. read-too old new _ _ (λ file k. k.0) h)
+    (login-claimed (login_of c.args.query.now) claim is) c.of_reader.ensures.means
+
+pub returns-clause-tells : goal.returns-clause-tells
+returns-clause-tells g c = λ claim is.
+    let old = g.S.Source.left c.args.reader.now in
+    let new = g.S.Source.left c.of_reader.new.reader in
+    decided-too (login_claim (login_of c.args.query.now)) claim c.of_reader.result (λ x d. HoldsOfRead old new (λ file. LoginDecides file x c.args.vouched.now d))
+    (λ x d. HoldsOfRead old new (λ file. LoginTells file x c.args.vouched.now d)) (λ d h. read-too old new _ _ (λ file k. k.1) h)
+    (login-claimed (login_of c.args.query.now) claim is) c.of_reader.ensures.means

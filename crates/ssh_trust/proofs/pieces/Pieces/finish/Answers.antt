@@ -1,4 +1,0 @@
-use Rattle.ssh_trust.proofs.pieces.Pieces.finish.Goals as goal
-
-pub returns-clause-found : goal.returns-clause-found
-returns-clause-found g c = c.in_ok-end.ensures

@@ -1,4 +1,0 @@
-use Rattle.ssh_trust.proofs.scan.Scan.is_settled.Goals as goal
-
-pub returns : goal.returns
-returns g c = c.is_some.ensures

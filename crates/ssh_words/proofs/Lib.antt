@@ -1,4 +1,0 @@
-mod PlainCommand
-pub mod CommandLineLemmas
-mod SubcommandLemmas
-pub mod AnsweredLemmas

@@ -1,7 +1,0 @@
-use Rattle.std.proofs.Common.{◌≡◌, take}
-use Rattle.clap.specs.Words.{app_of}
-use Rattle.ssh_words.specs.CommandLine.{with_options}
-use Rattle.ssh_words.proofs.command.with_options.Given as goal
-
-abbrev pub invariant-loop-row : goal.invariant-loop-row
-invariant-loop-row l = app_of l.command ≡ with_options (app_of l.fn.command) (take l.row-index l.rows)
