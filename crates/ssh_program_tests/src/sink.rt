@@ -7,7 +7,7 @@ ghost use Rattle.ssh_program.specs.Account.{NoneFailed, after_write, where_told}
 use crate::source::{FailsAt, OneFile, Sips};
 use ssh_program::{Sink, WordsError, refuse, run};
 use std::alloc::{AllocError, Global};
-use std::io::{Error, ErrorKind, Result, Write};
+use std::io::{self, Error, ErrorKind, Write};
 
 /// The output and status of the program for these arguments, over a file `f` and standard input.
 /// The read of this index, from 1, and every later one fails.
@@ -91,11 +91,11 @@ impl Page {
 impl Write for Page {
     ghost contents = { λ p. Some p.bytes.items };
 
-    fn write(&mut self, buf: &[u8]) -> Result<usize> {
+    fn write(&mut self, buf: &[u8]) -> io::Result<usize> {
         self.bytes.write(buf)
     }
 
-    fn flush(&mut self) -> Result<()> {
+    fn flush(&mut self) -> io::Result<()> {
         Ok(())
     }
 }
@@ -105,7 +105,7 @@ impl Sink for Page {
 
     ghost tells = { λ p. refl };
 
-    fn put(&mut self, buf: &[u8]) -> Result<usize> {
+    fn put(&mut self, buf: &[u8]) -> io::Result<usize> {
         let result = self.bytes.write(buf);
         match &result {
             Ok(n) => {
@@ -154,11 +154,11 @@ impl FailsOnce {
 impl Write for FailsOnce {
     ghost contents = { λ w. Some w.page.bytes.items };
 
-    fn write(&mut self, buf: &[u8]) -> Result<usize> {
+    fn write(&mut self, buf: &[u8]) -> io::Result<usize> {
         self.page.write(buf)
     }
 
-    fn flush(&mut self) -> Result<()> {
+    fn flush(&mut self) -> io::Result<()> {
         Ok(())
     }
 }
@@ -169,7 +169,7 @@ impl Sink for FailsOnce {
 
     ghost tells = { λ w. refl };
 
-    fn put(&mut self, buf: &[u8]) -> Result<usize> {
+    fn put(&mut self, buf: &[u8]) -> io::Result<usize> {
         self.calls = self.calls.saturating_add(1);
         if self.calls == self.index {
             self.page.failures += 1;

@@ -7,7 +7,7 @@ ghost use Rattle.ssh_program_tests.specs.declared.source.Place.TheVariants.{Nowh
 
 use ssh_files::Files;
 use std::alloc::Global;
-use std::io::{Error, ErrorKind, Read, Result};
+use std::io::{self, Error, ErrorKind, Read};
 use std::test::Fail;
 
 /// An Ed25519 key of 32 zero bytes.
@@ -92,7 +92,7 @@ impl Read for OneFile<'_> {
       failed = option_map (λ n. n.now) m.failed;
     })) };
 
-    fn read(&mut self, buf: &mut [u8]) -> Result<usize> {
+    fn read(&mut self, buf: &mut [u8]) -> io::Result<usize> {
         self.read_chosen(buf)
     }
 }
@@ -128,7 +128,7 @@ impl Files for OneFile<'_> {
         name == self.name
     }
 
-    fn read_chosen(&mut self, buf: &mut [u8]) -> Result<usize> {
+    fn read_chosen(&mut self, buf: &mut [u8]) -> io::Result<usize> {
         match self.place {
             Place::Nowhere => {
                 self.failures = self.failures.saturating_add(1);
@@ -170,7 +170,7 @@ impl Read for FailsAt<'_> {
       failed = option_map (λ n. n.now) m.source.failed;
     })) };
 
-    fn read(&mut self, buf: &mut [u8]) -> Result<usize> {
+    fn read(&mut self, buf: &mut [u8]) -> io::Result<usize> {
         self.read_chosen(buf)
     }
 }
@@ -195,7 +195,7 @@ impl Files for FailsAt<'_> {
         self.source.is_regular(name)
     }
 
-    fn read_chosen(&mut self, buf: &mut [u8]) -> Result<usize> {
+    fn read_chosen(&mut self, buf: &mut [u8]) -> io::Result<usize> {
         self.reads = self.reads.saturating_add(1);
         if self.reads >= self.index {
             self.source.failures = self.source.failures.saturating_add(1);
@@ -226,7 +226,7 @@ impl<'a> Sips<'a> {
 }
 
 impl Read for Sips<'_> {
-    fn read(&mut self, buf: &mut [u8]) -> Result<usize> {
+    fn read(&mut self, buf: &mut [u8]) -> io::Result<usize> {
         self.read_chosen(buf)
     }
 }
@@ -244,7 +244,7 @@ impl Files for Sips<'_> {
         self.source.is_regular(name)
     }
 
-    fn read_chosen(&mut self, buf: &mut [u8]) -> Result<usize> {
+    fn read_chosen(&mut self, buf: &mut [u8]) -> io::Result<usize> {
         if self.source.place == Place::File {
             if self.good == 0 {
                 return Err(Error::from(ErrorKind::Interrupted));
