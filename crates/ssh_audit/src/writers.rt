@@ -47,6 +47,7 @@ pub struct Retried<W> {
 }
 
 impl<W> Retried<W> {
+    /// A writer over this one.
     pub fn new(writer: W) -> Self
         ensures { result.writer ≡ writer }
     {

@@ -139,6 +139,8 @@ impl Key {
         }
     }
 
+    /// The blob: the type name and the fields of the key, each as an SSH string (RFC 4253, section
+    /// 6.6). It has 262,144 bytes at most.
     pub fn blob(&self) -> &[u8]
         ensures { result.now ≡ key_blob self.now }
     {

@@ -102,6 +102,7 @@ impl EscapedPiece {
         EscapedPiece { room, len }
     }
 
+    /// The escaped text: printable ASCII.
     pub fn as_slice(&self) -> &[u8]
         ensures { result.now ≡ self.now }
     {

@@ -89,6 +89,7 @@ impl HexPiece {
         HexPiece { room, len }
     }
 
+    /// The digits, two for each byte.
     pub fn as_slice(&self) -> &[u8]
         ensures { result.now ≡ self.now }
     {

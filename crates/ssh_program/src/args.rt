@@ -126,6 +126,7 @@ pub enum Needed {
 }
 
 impl Needed {
+    /// Whether a command without it is `fault usage`.
     pub fn is_required(self) -> bool
         ensures { result ≡ is_required self }
     {

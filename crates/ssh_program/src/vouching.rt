@@ -46,6 +46,7 @@ pub struct MemoryFile<'a> {
 }
 
 impl<'a> MemoryFile<'a> {
+    /// A source whose one file has these bytes. No read of it has failed yet.
     pub fn new(bytes: &'a [u8]) -> Self
         ensures bytes { result.bytes.now ≡ bytes.now }
         ensures failures { result.failures ≡ 0 }

@@ -34,6 +34,7 @@ impl<'a> Model for Lines<'a> {
 }
 
 impl<'a> Lines<'a> {
+    /// The lines of these bytes. A file without a byte has none.
     pub fn new(file: &'a [u8]) -> Lines<'a>
         ensures { result ≡ (1, file.now) }
     {

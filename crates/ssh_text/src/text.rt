@@ -109,12 +109,14 @@ impl Model for Bytes {
 }
 
 impl Bytes {
+    /// The bytes of this vector, which is not copied.
     pub fn new(kept: Vec<u8>) -> Bytes
         ensures { result ≡ kept.items }
     {
         Bytes { kept }
     }
 
+    /// The bytes.
     pub fn as_slice(&self) -> &[u8]
         ensures { result.now ≡ self.now }
     {
