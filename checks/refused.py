@@ -22,8 +22,8 @@ SIDE_BY_SIDE = max(1, min(3, (os.cpu_count() or 2) - 1))
 TOLD = ("error: AllocError", "error: Memory", "out of memory")
 
 
-# What no library is: laws alone, the program, which refused_growth.py runs, and tests.
-NO_LIBRARIES = ("ssh_laws", "ssh_program", "ssh_program_tests", "ssh_audit")
+# What no library is: the program, which refused_growth.py runs, and tests.
+NO_LIBRARIES = ("ssh_program", "ssh_program_tests", "ssh_audit")
 
 
 def libraries_of(top):

@@ -73,9 +73,9 @@ pub use Rattle.ssh_print.specs.declared.text.Part.{Part}
 pub use Rattle.ssh_program.specs.Account.{NoneFailed, Account, failing, takes_nothing, taking, where_told}
 pub use Rattle.ssh_program.specs.Admissions.{AsksKey, told_both, nothing_told, telling, KeyAsking, beside_answer, Otherness, IsToldUnread, told_by, told_over, unread_fault, AsksBy, AsksFiles, AsksOffer, ToldLines, offer_or_fault, or_shown_fault, told_of, told_response, denied_outcome, outcome_of, status_by, status_of}
 pub use Rattle.ssh_program.specs.AdmissionsView.{told_seen}
-pub use Rattle.ssh_program.specs.AnswersSamples.{outcomes_summed, statuses_told}
-pub use Rattle.ssh_program.specs.Asked.{AuditFiles, SshsigQuestion}
-pub use Rattle.ssh_program.specs.AskedView.{question_of, files_seen}
+pub use Rattle.ssh_program.specs.AnswerSamples.{outcomes_summed, statuses_told}
+pub use Rattle.ssh_program.specs.FileNames.{AuditFiles, SshsigQuestion}
+pub use Rattle.ssh_program.specs.FileNamesView.{question_of, files_seen}
 pub use Rattle.ssh_program.specs.Audits.{host_by, login_by, Deciding, Audits, or_vouch_fault, vouched_in, answer_by, decided_by, after_vouching, vouched_or_fault, evidence_by, audit_response, IsAuditFault, IsVouchReadFault, decided_response, vouched_response, IsTrustReadFault, DecidesReader, refusal_of, answer_over, host_rests, login_rests}
 pub use Rattle.ssh_program.specs.ChosenReads.{FailsOn, ReadsOn}
 pub use Rattle.ssh_program.specs.CommandLine.{request_of, Request, with_subcommands, request_in, with_options, program_app, spelled, option_rule}
@@ -92,11 +92,11 @@ pub use Rattle.ssh_program.specs.Keys.{login_asking, host_asking, AdmitsInZone}
 pub use Rattle.ssh_program.specs.Logins.{RespondsInZone, RespondsToLogin}
 pub use Rattle.ssh_program.specs.Options.{subcommand_name, option_word, subcommand_named, subcommands, names_id}
 pub use Rattle.ssh_program.specs.Printing.{Breaks, TakesUpTo, TakesAll, WritesResponse}
-pub use Rattle.ssh_program.specs.QuestionsTexts.{OptionTexts, RespondsByTexts, IsTextReadFault, IsTextsReadFault, after_text, after_texts, text_at, text_in, texts_at, text_on}
-pub use Rattle.ssh_program.specs.QuestionsTextsView.{texts_seen, TakesText, TakesTexts, taken_seen}
+pub use Rattle.ssh_program.specs.OfferTexts.{OptionTexts, RespondsByTexts, IsTextReadFault, IsTextsReadFault, after_text, after_texts, text_at, text_in, texts_at, text_on}
+pub use Rattle.ssh_program.specs.OfferTextsView.{texts_seen, TakesText, TakesTexts, taken_seen}
 pub use Rattle.ssh_program.specs.Requests.{RespondsBy, Answers, request_words, source_of, Responds, RespondsIn}
 pub use Rattle.ssh_program.specs.Responding.{SignsDigest, IsUsageOf, SignsBody, SignsClaim, SignsMessage, SignsVouched, SignsAgain, SignsOne}
-pub use Rattle.ssh_program.specs.Resting.{RestsOn, VouchAlike, first_resting, second_resting, kept_by, evidence_found, sought_in}
+pub use Rattle.ssh_program.specs.NeededVouches.{RestsOn, VouchAlike, first_resting, second_resting, kept_by, evidence_found, sought_in}
 pub use Rattle.ssh_program.specs.Rewritings.{new_file, rewrite_over, RewritesFile, rewrite_kind, IsTrustFault, Rewrites, new_response}
 pub use Rattle.ssh_program.specs.Samples.{host_values_in_order, login_asks_more, login_is_spelled, login_values_in_order, show_kinds, texts_of_files}
 pub use Rattle.ssh_program.specs.Shows.{shown_part, ShowsFile, ShowsBytes}
@@ -108,8 +108,8 @@ pub use Rattle.ssh_program.specs.TextsView.{places_seen}
 pub use Rattle.ssh_program.specs.Usage.{usage_line, usage_option}
 pub use Rattle.ssh_program.specs.VouchLines.{HasBytes, vouch_file, vouch_line}
 pub use Rattle.ssh_program.specs.Vouchings.{ByVouching, VouchesFor, again_in}
-pub use Rattle.ssh_program.specs.WordsSamples.{hosts_asked, keys_asked, logins_asked, others_asked, reviews_asked, texts_are_asked, usage_told, words_refused}
-pub use Rattle.ssh_program.specs.WordsView.{rows_in, request_in_memory, IfAnswered, FaultIs, Parses}
+pub use Rattle.ssh_program.specs.ArgsSamples.{hosts_asked, keys_asked, logins_asked, others_asked, reviews_asked, texts_are_asked, usage_told, words_refused}
+pub use Rattle.ssh_program.specs.ArgsView.{rows_in, request_in_memory, IfAnswered, FaultIs, Parses}
 pub use Rattle.ssh_program.specs.declared.args.ArgName.{ArgName}
 pub use Rattle.ssh_program.specs.declared.args.ArgName.TheVariants.{Zone, Kind}
 pub use Rattle.ssh_program.specs.declared.args.Needed.{Needed}

@@ -22,17 +22,18 @@ pub mod TextLemmas
 mod ChosenLemmas
 mod OthersLemmas
 mod QuestionLemmas
-mod RestingLemmas
+mod NeededLemmas
 mod KeptLemmas
 mod LoginLemmas
 mod HostLemmas
 pub mod AdmissionLemmas
 mod KeyLemmas
 mod ExplainLemmas
-mod AnswersQuestionLemmas
+mod FileAnswerLemmas
 mod DenialLemmas
 mod FileLemmas
 pub mod SpelledLemmas
 pub mod SpelledBytes
 pub mod KeyRunLemmas
 pub mod SignatureRunLemmas
+mod FileRunLemmas

@@ -22,7 +22,7 @@ use Rattle.ssh_trust.proofs.SshsigLemmas.{answered_means}
 use Rattle.ssh_print.specs.SshsigText.{sshsig_answer_status, sshsig_response}
 use Rattle.ssh_files.specs.Parts.{after_whole}
 use Rattle.ssh_program.specs.declared.subcommand.Subcommand.TheVariants.{Sshsig}
-use Rattle.ssh_program.specs.Asked.{SshsigQuestion}
+use Rattle.ssh_program.specs.FileNames.{SshsigQuestion}
 use Rattle.ssh_program.specs.SignatureRuns.{AsksSignature, BodyBytes, SignatureAnswered, SignatureUnvouched, SignatureVouched}
 use Rattle.ssh_program.specs.Spelling.{sshsig_question}
 use Rattle.ssh_program.specs.Sshsigs.{IsContentFault, IsLastFault, IsSecondFault, IsSshsigReadFault, Signs, body_over, body_response, claim_answer, claim_over, claim_response, message_response, read_again, signature_over, signature_response, vouched_over}

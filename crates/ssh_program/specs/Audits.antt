@@ -12,7 +12,7 @@ use Rattle.ssh_trust.specs.Answer.{if_short}
 use Rattle.ssh_trust.specs.Reads.{AnswersReader}
 use Rattle.ssh_trust.specs.LoginDecision.{login_decision}
 use Rattle.ssh_trust.specs.HostDecision.{host_decision}
-use Rattle.ssh_program.specs.Asked.{AuditFiles}
+use Rattle.ssh_program.specs.FileNames.{AuditFiles}
 use Rattle.ssh_files.specs.SourceState.{SourceState, bytes_at}
 use Rattle.ssh_files.specs.Parts.{part_at, after_part}
 use Rattle.ssh_files.specs.VouchFile.{vouched_of}

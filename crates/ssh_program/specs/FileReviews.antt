@@ -11,7 +11,7 @@ use Rattle.ssh_review.specs.declared.end.Total.{Total}
 use Rattle.ssh_review.specs.declared.end.Form.{Form}
 use Rattle.ssh_review.specs.Forms.{total_line}
 use Rattle.ssh_review.specs.Reviews.{Review, auth_review, fault_review}
-use Rattle.ssh_review.specs.HostReviewReviews.{known_review}
+use Rattle.ssh_review.specs.HostReviews.{known_review}
 use Rattle.ssh_program.specs.declared.review.ReviewKind.{ReviewKind}
 use Rattle.ssh_program.specs.declared.review.ReviewKind.TheVariants.{Auth, Known}
 use Rattle.ssh_program.specs.declared.review.FileReport.{FileReport}

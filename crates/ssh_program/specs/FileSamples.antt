@@ -8,7 +8,7 @@ use Rattle.ssh_offers.specs.declared.claim.AuditError.TheVariants.{Address, Wron
 use Rattle.ssh_offers.specs.declared.claim.Signed.{Signed}
 use Rattle.ssh_print.specs.Responses.{Response}
 use Rattle.ssh_trust.specs.declared.decision.Decision.{Decision}
-use Rattle.ssh_program.specs.Asked.{SshsigQuestion}
+use Rattle.ssh_program.specs.FileNames.{SshsigQuestion}
 use Rattle.ssh_program.specs.Audits.{after_vouching, audit_response, vouched_in}
 use Rattle.ssh_program.specs.Hashings.{hash_response}
 use Rattle.ssh_program.specs.Rewritings.{new_file, rewrite_kind, rewrite_over}

@@ -7,14 +7,14 @@ use Rattle.ssh_print.specs.Responses.{Response}
 use Rattle.ssh_files.specs.SourceState.{SourceState}
 use Rattle.ssh_files.specs.Values.{ReadsZone, zone_text}
 use Rattle.ssh_program.specs.declared.args.ArgName.TheVariants as option
-use Rattle.ssh_program.specs.Asked.{AuditFiles}
+use Rattle.ssh_program.specs.FileNames.{AuditFiles}
 use Rattle.ssh_program.specs.CommandLine.{request_of}
 use Rattle.ssh_program.specs.declared.subcommand.Subcommand.{Subcommand}
 use Rattle.ssh_program.specs.Granting.{HostDenied, HostGranted, LoginDenied, LoginGranted, TrustsBytes}
 use Rattle.ssh_program.specs.Requests.{request_words, source_of}
 use Rattle.ssh_program.specs.Hosts.{host_spelled}
 use Rattle.ssh_program.specs.Logins.{login_spelled}
-use Rattle.ssh_program.specs.QuestionsTexts.{OptionTexts, after_texts, texts_at}
+use Rattle.ssh_program.specs.OfferTexts.{OptionTexts, after_texts, texts_at}
 use Rattle.ssh_program.specs.Spelling.{audit_files, given}
 use Rattle.ssh_program.specs.Texts.{TextPlaces, text_places}
 

@@ -18,7 +18,7 @@ use Rattle.ssh_trust.specs.HostDecision.{IsHostGrant}
 use Rattle.ssh_trust.specs.Telling.{HostCause, LoginCause}
 use Rattle.ssh_print.specs.Responses.{Response, decision_response}
 use Rattle.ssh_files.specs.SourceState.{SourceState, bytes_at}
-use Rattle.ssh_program.specs.Asked.{AuditFiles}
+use Rattle.ssh_program.specs.FileNames.{AuditFiles}
 use Rattle.ssh_program.specs.Audits.{after_vouching, vouched_in}
 
 -- the trust file, where it is there, is of bytes

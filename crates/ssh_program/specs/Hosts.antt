@@ -13,7 +13,7 @@ use Rattle.ssh_program.specs.declared.args.ArgName.TheVariants as option
 use Rattle.ssh_program.specs.Audits.{Audits, host_by}
 use Rattle.ssh_program.specs.Spelling.{RespondsTo, audit_files, needed, value, value_or}
 use Rattle.ssh_program.specs.Texts.{spelled_by, text_places}
-use Rattle.ssh_program.specs.QuestionsTexts.{OptionTexts, RespondsByTexts}
+use Rattle.ssh_program.specs.OfferTexts.{OptionTexts, RespondsByTexts}
 
 -- the host's key by the options, the texts having been read; or the fault of the first option with an invalid value, in
 -- this order

@@ -14,7 +14,7 @@ use Rattle.ssh_program.specs.declared.args.ArgName.TheVariants as option
 use Rattle.ssh_program.specs.Audits.{Audits, login_by}
 use Rattle.ssh_program.specs.Spelling.{RespondsTo, audit_files, given, needed, or_fault, value, value_or}
 use Rattle.ssh_program.specs.Texts.{spelled_by, text_places}
-use Rattle.ssh_program.specs.QuestionsTexts.{OptionTexts, RespondsByTexts}
+use Rattle.ssh_program.specs.OfferTexts.{OptionTexts, RespondsByTexts}
 
 -- the login by the options, the zone and the texts having been read; or the fault of the first option with an invalid
 -- value, in this order

@@ -9,7 +9,7 @@ use Rattle.ssh_offers.specs.FileSignature.{sshsig_claim}
 use Rattle.ssh_offers.specs.declared.claim.AuditError.{AuditError}
 use Rattle.ssh_offers.specs.declared.claim.Signed.{Signed}
 use Rattle.ssh_trust.specs.SshsigAnswer.{vouched_answer}
-use Rattle.ssh_program.specs.Asked.{SshsigQuestion}
+use Rattle.ssh_program.specs.FileNames.{SshsigQuestion}
 use Rattle.ssh_print.specs.Responses.{Response, usage_response}
 use Rattle.ssh_print.specs.SshsigText.{sshsig_response}
 use Rattle.ssh_program.specs.Audits.{IsFileFault, IsVouchReadFault, vouched_in}

@@ -15,7 +15,7 @@ use Rattle.ssh_program.specs.declared.args.ArgName.TheVariants as option
 use Rattle.ssh_program.specs.Options.{option_word}
 use Rattle.ssh_program.specs.Hosts.{host_spelled}
 use Rattle.ssh_program.specs.Logins.{login_spelled}
-use Rattle.ssh_program.specs.QuestionsTexts.{OptionTexts, text_in, text_on}
+use Rattle.ssh_program.specs.OfferTexts.{OptionTexts, text_in, text_on}
 
 -- the kinds that `show` knows
 abbrev pub ShowKinds : Type 0

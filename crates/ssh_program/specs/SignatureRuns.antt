@@ -12,7 +12,7 @@ use Rattle.ssh_files.specs.SourceState.{SourceState, bytes_at}
 use Rattle.ssh_files.specs.Parts.{after_whole}
 use Rattle.ssh_files.specs.Loading.{within_limit}
 use Rattle.ssh_program.specs.declared.subcommand.Subcommand.TheVariants.{Sshsig}
-use Rattle.ssh_program.specs.Asked.{SshsigQuestion}
+use Rattle.ssh_program.specs.FileNames.{SshsigQuestion}
 use Rattle.ssh_program.specs.Audits.{after_vouching, vouched_in}
 use Rattle.ssh_program.specs.CommandLine.{request_of}
 use Rattle.ssh_program.specs.Requests.{request_words, source_of}

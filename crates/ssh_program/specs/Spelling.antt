@@ -11,7 +11,7 @@ use Rattle.ssh_program.specs.declared.command.CommandError.{CommandError}
 use Rattle.ssh_program.specs.declared.command.CommandError.TheVariants.{Usage, Value, Memory}
 use Rattle.ssh_program.specs.declared.args.ArgName.{ArgName}
 use Rattle.ssh_program.specs.declared.args.ArgName.TheVariants.{Body, File, Message, Namespace, Vouch}
-use Rattle.ssh_program.specs.Asked.{AuditFiles, SshsigQuestion}
+use Rattle.ssh_program.specs.FileNames.{AuditFiles, SshsigQuestion}
 use Rattle.ssh_program.specs.Options.{names_id, option_word}
 
 -- ---- texts

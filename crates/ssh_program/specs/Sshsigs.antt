@@ -9,7 +9,7 @@ use Rattle.ssh_trust.specs.declared.decision.SshsigAnswer.{SshsigAnswer}
 use Rattle.ssh_trust.specs.SshsigAnswer.{sshsig_answer}
 use Rattle.ssh_program.specs.Audits.{IsFileFault, IsVouchReadFault, after_vouching, vouched_in}
 use Rattle.clap.specs.Words.{Row}
-use Rattle.ssh_program.specs.Asked.{SshsigQuestion}
+use Rattle.ssh_program.specs.FileNames.{SshsigQuestion}
 use Rattle.ssh_program.specs.Spelling.{RespondsTo, sshsig_question}
 use Rattle.ssh_files.specs.SourceState.{SourceState, bytes_at, dash}
 use Rattle.ssh_files.specs.Parts.{after_whole}

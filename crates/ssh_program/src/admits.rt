@@ -9,7 +9,7 @@ ghost use Rattle.ssh_print.specs.Offering.{Offered, shown_offer_in, offer_seen};
 ghost use Rattle.jiff.specs.Words.{plain_zone};
 ghost use Rattle.ssh_print.specs.StandIn.{login_algorithm, stand_in};
 ghost use Rattle.ssh_program.specs.Keys.{AdmitsInZone, RespondsToAdmits, login_asking, RespondsToTrusts, host_asking};
-ghost use Rattle.ssh_program.specs.WordsView.{IfAnswered, rows_in};
+ghost use Rattle.ssh_program.specs.ArgsView.{IfAnswered, rows_in};
 
 use crate::admission::ask_files;
 use crate::args::{ArgName, Args};

@@ -8,8 +8,8 @@ ghost use Rattle.ssh_files.specs.Values.{has_pairs, hex_bytes, empty_principals_
 ghost use Rattle.ssh_program.specs.declared.command.CommandError.TheVariants.{Memory, Value};
 ghost use Rattle.ssh_program.specs.Options.{is_required, option_word};
 ghost use Rattle.ssh_program.specs.Spelling.{or_fault, audit_files, given, names_given, names_needed, needed, pairs_given, sshsig_question, usual_port, value, value_or};
-ghost use Rattle.ssh_program.specs.WordsView.{Spells, rows_in};
-ghost use Rattle.ssh_program.specs.AskedView.{files_seen, question_of};
+ghost use Rattle.ssh_program.specs.ArgsView.{Spells, rows_in};
+ghost use Rattle.ssh_program.specs.FileNamesView.{files_seen, question_of};
 ghost use Rattle.ssh_program.specs.Texts.{text_place, text_places};
 ghost use Rattle.ssh_program.specs.TextsView.{place_seen, places_seen};
 ghost use Rattle.ssh_offers.specs.declared.claim.EmptyPrincipals.TheVariants.{Any};

@@ -10,9 +10,9 @@ ghost use Rattle.ssh_offers.specs.declared.claim.Signed.{Signed as SignedValue};
 ghost use Rattle.ssh_offers.specs.Query.{host_check_of, login_of};
 ghost use Rattle.ssh_trust.specs.Answer.{GivesOrMemory, OfClaim, RefusesAs};
 ghost use Rattle.ssh_program.specs.Audits.{Deciding, DecidesReader, host_by, host_rests, login_by, login_rests, refusal_of, Audits, or_vouch_fault};
-ghost use Rattle.ssh_program.specs.Resting.{RestsOn, first_resting, second_resting, sought_in};
+ghost use Rattle.ssh_program.specs.NeededVouches.{RestsOn, first_resting, second_resting, sought_in};
 ghost use Rattle.ssh_program.specs.FileAnswers.{AnswersFile, AuditsFile, AuditsVouched, IsFaultOf, is_memory};
-ghost use Rattle.ssh_program.specs.AskedView.{files_seen};
+ghost use Rattle.ssh_program.specs.FileNamesView.{files_seen};
 ghost use Rattle.ssh_files.specs.Seeking.{TellsOf};
 ghost use Rattle.ssh_print.specs.ResponseView.{response};
 ghost use Rattle.ssh_files.specs.Loading.{KeepsFiles};
@@ -116,7 +116,7 @@ impl Question for LoginQuestion<'_> {
         LoginClaimView::read(&self.query).err()
     }
 
-    #[tactic(auto, using(crate::proofs::QuestionLemmas::rests_refused, crate::proofs::QuestionLemmas::rests_given, crate::proofs::RestingLemmas::login_rests_on))]
+    #[tactic(auto, using(crate::proofs::QuestionLemmas::rests_refused, crate::proofs::QuestionLemmas::rests_given, crate::proofs::NeededLemmas::login_rests_on))]
     fn evidence(&self, alloc: Global) -> Result<Items<Signed>, AuditError> {
         evidence_of_login(alloc, &self.query)
     }
@@ -140,7 +140,7 @@ impl Question for HostQuery<'_> {
         HostClaimView::read(self).err()
     }
 
-    #[tactic(auto, using(crate::proofs::QuestionLemmas::rests_refused, crate::proofs::QuestionLemmas::rests_given, crate::proofs::RestingLemmas::host_rests_on))]
+    #[tactic(auto, using(crate::proofs::QuestionLemmas::rests_refused, crate::proofs::QuestionLemmas::rests_given, crate::proofs::NeededLemmas::host_rests_on))]
     fn evidence(&self, alloc: Global) -> Result<Items<Signed>, AuditError> {
         evidence_of_host(alloc, self)
     }

@@ -6,7 +6,7 @@ ghost use Rattle.ssh_program.specs.Spelling.{IsToldAs};
 ghost use Rattle.ssh_print.specs.ResponseView.{response};
 ghost use Rattle.clap.specs.Words.{subcommand_rows_of, app_of, with_rule, with_subcommand};
 ghost use Rattle.ssh_program.specs.CommandLine.{request_in, program_app, names_rule, option_rule, subcommand_app, with_names, with_options, with_subcommands};
-ghost use Rattle.ssh_program.specs.WordsView.{FaultIs, Parses, request_in_memory};
+ghost use Rattle.ssh_program.specs.ArgsView.{FaultIs, Parses, request_in_memory};
 
 use crate::args::{ArgName, Args, NAMES, Needed};
 use crate::subcommand::{OptionRow, Subcommand};

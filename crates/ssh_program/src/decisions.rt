@@ -4,8 +4,8 @@
 ghost use Rattle.std.specs.Prelude.{option_map};
 ghost use Rattle.jiff.specs.Words.{plain_zone};
 ghost use Rattle.ssh_program.specs.Logins.{RespondsInZone, RespondsToLogin};
-ghost use Rattle.ssh_program.specs.QuestionsTextsView.{texts_seen};
-ghost use Rattle.ssh_program.specs.WordsView.{IfAnswered, rows_in};
+ghost use Rattle.ssh_program.specs.OfferTextsView.{texts_seen};
+ghost use Rattle.ssh_program.specs.ArgsView.{IfAnswered, rows_in};
 ghost use Rattle.ssh_files.specs.SourceState.{IfTells};
 ghost use Rattle.ssh_program.specs.Hosts.{RespondsToHost, RespondsToHostKey};
 

@@ -69,12 +69,12 @@ impl FileQuestion for LoginQuestion<'_> {
         LoginClaimView::read(&self.query).err()
     }
 
-    #[tactic(auto, using(crate::proofs::AnswersQuestionLemmas::rests_refused, crate::proofs::AnswersQuestionLemmas::rests_given))]
+    #[tactic(auto, using(crate::proofs::FileAnswerLemmas::rests_refused, crate::proofs::FileAnswerLemmas::rests_given))]
     fn evidence(&self, alloc: Global) -> Result<Items<Signed>, AuditError> {
         evidence_of_login(alloc, &self.query)
     }
 
-    #[tactic(auto, using(crate::proofs::AnswersQuestionLemmas::login_gives))]
+    #[tactic(auto, using(crate::proofs::FileAnswerLemmas::login_gives))]
     fn decide(
         &self,
         alloc: Global,
@@ -106,12 +106,12 @@ impl FileQuestion for HostQuery<'_> {
         HostClaimView::read(self).err()
     }
 
-    #[tactic(auto, using(crate::proofs::AnswersQuestionLemmas::rests_refused, crate::proofs::AnswersQuestionLemmas::rests_given))]
+    #[tactic(auto, using(crate::proofs::FileAnswerLemmas::rests_refused, crate::proofs::FileAnswerLemmas::rests_given))]
     fn evidence(&self, alloc: Global) -> Result<Items<Signed>, AuditError> {
         evidence_of_host(alloc, self)
     }
 
-    #[tactic(auto, using(crate::proofs::AnswersQuestionLemmas::host_gives))]
+    #[tactic(auto, using(crate::proofs::FileAnswerLemmas::host_gives))]
     fn decide(
         &self,
         alloc: Global,

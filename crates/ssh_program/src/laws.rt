@@ -12,7 +12,7 @@ ghost use Rattle.ssh_offers.specs.Query.{HostCheck, Login as LoginAsked, Login};
 ghost use Rattle.ssh_print.specs.DecisionText.{evidence_line};
 ghost use Rattle.ssh_files.specs.SourceState.{SourceState};
 ghost use Rattle.ssh_files.specs.VouchFile.{vouched_of};
-ghost use Rattle.ssh_program.specs.Asked.{AuditFiles};
+ghost use Rattle.ssh_program.specs.FileNames.{AuditFiles};
 ghost use Rattle.ssh_program.specs.Audits.{audit_response, host_by, login_by};
 ghost use Rattle.ssh_program.specs.Granting.{HostBytes, HostDenied, HostGranted, LoginBytes, LoginDenied, LoginGranted, TrustsBytes};
 ghost use Rattle.ssh_program.specs.VouchLines.{HasBytes, vouch_file, vouch_line};
@@ -29,8 +29,8 @@ ghost use Rattle.ssh_trust.specs.declared.decision.Decision.{Decision as Decisio
 ghost use Rattle.ssh_program.specs.FileSamples.{FaultsInOrder, HashFaultsInOrder, RewriteKinds, SignatureFaultsInOrder, TrustFilesLeft, VouchFilesTold, VouchFilesWritten};
 ghost use Rattle.jiff.specs.Types.{TimeZone as Zone};
 ghost use Rattle.ssh_program.specs.Samples.{HostValuesInOrder, LoginAsksMore, LoginSpelled, LoginValuesInOrder, ShowKinds, TextsOfFiles};
-ghost use Rattle.ssh_program.specs.WordsSamples.{HostsAsked, KeysAsked, LoginsAsked, OthersAsked, ReviewsAsked, TextsAsked, UsageTold, WordsRefused};
-ghost use Rattle.ssh_program.specs.AnswersSamples.{AdmitsSpelled, OutcomesSummed, StatusesTold, TrustsSpelled};
+ghost use Rattle.ssh_program.specs.ArgsSamples.{HostsAsked, KeysAsked, LoginsAsked, OthersAsked, ReviewsAsked, TextsAsked, UsageTold, WordsRefused};
+ghost use Rattle.ssh_program.specs.AnswerSamples.{AdmitsSpelled, OutcomesSummed, StatusesTold, TrustsSpelled};
 
 /// What is printed of a signature is, after its number, a line of a vouch file; and a vouch file of
 /// such lines vouches for exactly these signatures.

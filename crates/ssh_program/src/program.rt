@@ -1,10 +1,10 @@
 //! Runs the program: arguments and files in, an answer to a writer and an exit status out.
 
-ghost use Rattle.std.specs.Prelude.{ℕ, [], map, IfOk, Some, ◌≡◌, List};
+ghost use Rattle.std.specs.Prelude.{ℕ, [], map, IfOk, Some, ◌≡◌, ◌<◌, List};
 ghost use Rattle.ssh_program.specs.CommandLine.{request_of};
 ghost use Rattle.ssh_program.specs.Requests.{Responds, RespondsBy, Answers, source_of, words_response};
 ghost use Rattle.ssh_program.specs.Responding.{IsUsageOf};
-ghost use Rattle.ssh_program.specs.WordsView.{IfAnswered, request_in_memory};
+ghost use Rattle.ssh_program.specs.ArgsView.{IfAnswered, request_in_memory};
 ghost use Rattle.ssh_print.specs.ResponseView.{response};
 ghost use Rattle.ssh_files.specs.SourceState.{IfTells};
 ghost use Rattle.clap.specs.Words.{Row};
@@ -13,10 +13,11 @@ ghost use Rattle.ssh_print.specs.Responses.{Response as Shown};
 ghost use Rattle.ssh_program.specs.GrantedRuns.{AsksFor, DeniesHost, DeniesLogin, GrantsHost, GrantsLogin};
 ghost use Rattle.ssh_program.specs.KeyRuns.{AsksOfFiles, ClientAdmitted, ClientKeptOut, HostDistrusted, HostTrusted};
 ghost use Rattle.ssh_program.specs.SignatureRuns.{AsksSignature, SignatureUnvouched, SignatureVouched};
+ghost use Rattle.ssh_program.specs.FileRuns.{AsksWith, FileHashed, FileRewritten, FilesReviewed};
 ghost use Rattle.ssh_program.specs.Printing.{WritesResponse};
-ghost use Rattle.ssh_program.specs.Asked.{AuditFiles, SshsigQuestion as SshsigAsked};
+ghost use Rattle.ssh_program.specs.FileNames.{AuditFiles, SshsigQuestion as SshsigAsked};
 ghost use Rattle.ssh_program.specs.Texts.{TextPlaces};
-ghost use Rattle.ssh_program.specs.declared.subcommand.Subcommand.TheVariants.{Admits, Host, Login, Trusts};
+ghost use Rattle.ssh_program.specs.declared.subcommand.Subcommand.TheVariants.{Admits, Hash, Host, Login, Review, Rewrite, Trusts};
 
 use crate::admits::{respond_admits, respond_trusts};
 use crate::command::{CommandError, Request, WordsError, parse, respond_fault};
@@ -233,6 +234,26 @@ pub fn run<S: AsStr, F: Files, W: Sink>(
         → AsksOfFiles Trusts (map S.text words.now) s rows names
         → result ≡ 1
         → HostDistrusted rows (source_of (map S.text words.now) s)) }
+    // Status 0 of `rewrite`: what was printed is a file that answers every query as the file does.
+    ensures rewrite { IfTells (F.source_state files.old) (λ s. (rows : List Row)
+        → AsksWith Rewrite (map S.text words.now) s rows
+        → result ≡ 0
+        → (r : Shown) × FileRewritten rows (source_of (map S.text words.now) s) r
+        × WritesResponse (W.account writer.old) (W.account writer.new) r result) }
+    // Status 0 of `hash`: what was printed is a file that keeps each grant and each revocation.
+    ensures hash { IfTells (F.source_state files.old) (λ s. (rows : List Row)
+        → AsksWith Hash (map S.text words.now) s rows
+        → result ≡ 0
+        → (r : Shown) × FileHashed rows (source_of (map S.text words.now) s) r
+        × WritesResponse (W.account writer.old) (W.account writer.new) r result) }
+    // Status 0 or 1 of `review`: each of the named files is there, and what was printed lists each
+    // line by which one of them lets in a login or trusts a host's key.
+    ensures review { IfTells (F.source_state files.old) (λ s. (rows : List Row)
+        (names : List (List ℕ))
+        → AsksOfFiles Review (map S.text words.now) s rows names
+        → result < 2
+        → (r : Shown) × FilesReviewed rows (source_of (map S.text words.now) s) r
+        × WritesResponse (W.account writer.old) (W.account writer.new) r result) }
 {
     answer(alloc, words, files, writer)
 }

@@ -6,7 +6,7 @@ ghost use Rattle.ssh_files.specs.Values.{number_below};
 ghost use Rattle.ssh_review.specs.declared.end.Form.TheVariants.{Text};
 ghost use Rattle.ssh_program.specs.Spelled.{form_of, review_kind_of, usual_minimum, RespondsToReview, ReviewsInZone};
 ghost use Rattle.ssh_program.specs.Spelling.{value, value_or};
-ghost use Rattle.ssh_program.specs.WordsView.{Spells, rows_in, IfAnswered};
+ghost use Rattle.ssh_program.specs.ArgsView.{Spells, rows_in, IfAnswered};
 ghost use Rattle.ssh_review.specs.Reviews.{review};
 ghost use Rattle.ssh_program.specs.Totals.{fault_count, nothing, total_status, with_counts, with_review};
 ghost use Rattle.ssh_findings.specs.Asking.{asking_of};

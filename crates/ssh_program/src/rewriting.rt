@@ -3,7 +3,7 @@
 
 ghost use Rattle.std.specs.Prelude.{◌≡◌, IfOk, Some};
 ghost use Rattle.ssh_program.specs.Rewritings.{IsTrustFault, MakesNew, RespondsToRewrite, RewritesFile, new_file, new_response, rewrite_kind};
-ghost use Rattle.ssh_program.specs.WordsView.{IfAnswered, rows_in};
+ghost use Rattle.ssh_program.specs.ArgsView.{IfAnswered, rows_in};
 ghost use Rattle.ssh_print.specs.ResponseView.{response};
 ghost use Rattle.ssh_files.specs.SourceState.{IfTells};
 ghost use Rattle.ssh_program.specs.Hashings.{Hashes, HashesBy, RespondsToHash, salts_or_fault};

@@ -3,7 +3,7 @@
 
 ghost use Rattle.std.specs.Prelude.{◌≡◌, IfOk, ◌++◌, map};
 ghost use Rattle.ssh_program.specs.Shows.{RespondsToShow, ShowsFile, shown_part};
-ghost use Rattle.ssh_program.specs.WordsView.{IfAnswered, rows_in};
+ghost use Rattle.ssh_program.specs.ArgsView.{IfAnswered, rows_in};
 ghost use Rattle.ssh_print.specs.ResponseView.{response};
 ghost use Rattle.ssh_files.specs.Loading.{LoadsPart};
 ghost use Rattle.ssh_files.specs.Parts.{after_whole};

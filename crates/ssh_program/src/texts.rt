@@ -3,17 +3,17 @@
 
 ghost use Rattle.std.specs.Prelude.{◌≡◌, IfOk};
 ghost use Rattle.ssh_files.specs.SourceState.{IfTells};
-ghost use Rattle.ssh_program.specs.QuestionsTexts.{text_on};
+ghost use Rattle.ssh_program.specs.OfferTexts.{text_on};
 ghost use Rattle.ssh_program.specs.declared.texts.NoText.TheVariants.{Memory};
-ghost use Rattle.ssh_program.specs.QuestionsTextsView.{TakesText, TakesTexts, taken_seen};
+ghost use Rattle.ssh_program.specs.OfferTextsView.{TakesText, TakesTexts, taken_seen};
 ghost use Rattle.ssh_program.specs.Texts.{spelled_by};
 ghost use Rattle.ssh_program.specs.TextsView.{place_seen, places_seen};
-ghost use Rattle.ssh_program.specs.WordsView.{Spells};
+ghost use Rattle.ssh_program.specs.ArgsView.{Spells};
 ghost use Rattle.base64.specs.Engines.{standard};
 ghost use Rattle.base64.specs.GeneralPurpose.{decoded_of};
 ghost use Rattle.ssh_files.specs.Values.{hex_bytes};
 ghost use Rattle.ssh_files.specs.Seeking.{sought_of};
-ghost use Rattle.ssh_program.specs.Resting.{RestsOn, first_resting, evidence_found, second_resting, sought_in};
+ghost use Rattle.ssh_program.specs.NeededVouches.{RestsOn, first_resting, evidence_found, second_resting, sought_in};
 
 use crate::args::ArgName;
 use crate::audit::{Question, unread};

@@ -2,7 +2,7 @@
 //! that is read again.
 
 ghost use Rattle.std.specs.Prelude.{◌≡◌, Some, refl, ◌≤◌, length, None, ◌∷◌, [], IfOk, Ok};
-ghost use Rattle.ssh_program.specs.HeldFiles.{held_source};
+ghost use Rattle.ssh_program.specs.MemoryFiles.{held_source};
 ghost use Rattle.ssh_files.specs.SourceState.{left_of, IfTells};
 ghost use Rattle.ssh_text.specs.Text.{file_limit};
 ghost use Rattle.ssh_files.specs.Seeking.{TellsOf, sought_of};
@@ -116,7 +116,7 @@ impl<'a> Model for Vouches<'a> {
     ghost use Rattle.ssh_text.specs.Text.{file_limit};
     ghost use Rattle.ssh_offers.specs.declared.claim.Signed.{Signed as SignedValue};
     ghost use Rattle.ssh_files.specs.VouchFile.{vouched_of};
-    ghost use Rattle.ssh_program.specs.HeldFiles.{held_vouches};
+    ghost use Rattle.ssh_program.specs.MemoryFiles.{held_vouches};
 
     ghost Value = { List SignedValue };
 

@@ -1,6 +1,6 @@
 -- The end of a file and the total are one line each as JSON objects.
 use Rattle.ssh_review.proofs.Imports.{◌≡◌, ℕ, true, List, refl, codes, AreBytes, is_line, Counts, FileFault, Unread, TooLong, Total, no_counts, fault_code}
-use Rattle.ssh_review.proofs.ObjectLemmas.{null-printable, number-printable, said-printable}
+use Rattle.ssh_review.proofs.FieldLemmas.{null-printable, number-printable, said-printable}
 use Rattle.ssh_review.proofs.PrintableLemmas.{ArePrintable, hex-printable, join, line-from, string-printable, word}
 use Rattle.ssh_review.specs.EndObjects.{counts_fields, end_head, end_object, fault_object, total_head, total_object}
 

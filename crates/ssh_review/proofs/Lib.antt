@@ -15,11 +15,23 @@ pub mod ReviewLemmas
 pub mod UnquotedLemmas
 pub mod PrintableLemmas
 pub mod WordLemmas
+pub mod FieldLemmas
+pub mod RowLemmas
 pub mod ObjectLemmas
 pub mod CountLemmas
-pub mod HostReviewByteLemmas
-pub mod HostReviewTextLemmas
-pub mod HostReviewObjectLemmas
-pub mod HostReviewReviewLemmas
+pub mod HostByteLemmas
+pub mod HostTextLemmas
+pub mod HostObjectLemmas
+pub mod HostReviewLemmas
 pub mod LoopLemmas
-pub mod HostReviewMemoryLemmas
+pub mod HostMemoryLemmas
+pub mod ListLemmas
+pub mod HashedFactsLemmas
+pub mod GrantLemmas
+pub mod RewritingLemmas
+mod NumberedLemmas
+mod ListedLemmas
+mod ListingLemmas
+mod SpelledLemmas
+mod HostSpelledLemmas
+mod HostListingLemmas

@@ -1,63 +1,10 @@
--- The fields of an object are of printable ASCII, and an object is one line.
-use Rattle.ssh_review.proofs.Imports.{◌≡◌, ℕ, Bool, true, false, List, [], ◌∷◌, ◌++◌, refl, append_assoc, ℤ, Option, Some, None, codes, flat_map, KeyKind, AuthOption, Facts, Finding, HeldKey, code_of, field_name, moment_or_null, null_field, number_field, number_or_null, text_field, text_or_null, with_comma, finding_object, findings_end, findings_list, fingerprint_text, held_fields, is_word, no_key_fields, AreBytes, AreBytesIfAny, HaveByteValues, IsHeldOfBytes, IsOfBytes, are_printable, is_line, options_text}
-use Rattle.ssh_review.specs.Findings.{code_object}
+-- The record of an authorized_keys line, as an object, is one line.
+use Rattle.ssh_review.proofs.Imports.{◌≡◌, ℕ, Bool, true, false, List, ◌++◌, refl, Option, Some, None, codes, KeyKind, AuthOption, Facts, Finding, HeldKey, auth_row, findings_end, fingerprint_text, held_fields, is_word, no_key_fields, AreBytes, HaveByteValues, IsHeldOfBytes, IsOfBytes, are_printable, is_line, options_text}
 use Rattle.ssh_review.specs.Objects.{empty_fields, entry_object, grant_fields, key_fields, object_head, owner_fields, unreadable_object}
-use Rattle.ssh_review.proofs.PrintableLemmas.{ArePrintable, bytes-append, bytes-from_printable, decimal-printable, join, line-from, signed-printable, string-printable, word}
-use Rattle.ssh_review.proofs.WordLemmas.{code-printable, detail-printable, kind-printable, options-bytes, rights-printable}
-
--- ---- fields
-
-name-then : {value : List ℕ} (name : List ℕ) → are_printable name ≡ true → ArePrintable value → ArePrintable (field_name name ++ value)
-name-then name h k = join (join (join (word (codes ",\"") refl) (word name h)) (word (codes "\":") refl)) k
-
-pub null-printable : (name : List ℕ) → are_printable name ≡ true → ArePrintable (null_field name)
-null-printable name h = name-then name h (word (codes "null") refl)
-
-pub text-printable : (name text : List ℕ) → are_printable name ≡ true → AreBytes text → ArePrintable (text_field name text)
-text-printable name text h k = name-then name h (string-printable text k)
-
--- the same of a text that is printed as it is
-pub said-printable : {text : List ℕ} (name : List ℕ) → are_printable name ≡ true → ArePrintable text → ArePrintable (text_field name text)
-said-printable {text} name h k = text-printable name text h (bytes-from_printable k)
-
-any-text-printable : (name : List ℕ) (text : Option (List ℕ)) → are_printable name ≡ true → AreBytesIfAny text → ArePrintable (text_or_null name text)
-any-text-printable name None h k = null-printable name h
-any-text-printable name (Some text) h k = text-printable name text h k
-
-pub number-printable : (name : List ℕ) (n : ℕ) → are_printable name ≡ true → ArePrintable (number_field name n)
-number-printable name n h = name-then name h (decimal-printable n)
-
-any-number-printable : (name : List ℕ) (n : Option ℕ) → are_printable name ≡ true → ArePrintable (number_or_null name n)
-any-number-printable name None h = null-printable name h
-any-number-printable name (Some n) h = number-printable name n h
-
-any-moment-printable : (name : List ℕ) (n : Option ℤ) → are_printable name ≡ true → ArePrintable (moment_or_null name n)
-any-moment-printable name None h = null-printable name h
-any-moment-printable name (Some n) h = name-then name h (signed-printable n)
-
--- ---- findings
-
-pub object-printable : {code said : List ℕ} → ArePrintable code → ArePrintable said → ArePrintable (code_object code said)
-unfolding code_object
-object-printable {code} {said} h k =
-    let told = string-printable code (bytes-from_printable h) in
-    join (join (join (word (codes "{\"code\":") refl) told) (said-printable (codes "detail") refl k)) (word (codes "}") refl)
-
-finding-printable : (f : Finding) → ArePrintable (finding_object f)
-finding-printable f = object-printable (code-printable (code_of f)) (detail-printable f)
-
-others-printable : (found : List Finding) → ArePrintable (flat_map with_comma found)
-others-printable [] = word [] refl
-others-printable (f ∷ found) = join (join (word (codes ",") refl) (finding-printable f)) (others-printable found)
-
-list-printable : (found : List Finding) → ArePrintable (findings_list found)
-list-printable [] = word [] refl
-list-printable (f ∷ found) = join (finding-printable f) (others-printable found)
-
-pub end-line : {a : List ℕ} (found : List Finding) → ArePrintable a → is_line (a ++ findings_end found) ≡ true
-end-line {a} found h =
-    let listed = join (word (codes ",\"findings\":[") refl) (list-printable found) in
-    rw (← append_assoc a (codes ",\"findings\":[" ++ findings_list found) (codes "]}\n")) (line-from (codes "]}\n") (join h listed) refl)
+use Rattle.ssh_review.proofs.PrintableLemmas.{ArePrintable, bytes-append, bytes-from_printable, join, string-printable, word}
+use Rattle.ssh_review.proofs.WordLemmas.{kind-printable, options-bytes, rights-printable}
+use Rattle.ssh_review.proofs.FieldLemmas.{any-moment-printable, any-number-printable, any-text-printable, number-printable, said-printable, text-printable}
+use Rattle.ssh_review.proofs.RowLemmas.{auth-texts, rows-end-line}
 
 -- ---- records
 
@@ -98,7 +45,7 @@ entry-line name n f options shadowed_by found h k m =
     let head = head-printable name n h (is-printable f.is_authority) in
     let said = text-printable (codes "options") (options_text options) refl (options-bytes options m) in
     let shadow = any-number-printable (codes "shadowed_by") shadowed_by refl in
-    end-line found (join (join (join (join head (owner-printable f k)) said) (grant-printable f k)) shadow)
+    rows-end-line auth_row auth-texts found (join (join (join (join head (owner-printable f k)) said) (grant-printable f k)) shadow)
 
 pub held-printable : (held : Option HeldKey) → IsHeldOfBytes held → ArePrintable (held_fields held)
 held-printable None h = word no_key_fields refl
@@ -113,4 +60,4 @@ pub unreadable-line : (name : List ℕ) (n : ℕ) (held : Option HeldKey) (found
 unfolding unreadable_object
 unreadable-line name n held found h k =
     let head = head-printable name n h (word (codes "unreadable") refl) in
-    end-line found (join (join head (held-printable held k)) empty-printable)
+    rows-end-line auth_row auth-texts found (join (join head (held-printable held k)) empty-printable)

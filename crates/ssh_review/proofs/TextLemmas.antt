@@ -1,86 +1,13 @@
 -- The records of lines, as text, are of printable bytes and LFs.
-use Rattle.ssh_review.proofs.Imports.{◌≡◌, ℕ, Bool, true, false, List, [], ◌∷◌, ◌++◌, refl, ℤ, Option, Some, None, codes, decimal, AllByRecursion, flat_map, KeyKind, LineCause, Carried, CarriedName, Rights, carried_word, Facts, Finding, HeldKey, code_text, code_of, detail_of, AreBytes, AreBytesIfAny, IsOfBytes, are_printable, bits_text, carried_inset, comment_text, held_words, place_text, role_word, cause_text, detail_part, finding_head, finding_line, sentence_of, short_sentence, unreadable_sentence, are_shown}
-use Rattle.ssh_options.specs.declared.option_text.LineCause.TheVariants as cause
+use Rattle.ssh_review.proofs.Imports.{◌≡◌, ℕ, Bool, true, false, List, [], ◌∷◌, ◌++◌, refl, ℤ, Option, Some, None, codes, AllByRecursion, flat_map, KeyKind, Carried, CarriedName, Rights, carried_word, Facts, Finding, HeldKey, auth_row, AreBytes, AreBytesIfAny, IsOfBytes, are_printable, bits_text, carried_inset, comment_text, held_words, place_text, role_word, are_shown}
 use Rattle.ssh_rights.specs.declared.rights.CarriedName.TheVariants as carried
 use Rattle.ssh_print.specs.Texts.{word_line}
-use Rattle.ssh_print.specs.Table.{answers, lines, reasons, row_of, table}
-use Rattle.ssh_findings.specs.declared.finding.Finding.TheVariants as finding
 use Rattle.ssh_review.proofs.PrintableLemmas.{ArePrintable, decimal-printable, escaped-printable, join, word}
-use Rattle.ssh_review.proofs.WordLemmas.{code-printable, detail-printable, kind-printable, rights-printable}
+use Rattle.ssh_review.proofs.WordLemmas.{kind-printable, rights-printable}
+use Rattle.ssh_review.proofs.RowLemmas.{auth-texts, rows-shown}
 use Rattle.ssh_review.specs.Records.{entry_head, entry_text, fingerprint_word, flag_line, key_words, limit_lines, right_lines, rights_inset, setting_line, unreadable_text, until_line}
 use Rattle.ssh_review.proofs.DateTextLemmas.{moment-printable}
 use Rattle.ssh_review.proofs.ShownLemmas.{AreShown, add, seen, show}
-
--- ---- findings
-
-cause-printable : (why : LineCause) → ArePrintable (cause_text why)
-unfolding row_of table answers reasons lines
-cause-printable cause.TooLong = record { all = refl }
-cause-printable cause.OptionSyntax = record { all = refl }
-cause-printable cause.UnknownOption = record { all = refl }
-cause-printable cause.OptionValue = record { all = refl }
-cause-printable cause.RepeatedOption = record { all = refl }
-cause-printable cause.ExpiryText = record { all = refl }
-cause-printable cause.NoKey = record { all = refl }
-cause-printable cause.KeyType = record { all = refl }
-cause-printable cause.RetiredType = record { all = refl }
-cause-printable cause.Base64 = record { all = refl }
-cause-printable (cause.KeyBlob e) = record { all = refl }
-cause-printable cause.TypeMismatch = record { all = refl }
-cause-printable cause.CertificateOnLine = record { all = refl }
-cause-printable cause.Marker = record { all = refl }
-cause-printable cause.HashedName = record { all = refl }
-cause-printable cause.Names = record { all = refl }
-
--- a number between two texts
-between : (before after : List ℕ) (n : ℕ) → are_printable before ≡ true → are_printable after ≡ true → ArePrintable (before ++ decimal n ++ after)
-between before after n h k = join (join (word before h) (decimal-printable n)) (word after k)
-
-pub unreadable-printable : (why : LineCause) → ArePrintable (unreadable_sentence why)
-unreadable-printable why = join (word (codes "cannot be read here, and OpenSSH may read it: ") refl) (cause-printable why)
-
-pub short-printable : (bits : ℕ) → ArePrintable (short_sentence bits)
-short-printable bits = between (codes "an RSA key of ") (codes " bits is too short") bits refl refl
-
-sentence-printable : (f : Finding) → ArePrintable (sentence_of f)
-sentence-printable (finding.Unreadable why) = unreadable-printable why
-sentence-printable (finding.SameKey line) = between (codes "line ") (codes " has the same key: where that line does not let it in, this one may") line refl refl
-sentence-printable (finding.NeverDecides line) = between (codes "never decides: line ") (codes " has the same key and lets it in first") line refl refl
-sentence-printable (finding.GivesMore line) = between (codes "never decides: line ") (codes " has the same key, lets it in first and gives more") line refl refl
-sentence-printable (finding.ShortKey bits) = short-printable bits
-sentence-printable finding.Expired = record { all = refl }
-sentence-printable finding.BadSources = record { all = refl }
-sentence-printable finding.SourcesHere = record { all = refl }
-sentence-printable finding.NoPrincipal = record { all = refl }
-sentence-printable finding.PlainPrincipals = record { all = refl }
-sentence-printable finding.EmptyPrincipal = record { all = refl }
-sentence-printable finding.VerifyIgnored = record { all = refl }
-sentence-printable finding.LocalTime = record { all = refl }
-sentence-printable finding.ShortAddress = record { all = refl }
-sentence-printable finding.ForcedButForwards = record { all = refl }
-sentence-printable finding.AnyAddress = record { all = refl }
-sentence-printable finding.AnyCommand = record { all = refl }
-sentence-printable finding.NoExpiry = record { all = refl }
-sentence-printable finding.AnyPrincipal = record { all = refl }
-sentence-printable finding.NoComment = record { all = refl }
-sentence-printable (finding.MayRefuse g) = record { all = refl }
-
-part-printable : (said : List ℕ) → ArePrintable said → ArePrintable (detail_part said)
-part-printable [] h = record { all = refl }
-part-printable (c ∷ cs) h = join (word (codes " ") refl) h
-
-pub finding-head-printable : (code said : List ℕ) → ArePrintable code → ArePrintable said → ArePrintable (finding_head code said)
-finding-head-printable code said h k =
-    join (join (join (word (codes "    ") refl) h) (part-printable said k)) (word (codes ": ") refl)
-
-finding-shown : (f : Finding) → AreShown (finding_line f)
-finding-shown f =
-    let head = finding-head-printable (code_text (code_of f)) (detail_of f) (code-printable (code_of f)) (detail-printable f) in
-    add (seen (join head (sentence-printable f))) (show (codes "\n") refl)
-
-findings-shown : (found : List Finding) → AreShown (flat_map finding_line found)
-findings-shown [] = show [] refl
-findings-shown (f ∷ found) = add (finding-shown f) (findings-shown found)
 
 -- ---- parts of a record
 
@@ -162,7 +89,7 @@ pub entry-shown : (name : List ℕ) (n : ℕ) (f : Facts) (found : List Finding)
 unfolding entry_text
 entry-shown name n f found h k p =
     let head = add (seen (place-printable name n h)) (head-shown f p k.comment) in
-    add (add (add head (right-lines-shown f k)) (limits-shown f k)) (findings-shown found)
+    add (add (add head (right-lines-shown f k)) (limits-shown f k)) (rows-shown auth_row auth-texts found)
 
 -- the fingerprint of a key, if there is one, is printable
 abbrev pub IsHeldPrintable : Option HeldKey → Type 0
@@ -178,4 +105,4 @@ pub unreadable-shown : (name : List ℕ) (n : ℕ) (held : Option HeldKey) (foun
 unfolding unreadable_text
 unreadable-shown name n held found h k =
     let key = join (join (place-printable name n h) (word (codes "unreadable") refl)) (held-printable held k) in
-    add (add (seen key) (show (codes "\n") refl)) (findings-shown found)
+    add (add (seen key) (show (codes "\n") refl)) (rows-shown auth_row auth-texts found)

@@ -151,29 +151,6 @@ ground-printable grounds.Nul = record { all = refl }
 ground-printable grounds.LongItem = record { all = refl }
 ground-printable grounds.Rsa = record { all = refl }
 
-pub detail-printable : (f : Finding) → ArePrintable (detail_of f)
-detail-printable (finding.Unreadable why) = cause-printable why
-detail-printable (finding.SameKey line) = decimal-printable line
-detail-printable (finding.NeverDecides line) = decimal-printable line
-detail-printable (finding.GivesMore line) = decimal-printable line
-detail-printable (finding.ShortKey bits) = decimal-printable bits
-detail-printable finding.Expired = record { all = refl }
-detail-printable finding.BadSources = record { all = refl }
-detail-printable finding.SourcesHere = record { all = refl }
-detail-printable finding.NoPrincipal = record { all = refl }
-detail-printable finding.PlainPrincipals = record { all = refl }
-detail-printable finding.EmptyPrincipal = record { all = refl }
-detail-printable finding.VerifyIgnored = record { all = refl }
-detail-printable finding.LocalTime = record { all = refl }
-detail-printable finding.ShortAddress = record { all = refl }
-detail-printable finding.ForcedButForwards = record { all = refl }
-detail-printable finding.AnyAddress = record { all = refl }
-detail-printable finding.AnyCommand = record { all = refl }
-detail-printable finding.NoExpiry = record { all = refl }
-detail-printable finding.AnyPrincipal = record { all = refl }
-detail-printable finding.NoComment = record { all = refl }
-detail-printable (finding.MayRefuse g) = ground-printable g
-
 pub code-printable : (c : Code) → ArePrintable (code_text c)
 code-printable code.Unreadable = record { all = refl }
 code-printable code.SameKey = record { all = refl }

@@ -14,7 +14,7 @@ use Rattle.ssh_findings.specs.declared.finding.Finding.{Finding}
 use Rattle.ssh_findings.specs.declared.recovered_key.HeldKey.{HeldKey}
 use Rattle.ssh_review.specs.RightsWords.{rights_words}
 use Rattle.ssh_review.specs.Dates.{moment_text}
-use Rattle.ssh_review.specs.Sentences.{finding_line}
+use Rattle.ssh_review.specs.Findings.{finding_line}
 
 -- the name of the file and the number of the line
 abbrev pub place_text : List ℕ → ℕ → List ℕ

@@ -3,7 +3,7 @@
 ghost use Rattle.std.specs.Prelude.{◌≡◌, ◌++◌, OnOk, codes, IfOk, ◌==◌, ◌∷◌, []};
 ghost use Rattle.ssh_review.specs.Fields.{field_name, moment_or_null, null_field, number_field, number_or_null, text_field, text_or_null};
 ghost use Rattle.ssh_review.specs.Dates.{date_of, moment_date, moment_text};
-ghost use Rattle.ssh_review.specs.HostReviewRecords.{print_of};
+ghost use Rattle.ssh_review.specs.HostRecords.{print_of};
 ghost use Rattle.ssh_print.specs.DecisionText.{right_word, right_words};
 ghost use Rattle.ssh_review.specs.RightsWords.{rights_words, without_space};
 ghost use Rattle.std.specs.List.{flat_map, list_any};
@@ -160,7 +160,7 @@ pub(crate) fn moment_text(alloc: Global, moment: i64) -> Result<Vec<u8>, AllocEr
 
 /// The SHA-256 of some bytes in base64 without padding, as `ssh-keygen -l` prints it after
 /// `SHA256:`.
-#[tactic(auto, unfolding(crate::specs::HostReviewRecords::print_of))]
+#[tactic(auto, unfolding(crate::specs::HostRecords::print_of))]
 pub(crate) fn print_of(alloc: Global, bytes: &[u8]) -> Result<[u8; 43], AllocError>
     ensures { IfOk result (λ text. text ≡ print_of bytes.now) }
 {

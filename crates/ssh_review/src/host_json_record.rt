@@ -1,72 +1,18 @@
 //! The record of a line of a `known_hosts` file, as a JSON object.
 
 ghost use Rattle.std.specs.Prelude.{◌≡◌, ◌++◌, OnOk};
-ghost use Rattle.std.specs.List.{flat_map};
-ghost use Rattle.ssh_review.specs.HostReviewFindings.{host_after_comma, host_finding_object, host_findings_end, host_findings_list};
-ghost use Rattle.ssh_review.specs.HostReviewObjects.{bare_object, host_empty_fields, entry_fields, host_entry_object, revoked_fields, revoked_names_fields, revoked_object};
+ghost use Rattle.ssh_review.specs.HostObjects.{bare_object, host_empty_fields, entry_fields, host_entry_object, revoked_fields, revoked_names_fields, revoked_object};
 
 use crate::fields::{print_of, push_null_field, push_text_field};
-use crate::host_sentence::detail;
+use crate::findings::push_findings_end;
 use crate::json_record::{
-    LineRef, fingerprint_text, is_word, push_code_object, push_held_fields, push_key_fields,
-    push_object_head,
+    LineRef, fingerprint_text, is_word, push_held_fields, push_key_fields, push_object_head,
 };
-use ssh_findings::{Coded, HeldKey, HostFacts, HostFinding, RevocationFacts};
+use ssh_findings::{HeldKey, HostFacts, HostFinding, RevocationFacts};
 use std::alloc::{AllocError, Global};
 
-fn push_finding_object(
-    alloc: Global,
-    out: &mut Vec<u8>,
-    finding: HostFinding,
-) -> Result<(), AllocError>
-    ensures { OnOk result (out.new.items ≡ out.old.items ++ host_finding_object finding) }
-{
-    let said = detail(alloc, finding)?;
-    push_code_object(alloc, out, finding.code().text(), &said)
-}
-
-/// Appends the objects of findings, each after a comma.
-fn push_others(alloc: Global, out: &mut Vec<u8>, found: &[HostFinding]) -> Result<(), AllocError>
-    ensures { OnOk result (out.new.items ≡ out.old.items ++ flat_map host_after_comma found.now) }
-{
-    for finding in found {
-        out.push(b',')?;
-        push_finding_object(alloc, out, *finding)?;
-    }
-    Ok(())
-}
-
-/// Appends the objects of findings, separated by commas.
-fn push_findings_list(
-    alloc: Global,
-    out: &mut Vec<u8>,
-    found: &[HostFinding],
-) -> Result<(), AllocError>
-    ensures { OnOk result (out.new.items ≡ out.old.items ++ host_findings_list found.now) }
-{
-    if let [first, others @ ..] = found {
-        push_finding_object(alloc, out, *first)?;
-        push_others(alloc, out, others)?;
-    }
-    Ok(())
-}
-
-/// Appends the last field of a record, its findings, and the end of its line.
-pub(crate) fn push_findings_end(
-    alloc: Global,
-    out: &mut Vec<u8>,
-    found: &[HostFinding],
-) -> Result<(), AllocError>
-    ensures { OnOk result (out.new.items ≡ out.old.items ++ host_findings_end found.now) }
-{
-    out.extend_from_slice(b",\"findings\":[")?;
-    push_findings_list(alloc, out, found)?;
-    out.extend_from_slice(b"]}\n")?;
-    Ok(())
-}
-
 /// Appends the fields of an entry's key, its comment, and its names as they are in the file.
-#[tactic(auto, unfolding(crate::specs::HostReviewObjects::entry_fields))]
+#[tactic(auto, unfolding(crate::specs::HostObjects::entry_fields))]
 fn push_entry_fields(alloc: Global, out: &mut Vec<u8>, facts: &HostFacts) -> Result<(), AllocError>
     ensures { OnOk result (out.new.items ≡ out.old.items ++ entry_fields facts.now) }
 {
@@ -77,7 +23,7 @@ fn push_entry_fields(alloc: Global, out: &mut Vec<u8>, facts: &HostFacts) -> Res
 }
 
 /// Appends the record of an entry.
-#[tactic(auto, unfolding(crate::specs::HostReviewObjects::host_entry_object))]
+#[tactic(auto, unfolding(crate::specs::HostObjects::host_entry_object))]
 pub(crate) fn push_entry_object(
     alloc: Global,
     out: &mut Vec<u8>,
@@ -95,7 +41,7 @@ pub(crate) fn push_entry_object(
 }
 
 /// Appends `null` for the comment and the names, which a line that cannot be read does not have.
-#[tactic(auto, unfolding(crate::specs::HostReviewObjects::host_empty_fields))]
+#[tactic(auto, unfolding(crate::specs::HostObjects::host_empty_fields))]
 fn push_empty_fields(out: &mut Vec<u8>) -> Result<(), AllocError>
     ensures { OnOk result (out.new.items ≡ out.old.items ++ host_empty_fields) }
 {
@@ -106,7 +52,7 @@ fn push_empty_fields(out: &mut Vec<u8>) -> Result<(), AllocError>
 
 /// Appends the fields of a revocation's key. It has no type, since the revoked bytes need not be a
 /// key.
-#[tactic(auto, unfolding(crate::specs::HostReviewObjects::revoked_fields))]
+#[tactic(auto, unfolding(crate::specs::HostObjects::revoked_fields))]
 fn push_revoked_fields(alloc: Global, out: &mut Vec<u8>, bytes: &[u8]) -> Result<(), AllocError>
     ensures { OnOk result (out.new.items ≡ out.old.items ++ revoked_fields bytes.now) }
 {
@@ -119,7 +65,7 @@ fn push_revoked_fields(alloc: Global, out: &mut Vec<u8>, bytes: &[u8]) -> Result
 }
 
 /// Appends `null` for the comment, and the names of a revocation as they are in the file.
-#[tactic(auto, unfolding(crate::specs::HostReviewObjects::revoked_names_fields))]
+#[tactic(auto, unfolding(crate::specs::HostObjects::revoked_names_fields))]
 fn push_revoked_names(
     alloc: Global,
     out: &mut Vec<u8>,
@@ -133,7 +79,7 @@ fn push_revoked_names(
 }
 
 /// Appends the record of a line that revokes these bytes.
-#[tactic(auto, unfolding(crate::specs::HostReviewObjects::revoked_object))]
+#[tactic(auto, unfolding(crate::specs::HostObjects::revoked_object))]
 pub(crate) fn push_revoked_object(
     alloc: Global,
     out: &mut Vec<u8>,
@@ -154,7 +100,7 @@ pub(crate) fn push_revoked_object(
 
 /// Appends the record of a line that cannot be read: what it is, and its recovered key, if there is
 /// one (the key that OpenSSH reads there).
-#[tactic(auto, unfolding(crate::specs::HostReviewObjects::bare_object))]
+#[tactic(auto, unfolding(crate::specs::HostObjects::bare_object))]
 pub(crate) fn push_bare_object(
     alloc: Global,
     out: &mut Vec<u8>,

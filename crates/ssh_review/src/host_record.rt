@@ -1,29 +1,18 @@
 //! The record of a line of a `known_hosts` file, as text.
 
 ghost use Rattle.std.specs.Prelude.{◌≡◌, ◌++◌, OnOk};
-ghost use Rattle.std.specs.List.{flat_map};
-ghost use Rattle.ssh_review.specs.HostReviewRecords.{bare_text, host_entry_head, host_entry_text, revoked_names, revoked_text};
-ghost use Rattle.ssh_review.specs.HostReviewSentences.{host_finding_line};
+ghost use Rattle.ssh_review.specs.HostRecords.{bare_text, host_entry_head, host_entry_text, revoked_names, revoked_text};
 
 use crate::fields::print_of;
-use crate::host_sentence::push_finding;
+use crate::findings::push_findings;
 use crate::json_record::LineRef;
 use crate::record::{push_comment, push_fingerprint, push_held, push_key, push_place, role_word};
 use ssh_findings::{HeldKey, HostFacts, HostFinding, RevocationFacts};
 use ssh_print::push_text_line;
 use std::alloc::{AllocError, Global};
 
-fn push_findings(alloc: Global, out: &mut Vec<u8>, found: &[HostFinding]) -> Result<(), AllocError>
-    ensures { OnOk result (out.new.items ≡ out.old.items ++ flat_map host_finding_line found.now) }
-{
-    for finding in found {
-        push_finding(alloc, out, *finding)?;
-    }
-    Ok(())
-}
-
 /// Appends the key and the comment of an entry.
-#[tactic(auto, unfolding(crate::specs::HostReviewRecords::host_entry_head))]
+#[tactic(auto, unfolding(crate::specs::HostRecords::host_entry_head))]
 fn push_head(alloc: Global, out: &mut Vec<u8>, facts: &HostFacts) -> Result<(), AllocError>
     ensures { OnOk result (out.new.items ≡ out.old.items ++ host_entry_head facts.now) }
 {
@@ -35,7 +24,7 @@ fn push_head(alloc: Global, out: &mut Vec<u8>, facts: &HostFacts) -> Result<(), 
 }
 
 /// Appends the record of an entry.
-#[tactic(auto, unfolding(crate::specs::HostReviewRecords::host_entry_text))]
+#[tactic(auto, unfolding(crate::specs::HostRecords::host_entry_text))]
 pub(crate) fn push_entry_text(
     alloc: Global,
     out: &mut Vec<u8>,
@@ -55,7 +44,7 @@ pub(crate) fn push_entry_text(
 
 /// Appends the names of a revocation. Here a revocation counts for every host; in ssh it counts for
 /// these names alone, so the record has them.
-#[tactic(auto, unfolding(crate::specs::HostReviewRecords::revoked_names))]
+#[tactic(auto, unfolding(crate::specs::HostRecords::revoked_names))]
 fn push_revoked_names(out: &mut Vec<u8>, facts: &RevocationFacts) -> Result<(), AllocError>
     ensures { OnOk result (out.new.items ≡ out.old.items ++ revoked_names facts.now) }
 {
@@ -65,7 +54,7 @@ fn push_revoked_names(out: &mut Vec<u8>, facts: &RevocationFacts) -> Result<(), 
 }
 
 /// Appends the record of a line that revokes these bytes.
-#[tactic(auto, unfolding(crate::specs::HostReviewRecords::revoked_text))]
+#[tactic(auto, unfolding(crate::specs::HostRecords::revoked_text))]
 pub(crate) fn push_revoked_text(
     alloc: Global,
     out: &mut Vec<u8>,
@@ -89,7 +78,7 @@ pub(crate) fn push_revoked_text(
 
 /// Appends the record of a line that cannot be read: what it is, and its recovered key, if there is
 /// one (the key that OpenSSH reads there).
-#[tactic(auto, unfolding(crate::specs::HostReviewRecords::bare_text))]
+#[tactic(auto, unfolding(crate::specs::HostRecords::bare_text))]
 pub(crate) fn push_bare_text(
     alloc: Global,
     out: &mut Vec<u8>,

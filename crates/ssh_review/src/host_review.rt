@@ -9,12 +9,12 @@ ghost use Rattle.ssh_findings.specs.Asking.{asking_of};
 ghost use Rattle.ssh_findings.specs.HostLines.{HostLine};
 ghost use Rattle.ssh_findings.specs.HostFindingsMemory.{host_bytes_kept, kept_sum, text_bytes_kept, texts_kept};
 ghost use Rattle.ssh_findings.specs.StandsFor.{RemembersLines};
-ghost use Rattle.ssh_review.specs.HostReviewCounting.{host_counts_with};
-ghost use Rattle.ssh_review.specs.HostReviewForms.{bare_record};
-ghost use Rattle.ssh_review.specs.HostReviewLines.{host_counts_of, host_kept_lines, host_kept_of, host_line_counts, host_line_findings, host_line_record, host_records_of};
-ghost use Rattle.ssh_review.specs.HostReviewMemory.{host_line_bytes, host_line_spelling, host_line_sum, over_lines};
+ghost use Rattle.ssh_review.specs.HostCounting.{host_counts_with};
+ghost use Rattle.ssh_review.specs.HostForms.{bare_record};
+ghost use Rattle.ssh_review.specs.HostLines.{host_counts_of, host_kept_lines, host_kept_of, host_line_counts, host_line_findings, host_line_record, host_records_of};
+ghost use Rattle.ssh_review.specs.HostMemory.{host_line_bytes, host_line_spelling, host_line_sum, over_lines};
 ghost use Rattle.ssh_review.specs.Reviews.{review};
-ghost use Rattle.ssh_review.specs.HostReviewReviews.{known_review, host_whole_review};
+ghost use Rattle.ssh_review.specs.HostReviews.{known_review, host_whole_review};
 
 use crate::auth_review::{push_end, review_fault};
 use crate::end::{Counts, FileFault, Form, Reviewed};
@@ -279,7 +279,7 @@ fn push_known_records(
 }
 
 /// The review of a file within the limit.
-#[tactic(auto, unfolding(crate::specs::HostReviewReviews::host_whole_review))]
+#[tactic(auto, unfolding(crate::specs::HostReviews::host_whole_review))]
 fn whole_review(
     alloc: Global,
     form: Form,

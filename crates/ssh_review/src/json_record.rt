@@ -2,81 +2,19 @@
 //! records have.
 
 ghost use Rattle.std.specs.Prelude.{◌≡◌, ◌++◌, OnOk, IfOk};
-ghost use Rattle.std.specs.List.{flat_map};
-ghost use Rattle.ssh_review.specs.Findings.{with_comma, code_object, finding_object, findings_end, findings_list};
 ghost use Rattle.ssh_review.specs.Objects.{empty_fields, entry_object, fingerprint_text, grant_fields, held_fields, is_word, key_fields, no_key_fields, object_head, options_field, owner_fields, rights_field, unreadable_object};
 
 use crate::fields::{
     push_bits_field, push_moment_or_null, push_null_field, push_number_field, push_number_or_null,
     push_options, push_rights_words, push_text_field, push_text_or_null,
 };
-use crate::sentence::detail;
-use ssh_findings::{Coded, Facts, Finding, HeldKey};
+use crate::findings::push_findings_end;
+use ssh_findings::{Facts, Finding, HeldKey};
 use ssh_keys::KeyKind;
 use ssh_options::OptionsView;
 use ssh_print::push_json_text;
 use ssh_rights::Rights;
 use std::alloc::{AllocError, Global};
-
-/// Appends the object of a finding: its code and detail.
-#[tactic(auto, unfolding(crate::specs::Findings::code_object))]
-pub(crate) fn push_code_object(
-    alloc: Global,
-    out: &mut Vec<u8>,
-    code: &[u8],
-    said: &[u8],
-) -> Result<(), AllocError>
-    ensures { OnOk result (out.new.items ≡ out.old.items ++ code_object code.now said.now) }
-{
-    out.extend_from_slice(b"{\"code\":")?;
-    push_json_text(alloc, out, code)?;
-    push_text_field(alloc, out, b"detail", said)?;
-    out.push(b'}')?;
-    Ok(())
-}
-
-fn push_finding_object(alloc: Global, out: &mut Vec<u8>, finding: Finding) -> Result<(), AllocError>
-    ensures { OnOk result (out.new.items ≡ out.old.items ++ finding_object finding) }
-{
-    let said = detail(alloc, finding)?;
-    push_code_object(alloc, out, finding.code().text(), &said)
-}
-
-/// Appends the objects of findings, each after a comma.
-fn push_others(alloc: Global, out: &mut Vec<u8>, found: &[Finding]) -> Result<(), AllocError>
-    ensures { OnOk result (out.new.items ≡ out.old.items ++ flat_map with_comma found.now) }
-{
-    for finding in found {
-        out.push(b',')?;
-        push_finding_object(alloc, out, *finding)?;
-    }
-    Ok(())
-}
-
-/// Appends the objects of findings, separated by commas.
-fn push_findings_list(alloc: Global, out: &mut Vec<u8>, found: &[Finding]) -> Result<(), AllocError>
-    ensures { OnOk result (out.new.items ≡ out.old.items ++ findings_list found.now) }
-{
-    if let [first, others @ ..] = found {
-        push_finding_object(alloc, out, *first)?;
-        push_others(alloc, out, others)?;
-    }
-    Ok(())
-}
-
-/// Appends the last field of a record, its findings, and the end of its line.
-pub(crate) fn push_findings_end(
-    alloc: Global,
-    out: &mut Vec<u8>,
-    found: &[Finding],
-) -> Result<(), AllocError>
-    ensures { OnOk result (out.new.items ≡ out.old.items ++ findings_end found.now) }
-{
-    out.extend_from_slice(b",\"findings\":[")?;
-    push_findings_list(alloc, out, found)?;
-    out.extend_from_slice(b"]}\n")?;
-    Ok(())
-}
 
 /// The length of a fingerprint: `SHA256:`, and a digest in base64 without padding.
 const FINGERPRINT_LEN: usize = 50;

@@ -24,8 +24,8 @@ ghost use Rattle.ssh_review.specs.Objects.{entry_object, unreadable_object};
 ghost use Rattle.ssh_print.specs.Strings.{json_text};
 ghost use Rattle.ssh_entries.specs.KnownGrammar.{known_line};
 ghost use Rattle.ssh_findings.specs.HostLines.{HostLine};
-ghost use Rattle.ssh_review.specs.HostReviewLines.{host_line_record};
-ghost use Rattle.ssh_review.specs.HostReviewReviews.{known_review};
+ghost use Rattle.ssh_review.specs.HostLines.{host_line_record};
+ghost use Rattle.ssh_review.specs.HostReviews.{known_review};
 
 /// In JSON each record, each end and the total is one line of printable ASCII, whatever bytes are
 /// in the file and in its name.

@@ -28,19 +28,25 @@
 //! out.extend_from_slice(&reviewed.text)?;
 //! Ok(reviewed.counts.findings > 0)
 //! ```
+//!
+//! `decision_laws.rt` has the laws that join the decisions of `ssh_trust`, the new files of
+//! `ssh_rewriting` and these reviews: a rewritten file keeps every decision, a file with hashed host
+//! names keeps it but for line numbers, and whoever is let in or trusted is so by a line that the
+//! review lists.
 #![tactic(auto)]
 
 mod auth_review;
+mod decision_laws;
 mod end;
 mod fields;
+mod findings;
 mod host_json_record;
 mod host_record;
 mod host_review;
-mod host_sentence;
 mod json_record;
 mod laws;
 mod record;
-mod sentence;
+mod table;
 
 pub use auth_review::{review_auth, review_fault, total_line};
 pub use end::{Counts, FileFault, Form, Reviewed, Total};

@@ -4,11 +4,10 @@ ghost use Rattle.std.specs.Prelude.{◌≡◌, ◌++◌, OnOk};
 ghost use Rattle.std.specs.List.{flat_map};
 ghost use Rattle.ssh_print.specs.DecisionText.{carried_word};
 ghost use Rattle.ssh_review.specs.Records.{bits_text, carried_inset, comment_text, entry_head, entry_text, fingerprint_word, flag_line, held_words, key_words, limit_lines, place_text, right_lines, rights_inset, role_word, setting_line, unreadable_text, until_line};
-ghost use Rattle.ssh_review.specs.Sentences.{finding_line};
 
 use crate::fields::{moment_text, push_rights_words};
+use crate::findings::push_findings;
 use crate::json_record::LineRef;
-use crate::sentence::push_finding;
 use ssh_findings::{Facts, Finding, HeldKey};
 use ssh_keys::KeyKind;
 use ssh_print::{push_number, push_shown, push_text_line, push_word_line};
@@ -197,15 +196,6 @@ fn push_limits(alloc: Global, out: &mut Vec<u8>, facts: &Facts) -> Result<(), Al
     push_setting(out, b"    from ", &facts.from)?;
     push_setting(out, b"    principals ", &facts.principals)?;
     push_until(alloc, out, facts.until)?;
-    Ok(())
-}
-
-fn push_findings(alloc: Global, out: &mut Vec<u8>, found: &[Finding]) -> Result<(), AllocError>
-    ensures { OnOk result (out.new.items ≡ out.old.items ++ flat_map finding_line found.now) }
-{
-    for finding in found {
-        push_finding(alloc, out, *finding)?;
-    }
     Ok(())
 }
 

@@ -1,5 +1,5 @@
 use Rattle.ssh_program.proofs.Imports.{outcomes_summed, statuses_told}
-use Rattle.ssh_program.specs.AnswersSamples.{admits_is_spelled, trusts_is_spelled}
+use Rattle.ssh_program.specs.AnswerSamples.{admits_is_spelled, trusts_is_spelled}
 use Rattle.ssh_program.proofs.laws.outcomes_as_summed.Goals as goal
 
 pub returns : goal.returns

@@ -2,7 +2,7 @@ use Rattle.ssh_review.proofs.Imports.{[], ◌++◌, arith, length, rules, known_
 use Rattle.ssh_review.proofs.LineLemmas.{Fits}
 use Rattle.ssh_review.proofs.CountLemmas.{told_fits}
 use Rattle.ssh_review.proofs.LoopLemmas.{counts-step, kept-step, over-step, text-step}
-use Rattle.ssh_review.proofs.HostReviewMemoryLemmas.{file-bytes, file-keys, file-texts}
+use Rattle.ssh_review.proofs.HostMemoryLemmas.{file-bytes, file-keys, file-texts}
 use Rattle.ssh_review.proofs.host_review.push_known_records.Goals as goal
 
 pub plus-counts-requires : goal.plus-counts-requires

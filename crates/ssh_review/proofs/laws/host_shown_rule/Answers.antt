@@ -1,4 +1,4 @@
-use Rattle.ssh_review.proofs.HostReviewReviewLemmas.{review-shown}
+use Rattle.ssh_review.proofs.HostReviewLemmas.{review-shown}
 use Rattle.ssh_review.proofs.laws.host_shown_rule.Goals as goal
 
 pub returns : goal.returns

@@ -1,5 +1,0 @@
-use Rattle.ssh_laws.proofs.RewritingLemmas.{host-same, host-canonical, host-rewritten}
-use Rattle.ssh_laws.proofs.laws.host_rewritten_rule.Goals as goal
-
-pub returns : goal.returns
-returns c = record { facts = host-same; canonical = host-canonical; answer = host-rewritten }

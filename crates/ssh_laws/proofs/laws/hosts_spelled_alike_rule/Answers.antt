@@ -1,5 +1,0 @@
-use Rattle.ssh_laws.proofs.HostSpelledLemmas.{known_counts_alike, known_records_alike}
-use Rattle.ssh_laws.proofs.laws.hosts_spelled_alike_rule.Goals as goal
-
-pub returns : goal.returns
-returns c = record { records = known_records_alike; counts = known_counts_alike }

@@ -1,5 +1,0 @@
-use Rattle.ssh_laws.proofs.SpelledLemmas.{counts_alike, records_alike}
-use Rattle.ssh_laws.proofs.laws.spelled_alike_rule.Goals as goal
-
-pub returns : goal.returns
-returns c = record { records = records_alike; counts = counts_alike }

@@ -1,4 +1,0 @@
-pub mod Grants
-pub mod Listing
-pub mod HostListing
-pub mod HostSpelling

@@ -1,0 +1,31 @@
+-- The fields of an object are of printable ASCII.
+use Rattle.ssh_review.proofs.Imports.{◌≡◌, ℕ, true, List, ◌++◌, ℤ, Option, Some, None, codes, refl, field_name, moment_or_null, null_field, number_field, number_or_null, text_field, text_or_null, AreBytes, AreBytesIfAny, are_printable}
+use Rattle.ssh_review.proofs.PrintableLemmas.{ArePrintable, bytes-from_printable, decimal-printable, join, signed-printable, string-printable, word}
+
+pub name-then : {value : List ℕ} (name : List ℕ) → are_printable name ≡ true → ArePrintable value → ArePrintable (field_name name ++ value)
+name-then name h k = join (join (join (word (codes ",\"") refl) (word name h)) (word (codes "\":") refl)) k
+
+pub null-printable : (name : List ℕ) → are_printable name ≡ true → ArePrintable (null_field name)
+null-printable name h = name-then name h (word (codes "null") refl)
+
+pub text-printable : (name text : List ℕ) → are_printable name ≡ true → AreBytes text → ArePrintable (text_field name text)
+text-printable name text h k = name-then name h (string-printable text k)
+
+-- the same of a text that is printed as it is
+pub said-printable : {text : List ℕ} (name : List ℕ) → are_printable name ≡ true → ArePrintable text → ArePrintable (text_field name text)
+said-printable {text} name h k = text-printable name text h (bytes-from_printable k)
+
+pub any-text-printable : (name : List ℕ) (text : Option (List ℕ)) → are_printable name ≡ true → AreBytesIfAny text → ArePrintable (text_or_null name text)
+any-text-printable name None h k = null-printable name h
+any-text-printable name (Some text) h k = text-printable name text h k
+
+pub number-printable : (name : List ℕ) (n : ℕ) → are_printable name ≡ true → ArePrintable (number_field name n)
+number-printable name n h = name-then name h (decimal-printable n)
+
+pub any-number-printable : (name : List ℕ) (n : Option ℕ) → are_printable name ≡ true → ArePrintable (number_or_null name n)
+any-number-printable name None h = null-printable name h
+any-number-printable name (Some n) h = number-printable name n h
+
+pub any-moment-printable : (name : List ℕ) (n : Option ℤ) → are_printable name ≡ true → ArePrintable (moment_or_null name n)
+any-moment-printable name None h = null-printable name h
+any-moment-printable name (Some n) h = name-then name h (signed-printable n)
