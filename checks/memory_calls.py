@@ -1,5 +1,5 @@
 #!/usr/bin/env python3
-"""Compares the table of calls that take memory in docs/PROOFS.md with the sources: each public call of a library that is
+"""Compares the table of calls that take memory, growths/calls.md, with the sources: each public call of a library that is
 lent an allocator or a vector, or that may tell out of memory, stands in it once, and each row that it names is there.
 
 The last line is 'N passed, M failed', of the calls; the status is 0 where nothing failed."""
@@ -57,7 +57,7 @@ def calls_of(crate):
 
 def listed():
     """The calls of the table, each with its rows."""
-    text = (TOP / "docs" / "PROOFS.md").read_text()
+    text = (TOP / "checks" / "growths" / "calls.md").read_text()
     table = text[text.index(HEAD) :].split("\n\n", 1)[0].splitlines()[2:]
     crate = ""
     for line in table:

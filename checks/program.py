@@ -10,7 +10,7 @@ random files), openssh.py (what docs/OPENSSH_DIFFERENCES.md says, asked of a rea
 let in is shown), recipes.py (the commands of docs/RECIPES.md), codes.py (whether each printed code is in a row),
 explained.py (whether docs/CODES.md says what the source's table says), manual_page.py (the same of docs/ssh_audit.1,
 with its options), closure.py (how much a reviewer has to read), memory_calls.py (whether each call that takes memory is
-in the table of docs/PROOFS.md), edits.py (whether each wrong edit can be applied), refused_growth.py (each growth of
+in the table of growths/calls.md), edits.py (whether each wrong edit can be applied), refused_growth.py (each growth of
 memory refused in turn), cut_vectors.py (worked blobs, cut) and hostile.py (input that was made to hurt). With --after, as
 .ci/run starts it, library_rows.py (worked rows of the libraries), refused_calls.py (each growth of memory of the
 libraries' calls refused in turn) and sanitized.py (random bytes under AddressSanitizer) run too, which need the kit's

@@ -1,7 +1,7 @@
 #!/usr/bin/env python3
 """Makes each public call that takes memory with growths of memory refused in turn. Each has to tell out of memory or give
 its row's own answer; what was lent is as it was, and an audit whose piece was refused answers so for ever. The calls that
-take no memory give their rows whatever growth is refused. docs/PROOFS.md lists the calls with their rows. Run it as
+take no memory give their rows whatever growth is refused. growths/calls.md lists the calls with their rows. Run it as
 
     python3 checks/refused_calls.py [--every] [REPOSITORY]
 
