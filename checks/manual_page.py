@@ -1,7 +1,7 @@
 #!/usr/bin/env python3
-"""Compares the manual page docs/ssh_audit.1 with the source: the options of each command, in their order, with the rows
-of crates/ssh_program, and the codes with the table of crates/ssh_print; and sees that `man` shows it without a warning,
-where there is a `man`. It runs no program of this repository.
+"""Sees that the manual page docs/ssh_audit.1 is what make_manual_page.py makes. Compares it with the source: the options of
+each command, in their order, with the rows of crates/ssh_program, and the codes with the table of crates/ssh_print; and
+sees that `man` shows it without a warning, where there is a `man`. It runs no program of this repository.
 
 usage: manual_page.py
 
@@ -19,8 +19,9 @@ import sys
 sys.dont_write_bytecode = True
 import documents
 import explained
+import make_manual_page
 
-PAGE = explained.TOP / "docs" / "ssh_audit.1"
+PAGE = make_manual_page.PAGE
 SECTION = re.compile(r"^\.SH (.*)$", re.MULTILINE)
 COMMAND = re.compile(r"^\.SS (\w+)$", re.MULTILINE)
 OPTION = re.compile(r'^\.BI --([\w-]+) ".*"\n((?:(?!\.).*\n?)*)', re.MULTILINE)
@@ -66,6 +67,11 @@ def shown():
     return ran.stderr and f"man --warnings -l: {ran.stderr.decode(errors='replace')}"
 
 
+def made():
+    """What is wrong with the page as a whole, if something is."""
+    return None if PAGE.read_text() == make_manual_page.made() else "the page is not what checks/make_manual_page.py makes: run that"
+
+
 def options_compared(sections):
     """For each command and each place that has its options, what is wrong, or nothing."""
     wanted = documents.rows_of_code()
@@ -85,7 +91,7 @@ def codes_compared(sections):
 
 def main():
     sections = parts(SECTION, unescaped(PAGE.read_text()))
-    answers = [*options_compared(sections), *codes_compared(sections)]
+    answers = [made(), *options_compared(sections), *codes_compared(sections)]
     if shutil.which("man"):
         answers.append(shown() or None)
     faults = [answer for answer in answers if answer]
