@@ -8,14 +8,15 @@ worked.py (worked rows of the whole command), examples.py (keys, certificates an
 through examples/), documents.py (the commands of README.md and docs/MANUAL.md as they stand), review.py (reviews of
 random files), openssh.py (what docs/OPENSSH_DIFFERENCES.md says, asked of a real sshd and ssh, and whether whoever they
 let in is shown), recipes.py (the commands of docs/RECIPES.md), codes.py (whether each printed code is in a row),
-explained.py (whether docs/CODES.md says what the source's table says), manual_page.py (the same of docs/ssh_audit.1,
-with its options), closure.py (how much a reviewer has to read), memory_calls.py (whether each call that takes memory is
-in the table of growths/calls.md), edits.py (whether each wrong edit can be applied), refused_growth.py (each growth of
-memory refused in turn), cut_vectors.py (worked blobs, cut) and hostile.py (input that was made to hurt). With --after, as
-.ci/run starts it, library_rows.py (worked rows of the libraries), refused_calls.py (each growth of memory of the
-libraries' calls refused in turn) and sanitized.py (random bytes under AddressSanitizer) run too, which need the kit's
-`rt`, and the counts in the last line of LOG, what `rt ci` printed, are added. The last line is 'N passed, M failed' for
-all of them. The status is 0 where nothing failed. What cannot run has failed.
+explained.py (whether docs/CODES.md says what the source's table says), manual_page.py (whether docs/ssh_audit.1 is made of
+the sources), closure.py (how much a reviewer has to read), memory_calls.py (whether each call that takes memory is in the
+table of growths/calls.md), edits.py (whether each wrong edit can be applied), sentences.py (whether the sentences of the
+documents are short), refused_growth.py (each growth of memory refused in turn), cut_vectors.py (worked blobs, cut) and
+hostile.py (input that was made to hurt). With --after, as .ci/run starts it, library_rows.py (worked rows of the libraries),
+refused_calls.py (each growth of memory of the libraries' calls refused in turn) and sanitized.py (random bytes under
+AddressSanitizer) run too, which need the kit's `rt`, and the counts in the last line of LOG, what `rt ci` printed, are
+added. The last line is 'N passed, M failed' for all of them. The status is 0 where nothing failed. What cannot run has
+failed.
 
 Needs ssh and ssh-keygen (Debian: openssh-client), sshd (openssh-server), openssl 3, gcc, jq, git, /dev/full, and the built
 program. It takes some ten minutes, without --after.
@@ -817,7 +818,7 @@ def main():
     asked = parser.parse_args()
     tally = Tally()
     try_all(asked.program.resolve(), tally)
-    for name in ("codes.py", "explained.py", "manual_page.py", "closure.py", "memory_calls.py", "edits.py"):
+    for name in ("codes.py", "explained.py", "manual_page.py", "closure.py", "memory_calls.py", "edits.py", "sentences.py"):
         other_check(name, tally)
     if asked.after is not None:
         for name in ("library_rows.py", "refused_calls.py", "sanitized.py"):
