@@ -1,5 +1,6 @@
 -- A run of `rewrite`, `hash` or `review` that ends without a fault printed a file that keeps the decisions, or the reviews of all files.
 use Rattle.ssh_program.proofs.Imports.{◌≡◌, ◌⊎◌, ◌<◌, ◌≤◌, ◌+◌, ◌++◌, ◌∙◌, ◌^◌, cond, ℕ, zero, suc, Bool, true, false, List, [], ◌∷◌, length, take, drop, ◌*◌, ◌/◌, ◌%◌, Option, Some, None, Result, Ok, Err, ap, subst, sym, refl, inl, inr, arith, nat_lt, Row, TimeZone, Response, no_file_response, IfTells, SourceState, bytes_at, most_failures, within_limit, number_below, zone_text, ReadsZone, Request, request_of, Account, WritesResponse, Answers, RespondsBy, request_words, source_of, RespondsTo, given, needed, or_fault, value, value_or, Signed, file_limit, after_whole, salts_or_fault, salts_in, KeepsOthers, NoReadFailed, TellsFile, TellsFiles}
+use Rattle.std.proofs.lemmas.Bool.{ltb-false}
 use Rattle.std.proofs.lemmas.List.{append-nil, append_assoc, length-take-le, length-drop}
 use Rattle.std.specs.List.{AllByRecursion}
 use Rattle.std.specs.Prelude.{◌==◌, min}
@@ -208,7 +209,7 @@ hashed-by : (rows : List Row) (s : SourceState) (t : Option SourceState) (r : Re
     → Hashes name salts_name s t r → r.status ≡ 0 → FileHashed rows s r
 hashed-by rows s t r name salts_name named salts_named (inl (unfailed, is)) done = hashed-in rows s r name salts_name named salts_named (salts_in salts_name s) refl is done
 hashed-by rows s t r name salts_name named salts_named (inr (inl (is, failed))) done = let two = status-of r _ failed in absurd (omega (arith, two, done))
-hashed-by rows s t r name salts_name named salts_named (inr (inr (salts, told, failed, is))) done = let two = status-of r _ is in absurd (omega (arith, two, done))
+hashed-by rows s t r name salts_name named salts_named (inr (inr (salts, told, fault))) done = let two = status-of r _ fault.1 in absurd (omega (arith, two, done))
 
 hashed-salts : (rows : List Row) (s : SourceState) (t : Option SourceState) (r : Response) (name : List ℕ) → needed option.File rows ≡ Ok name
     → (salts : Result (List ℕ) Response) → needed option.Salts rows ≡ salts → RespondsTo (Hashes name) salts s t r → r.status ≡ 0 → FileHashed rows s r
@@ -369,7 +370,7 @@ faultless total few = by (nat_lt 0 total.faults) refl few
   where
     by : (some : Bool) → nat_lt 0 total.faults ≡ some → cond some 2 (cond (nat_lt 0 total.counts.findings) 1 0) < 2 → total.faults ≡ 0
     by true is few = absurd (omega (arith, few))
-    by false is few = omega (arith, is)
+    by false is few = let none = ltb-false 0 total.faults is in omega (arith, none)
 
 review-of : (asked : ReviewAsked) (s : SourceState) (t : Option SourceState) (r : Response) → s.failures + length asked.names < most_failures
     → ReviewsFiles asked.kind asked.form asked.asking asked.names s t r → r.status < 2 → PrintsReviews asked r.text asked.names s

@@ -29,9 +29,9 @@ pub mod ListLemmas
 pub mod HashedFactsLemmas
 pub mod GrantLemmas
 pub mod RewritingLemmas
-mod NumberedLemmas
-mod ListedLemmas
-mod ListingLemmas
-mod SpelledLemmas
-mod HostSpelledLemmas
-mod HostListingLemmas
+pub mod NumberedLemmas
+pub mod ListedLemmas
+pub mod ListingLemmas
+pub mod SpelledLemmas
+pub mod HostSpelledLemmas
+pub mod HostListingLemmas

@@ -1,5 +1,5 @@
 -- The texts that are printed of a line are printable ASCII.
-use Rattle.ssh_review.proofs.Imports.{◌≡◌, ℕ, ◌==◌, Bool, true, false, ◌&&◌, cond, List, [], ◌∷◌, ◌++◌, refl, arith, codes, flat_map, decimal, WireCause, KeyError, KeyKind, Rsa, P256, P384, P521, Ed25519, SkP256, SkEd25519, key_name_of, LineCause, Flag, AgentForwarding, CertAuthority, NoAgentForwarding, NoPortForwarding, NoPty, NoUserRc, NoX11Forwarding, PortForwarding, Pty, NoTouchRequired, VerifyRequired, Restrict, UserRc, X11Forwarding, ValueName, Command, Environment, ExpiryTime, From, PermitListen, PermitOpen, Principals, Tunnel, AuthOption, Switch, Setting, flag_name, value_name, Rights, after_comma, option_text, key_codes, wire_code, right_word, right_words, Code, Ground, ground_word, Finding, code_text, cause_detail, detail_of, AreBytes, HaveByteValues, are_printable, is_printable, options_text, without_space}
+use Rattle.ssh_review.proofs.Imports.{◌≡◌, ℕ, ◌==◌, Bool, true, false, ◌&&◌, cond, List, [], ◌∷◌, ◌++◌, refl, arith, codes, flat_map, decimal, WireCause, KeyError, KeyKind, Rsa, P256, P384, P521, Ed25519, SkP256, SkEd25519, key_name_of, LineCause, Flag, AgentForwarding, CertAuthority, NoAgentForwarding, NoPortForwarding, NoPty, NoUserRc, NoX11Forwarding, PortForwarding, Pty, NoTouchRequired, VerifyRequired, Restrict, UserRc, X11Forwarding, ValueName, Command, Environment, ExpiryTime, From, PermitListen, PermitOpen, Principals, Tunnel, AuthOption, Switch, Setting, flag_name, value_name, Rights, after_comma, option_text, key_codes, wire_code, right_word, right_words, Code, Ground, ground_word, Finding, code_text, cause_detail, AreBytes, HaveByteValues, are_printable, is_printable, options_text, without_space}
 use Rattle.ssh_wire.specs.declared.cursor.WireCause.TheVariants as wire
 use Rattle.ssh_keys.specs.declared.key.KeyError.TheVariants as key
 use Rattle.ssh_options.specs.declared.option_text.LineCause.TheVariants as cause

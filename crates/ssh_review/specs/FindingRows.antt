@@ -24,15 +24,21 @@ pub record FindingRow : Type 0 where
   pub value : Value
   pub after : List ℕ
 
+-- a constant of three texts
 abbrev pub Texts : Type 0
-Texts = Bor (List ℕ) × Bor (List ℕ) × Bor (List ℕ)
+Texts = record { now : List ℕ } × record { now : List ℕ } × record { now : List ℕ }
 
 -- the same of a row in memory
 abbrev pub row_seen : Row → FindingRow
 row_seen r = record { code = r.code; detail = r.detail.now; before = r.before.now; value = r.value; after = r.after.now }
 
+-- the row of these texts and this value
 abbrev pub row_with : Code → Texts → Value → FindingRow
 row_with code texts value = record { code = code; detail = texts.0.now; before = texts.1.now; value = value; after = texts.2.now }
+
+-- the same of texts in memory
+abbrev pub row_of_texts : Code → Bor (List ℕ) × Bor (List ℕ) × Bor (List ℕ) → Value → FindingRow
+row_of_texts code texts value = record { code = code; detail = texts.0.now; before = texts.1.now; value = value; after = texts.2.now }
 
 -- of an authorized_keys line
 abbrev pub auth_row : Finding → FindingRow
@@ -68,6 +74,9 @@ host_refusal grounds.PermitListen = table.PASSED_OVER
 host_refusal grounds.Environment = table.PASSED_OVER
 host_refusal grounds.Tunnel = table.PASSED_OVER
 
+abbrev pub host_refusal_row : Code → Ground → FindingRow
+host_refusal_row code g = record (row_with code (host_refusal g) Nothing) { detail = ground_word g }
+
 -- of a known_hosts line
 abbrev pub host_row : HostFinding → FindingRow
 host_row (host.Unreadable why) = row_with (host_code_of (host.Unreadable why)) table.UNREADABLE (Cause why)
@@ -84,4 +93,4 @@ host_row host.PatternHosts = row_with (host_code_of host.PatternHosts) table.PAT
 host_row host.EveryHost = row_with (host_code_of host.EveryHost) table.EVERY_HOST Nothing
 host_row host.NamesInClear = row_with (host_code_of host.NamesInClear) table.NAMES_IN_CLEAR Nothing
 host_row (host.SameHostKey line) = row_with (host_code_of (host.SameHostKey line)) table.SAME_HOST_KEY (Number line)
-host_row (host.MayRefuse g) = record (row_with (host_code_of (host.MayRefuse g)) (host_refusal g) Nothing) { detail = ground_word g }
+host_row (host.MayRefuse g) = host_refusal_row (host_code_of (host.MayRefuse g)) g

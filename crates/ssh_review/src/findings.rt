@@ -3,7 +3,7 @@
 ghost use Rattle.std.specs.Prelude.{◌≡◌, IfOk, ◌++◌, OnOk};
 ghost use Rattle.std.specs.List.{flat_map};
 ghost use Rattle.ssh_review.specs.Findings.{cause_detail, cause_text, code_object, detail_part, finding_head, object_after_comma, row_detail, row_line, row_object, row_sentence, rows_end, rows_list, value_text};
-ghost use Rattle.ssh_review.specs.FindingRows.{auth_row, host_refusal, host_row, row_seen, row_with};
+ghost use Rattle.ssh_review.specs.FindingRows.{auth_row, host_refusal_row, host_row, row_of_texts, row_seen};
 
 use crate::fields::push_text_field;
 use crate::table::{
@@ -42,7 +42,7 @@ pub(crate) struct Row {
 
 /// The row of a finding with these texts and this value.
 fn row_with(code: Code, texts: Texts, value: Value) -> Row
-    ensures { row_seen result ≡ row_with code texts.entry value }
+    ensures { row_seen result ≡ row_of_texts code texts.entry value }
 {
     Row {
         code,
@@ -57,15 +57,15 @@ fn row_with(code: Code, texts: Texts, value: Value) -> Row
 pub(crate) trait Printed: Copy {
     ghost use Rattle.ssh_review.specs.FindingRows.{FindingRow};
 
-    ghost row: { Self → FindingRow };
+    ghost printed: { Self → FindingRow };
 
     /// What is printed of it.
     fn row(self) -> Row
-        ensures { row_seen result ≡ row self };
+        ensures { row_seen result ≡ printed self };
 }
 
 impl Printed for Finding {
-    ghost row = { auth_row };
+    ghost printed = { auth_row };
 
     fn row(self) -> Row {
         let code = self.code();
@@ -98,22 +98,26 @@ impl Printed for Finding {
     }
 }
 
-/// The texts of a line that ssh may pass over for this reason.
-fn host_refusal(ground: Ground) -> Texts
-    ensures { result ≡ host_refusal ground }
+/// The row of a line that ssh may pass over for this reason.
+fn host_refusal_row(code: Code, ground: Ground) -> Row
+    ensures { row_seen result ≡ host_refusal_row code ground }
 {
-    match ground {
-        Ground::Nul => NUL_NAMES,
-        Ground::LongItem => LONG_NAME,
-        Ground::Rsa => RSA_SIZE,
+    let row = match ground {
+        Ground::Nul => row_with(code, NUL_NAMES, Value::Nothing),
+        Ground::LongItem => row_with(code, LONG_NAME, Value::Nothing),
+        Ground::Rsa => row_with(code, RSA_SIZE, Value::Nothing),
         Ground::PermitOpen | Ground::PermitListen | Ground::Environment | Ground::Tunnel => {
-            PASSED_OVER
+            row_with(code, PASSED_OVER, Value::Nothing)
         }
+    };
+    Row {
+        detail: ground.word(),
+        ..row
     }
 }
 
 impl Printed for HostFinding {
-    ghost row = { host_row };
+    ghost printed = { host_row };
 
     fn row(self) -> Row {
         let code = self.code();
@@ -142,10 +146,7 @@ impl Printed for HostFinding {
             HostFinding::EveryHost => row_with(code, EVERY_HOST, Value::Nothing),
             HostFinding::NamesInClear => row_with(code, NAMES_IN_CLEAR, Value::Nothing),
             HostFinding::SameHostKey(line) => row_with(code, SAME_HOST_KEY, Value::Number(line)),
-            HostFinding::MayRefuse(ground) => Row {
-                detail: ground.word(),
-                ..row_with(code, host_refusal(ground), Value::Nothing)
-            },
+            HostFinding::MayRefuse(ground) => host_refusal_row(code, ground),
         }
     }
 }
@@ -171,7 +172,7 @@ fn push_cause(alloc: Global, out: &mut Vec<u8>, cause: LineCause) -> Result<(), 
 
 /// The detail after the code of a finding. It has no bytes where the code alone is enough.
 fn detail(alloc: Global, row: Row) -> Result<Vec<u8>, AllocError>
-    ensures { IfOk result (λ text. text.items ≡ row_detail (row_seen row.entry)) }
+    ensures { IfOk result (λ text. text.items ≡ row_detail (row_seen row)) }
 {
     let mut text = Vec::from_slice(alloc, row.detail)?;
     match row.value {
@@ -203,7 +204,7 @@ fn push_value(alloc: Global, out: &mut Vec<u8>, value: Value) -> Result<(), Allo
 }
 
 fn push_sentence(alloc: Global, out: &mut Vec<u8>, row: Row) -> Result<(), AllocError>
-    ensures { OnOk result (out.new.items ≡ out.old.items ++ row_sentence (row_seen row.entry)) }
+    ensures { OnOk result (out.new.items ≡ out.old.items ++ row_sentence (row_seen row)) }
 {
     out.extend_from_slice(row.before)?;
     push_value(alloc, out, row.value)?;
@@ -235,7 +236,7 @@ fn push_finding_head(out: &mut Vec<u8>, code: &[u8], said: &[u8]) -> Result<(), 
 
 /// Appends the line of a finding.
 fn push_row(alloc: Global, out: &mut Vec<u8>, row: Row) -> Result<(), AllocError>
-    ensures { OnOk result (out.new.items ≡ out.old.items ++ row_line (row_seen row.entry)) }
+    ensures { OnOk result (out.new.items ≡ out.old.items ++ row_line (row_seen row)) }
 {
     let said = detail(alloc, row)?;
     push_finding_head(out, row.code.text(), &said)?;
@@ -251,7 +252,7 @@ pub(crate) fn push_findings<F: Printed>(
     found: &[F],
 ) -> Result<(), AllocError>
     ensures { OnOk result
-        (out.new.items ≡ out.old.items ++ flat_map (λ f. row_line (F.row f)) found.now) }
+        (out.new.items ≡ out.old.items ++ flat_map (λ f. row_line (F.printed f)) found.now) }
 {
     for finding in found {
         push_row(alloc, out, finding.row())?;
@@ -262,7 +263,7 @@ pub(crate) fn push_findings<F: Printed>(
 /// Appends the object of a finding: its code and detail.
 #[tactic(auto, unfolding(crate::specs::Findings::code_object))]
 fn push_object(alloc: Global, out: &mut Vec<u8>, row: Row) -> Result<(), AllocError>
-    ensures { OnOk result (out.new.items ≡ out.old.items ++ row_object (row_seen row.entry)) }
+    ensures { OnOk result (out.new.items ≡ out.old.items ++ row_object (row_seen row)) }
 {
     let said = detail(alloc, row)?;
     out.extend_from_slice(b"{\"code\":")?;
@@ -275,7 +276,7 @@ fn push_object(alloc: Global, out: &mut Vec<u8>, row: Row) -> Result<(), AllocEr
 /// Appends the objects of findings, each after a comma.
 fn push_others<F: Printed>(alloc: Global, out: &mut Vec<u8>, found: &[F]) -> Result<(), AllocError>
     ensures { OnOk result
-        (out.new.items ≡ out.old.items ++ flat_map (object_after_comma F.row) found.now) }
+        (out.new.items ≡ out.old.items ++ flat_map (object_after_comma F.printed) found.now) }
 {
     for finding in found {
         out.push(b',')?;
@@ -286,7 +287,7 @@ fn push_others<F: Printed>(alloc: Global, out: &mut Vec<u8>, found: &[F]) -> Res
 
 /// Appends the objects of findings, separated by commas.
 fn push_list<F: Printed>(alloc: Global, out: &mut Vec<u8>, found: &[F]) -> Result<(), AllocError>
-    ensures { OnOk result (out.new.items ≡ out.old.items ++ rows_list F.row found.now) }
+    ensures { OnOk result (out.new.items ≡ out.old.items ++ rows_list F.printed found.now) }
 {
     if let [first, others @ ..] = found {
         push_object(alloc, out, first.row())?;
@@ -301,7 +302,7 @@ pub(crate) fn push_findings_end<F: Printed>(
     out: &mut Vec<u8>,
     found: &[F],
 ) -> Result<(), AllocError>
-    ensures { OnOk result (out.new.items ≡ out.old.items ++ rows_end F.row found.now) }
+    ensures { OnOk result (out.new.items ≡ out.old.items ++ rows_end F.printed found.now) }
 {
     out.extend_from_slice(b",\"findings\":[")?;
     push_list(alloc, out, found)?;
