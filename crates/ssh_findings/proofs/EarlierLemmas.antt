@@ -92,6 +92,12 @@ abbrev pub HasOneMore : LeastLines → LeastLines → List ℕ → ℕ → Type 
 HasOneMore old new bytes n =
     (other : List ℕ) → line_at new other ≡ cond (bytes_eq bytes other) (lesser (line_at old other) (Some n)) (line_at old other)
 
+-- one more line in a map that was prepared, where each text had its old line
+pub more_prepared : (old prepared new : LeastLines) (bytes : List ℕ) (n : ℕ)
+    → ((other : List ℕ) → line_at prepared other ≡ line_at old other) → HasOneMore prepared new bytes n → HasOneMore old new bytes n
+more_prepared old prepared new bytes n same more other =
+    more other ∙ ap (λ o. cond (bytes_eq bytes other) (lesser o (Some n)) o) (same other)
+
 if-line : (b : Bool) (o : Option ℕ) (n : ℕ) → cond b (lesser o (Some n)) o ≡ lesser o (line_if b n)
 if-line true o n = refl
 if-line false o n = sym (lesser_none o)
@@ -189,6 +195,27 @@ no_key m kind n own k item blob =
     go true true c = refl
     go true false c = refl
     go false p c = refl
+
+-- the key of hashed names was not stored: the lines are as they were
+pub entry_undone : (m : EarlierHosts) (hosts : LeastLines) (named : KindKeys) (n : ℕ) (blob : List ℕ) (f : HostFacts) (lines : List HostLine)
+    → f.is_authority ≡ false → has_names f ≡ false
+    → ((other : List ℕ) → line_at hosts other ≡ line_at m.hosts other) → HasOneMoreKey m.named named f.kind f.list n blob → RemembersLines m lines
+    → RemembersLines (record { hosts = hosts; authorities = m.authorities; revoked = m.revoked; spelled = m.spelled; named = named }) lines
+entry_undone m hosts named n own f lines role none same keys s = record {
+  hosts = λ blob. same blob ∙ s.hosts blob;
+  authorities = s.authorities;
+  revoked = s.revoked;
+  spelled = s.spelled;
+  named = λ kind item blob. keys kind item blob ∙ go kind item blob f.list refl ∙ s.named kind item blob;
+}
+  where
+    go : (kind : KeyKind) (item blob : List ℕ) (list : Option (List ℕ)) → f.list ≡ list
+        → lesser (other_of_kind m.named kind item blob) (line_if ((same_kind f.kind kind && has_item item f.list) && not (bytes_eq own blob)) n)
+        ≡ other_of_kind m.named kind item blob
+    go kind item blob None e =
+        ap (λ l. lesser (other_of_kind m.named kind item blob) (line_if ((same_kind f.kind kind && has_item item l) && not (bytes_eq own blob)) n)) e
+        ∙ sym (no_key m.named f.kind n own kind item blob)
+    go kind item blob (Some list) e = absurd (named_none f list role e none)
 
 -- ---- one more key for a piece of a list
 

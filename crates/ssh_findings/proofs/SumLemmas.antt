@@ -1,5 +1,5 @@
 -- What is stored for an entry, by its blob and its names.
-use Rattle.ssh_findings.proofs.Imports.{◌≡◌, ℕ, suc, ◌+◌, ◌*◌, ◌≤◌, ◌==◌, Bool, true, false, cond, List, [], ◌∷◌, length, arith, mul-le-mul_right, suc-mul, onto_first, to_ascii_lowercase, str_to_ascii_lowercase, length-map, key_blob, Names, Patterns, Hashed, names_text, pieces, pieces_left, KnownEntry, marks_authority, lower_list, is_plain, entry_sum, host_entry_bytes, items_bytes, items_sum}
+use Rattle.ssh_findings.proofs.Imports.{◌≡◌, ℕ, suc, ◌+◌, ◌*◌, ◌≤◌, ◌==◌, Bool, true, false, cond, List, [], ◌∷◌, length, arith, mul-le-mul_right, suc-mul, onto_first, to_ascii_lowercase, str_to_ascii_lowercase, length-map, key_blob, Names, Patterns, Hashed, names_text, pieces, pieces_left, KnownEntry, marks_authority, lower_list, is_plain, entry_sum, host_entry_bytes, items_bytes, items_sum, Option, Some, None, IsSome, weight_at}
 use Rattle.ssh_findings.specs.HostFacts.{host_facts_of}
 
 -- ---- the pieces of a list
@@ -90,3 +90,11 @@ entry-bytes line e =
     let ps = pieces_left (lower_list e.names) in
     let each : length ps * length blob ≤ (length (names_text e.names) + 1) * length blob = mul-le-mul_right (length blob) (names-fit e.names).few in
     omega (arith, each, unless (marks_authority e.marker) (items_bytes blob ps), items-whole blob ps, (names-fit e.names).bytes)
+
+-- ---- a text that is stored already
+
+-- another line for a text that is stored: the sum of a measure of the texts stays
+pub same_sum : (weight : List ℕ → ℕ) (text : List ℕ) (there : Option (Option ℕ)) (old new : ℕ) → IsSome there
+    → new + weight_at (λ t line. weight t) text there ≡ old + weight text → new ≡ old
+same_sum weight text None old new some h = cc
+same_sum weight text (Some line) old new some h = omega (arith, h)

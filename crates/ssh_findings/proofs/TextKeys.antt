@@ -13,3 +13,11 @@ changed read f bs cs m n w h at = ap read (h cs) ∙ go (bytes_eq bs cs) refl
         → read (cond b (Some w) (entry_of m cs)) ≡ cond b (f (read (entry_of m cs))) (read (entry_of m cs))
     go true e = at ∙ ap (λ ds. f (read (entry_of m ds))) ((bytes_eq-Decides bs cs).0 e)
     go false e = refl
+
+-- nothing changes where the same is kept
+pub kept_there : {Y : Type 0} (bs cs : List ℕ) (y : Y) → cond (bytes_eq bs cs) y y ≡ y
+kept_there bs cs y = go (bytes_eq bs cs)
+  where
+    go : (b : Bool) → cond b y y ≡ y
+    go true = refl
+    go false = refl

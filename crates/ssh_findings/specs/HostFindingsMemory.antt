@@ -11,8 +11,8 @@ use Rattle.ssh_findings.specs.declared.named.NamedKeys.{NamedKeys}
 use Rattle.ssh_findings.specs.declared.host_facts.RevocationFacts.{RevocationFacts}
 use Rattle.ssh_findings.specs.Items.{is_plain}
 
--- the bytes of the texts with a stored line
-abbrev pub line_text_bytes : List ℕ → ℕ → ℕ
+-- the bytes of the texts that are stored, with a line or prepared for one
+abbrev pub line_text_bytes : List ℕ → Option ℕ → ℕ
 line_text_bytes text line = length text
 
 -- the bytes of a name, and of the blob of its first key
@@ -45,7 +45,7 @@ items_bytes blob (item ∷ items) = (if is_plain item then length item + length 
 abbrev pub host_entry_bytes : List ℕ → HostFacts → ℕ
 host_entry_bytes blob f = length blob + (if f.is_authority then 0 else items_bytes blob (pieces_left f.list))
 
--- the sum of a measure of each stored text: over the texts with a stored line, and over names
+-- the sum of a measure of each stored text: over the texts that are stored for a line, and over names
 abbrev pub texts_sum : (List ℕ → ℕ) → LeastLines → ℕ
 texts_sum weight m = sum_of (λ text line. weight text) m.lines
 

@@ -1,5 +1,5 @@
 -- Look-ups in what is stored of earlier lines (this project's rule).
-use Rattle.std.specs.Prelude.{ℕ, if◌then◌else◌, List, [], ◌∷◌, Option, None, Some, bytes_eq}
+use Rattle.std.specs.Prelude.{ℕ, if◌then◌else◌, List, [], ◌∷◌, Option, None, Some, bytes_eq, IsSome}
 use Rattle.ssh_findings.specs.Entries.{entry_of}
 use Rattle.ssh_keys.specs.declared.kind.KeyKind.{KeyKind}
 use Rattle.ssh_keys.specs.declared.kind.KeyKind.TheVariants as kind
@@ -9,9 +9,18 @@ use Rattle.ssh_findings.specs.declared.named.NamedKeys.{NamedKeys}
 use Rattle.ssh_findings.specs.declared.named.KindKeys.{KindKeys}
 use Rattle.ssh_findings.specs.Least.{lesser}
 
+-- the line of an entry: a text may be in the map with no line yet
+abbrev pub line_in : Option (Option ℕ) → Option ℕ
+line_in None = None
+line_in (Some line) = line
+
 -- the line that is stored for a text
 abbrev pub line_at : LeastLines → List ℕ → Option ℕ
-line_at m bytes = entry_of m.lines bytes
+line_at m bytes = line_in (entry_of m.lines bytes)
+
+-- the text is in the map, so that a line for it is stored without allocation
+abbrev pub IsPrepared : LeastLines → List ℕ → Type 0
+IsPrepared m bytes = IsSome (entry_of m.lines bytes)
 
 -- the line with a key other than this one, by the first key of a name
 abbrev pub other_of : FirstKey → List ℕ → Option ℕ

@@ -122,8 +122,7 @@ impl EarlierHosts {
         Ok(())
     }
 
-    /// Stores a line that revokes these bytes. On `Err` the bytes are not stored, and nothing at
-    /// all if they are not another encoding of a key.
+    /// Stores a line that revokes these bytes. On `Err` no look-up finds anything else than before.
     pub fn keep_revocation(
         &mut self,
         alloc: Global,
@@ -138,9 +137,13 @@ impl EarlierHosts {
         ensures sum { OnOk result ((weight : List ℕ → ℕ)
             → kept_sum weight self.new ≤ kept_sum weight self.old + revocation_sum weight bytes.now facts.now) }
         ensures keys { OnErr result (KeepsKeys self.old self.new) }
-        ensures err { OnErr result (facts.now.spelling ≡ None
-            → (lines : List HostLine) → RemembersLines self.old lines → RemembersLines self.new lines) }
+        ensures spellings { OnErr result (KeepsSpellings self.old self.new) }
+        ensures err { OnErr result
+            ((lines : List HostLine) → RemembersLines self.old lines → RemembersLines self.new lines) }
     {
+        // The bytes first: once they are prepared, their line is stored without memory, so the two
+        // maps get the line both or neither.
+        self.revoked.prepare(alloc, bytes)?;
         self.spelled.keep_some(alloc, &facts.spelling, line)?;
         self.revoked.keep(alloc, bytes, line)?;
         Ok(())

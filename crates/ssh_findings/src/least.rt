@@ -4,7 +4,7 @@ ghost use Rattle.std.specs.Prelude.{if◌then◌else◌, ◌≡◌, ◌≤◌, l
 ghost use Rattle.ssh_findings.specs.Number.{number};
 ghost use Rattle.ssh_findings.specs.HostFindingsEarlier.{is_blob};
 ghost use Rattle.ssh_findings.specs.Least.{lesser};
-ghost use Rattle.ssh_findings.specs.Maps.{line_at};
+ghost use Rattle.ssh_findings.specs.Maps.{IsPrepared, line_at};
 ghost use Rattle.ssh_findings.specs.HostFindingsMemory.{spelling_bytes, spelling_sum, texts_bytes, texts_sum};
 
 use crate::map::ByteMap;
@@ -36,7 +36,9 @@ fn least(kept: Option<u64>, line: u64) -> u64
 /// The lowest line number for each of some texts.
 #[derive(Debug, Drop)]
 pub(crate) struct LeastLines {
-    lines: ByteMap<u64>,
+    /// A text may be here with no line yet: `prepare` stores it so, and `keep` then needs no
+    /// memory for its line.
+    lines: ByteMap<Option<u64>>,
 }
 
 impl LeastLines {
@@ -54,11 +56,27 @@ impl LeastLines {
     pub(crate) fn line(&self, bytes: &[u8]) -> Option<u64>
         ensures { result ≡ line_at self.now bytes.now }
     {
-        self.lines.get(bytes).copied()
+        match self.lines.get(bytes) {
+            None => None,
+            Some(line) => *line,
+        }
     }
 
-    /// Stores a line number for a text, unless a lower one is stored. If allocation fails, nothing
-    /// is stored.
+    /// Stores a text, so that `keep` needs no memory for it. No line is stored.
+    pub(crate) fn prepare(&mut self, alloc: Global, bytes: &[u8]) -> Result<(), AllocError>
+        ensures lines { (other : List ℕ) → line_at self.new other ≡ line_at self.old other }
+        ensures prepared { OnOk result (IsPrepared self.new bytes.now) }
+        ensures bytes { OnOk result (texts_bytes self.new ≤ texts_bytes self.old + length bytes.now) }
+        ensures sum { OnOk result ((weight : List ℕ → ℕ)
+            → texts_sum weight self.new ≤ texts_sum weight self.old + weight bytes.now) }
+    {
+        let line = self.line(bytes);
+        self.lines.insert(alloc, bytes, line)?;
+        Ok(())
+    }
+
+    /// Stores a line number for a text, unless a lower one is stored. Does not allocate if the text
+    /// is prepared. If allocation fails, nothing is stored.
     pub(crate) fn keep(&mut self, alloc: Global, bytes: &[u8], line: u64) -> Result<(), AllocError>
         ensures ok { OnOk result ((other : List ℕ) → line_at self.new other
             ≡ if bytes_eq bytes.now other then lesser (line_at self.old other) (Some line) else line_at self.old other) }
@@ -67,9 +85,13 @@ impl LeastLines {
             → texts_sum weight self.new ≤ texts_sum weight self.old + weight bytes.now) }
         ensures err { OnErr result
             ((other : List ℕ) → line_at self.new other ≡ line_at self.old other) }
+        ensures spare { IsPrepared self.old bytes.now → IsOk result }
+        // A prepared text is stored already.
+        ensures same { IsPrepared self.old bytes.now → OnOk result ((weight : List ℕ → ℕ)
+            → texts_sum weight self.new ≡ texts_sum weight self.old) }
     {
         let least = least(self.line(bytes), line);
-        self.lines.insert(alloc, bytes, least)?;
+        self.lines.insert(alloc, bytes, Some(least))?;
         Ok(())
     }
 
