@@ -148,7 +148,8 @@ OTHER_RESPELLED = f"ssh-ed25519 {blob(b'ED25519', bytes(31) + bytes([1]))}\n"
 HOST_CERTIFICATE = f"{CERTIFIED} {X1} me\n"
 
 # A known_hosts file that trusts a key here, the line that does so, and what is told of ssh: of lines that it may pass over
-# (an item of 1,023 bytes, a NUL in the names, an RSA key of fewer than 1,024 bits), and of revocations that it counts.
+# (an item of 1,023 bytes, a NUL in the names, an RSA key of fewer than 1,024 bits, a tab or another marker after a marker),
+# and of revocations that it counts, a certificate's among them.
 OF_SSH = [
     (KEY, f"h,{1023 * 'x'} {KEY}", 1, ["ssh may refuse line 1", "no other line trusts it"]),
     (KEY, f"h,{1022 * 'x'} {KEY}", 1, []),
@@ -180,8 +181,22 @@ OF_SSH = [
         1,
         ["ssh may refuse line 1", "line 2 decides then"],
     ),
+    (HOST_CERTIFICATE, f"@cert-authority\th {OTHER_KEY}", 1, ["ssh may refuse line 1", "no other line trusts it"]),
+    (
+        HOST_CERTIFICATE,
+        f"@cert-authority\th {OTHER_KEY}{HOST_AUTHORITY}",
+        1,
+        ["ssh may refuse line 1", "line 2 decides then"],
+    ),
+    (HOST_CERTIFICATE, f"{HOST_AUTHORITY}@cert-authority\th {OTHER_KEY}", 1, []),
+    (HOST_CERTIFICATE, f"@cert-authority @x,h {OTHER_KEY}", 1, ["ssh may refuse line 1", "no other line trusts it"]),
     (HOST_CERTIFICATE, f"{HOST_AUTHORITY}@revoked h {OTHER_RESPELLED}", 1, ["ssh may take the key as revoked by line 2"]),
     (HOST_CERTIFICATE, f"{HOST_AUTHORITY}@revoked h {RESPELLED}", 1, ["ssh may take the key as revoked by line 2"]),
+    (KEY, f"h {KEY}@revoked h {HOST_CERTIFICATE}", 1, ["ssh may take the key as revoked by line 2"]),
+    (KEY, f"h {KEY}@revoked g {HOST_CERTIFICATE}", 1, []),
+    (KEY, f"h {KEY}@revoked h ssh-ed25519 {X1}\n", 1, []),
+    (OTHER_KEY, f"h {OTHER_KEY}@revoked h {HOST_CERTIFICATE}", 1, []),
+    (HOST_CERTIFICATE, f"{HOST_AUTHORITY}@revoked h {HOST_CERTIFICATE}", 1, ["ssh may take the key as revoked by line 2"]),
 ]
 
 

@@ -33,6 +33,7 @@ pub mod OpenSshBlob
 pub mod OpenSshNames
 pub mod OpenSshWords
 pub mod HeldKeysSamples
+pub mod CertifiedKey
 pub mod Stands
 pub mod Number
 pub mod Rows

@@ -43,6 +43,7 @@
 #![tactic(auto)]
 
 mod carried;
+mod certified_key;
 mod code;
 mod earlier;
 mod entry;
@@ -62,6 +63,7 @@ mod recovered_words;
 mod sources;
 mod table;
 
+pub use certified_key::known_certified_blob;
 pub use code::{Code, ReviewOptions, parse_codes};
 pub use earlier::Earlier;
 pub use entry::{entry_findings, unreadable_findings};

@@ -64,7 +64,7 @@ fn c_text(text: &[u8]) -> Result<&[u8], Refused>
 }
 
 #[tactic(auto, unfolding(crate::specs::OpenSshBlob::c_text_at))]
-fn take_c_text<'a>(cursor: &mut Cursor<'a>) -> Result<&'a [u8], Refused>
+pub(crate) fn take_c_text<'a>(cursor: &mut Cursor<'a>) -> Result<&'a [u8], Refused>
     ensures { Reads (λ t. t.now) c_text_at cursor.old result cursor.new }
 {
     let text = cursor.take_string()?;
@@ -133,7 +133,10 @@ fn take_point<'a>(curve: Curve, cursor: &mut Cursor<'a>) -> Result<&'a [u8], Ref
 }
 
 #[tactic(auto, unfolding(crate::specs::OpenSshBlob::fields_at))]
-fn take_fields<'a>(kind: KeyKind, cursor: &mut Cursor<'a>) -> Result<KeyFields<'a>, Refused>
+pub(crate) fn take_fields<'a>(
+    kind: KeyKind,
+    cursor: &mut Cursor<'a>,
+) -> Result<KeyFields<'a>, Refused>
     ensures { Reads public_key (fields_at kind) cursor.old result cursor.new }
 {
     match kind {

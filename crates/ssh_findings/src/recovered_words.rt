@@ -25,7 +25,7 @@ fn find_nul(line: &[u8]) -> Option<usize>
 /// The part of a line that OpenSSH reads: up to its first NUL, since it is a C string, without the
 /// blanks at its front.
 #[tactic(auto, unfolding(crate::specs::HeldKey::read_part))]
-fn read_part(line: &[u8]) -> &[u8]
+pub(crate) fn read_part(line: &[u8]) -> &[u8]
     ensures { result.now ≡ read_part line.now }
 {
     match find_nul(line) {
@@ -111,7 +111,7 @@ pub(crate) fn key_on_line(alloc: Global, line: &[u8]) -> Result<Option<Key>, All
     Ok(key)
 }
 
-fn next_field(text: &[u8]) -> &[u8]
+pub(crate) fn next_field(text: &[u8]) -> &[u8]
     ensures { result.now ≡ next_field text.now }
 {
     let (_, after) = split_word(text);
@@ -119,7 +119,7 @@ fn next_field(text: &[u8]) -> &[u8]
 }
 
 /// The text after a marker, if there is a marker, else the whole text.
-fn after_marker(text: &[u8]) -> &[u8]
+pub(crate) fn after_marker(text: &[u8]) -> &[u8]
     ensures { result.now ≡ after_marker text.now }
 {
     if is_first(b'@', text) {
@@ -172,7 +172,7 @@ fn without_space(alloc: Global, word: &[u8]) -> Result<Vec<u8>, AllocError>
 
 /// The bytes that a word encodes in canonical base64, once white space inside it is dropped.
 #[tactic(auto, unfolding(crate::specs::OpenSshWords::bytes_of_word))]
-fn bytes_of_word(alloc: Global, word: &[u8]) -> Result<Option<Vec<u8>>, AllocError>
+pub(crate) fn bytes_of_word(alloc: Global, word: &[u8]) -> Result<Option<Vec<u8>>, AllocError>
     ensures { IfOk result (λ blob. option_map (λ v. v.items) blob ≡ bytes_of_word word.now) }
 {
     let kept = without_space(alloc, word)?;
