@@ -2,6 +2,7 @@
 names than one, and each option. The key's file is `k`; a name that is no file here is missing."""
 import base64
 import contextlib
+import hashlib
 
 from program import review
 from rows.asking import as_bytes
@@ -209,6 +210,45 @@ def tells_what_ssh_may_refuse(asker):
             compare(asker, [*trusts(), "t"], "", told(("t", answer)), 0)
 
 
+SECURITY = "sk-ssh-ed25519@openssh.com"
+
+
+def security_key(application):
+    """The base64 of a security key for this application."""
+    return blob(SECURITY.encode(), bytes(32), application)
+
+
+def mark_of(text):
+    return "SHA256:" + base64.b64encode(hashlib.sha256(base64.b64decode(text)).digest()).decode().rstrip("=")
+
+
+# The application of a key, and what OpenSSH reads of it: it drops one NUL at the end (sshbuf-getput-basic.c,
+# sshbuf_get_cstring), and reads no key where another stays.
+APPLICATIONS = [(b"ssh:", b"ssh:"), (b"ssh:\0", b"ssh:"), (b"\0", b""), (b"ssh:\0\0", b"ssh:\0\0"), (b"s\0h:\0", b"s\0h:\0")]
+
+
+def lists_the_key_that_openssh_reads(asker):
+    for kind, names in (("auth", ""), ("known", "h ")):
+        for application, read in APPLICATIONS:
+            line = f"{names}{SECURITY} {security_key(application)}\n"
+            answer = asker.program.run(review("-", kind=kind, findings="none"), line.encode())[1].decode()
+            found = [word for word in answer.split() if word.startswith("SHA256:")]
+            asker.check(f"review of {application} in {kind}", found, [mark_of(security_key(read))])
+
+
+def finds_the_key_that_openssh_reads(asker):
+    """A key is asked for, and the file has it with another application: OpenSSH may read this key all the same."""
+    sought = security_key(b"ssh:")
+    for words, names, denied, may in ((admits, "", NOT_ADMITTED, "OpenSSH may let it in"), (trusts, "h ", NOT_TRUSTED, "ssh may trust it")):
+        for application, reads in ((b"ssh:\0", True), (b"ssh:\0\0", False), (b"ssh;\0", False), (b"ssh", False)):
+            answer = denied.replace(K0_MARK, mark_of(sought))
+            if reads:
+                answer += f"    {may} by line 1: OpenSSH drops a NUL of its application, and reads this key\n"
+            files = {"k": f"{SECURITY} {sought}\n", "t": f"{names}{SECURITY} {security_key(application)}\n"}
+            with standing(asker, files):
+                compare(asker, [*words(), "t"], "", told(("t", answer)), 3 if reads else 1)
+
+
 IN, OUT = "admits by line 1, ", "does not admit: N3: "
 TRUSTS, MISTRUSTS = "trusts by line 1, ", "does not trust: N3: "
 CERTIFICATE = f"{CERTIFIED} {X0} me\n"
@@ -264,5 +304,5 @@ def asks_by_each_option(asker):
 
 TESTS = (
     has_one_status_over_several_files, reads_standard_input_once, reviews_standard_input_once, tells_of_certificates,
-    tells_what_ssh_may_refuse, asks_by_each_option,
+    tells_what_ssh_may_refuse, lists_the_key_that_openssh_reads, finds_the_key_that_openssh_reads, asks_by_each_option,
 )

@@ -4,6 +4,7 @@ pub mod ListLemmas
 pub mod ShadowLemmas
 pub mod KeepingLemmas
 pub mod SpareLemmas
+pub mod KeyReadLemmas
 pub mod TextKeys
 pub mod LeastLemmas
 pub mod EarlierLemmas

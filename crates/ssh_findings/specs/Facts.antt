@@ -11,6 +11,7 @@ use Rattle.ssh_offers.specs.Offer.{plain}
 use Rattle.ssh_rights.specs.declared.rights.Rights.{Rights}
 use Rattle.ssh_rights.specs.Rights.{rights_of}
 use Rattle.ssh_findings.specs.declared.facts.Facts.{Facts}
+use Rattle.ssh_findings.specs.KeyRead.{key_read}
 use Rattle.ssh_findings.specs.Moments.{has_local_time, until}
 
 -- the first number of binary digits, from this one on, in which the number fits; so many are tried
@@ -32,12 +33,12 @@ rsa_size key = None
 abbrev pub plain_rights : AuthEntry → Rights
 plain_rights e = rights_of e (plain e.key)
 
--- the facts of an entry, its expiry times read in a zone
+-- the facts of an entry, its expiry times read in a zone, with the fingerprint of the key that OpenSSH reads
 unfoldable pub facts_of : TimeZone → AuthEntry → Facts
 facts_of zone e = record {
   kind = kind_of e.key;
   bits = rsa_size e.key;
-  fingerprint = fingerprint_of e.key;
+  fingerprint = fingerprint_of (key_read e.key);
   comment = e.comment;
   is_authority = has_flag CertAuthority e.options;
   rights = plain_rights e;

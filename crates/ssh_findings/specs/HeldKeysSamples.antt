@@ -3,11 +3,14 @@ use Rattle.std.specs.Prelude.{◌≡◌, ℕ, List, [], ◌∷◌, ◌++◌, cod
 use Rattle.base64.specs.Decode.{groups_bytes, groups_error, scan_steps}
 use Rattle.base64.specs.GeneralPurpose.{decoded_of}
 use Rattle.ssh_wire.specs.Reading.{string_at}
+use Rattle.ssh_wire.specs.Spelling.{string}
 use Rattle.ssh_keys.specs.KeyReading.{key_from}
-use Rattle.ssh_keys.specs.PublicKey.{PublicKey, ed25519, key_blob}
+use Rattle.ssh_keys.specs.PublicKey.{PublicKey, ed25519, sk_ed25519, key_blob}
 use Rattle.ssh_keys.specs.Names.{certificate_kind, plain_kind}
 use Rattle.ssh_findings.specs.HeldKey.{authorized_key, held_key, host_key, known_held_key, read_part}
-use Rattle.ssh_findings.specs.OpenSshBlob.{c_text, c_text_at, fields_at, key_in_blob}
+use Rattle.ssh_findings.specs.CertifiedKey.{certificate_algorithm, certified_key, certified_key_in_blob, certified_kind}
+use Rattle.ssh_findings.specs.KeyRead.{key_read}
+use Rattle.ssh_findings.specs.OpenSshBlob.{c_text, c_text_at, fields_at, key_in_blob, openssh_key}
 use Rattle.ssh_findings.specs.OpenSshNames.{algorithm_kind, blob_kind, short_kind, word_kind}
 use Rattle.ssh_findings.specs.OpenSshWords.{bytes_of_word, key_at, key_of_words}
 
@@ -57,3 +60,29 @@ SpellingsRead = (ed25519_of kept ≡ Some (ed25519 public)) × (ed25519_of spell
 pub spellings_read : SpellingsRead
 unfolding key_of_words word_kind algorithm_kind plain_kind certificate_kind bytes_of_word key_in_blob decoded_of groups_error scan_steps groups_bytes string_at c_text_at c_text blob_kind short_kind fields_at key_from key_blob
 spellings_read = (refl, refl)
+
+-- a security key with this application
+abbrev secured : List ℕ → PublicKey
+secured application = sk_ed25519 public application
+
+-- OpenSSH drops a NUL at the end of an application, and reads no key where another NUL stays
+abbrev pub ApplicationsRead : Type 0
+ApplicationsRead =
+    (key_read (secured (codes "ssh:" ++ 0 ∷ [])) ≡ secured (codes "ssh:"))
+    × (openssh_key (key_blob (secured (codes "ssh:" ++ 0 ∷ []))) ≡ Some (secured (codes "ssh:")))
+    × (key_read (secured (0 ∷ 0 ∷ [])) ≡ secured (0 ∷ 0 ∷ []))
+    × (openssh_key (key_blob (secured (0 ∷ 0 ∷ []))) ≡ None)
+
+pub applications_read : ApplicationsRead
+unfolding word_kind algorithm_kind plain_kind certificate_kind key_in_blob string_at c_text_at c_text blob_kind short_kind fields_at key_from key_blob
+applications_read = (refl, refl, refl, refl)
+
+-- the key of a certificate follows the type and a nonce; a plain key is no certificate
+abbrev pub CertifiedRead : Type 0
+CertifiedRead =
+    (certified_key (string (codes "ssh-ed25519-cert-v01@openssh.com") ++ (string [] ++ string public)) ≡ Some (ed25519 public))
+    × (certified_key (string (codes "ssh-ed25519") ++ string public) ≡ None)
+
+pub certified_read : CertifiedRead
+unfolding certified_kind certificate_algorithm plain_kind certificate_kind certified_key_in_blob string_at c_text_at c_text fields_at key_from key_blob
+certified_read = (refl, refl)

@@ -9,6 +9,7 @@ use Rattle.ssh_entries.specs.Front.{begins_with}
 use Rattle.ssh_entries.specs.KnownEntry.{KnownEntry}
 use Rattle.ssh_host_rules.specs.HostAdmission.{marks_authority}
 use Rattle.ssh_findings.specs.Facts.{rsa_size}
+use Rattle.ssh_findings.specs.KeyRead.{key_read}
 use Rattle.ssh_findings.specs.OpenSsh.{has_long_item_in, has_nul, is_refused_size}
 use Rattle.ssh_findings.specs.declared.host_facts.HostFacts.{HostFacts}
 
@@ -21,12 +22,12 @@ lower_list (Hashed salt hash) = None
 abbrev pub has_tab_after_first : List ℕ → Bool
 has_tab_after_first line = begins_with 9 (after_word (body_of line))
 
--- the facts of the entry on a line
+-- the facts of the entry on a line, with the fingerprint of the key that OpenSSH reads
 unfoldable pub host_facts_of : List ℕ → KnownEntry → HostFacts
 host_facts_of line e = record {
   kind = kind_of e.key;
   bits = rsa_size e.key;
-  fingerprint = fingerprint_of e.key;
+  fingerprint = fingerprint_of (key_read e.key);
   comment = e.comment;
   is_authority = marks_authority e.marker;
   names = names_text e.names;

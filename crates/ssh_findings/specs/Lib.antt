@@ -34,6 +34,7 @@ pub mod OpenSshNames
 pub mod OpenSshWords
 pub mod HeldKeysSamples
 pub mod CertifiedKey
+pub mod KeyRead
 pub mod Stands
 pub mod Number
 pub mod Rows

@@ -5,14 +5,13 @@ ghost use Rattle.jiff.specs.Words.{plain_zone};
 ghost use Rattle.ssh_options.specs.Settings.{settings, setting};
 ghost use Rattle.ssh_options.specs.declared.option.ValueName.TheVariants.{ExpiryTime};
 ghost use Rattle.ssh_findings.specs.Moments.{earlier, has_local_time, is_known_past, until};
-ghost use Rattle.ssh_keys.specs.Fingerprint.{fingerprint_of};
 ghost use Rattle.ssh_keys.specs.KeyOf.{key_of};
 ghost use Rattle.ssh_findings.specs.Facts.{facts_of, plain_rights, rsa_size};
 
+use crate::key_read::fingerprint_read;
 use jiff::tz::TimeZone;
-use sha2::{Digest, Sha256};
 use ssh_entries::AuthEntryView;
-use ssh_keys::{KeyKind, KeyView, digest_text, rsa_bits};
+use ssh_keys::{KeyKind, KeyView, rsa_bits};
 use ssh_offers::Offer;
 use ssh_options::{Flag, ValueName, expiry};
 use ssh_rights::{Rights, rights_of};
@@ -83,8 +82,8 @@ pub struct Facts {
     pub kind: KeyKind,
     /// The size of an RSA key in bits; `None` for other keys.
     pub bits: Option<u32>,
-    /// The SHA-256 fingerprint in base64 without padding, as `ssh-keygen -l` prints it after
-    /// `SHA256:`.
+    /// The SHA-256 fingerprint of the key that OpenSSH reads, in base64 without padding, as
+    /// `ssh-keygen -l` prints it after `SHA256:`.
     pub fingerprint: [u8; 43],
     /// The comment after the key; empty if there is none.
     pub comment: Bytes,
@@ -114,17 +113,6 @@ pub(crate) fn rsa_size(key: &KeyView<'_>) -> Option<u32>
     ensures { result ≡ rsa_size (key_of key.now) }
 {
     rsa_bits(key)
-}
-
-/// The fingerprint of the key, as `ssh-keygen -l` prints it after `SHA256:`, computed over the blob
-/// on the line.
-#[tactic(auto, unfolding(ssh_keys::specs::Fingerprint::fingerprint_of))]
-fn fingerprint(alloc: Global, entry: &AuthEntryView<'_>) -> Result<[u8; 43], AllocError>
-    ensures { IfOk result (λ text. text ≡ fingerprint_of entry.now.key) }
-{
-    let digest = Sha256::digest(entry.blob());
-    let text = digest_text(alloc, &digest)?;
-    Ok(text)
 }
 
 /// A copy of the value of an option that is allowed once.
@@ -171,7 +159,7 @@ impl Facts {
         ensures { IfOk result (λ facts. facts ≡ facts_of (plain_zone zone.now) entry.now) }
     {
         let key = entry.key();
-        let fingerprint = fingerprint(alloc, entry)?;
+        let fingerprint = fingerprint_read(alloc, &key, entry.blob())?;
         let comment = comment(alloc, entry)?;
         let rights = plain_rights(alloc, entry)?;
         let from = setting(alloc, ValueName::From, entry)?;

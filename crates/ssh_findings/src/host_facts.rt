@@ -8,11 +8,12 @@ ghost use Rattle.ssh_findings.specs.HostFacts.{has_tab_after_first, host_facts_o
 ghost use Rattle.ssh_findings.specs.RevocationFacts.{has_other_type, has_type, if_other, names_word, revocation_facts_of, spelling_of, type_word};
 
 use crate::facts::rsa_size;
+use crate::key_read::fingerprint_read;
 use crate::map::kept;
 use crate::openssh::{has_long_item_in, has_nul, is_refused_size};
 use crate::recovered_key::known_held_blob;
 use ssh_entries::{HostNames, KnownEntryView, Marker};
-use ssh_keys::{KeyKind, fingerprint};
+use ssh_keys::KeyKind;
 use ssh_text::{Bytes, skip_blanks, split_word, without_last};
 use ssh_wire::Cursor;
 use std::alloc::{AllocError, Global};
@@ -23,8 +24,8 @@ pub struct HostFacts {
     pub kind: KeyKind,
     /// The size of an RSA key in bits; `None` for other keys.
     pub bits: Option<u32>,
-    /// The SHA-256 fingerprint in base64 without padding, as `ssh-keygen -l` prints it after
-    /// `SHA256:`.
+    /// The SHA-256 fingerprint of the key that OpenSSH reads, in base64 without padding, as
+    /// `ssh-keygen -l` prints it after `SHA256:`.
     pub fingerprint: [u8; 43],
     /// The comment after the key; empty if there is none.
     pub comment: Bytes,
@@ -90,7 +91,7 @@ impl HostFacts {
         let key = entry.key();
         let names = entry.names();
         let is_authority = marks_authority(entry.marker());
-        let fingerprint = fingerprint(alloc, &key)?;
+        let fingerprint = fingerprint_read(alloc, &key, entry.blob())?;
         let comment = kept(alloc, entry.comment())?;
         let text = kept(alloc, names.text())?;
         let list = lower_list(alloc, &names)?;

@@ -28,7 +28,7 @@ ghost use Rattle.ssh_findings.specs.Least.{least_line};
 ghost use Rattle.ssh_findings.specs.HostFindingsEarlier.{revoking_line};
 ghost use Rattle.ssh_findings.specs.Revoked.{revokes};
 ghost use Rattle.ssh_findings.specs.Samples.{FormsSeen, ListsSeen};
-ghost use Rattle.ssh_findings.specs.HeldKeysSamples.{DecoysTold, HostsTold, SpellingsRead};
+ghost use Rattle.ssh_findings.specs.HeldKeysSamples.{ApplicationsRead, CertifiedRead, DecoysTold, HostsTold, SpellingsRead};
 ghost use Rattle.ssh_findings.specs.HostFindingsSamples.{EntriesFound, RevocationsFound};
 
 /// A line that an earlier one with the same key shadows never decides a login: the earlier one
@@ -138,6 +138,8 @@ fn lines_as_told()
     ensures decoys { DecoysTold }
     ensures hosts { HostsTold }
     ensures spellings { SpellingsRead }
+    ensures applications { ApplicationsRead }
+    ensures certified { CertifiedRead }
 {}
 
 /// The findings of worked lines.

@@ -53,6 +53,7 @@ mod first_key;
 mod host_earlier;
 mod host_facts;
 mod host_finding;
+mod key_read;
 mod laws;
 mod least;
 mod map;
@@ -75,6 +76,7 @@ pub use host_finding::{
     HostFinding, host_entry_findings, revocation_findings, unreadable_host_findings,
     unreadable_revocation_findings,
 };
+pub use key_read::is_read_as_key;
 pub use openssh::{Ground, has_ground, has_nul, may_refuse};
 pub use recovered_key::{HeldKey, held_blob, held_key, known_held_blob, known_held_key};
 pub use recovered_words::{canonical_blob, openssh_blob};

@@ -45,7 +45,7 @@ impl From<KeyError> for Refused {
     }
 }
 
-fn has_nul(text: &[u8]) -> bool
+pub(crate) fn has_nul(text: &[u8]) -> bool
     ensures { result ≡ list_any is_nul text.now }
 {
     text.iter().any(|byte| *byte == 0)

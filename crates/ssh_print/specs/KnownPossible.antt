@@ -1,5 +1,6 @@
 -- The lines of a known_hosts file that do not trust a key here but by which ssh of OpenSSH 9.2 may.
 use Rattle.std.specs.Prelude.{ℕ, Bool, ◌&&◌, if◌then◌else◌, List, [], ◌∷◌, bytes_eq, Option, Some, None, option_map}
+use Rattle.std.specs.Option.{option_or}
 use Rattle.ssh_text.specs.Text.{first_word, skip_blanks}
 use Rattle.ssh_keys.specs.PublicKey.{key_blob}
 use Rattle.ssh_entries.specs.declared.known_line.KnownLine.{KnownLine}
@@ -12,7 +13,7 @@ use Rattle.ssh_print.specs.declared.possible.WhyPossible.TheVariants as why
 use Rattle.ssh_findings.specs.OpenSsh.{has_nul}
 use Rattle.ssh_entries.specs.KnownEntry.{KnownEntry}
 use Rattle.ssh_entries.specs.Names.{names_text}
-use Rattle.ssh_print.specs.PossibleLines.{why_held, with_line}
+use Rattle.ssh_print.specs.PossibleLines.{why_held, why_read_as, with_line}
 
 -- the blob of the key on a line where ssh looks for one
 abbrev pub known_held_blob : List ℕ → Option (List ℕ)
@@ -27,6 +28,10 @@ abbrev pub why_nul_names : List ℕ → KnownEntry → Option WhyPossible
 why_nul_names blob e =
     if bytes_eq (key_blob e.key) blob && has_nul (names_text e.names) then Some why.NulInNames else None
 
+-- an entry of the key, or of one that ssh reads as the key
+abbrev pub why_known_entry : List ℕ → KnownEntry → Option WhyPossible
+why_known_entry blob e = option_or (why_nul_names blob e) (why_read_as e.key blob)
+
 -- A line that cannot be read here, even one that is too long for the rules here: ssh reads it (hostfile.c,
 -- hostkeys_foreach_file).
 abbrev pub known_why_said : List ℕ → List ℕ → KnownLine → Option WhyPossible
@@ -34,7 +39,7 @@ known_why_said blob line (Unreadable cause) = why_held (known_held_blob line) bl
 known_why_said blob line RevokedUnreadable = if is_revoking line then None else why_held (known_held_blob line) blob
 known_why_said blob line Blank = None
 known_why_said blob line Comment = None
-known_why_said blob line (Entry e) = why_nul_names blob e
+known_why_said blob line (Entry e) = why_known_entry blob e
 known_why_said blob line (Revoked bytes) = None
 
 unfoldable pub known_why : List ℕ → List ℕ → Option WhyPossible

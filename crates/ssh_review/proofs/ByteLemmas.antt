@@ -4,6 +4,7 @@ use Rattle.sha2.specs.Sha256.{sha256}
 use Rattle.ssh_keys.specs.Fingerprint.{digest_text_of, fingerprint_of}
 use Rattle.ssh_options.specs.declared.option.ValueName.TheVariants as value
 use Rattle.ssh_rights.specs.Rights.{rights_of}
+use Rattle.ssh_findings.specs.KeyRead.{key_read}
 use Rattle.ssh_findings.specs.Facts.{facts_of}
 use Rattle.ssh_findings.specs.HeldKey.{held_of as told_of}
 
@@ -117,7 +118,7 @@ fingerprint-bytes key =
 facts-bytes : (zone : TimeZone) (e : AuthEntry) → EntryBytes e → IsOfBytes (facts_of zone e)
 unfolding facts_of rights_of
 facts-bytes zone e h = record {
-  fingerprint = fingerprint-bytes e.key;
+  fingerprint = fingerprint-bytes (key_read e.key);
   comment = h.comment;
   command = command-bytes (setting value.Command e.options) e.key (setting-bytes value.Command e.options h.values);
   carried = carried-bytes e.options h.values;

@@ -3,6 +3,7 @@ use Rattle.ssh_review.proofs.Imports.{◌≡◌, ℕ, List, ◌++◌, subst, nam
 use Rattle.sha2.specs.Sha256.{sha256}
 use Rattle.ssh_keys.specs.Fingerprint.{digest_text_of}
 use Rattle.ssh_entries.specs.declared.known_line.KnownLine.TheVariants.{Entry}
+use Rattle.ssh_findings.specs.KeyRead.{key_read}
 use Rattle.ssh_findings.specs.HostFacts.{host_facts_of}
 use Rattle.ssh_findings.specs.RevocationFacts.{revocation_facts_of}
 use Rattle.ssh_review.proofs.PrintableLemmas.{ArePrintable}
@@ -32,7 +33,7 @@ spelled-bytes e line (short, (blank, marker, names, gap, key, blanks, marked, na
 
 facts-bytes : (line : List ℕ) (e : KnownEntry) → EntryBytes e → IsOfBytes (host_facts_of line e)
 unfolding host_facts_of
-facts-bytes line e h = record { fingerprint = fingerprint-printable e.key; comment = h.comment; names = h.names }
+facts-bytes line e h = record { fingerprint = fingerprint-printable (key_read e.key); comment = h.comment; names = h.names }
 
 -- what is printed of the entry of a line of bytes consists of bytes
 pub entry-facts : (line : List ℕ) (e : KnownEntry) → AreBytes line → known_line line ≡ Entry e → IsOfBytes (host_facts_of line e)

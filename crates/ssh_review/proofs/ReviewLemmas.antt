@@ -4,6 +4,7 @@ use Rattle.sha2.specs.Sha256.{sha256}
 use Rattle.ssh_keys.specs.Fingerprint.{digest_text_of, fingerprint_of}
 use Rattle.ssh_findings.specs.Facts.{facts_of}
 use Rattle.ssh_findings.specs.HeldKey.{held_of as told_of}
+use Rattle.ssh_findings.specs.KeyRead.{key_read}
 use Rattle.ssh_review.proofs.ObjectLemmas.{entry-line, unreadable-line}
 use Rattle.ssh_review.proofs.PrintableLemmas.{ArePrintable, decimal-printable, escaped-printable, hex-printable, join, word}
 use Rattle.ssh_review.specs.Reviews.{whole_review}
@@ -21,7 +22,7 @@ fingerprint-printable key = base64-printable 43 (sha256 (key_blob key)) (digest-
 
 entry-printable : (zone : TimeZone) (e : AuthEntry) → ArePrintable (facts_of zone e).fingerprint
 unfolding facts_of
-entry-printable zone e = fingerprint-printable e.key
+entry-printable zone e = fingerprint-printable (key_read e.key)
 
 pub held-printable : (key : Option PublicKey) → IsHeldPrintable (option_map told_of key)
 held-printable None = tt
