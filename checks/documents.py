@@ -34,6 +34,8 @@ BLOCK = re.compile(r"^```(\S*)\n(.*?)^```$", re.MULTILINE | re.DOTALL)
 CODE = TOP / "crates" / "ssh_program" / "src"
 TABLE = re.compile(r"^\| Option of `(\w+)` \|.*\n\|[-|]*\|\n((?:\|.*\n)*)", re.MULTILINE)
 OPTION = re.compile(r"^\| `--([\w-]+)` \| .* \| (.*) \|$", re.MULTILINE)
+# What standard error says beside an answer, which a document does not show.
+BESIDE = re.compile(r"ssh_audit: (asked with |\w+: a file has a fault: )")
 # Stands after each command's output, with its status.
 MARK = "\x1e"
 
@@ -113,7 +115,7 @@ def tried(document, room):
     pairs, at_top, called = ran(document, found, room)
     faults = []
     for (command, wanted), (printed, status) in zip(found, pairs):
-        lines = printed.split("\n")[:-1]
+        lines = [line for line in printed.split("\n")[:-1] if not BESIDE.match(line)]
         good = status == "0" if wanted is None else agrees(lines, wanted) and status in ("0", "1", "2", "3")
         if not good:
             faults.append(f"{command}\n  wanted {wanted}\n  found  {printed[:2000]!r}, status {status}")

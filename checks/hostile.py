@@ -2,7 +2,7 @@
 """Runs the built program on input that was made to hurt: pipes without an end as each kind of file, little address
 space, a file that shrinks while it is read, names of files that are no plain words, and random bytes, half of them
 mutations of files that are read. Whatever it is given, the program has to end with a status of 0 to 2 and a text of
-one of the forms that docs/CODES.md lists, and nothing on standard error, but for the line after a usage fault.
+one of the forms that docs/CODES.md lists, and nothing on standard error, but for what program.py tells apart.
 
 usage: hostile.py [PROGRAM] [--files N] [--seconds N] [--seed N]
 
@@ -61,7 +61,7 @@ def run(path, room, asked, stdin=b"", memory=None):
     limit = (lambda: resource.setrlimit(resource.RLIMIT_AS, (memory, memory))) if memory else None
     how = {"input": stdin} if isinstance(stdin, bytes) else {"stdin": stdin}
     ran = subprocess.run([path, *asked], cwd=room, capture_output=True, timeout=program.SECONDS, check=False, preexec_fn=limit, **how)
-    return ran.returncode, ran.stdout, ran.stderr
+    return ran.returncode, ran.stdout, program.told_apart(ran.stderr)
 
 
 def is_defined(asked, answer):

@@ -4,9 +4,9 @@
 usage: program.py [PROGRAM] [--after LOG]
 
 PROGRAM is crates/ssh_audit/out/ssh_audit where it is left out. After its own rows it starts the checks beside it:
-worked.py (worked rows of the whole command), examples.py (keys, certificates and signatures of ssh-keygen and openssl
-through examples/), documents.py (the commands of README.md and docs/MANUAL.md as they stand), review.py (reviews of
-random files), openssh.py (what docs/OPENSSH_DIFFERENCES.md says, asked of a real sshd and ssh, and whether whoever they
+help.py (what goes to standard error), worked.py (worked rows of the whole command), examples.py (keys, certificates
+and signatures of ssh-keygen and openssl through examples/), documents.py (the commands of README.md and
+docs/MANUAL.md as they stand), review.py (reviews of random files), openssh.py (what docs/OPENSSH_DIFFERENCES.md says, asked of a real sshd and ssh, and whether whoever they
 let in is shown), recipes.py (the commands of docs/RECIPES.md), codes.py (whether each printed code is in a row),
 explained.py (whether docs/CODES.md says what the source's table says), manual_page.py (whether docs/ssh_audit.1 is made of
 the sources), closure.py (how much a reviewer has to read), memory_calls.py (whether each call that takes memory is in the
@@ -65,8 +65,21 @@ UNVOUCHED = f"denied N6 0\nevidence 0 {LOGIN_TRIPLE}"
 NO_LINE = f"denied N3\nevidence 0 {LOGIN_TRIPLE}"
 TRUSTED = f"granted line 1\nevidence 0 {HOST_TRIPLE}"
 REVOKED = f"denied N1 2\nevidence 0 {HOST_TRIPLE}"
-# What goes to standard error after a usage fault, and nothing else does.
-HINT = b"ssh_audit: see 'ssh_audit explain usage', or the manual page ssh_audit(1)\n"
+# Stands for what goes to standard error after a usage fault. help.py compares the texts.
+HINT = b"which word is wrong, and where help is\n"
+# What standard error says beside that: what a question was asked with, and the sentence of a fault.
+BESIDE = re.compile(
+    rb"^ssh_audit: (?:asked with .*|--[a-z-]+ wants .*|fault \S+: .*"
+    rb"|(?:admits|trusts|review|explain): (?:a file has a fault|a word is no code): .*)\n",
+    re.MULTILINE,
+)
+GUIDANCE = re.compile(rb"ssh_audit: .+\nsee 'ssh_audit .+\n|ssh_audit: an argument is not UTF-8\n|(?:ssh_audit .+\n)(?:  .+\n)+see .+\n")
+
+
+def told_apart(errors):
+    """Standard error without what may stand beside; HINT for what goes with a usage fault."""
+    left = BESIDE.sub(b"", errors)
+    return HINT if GUIDANCE.fullmatch(left) else left
 MARK = "kmYcvdi2GkPeWxB6XLjrZB8JHsy2Hm8luHMFp9GMvqk"
 SHOWN_KEY = f"type ssh-ed25519\nfingerprint SHA256:{MARK}\n"
 SHOWN = f"{SHOWN_KEY}comment me\n"
@@ -164,7 +177,7 @@ class Program:
         except subprocess.TimeoutExpired:
             ran.kill()
             return "no end", ran.communicate()[0], b""
-        return ran.returncode, out, errors
+        return ran.returncode, out, told_apart(errors)
 
     def status(self, words, stdout):
         """The status where standard output is this file, and what went to standard error."""
@@ -174,7 +187,7 @@ class Program:
         except subprocess.TimeoutExpired:
             ran.kill()
             return "no end", ran.communicate()[1]
-        return ran.returncode, errors
+        return ran.returncode, told_apart(errors)
 
 
 def login(trust, vouch=None, **other):
@@ -723,7 +736,7 @@ def writer_rows(program, tally):
         os.close(read)
         os.close(write)
         closed = subprocess.run(["sh", "-c", 'exec "$@" >&-', "", program.path, *words_asked], cwd=program.room, stdin=subprocess.DEVNULL, stderr=subprocess.PIPE, check=False)
-        tally.check(f"no output: {name}", (closed.returncode, closed.stderr), wanted)
+        tally.check(f"no output: {name}", (closed.returncode, told_apart(closed.stderr)), wanted)
 
 
 def long_text_rows(program, tally):
@@ -806,7 +819,7 @@ def try_all(path, tally):
             except (OSError, subprocess.SubprocessError) as error:
                 tally.check(row.__name__, repr(error), "no error")
     print(f"program.py itself: {tally.passed} passed, {tally.failed} failed", flush=True)
-    for name in ("worked.py", "examples.py", "documents.py", "review.py", "recipes.py", "refused_growth.py", "cut_vectors.py", "hostile.py"):
+    for name in ("help.py", "worked.py", "examples.py", "documents.py", "review.py", "recipes.py", "refused_growth.py", "cut_vectors.py", "hostile.py"):
         other_check(name, tally, path)
     other_check("openssh.py", tally, "--audit", path)
 

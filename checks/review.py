@@ -967,7 +967,7 @@ def size_rows(audit, tally):
 def fault_rows(audit, tally):
     """Values that cannot be read; of several, the first in the order of the options is told. Words that are none."""
     values = {
-        "kind": ["", "auths", "AUTH", "key"], "now": ["", "-", "1.5", "18446744073709551616", "1 "], "zone": ["", "x", "Europe/Berlin"],
+        "kind": ["", "auths", "AUTH", "key"], "now": ["", "-", "1.5", "18446744073709551616", "1 "], "zone": ["", "x", "Europe/Nowhere", "/usr/share/zoneinfo/Europe/Berlin", "Europe/../Europe/Berlin"],
         "rsa-minimum": ["", "x", "4294967296"], "form": ["", "tsv", "JSON"],
         "findings": ["", ",", "F1,,F2", "F1,", ",F1", "F0", "F23", "F01", "f1", "F", "F1 ,F2", "all,F1", "none,none", "ALL"],
     }
@@ -980,7 +980,7 @@ def fault_rows(audit, tally):
         given = {name.replace("-", "_"): "x y" for name in order[place:]}
         tally.check(f"the first of several: {option}", audit.run(review("missing", **given)), (2, f"fault value {option}\n".encode(), b""))
     for what, words in (
-        ("no name", review()), ("no kind", review("key", kind=None)), ("no time", review("key", now=None)), ("an option twice", review("key", now=1) + ["--now", "1"]),
+        ("no kind", review("key", kind=None)), ("an option twice", review("key", now=1) + ["--now", "1"]),
         ("an unknown option", review("key", soon=1)), ("a file by an option", review("key", file="key")), ("help", ["review", "--help"]),
     ):
         tally.check(f"usage: {what}", audit.run(words), (2, b"fault usage\n", HINT))

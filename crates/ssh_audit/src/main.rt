@@ -5,14 +5,20 @@
 //! file signature is vouched for, and rewrites a trust file so that every answer stays the same.
 #![tactic(auto)]
 
+mod front;
+mod surroundings;
 mod system;
 mod writers;
 
-use ssh_program::{WordsError, refuse, run};
-use std::alloc::Global;
+use ssh_program::{
+    WordsError, asks_surroundings, defaults_line, fault_guidance, refuse, run, usage_guidance,
+    with_defaults,
+};
+use std::alloc::{AllocError, Global};
 use std::io::{ErrorKind, Result};
 use std::process::ExitCode;
 use std::{env, io};
+use surroundings::Known;
 use system::SystemFiles;
 use writers::{Retried, Watched};
 
@@ -25,26 +31,131 @@ fn read_words(rt: &HostRuntime) -> Result<Vec<String<Global>>> {
     Ok(words)
 }
 
-/// Prints to standard error where the commands are listed. The exit status is the same if that
-/// write fails.
-fn tell_usage(rt: &HostRuntime) {
-    let _told = eprintln!(rt;
-        "ssh_audit: see 'ssh_audit explain usage', or the manual page ssh_audit(1)"
-    );
+/// The status where there is no answer.
+const FAULT: u8 = 2;
+
+/// What needs nothing but memory.
+type Outcome<T> = std::result::Result<T, AllocError>;
+
+/// The writer to standard output.
+type Output<'a> = Watched<Retried<io::Printer<'a, HostRuntime>>>;
+
+/// The same words as texts.
+fn as_texts<'a>(rt: &HostRuntime, words: &'a [String<Global>]) -> Outcome<Vec<&'a str>> {
+    let mut texts = Vec::new(rt.alloc());
+    for word in words {
+        texts.push(word.as_str())?;
+    }
+    Ok(texts)
+}
+
+/// What standard error says after an answer to these words.
+fn guidance(
+    rt: &HostRuntime,
+    words: &[String<Global>],
+    status: u8,
+    writer: &Output<'_>,
+) -> Outcome<Vec<u8>> {
+    let texts = as_texts(rt, words)?;
+    if writer.is_usage() {
+        usage_guidance(rt.alloc(), texts.as_slice())
+    } else if status == FAULT && !writer.is_broken() {
+        fault_guidance(rt.alloc(), texts.as_slice(), writer.front())
+    } else {
+        Ok(Vec::new(rt.alloc()))
+    }
+}
+
+/// Prints a text to standard error. The exit status is the same if that write fails.
+fn tell(rt: &HostRuntime, text: &[u8]) {
+    if let Ok(text) = str::from_utf8(text) {
+        let _told = eprint!(rt; "{text}");
+    }
+}
+
+/// Prints what standard error says after an answer; where memory is refused for it, where the
+/// manual is.
+fn tell_guidance(rt: &HostRuntime, words: &[String<Global>], status: u8, writer: &Output<'_>) {
+    match guidance(rt, words, status, writer) {
+        Ok(text) => tell(rt, &text),
+        Err(AllocError) => tell(rt, b"ssh_audit: see the manual page ssh_audit(1)\n"),
+    }
+}
+
+/// The answer to the words, and what standard error says of it.
+fn answer(
+    rt: &HostRuntime,
+    words: &[String<Global>],
+    files: &mut SystemFiles<'_, HostRuntime>,
+    writer: &mut Output<'_>,
+) -> u8 {
+    let status = run(rt.alloc(), words, files, writer);
+    tell_guidance(rt, words, status, writer);
+    status
+}
+
+/// The words with what they leave out, and the line that says what that is.
+fn read_question(rt: &HostRuntime, words: &[&str]) -> Outcome<(Vec<String<Global>>, Vec<u8>)> {
+    let known = Known::read(rt, words)?;
+    let around = known.as_surroundings();
+    let line = defaults_line(rt.alloc(), words, &around)?;
+    let told = with_defaults(rt.alloc(), words, &around)?;
+    Ok((told, line))
+}
+
+/// The answer to a question that may leave something out.
+fn answer_question(
+    rt: &HostRuntime,
+    words: &[&str],
+    files: &mut SystemFiles<'_, HostRuntime>,
+    writer: &mut Output<'_>,
+) -> u8 {
+    match read_question(rt, words) {
+        Ok((told, line)) => {
+            let status = answer(rt, told.as_slice(), files, writer);
+            if !writer.is_usage() {
+                tell(rt, &line);
+            }
+            status
+        }
+        Err(AllocError) => refuse(WordsError::Memory, writer),
+    }
+}
+
+/// The answer to the words, with what a question leaves out.
+fn answer_words(
+    rt: &HostRuntime,
+    words: &[String<Global>],
+    files: &mut SystemFiles<'_, HostRuntime>,
+    writer: &mut Output<'_>,
+) -> u8 {
+    match as_texts(rt, words) {
+        Ok(texts) if asks_surroundings(texts.as_slice()) => {
+            answer_question(rt, texts.as_slice(), files, writer)
+        }
+        Ok(_) => answer(rt, words, files, writer),
+        Err(AllocError) => refuse(WordsError::Memory, writer),
+    }
+}
+
+/// The answer to words that cannot be read.
+fn answer_unread(rt: &HostRuntime, fault: WordsError, writer: &mut Output<'_>) -> u8 {
+    let status = refuse(fault, writer);
+    if writer.is_usage() {
+        tell(rt, b"ssh_audit: an argument is not UTF-8\n");
+    }
+    status
 }
 
 fn main(rt: HostRuntime) -> ExitCode {
     let mut files = SystemFiles::new(&rt);
     let mut writer = Watched::new(Retried::new(io::writer(&rt)));
     let status = match read_words(&rt) {
-        Ok(words) => run(rt.alloc(), words.as_slice(), &mut files, &mut writer),
+        Ok(words) => answer_words(&rt, words.as_slice(), &mut files, &mut writer),
         Err(error) if error.kind() == ErrorKind::OutOfMemory => {
-            refuse(WordsError::Memory, &mut writer)
+            answer_unread(&rt, WordsError::Memory, &mut writer)
         }
-        Err(_) => refuse(WordsError::Usage, &mut writer),
+        Err(_) => answer_unread(&rt, WordsError::Usage, &mut writer),
     };
-    if writer.is_usage() {
-        tell_usage(&rt);
-    }
     ExitCode::from(status)
 }

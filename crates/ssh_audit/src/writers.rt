@@ -1,5 +1,5 @@
-//! Reads and writes that are tried again after a signal, and a writer that remembers whether a
-//! usage fault was printed.
+//! Reads and writes that are tried again after a signal, and a writer that remembers what was
+//! printed first.
 
 ghost use Rattle.std.specs.Prelude.{◌≢◌, IfErr, ◌≡◌, None, ◌||◌, codes, false};
 ghost use Rattle.std.specs.Io.{ReadsAtMost, WritesAtMost};
@@ -7,6 +7,7 @@ ghost use Rattle.std.specs.IoError.{error_kind};
 ghost use Rattle.ssh_program.specs.Account.{NoneFailed, after_write, where_told};
 ghost use Rattle.std.specs.Str.{bytes_eq};
 
+use crate::front::Front;
 use ssh_program::Sink;
 use std::io::{Error, ErrorKind, Read, Result, Write};
 
@@ -84,15 +85,25 @@ impl<W: Write> Sink for Retried<W> {
     }
 }
 
+/// Whether a write took nothing.
+fn has_failed(outcome: &Result<usize>) -> bool {
+    match outcome {
+        Ok(taken) => *taken == 0,
+        Err(_) => true,
+    }
+}
+
 /// The output where the arguments are no command.
 const USAGE_FAULT: &[u8] = b"fault usage\n";
 
-/// A writer that remembers whether it was given the text of a usage fault. Its account is that of
-/// the writer inside.
+/// A writer that remembers the front of what it was given, whether that was the text of a usage
+/// fault, and whether a write failed. Its account is that of the writer inside.
 #[derive(Drop)]
 pub struct Watched<W> {
     writer: W,
     is_usage: bool,
+    is_broken: bool,
+    front: Front,
 }
 
 impl<W> Watched<W> {
@@ -104,6 +115,8 @@ impl<W> Watched<W> {
         Watched {
             writer,
             is_usage: false,
+            is_broken: false,
+            front: Front::new(),
         }
     }
 
@@ -112,6 +125,18 @@ impl<W> Watched<W> {
         ensures { result ≡ self.now.is_usage }
     {
         self.is_usage
+    }
+
+    /// Whether a write to it failed.
+    pub fn is_broken(&self) -> bool
+        ensures { result ≡ self.now.is_broken }
+    {
+        self.is_broken
+    }
+
+    /// The front of what was written to it.
+    pub fn front(&self) -> &[u8] {
+        self.front.as_slice()
     }
 }
 
@@ -141,6 +166,9 @@ impl<W: Sink> Sink for Watched<W> {
             ≡ (self.old.is_usage || bytes_eq buf.now (codes "fault usage\n")) }
     {
         self.is_usage = self.is_usage || buf == USAGE_FAULT;
-        self.writer.put(buf)
+        self.front.extend(buf);
+        let outcome = self.writer.put(buf);
+        self.is_broken = self.is_broken || has_failed(&outcome);
+        outcome
     }
 }

@@ -37,3 +37,4 @@ pub mod SpelledBytes
 pub mod KeyRunLemmas
 pub mod SignatureRunLemmas
 mod FileRunLemmas
+mod WordLemmas

@@ -15,6 +15,14 @@ pub mod GrantedRuns
 pub mod FileSamples
 pub mod Samples
 pub mod Options
+pub mod Help
+pub mod Complaints
+pub mod Dates
+pub mod Defaults
+pub mod DefaultsView
+pub mod DefaultSamples
+pub mod WordPlaces
+pub mod WordPlacesView
 pub mod CommandLine
 pub mod FileNames
 pub mod FileNamesView

@@ -10,6 +10,10 @@
 //! `review` lists the entries and findings of any number of trust files, and then their total.
 //! `rewrite` and `hash` print a new trust file, `show` prints one key, and `sshsig` answers about a
 //! file signature.
+//!
+//! `with_defaults` adds to the words of a question what it leaves out, by the surroundings; `run`
+//! sees no other words. `usage_guidance` and `fault_guidance` say for standard error which word or
+//! which value is wrong.
 #![tactic(auto)]
 
 mod admission;
@@ -17,8 +21,14 @@ mod admits;
 mod args;
 mod audit;
 mod command;
+mod complaint;
+mod date;
 mod decisions;
+mod defaults;
 mod file_question;
+mod guidance;
+mod help;
+mod kinds;
 mod laws;
 mod printing;
 mod program;
@@ -30,12 +40,16 @@ mod sshsig;
 mod subcommand;
 mod texts;
 mod vouching;
+mod word;
 
 pub use admits::{AuditFiles, SshsigQuestion, respond_admits, respond_trusts};
 pub use args::{ArgName, Args, Needed};
 pub use audit::{LoginQuestion, Question, decide_by_file, is_memory, unread};
 pub use command::{CommandError, Request, WordsError, parse, respond_fault};
+pub use date::date_seconds;
 pub use decisions::{respond_host, respond_login};
+pub use defaults::{Surroundings, asks_surroundings, defaults_line, with_defaults};
+pub use guidance::{fault_guidance, usage_guidance};
 pub use program::{refuse, run};
 pub use review::respond_review;
 pub use show::respond_explain;

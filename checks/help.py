@@ -1,0 +1,226 @@
+#!/usr/bin/env python3
+"""Runs the built program and compares what goes to standard error: help, which word or value is wrong, and what a
+question was asked with that left something out. What goes to standard output is compared too.
+
+usage: help.py [PROGRAM]
+
+The last line is 'N passed, M failed'; the status is 0 where nothing failed."""
+import os
+import pathlib
+import re
+import subprocess
+import sys
+import tempfile
+import time
+
+HERE = pathlib.Path(__file__).resolve().parent
+sys.dont_write_bytecode = True
+PROGRAM = pathlib.Path(sys.argv[1] if len(sys.argv) > 1 else HERE.parent / "crates" / "ssh_audit" / "out" / "ssh_audit").resolve()
+SUBCOMMANDS = HERE.parent / "crates" / "ssh_program" / "src"
+USAGE = b"fault usage\n"
+KEY = "ssh-ed25519 AAAAC3NzaC1lZDI1NTE5AAAAIAAAAAAAAAAAAAAAAAAAAAAAAAAAAAAAAAAAAAAAAAAA me\n"
+LOGIN = "login --file f --offer A --signature 00 --algorithm ssh-ed25519 --session 00 --user ann --address 192.0.2.1 --now 1"
+SEE_ALL = "see 'ssh_audit --help', or the manual page ssh_audit(1)\n"
+SECOND, DATE = 1795913108, "2026-11-29T00:45:08Z"
+ZONES = pathlib.Path("/usr/share/zoneinfo")
+
+passed = failed = 0
+
+
+def check(name, found, wanted):
+    global passed, failed
+    if found == wanted:
+        passed += 1
+    else:
+        failed += 1
+        print(f"FAILED {name}\n  wanted {wanted!r}\n  found  {found!r}"[:2000], flush=True)
+
+
+def run(words, room, home=None, stdin=b""):
+    """The status, what was printed, and what went to standard error."""
+    given = {"PATH": os.environ["PATH"], **({"HOME": str(home)} if home else {})}
+    ran = subprocess.run([PROGRAM, *words], cwd=room, env=given, input=stdin, capture_output=True, timeout=60, check=False)
+    return ran.returncode, ran.stdout, ran.stderr.decode()
+
+
+def see(command):
+    return f"see 'ssh_audit {command} --help'\n"
+
+
+def usage_rows():
+    """Command lines that ask for nothing, and what is said of them."""
+    yield "", "ssh_audit: no command is given, and the first line of standard input has none\n" + SEE_ALL
+    yield "logn --now 1", "ssh_audit: 'logn' is not a command\n" + SEE_ALL
+    yield "--version", "ssh_audit: '--version' is not a command\n" + SEE_ALL
+    yield LOGIN.replace(" --address 192.0.2.1", ""), "ssh_audit: login: --address is missing\n" + see("login")
+    yield LOGIN + " --now 2", "ssh_audit: --now is given twice\n" + see("login")
+    yield LOGIN.replace("--now 1", "--now=1 --now=2"), "ssh_audit: --now is given twice\n" + see("login")
+    yield LOGIN + " --user", "ssh_audit: --user has no value\n" + see("login")
+    yield LOGIN.replace("--user ann", "--user"), "ssh_audit: --user has no value\n" + see("login")
+    yield LOGIN + " more", "ssh_audit: login: more is a word too many\n" + see("login")
+    yield LOGIN.replace(" --offer A", ""), "ssh_audit: login: --offer or --offer-file is missing\n" + see("login")
+    yield LOGIN + " --offer-file g", "ssh_audit: login: --offer and --offer-file are given, and one of them is wanted\n" + see("login")
+    yield LOGIN.replace("--offer A", "--offer-file g").replace("--signature 00", ""), "ssh_audit: login: --signature or --signature-file is missing\n" + see("login")
+    yield "review --foo 1 keys", "ssh_audit: review: --foo is not an option of review\n" + see("review")
+    yield "review -x keys", "ssh_audit: review: -x is not an option of review\n" + see("review")
+    yield "review --kind auth --now 1", "ssh_audit: review: no file is named\n" + see("review")
+    yield "review --kind auth --now 1 --", "ssh_audit: review: no file is named\n" + see("review")
+    yield "review --now 1 keys", "ssh_audit: review: --kind is missing\n" + see("review")
+    yield "review --kind -- keys", "ssh_audit: --kind has no value\n" + see("review")
+    yield "show --kind key", "ssh_audit: show: --file is missing\n" + see("show")
+    yield "show --kind key --file f --port 1", "ssh_audit: show: --port is not an option of show\n" + see("show")
+    yield "admits --user ann --now 1 keys", "ssh_audit: admits: --key is missing\n" + see("admits")
+    yield "explain --all", "ssh_audit: explain: --all is not an option of explain\n" + see("explain")
+
+
+def value_rows():
+    """Values of the newer commands, and what they have to be."""
+    for option, wanted in (
+        ("now", "seconds since 1970-01-01 UTC"), ("zone", "a POSIX rule"), ("kind", "a format or kind"), ("rsa-minimum", "decimal digits"),
+        ("findings", "all, none, or codes"), ("form", "text or json"),
+    ):
+        given = {"kind": "auth", "now": "1", "zone": "UTC0", option: "?"}
+        words = [word for name, value in given.items() for word in (f"--{name}", value)]
+        yield ["review", *words, "keys"], f"fault value {option}\n", f"ssh_audit: --{option} wants {wanted}"
+    given = ["--key", "keys", "--zone", "UTC0", "--user", "ann", "--now", "1"]
+    yield ["admits", *given, "--address", "?", "keys"], "fault A6\n", "ssh_audit: fault A6: "
+    yield ["trusts", "--key", "keys", "--host", "h", "--now", "1", "--port", "x", "keys"], "fault value port\n", "ssh_audit: --port wants decimal digits"
+    yield ["explain", "F99"], "fault value code\n", "ssh_audit: explain: a word is no code: "
+    yield ["admits", *given, "--address", "192.0.2.1", "missing"], "missing: fault A9\n", "ssh_audit: admits: a file has a fault: "
+    yield ["trusts", "--key", "missing", "--host", "h", "--now", "1", "keys"], "fault file missing\n", "ssh_audit: fault file: "
+
+
+def options_of(name):
+    """The options of a subcommand in the source, and whether each has to be given."""
+    rows = re.search(rf"const {name.upper()}: \[OptionRow; \d+\] = \[(.*?)\];", (SUBCOMMANDS / "subcommand.rt").read_text(), re.DOTALL)
+    words = dict(re.findall(r'ArgName::(\w+) => "([\w-]+)"', (SUBCOMMANDS / "args.rt").read_text()))
+    return [(words[option], needed == "Required") for option, needed in re.findall(r"ArgName::(\w+), (\w+)", rows[1])] if rows else []
+
+
+def help_rows(room):
+    """Each command is in the list, and each option in its command's help."""
+    _, listed, _ = run(["explain", "usage"], room)
+    commands = [line.split(" ")[1] for line in listed.decode().splitlines()]
+    told = {run(words, room) for words in (["--help"], ["-h"], ["help"])}
+    check("the ways to ask for the list", len(told), 1)
+    status, printed, errors = told.pop()
+    check("the list of the commands", (status, printed, errors.endswith(SEE_ALL)), (2, USAGE, True))
+    for command in commands:
+        check(f"{command} in the list", len(re.findall(rf"^  {command}: .+$", errors, re.MULTILINE)), 1)
+        told = {run(words.split(" "), room) for words in (f"{command} --help", f"{command} -h", f"{command} --now 1 -h")}
+        check(f"{command}: the ways to ask", len(told), 1)
+        status, printed, text = told.pop()
+        check(f"{command} --help", (status, printed, text.startswith(f"ssh_audit {command}: ")), (2, USAGE, True))
+        for option, _ in options_of(command):
+            check(f"{command} --{option}", len(re.findall(rf"--{option} [A-Z0-9]+", text)), 1)
+        check(f"{command}: lines", all(len(line) < 121 for line in text.splitlines()), True)
+
+
+# ---- questions that leave something out
+
+
+def asked_with(errors):
+    """What standard error says was added, without the time, which has to be that of the clock."""
+    found = re.fullmatch(r"ssh_audit: asked with(.*)\n", errors)
+    said = found[1] if found else errors
+    clock = re.match(r" --now (\d+) \((\d{4}-\d\d-\d\dT\d\d:\d\d:\d\dZ)\)", said)
+    if clock and abs(int(clock[1]) - time.time()) < 120 and clock[2] == time.strftime("%Y-%m-%dT%H:%M:%SZ", time.gmtime(int(clock[1]))):
+        said = " NOW" + said[clock.end() :]
+    return said
+
+
+def local_zone():
+    """The POSIX rule of this machine's zone, the last line of its file (RFC 9636 section 3.3), as it is added."""
+    try:
+        last = pathlib.Path("/etc/localtime").read_bytes().split(b"\n")[-2].decode()
+    except (OSError, IndexError, UnicodeDecodeError):
+        return ""
+    return f" --zone {last}" if last else ""
+
+
+def default_rows(home):
+    """Questions, and what is added to them. {zone} stands for the zone of this machine."""
+    admits = "admits --key keys --user ann --address 192.0.2.1"
+    for name in ("authorized_keys", "authorized_keys2", "ann.authorized_keys", "./authorized_keys"):
+        yield f"review {name}", "{now}{zone} --kind auth"
+    for name in ("known_hosts", "known_hosts2", "ssh_known_hosts", "db.known_hosts"):
+        yield f"review {name}", "{now}{zone} --kind known"
+    yield "review authorized_keys ./authorized_keys2", "{now}{zone} --kind auth"
+    yield "review -- authorized_keys --now", "{now}{zone}"
+    yield "review", f"{{now}}{{zone}} --kind auth {home}/.ssh/authorized_keys"
+    yield "review --now=1", f"{{zone}} --kind auth {home}/.ssh/authorized_keys"
+    yield "review --kind known --now 1", f"{{zone}} {home}/.ssh/known_hosts"
+    yield "review --kind=known --now 1 --zone UTC0", f" {home}/.ssh/known_hosts"
+    yield f"{admits} keys", "{now}{zone}"
+    yield f"{admits} --now 1", f"{{zone}} {home}/.ssh/authorized_keys"
+    yield "trusts --key keys --host h", f"{{now}} {home}/.ssh/known_hosts"
+    yield "trusts --key keys --host h --now 1", f" {home}/.ssh/known_hosts"
+    yield "trusts --key keys --host h --now 1 --", f" {home}/.ssh/known_hosts"
+    yield "review --kind auth --now 1 --zone UTC0 keys", ""
+    yield "explain F1", ""
+    yield "show --kind key --file keys", ""
+
+
+def same_rows():
+    """Words, and the words that have to give the same answer."""
+    given = "review --kind auth --zone UTC0 --findings all keys"
+    yield f"{given} --now {DATE}", f"{given} --now {SECOND}"
+    yield f"{given} --now={DATE}", f"{given} --now={SECOND}"
+    yield f"{given} --now 1970-01-01T00:00:00Z", f"{given} --now 0"
+    for wrong in ("2026-11-29", "2026-11-29T00:45:08", "2026-11-29T00:45:08+00:00", "2026-02-30T00:00:00Z", "1969-12-31T23:59:59Z", "2026-11-29 00:45:08Z"):
+        yield ["review", "--kind", "auth", "--zone", "UTC0", "--now", wrong, "keys"], "review --kind auth --zone UTC0 --now x keys"
+    if (ZONES / "Europe" / "Berlin").exists():
+        dated = "review --kind auth --now 1 dated"
+        yield f"{dated} --zone Europe/Berlin", f"{dated} --zone CET-1CEST,M3.5.0,M10.5.0/3"
+        yield f"{dated} --zone=Europe/Berlin", f"{dated} --zone=CET-1CEST,M3.5.0,M10.5.0/3"
+        yield f"{dated} --zone Europe", f"{dated} --zone x"
+        yield f"{dated} --zone ../zoneinfo/Europe/Berlin", f"{dated} --zone x"
+        yield f"{dated} --zone /usr/share/zoneinfo/Europe/Berlin", f"{dated} --zone x"
+
+
+def defaults(room):
+    """A question that leaves something out is answered as the one that gives it, and standard error says which that is."""
+    home = room / "home"
+    (home / ".ssh").mkdir(parents=True)
+    for name in ("authorized_keys", "authorized_keys2", "ann.authorized_keys", ".ssh/authorized_keys"):
+        (room / name if "/" not in name else home / name).write_text(KEY)
+    for name in ("known_hosts", "known_hosts2", "ssh_known_hosts", "db.known_hosts", ".ssh/known_hosts"):
+        (room / name if "/" not in name else home / name).write_text("h " + KEY)
+    (room / "--now").write_text(KEY)
+    (room / "dated").write_text('expiry-time="20240229" ' + KEY)
+    zone = local_zone()
+    for words, wanted in default_rows(home):
+        status, printed, errors = run(words.split(), room, home)
+        said = asked_with(errors) if wanted or errors.startswith("ssh_audit: asked") else ""
+        wanted = wanted.replace("{zone}", zone).replace("{now}", " NOW")
+        if words.startswith("review -- authorized_keys"):
+            check(words, (status, errors), (2, "ssh_audit: review: --kind is missing\n" + see("review")))
+            continue
+        check(words, said, wanted)
+        if wanted and " NOW" not in wanted:
+            name, *rest = words.split()
+            check(f"{words}: the same with all given", run([name, *rest, *wanted.split()], room, home)[:2], (status, printed))
+    for words, others in same_rows():
+        words = words if isinstance(words, list) else words.split()
+        check(" ".join(words), run(words, room)[:2], run(others.split(), room)[:2])
+    check("no home", run(["review", "--kind", "auth"], room)[2], "ssh_audit: review: no file is named\n" + see("review"))
+
+
+def main():
+    with tempfile.TemporaryDirectory() as folder:
+        room = pathlib.Path(folder)
+        (room / "keys").write_text(KEY)
+        for words, wanted in usage_rows():
+            check(words, run(words.split(), room), (2, USAGE, wanted))
+        check("no UTF-8", run(["review", b"\xff"], room), (2, USAGE, "ssh_audit: an argument is not UTF-8\n"))
+        for words, printed, wanted in value_rows():
+            status, found, errors = run(words, room)
+            check(" ".join(words), (status, found.decode()[: len(printed)], errors[: len(wanted)], errors.count("\n")), (2, printed, wanted, 1))
+        help_rows(room)
+        defaults(room)
+    print(f"{passed} passed, {failed} failed")
+    return 1 if failed else 0
+
+
+if __name__ == "__main__":
+    sys.exit(main())

@@ -1,0 +1,48 @@
+-- Worked examples of what a question may leave out (this project's rules).
+use Rattle.std.specs.Prelude.{◌≡◌, List, [], ◌∷◌, codes, Some, None, refl}
+use Rattle.clap.specs.Words.{Text}
+use Rattle.ssh_program.specs.Defaults.{Surroundings, asked, words_with_defaults}
+
+-- nothing is known
+abbrev nowhere : Surroundings
+nowhere = record { time = None; zone = None; home = None; given_time = None; given_zone = None }
+
+-- the second 7, in UTC, for a user whose home is `/h`
+abbrev somewhere : Surroundings
+somewhere = record nowhere { time = Some (codes "7"); zone = Some (codes "UTC0"); home = Some (codes "/h") }
+
+-- the same for a question with a date and a time, and the name of a zone
+abbrev dated : Surroundings
+dated = record somewhere { given_time = Some (codes "9"); given_zone = Some (codes "CET-1") }
+
+abbrev told : Surroundings → List Text → List Text → Type 0
+told around words wanted = words_with_defaults around words ≡ wanted
+
+-- a review of a file by its name, and of the user's own file
+abbrev pub ReviewsTold : Type 0
+ReviewsTold =
+    told somewhere (codes "review" ∷ codes "a/authorized_keys" ∷ [])
+    (codes "review" ∷ codes "--now" ∷ codes "7" ∷ codes "--zone" ∷ codes "UTC0" ∷ codes "--kind" ∷ codes "auth" ∷ codes "a/authorized_keys" ∷ [])
+    × told somewhere (codes "review" ∷ codes "--now=1" ∷ codes "db.known_hosts" ∷ [])
+    (codes "review" ∷ codes "--zone" ∷ codes "UTC0" ∷ codes "--kind" ∷ codes "known" ∷ codes "--now=1" ∷ codes "db.known_hosts" ∷ [])
+    × told somewhere (codes "review" ∷ codes "--now" ∷ codes "1" ∷ codes "--zone" ∷ codes "EST5" ∷ codes "--kind" ∷ codes "known" ∷ [])
+    (codes "review" ∷ codes "--now" ∷ codes "1" ∷ codes "--zone" ∷ codes "EST5" ∷ codes "--kind" ∷ codes "known" ∷ codes "/h/.ssh/known_hosts" ∷ [])
+    × told dated (codes "review" ∷ codes "--now" ∷ codes "d" ∷ codes "--zone=z" ∷ codes "--kind" ∷ codes "auth" ∷ codes "-" ∷ [])
+    (codes "review" ∷ codes "--now" ∷ codes "9" ∷ codes "--zone" ∷ codes "CET-1" ∷ codes "--kind" ∷ codes "auth" ∷ codes "-" ∷ [])
+
+-- a host's key asks of no zone; where nothing is known nothing is added, and nothing to other commands
+abbrev pub OthersTold : Type 0
+OthersTold =
+    told somewhere (codes "trusts" ∷ codes "--host" ∷ codes "h" ∷ codes "--" ∷ codes "--now" ∷ [])
+    (codes "trusts" ∷ codes "--now" ∷ codes "7" ∷ codes "--host" ∷ codes "h" ∷ codes "--" ∷ codes "--now" ∷ [])
+    × told nowhere (codes "admits" ∷ codes "--user" ∷ codes "ann" ∷ []) (codes "admits" ∷ codes "--user" ∷ codes "ann" ∷ [])
+    × told somewhere (codes "login" ∷ codes "--user" ∷ codes "ann" ∷ []) (codes "login" ∷ codes "--user" ∷ codes "ann" ∷ [])
+    × told somewhere [] []
+
+pub reviews_told : ReviewsTold
+unfolding asked
+reviews_told = (refl, refl, refl, refl)
+
+pub others_told : OthersTold
+unfolding asked
+others_told = (refl, refl, refl, refl)
