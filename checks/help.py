@@ -21,6 +21,7 @@ USAGE = b"fault usage\n"
 KEY = "ssh-ed25519 AAAAC3NzaC1lZDI1NTE5AAAAIAAAAAAAAAAAAAAAAAAAAAAAAAAAAAAAAAAAAAAAAAAA me\n"
 LOGIN = "login --file f --offer A --signature 00 --algorithm ssh-ed25519 --session 00 --user ann --address 192.0.2.1 --now 1"
 SEE_ALL = "see 'ssh_audit --help', or the manual page ssh_audit(1)\n"
+SEE_ONE = "see 'ssh_audit COMMAND --help', or the manual page ssh_audit(1)\n"
 SECOND, DATE = 1795913108, "2026-11-29T00:45:08Z"
 ZONES = pathlib.Path("/usr/share/zoneinfo")
 
@@ -100,11 +101,11 @@ def options_of(name):
 def help_rows(room):
     """Each command is in the list, and each option in its command's help."""
     _, listed, _ = run(["explain", "usage"], room)
-    commands = [line.split(" ")[1] for line in listed.decode().splitlines()]
+    commands = [line.split(" ")[1] for line in listed.decode().splitlines() if line.startswith("ssh_audit ")]
     told = {run(words, room) for words in (["--help"], ["-h"], ["help"])}
     check("the ways to ask for the list", len(told), 1)
     status, printed, errors = told.pop()
-    check("the list of the commands", (status, printed, errors.endswith(SEE_ALL)), (2, USAGE, True))
+    check("the list of the commands", (status, printed, errors.endswith(SEE_ONE)), (2, USAGE, True))
     for command in commands:
         check(f"{command} in the list", len(re.findall(rf"^  {command}: .+$", errors, re.MULTILINE)), 1)
         told = {run(words.split(" "), room) for words in (f"{command} --help", f"{command} -h", f"{command} --now 1 -h")}
