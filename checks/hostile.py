@@ -212,8 +212,8 @@ def samples():
     yield rewrite("auth", "-"), lines
     yield rewrite("known", "-"), known
     yield hash_names("-", "many salts"), known
-    yield review("-", findings="all"), lines
-    yield review("-", findings="all", form="json"), lines
+    yield review("-", findings="all", zone="UTC0"), lines
+    yield review("-", findings="all", form="json", zone="UTC0"), lines
     yield login("keys", "-"), (FILES["vouched"] + "# c\n" + FILES["file vouched"]).encode()
     yield show("key", "-"), FILES["keys"].encode()
     yield show("cert", "-"), FILES["certificate"].encode()
