@@ -34,7 +34,8 @@ def libraries_of(top):
 
 def answers(crate, index):
     """What each row answers where the growth of this index is refused: `ok`, or why its test failed."""
-    command = ["rt", "try", "--test"] + (["--fail-alloc", str(index)] if index else [])
+    # A row over a file at the limit of 64 MiB takes a slow machine more than the minute that rt gives.
+    command = ["rt", "try", "--test", "--seconds", "600"] + (["--fail-alloc", str(index)] if index else [])
     done = subprocess.run(command, cwd=crate, capture_output=True, text=True, check=False)
     found = re.findall(r"^test (\w+::\w+) \.\.\. (ok|FAILED\n\s*.*)$", done.stdout, re.MULTILINE)
     return {row: answer.removeprefix("FAILED").strip() for row, answer in found}, done.stdout + done.stderr
