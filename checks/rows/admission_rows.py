@@ -3,6 +3,7 @@ names than one, and each option. The key's file is `k`; a name that is no file h
 import base64
 import contextlib
 import hashlib
+import json
 
 from program import review
 from rows.asking import as_bytes
@@ -25,6 +26,7 @@ ADMITTED = "admits by line 1, if the client's signature is good\n    rights port
 TRUSTED = "trusts by line 1, if the host's signature is good\n"
 NOT_ADMITTED = f"does not admit: N3: no line admits the offer\n    looked for {K0_MARK}\n"
 NOT_TRUSTED = f"does not trust: N3: no line admits the offer\n    looked for {K0_MARK}\n"
+CHANGED = f"    line 1 names the host with another key of this type, {K1_MARK}\n"
 UNREAD = "fault A9\n"
 
 
@@ -69,7 +71,7 @@ PAIRS = [
 ]
 KINDS = [
     (admits, KEY, OTHER_KEY, {"granted": ADMITTED, "denied": NOT_ADMITTED, "missing": UNREAD}),
-    (trusts, f"h {KEY}", f"h {OTHER_KEY}", {"granted": TRUSTED, "denied": NOT_TRUSTED, "missing": UNREAD}),
+    (trusts, f"h {KEY}", f"h {OTHER_KEY}", {"granted": TRUSTED, "denied": NOT_TRUSTED + CHANGED, "missing": UNREAD}),
 ]
 
 
@@ -113,7 +115,7 @@ def without_total(text):
 # The certificate of X0 is K0's by K1 for `ann`, X1 the host's `h`; both are in force from 100 on and before 200.
 SIGNED = "if the client's and the signer's signatures are good\n"
 SIGNED_OF_HOST = "if the host's and the signer's signatures are good\n"
-LOOKED_FOR_SIGNER = f"    looked for {K1_MARK}\n"
+LOOKED_FOR_SIGNER = f"    looked for the certificate's signer {K1_MARK}\n"
 OF_CERTIFICATES = [
     (admits(), X0, AUTHORITY, f"admits by line 1, {SIGNED}    rights none\n", 0),
     (admits(), X0, KEY, f"does not admit: N3: no line admits the offer\n{LOOKED_FOR_SIGNER}", 1),
@@ -241,10 +243,13 @@ def finds_the_key_that_openssh_reads(asker):
     sought = security_key(b"ssh:")
     for words, names, denied, may in ((admits, "", NOT_ADMITTED, "OpenSSH may let it in"), (trusts, "h ", NOT_TRUSTED, "ssh may trust it")):
         for application, reads in ((b"ssh:\0", True), (b"ssh:\0\0", False), (b"ssh;\0", False), (b"ssh", False)):
+            other = security_key(application)
             answer = denied.replace(K0_MARK, mark_of(sought))
+            if words is trusts:
+                answer += f"    line 1 names the host with another key of this type, {mark_of(other)}\n"
             if reads:
                 answer += f"    {may} by line 1: OpenSSH drops a NUL of its application, and reads this key\n"
-            files = {"k": f"{SECURITY} {sought}\n", "t": f"{names}{SECURITY} {security_key(application)}\n"}
+            files = {"k": f"{SECURITY} {sought}\n", "t": f"{names}{SECURITY} {other}\n"}
             with standing(asker, files):
                 compare(asker, [*words(), "t"], "", told(("t", answer)), 3 if reads else 1)
 
@@ -302,7 +307,91 @@ def asks_by_each_option(asker):
             asker.check(f"{' '.join(words)} of {file[:60]}", found, ("t: " + wanted, b""))
 
 
+# A key's file, a trust file, the question, the code of the reason on line 1, and what was compared.
+COMPARED = [
+    (CERTIFICATE, AUTHORITY, admits(user="bob"), "G12", '; user "bob"; principal "ann"'),
+    (CERTIFICATE, f'cert-authority,principals="ops,dev" {OTHER_KEY}', admits(), "G12", '; principals "ops,dev"; principal "ann"'),
+    (CERTIFICATE, AUTHORITY, admits(now="99"), "G10", "; start 100 1970-01-01T00:01:40Z; now 99 1970-01-01T00:01:39Z"),
+    (CERTIFICATE, AUTHORITY, admits(now="200"), "G11", "; end 200 1970-01-01T00:03:20Z; now 200 1970-01-01T00:03:20Z"),
+    (HOST_CERTIFICATE, HOST_AUTHORITY, trusts(now="200"), "G11", "; end 200 1970-01-01T00:03:20Z; now 200 1970-01-01T00:03:20Z"),
+    (HOST_CERTIFICATE, f"@cert-authority * {OTHER_KEY}", trusts(host="g"), "G12", '; host "g"; principal "h"'),
+    (RSA_KEY, RSA_KEY, admits(rsa_minimum="9"), "G20", "; at least 9 bits"),
+    (RSA_KEY, f"h {RSA_KEY}", trusts(rsa_minimum="9"), "G20", "; at least 9 bits"),
+    (KEY, f'from="*.example" {KEY}', admits(host="a.other"), "G8", '; from "*.example"; address "192.0.2.1"; host "a.other"'),
+    (KEY, f"cert-authority {KEY}", admits(), "G3", ""),
+]
+
+
+def tells_what_was_compared(asker):
+    for key, file, words, code, compared in COMPARED:
+        with standing(asker, {"k": key, "t": file}):
+            _, answer, _ = asker.program.run([*words, "t"])
+            lines = [line for line in answer.decode().splitlines() if line.startswith(f"    1 {code}: ")]
+            _, mark, found = lines[0].partition(";") if lines else ("", "", "no such line")
+            asker.check(f"{' '.join(words)} of {file[:60]}", mark + found, compared)
+
+
+# The options of a security key's line, and what the key has to show.
+SHOWN = [
+    ("", "has to be touched"),
+    ("no-touch-required ", "need not be touched"),
+    ("verify-required ", "has to be touched, and to verify its user by PIN or biometrics"),
+    ("no-touch-required,verify-required ", "has to verify its user by PIN or biometrics"),
+]
+
+
+def tells_what_a_security_key_has_to_show(asker):
+    line = f"{SECURITY} {security_key(b'ssh:')}\n"
+    for options, shown in SHOWN:
+        with standing(asker, {"k": line, "t": options + line}):
+            compare(asker, [*admits(), "t"], "", told(("t", f"{ADMITTED}    the security key {shown}\n")), 0)
+
+
+# The fields of an answer in JSON, in their order, as they are where a file has a fault.
+NO_ANSWER = {
+    "file": "t", "is": "answer", "asked": "admits", "answer": "fault", "line": None, "rights": None, "command": None, "carry": [],
+    "cause": None, "number": None, "key": None, "signer": False, "reasons": [], "notes": [], "fault": None,
+}
+LET_IN = {"answer": "granted", "line": 1, "rights": "port agent x11 pty rc", "key": K0_MARK}
+LEFT_OUT = {"answer": "denied", "cause": "N3", "key": K0_MARK}
+
+# A key's file, a trust file, the question, the status, and the fields that are others.
+IN_JSON = [
+    (KEY, KEY, admits(), 0, LET_IN),
+    (KEY, f'command="a\\"b",no-pty,permitopen="h:1" {KEY}', admits(), 0,
+     {**LET_IN, "rights": "port agent x11 rc", "command": 'a"b', "carry": ["permitopen h:1"]}),
+    (KEY, OTHER_KEY, admits(), 1, LEFT_OUT),
+    (KEY, f"restrict {KEY}", admits(), 0, {**LET_IN, "rights": "none"}),
+    (CERTIFICATE, AUTHORITY, admits(user="bob"), 1,
+     {**LEFT_OUT, "key": K1_MARK, "signer": True, "reasons": [{"line": 1, "code": "G12", "detail": ""}], "notes": 1}),
+    (KEY, f"x {KEY}", admits(), 3, {**LEFT_OUT, "answer": "open", "reasons": [{"line": 1, "code": "G1", "detail": "L3"}], "notes": 2}),
+    (KEY, KEY, admits(address="nowhere"), 2, None),
+    (KEY, f"h {KEY}", trusts(), 0, {"asked": "trusts", "answer": "granted", "line": 1, "key": K0_MARK}),
+    (KEY, f"h {KEY}@revoked * {KEY}", trusts(), 1, {"asked": "trusts", "answer": "denied", "cause": "N1", "number": 2, "key": K0_MARK}),
+    (KEY, None, admits(), 2, {"fault": "A9"}),
+]
+
+
+def answers_in_json(asker):
+    for key, file, words, status, fields in IN_JSON:
+        files = {"k": key} if file is None else {"k": key, "t": file}
+        with standing(asker, files):
+            found, answer, _ = asker.program.run([*words, "--form", "json", "t"])
+        asker.check(f"status of {file}", found, status)
+        if fields is None:
+            asker.check("a refused offer", answer, b"fault A6\n")
+            continue
+        one, total = [json.loads(line) for line in answer.decode().splitlines()]
+        wanted = {**NO_ANSWER, **fields}
+        if isinstance(wanted["notes"], int):
+            one["notes"] = len(one["notes"])
+        asker.check(f"fields of {file}", list(one), list(NO_ANSWER))
+        asker.check(f"answer in JSON on {file}", one, wanted)
+        asker.check("total", total, {"is": "total", "format": 1, "asked": wanted["asked"], "files": 1, "status": status})
+
+
 TESTS = (
     has_one_status_over_several_files, reads_standard_input_once, reviews_standard_input_once, tells_of_certificates,
     tells_what_ssh_may_refuse, lists_the_key_that_openssh_reads, finds_the_key_that_openssh_reads, asks_by_each_option,
+    tells_what_was_compared, tells_what_a_security_key_has_to_show, answers_in_json,
 )

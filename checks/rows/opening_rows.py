@@ -9,51 +9,51 @@ NOW = "1795800600"
 
 SOUGHT = "    looked for SHA256:kmYcvdi2GkPeWxB6XLjrZB8JHsy2Hm8luHMFp9GMvqk\n"
 # The same of the certificate's signer.
-SOUGHT_OTHER = "    looked for SHA256:gOPgXFWkBoXrFVwpjf0SBo3P1kFs+IvH5q/vnQhNpFw\n"
+SOUGHT_OTHER = "    looked for the certificate's signer SHA256:gOPgXFWkBoXrFVwpjf0SBo3P1kFs+IvH5q/vnQhNpFw\n"
 NO_LINE = "f: does not admit: N3: no line admits the offer\n"
-LISTED = "    {} G1 L3: an option that sshd(8) does not list; or a first word that was meant as the type, and is not one\n"
+UNREAD = "    {} G1 L3: an option that sshd(8) does not list; or a first word that was meant as the type, and is not one"
+# The same of a line without a key that can be told, of one with the key, and of one with the other.
+LISTED, LISTED_WITH_KEY = UNREAD + "\n", UNREAD + "; it holds this key\n"
+LISTED_WITH_OTHER = UNREAD + "; it holds SHA256:gOPgXFWkBoXrFVwpjf0SBo3P1kFs+IvH5q/vnQhNpFw\n"
+# What is compared with a line's list of sources, and with its expiry time.
+CLIENT = '; address "192.0.2.1"; host -\n'
+ASKED = f"; now {NOW} 2026-11-27T17:30:00Z\n"
+BAD_FROM = "    1 G7: the line's from= cannot be read, so it permits nobody; from {}" + CLIENT
+OTHER_FROM = "    1 G8: the line's from= does not permit the client; from {}" + CLIENT
+PAST = "    1 G6: an expiry-time of the line is past; expires {}" + ASKED
 MAY = "    OpenSSH may let it in by line {}: {}\n"
 FIRST = "    OpenSSH may let it in by line {} first: {}\n"
 HOLDS, UNTOLD = "it holds this key, and cannot be read here", "no key can be told of it, and it cannot be read here"
 SOURCES = "OpenSSH may read its from= list otherwise"
+LATER = "in local time, which OpenSSH may read an hour later"
 GRANTED = "f: admits by line {}, if the client's signature is good\n    rights {}\n"
 ALL = "port agent x11 pty rc"
+CUT = "    .. only the first 100 are listed, and there may be more\n"
 
 # A file, the status, and what is told of it.
 FILES = [
     (f"{OTHER}\n", 1, NO_LINE + SOUGHT),
     # A key that stands after the options, and one between quotes before it.
-    (f'environment="A= {OTHER} ",touch-required {KEY}\n', 3, NO_LINE + LISTED.format(1) + SOUGHT + MAY.format(1, HOLDS)),
-    (f'environment="A= {KEY} ",touch-required {OTHER}\n', 1, NO_LINE + LISTED.format(1) + SOUGHT),
-    ("hello\n", 3, NO_LINE + LISTED.format(1) + SOUGHT + MAY.format(1, UNTOLD)),
-    (f"{OTHER}\nx {KEY}\n", 3, NO_LINE + LISTED.format(2) + SOUGHT + MAY.format(2, HOLDS)),
+    (f'environment="A= {OTHER} ",touch-required {KEY}\n', 3, NO_LINE + SOUGHT + LISTED_WITH_KEY.format(1) + MAY.format(1, HOLDS)),
+    (f'environment="A= {KEY} ",touch-required {OTHER}\n', 1, NO_LINE + SOUGHT + LISTED_WITH_OTHER.format(1)),
+    ("hello\n", 3, NO_LINE + SOUGHT + LISTED.format(1) + MAY.format(1, UNTOLD)),
+    (f"{OTHER}\nx {KEY}\n", 3, NO_LINE + SOUGHT + LISTED_WITH_KEY.format(2) + MAY.format(2, HOLDS)),
     # Lists of sources.
+    (f'from="0/0" {KEY}\n', 3, NO_LINE + SOUGHT + BAD_FROM.format('"0/0"') + MAY.format(1, SOURCES)),
+    (f'from="10.0.0.1/8" {KEY}\n', 1, NO_LINE + SOUGHT + BAD_FROM.format('"10.0.0.1/8"')),
+    (f'from="127.1" {KEY}\n', 3, NO_LINE + SOUGHT + OTHER_FROM.format('"127.1"') + MAY.format(1, SOURCES)),
+    (f'from="127.0.0.1" {KEY}\n', 1, NO_LINE + SOUGHT + OTHER_FROM.format('"127.0.0.1"')),
+    # A long list is cut, and a quote in it has a backslash.
     (
-        f'from="0/0" {KEY}\n', 3,
-        NO_LINE + "    1 G7: the line's from= cannot be read, so it permits nobody\n" + SOUGHT + MAY.format(1, SOURCES),
+        f'from="a\\"b,{300 * "c"}" {KEY}\n', 1,
+        NO_LINE + SOUGHT + OTHER_FROM.format('"a\\"b,' + 252 * "c" + '"..'),
     ),
-    (
-        f'from="10.0.0.1/8" {KEY}\n', 1,
-        NO_LINE + "    1 G7: the line's from= cannot be read, so it permits nobody\n" + SOUGHT,
-    ),
-    (
-        f'from="127.1" {KEY}\n', 3,
-        NO_LINE + "    1 G8: the line's from= does not permit the client\n" + SOUGHT + MAY.format(1, SOURCES),
-    ),
-    (f'from="127.0.0.1" {KEY}\n', 1, NO_LINE + "    1 G8: the line's from= does not permit the client\n" + SOUGHT),
     # Expiry times: past by half an hour, by an hour and by more, in local time and in UTC.
-    (
-        f'expiry-time="202611271700" {KEY}\n', 3,
-        NO_LINE + "    1 G6: an expiry-time of the line is past\n" + SOUGHT
-        + MAY.format(1, "in local time, which OpenSSH may read an hour later"),
-    ),
-    (
-        f'expiry-time="20261127163000" {KEY}\n', 3,
-        NO_LINE + "    1 G6: an expiry-time of the line is past\n" + SOUGHT
-        + MAY.format(1, "in local time, which OpenSSH may read an hour later"),
-    ),
-    (f'expiry-time="20261127162959" {KEY}\n', 1, NO_LINE + "    1 G6: an expiry-time of the line is past\n" + SOUGHT),
-    (f'expiry-time="202611271700Z" {KEY}\n', 1, NO_LINE + "    1 G6: an expiry-time of the line is past\n" + SOUGHT),
+    (f'expiry-time="202611271700" {KEY}\n', 3, NO_LINE + SOUGHT + PAST.format("1795798800 2026-11-27T17:00:00Z") + MAY.format(1, LATER)),
+    (f'expiry-time="20261127163000" {KEY}\n', 3, NO_LINE + SOUGHT + PAST.format("1795797000 2026-11-27T16:30:00Z") + MAY.format(1, LATER)),
+    (f'expiry-time="20261127162959" {KEY}\n', 1, NO_LINE + SOUGHT + PAST.format("1795796999 2026-11-27T16:29:59Z")),
+    (f'expiry-time="202611271700Z" {KEY}\n', 1, NO_LINE + SOUGHT + PAST.format("1795798800 2026-11-27T17:00:00Z")),
+    (f'expiry-time="2026" {KEY}\n', 1, NO_LINE + SOUGHT + PAST.format("-")),
     # A verified user.
     (
         f"verify-required {KEY}\n", 3,
@@ -76,7 +76,7 @@ FILES = [
     # A hundred lines are listed.
     (
         5 * "#\n" + 101 * "hello\n", 3,
-        NO_LINE + "".join(LISTED.format(n) for n in range(6, 106)) + SOUGHT
+        NO_LINE + SOUGHT + "".join(LISTED.format(n) for n in range(6, 106)) + CUT
         + "".join(MAY.format(n, UNTOLD) for n in range(6, 106)) + "    .. and more\n",
     ),
 ]
@@ -92,20 +92,23 @@ REVOKED = (
     " names\n"
 )
 LONG = 65_500 * "c"
+EMPTY_NAME = "    1 G1 L16: of known_hosts: an item of the list of host names is empty; ! alone is an empty item"
+OTHER_MARK = "SHA256:gOPgXFWkBoXrFVwpjf0SBo3P1kFs+IvH5q/vnQhNpFw"
+CHANGED = "    line {} names the host with another key of this type, " + OTHER_MARK + "\n"
 
 # A known_hosts file, the port, the status, and what is told of it.
 HOST_FILES = [
     (f"h {KEY}\n", 22, 0, "f: trusts by line 1, if the host's signature is good\n"),
-    (f"h {OTHER}\n", 22, 1, NO_HOST_LINE + SOUGHT),
+    (f"h {OTHER}\n", 22, 1, NO_HOST_LINE + SOUGHT + CHANGED.format(1)),
+    (f"g {OTHER}\n@cert-authority h {OTHER}\nh {OTHER}\nh {OTHER}\n", 22, 1, NO_HOST_LINE + SOUGHT + CHANGED.format(3)),
+    (f"h {OTHER}\nh {KEY}\n", 22, 0, "f: trusts by line 2, if the host's signature is good\n"),
     (
         f"h,, {KEY}\n", 22, 3,
-        NO_HOST_LINE + "    1 G1 L16: of known_hosts: an item of the list of host names is empty; ! alone is an empty item\n"
-        + SOUGHT + MAY_TRUST.format(1, HOLDS),
+        NO_HOST_LINE + SOUGHT + EMPTY_NAME + "; it holds this key\n" + MAY_TRUST.format(1, HOLDS),
     ),
     (
         f"h,, {OTHER}\n", 22, 1,
-        NO_HOST_LINE + "    1 G1 L16: of known_hosts: an item of the list of host names is empty; ! alone is an empty item\n"
-        + SOUGHT,
+        NO_HOST_LINE + SOUGHT + EMPTY_NAME + f"; it holds {OTHER_MARK}\n",
     ),
     # A line that is too long: an authority for ssh, or a revocation.
     (f"@cert-authority * {KEY} {LONG}\n", 22, 3, BLIND + MAY_TRUST.format(1, HOLDS)),

@@ -26,15 +26,17 @@ pub use Rattle.ssh_offers.specs.declared.claim.AuditError.TheVariants.{Offer, Si
 pub use Rattle.ssh_offers.specs.declared.claim.Signed.{Signed}
 pub use Rattle.ssh_options.specs.declared.option_text.LineCause.{LineCause}
 pub use Rattle.ssh_print.specs.Admitting.{first_line}
-pub use Rattle.ssh_print.specs.AnswerText.{passed_line}
 pub use Rattle.ssh_print.specs.Codes.{reason_codes}
+pub use Rattle.ssh_print.specs.Comparisons.{first_principals}
 pub use Rattle.ssh_print.specs.DecisionText.{carried_line, reason_line}
 pub use Rattle.ssh_print.specs.Denials.{HoldsAnother}
+pub use Rattle.ssh_print.specs.Details.{first_other_key}
 pub use Rattle.ssh_print.specs.ExplainSamples.{lines_shown, unknown_shown, rows_are_found}
 pub use Rattle.ssh_print.specs.Explaining.{row_text, is_unknown, code_line}
 pub use Rattle.ssh_print.specs.HostOther.{granting_line, is_out_of_memory, line_of_claim}
 pub use Rattle.ssh_print.specs.KnownPossible.{known_possible_lines}
 pub use Rattle.ssh_print.specs.OtherLines.{possible_line}
+pub use Rattle.ssh_print.specs.PassedLines.{line_from, lines_after, passed_lines}
 pub use Rattle.ssh_print.specs.PassedOver.{line_counted, line_firm, revoking_line}
 pub use Rattle.ssh_print.specs.PossibleLines.{possible_lines, held_blob, passed_reason, sought_blob, why_by_reason, why_held, why_held_key, with_line}
 pub use Rattle.ssh_print.specs.Responses.{Response}

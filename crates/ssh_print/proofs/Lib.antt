@@ -3,6 +3,7 @@ mod HexLemmas
 mod PartLemmas
 pub mod PlainLemmas
 pub mod ReadingLemmas
+mod DateLemmas
 mod ShowLemmas
 pub mod TopLineLemmas
 mod TableLemmas

@@ -1,13 +1,13 @@
--- The printed answer of a trust file to `admits` or `trusts` (this project's rule). Each line ends with an LF.
+-- The first lines of the printed answer of a trust file to `admits` or `trusts` (this project's rule). Each ends with an
+-- LF.
 use Rattle.std.specs.Prelude.{◌++◌, [], ◌∷◌, ℕ, List, Option, Some, None, Result, Ok, Err, codes}
-use Rattle.std.specs.List.{flat_map}
 use Rattle.std.specs.Fmt.{decimal}
 use Rattle.sha2.specs.Sha256.{sha256}
 use Rattle.ssh_print.specs.Table.{CodeRow, row_of}
 use Rattle.ssh_keys.specs.Fingerprint.{digest_text_of}
 use Rattle.ssh_offers.specs.declared.claim.AuditError.{AuditError}
 use Rattle.ssh_offers.specs.declared.claim.Signed.{Signed}
-use Rattle.ssh_print.specs.Codes.{cause_code, cause_codes, fault_codes, line_code, reason_code, reason_codes}
+use Rattle.ssh_print.specs.Codes.{cause_code, cause_codes, fault_codes, line_code, reason_code}
 use Rattle.ssh_print.specs.DecisionText.{rights_lines}
 use Rattle.ssh_print.specs.Texts.{escaped_text}
 use Rattle.ssh_rules.specs.declared.reason.Reason.{Reason}
@@ -62,23 +62,23 @@ reason_sentence reason = sentence (reason_code reason)
 abbrev pub indent : List ℕ
 indent = codes "    "
 
--- a line that was passed over, and why
-abbrev pub passed_line : ℕ × Reason → List ℕ
-passed_line r = indent ++ decimal r.0 ++ reason_codes r.1 ++ codes ": " ++ reason_sentence r.1 ++ codes "\n"
-
 -- the key that a line must hold: the last of the evidence, which is the signer's for a certificate
 abbrev pub sought_key : List Signed → List ℕ
 sought_key [] = []
 sought_key (key ∷ []) = key.key
 sought_key (key ∷ signer ∷ more) = signer.key
 
--- the fingerprint of a key
-abbrev pub fingerprint_line : List ℕ → List ℕ
-fingerprint_line key = indent ++ codes "looked for SHA256:" ++ digest_text_of (sha256 key) ++ codes "\n"
+abbrev pub sought_words : List Signed → List ℕ
+sought_words (key ∷ signer ∷ more) = codes "looked for the certificate's signer SHA256:"
+sought_words evidence = codes "looked for SHA256:"
+
+-- the fingerprint of that key
+abbrev pub fingerprint_line : List Signed → List ℕ
+fingerprint_line evidence = indent ++ sought_words evidence ++ digest_text_of (sha256 (sought_key evidence)) ++ codes "\n"
 
 -- if no line admits, the key that was looked for
 abbrev pub sought_line : Cause → List Signed → List ℕ
-sought_line NoLine evidence = fingerprint_line (sought_key evidence)
+sought_line NoLine evidence = fingerprint_line evidence
 sought_line why evidence = []
 
 -- ---- answers
@@ -92,10 +92,9 @@ denied_line who why = denies who ++ codes ":" ++ cause_codes why ++ codes ": " +
 abbrev pub fault_line : AuditError → List ℕ
 fault_line e = codes "fault" ++ fault_codes e ++ codes "\n"
 
--- the lines that were passed over come last, before the key that was looked for
 abbrev pub decision_lines : Subject → Decision → List ℕ
-decision_lines who (Granted line rights reasons evidence) = granted_line who line evidence ++ rights_lines indent rights ++ flat_map passed_line reasons
-decision_lines who (Denied why reasons evidence) = denied_line who why ++ flat_map passed_line reasons ++ sought_line why evidence
+decision_lines who (Granted line rights reasons evidence) = granted_line who line evidence ++ rights_lines indent rights
+decision_lines who (Denied why reasons evidence) = denied_line who why ++ sought_line why evidence
 
 -- the lines of an answer, or of the fault in its place
 abbrev pub answer_lines : Subject → Result Decision AuditError → List ℕ

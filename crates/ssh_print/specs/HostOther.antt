@@ -19,7 +19,8 @@ use Rattle.ssh_print.specs.declared.possible.WhyPossible.TheVariants as why
 use Rattle.ssh_print.specs.KnownPossible.{known_possible_lines}
 use Rattle.ssh_print.specs.AnswerText.{indent}
 use Rattle.ssh_print.specs.PassedOver.{claim_counted, claim_revoking, file_firm}
-use Rattle.ssh_print.specs.OtherLines.{OtherLines, decides_line, nothing_other, other_both, possible_line, possible_text}
+use Rattle.ssh_print.specs.Details.{host_details}
+use Rattle.ssh_print.specs.OtherLines.{OtherLines, decides_line, nothing_other, other_both, possible_line, possible_text, told_other}
 
 -- ---- lines that cannot be read
 
@@ -145,7 +146,7 @@ claim_other claim file (Denied why reasons evidence) =
     other_both (other_both (known_other claim file) (revoked_other claim file))
     (other_both (port_other claim.query file) (plain_other claim file))
 
--- there is no decision on a refused offer
+-- after the details of the decision; there is none on a refused offer
 abbrev pub other_host : Result HostClaim AuditError → List ℕ → Decision → OtherLines
 other_host (Err e) file decision = nothing_other
-other_host (Ok claim) file decision = claim_other claim file decision
+other_host (Ok claim) file decision = other_both (told_other (host_details claim file decision)) (claim_other claim file decision)

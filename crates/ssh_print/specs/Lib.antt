@@ -8,6 +8,7 @@ pub mod SshsigText
 pub mod ResponseView
 pub mod Samples
 pub mod ShownTexts
+pub mod Dates
 pub mod ShownBodies
 pub mod Showing
 pub mod ShownLines
@@ -20,6 +21,10 @@ pub mod StandIn
 pub mod AnswerText
 pub mod PossibleLines
 pub mod Admitting
+pub mod Comparisons
+pub mod PassedLines
+pub mod ShownNeeds
+pub mod Details
 pub mod OtherLines
 pub mod Denials
 pub mod KnownPossible

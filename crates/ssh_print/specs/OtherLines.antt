@@ -27,6 +27,7 @@ use Rattle.ssh_print.specs.declared.possible.WhyPossible.{WhyPossible}
 use Rattle.ssh_print.specs.declared.possible.WhyPossible.TheVariants as why
 use Rattle.ssh_print.specs.Admitting.{first_line}
 use Rattle.ssh_print.specs.AnswerText.{indent}
+use Rattle.ssh_print.specs.Details.{login_details}
 use Rattle.ssh_print.specs.PossibleLines.{possible_lines, possible_words}
 
 -- lines, and whether OpenSSH may admit, by one of them, what is not admitted here
@@ -160,7 +161,11 @@ login_other claim file (Granted line rights reasons evidence) =
 login_other claim file (Denied why reasons evidence) =
     other_both (possible_other claim None file) (other_cause claim file why)
 
--- there is no decision on a refused offer
+-- lines by which nobody is let in
+abbrev pub told_other : List ℕ → OtherLines
+told_other text = record { may_admit = false; text = text }
+
+-- after the details of the decision; there is none on a refused offer
 abbrev pub other_login : Result LoginClaim AuditError → List ℕ → Decision → OtherLines
 other_login (Err e) file decision = nothing_other
-other_login (Ok claim) file decision = login_other claim file decision
+other_login (Ok claim) file decision = other_both (told_other (login_details claim file decision)) (login_other claim file decision)

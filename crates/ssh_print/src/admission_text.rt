@@ -1,17 +1,15 @@
-//! The printed answer of one trust file to `admits` or `trusts`.
+//! The first lines of the printed answer of one trust file to `admits` or `trusts`.
 
 ghost use Rattle.std.specs.Prelude.{◌≡◌, ◌++◌, IfOk, OnOk};
-ghost use Rattle.std.specs.List.{flat_map};
-ghost use Rattle.ssh_print.specs.AnswerText.{answer_text, decision_lines, denied_line, denies, fault_line, fingerprint_line, good_signatures, granted_line, grants, passed_line, reason_sentence, sentence, sought_key, sought_line, owner_word};
+ghost use Rattle.ssh_print.specs.AnswerText.{answer_text, decision_lines, denied_line, denies, fault_line, fingerprint_line, good_signatures, granted_line, grants, sentence, sought_key, sought_line, sought_words, owner_word};
 
-use crate::codes::{cause_code, cause_codes, fault_codes, line_code, reason_code, reason_codes};
+use crate::codes::{cause_code, cause_codes, fault_codes};
 use crate::decision_text::rights_lines;
 use crate::explaining::row_of;
 use crate::text::{push_escaped, push_number};
 use sha2::{Digest, Sha256};
 use ssh_keys::digest_text;
 use ssh_offers::{AuditError, Signed};
-use ssh_rules::Reason;
 use ssh_trust::{Cause, Decision};
 use std::alloc::{AllocError, Global};
 
@@ -65,54 +63,13 @@ fn good_signatures(evidence: &[Signed]) -> &'static [u8]
 }
 
 /// The sentence that the table has for a code; empty if it has none.
-fn sentence(code: &str) -> &'static str
+pub(crate) fn sentence(code: &str) -> &'static str
     ensures { result.now ≡ sentence code.now }
 {
     match row_of(code) {
         Some(row) => row.sentence,
         None => "",
     }
-}
-
-/// The sentence for a reason. For a line that cannot be read it is that of the fault on the line.
-fn reason_sentence(reason: &Reason) -> &'static str
-    ensures { result.now ≡ reason_sentence reason.now }
-{
-    match reason {
-        Reason::Unreadable(cause) => sentence(line_code(*cause)),
-        other => sentence(reason_code(other)),
-    }
-}
-
-fn push_passed_line(
-    alloc: Global,
-    out: &mut Vec<u8>,
-    number: u64,
-    reason: &Reason,
-) -> Result<(), AllocError>
-    ensures { OnOk result (out.new.items ≡ out.old.items ++ passed_line (number, reason.now)) }
-{
-    out.extend_from_slice(INDENT)?;
-    push_number(alloc, out, number)?;
-    let codes = reason_codes(alloc, reason)?;
-    out.extend_from_slice(&codes)?;
-    out.extend_from_slice(b": ")?;
-    out.extend_from_slice(reason_sentence(reason).as_bytes())?;
-    out.push(b'\n')?;
-    Ok(())
-}
-
-fn push_passed_lines(
-    alloc: Global,
-    out: &mut Vec<u8>,
-    reasons: &[(u64, Reason)],
-) -> Result<(), AllocError>
-    ensures { OnOk result (out.new.items ≡ out.old.items ++ flat_map passed_line reasons.now) }
-{
-    for reason in reasons {
-        push_passed_line(alloc, out, reason.0, &reason.1)?;
-    }
-    Ok(())
 }
 
 /// The blob of the key that a line must hold. For a certificate it is its signer's, which comes
@@ -127,14 +84,28 @@ fn sought_key(evidence: &[Signed]) -> &[u8]
     }
 }
 
-/// The line with the fingerprint of the key that was looked for.
-fn push_fingerprint_line(alloc: Global, out: &mut Vec<u8>, key: &[u8]) -> Result<(), AllocError>
-    ensures { OnOk result (out.new.items ≡ out.old.items ++ fingerprint_line key.now) }
+/// The words in front of its fingerprint.
+fn sought_words(evidence: &[Signed]) -> &'static [u8]
+    ensures { result.now ≡ sought_words evidence.now }
 {
-    let digest = Sha256::digest(key);
+    match evidence {
+        [_, _, ..] => b"looked for the certificate's signer SHA256:",
+        _ => b"looked for SHA256:",
+    }
+}
+
+/// The line with the fingerprint of the key that was looked for.
+fn push_fingerprint_line(
+    alloc: Global,
+    out: &mut Vec<u8>,
+    evidence: &[Signed],
+) -> Result<(), AllocError>
+    ensures { OnOk result (out.new.items ≡ out.old.items ++ fingerprint_line evidence.now) }
+{
+    let digest = Sha256::digest(sought_key(evidence));
     let text = digest_text(alloc, &digest)?;
     out.extend_from_slice(INDENT)?;
-    out.extend_from_slice(b"looked for SHA256:")?;
+    out.extend_from_slice(sought_words(evidence))?;
     out.extend_from_slice(&text)?;
     out.push(b'\n')?;
     Ok(())
@@ -149,7 +120,7 @@ fn push_sought_line(
     ensures { OnOk result (out.new.items ≡ out.old.items ++ sought_line why evidence.now) }
 {
     match why {
-        Cause::NoLine => push_fingerprint_line(alloc, out, sought_key(evidence)),
+        Cause::NoLine => push_fingerprint_line(alloc, out, evidence),
         _ => Ok(()),
     }
 }
@@ -203,21 +174,15 @@ fn push_decision_lines(
         Decision::Granted {
             line,
             rights,
-            reasons,
             evidence,
+            ..
         } => {
             push_granted_line(alloc, out, who, *line, evidence.as_slice())?;
             let lines = rights_lines(alloc, INDENT, rights)?;
             out.extend_from_slice(&lines)?;
-            push_passed_lines(alloc, out, reasons.as_slice())?;
         }
-        Decision::Denied {
-            why,
-            reasons,
-            evidence,
-        } => {
+        Decision::Denied { why, evidence, .. } => {
             push_denied_line(alloc, out, who, *why)?;
-            push_passed_lines(alloc, out, reasons.as_slice())?;
             push_sought_line(alloc, out, *why, evidence.as_slice())?;
         }
     }
@@ -234,10 +199,9 @@ fn push_fault_line(alloc: Global, out: &mut Vec<u8>, error: AuditError) -> Resul
     Ok(())
 }
 
-/// The printed answer of the trust file with this name, one LF after each line. It has the line
-/// that admits the key and its rights, or why the key is denied. Then come the first 100 lines that
-/// hold the key or cannot be read and were passed over, with the reasons. A fault is printed in
-/// place of an answer.
+/// The first lines of the printed answer of the trust file with this name, one LF after each. They
+/// have the line that admits the key and its rights, or why the key is denied and which key was
+/// looked for. A fault is printed in place of an answer.
 pub fn answer_text(
     alloc: Global,
     who: Subject,

@@ -71,7 +71,7 @@ fn push_command_line(
 }
 
 /// The name of an option, as in sshd(8).
-fn carried_word(name: CarriedName) -> &'static [u8]
+pub fn carried_word(name: CarriedName) -> &'static [u8]
     ensures { result.now ≡ carried_word name }
 {
     match name {

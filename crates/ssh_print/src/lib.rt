@@ -23,17 +23,22 @@ mod admission_text;
 mod asked_key;
 mod cert;
 mod codes;
+mod comparison;
+mod dates;
 mod decision_text;
+mod details;
 mod escaped;
 mod explaining;
 mod host_otherwise;
 mod known_possible;
 mod laws;
 mod otherwise;
+mod passed;
 mod possible;
 mod response;
 mod show_key;
 mod showing;
+mod shown_needs;
 mod table;
 mod text;
 
@@ -43,11 +48,12 @@ pub use codes::{
     body_codes, cause_code, cause_codes, cert_codes, fault_codes, line_code, line_codes,
     reason_code, reason_codes,
 };
-pub use decision_text::{rights_lines, sshsig_response};
+pub use dates::moment_text;
+pub use decision_text::{carried_word, rights_lines, sshsig_response};
 pub use escaped::{EscapedPiece, PIECE_LIMIT, push_json_text, push_shown};
 pub use explaining::{ExplainError, Row, explain, explain_all, row_of};
 pub use host_otherwise::other_host;
-pub use otherwise::{Otherwise, other_login};
+pub use otherwise::{Otherwise, nothing_other, other_login};
 pub use response::{
     DONE, FAULT, HexPiece, Response, audit_fault, decision_response, fault_response, file_fault,
     usage_fault, value_fault, vouch_fault,

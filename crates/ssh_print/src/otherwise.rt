@@ -5,19 +5,19 @@ ghost use Rattle.std.specs.Prelude.{◌≡◌, ◌++◌, ◌<◌, ◌^◌, IfOk,
 ghost use Rattle.std.specs.List.{flat_map};
 ghost use Rattle.ssh_keys.specs.KeyOf.{key_of};
 ghost use Rattle.ssh_keys.specs.PublicKey.{kind_of};
-ghost use Rattle.ssh_findings.specs.EntryFindings.{is_security_key};
 ghost use Rattle.ssh_findings.specs.OpenSsh.{has_plain_principals};
 ghost use Rattle.ssh_offers.specs.LoginClaim.{login_claim};
 ghost use Rattle.ssh_offers.specs.Query.{login_of};
-ghost use Rattle.ssh_print.specs.OtherLines.{ground_text, decides_line, decides_lines, decides_words, deeper_rights, grounds_text, ignored_at, ignored_other, login_other, line_word, may_words, more_line, nothing_other, order_word, other_both, other_cause, other_login, otherwise_seen, possible_line, possible_other, possible_text, principals_word, refused_lines, refused_other, then_lines};
+ghost use Rattle.ssh_print.specs.OtherLines.{ground_text, decides_line, decides_lines, decides_words, deeper_rights, grounds_text, ignored_at, ignored_other, login_other, line_word, may_words, more_line, nothing_other, order_word, other_both, other_cause, other_login, otherwise_seen, told_other, possible_line, possible_other, possible_text, principals_word, refused_lines, refused_other, then_lines};
 
 use crate::admission_text::Subject;
 use crate::asked_key::{Admitting, first_line};
+use crate::details::login_details;
 use crate::decision_text::rights_lines;
 use crate::possible::{WhyPossible, possible_lines};
+use crate::shown_needs::is_security_key;
 use crate::text::push_number;
 use ssh_findings::{Facts, Ground, has_ground, may_refuse};
-use ssh_keys::KeyKind;
 use ssh_offers::{LoginClaimView, LoginQuery};
 use ssh_rights::Rights;
 use ssh_rules::LoginMatcher;
@@ -43,12 +43,22 @@ const DEEPER: &[u8] = b"        ";
 const LISTED: usize = 100;
 
 /// Nothing beside the answer.
-pub(crate) fn nothing_other(alloc: Global) -> Otherwise
+pub fn nothing_other(alloc: Global) -> Otherwise
     ensures { otherwise_seen result ≡ nothing_other }
 {
     Otherwise {
         may_admit: false,
         text: Vec::new(alloc),
+    }
+}
+
+/// Lines by which nobody is let in.
+pub(crate) fn told_other(text: Vec<u8>) -> Otherwise
+    ensures { otherwise_seen result ≡ told_other text.items }
+{
+    Otherwise {
+        may_admit: false,
+        text,
     }
 }
 
@@ -319,12 +329,6 @@ fn refused_other(
     }
 }
 
-fn is_security_key(kind: KeyKind) -> bool
-    ensures { result ≡ is_security_key kind }
-{
-    matches!(kind, KeyKind::SkP256 | KeyKind::SkEd25519)
-}
-
 fn ignored_at(alloc: Global, first: Option<(u64, Admitting)>) -> Result<Otherwise, AllocError>
     ensures { IfOk result (λ other. otherwise_seen other ≡ ignored_at first) }
 {
@@ -419,10 +423,11 @@ fn other_of(
     }
 }
 
-/// What is printed beside a decision on a login. It has the first 100 lines by which OpenSSH may
-/// admit the login and which do not admit it here. For a denial all lines of the file count, for a
-/// grant only those before its line. If OpenSSH may refuse the line that admits, it also has the
-/// line that decides in that case.
+/// What is printed after the first lines of a decision on a login. It has the reasons with what was
+/// compared, and of a security key what it has to show. Then come the first 100 lines by which
+/// OpenSSH may admit the login and which do not admit it here. For a denial all lines of the file
+/// count, for a grant only those before its line. If OpenSSH may refuse the line that admits, it
+/// also has the line that decides in that case.
 pub fn other_login(
     alloc: Global,
     query: &LoginQuery<'_>,
@@ -438,7 +443,9 @@ pub fn other_login(
         Err(_) => Ok(nothing_other(alloc)),
         Ok(claim) => {
             let matcher = LoginMatcher::new(alloc, &claim)?;
-            let other = other_of(alloc, &matcher, file, decision)?;
+            let details = login_details(alloc, &matcher, file, decision)?;
+            let more = other_of(alloc, &matcher, file, decision)?;
+            let other = other_both(told_other(details), &more)?;
             Ok(other)
         }
     }

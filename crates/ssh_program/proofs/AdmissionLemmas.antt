@@ -1,5 +1,6 @@
 -- From what a trust file decides to what a list of them tells, and from that to what is answered about a key.
-use Rattle.ssh_program.proofs.Imports.{ReadToEnd, end-same, left-end, no-end, ◌≡◌, ◌∙◌, ◌<◌, ℕ, false, List, length, Option, Some, None, Result, Ok, Err, refl, sym, ap, subst, inl, inr, IfOk, lt-ltb, IfTells, SourceState, bytes_at, most_failures, after_whole, top_line, FailsLoad, IsLeft, IsTooLong, KeepsOthers, NoReadFailed, within_limit, ReadError, AuditError, Offer, Signature, WrongAlgorithm, WeakSignature, CertSignature, Address, FileTooLong, Memory, Read, Failed, Body, Salts, Signed, GivesOrMemory, OfClaim, RefusesAs, Decision, refused_response, ShowError, Offered, shown_offer_in, IsFaultOfShow, show_fault_response, Finds, line-offered, Subject, TellsFile, TellsFiles, KeyAsking, Otherness, IsToldUnread, beside_answer, told_by, told_over, unread_fault, AsksBy, AsksFiles, AsksKey, AsksOffer, ToldLines, told_both, nothing_told, offer_or_fault, or_shown_fault, telling, told_of, told_response, Deciding, answer_by, IsFaultOf, is_memory, Alike, file-alike, keeps-same, left-none, none-failed, one-failed, over_limit, read-all, file_limit, nothing_other}
+use Rattle.ssh_program.proofs.Imports.{ReadToEnd, end-same, left-end, no-end, ◌≡◌, ◌∙◌, ◌<◌, ℕ, false, List, length, Option, Some, None, Result, Ok, Err, refl, sym, ap, subst, inl, inr, IfOk, lt-ltb, IfTells, SourceState, bytes_at, most_failures, after_whole, top_line, FailsLoad, IsLeft, IsTooLong, KeepsOthers, NoReadFailed, within_limit, ReadError, AuditError, Offer, Signature, WrongAlgorithm, WeakSignature, CertSignature, Address, FileTooLong, Memory, Read, Failed, Body, Salts, Signed, GivesOrMemory, OfClaim, RefusesAs, Decision, refused_response, ShowError, Offered, shown_offer_in, IsFaultOfShow, show_fault_response, Finds, line-offered, TellsFile, TellsFiles, KeyAsking, Otherness, IsToldUnread, beside_answer, told_by, told_over, unread_fault, AsksBy, AsksFiles, AsksKey, AsksOffer, ToldLines, told_both, nothing_told, offer_or_fault, or_shown_fault, telling, told_of, told_response, Deciding, answer_by, IsFaultOf, is_memory, Alike, file-alike, keeps-same, left-none, none-failed, one-failed, over_limit, read-all, file_limit, nothing_other}
+use Rattle.ssh_program.specs.declared.admission.AnswerForm.{AnswerForm}
 use Rattle.ssh_files.specs.declared.read.ReadError.TheVariants as fault
 use Rattle.ssh_print.specs.Responses.{Response as Shown}
 use Rattle.ssh_print.specs.declared.showing.ShowError.TheVariants as show
@@ -22,14 +23,14 @@ answer-given given (Err (Body x)) spared h = h
 answer-given given (Err Salts) spared h = h
 
 -- what is told by an answer that is given
-pub bytes_told : (who : Subject) (by : Deciding) (beside : Otherness) (evidence : List Signed) (name file : List ℕ) (answer : Result Decision AuditError) (told : ToldLines)
+pub bytes_told : (who : AnswerForm) (by : Deciding) (beside : Otherness) (evidence : List Signed) (name file : List ℕ) (answer : Result Decision AuditError) (told : ToldLines)
     → is_memory answer ≡ false → GivesOrMemory (answer_by by file evidence) answer → told ≡ told_of who name (beside_answer beside file answer) answer
     → told ≡ told_by who by beside evidence name file
 bytes_told who by beside evidence name file answer told spared given is =
     is ∙ ap (λ (a : Result Decision AuditError). told_of who name (beside_answer beside file a) a) (sym (answer-given (answer_by by file evidence) answer spared given))
 
 -- a file that was read
-pub file_told : {R E : Type 0} (view : R → ToldLines) (who : Subject) (by : Deciding) (beside : Otherness) (evidence : List Signed) (name file bytes : List ℕ) (o t : Option SourceState) (res : Result R E) → bytes ≡ file
+pub file_told : {R E : Type 0} (view : R → ToldLines) (who : AnswerForm) (by : Deciding) (beside : Otherness) (evidence : List Signed) (name file bytes : List ℕ) (o t : Option SourceState) (res : Result R E) → bytes ≡ file
     → IfTells o (λ s. (within_limit (bytes_at s name) ≡ Some file) × IsLeft s (after_whole s name) t) → IfTells o (λ s. KeepsOthers name s t)
     → IfOk res (λ r. view r ≡ told_by who by beside evidence name bytes)
     → IfTells o (λ s. IfOk res (λ r. TellsFile (telling who by beside evidence) name s t (view r)))
@@ -45,17 +46,17 @@ file_told view who by beside evidence name file bytes (Some s) t (Ok r) is loads
       ),
     )
 
-told-missing : (who : Subject) (by : Deciding) (beside : Otherness) (evidence : List Signed) (name : List ℕ) → told_over who by beside evidence name None ≡ told_of who name nothing_other (Err (unread_fault by fault.Missing))
+told-missing : (who : AnswerForm) (by : Deciding) (beside : Otherness) (evidence : List Signed) (name : List ℕ) → told_over who by beside evidence name None ≡ told_of who name nothing_other (Err (unread_fault by fault.Missing))
 told-missing who (Ok decision) beside evidence name = refl
 told-missing who (Err e) beside evidence name = refl
 
-told-long : (who : Subject) (by : Deciding) (beside : Otherness) (evidence : List Signed) (name : List ℕ) (bytes : Option (List ℕ)) → IsTooLong bytes
+told-long : (who : AnswerForm) (by : Deciding) (beside : Otherness) (evidence : List Signed) (name : List ℕ) (bytes : Option (List ℕ)) → IsTooLong bytes
     → told_over who by beside evidence name bytes ≡ told_of who name nothing_other (Err (unread_fault by fault.TooLong))
 told-long who by beside evidence name None h = absurd h
 told-long who (Ok decision) beside evidence name (Some bytes) h = rw (lt-ltb file_limit (length bytes) h) refl
 told-long who (Err e) beside evidence name (Some bytes) h = refl
 
-unread-by : (who : Subject) (by : Deciding) (beside : Otherness) (evidence : List Signed) (name : List ℕ) (s : SourceState) (t : Option SourceState) (e : ReadError) (told : ToldLines) → FailsLoad name (bytes_at s name) s t e
+unread-by : (who : AnswerForm) (by : Deciding) (beside : Otherness) (evidence : List Signed) (name : List ℕ) (s : SourceState) (t : Option SourceState) (e : ReadError) (told : ToldLines) → FailsLoad name (bytes_at s name) s t e
     → KeepsOthers name s t → IsToldUnread who by name e told → TellsFile (telling who by beside evidence) name s t told
 unread-by who by beside evidence name s t fault.Missing told fails keeps is =
     (keeps, inr (fails.1, no-end name s t keeps (ap within_limit fails.0), is ∙ (sym (told-missing who by beside evidence name) ∙ sym (ap (told_over who by beside evidence name) fails.0))))
@@ -64,7 +65,7 @@ unread-by who by beside evidence name s t fault.Failed told fails keeps is = (ke
 unread-by who by beside evidence name s t fault.Memory told fails keeps is = absurd is
 
 -- one whose bytes could not be had
-pub file_unread : {R E : Type 0} (view : R → ToldLines) (who : Subject) (by : Deciding) (beside : Otherness) (evidence : List Signed) (name : List ℕ) (o t : Option SourceState) (e : ReadError) (res : Result R E)
+pub file_unread : {R E : Type 0} (view : R → ToldLines) (who : AnswerForm) (by : Deciding) (beside : Otherness) (evidence : List Signed) (name : List ℕ) (o t : Option SourceState) (e : ReadError) (res : Result R E)
     → IfTells o (λ s. FailsLoad name (bytes_at s name) s t e) → IfTells o (λ s. KeepsOthers name s t) → IfOk res (λ r. IsToldUnread who by name e (view r))
     → IfTells o (λ s. IfOk res (λ r. TellsFile (telling who by beside evidence) name s t (view r)))
 file_unread view who by beside evidence name None t e res fails keeps is = tt
@@ -76,15 +77,15 @@ file_unread view who by beside evidence name (Some s) t e (Ok r) fails keeps is 
 given-same : (e given : List Signed) → GivesOrMemory (Ok e) (Ok given) → given ≡ e
 given-same e given h = (let same : Ok e ≡ Ok given = h in cc)
 
-asks-told : (who : Subject) (by : Deciding) (beside : Otherness) (rests : Result (List Signed) AuditError) (evidence : List Signed) (names : List (List ℕ)) (s : SourceState) (t : Option SourceState) (told : ToldLines) (r : Shown)
-    → RefusesAs rests (Ok evidence) → OfClaim rests (λ e. GivesOrMemory (Ok e) (Ok evidence)) → r ≡ told_response told
+asks-told : (who : AnswerForm) (by : Deciding) (beside : Otherness) (rests : Result (List Signed) AuditError) (evidence : List Signed) (names : List (List ℕ)) (s : SourceState) (t : Option SourceState) (told : ToldLines) (r : Shown)
+    → RefusesAs rests (Ok evidence) → OfClaim rests (λ e. GivesOrMemory (Ok e) (Ok evidence)) → r ≡ told_response who (length names) told
     → TellsFiles told_both (telling who by beside evidence) nothing_told names s t told → AsksBy who by beside rests names s t r
 asks-told who by beside (Err e) evidence names s t told r refused given is h = cc
 asks-told who by beside (Ok e) evidence names s t told r refused given is h =
     (told, subst (λ (x : List Signed). TellsFiles told_both (telling who by beside x) nothing_told names s t told) (given-same e evidence given) h, is)
 
-pub asks_told : {R : Type 0} (view : R → Shown) (who : Subject) (by : Deciding) (beside : Otherness) (rests : Result (List Signed) AuditError) (evidence : List Signed) (names : List (List ℕ)) (o t : Option SourceState)
-    (told : ToldLines) (r : R) → RefusesAs rests (Ok evidence) → OfClaim rests (λ e. GivesOrMemory (Ok e) (Ok evidence)) → view r ≡ told_response told
+pub asks_told : {R : Type 0} (view : R → Shown) (who : AnswerForm) (by : Deciding) (beside : Otherness) (rests : Result (List Signed) AuditError) (evidence : List Signed) (names : List (List ℕ)) (o t : Option SourceState)
+    (told : ToldLines) (r : R) → RefusesAs rests (Ok evidence) → OfClaim rests (λ e. GivesOrMemory (Ok e) (Ok evidence)) → view r ≡ told_response who (length names) told
     → IfTells o (λ s. TellsFiles told_both (telling who by beside evidence) nothing_told names s t told) → IfTells o (λ s. AsksBy who by beside rests names s t (view r))
 asks_told view who by beside rests evidence names None t told r refused given is h = tt
 asks_told view who by beside rests evidence names (Some s) t told r refused given is h = λ counts. asks-told who by beside rests evidence names s t told (view r) refused given is (h counts)
@@ -106,13 +107,13 @@ never-refused e Failed spared h = cc
 never-refused e (Body x) spared h = cc
 never-refused e Salts spared h = cc
 
-asks-refused : (who : Subject) (by : Deciding) (beside : Otherness) (rests : Result (List Signed) AuditError) (error : AuditError) (names : List (List ℕ)) (s : SourceState) (r : Shown)
+asks-refused : (who : AnswerForm) (by : Deciding) (beside : Otherness) (rests : Result (List Signed) AuditError) (error : AuditError) (names : List (List ℕ)) (s : SourceState) (r : Shown)
     → RefusesAs {A = List Signed} rests (Err error) → OfClaim rests (λ e. GivesOrMemory (Ok e) (Err error)) → is_memory {A = List Signed} (Err error) ≡ false → r ≡ refused_response error
     → AsksBy who by beside rests names s (Some s) r
 asks-refused who by beside (Err e) error names s r refused given spared is = (refl, is ∙ ap refused_response (err-same error e refused))
 asks-refused who by beside (Ok e) error names s r refused given spared is = absurd (never-refused e error spared given)
 
-pub asks_refused : {R E : Type 0} (view : R → Shown) (who : Subject) (by : Deciding) (beside : Otherness) (rests : Result (List Signed) AuditError) (error : AuditError) (names : List (List ℕ)) (o : Option SourceState) (res : Result R E)
+pub asks_refused : {R E : Type 0} (view : R → Shown) (who : AnswerForm) (by : Deciding) (beside : Otherness) (rests : Result (List Signed) AuditError) (error : AuditError) (names : List (List ℕ)) (o : Option SourceState) (res : Result R E)
     → RefusesAs {A = List Signed} rests (Err error) → OfClaim rests (λ e. GivesOrMemory (Ok e) (Err error)) → is_memory {A = List Signed} (Err error) ≡ false → IfOk res (λ r. view r ≡ refused_response error)
     → IfTells o (λ s. IfOk res (λ r. AsksBy who by beside rests names s o (view r)))
 asks_refused view who by beside rests error names None res refused given spared is = tt

@@ -13,7 +13,10 @@ use Rattle.ssh_print.specs.Offering.{Offered, shown_offer_in}
 use Rattle.ssh_print.specs.OtherLines.{OtherLines, other_login}
 use Rattle.ssh_print.specs.HostOther.{other_host}
 use Rattle.ssh_print.specs.declared.admission_text.Subject.TheVariants.{Client, Host}
-use Rattle.ssh_print.specs.declared.admission_text.Subject.{Subject}
+use Rattle.ssh_program.specs.declared.admission.AnswerForm.{AnswerForm}
+use Rattle.ssh_review.specs.declared.end.Form.{Form}
+use Rattle.ssh_review.specs.declared.end.Form.TheVariants.{Text}
+use Rattle.ssh_program.specs.Spelled.{form_of}
 use Rattle.ssh_print.specs.declared.showing.ShowError.{ShowError}
 use Rattle.ssh_print.specs.declared.showing.ShowError.TheVariants as shown
 use Rattle.ssh_files.specs.Values.{short_bytes}
@@ -144,13 +147,13 @@ distrust-key claim file other true d h means = cc
 distrust-key claim file other false (Granted line rights reasons evidence) h means = cc
 distrust-key claim file other false (Denied why reasons evidence) h means = means.0
 
-abbrev login-telling : Subject → Otherness → LoginClaim → Telling ToldLines
+abbrev login-telling : AnswerForm → Otherness → LoginClaim → Telling ToldLines
 login-telling who beside claim = telling who (decided_by login_decision (Ok claim)) beside (login_evidence claim)
 
-abbrev host-telling : Subject → Otherness → HostClaim → Telling ToldLines
+abbrev host-telling : AnswerForm → Otherness → HostClaim → Telling ToldLines
 host-telling who beside claim = telling who (decided_by host_decision (Ok claim)) beside (host_evidence claim)
 
-tells-grants : (who : Subject) (beside : Otherness) (claim : LoginClaim) → Tells (login-telling who beside claim) Grants (LetsIn claim)
+tells-grants : (who : AnswerForm) (beside : Otherness) (claim : LoginClaim) → Tells (login-telling who beside claim) Grants (LetsIn claim)
 tells-grants who beside claim = record {
   fault = λ name h. cc;
   none = λ name h. cc;
@@ -161,7 +164,7 @@ tells-grants who beside claim = record {
       let-in claim file (beside_answer beside file in_full) long d h (login_means file claim (login_evidence claim) bytes);
 }
 
-tells-denies : (who : Subject) (beside : Otherness) (claim : LoginClaim) → Tells (login-telling who beside claim) Denies (KeepsOut claim)
+tells-denies : (who : AnswerForm) (beside : Otherness) (claim : LoginClaim) → Tells (login-telling who beside claim) Denies (KeepsOut claim)
 tells-denies who beside claim = record {
   fault = λ name h. cc;
   none = λ name h. cc;
@@ -172,7 +175,7 @@ tells-denies who beside claim = record {
       kept-out claim file (beside_answer beside file in_full) long d h (login_means file claim (login_evidence claim) bytes);
 }
 
-tells-trusts : (who : Subject) (beside : Otherness) (claim : HostClaim) → Tells (host-telling who beside claim) Grants (TrustsKey claim)
+tells-trusts : (who : AnswerForm) (beside : Otherness) (claim : HostClaim) → Tells (host-telling who beside claim) Grants (TrustsKey claim)
 tells-trusts who beside claim = record {
   fault = λ name h. cc;
   none = λ name h. cc;
@@ -183,7 +186,7 @@ tells-trusts who beside claim = record {
       trust-key claim file (beside_answer beside file in_full) long d h (host_means file claim (host_evidence claim) bytes);
 }
 
-tells-distrusts : (who : Subject) (beside : Otherness) (claim : HostClaim) → Tells (host-telling who beside claim) Denies (DistrustsKey claim)
+tells-distrusts : (who : AnswerForm) (beside : Otherness) (claim : HostClaim) → Tells (host-telling who beside claim) Denies (DistrustsKey claim)
 tells-distrusts who beside claim = record {
   fault = λ name h. cc;
   none = λ name h. cc;
@@ -197,7 +200,7 @@ tells-distrusts who beside claim = record {
 -- ---- what is asked of the files
 
 -- the files were asked, by this claim of the offer
-record Asked {C : Type 0} (claimed : Result C AuditError) (who : Subject) (decision : List ℕ → C → List Signed → Decision) (evidence : C → List Signed) (beside : Otherness)
+record Asked {C : Type 0} (claimed : Result C AuditError) (who : AnswerForm) (decision : List ℕ → C → List Signed → Decision) (evidence : C → List Signed) (beside : Otherness)
     (names : List (List ℕ)) (s : SourceState) (t : Option SourceState) (r : Response) : Type 0 where
   claim : C
   is : claimed ≡ Ok claim
@@ -205,7 +208,7 @@ record Asked {C : Type 0} (claimed : Result C AuditError) (who : Subject) (decis
   chain : TellsFiles told_both (telling who (decided_by decision (Ok claim)) beside (evidence claim)) nothing_told names s t told
   status : status_of told.outcome ≡ r.status
 
-asked-by : {C : Type 0} (claimed : Result C AuditError) (who : Subject) (decision : List ℕ → C → List Signed → Decision) (evidence : C → List Signed) (beside : Otherness)
+asked-by : {C : Type 0} (claimed : Result C AuditError) (who : AnswerForm) (decision : List ℕ → C → List Signed → Decision) (evidence : C → List Signed) (beside : Otherness)
     (names : List (List ℕ)) (s : SourceState) (t : Option SourceState) (r : Response)
     → AsksBy who (decided_by decision claimed) beside (evidence_by evidence claimed) names s t r → r.status < 2 → Asked claimed who decision evidence beside names s t r
 asked-by (Err e) who decision evidence beside names s t r (unfailed, is) few = let two = status-of r _ is in absurd (omega (arith, two, few))
@@ -259,8 +262,9 @@ admits-faulty rows zone =
     step-faulty _ _ (fault-faulty option.Zone zone) (λ zone.
     step-faulty _ _ (optional-faulty Any empty_principals_of option.EmptyPrincipals rows) (λ empty_principals.
     step-faulty _ _ (optional-faulty 0 (number_below (2 ^ 32)) option.RsaMinimum rows) (λ rsa_minimum.
+    step-faulty _ _ (optional-faulty Text form_of option.Form rows) (λ form.
     step-faulty _ _ (needed-faulty option.Address rows) (λ address.
-    step-faulty _ _ (names-faulty rows) (λ names. none-faulty _))))))))
+    step-faulty _ _ (names-faulty rows) (λ names. none-faulty _)))))))))
 
 trusts-faulty : (rows : List Row) → IsFaulty (trusts_spelled rows)
 unfolding trusts_spelled
@@ -270,15 +274,16 @@ trusts-faulty rows =
     step-faulty _ _ (optional-faulty usual_port (number_below (2 ^ 16)) option.Port rows) (λ port.
     step-faulty _ _ (optional-faulty Any empty_principals_of option.EmptyPrincipals rows) (λ empty_principals.
     step-faulty _ _ (optional-faulty 0 (number_below (2 ^ 32)) option.RsaMinimum rows) (λ rsa_minimum.
+    step-faulty _ _ (optional-faulty Text form_of option.Form rows) (λ form.
     step-faulty _ _ (needed-faulty option.Host rows) (λ host.
-    step-faulty _ _ (names-faulty rows) (λ names. none-faulty _)))))))
+    step-faulty _ _ (names-faulty rows) (λ names. none-faulty _))))))))
 
 -- the names are those of the options, and of each offer a login is made
 abbrev AsksLogin : List Row → KeyAsked → Type 0
-AsksLogin rows a = (names_needed rows ≡ Ok a.names) × ((o : Offered) → (q : LoginAsked) × (q.offered ≡ o.blob) × (a.asks o ≡ login_asking q))
+AsksLogin rows a = (names_needed rows ≡ Ok a.names) × ((o : Offered) → (form : Form) × (q : LoginAsked) × (q.offered ≡ o.blob) × (a.asks o ≡ login_asking form q))
 
 abbrev AsksHost : List Row → KeyAsked → Type 0
-AsksHost rows a = (names_needed rows ≡ Ok a.names) × ((o : Offered) → (q : HostCheck) × (q.offered ≡ o.blob) × (a.asks o ≡ host_asking q))
+AsksHost rows a = (names_needed rows ≡ Ok a.names) × ((o : Offered) → (form : Form) × (q : HostCheck) × (q.offered ≡ o.blob) × (a.asks o ≡ host_asking form q))
 
 admits-asks : (rows : List Row) (zone : Option TimeZone) (a : KeyAsked) → admits_spelled rows zone ≡ Ok a → AsksLogin rows a
 unfolding admits_spelled
@@ -289,9 +294,10 @@ admits-asks rows zone =
     step-any (AsksLogin rows) (or_fault option.Zone zone) _ (λ zone.
     step-any (AsksLogin rows) (value_or Any empty_principals_of option.EmptyPrincipals rows) _ (λ empty_principals.
     step-any (AsksLogin rows) (value_or 0 (number_below (2 ^ 32)) option.RsaMinimum rows) _ (λ rsa_minimum.
+    step-any (AsksLogin rows) (value_or Text form_of option.Form rows) _ (λ form.
     step-any (AsksLogin rows) (needed option.Address rows) _ (λ address.
     step-gives (λ names. names_needed rows ≡ Ok names) (AsksLogin rows) (names_needed rows) _ (λ names h. h) (λ names is.
-    λ a h. subst (AsksLogin rows) (ok-same {A = KeyAsked} {B = Response} _ a h) (is, λ o. (_, refl, refl))))))))))
+    λ a h. subst (AsksLogin rows) (ok-same {A = KeyAsked} {B = Response} _ a h) (is, λ o. (form, _, refl, refl)))))))))))
 
 trusts-asks : (rows : List Row) (a : KeyAsked) → trusts_spelled rows ≡ Ok a → AsksHost rows a
 unfolding trusts_spelled
@@ -301,9 +307,10 @@ trusts-asks rows =
     step-any (AsksHost rows) (value_or usual_port (number_below (2 ^ 16)) option.Port rows) _ (λ port.
     step-any (AsksHost rows) (value_or Any empty_principals_of option.EmptyPrincipals rows) _ (λ empty_principals.
     step-any (AsksHost rows) (value_or 0 (number_below (2 ^ 32)) option.RsaMinimum rows) _ (λ rsa_minimum.
+    step-any (AsksHost rows) (value_or Text form_of option.Form rows) _ (λ form.
     step-any (AsksHost rows) (needed option.Host rows) _ (λ host.
     step-gives (λ names. names_needed rows ≡ Ok names) (AsksHost rows) (names_needed rows) _ (λ names h. h) (λ names is.
-    λ a h. subst (AsksHost rows) (ok-same {A = KeyAsked} {B = Response} _ a h) (is, λ o. (_, refl, refl)))))))))
+    λ a h. subst (AsksHost rows) (ok-same {A = KeyAsked} {B = Response} _ a h) (is, λ o. (form, _, refl, refl))))))))))
 
 -- ---- a response to a client's key
 
@@ -313,7 +320,7 @@ record ClientOf (rows : List Row) (names : List (List ℕ)) (s : SourceState) (t
   same : client.asked.names ≡ names
   unfailed : NoReadFailed s (Some client.left)
   beside : Otherness
-  who : Subject
+  who : AnswerForm
   told : ToldLines
   chain : TellsFiles told_both (login-telling who beside client.claim) nothing_told client.asked.names client.left t told
   status : status_of told.outcome ≡ r.status
@@ -328,9 +335,9 @@ client-of rows names zone s t r named read (Err fault) spelled (unfailed, is) fe
 client-of rows names zone s t r named read (Ok a) spelled h few =
     let o = offers a.asks a.key a.names s t r h few in
     let asks = admits-asks rows zone a spelled in
-    let (q, blob, is) = asks.1 o.offer in
+    let (form, q, blob, is) = asks.1 o.offer in
     let files = subst (λ (k : KeyAsking). AsksFiles k a.names o.left t r) is o.asked in
-    let by = asked-by (login_claim q) Client login_decision login_evidence (other_login (login_claim q)) a.names o.left t r files few in
+    let by = asked-by (login_claim q) (record { subject = Client; form = form }) login_decision login_evidence (other_login (login_claim q)) a.names o.left t r files few in
     record {
       client = record {
         zone = zone;
@@ -341,6 +348,7 @@ client-of rows names zone s t r named read (Ok a) spelled h few =
         offered = o.offered;
         login = q;
         blob = blob;
+        form = form;
         asks = is;
         claim = by.claim;
         claimed = by.is;
@@ -350,7 +358,7 @@ client-of rows names zone s t r named read (Ok a) spelled h few =
       same = ok-same {A = List (List ℕ)} {B = Response} a.names names (sym asks.0 ∙ named);
       unfailed = o.unfailed;
       beside = other_login (login_claim q);
-      who = Client;
+      who = record { subject = Client; form = form };
       told = by.told;
       chain = by.chain;
       status = by.status;
@@ -382,7 +390,7 @@ record HostOf (rows : List Row) (names : List (List ℕ)) (s : SourceState) (t :
   same : host.asked.names ≡ names
   unfailed : NoReadFailed s (Some host.left)
   beside : Otherness
-  who : Subject
+  who : AnswerForm
   told : ToldLines
   chain : TellsFiles told_both (host-telling who beside host.claim) nothing_told host.asked.names host.left t told
   status : status_of told.outcome ≡ r.status
@@ -397,9 +405,9 @@ host-of rows names s t r named (Err fault) spelled (unfailed, is) few =
 host-of rows names s t r named (Ok a) spelled h few =
     let o = offers a.asks a.key a.names s t r h few in
     let asks = trusts-asks rows a spelled in
-    let (q, blob, is) = asks.1 o.offer in
+    let (form, q, blob, is) = asks.1 o.offer in
     let files = subst (λ (k : KeyAsking). AsksFiles k a.names o.left t r) is o.asked in
-    let by = asked-by (host_claim q) Host host_decision host_evidence (other_host (host_claim q)) a.names o.left t r files few in
+    let by = asked-by (host_claim q) (record { subject = Host; form = form }) host_decision host_evidence (other_host (host_claim q)) a.names o.left t r files few in
     record {
       host = record {
         asked = a;
@@ -408,6 +416,7 @@ host-of rows names s t r named (Ok a) spelled h few =
         offered = o.offered;
         check = q;
         blob = blob;
+        form = form;
         asks = is;
         claim = by.claim;
         claimed = by.is;
@@ -417,7 +426,7 @@ host-of rows names s t r named (Ok a) spelled h few =
       same = ok-same {A = List (List ℕ)} {B = Response} a.names names (sym asks.0 ∙ named);
       unfailed = o.unfailed;
       beside = other_host (host_claim q);
-      who = Host;
+      who = record { subject = Host; form = form };
       told = by.told;
       chain = by.chain;
       status = by.status;

@@ -1,5 +1,5 @@
 -- The answers of trust files about one key, and their combined status (this project's rule).
-use Rattle.std.specs.Prelude.{◌≡◌, ◌⊎◌, ◌++◌, ℕ, Bool, true, false, List, [], Option, Some, None, Result, Ok, Err}
+use Rattle.std.specs.Prelude.{◌≡◌, ◌⊎◌, ◌++◌, ℕ, Bool, true, false, List, [], length, Option, Some, None, Result, Ok, Err}
 use Rattle.ssh_offers.specs.declared.claim.AuditError.{AuditError}
 use Rattle.ssh_offers.specs.declared.claim.AuditError.TheVariants.{FileTooLong, Memory, Read}
 use Rattle.ssh_offers.specs.declared.claim.Signed.{Signed}
@@ -15,8 +15,12 @@ use Rattle.ssh_print.specs.Offering.{Offered, shown_offer_in}
 use Rattle.ssh_print.specs.declared.showing.ShowError.{ShowError}
 use Rattle.ssh_print.specs.Showing.{show_fault_response}
 use Rattle.ssh_print.specs.declared.admission_text.Subject.{Subject}
+use Rattle.ssh_review.specs.declared.end.Form.{Form}
+use Rattle.ssh_review.specs.declared.end.Form.TheVariants.{Text, Json}
+use Rattle.ssh_review.specs.AnswerObjects.{answer_object, answer_total}
 use Rattle.ssh_print.specs.AnswerText.{answer_text}
 use Rattle.ssh_print.specs.OtherLines.{OtherLines, nothing_other}
+use Rattle.ssh_program.specs.declared.admission.AnswerForm.{AnswerForm}
 use Rattle.ssh_program.specs.declared.admission.Outcome.{Outcome}
 use Rattle.ssh_program.specs.declared.admission.Outcome.TheVariants.{Denies, Opens, Grants, Faulty}
 use Rattle.ssh_program.specs.Audits.{Deciding, IsFileFault, answer_by, answer_over, refusal_of}
@@ -62,12 +66,24 @@ nothing_told = record { outcome = Denies; text = [] }
 abbrev pub told_both : ToldLines → ToldLines → ToldLines
 told_both a b = record { outcome = and_then a.outcome b.outcome; text = a.text ++ b.text }
 
--- the lines of a decision, followed by those about OpenSSH
-abbrev pub told_of : Subject → List ℕ → OtherLines → Result Decision AuditError → ToldLines
-told_of who name other answer = record { outcome = outcome_of other answer; text = answer_text who name answer ++ other.text }
+-- the first lines of a decision, followed by the others; as JSON, one object
+abbrev pub text_of : Form → Subject → List ℕ → OtherLines → Result Decision AuditError → List ℕ
+text_of Text who name other answer = answer_text who name answer ++ other.text
+text_of Json who name other answer = answer_object who name other answer
 
-abbrev pub told_response : ToldLines → Response
-told_response told = record { status = status_of told.outcome; text = told.text }
+abbrev pub told_of : AnswerForm → List ℕ → OtherLines → Result Decision AuditError → ToldLines
+told_of who name other answer = record { outcome = outcome_of other answer; text = text_of who.form who.subject name other answer }
+
+-- in JSON the total of the files comes last
+abbrev pub total_of : Form → Subject → ℕ → ℕ → List ℕ
+total_of Text who files status = []
+total_of Json who files status = answer_total who files status
+
+abbrev pub told_response : AnswerForm → ℕ → ToldLines → Response
+told_response who files told = record {
+  status = status_of told.outcome;
+  text = told.text ++ total_of who.form who.subject files (status_of told.outcome);
+}
 
 -- ---- files
 
@@ -75,10 +91,10 @@ told_response told = record { status = status_of told.outcome; text = told.text 
 abbrev pub Otherness : Type 0
 Otherness = List ℕ → Decision → OtherLines
 
--- the question to each file: whose key it is, how a file decides, what the decision rests on, and what is printed after
+-- the question to each file: whose key it is and how the answer is printed, how a file decides, what the decision rests on, and what is printed after
 -- it
 pub record KeyAsking : Type 0 where
-  pub who : Subject
+  pub who : AnswerForm
   pub by : Deciding
   pub rests_on : Result (List Signed) AuditError
   pub beside : Otherness
@@ -89,17 +105,17 @@ beside_answer beside file (Ok decision) = beside file decision
 beside_answer beside file (Err e) = nothing_other
 
 -- the answer of a trust file with these bytes, where all evidence is vouched for
-abbrev pub told_by : Subject → Deciding → Otherness → List Signed → List ℕ → List ℕ → ToldLines
+abbrev pub told_by : AnswerForm → Deciding → Otherness → List Signed → List ℕ → List ℕ → ToldLines
 told_by who by beside evidence name file =
     told_of who name (beside_answer beside file (answer_by by file evidence)) (answer_by by file evidence)
 
 -- the same of the file of this name, which may be missing
-abbrev pub told_over : Subject → Deciding → Otherness → List Signed → List ℕ → Option (List ℕ) → ToldLines
+abbrev pub told_over : AnswerForm → Deciding → Otherness → List Signed → List ℕ → Option (List ℕ) → ToldLines
 told_over who by beside evidence name None = told_of who name nothing_other (answer_over by evidence None)
 told_over who by beside evidence name (Some file) = told_by who by beside evidence name file
 
 -- a failed read of a file is reported as A9
-abbrev pub telling : Subject → Deciding → Otherness → List Signed → Telling ToldLines
+abbrev pub telling : AnswerForm → Deciding → Otherness → List Signed → Telling ToldLines
 telling who by beside evidence = record {
   of_bytes = told_over who by beside evidence;
   of_fault = λ name. told_of who name nothing_other (Err Read);
@@ -117,17 +133,17 @@ unread_fault by read.Failed = Read
 unread_fault by read.Memory = Memory
 
 -- the answer of such a file, where memory could be allocated
-abbrev pub IsToldUnread : Subject → Deciding → List ℕ → ReadError → ToldLines → Type 0
+abbrev pub IsToldUnread : AnswerForm → Deciding → List ℕ → ReadError → ToldLines → Type 0
 IsToldUnread who by name read.Memory told = ⊥
 IsToldUnread who by name read.Missing told = told ≡ told_of who name nothing_other (Err (unread_fault by read.Missing))
 IsToldUnread who by name read.TooLong told = told ≡ told_of who name nothing_other (Err (unread_fault by read.TooLong))
 IsToldUnread who by name read.Failed told = told ≡ told_of who name nothing_other (Err (unread_fault by read.Failed))
 
 -- a refused offer is reported before any file is read
-abbrev pub AsksBy : Subject → Deciding → Otherness → Result (List Signed) AuditError → List (List ℕ) → SourceState → Option SourceState → Response → Type 0
+abbrev pub AsksBy : AnswerForm → Deciding → Otherness → Result (List Signed) AuditError → List (List ℕ) → SourceState → Option SourceState → Response → Type 0
 AsksBy who by beside (Err e) names s t r = NoReadFailed s t × (r ≡ refused_response e)
 AsksBy who by beside (Ok evidence) names s t r =
-    (told : ToldLines) × TellsFiles told_both (telling who by beside evidence) nothing_told names s t told × (r ≡ told_response told)
+    (told : ToldLines) × TellsFiles told_both (telling who by beside evidence) nothing_told names s t told × (r ≡ told_response who (length names) told)
 
 -- the status of one file with these bytes
 abbrev pub status_by : KeyAsking → List Signed → List ℕ → List ℕ → ℕ

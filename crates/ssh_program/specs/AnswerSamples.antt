@@ -12,6 +12,7 @@ use Rattle.ssh_print.specs.Responses.{Response}
 use Rattle.ssh_print.specs.StandIn.{login_algorithm, stand_in}
 use Rattle.ssh_program.specs.declared.args.ArgName.{ArgName}
 use Rattle.ssh_program.specs.declared.args.ArgName.TheVariants as option
+use Rattle.ssh_review.specs.declared.end.Form.TheVariants as form
 use Rattle.ssh_program.specs.Keys.{KeyAsked, admits_spelled, host_asking, login_asking, trusts_spelled}
 use Rattle.ssh_program.specs.Options.{names_id, option_word}
 use Rattle.ssh_program.specs.declared.admission.Outcome.TheVariants.{Denies, Opens, Grants, Faulty}
@@ -82,7 +83,7 @@ admits_login zone host empty bits o = record {
 }
 
 abbrev admits_asked : TimeZone → Option Text → EmptyPrincipals → ℕ → KeyAsked
-admits_asked zone host empty bits = record { key = codes "k"; names = codes "a" ∷ codes "b" ∷ []; asks = λ o. login_asking (admits_login zone host empty bits o) }
+admits_asked zone host empty bits = record { key = codes "k"; names = codes "a" ∷ codes "b" ∷ []; asks = λ o. login_asking form.Text (admits_login zone host empty bits o) }
 
 -- Each option that may be left out counts where it is given. The zone is not the host's name.
 abbrev pub AdmitsSpelled : TimeZone → Type 0
@@ -105,7 +106,7 @@ abbrev trusts_asked : ℕ → EmptyPrincipals → ℕ → KeyAsked
 trusts_asked port empty bits = record {
   key = codes "k";
   names = codes "a" ∷ [];
-  asks = λ o. host_asking (record {
+  asks = λ o. host_asking form.Text (record {
     offered = o.blob;
     signature = stand_in o.kind;
     exchange_hash = [];

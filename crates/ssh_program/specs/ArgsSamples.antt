@@ -108,10 +108,10 @@ admits_needed = codes "admits" ∷ codes "--key" ∷ codes "k" ∷ codes "--user
 
 abbrev pub KeysAsked : Type 0
 KeysAsked = (asked admits_needed
-    ≡ Some (Admits, Some (codes "k") ∷ Some (codes "u") ∷ Some (codes "d") ∷ Some (codes "n") ∷ None ∷ None ∷ None ∷ None ∷ []))
+    ≡ Some (Admits, Some (codes "k") ∷ Some (codes "u") ∷ Some (codes "d") ∷ Some (codes "n") ∷ None ∷ None ∷ None ∷ None ∷ None ∷ []))
     × (names_asked (admits_needed ++ codes "b" ∷ codes "-" ∷ []) ≡ Some (codes "a" ∷ codes "b" ∷ codes "-" ∷ []))
     × (asked (codes "trusts" ∷ codes "f" ∷ codes "--key" ∷ codes "k" ∷ codes "--host" ∷ codes "h" ∷ codes "--now" ∷ codes "n" ∷ codes "--port" ∷ codes "22" ∷ [])
-    ≡ Some (Trusts, Some (codes "k") ∷ Some (codes "h") ∷ Some (codes "n") ∷ Some (codes "22") ∷ None ∷ None ∷ []))
+    ≡ Some (Trusts, Some (codes "k") ∷ Some (codes "h") ∷ Some (codes "n") ∷ Some (codes "22") ∷ None ∷ None ∷ None ∷ []))
     × (names_asked (codes "trusts" ∷ codes "--key" ∷ codes "k" ∷ codes "--host" ∷ codes "h" ∷ codes "--now" ∷ codes "n" ∷ []) ≡ None)
     × (names_asked (codes "explain" ∷ codes "G8" ∷ codes "N3" ∷ []) ≡ Some (codes "G8" ∷ codes "N3" ∷ []))
     × (asked (codes "explain" ∷ []) ≡ Some (Explain, []))
@@ -149,7 +149,7 @@ words_refused = (refl, refl, refl, refl, refl, refl)
 abbrev pub UsageTold : Type 0
 UsageTold = (usage_line Show ≡ codes "ssh_audit show --kind VALUE --file VALUE\n")
     × (usage_line Trusts
-    ≡ codes "ssh_audit trusts --key VALUE --host VALUE --now VALUE [--port VALUE] [--empty-principals VALUE] [--rsa-minimum VALUE] NAME..\n")
+    ≡ codes "ssh_audit trusts --key VALUE --host VALUE --now VALUE [--port VALUE] [--empty-principals VALUE] [--rsa-minimum VALUE] [--form VALUE] NAME..\n")
     × (usage_line Explain ≡ codes "ssh_audit explain [NAME..]\n")
     × (asks_usage (codes "G8" ∷ codes "usage" ∷ []) ≡ true)
     × (asks_usage (codes "usages" ∷ codes "USAGE" ∷ []) ≡ false)

@@ -15,6 +15,7 @@ use Rattle.ssh_print.specs.Offering.{Offered}
 use Rattle.ssh_files.specs.SourceState.{SourceState, bytes_at, most_failures}
 use Rattle.ssh_files.specs.Loading.{KeepsOthers, within_limit}
 use Rattle.ssh_files.specs.Values.{ReadsZone, zone_text}
+use Rattle.ssh_review.specs.declared.end.Form.{Form}
 use Rattle.ssh_program.specs.declared.args.ArgName.TheVariants as option
 use Rattle.ssh_program.specs.declared.subcommand.Subcommand.{Subcommand}
 use Rattle.ssh_program.specs.Admissions.{offer_or_fault}
@@ -63,7 +64,8 @@ pub record ClientAsked (rows : List Row) (s : SourceState) : Type 0 where
   pub offered : offer_or_fault asked.key (within_limit (bytes_at s asked.key)) ≡ Ok offer
   pub login : Login
   pub blob : login.offered ≡ offer.blob
-  pub asks : asked.asks offer ≡ login_asking login
+  pub form : Form
+  pub asks : asked.asks offer ≡ login_asking form login
   pub claim : LoginClaim
   pub claimed : login_claim login ≡ Ok claim
   pub left : SourceState
@@ -97,7 +99,8 @@ pub record HostAsked (rows : List Row) (s : SourceState) : Type 0 where
   pub offered : offer_or_fault asked.key (within_limit (bytes_at s asked.key)) ≡ Ok offer
   pub check : HostCheck
   pub blob : check.offered ≡ offer.blob
-  pub asks : asked.asks offer ≡ host_asking check
+  pub form : Form
+  pub asks : asked.asks offer ≡ host_asking form check
   pub claim : HostClaim
   pub claimed : host_claim check ≡ Ok claim
   pub left : SourceState

@@ -15,7 +15,10 @@ use Rattle.ssh_print.specs.HostOther.{other_host}
 use Rattle.ssh_print.specs.OtherLines.{other_login}
 use Rattle.ssh_print.specs.StandIn.{login_algorithm, stand_in}
 use Rattle.ssh_print.specs.declared.admission_text.Subject.TheVariants.{Client, Host}
+use Rattle.ssh_review.specs.declared.end.Form.{Form}
+use Rattle.ssh_review.specs.declared.end.Form.TheVariants.{Text}
 use Rattle.ssh_program.specs.declared.args.ArgName.TheVariants as option
+use Rattle.ssh_program.specs.Spelled.{form_of}
 use Rattle.ssh_program.specs.Spelling.{RespondsTo, given, names_needed, needed, or_fault, usual_port, value, value_or}
 use Rattle.ssh_program.specs.Admissions.{KeyAsking, AsksKey}
 use Rattle.ssh_program.specs.Audits.{host_by, host_rests, login_by, login_rests}
@@ -26,11 +29,11 @@ pub record KeyAsked : Type 0 where
   pub names : List (List ℕ)
   pub asks : Offered → KeyAsking
 
-abbrev pub login_asking : Login → KeyAsking
-login_asking q = record { who = Client; by = login_by q; rests_on = login_rests q; beside = other_login (login_claim q) }
+abbrev pub login_asking : Form → Login → KeyAsking
+login_asking form q = record { who = record { subject = Client; form = form }; by = login_by q; rests_on = login_rests q; beside = other_login (login_claim q) }
 
-abbrev pub host_asking : HostCheck → KeyAsking
-host_asking q = record { who = Host; by = host_by q; rests_on = host_rests q; beside = other_host (host_claim q) }
+abbrev pub host_asking : Form → HostCheck → KeyAsking
+host_asking form q = record { who = record { subject = Host; form = form }; by = host_by q; rests_on = host_rests q; beside = other_host (host_claim q) }
 
 -- ---- a client's key
 
@@ -43,12 +46,13 @@ admits_spelled rows zone = do
   zone ← or_fault option.Zone zone
   empty_principals ← value_or Any empty_principals_of option.EmptyPrincipals rows
   rsa_minimum ← value_or 0 (number_below (2 ^ 32)) option.RsaMinimum rows
+  form ← value_or Text form_of option.Form rows
   address ← needed option.Address rows
   names ← names_needed rows
   Ok (record {
     key = key;
     names = names;
-    asks = λ o. login_asking (record {
+    asks = λ o. login_asking form (record {
       offered = o.blob;
       signature = stand_in o.kind;
       algorithm = login_algorithm o.kind o.is_certificate;
@@ -80,12 +84,13 @@ trusts_spelled rows = do
   port ← value_or usual_port (number_below (2 ^ 16)) option.Port rows
   empty_principals ← value_or Any empty_principals_of option.EmptyPrincipals rows
   rsa_minimum ← value_or 0 (number_below (2 ^ 32)) option.RsaMinimum rows
+  form ← value_or Text form_of option.Form rows
   host ← needed option.Host rows
   names ← names_needed rows
   Ok (record {
     key = key;
     names = names;
-    asks = λ o. host_asking (record {
+    asks = λ o. host_asking form (record {
       offered = o.blob;
       signature = stand_in o.kind;
       exchange_hash = [];

@@ -51,3 +51,4 @@ pub mod Spelled
 pub mod KeyRuns
 pub mod SignatureRuns
 pub mod FileRuns
+pub mod KeyFiles

@@ -78,9 +78,10 @@ subcommand_options Sshsig = (option.Body, Required) ∷ (option.Message, Require
 subcommand_options Rewrite = (option.Kind, Required) ∷ (option.File, Required) ∷ []
 subcommand_options Hash = (option.File, Required) ∷ (option.Salts, Required) ∷ []
 subcommand_options Admits = (option.Key, Required) ∷ (option.User, Required) ∷ (option.Address, Required) ∷ (option.Now, Required)
-    ∷ (option.Host, Optional) ∷ (option.Zone, Optional) ∷ (option.EmptyPrincipals, Optional) ∷ (option.RsaMinimum, Optional) ∷ []
+    ∷ (option.Host, Optional) ∷ (option.Zone, Optional) ∷ (option.EmptyPrincipals, Optional) ∷ (option.RsaMinimum, Optional)
+    ∷ (option.Form, Optional) ∷ []
 subcommand_options Trusts = (option.Key, Required) ∷ (option.Host, Required) ∷ (option.Now, Required) ∷ (option.Port, Optional)
-    ∷ (option.EmptyPrincipals, Optional) ∷ (option.RsaMinimum, Optional) ∷ []
+    ∷ (option.EmptyPrincipals, Optional) ∷ (option.RsaMinimum, Optional) ∷ (option.Form, Optional) ∷ []
 subcommand_options Review = (option.Kind, Required) ∷ (option.Now, Required) ∷ (option.Zone, Optional) ∷ (option.RsaMinimum, Optional)
     ∷ (option.Findings, Optional) ∷ (option.Form, Optional) ∷ []
 subcommand_options Explain = []

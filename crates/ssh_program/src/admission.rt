@@ -1,7 +1,7 @@
 //! The answers of trust files about one key, for `admits` and `trusts`, and their combined status.
 
 ghost use Rattle.std.specs.Prelude.{◌≡◌, ◌++◌, IfOk, Ok, Err, map};
-ghost use Rattle.ssh_program.specs.Admissions.{AsksBy, IsToldUnread, and_then, beside_answer, denied_outcome, nothing_told, outcome_of, refusal_or, status_of, telling, told_both, told_by, told_of, unread_fault};
+ghost use Rattle.ssh_program.specs.Admissions.{AsksBy, IsToldUnread, and_then, beside_answer, denied_outcome, nothing_told, outcome_of, refusal_or, status_of, telling, text_of, told_both, told_by, told_of, told_response, total_of, unread_fault};
 ghost use Rattle.ssh_program.specs.AdmissionsView.{told_seen};
 ghost use Rattle.ssh_print.specs.OtherLines.{nothing_other, otherwise_seen};
 ghost use Rattle.ssh_files.specs.FilesInTurn.{TellsFile, TellsFiles};
@@ -13,7 +13,10 @@ use crate::audit::is_memory;
 use crate::file_question::FileQuestion;
 use ssh_files::{Files, ReadError, read_whole};
 use ssh_offers::{AuditError, Signed};
-use ssh_print::{DONE, FAULT, Otherwise, Response, Subject, answer_text, audit_fault};
+use ssh_print::{
+    DONE, FAULT, Otherwise, Response, Subject, answer_text, audit_fault, nothing_other,
+};
+use ssh_review::{Form, answer_object, answer_total};
 use ssh_trust::Decision;
 use std::alloc::{AllocError, Global};
 
@@ -84,6 +87,13 @@ impl Outcome {
     }
 }
 
+/// Whose key is asked about, and in which format the answers are printed.
+#[derive(Clone, Copy, Debug, PartialEq, Eq)]
+pub struct AnswerForm {
+    pub subject: Subject,
+    pub form: Form,
+}
+
 /// The output lines of some files, and their combined result.
 #[derive(Drop)]
 pub struct FileAnswer {
@@ -91,17 +101,38 @@ pub struct FileAnswer {
     pub text: Vec<u8>,
 }
 
+/// The printed answer of a file: the first lines of its decision and the others, or one object.
+fn answer_in(
+    alloc: Global,
+    who: AnswerForm,
+    name: &[u8],
+    other: &Otherwise,
+    answer: &Result<Decision, AuditError>,
+) -> Result<Vec<u8>, AllocError>
+    ensures { IfOk result (λ text. text.items
+        ≡ text_of who.form who.subject name.now (otherwise_seen other.now) answer.now) }
+{
+    match who.form {
+        Form::Text => {
+            let mut text = answer_text(alloc, who.subject, name, answer)?;
+            text.extend_from_slice(&other.text)?;
+            Ok(text)
+        }
+        Form::Json => answer_object(alloc, who.subject, name, other, answer),
+    }
+}
+
 /// The answer of a file that could not be decided on.
 fn tell_fault(
     alloc: Global,
-    who: Subject,
+    who: AnswerForm,
     name: &[u8],
     error: AuditError,
 ) -> Result<FileAnswer, AllocError>
     ensures { IfOk result
         (λ told. told_seen told ≡ told_of who name.now nothing_other (Err error)) }
 {
-    let text = answer_text(alloc, who, name, &Err(error))?;
+    let text = answer_in(alloc, who, name, &nothing_other(alloc), &Err(error))?;
     Ok(FileAnswer {
         outcome: Outcome::Faulty,
         text,
@@ -112,7 +143,7 @@ fn tell_fault(
 /// OpenSSH may read differently.
 fn tell_decision<Q: FileQuestion>(
     alloc: Global,
-    who: Subject,
+    who: AnswerForm,
     question: &Q,
     name: &[u8],
     file: &[u8],
@@ -123,14 +154,13 @@ fn tell_decision<Q: FileQuestion>(
 {
     let other = question.tell_beside(alloc, file, &decision)?;
     let outcome = Outcome::of(&decision, &other);
-    let mut text = answer_text(alloc, who, name, &Ok(decision))?;
-    text.extend_from_slice(&other.text)?;
+    let text = answer_in(alloc, who, name, &other, &Ok(decision))?;
     Ok(FileAnswer { outcome, text })
 }
 
 fn tell_answer<Q: FileQuestion>(
     alloc: Global,
-    who: Subject,
+    who: AnswerForm,
     question: &Q,
     name: &[u8],
     file: &[u8],
@@ -149,7 +179,7 @@ fn tell_answer<Q: FileQuestion>(
 #[tactic(auto, using(crate::proofs::AdmissionLemmas::bytes_told))]
 fn tell_bytes<Q: FileQuestion>(
     alloc: Global,
-    who: Subject,
+    who: AnswerForm,
     question: &Q,
     evidence: &[Signed],
     name: &[u8],
@@ -192,7 +222,7 @@ fn unread_fault(refusal: Option<AuditError>, fault: ReadError) -> AuditError
 /// The answer of a trust file whose bytes could not be had.
 fn tell_unread<Q: FileQuestion>(
     alloc: Global,
-    who: Subject,
+    who: AnswerForm,
     question: &Q,
     name: &[u8],
     fault: ReadError,
@@ -211,7 +241,7 @@ fn tell_unread<Q: FileQuestion>(
 /// differently, and standard input cannot be read twice.
 fn tell_file<Q: FileQuestion, F: Files>(
     alloc: Global,
-    who: Subject,
+    who: AnswerForm,
     question: &Q,
     evidence: &[Signed],
     name: &str,
@@ -231,7 +261,7 @@ fn tell_file<Q: FileQuestion, F: Files>(
 /// its fault, and the next one is read all the same.
 fn tell_files<Q: FileQuestion, F: Files>(
     alloc: Global,
-    who: Subject,
+    who: AnswerForm,
     question: &Q,
     evidence: &[Signed],
     names: &[&str],
@@ -251,11 +281,42 @@ fn tell_files<Q: FileQuestion, F: Files>(
     Ok(FileAnswer { outcome, text })
 }
 
+/// The line of the total, which comes last in JSON.
+fn total_in(
+    alloc: Global,
+    who: AnswerForm,
+    files: u64,
+    status: u8,
+) -> Result<Vec<u8>, AllocError>
+    ensures { IfOk result (λ text. text.items ≡ total_of who.form who.subject files status) }
+{
+    match who.form {
+        Form::Text => Ok(Vec::new(alloc)),
+        Form::Json => answer_total(alloc, who.subject, files, status),
+    }
+}
+
+/// The response of files of this number.
+fn told_response(
+    alloc: Global,
+    who: AnswerForm,
+    files: usize,
+    told: FileAnswer,
+) -> Result<Response, AllocError>
+    ensures { IfOk result (λ r. response r ≡ told_response who files (told_seen told)) }
+{
+    let status = told.outcome.status();
+    let total = total_in(alloc, who, files as u64, status)?;
+    let mut text = told.text;
+    text.extend_from_slice(&total)?;
+    Ok(Response::new(status, text))
+}
+
 /// The response about the key by the trust files of these names, where all evidence is vouched for.
 /// An offer that is refused (A1 to A6) is reported before any file is read.
 pub fn ask_files<Q: FileQuestion, F: Files>(
     alloc: Global,
-    who: Subject,
+    who: AnswerForm,
     question: &Q,
     names: &[&str],
     files: &mut F,
@@ -271,7 +332,8 @@ pub fn ask_files<Q: FileQuestion, F: Files>(
     match evidence {
         Ok(evidence) => {
             let told = tell_files(alloc, who, question, evidence.as_slice(), names, files)?;
-            Ok(Response::new(told.outcome.status(), told.text))
+            let response = told_response(alloc, who, names.len(), told)?;
+            Ok(response)
         }
         Err(error) => audit_fault(alloc, error),
     }

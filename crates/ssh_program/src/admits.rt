@@ -11,14 +11,16 @@ ghost use Rattle.ssh_print.specs.StandIn.{login_algorithm, stand_in};
 ghost use Rattle.ssh_program.specs.Keys.{AdmitsInZone, RespondsToAdmits, login_asking, RespondsToTrusts, host_asking};
 ghost use Rattle.ssh_program.specs.ArgsView.{IfAnswered, rows_in};
 
-use crate::admission::ask_files;
+use crate::admission::{AnswerForm, ask_files};
 use crate::args::{ArgName, Args};
 use crate::audit::{LoginQuestion, unread};
 use crate::command::CommandError;
+use crate::review::form;
 use jiff::tz::TimeZone;
 use ssh_files::{Files, read_top_line, zone_of};
 use ssh_offers::{EmptyPrincipals, HostQuery, LoginQuery};
 use ssh_print::{OfferedKey, Response, Subject, login_algorithm, read_offer, show_fault, stand_in};
+use ssh_review::Form;
 use std::alloc::{AllocError, Global};
 
 /// The names of the input files of `login` and `host`: a trust file, and a vouch file where one is
@@ -105,11 +107,12 @@ struct Client<'a> {
     zone: &'a TimeZone<'static>,
     empty_principals: EmptyPrincipals,
     rsa_minimum: u32,
+    form: Form,
     ghost short: { length user.now < 2 ^ 32 },
 }
 
 impl KeyQuestion for Client<'_> {
-    ghost asks = { λ x o. login_asking (record {
+    ghost asks = { λ x o. login_asking x.form (record {
       offered = o.blob;
       signature = stand_in o.kind;
       algorithm = login_algorithm o.kind o.is_certificate;
@@ -145,7 +148,11 @@ impl KeyQuestion for Client<'_> {
             rsa_minimum: self.rsa_minimum,
         };
         let question = LoginQuestion { query };
-        let response = ask_files(alloc, Subject::Client, &question, names, files)?;
+        let who = AnswerForm {
+            subject: Subject::Client,
+            form: self.form,
+        };
+        let response = ask_files(alloc, who, &question, names, files)?;
         Ok(response)
     }
 }
@@ -169,6 +176,7 @@ fn admits_in_zone<F: Files>(
     let zone = ArgName::Zone.or_fault(zone)?;
     let empty_principals = words.empty_principals()?;
     let rsa_minimum = words.rsa_minimum()?;
+    let form = form(words)?;
     let address = words.needed(ArgName::Address)?;
     let names = words.needed_names()?;
     let client = Client {
@@ -179,6 +187,7 @@ fn admits_in_zone<F: Files>(
         zone: &zone,
         empty_principals,
         rsa_minimum,
+        form,
     };
     let response = ask_key(alloc, &client, key, names, files)?;
     Ok(response)
@@ -206,10 +215,11 @@ struct Host<'a> {
     now: u64,
     empty_principals: EmptyPrincipals,
     rsa_minimum: u32,
+    form: Form,
 }
 
 impl KeyQuestion for Host<'_> {
-    ghost asks = { λ x o. host_asking (record {
+    ghost asks = { λ x o. host_asking x.form (record {
       offered = o.blob;
       signature = stand_in o.kind;
       exchange_hash = [];
@@ -238,7 +248,11 @@ impl KeyQuestion for Host<'_> {
             empty_principals: self.empty_principals,
             rsa_minimum: self.rsa_minimum,
         };
-        let response = ask_files(alloc, Subject::Host, &query, names, files)?;
+        let who = AnswerForm {
+            subject: Subject::Host,
+            form: self.form,
+        };
+        let response = ask_files(alloc, who, &query, names, files)?;
         Ok(response)
     }
 }
@@ -258,6 +272,7 @@ pub fn respond_trusts<F: Files>(
     let port = words.usual_port()?;
     let empty_principals = words.empty_principals()?;
     let rsa_minimum = words.rsa_minimum()?;
+    let form = form(words)?;
     let name = words.needed(ArgName::Host)?;
     let names = words.needed_names()?;
     let host = Host {
@@ -266,6 +281,7 @@ pub fn respond_trusts<F: Files>(
         now,
         empty_principals,
         rsa_minimum,
+        form,
     };
     let response = ask_key(alloc, &host, key, names, files)?;
     Ok(response)

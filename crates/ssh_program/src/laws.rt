@@ -24,6 +24,7 @@ ghost use Rattle.ssh_text.specs.Text.{lines_of};
 ghost use Rattle.ssh_print.specs.Denials.{HoldsAnother};
 ghost use Rattle.ssh_print.specs.PossibleLines.{sought_blob};
 ghost use Rattle.ssh_program.specs.Admissions.{status_by};
+ghost use Rattle.ssh_review.specs.declared.end.Form.{Form};
 ghost use Rattle.ssh_program.specs.Keys.{login_asking};
 ghost use Rattle.ssh_trust.specs.declared.decision.Decision.{Decision as DecisionValue};
 ghost use Rattle.ssh_program.specs.FileSamples.{FaultsInOrder, HashFaultsInOrder, RewriteKinds, SignatureFaultsInOrder, TrustFilesLeft, VouchFilesTold, VouchFilesWritten};
@@ -73,10 +74,10 @@ fn granted_rule()
 /// Where `admits` answers status 1 to a file, every line of it that cannot be read holds another key
 /// where sshd looks for one.
 fn denied_rule()
-    ensures { (q : Login) (claim : LoginClaim) (evidence : List Signed) (name file line : List ℕ)
-        (i : ℕ) (cause : LineCause)
+    ensures { (form : Form) (q : Login) (claim : LoginClaim) (evidence : List Signed)
+        (name file line : List ℕ) (i : ℕ) (cause : LineCause)
         → login_claim q ≡ Ok claim
-        → status_by (login_asking q) evidence name file ≡ 1
+        → status_by (login_asking form q) evidence name file ≡ 1
         → slice_get (lines_of file) i ≡ Some line
         → auth_line line ≡ Unreadable cause
         → HoldsAnother line (sought_blob claim) }

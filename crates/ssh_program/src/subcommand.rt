@@ -86,7 +86,7 @@ const REWRITE: [OptionRow; 2] = [(ArgName::Kind, Required), (ArgName::File, Requ
 
 const HASH: [OptionRow; 2] = [(ArgName::File, Required), (ArgName::Salts, Required)];
 
-const ADMITS: [OptionRow; 8] = [
+const ADMITS: [OptionRow; 9] = [
     (ArgName::Key, Required),
     (ArgName::User, Required),
     (ArgName::Address, Required),
@@ -95,15 +95,17 @@ const ADMITS: [OptionRow; 8] = [
     (ArgName::Zone, Optional),
     (ArgName::EmptyPrincipals, Optional),
     (ArgName::RsaMinimum, Optional),
+    (ArgName::Form, Optional),
 ];
 
-const TRUSTS: [OptionRow; 6] = [
+const TRUSTS: [OptionRow; 7] = [
     (ArgName::Key, Required),
     (ArgName::Host, Required),
     (ArgName::Now, Required),
     (ArgName::Port, Optional),
     (ArgName::EmptyPrincipals, Optional),
     (ArgName::RsaMinimum, Optional),
+    (ArgName::Form, Optional),
 ];
 
 const REVIEW: [OptionRow; 6] = [

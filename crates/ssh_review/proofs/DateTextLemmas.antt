@@ -1,6 +1,6 @@
 -- The date of a moment is printable.
 use Rattle.ssh_review.proofs.Imports.{◌≡◌, ℕ, suc, ◌+◌, ◌/◌, ◌%◌, ◌<◌, nat_le, Bool, true, false, [], ◌∷◌, refl, arith, ℤ, pos, negsuc, None, codes, and_from, leb-true, DateTime, IsYear, Date, Time, days_in_month_bounds, signed_arith, date_text, pad2, pad4, time_text, year_text, clock_text, last_second, clock_at, clock_at-whole, date_by, moment_date, moment_text}
-use Rattle.ssh_review.specs.Dates.{date_of}
+use Rattle.ssh_print.specs.Dates.{date_of}
 use Rattle.ssh_review.proofs.PrintableLemmas.{ArePrintable, join, signed-printable, within, word}
 
 two-printable : (n : ℕ) → n < 100 → ArePrintable (pad2 n)

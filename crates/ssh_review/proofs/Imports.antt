@@ -4,7 +4,6 @@ pub use Rattle.base64.proofs.RoundTrip.{length-encode_symbols}
 pub use Rattle.base64.specs.Engines.{standard}
 pub use Rattle.base64.specs.GeneralPurpose.{encode_of}
 pub use Rattle.base64.specs.Rfc4648.{padding_len}
-pub use Rattle.jiff.proofs.Family.{same_datetime}
 pub use Rattle.jiff.specs.Types.{TimeZone, DateTime}
 pub use Rattle.jiff_core.proofs.CalendarLemmas.{days_in_month_bounds}
 pub use Rattle.jiff_core.proofs.SignedLemmas.{signed_arith}
@@ -95,11 +94,12 @@ pub use Rattle.ssh_options.specs.declared.option.ValueName.TheVariants.{Command,
 pub use Rattle.ssh_options.specs.declared.option_text.LineCause.{LineCause}
 pub use Rattle.ssh_print.specs.Codes.{key_codes, wire_code}
 pub use Rattle.ssh_print.specs.DecisionText.{carried_word, right_word, right_words}
-pub use Rattle.ssh_print.specs.ShownTexts.{clock_text, last_second, IsDateText}
+pub use Rattle.ssh_print.specs.ShownTexts.{clock_text, last_second}
 pub use Rattle.ssh_print.specs.Strings.{quoted_byte}
 pub use Rattle.ssh_print.specs.Texts.{escaped_text, escaped_byte, hex_digit, hex_pair, hex_text, is_plain_byte}
+pub use Rattle.ssh_review.specs.AnswerObjects.{carried_element, note_element, reason_element}
 pub use Rattle.ssh_review.specs.Counting.{plus, no_counts}
-pub use Rattle.ssh_review.specs.Dates.{clock_at, date_by, clock_at-whole, moment_date, moment_text}
+pub use Rattle.ssh_print.specs.Dates.{clock_at, date_by, clock_at-whole, moment_date, moment_text}
 pub use Rattle.ssh_review.specs.Ends.{fault_code, count_text, counts_text}
 pub use Rattle.ssh_review.specs.Fields.{number_field, field_name, moment_or_null, null_field, number_or_null, text_field, text_or_null}
 pub use Rattle.ssh_review.specs.FindingRows.{FindingRow, auth_row, host_refusal, host_row}

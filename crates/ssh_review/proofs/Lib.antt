@@ -1,12 +1,11 @@
 pub mod Imports
 pub mod Appended
-pub mod DateLemmas
+pub mod DateTextLemmas
 pub mod LineLemmas
 pub mod StepLemmas
 pub mod ByteLemmas
 pub mod MemoryLemmas
 pub mod DigestLemmas
-pub mod DateTextLemmas
 pub mod ShownLemmas
 pub mod TextLemmas
 pub mod EndLemmas

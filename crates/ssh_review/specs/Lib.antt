@@ -1,4 +1,3 @@
-pub mod Dates
 pub mod Counting
 pub mod Records
 pub mod Ends
@@ -14,6 +13,7 @@ pub mod Findings
 pub mod OptionsText
 pub mod RightsWords
 pub mod Objects
+pub mod AnswerObjects
 pub mod OneLine
 pub mod HostRecords
 pub mod HostObjects

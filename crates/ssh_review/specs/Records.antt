@@ -13,7 +13,7 @@ use Rattle.ssh_findings.specs.declared.facts.Facts.{Facts}
 use Rattle.ssh_findings.specs.declared.finding.Finding.{Finding}
 use Rattle.ssh_findings.specs.declared.recovered_key.HeldKey.{HeldKey}
 use Rattle.ssh_review.specs.RightsWords.{rights_words}
-use Rattle.ssh_review.specs.Dates.{moment_text}
+use Rattle.ssh_print.specs.Dates.{moment_text}
 use Rattle.ssh_review.specs.Findings.{finding_line}
 
 -- the name of the file and the number of the line

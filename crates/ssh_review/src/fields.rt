@@ -1,8 +1,7 @@
-//! Fields of JSON objects; and the dates, fingerprints, rights and options in records.
+//! Fields of JSON objects; and the fingerprints, rights and options in records.
 
 ghost use Rattle.std.specs.Prelude.{◌≡◌, ◌++◌, OnOk, codes, IfOk, ◌==◌, ◌∷◌, []};
 ghost use Rattle.ssh_review.specs.Fields.{field_name, moment_or_null, null_field, number_field, number_or_null, text_field, text_or_null};
-ghost use Rattle.ssh_review.specs.Dates.{date_of, moment_date, moment_text};
 ghost use Rattle.ssh_review.specs.HostRecords.{print_of};
 ghost use Rattle.ssh_print.specs.DecisionText.{right_word, right_words};
 ghost use Rattle.ssh_review.specs.RightsWords.{rights_words, without_space};
@@ -15,12 +14,13 @@ ghost use Rattle.ssh_review.specs.OptionsText.{options_text};
 use sha2::{Digest, Sha256};
 use ssh_keys::digest_text;
 use ssh_options::{OptionView, OptionsView, ValueBytes, ValueView};
-use ssh_print::{date_text, push_json_text, push_number};
+use ssh_print::{push_json_text, push_number};
 use ssh_rights::Rights;
 use ssh_text::Bytes;
 use std::alloc::{AllocError, Global};
 
-fn push_field_name(out: &mut Vec<u8>, name: &[u8]) -> Result<(), AllocError>
+/// Appends the name of a field, after a comma.
+pub(crate) fn push_field_name(out: &mut Vec<u8>, name: &[u8]) -> Result<(), AllocError>
     ensures { OnOk result (out.new.items ≡ out.old.items ++ field_name name.now) }
 {
     out.extend_from_slice(b",\"")?;
@@ -126,36 +126,6 @@ pub(crate) fn push_moment_or_null(
         }
         None => push_null_field(out, name),
     }
-}
-
-/// The date in UTC of a moment that is not before 1970.
-fn date(alloc: Global, moment: u64) -> Result<Vec<u8>, AllocError>
-    ensures { IfOk result (λ text. text.items ≡ date_of moment) }
-{
-    let text = date_text(alloc, moment)?;
-    Ok(text)
-}
-
-/// The date of a moment in UTC; `-` before 1970 and after 9999.
-fn moment_date(alloc: Global, moment: i64) -> Result<Vec<u8>, AllocError>
-    ensures { IfOk result (λ text. text.items ≡ moment_date moment) }
-{
-    match u64::try_from(moment) {
-        Ok(moment) => date(alloc, moment),
-        Err(_) => Vec::from_slice(alloc, b"-"),
-    }
-}
-
-/// A moment in seconds since 1970-01-01 in UTC, and its date.
-pub(crate) fn moment_text(alloc: Global, moment: i64) -> Result<Vec<u8>, AllocError>
-    ensures { IfOk result (λ text. text.items ≡ moment_text moment) }
-{
-    let number = moment.to_string(alloc)?;
-    let date = moment_date(alloc, moment)?;
-    let mut text = Vec::from_slice(alloc, number.as_bytes())?;
-    text.push(b' ')?;
-    text.extend_from_slice(&date)?;
-    Ok(text)
 }
 
 /// The SHA-256 of some bytes in base64 without padding, as `ssh-keygen -l` prints it after

@@ -101,7 +101,12 @@ fn push_options_field(
     push_text_field(alloc, out, b"options", &text)
 }
 
-fn push_rights_field(alloc: Global, out: &mut Vec<u8>, rights: &Rights) -> Result<(), AllocError>
+/// Appends the rights that are on.
+pub(crate) fn push_rights_field(
+    alloc: Global,
+    out: &mut Vec<u8>,
+    rights: &Rights,
+) -> Result<(), AllocError>
     ensures { OnOk result (out.new.items ≡ out.old.items ++ rights_field rights.now) }
 {
     let mut words = Vec::new(alloc);

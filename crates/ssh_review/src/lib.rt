@@ -35,6 +35,7 @@
 //! review lists.
 #![tactic(auto)]
 
+mod answer_json;
 mod auth_review;
 mod decision_laws;
 mod end;
@@ -48,6 +49,7 @@ mod laws;
 mod record;
 mod table;
 
+pub use answer_json::{answer_object, answer_total};
 pub use auth_review::{review_auth, review_fault, total_line};
 pub use end::{Counts, FileFault, Form, Reviewed, Total};
 pub use host_review::review_known;

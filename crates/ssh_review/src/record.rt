@@ -5,12 +5,12 @@ ghost use Rattle.std.specs.List.{flat_map};
 ghost use Rattle.ssh_print.specs.DecisionText.{carried_word};
 ghost use Rattle.ssh_review.specs.Records.{bits_text, carried_inset, comment_text, entry_head, entry_text, fingerprint_word, flag_line, held_words, key_words, limit_lines, place_text, right_lines, rights_inset, role_word, setting_line, unreadable_text, until_line};
 
-use crate::fields::{moment_text, push_rights_words};
+use crate::fields::push_rights_words;
 use crate::findings::push_findings;
 use crate::json_record::LineRef;
 use ssh_findings::{Facts, Finding, HeldKey};
 use ssh_keys::KeyKind;
-use ssh_print::{push_number, push_shown, push_text_line, push_word_line};
+use ssh_print::{moment_text, push_number, push_shown, push_text_line, push_word_line};
 use ssh_rights::{Carried, CarriedName, Rights};
 use ssh_text::Bytes;
 use std::alloc::{AllocError, Global};

@@ -1,6 +1,8 @@
 -- A date text is the date of its moment.
-use Rattle.ssh_review.proofs.Imports.{◌≡◌, ◌∙◌, ℕ, nat_le, Bool, true, false, List, refl, sym, ap, inl, inr, arith, leb-true, leb-false, same_datetime, IsDateText, clock_text, last_second, clock_at, date_by}
-use Rattle.ssh_review.specs.Dates.{date_of}
+use Rattle.ssh_print.proofs.Imports.{◌≡◌, ◌∙◌, ℕ, nat_le, Bool, true, false, List, refl, sym, ap, inl, inr, arith, same_datetime, IsDateText, clock_text}
+use Rattle.std.proofs.lemmas.Bool.{leb-true, leb-false}
+use Rattle.ssh_print.specs.ShownTexts.{last_second}
+use Rattle.ssh_print.specs.Dates.{clock_at, date_by, date_of}
 
 by-is : (moment : ℕ) (text : List ℕ) (b : Bool) (e : nat_le moment last_second ≡ b) → IsDateText moment text → text ≡ date_by moment b e
 by-is moment text true e (inl x) = absurd (omega (arith, x.0, leb-true moment last_second e))
