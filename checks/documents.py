@@ -14,7 +14,7 @@ What would prove for an hour, or install into the system, is stood in for by sta
 the real ones would, and each has to be called that the document names. The environment is a bare one, as that of cron:
 USER and LOGNAME are not set, and HOME is a made-up user's.
 
-Needs bash, ssh-keygen, openssl 3 and the built program. A table `| Option of `NAME` | ..` has a row for each option of that
+Needs bash, ssh-keygen, openssl 3, git, dpkg-deb and the built program. A table `| Option of `NAME` | ..` has a row for each option of that
 subcommand in the order of the code, and its last cell says "needed" of exactly those that may not be left out. The last line is 'N passed, M failed';
 the status is 0 where nothing failed."""
 import os
@@ -29,7 +29,7 @@ TOP = HERE.parent
 PROGRAM = pathlib.Path(sys.argv[1] if len(sys.argv) > 1 else TOP / "crates" / "ssh_audit" / "out" / "ssh_audit").resolve()
 STAND_INS = HERE / "stand_ins"
 # The documents, each with the stand-ins that its commands call. Where `rt run` is one, it leaves the program in its place.
-DOCUMENTS = {"README.md": {"rt try", "rt run", "rt all", ".ci/run", "sudo install"}, "docs/MANUAL.md": set()}
+DOCUMENTS = {"README.md": {"rt try", "rt run", "rt all", ".ci/run", "sudo dpkg"}, "docs/MANUAL.md": set()}
 BLOCK = re.compile(r"^```(\S*)\n(.*?)^```$", re.MULTILINE | re.DOTALL)
 CODE = TOP / "crates" / "ssh_program" / "src"
 TABLE = re.compile(r"^\| Option of `(\w+)` \|.*\n\|[-|]*\|\n((?:\|.*\n)*)", re.MULTILINE)
@@ -72,7 +72,10 @@ def repository(room, built):
     (crate / "out").mkdir(parents=True)
     (top / ".ci").mkdir()
     (top / ".ci" / "run").symlink_to(STAND_INS / "ci_run")
-    for path in ("crates.txt", "docs", "examples", "crates/ssh_audit/stdin", "crates/ssh_audit/stdout"):
+    # A folder of its own, for packages are left in it.
+    (top / "packaging").mkdir()
+    packaging = (str(path.relative_to(TOP)) for path in (TOP / "packaging").iterdir() if path.is_file())
+    for path in (".git", "README.md", "crates.txt", "docs", "examples", "bench", *packaging, "crates/ssh_audit/stdin", "crates/ssh_audit/stdout"):
         (top / path).symlink_to(TOP / path)
     if built:
         (crate / "out" / "ssh_audit").symlink_to(PROGRAM)
@@ -92,7 +95,7 @@ def settings(room, top):
     """The environment that the commands run in."""
     kept = {name: value for name, value in os.environ.items() if name not in ("USER", "LOGNAME")}
     prefix = room / "prefix"
-    path = f"{STAND_INS}:{prefix}/usr/local/bin:{os.environ['PATH']}"
+    path = f"{STAND_INS}:{prefix}/usr/bin:{os.environ['PATH']}"
     own = {"REPOSITORY": top, "PREFIX": prefix, "CALLED": room / "called", "SSH_AUDIT": PROGRAM}
     return {**kept, "TMPDIR": str(room), "HOME": str(home(room)), "PATH": path, **{name: str(value) for name, value in own.items()}}
 

@@ -6,17 +6,18 @@ usage: program.py [PROGRAM] [--after LOG]
 PROGRAM is crates/ssh_audit/out/ssh_audit where it is left out. After its own rows it starts the checks beside it:
 help.py (what goes to standard error), worked.py (worked rows of the whole command), examples.py (keys, certificates
 and signatures of ssh-keygen and openssl through examples/), documents.py (the commands of README.md and
-docs/MANUAL.md as they stand), review.py (reviews of random files), openssh.py (what docs/OPENSSH_DIFFERENCES.md says, asked of a real sshd and ssh, and whether whoever they
+docs/MANUAL.md as they stand), packaging.py (packages: made, installed into a folder, used and removed), review.py (reviews
+of random files), openssh.py (what docs/OPENSSH_DIFFERENCES.md says, asked of a real sshd and ssh, and whether whoever they
 let in is shown), recipes.py (the commands of docs/RECIPES.md), codes.py (whether each printed code is in a row),
-explained.py (whether docs/CODES.md says what the source's table says), manual_page.py (whether docs/ssh_audit.1 is made of
-the sources), closure.py (how much a reviewer has to read), memory_calls.py (whether each call that takes memory is in the
-table of growths/calls.md), edits.py (whether each wrong edit can be applied), sentences.py (whether the sentences of the
-documents are short), refused_growth.py (each growth of memory refused in turn), cut_vectors.py (worked blobs, cut) and
-hostile.py (input that was made to hurt). With --after, as .ci/run starts it, library_rows.py (worked rows of the libraries),
-refused_calls.py (each growth of memory of the libraries' calls refused in turn) and sanitized.py (random bytes under
-AddressSanitizer) run too, which need the kit's `rt`, and the counts in the last line of LOG, what `rt ci` printed, are
-added. The last line is 'N passed, M failed' for all of them. The status is 0 where nothing failed. What cannot run has
-failed.
+explained.py (whether docs/CODES.md says what the source's table says), manual_page.py and completion.py (whether
+docs/ssh_audit.1 and the completions are made of the sources), closure.py (how much a reviewer has to read),
+memory_calls.py (whether each call that takes memory is in the table of growths/calls.md), edits.py (whether each wrong edit
+can be applied), sentences.py (whether the sentences of the documents are short), refused_growth.py (each growth of memory
+refused in turn), cut_vectors.py (worked blobs, cut) and hostile.py (input that was made to hurt). With --after, as .ci/run
+starts it, library_rows.py (worked rows of the libraries), refused_calls.py (each growth of memory of the libraries' calls
+refused in turn) and sanitized.py (random bytes under AddressSanitizer) run too, which need the kit's `rt`, and the counts in
+the last line of LOG, what `rt ci` printed, are added. The last line is 'N passed, M failed' for all of them. The status is 0
+where nothing failed. What cannot run has failed; but without dpkg-deb nothing of packaging.py is counted.
 
 Needs ssh and ssh-keygen (Debian: openssh-client), sshd (openssh-server), openssl 3, gcc, jq, git, /dev/full, and the built
 program. It takes some ten minutes, without --after.
@@ -46,6 +47,8 @@ from rewrite import kind_of, loosened
 CRATE = HERE.parent / "crates" / "ssh_audit"
 NEEDS = {"ssh-keygen": "openssh-client", "sshd": "openssh-server", "openssl": "openssl", "gcc": "gcc", "jq": "jq"}
 COUNTS = re.compile(r"(\d+) passed, (\d+) failed")
+# What a check says that it did not try.
+MISSING = re.compile(r"^\S+ is missing.*\n", re.MULTILINE)
 SECONDS = 60
 FILE_LIMIT = inputs.FILE_LIMIT
 
@@ -783,6 +786,8 @@ def other_check(name, tally, *arguments):
     if ran.returncode or failed:
         failed = failed or 1
         print(f"FAILED {name}\n{ran.stdout}", flush=True)
+    else:
+        print(*MISSING.findall(ran.stdout), sep="", end="")
     tally.passed += passed
     tally.failed += failed
     print(f"{name}: {passed} passed, {failed} failed", flush=True)
@@ -821,7 +826,7 @@ def try_all(path, tally):
             except (OSError, subprocess.SubprocessError) as error:
                 tally.check(row.__name__, repr(error), "no error")
     print(f"program.py itself: {tally.passed} passed, {tally.failed} failed", flush=True)
-    for name in ("help.py", "worked.py", "examples.py", "documents.py", "review.py", "recipes.py", "refused_growth.py", "cut_vectors.py", "hostile.py"):
+    for name in ("help.py", "worked.py", "examples.py", "documents.py", "packaging.py", "review.py", "recipes.py", "refused_growth.py", "cut_vectors.py", "hostile.py"):
         other_check(name, tally, path)
     other_check("openssh.py", tally, "--audit", path)
 
@@ -833,7 +838,7 @@ def main():
     asked = parser.parse_args()
     tally = Tally()
     try_all(asked.program.resolve(), tally)
-    for name in ("codes.py", "explained.py", "manual_page.py", "closure.py", "memory_calls.py", "edits.py", "sentences.py"):
+    for name in ("codes.py", "explained.py", "manual_page.py", "completion.py", "closure.py", "memory_calls.py", "edits.py", "sentences.py"):
         other_check(name, tally)
     if asked.after is not None:
         for name in ("library_rows.py", "refused_calls.py", "sanitized.py"):
