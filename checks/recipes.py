@@ -6,9 +6,11 @@ usage: recipes.py [PROGRAM]
 
 Each section of the page has one block marked `sh`; all of them run in one shell, in their order, in a folder with the files
 of two quarters. The files of one machine are those of made-up accounts, by a configuration that the real sshd reads (which
-wants /run/sshd: it is made where it is missing). The gate is tried on a git repository. Needs bash, jq, git, ssh-keygen,
-sshd and the built program. The last line is 'N passed, M failed'; the status is 0 where nothing failed."""
+wants /run/sshd: it is made where it is missing). The gate and the hook are tried on git repositories. Needs bash, jq, git,
+ssh-keygen, sshd, openssl 3 and the built program. What wants sqlite3, ansible-playbook or systemd-analyze is left out where
+that is missing, which a line says. The last line is 'N passed, M failed'; the status is 0 where nothing failed."""
 import hashlib
+import json
 import os
 import pathlib
 import re
@@ -18,18 +20,22 @@ import sys
 import tempfile
 
 sys.dont_write_bytecode = True
+import keys_in_git
 import program
 from program import Tally
 
 HERE = pathlib.Path(__file__).resolve().parent
 PAGE = HERE.parent / "docs" / "RECIPES.md"
+EXAMPLES = HERE.parent / "examples"
+# What a section needs that is not on every machine.
+NEEDS = {"The same in SQLite": "sqlite3", "From many machines": "ansible-playbook"}
 SECTION = re.compile(r"^## (.*)\n((?:(?!^## ).*\n)*)", re.MULTILINE)
 BLOCK = re.compile(r"^```sh\n(.*?)^```$", re.MULTILINE | re.DOTALL)
 MARK = "\x1e"
 LIST = "The list of a quarter"
 WEB, DB = "fleet/web1/ann/authorized_keys", "fleet/db1/root/authorized_keys2"
 WEB_HOSTS, DB_HOSTS = "fleet/web1/ann/known_hosts", "fleet/db1/root/known_hosts2"
-EVERY = "port agent x11 pty rc"
+EVERY = keys_in_git.EVERY
 NAMES = ("laptop", "backup", "build", "bob", "ca", "carol", "ci", "work", "old")
 # 2026-02-02 and 2026-04-24, in UTC.
 FIRST, SECOND = "1770000000", "1777000000"
@@ -164,10 +170,25 @@ def write_machine(room, lines):
     os.makedirs("/run/sshd", exist_ok=True)
 
 
+def machine_settings(room):
+    """The settings of that machine which may let in without a file."""
+    return f"authorizedkeyscommand /usr/bin/keys %u none\nauthorizedkeyscommand none\ntrustedusercakeys {room}/authorities\ntrustedusercakeys none\n"
+
+
+def machine_files(room):
+    """The files that sshd reads on that machine."""
+    return sorted((str(room / file) for file in [*MACHINE][:-2]), key=os.fsencode)
+
+
+def machine_list(room, marks):
+    """The list that is kept of that machine."""
+    rows = [(file, "key", marks[key], EVERY, "", TOLD[key], "") for file in machine_files(room) for key in [MACHINE[os.path.relpath(file, room)]]]
+    return "".join(sorted([*machine_settings(room).splitlines(True), *table(rows).splitlines(True)]))
+
+
 def machine_review(room, marks):
     """What is printed of that machine: the settings, and the review of the files that sshd reads."""
-    files = sorted((str(room / file) for file in [*MACHINE][:-2]), key=os.fsencode)
-    text = f"authorizedkeyscommand /usr/bin/keys %u none\nauthorizedkeyscommand none\ntrustedusercakeys {room}/authorities\ntrustedusercakeys none\n"
+    files, text = machine_files(room), machine_settings(room)
     for file in files:
         key = MACHINE[os.path.relpath(file, room)]
         mark = hashlib.sha256(pathlib.Path(file).read_bytes()).hexdigest()
@@ -183,6 +204,14 @@ def table(rows):
 
 def changes(rows, marks):
     return table((file, what, marks[key], rights, options, TOLD[key]) for file, what, key, rights, options in rows)
+
+
+def in_sqlite(marks):
+    """What SQLite prints of both quarters: a line that has expired is no access."""
+    told = lambda rows: "".join("\t".join(row) + "\n" for row in sorted((file, what, marks[key], rights, options, TOLD[key]) for file, what, key, rights, options in rows))
+    counts = "".join(f"{code}\t1\t0\n" for code in ("F1", "F4", "F5", "F6", "F9"))
+    text = f"not read:\ngone or changed:\n{told(row for row in GONE if row[2] != 'bob')}new or changed:\n{told(NEW)}"
+    return f"{text}of nobody:\n{marks['ci']}\t{DB}\nfindings of both quarters:\n{counts}somebody|2\n"
 
 
 def csv_cell(value):
@@ -203,9 +232,12 @@ def wanted(room, marks):
     counts = "".join(f"      1 {code}\n" for code in ("F1", "F4", "F5", "F6", "F9"))
     return {
         "Which files count": machine_review(room, marks),
+        "What changed on one machine": f"gone or changed:\nnew or changed:\n{machine_list(room, marks)}",
         LIST: "",
+        "From many machines": "",
         "Who has access": table(access),
         "What changed since the last quarter": "gone or changed:\n" + changes(GONE, marks) + "new or changed:\n" + changes(NEW, marks),
+        "The same in SQLite": in_sqlite(marks),
         "Where one key stands": f"{DB}:1\n{WEB}:3\n",
         "Keys on many hosts": marks["backup"] + "\n",
         "Keys that nobody used": table([marks[key]] for key in unused),
@@ -215,6 +247,7 @@ def wanted(room, marks):
         "What hosts are known by": "db\tssh-ed25519\n",
         "A table for a spreadsheet": "".join(csv(marks)),
         "A gate on a repository of keys": "",
+        "A list that is signed": f"evidence 0: good\nvouched\n{marks['laptop']}\n",
     }
 
 
@@ -235,6 +268,10 @@ def recipe_rows(room, tally, settings, lines, marks):
     """The list of the first quarter is made by the page's own command; then all blocks run over the second quarter."""
     found, expected = sections(), wanted(room, marks)
     tally.check("each section has one block, and an expected text", [(title, len(blocks)) for title, blocks in found], [(title, 1) for title in expected])
+    for title, need in NEEDS.items():
+        if not shutil.which(need):
+            print(f"{need} is missing: 1 rows were skipped ({title})")
+    found = [section for section in found if shutil.which(NEEDS.get(section[0], "bash"))]
     blocks = [blocks[0] for _, blocks in found]
     write_quarter(room, 0, lines)
     run_blocks(room, [block for (title, _), block in zip(found, blocks) if title == LIST], {**settings, "NOW": FIRST})
@@ -247,67 +284,59 @@ def recipe_rows(room, tally, settings, lines, marks):
         tally.check(title, (printed, status), (expected.get(title), "0"))
 
 
-def machine_rows(room, tally, settings):
-    """A configuration that sshd refuses: the list is not taken for the whole."""
-    ran = subprocess.run(["bash", "trust_files.sh"], cwd=room, env={**settings, "SSHD_CONFIG": "missing"}, stdout=subprocess.PIPE, stderr=subprocess.DEVNULL, check=False)
+def machine_rows(room, tally, settings, lines, marks):
+    """One machine again: nothing changed, a key more, and a configuration that sshd refuses, which changes nothing kept."""
+    refused = {**settings, "SSHD_CONFIG": "missing"}
+    ran = subprocess.run([EXAMPLES / "trust_files.sh"], cwd=room, env=refused, stdout=subprocess.PIPE, stderr=subprocess.DEVNULL, check=False)
     tally.check("the files of a machine whose sshd does not answer", (ran.returncode != 0, ran.stdout), (True, b""))
+    kept = lambda: (room / "kept" / "access.tsv").read_text()
+    again = lambda given: review_machine(room, {**given, "NOW": SECOND})
+    tally.check("one machine again", (again(settings), kept()), ((0, ""), machine_list(room, marks)))
+    ann = room / "home/ann/.ssh/authorized_keys"
+    with ann.open("a") as file:
+        file.write(f"restrict {lines['ci']}\n")
+    row = "\t".join((str(ann), "key", marks["ci"], "none", "restrict", TOLD["ci"], "")) + "\n"
+    tally.check("one machine whose sshd does not answer", (again(refused)[0], kept()), (2, machine_list(room, marks)))
+    tally.check("one machine with a key more", again(settings), (1, f"gone or changed:\nnew or changed:\n{row}"))
+    tally.check("one machine with that key again", again(settings), (0, ""))
+    (room / "home/ann/.ssh/authorized_keys2").unlink()
+    (room / "home/ann/.ssh/authorized_keys2").mkdir()
+    before = kept()
+    tally.check("one machine with a file that cannot be read", (again(settings), kept()), ((2, ""), before))
 
 
-def git(repository, *words):
-    settings = {**os.environ, "GIT_CONFIG_GLOBAL": os.devnull, "GIT_CONFIG_SYSTEM": os.devnull}
-    names = ["-c", "user.name=x", "-c", "user.email=x@example", "-c", "init.defaultBranch=main"]
-    return subprocess.run(["git", *names, *words], cwd=repository, env=settings, stdout=subprocess.PIPE, stderr=subprocess.STDOUT, check=True).stdout
+def review_machine(room, settings):
+    ran = subprocess.run([EXAMPLES / "review_machine.sh", "kept"], cwd=room, env=settings, stdin=subprocess.DEVNULL, stdout=subprocess.PIPE, stderr=subprocess.DEVNULL, check=False)
+    return ran.returncode, ran.stdout.decode()
 
 
-def gate(room, repository, settings):
-    """The status, and what stands below the line that begins the list of access; all of it where there is none."""
-    ran = subprocess.run([room / "gate.sh", "HEAD"], cwd=repository, env={**settings, "NOW": SECOND}, stdin=subprocess.DEVNULL, stdout=subprocess.PIPE, stderr=subprocess.PIPE, check=False)
-    text = ran.stdout.decode()
-    return ran.returncode, text.partition("access that this change adds or changes:\n")[2]
+def unit_rows(room, tally):
+    """systemd reads the two units. They are not run."""
+    if not shutil.which("systemd-analyze"):
+        print("systemd-analyze is missing: 1 rows were skipped (the units)")
+        return
+    names = ["ssh-audit-review.service", "ssh-audit-review.timer"]
+    for name in names:
+        # The script is not installed here.
+        (room / name).write_text((EXAMPLES / name).read_text().replace("/usr/local/sbin/review_machine.sh", str(EXAMPLES / "review_machine.sh")))
+    ran = subprocess.run(["systemd-analyze", "verify", "--man=no", *(room / name for name in names)], stdin=subprocess.DEVNULL, stdout=subprocess.PIPE, stderr=subprocess.STDOUT, check=False)
+    tally.check("systemd-analyze verify", (ran.returncode, ran.stdout.decode()), (0, ""))
 
 
-def gate_rows(room, tally, settings, lines, marks):
-    """Changes to a repository of keys: none, a key more, a key less, a wider line, one to mend, a file that cannot be read."""
-    repository = room / "repository"
-    (repository / "keys").mkdir(parents=True)
-    ann = repository / "keys" / "ann"
-    limited = f'from="10.0.0.0/8",restrict {lines["backup"]}\n'
-    ann.write_text(f"{lines['laptop']}\n{limited}")
-    git(repository, "init", "-q")
-    git(repository, "add", "keys")
-    git(repository, "commit", "-qm", "keys")
-    row = lambda file, key, rights, options: "\t".join((file, "key", marks[key], rights, options, TOLD[key])) + "\n"
-    for what, text, wanted_answer in (
-        ("no change", f"{lines['laptop']}\n{limited}", (0, "")),
-        ("another order, blanks, a comment", f"# c\n{limited.replace(' ', '   ', 1)}\n{lines['laptop']}\n", (0, "")),
-        ("a key less", limited, (0, "")),
-        ("a key more", f"{lines['laptop']}\n{limited}{lines['ci']}\n", (1, row("keys/ann", "ci", EVERY, ""))),
-        ("a wider line", f"{lines['laptop']}\nrestrict {lines['backup']}\n", (1, row("keys/ann", "backup", "none", "restrict"))),
-        ("a line to mend and no new access", f"{lines['laptop']}\n{limited}ssh-dss AAAA\n", (1, "")),
-        ("the same key twice", f"{lines['laptop']}\n{limited}restrict {lines['laptop']}\n", (1, "")),
-    ):
-        ann.write_text(text)
-        tally.check(f"gate: {what}", gate(room, repository, settings), wanted_answer)
-    (repository / "keys" / "folder").mkdir()
-    tally.check("gate: a file that cannot be read", gate(room, repository, settings), (2, ""))
-    os.rmdir(repository / "keys" / "folder")
-    for tool in ("jq", "git", "ssh_audit"):
-        # A folder with every tool but one: what is missing does not pass.
-        tools = room / f"without {tool}"
-        tools.mkdir()
-        for name in ("sh", "mktemp", "mkdir", "rm", "tar", "sort", "comm", "cat", "date", "jq", "git"):
-            if name != tool:
-                (tools / name).symlink_to(shutil.which(name))
-        if tool != "ssh_audit":
-            (tools / "ssh_audit").symlink_to(os.path.realpath(room / "bin" / "ssh_audit"))
-        ann.write_text(f"{lines['laptop']}\n{limited}")
-        tally.check(f"gate: no {tool}", gate(room, repository, {**settings, "PATH": str(tools)}), (2, ""))
+def gathered_rows(room, tally):
+    """What Ansible brought of the one machine, as review prints it there, with the host before each file."""
+    if not shutil.which("ansible-playbook"):
+        return
+    records = [json.loads(line) for line in (room / "all.json").read_text().splitlines()]
+    files = machine_files(room)
+    tally.check("what Ansible gathered", [record["file"] for record in records if record["is"] == "end"], [f"lists/web1.json:{file}" for file in files])
+    tally.check("its total", [record["files"] for record in records if record["is"] == "total"], [len(files)])
 
 
 def main():
     path, tally = os.path.abspath(sys.argv[1] if len(sys.argv) > 1 else program.CRATE / "out" / "ssh_audit"), Tally()
     os.environ["PATH"] += ":/usr/sbin"
-    missing = [need for need in ("bash", "jq", "git", "ssh-keygen", "sshd", path) if shutil.which(need) is None]
+    missing = [need for need in ("bash", "jq", "git", "ssh-keygen", "sshd", "openssl", path) if shutil.which(need) is None]
     if missing:
         print(f"{', '.join(missing)} missing: nothing was tried\n0 passed, 1 failed")
         return 1
@@ -316,12 +345,17 @@ def main():
         (room / "bin").mkdir()
         (room / "bin" / "ssh_audit").symlink_to(path)
         settings = {**os.environ, "PATH": f"{room / 'bin'}:{os.environ['PATH']}", "TMPDIR": str(room)}
-        settings["SSHD_CONFIG"] = str(room / "sshd_config")
+        settings.update({"SSHD_CONFIG": str(room / "sshd_config"), "EXAMPLES": str(EXAMPLES), "KEY": str(room / "laptop"), "INVENTORY": str(room / "hosts")})
+        (room / "hosts").write_text("web1 ansible_connection=local ansible_become=false ansible_python_interpreter=auto_silent\n")
         lines, marks = make_keys(room)
         write_machine(room, lines)
         recipe_rows(room, tally, settings, lines, marks)
-        machine_rows(room, tally, settings)
-        gate_rows(room, tally, settings, lines, marks)
+        machine_rows(room, tally, settings, lines, marks)
+        unit_rows(room, tally)
+        gathered_rows(room, tally)
+        row = lambda file, key, rights, options: "\t".join((file, "key", marks[key], rights, options, TOLD[key])) + "\n"
+        keys_in_git.gate_rows(room, tally, {**settings, "NOW": SECOND}, lines, row)
+        keys_in_git.hook_rows(room, tally, {**settings, "NOW": SECOND}, lines)
     print(f"{tally.passed} passed, {tally.failed} failed")
     return 1 if tally.failed else 0
 
