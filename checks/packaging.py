@@ -82,6 +82,13 @@ def built(path, room, tally):
     tally.check("once more into the same folder", digests(bytes_of(first)), digests(bytes_of(second)))
     missing = ran(sys.executable, BUILD, room / "no such program", "--out", room / "third")
     tally.check("no program", (missing[0], (room / "third").exists()), (1, False))
+    tools = room / "tools"
+    tools.mkdir()
+    for name in ("git", "readelf", "gzip"):
+        (tools / name).symlink_to(shutil.which(name))
+    status, printed = ran(sys.executable, BUILD, path, "--out", room / "third", env={"PATH": str(tools)})
+    made = [file.name for file in room.glob("third/*.*")]
+    tally.check("neither dpkg-deb nor rt", (status, printed.splitlines()[0], made), (0, "no dpkg-deb: no .deb is made", [file.name for file in first.glob("*.tar.gz")]))
     return first
 
 
