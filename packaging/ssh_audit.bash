@@ -26,8 +26,8 @@ _ssh_audit() {
     sshsig) options='--body --message --namespace --vouch' ;;
     rewrite) options='--kind --file' ;;
     hash) options='--file --salts' ;;
-    admits) options='--key --user --address --now --host --zone --empty-principals --rsa-minimum' operands=files ;;
-    trusts) options='--key --host --now --port --empty-principals --rsa-minimum' operands=files ;;
+    admits) options='--key --user --address --now --host --zone --empty-principals --rsa-minimum --form' operands=files ;;
+    trusts) options='--key --host --now --port --empty-principals --rsa-minimum --form' operands=files ;;
     review) options='--kind --now --zone --rsa-minimum --findings --form' operands=files ;;
     explain) operands=codes ;;
     esac
@@ -42,6 +42,7 @@ _ssh_audit() {
         *' --user') words='users' ;;
         *' --host') words='hosts' ;;
         *' --empty-principals') words='any never' ;;
+        *' --form') words='text json' ;;
         *' --findings')
             # Codes are joined by commas, and each is named once.
             compopt -o nospace
@@ -54,7 +55,6 @@ _ssh_audit() {
                 [[ ,$before == *,$at,* ]] || words+=" $before$at"
             done
             ;;
-        *' --form') words='text json' ;;
         esac
     elif [[ $given != -- && ($word == -* || -z $operands) ]]; then
         for at in $options --help; do
