@@ -113,7 +113,7 @@ def control_rows(package, path, tally):
     told = {name: ran("dpkg-deb", "-f", package, name)[1].strip() for name in ("Package", "Version", "Depends", "Description", "Architecture")}
     tally.check("the names of the files", sorted(file.name for file in package.parent.iterdir()), sorted(["SHA256SUMS", *(f"{NAME}_{version}_{told['Architecture']}.{end}" for end in ("deb", "tar.gz"))]))
     tally.check("package and version", (told["Package"], told["Version"]), (NAME, version))
-    least = re.fullmatch(r"libc6 \(>= (\d+)\.(\d+)\)", told["Depends"])
+    least = re.search(r"\blibc6 \(>= (\d+)\.(\d+)\)", told["Depends"])
     tally.check("the libc6 that it needs", least and tuple(map(int, least.groups())), wanted_glibc(path))
     tally.check("it is told from Debian's ssh-audit", "not Debian's ssh-audit" in told["Description"], True)
     tally.check("its commit", commit in told["Description"], True)
@@ -176,12 +176,13 @@ def installed(package, path, room, tally):
     settings = {**os.environ, "PATH": f"{os.environ['PATH']}:/usr/sbin:/sbin"}
     dpkg = lambda *words: ran("dpkg", f"--root={root}", f"--log={room / 'dpkg.log'}", "--path-include=/usr/*", *words, env=settings)
     major, minor = wanted_glibc(path)
-    libc = "Package: libc6\nStatus: install ok installed\nArchitecture: {}\nVersion: {}.{}\nMaintainer: none\nDescription: stands for the system's\n"
+    stanza = "Package: {}\nStatus: install ok installed\nArchitecture: {}\nVersion: {}\nMaintainer: none\nDescription: stands for the system's\n\n"
     machine = ran("dpkg-deb", "-f", package, "Architecture")[1].strip()
-    (records / "status").write_text(libc.format(machine, major, minor - 1))
+    others = "".join(stanza.format(name, machine, 1) for name in re.findall(r"[\w-]+(?=,|$)", ran("dpkg-deb", "-f", package, "Depends")[1].strip()))
+    (records / "status").write_text(others + stanza.format("libc6", machine, f"{major}.{minor - 1}"))
     status, printed = dpkg("-i", package)
     tally.check("an older libc6 does not do", (status, "libc6" in printed), (1, True))
-    (records / "status").write_text(libc.format(machine, major, minor))
+    (records / "status").write_text(others + stanza.format("libc6", machine, f"{major}.{minor}"))
     tally.check("dpkg -i", dpkg("-i", package)[0], 0)
     tally.check("dpkg -s", "Status: install ok installed" in dpkg("-s", NAME)[1], True)
     tally.check("dpkg -V", dpkg("-V", NAME), (0, ""))
