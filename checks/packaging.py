@@ -115,6 +115,8 @@ def control_rows(package, path, tally):
     tally.check("package and version", (told["Package"], told["Version"]), (NAME, version))
     least = re.search(r"\blibc6 \(>= (\d+)\.(\d+)\)", told["Depends"])
     tally.check("the libc6 that it needs", least and tuple(map(int, least.groups())), wanted_glibc(path))
+    named = re.search(r"wants glibc (\d+)\.(\d+) or later", (TOP / "docs" / "MANUAL.md").read_text())
+    tally.check("the glibc that MANUAL names", named and tuple(map(int, named.groups())), wanted_glibc(path))
     tally.check("it is told from Debian's ssh-audit", "not Debian's ssh-audit" in told["Description"], True)
     tally.check("its commit", commit in told["Description"], True)
     tally.check("dpkg takes its version", ran("dpkg", "--compare-versions", version, "gt", "1.0.0")[0], 0)
