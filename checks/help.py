@@ -68,6 +68,7 @@ def usage_rows():
     yield "review --kind auth --now 1 --", "ssh_audit: review: no file is named\n" + see("review")
     yield "review --now 1 keys", "ssh_audit: review: --kind is missing\n" + see("review")
     yield "review --kind -- keys", "ssh_audit: --kind has no value\n" + see("review")
+    yield "readable", "ssh_audit: readable: --file is missing\n" + see("readable")
     yield "show --kind key", "ssh_audit: show: --file is missing\n" + see("show")
     yield "show --kind key --file f --port 1", "ssh_audit: show: --port is not an option of show\n" + see("show")
     yield "admits --user ann --now 1 keys", "ssh_audit: admits: --key is missing\n" + see("admits")
@@ -86,6 +87,7 @@ def value_rows():
     given = ["--key", "keys", "--zone", "UTC0", "--user", "ann", "--now", "1"]
     yield ["admits", *given, "--address", "?", "keys"], "fault A6\n", "ssh_audit: fault A6: "
     yield ["trusts", "--key", "keys", "--host", "h", "--now", "1", "--port", "x", "keys"], "fault value port\n", "ssh_audit: --port wants decimal digits"
+    yield ["readable", "--file", "missing"], "fault A9\n", "ssh_audit: fault A9: "
     yield ["explain", "F99"], "fault value code\n", "ssh_audit: explain: a word is no code: "
     yield ["admits", *given, "--address", "192.0.2.1", "missing"], "missing: fault A9\n", "ssh_audit: admits: a file has a fault: "
     yield ["trusts", "--key", "missing", "--host", "h", "--now", "1", "keys"], "fault file missing\n", "ssh_audit: fault file: "

@@ -27,7 +27,7 @@ import time
 
 sys.dont_write_bytecode = True
 import program
-from program import FILES, SSHSIG, SIGNED_MESSAGE, Tally, hash_names, host, login, review, rewrite, show, sshsig
+from program import FILES, SSHSIG, SIGNED_MESSAGE, Tally, hash_names, host, login, readable, review, rewrite, show, sshsig
 from refused_growth import private_body
 
 HERE = pathlib.Path(__file__).resolve().parent
@@ -47,13 +47,15 @@ REVIEWED = re.compile(
     rb"(-:\d+: [ -~]+\n( {4}[ -~]+\n)*)*-: \d+ lines[ -~]+\ntotal: 1 files, 0 faults[ -~]+\n"
     rb"|(\{\"file\":\"-\",[ -~]+\}\n)+\{\"is\":\"total\",[ -~]+\}\n"
 )
+# What `readable` says on standard error of lines.
+LEFT_OUT = re.compile(rb"(ssh_audit: line \d+ left out: (F\d+( [ -~]+)?|application)\n)*")
 # An answer that takes more seconds of processor time is stopped.
 LONGEST = 10
 
 
 def form_of(asked):
     """The form of an answer to these words that is no fault."""
-    forms = {"login": DECISION, "host": DECISION, "sshsig": SIGNATURE, "show": SHOWN, "rewrite": NEW, "hash": NEW, "review": REVIEWED}
+    forms = {"login": DECISION, "host": DECISION, "sshsig": SIGNATURE, "show": SHOWN, "rewrite": NEW, "readable": NEW, "hash": NEW, "review": REVIEWED}
     return forms[asked[0]]
 
 
@@ -67,7 +69,7 @@ def run(path, room, asked, stdin=b"", memory=None):
 def is_defined(asked, answer):
     """Whether the status goes with the text, and the text has a defined form."""
     status, text, errors = answer
-    if errors or status not in (0, 1, 2):
+    if not (LEFT_OUT.fullmatch(errors) if asked[0] == "readable" else errors == b"") or status not in (0, 1, 2):
         return False
     return bool((FAULT if status == 2 else form_of(asked)).fullmatch(text))
 
@@ -92,6 +94,7 @@ def fifo_rows(path, room, tally):
         (sshsig("body", "message", "fifo"), "fault file fifo\n"),
         (rewrite("auth", "fifo"), "fault A7\n"),
         (rewrite("known", "fifo"), "fault A7\n"),
+        (readable("fifo"), "fault A7\n"),
         (hash_names("fifo", "salts"), "fault A7\n"),
         (hash_names("hosts", "fifo"), "fault file fifo\n"),
         (review("fifo"), "fifo: fault A7\ntotal: 1 files, 1 faults, 0 lines, 0 keys, 0 unreadable, 0 findings\n"),
@@ -211,6 +214,7 @@ def samples():
     yield host("-", "host vouched"), known
     yield rewrite("auth", "-"), lines
     yield rewrite("known", "-"), known
+    yield readable("-"), lines
     yield hash_names("-", "many salts"), known
     yield review("-", findings="all", zone="UTC0"), lines
     yield review("-", findings="all", form="json", zone="UTC0"), lines

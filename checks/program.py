@@ -226,6 +226,10 @@ def rewrite(kind, file):
     return ["rewrite", "--kind", kind, "--file", file]
 
 
+def readable(file):
+    return ["readable", "--file", file]
+
+
 def hash_names(file, salts):
     return ["hash", "--file", file, "--salts", salts]
 
@@ -265,6 +269,7 @@ def rows():
     yield rewrite("known", "loose hosts"), f"h,g ssh-ed25519 {KEY}\n@revoked  *  ssh-ed25519 {KEY}\n", 0
     yield rewrite("auth", "empty"), "", 0
     yield rewrite("hosts", "loose hosts"), "fault value kind\n", 2
+    yield readable("loose keys"), f"pty,restrict ssh-ed25519 {KEY} me\n", 0
     yield hash_names("loose names", "salts"), f"# c\r\n{HASHED_LINES}@revoked  h ssh-ed25519 {KEY}\n", 0
     yield hash_names("empty", "empty"), "", 0
     yield hash_names("loose names", "empty"), "fault A12\n", 2
@@ -338,6 +343,7 @@ def rows():
         yield show("private", name), f"fault file {told}\n", 2, keys
         yield show("sshsig", name), f"fault file {told}\n", 2, SSHSIG
         yield rewrite("auth", name), "fault A9\n", 2, keys
+        yield readable(name), "fault A9\n", 2, keys
         yield hash_names(name, "salts"), "fault A9\n", 2, hosts
         yield hash_names("hosts", name), f"fault file {told}\n", 2, SALTS.encode()
     # files whose reads fail: a folder; the one that is read first is told
@@ -349,6 +355,7 @@ def rows():
     yield host(".", "host vouched"), "fault A9\n", 2, hosts
     yield host("hosts", "."), "fault file .\n", 2
     yield rewrite("known", "."), "fault A9\n", 2, hosts
+    yield readable("."), "fault A9\n", 2, keys
     yield hash_names(".", "salts"), "fault A9\n", 2, hosts
     yield hash_names(".", "."), "fault file .\n", 2, hosts
     yield sshsig(".", "missing"), "fault file .\n", 2
@@ -370,6 +377,7 @@ def rows():
         yield show(kind, "/dev/zero"), "fault file /dev/zero\n", 2
     yield rewrite("auth", "/dev/zero"), "fault A7\n", 2
     yield rewrite("known", "/dev/zero"), "fault A7\n", 2
+    yield readable("/dev/zero"), "fault A7\n", 2
     yield hash_names("/dev/zero", "salts"), "fault A7\n", 2
     yield hash_names("hosts", "/dev/zero"), "fault file /dev/zero\n", 2
     # words
@@ -414,6 +422,7 @@ def input_rows(program, tally):
         (login("keys", "-"), "fault file -\n"),
         (show("key", "-"), "fault file -\n"),
         (rewrite("auth", "-"), "fault A9\n"),
+        (readable("-"), "fault A9\n"),
         (["admits", "--key", "keys", "--user", "ann", "--address", "192.0.2.1", "--now", "150", "-", "-"], 2 * "-: fault A9\n"),
         (["trusts", "--key", "keys", "--host", "h", "--now", "150", "-", "-"], 2 * "-: fault A9\n"),
         (["trusts", "--key", "-", "--host", "h", "--now", "150", "-"], "fault file -\n"),
@@ -434,6 +443,7 @@ def endless_rows(program, tally):
         (host("/dev/stdin"), "fault A7\n", 2),
         (rewrite("auth", "-"), "fault A7\n", 2),
         (rewrite("known", "/dev/stdin"), "fault A7\n", 2),
+        (readable("-"), "fault A7\n", 2),
         (sshsig("body", "-"), "fault file -\n", 2),
         (login("keys", "/dev/stdin"), "fault file /dev/stdin\n", 2),
         (login("keys", "-"), UNVOUCHED, 1),
@@ -727,7 +737,7 @@ def writer_rows(program, tally):
     asked = (
         *(login("keys", "vouched"), login("keys"), host("revoked"), sshsig("body", "message", "file vouched")),
         *(show("key", "keys"), show("cert", "certificate"), show("sshsig", "body")),
-        *(rewrite("auth", "keys"), hash_names("loose names", "salts"), ["frob"]),
+        *(rewrite("auth", "keys"), readable("keys"), hash_names("loose names", "salts"), ["frob"]),
     )
     for words_asked in asked:
         name, wanted = " ".join(words_asked[:3]), (2, HINT if words_asked == ["frob"] else b"")

@@ -6,8 +6,8 @@ usage: recipes.py [PROGRAM]
 
 Each section of the page has one block marked `sh`; all of them run in one shell, in their order, in a folder with the files
 of two quarters. The files of one machine are those of made-up accounts, by a configuration that the real sshd reads (which
-wants /run/sshd: it is made where it is missing). The gate and the hook are tried on git repositories. Needs bash, jq, git,
-ssh-keygen, sshd, openssl 3 and the built program. What wants sqlite3, ansible-playbook or systemd-analyze is left out where
+wants /run/sshd: it is made where it is missing). The gate and the hook are tried on git repositories, and a real sshd is asked with the
+page's own lines of sshd_config. Needs bash, jq, git, ssh, ssh-keygen, sshd, openssl 3 and the built program. What wants sqlite3, ansible-playbook or systemd-analyze is left out where
 that is missing, which a line says. The last line is 'N passed, M failed'; the status is 0 where nothing failed."""
 import hashlib
 import json
@@ -22,6 +22,7 @@ import tempfile
 sys.dont_write_bytecode = True
 import keys_in_git
 import program
+from openssh_servers import ACCOUNT, FROM_FILE, Server, Tools
 from program import Tally
 
 HERE = pathlib.Path(__file__).resolve().parent
@@ -33,6 +34,7 @@ SECTION = re.compile(r"^## (.*)\n((?:(?!^## ).*\n)*)", re.MULTILINE)
 BLOCK = re.compile(r"^```sh\n(.*?)^```$", re.MULTILINE | re.DOTALL)
 MARK = "\x1e"
 LIST = "The list of a quarter"
+KEPT = "A line that cannot be read lets nobody in"
 WEB, DB = "fleet/web1/ann/authorized_keys", "fleet/db1/root/authorized_keys2"
 WEB_HOSTS, DB_HOSTS = "fleet/web1/ann/known_hosts", "fleet/db1/root/known_hosts2"
 EVERY = keys_in_git.EVERY
@@ -246,6 +248,7 @@ def wanted(room, marks):
         "What expires within 30 days": f"{WEB}:5 {marks['bob']} {TOLD['bob']}\n",
         "What hosts are known by": "db\tssh-ed25519\n",
         "A table for a spreadsheet": "".join(csv(marks)),
+        KEPT: "",
         "A gate on a repository of keys": "",
         "A list that is signed": f"evidence 0: good\nvouched\n{marks['laptop']}\n",
     }
@@ -333,10 +336,28 @@ def gathered_rows(room, tally):
     tally.check("its total", [record["files"] for record in records if record["is"] == "total"], [len(files)])
 
 
+def login_rows(room, tally, path, lines):
+    """sshd lets in by a line that cannot be read here; by the page's own lines of its configuration it does not, and the
+    line that can be read lets in all the same."""
+    command = (room / "keys.conf").read_text()
+    for given, own in (("/usr/local/bin/ssh_audit", f"/usr/bin/env {path}"), ("/etc/ssh/keys/%u", "{room}/authorized_keys"), ("nobody", ACCOUNT)):
+        tally.check(f"keys.conf names {given}", command.count(given), 1)
+        command = command.replace(given, own)
+    content = f"restrict,,pty {lines['laptop']}\nprincipals=\"x\" {lines['ci']}\n  Restrict,PTY {lines['backup']}\n".encode()
+    for name, keys, wanted in (("by the file", FROM_FILE, (1, 3)), ("by readable", command, (None, 1))):
+        server = Server(Tools("sshd", "ssh", "ssh-keygen"), room, f"sshd {name}".replace(" ", "-"), [room / "host_key"], keys=keys)
+        try:
+            found = [server.login(content, room / key) for key in ("laptop", "backup")]
+        finally:
+            server.stop()
+        tally.check(f"logins {name}", tuple(login and login.line for login in found), wanted)
+        tally.check(f"rights {name}", found[1] and found[1].rights, frozenset({"pty"}))
+
+
 def main():
     path, tally = os.path.abspath(sys.argv[1] if len(sys.argv) > 1 else program.CRATE / "out" / "ssh_audit"), Tally()
     os.environ["PATH"] += ":/usr/sbin"
-    missing = [need for need in ("bash", "jq", "git", "ssh-keygen", "sshd", "openssl", path) if shutil.which(need) is None]
+    missing = [need for need in ("bash", "jq", "git", "ssh", "ssh-keygen", "sshd", "openssl", path) if shutil.which(need) is None]
     if missing:
         print(f"{', '.join(missing)} missing: nothing was tried\n0 passed, 1 failed")
         return 1
@@ -351,6 +372,7 @@ def main():
         write_machine(room, lines)
         recipe_rows(room, tally, settings, lines, marks)
         machine_rows(room, tally, settings, lines, marks)
+        login_rows(room, tally, path, lines)
         unit_rows(room, tally)
         gathered_rows(room, tally)
         row = lambda file, key, rights, options: "\t".join((file, "key", marks[key], rights, options, TOLD[key])) + "\n"

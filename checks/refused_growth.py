@@ -143,11 +143,12 @@ def body_rows():
 
 
 def rewrite_rows(key):
-    """Files written anew, a long one too; and a kind that is none."""
+    """Files written anew, a long one too; a kind that is none; and the entries that are read alike."""
     words = ["rewrite", "--file", "-", "--kind"]
     yield "rewritten keys", [*words, "auth"], b" PTY,from=\"\\\"\"\t" + key + b" \r\n# x\nfrob"
     yield "rewritten hosts", [*words, "known"], b"h,g  " + key + b"\n@revoked  x\n"
     yield "a long file", [*words, "auth"], 300 * (b"  " + key + b"\n")
+    yield "readable keys", ["readable", "--file", "-"], b"restrict,,pty " + key + b"\ntunnel=\"x\" " + key + b"\nPTY  " + key
     yield "no kind", [*words, "key"], key
 
 

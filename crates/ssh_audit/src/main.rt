@@ -6,14 +6,17 @@
 #![tactic(auto)]
 
 mod front;
+mod kept;
 mod surroundings;
 mod system;
 mod writers;
 
+use kept::KeptFiles;
 use ssh_program::{
-    WordsError, asks_surroundings, defaults_line, fault_guidance, refuse, run, usage_guidance,
-    with_defaults,
+    WordsError, asks_readable, asks_surroundings, defaults_line, fault_guidance, refuse, run,
+    usage_guidance, with_defaults,
 };
+use ssh_review::left_out;
 use std::alloc::{AllocError, Global};
 use std::io::{ErrorKind, Result};
 use std::process::ExitCode;
@@ -31,11 +34,17 @@ fn read_words(rt: &HostRuntime) -> Result<Vec<String<Global>>> {
     Ok(words)
 }
 
+/// The status where all was done.
+const DONE: u8 = 0;
+
 /// The status where there is no answer.
 const FAULT: u8 = 2;
 
 /// What needs nothing but memory.
 type Outcome<T> = std::result::Result<T, AllocError>;
+
+/// The files of the system, whose bytes may be remembered.
+type Source<'a> = KeptFiles<SystemFiles<'a, HostRuntime>>;
 
 /// The writer to standard output.
 type Output<'a> = Watched<Retried<io::Printer<'a, HostRuntime>>>;
@@ -86,11 +95,41 @@ fn tell_guidance(rt: &HostRuntime, words: &[String<Global>], status: u8, writer:
 fn answer(
     rt: &HostRuntime,
     words: &[String<Global>],
-    files: &mut SystemFiles<'_, HostRuntime>,
+    files: &mut Source<'_>,
     writer: &mut Output<'_>,
 ) -> u8 {
     let status = run(rt.alloc(), words, files, writer);
     tell_guidance(rt, words, status, writer);
+    status
+}
+
+/// Prints which lines of a file were left out; where memory is refused for it, that some may be.
+fn tell_left_out(rt: &HostRuntime, file: Option<&[u8]>) {
+    let text = match file {
+        Some(file) => left_out(rt.alloc(), file),
+        None => Err(AllocError),
+    };
+    match text {
+        Ok(text) => tell(rt, &text),
+        Err(AllocError) => tell(
+            rt,
+            b"ssh_audit: no memory to tell which lines are left out\n",
+        ),
+    }
+}
+
+/// The answer to words that ask for the readable entries of a file, and which lines are left out.
+fn answer_readable(
+    rt: &HostRuntime,
+    words: &[String<Global>],
+    files: &mut Source<'_>,
+    writer: &mut Output<'_>,
+) -> u8 {
+    files.keep_bytes();
+    let status = answer(rt, words, files, writer);
+    if status == DONE {
+        tell_left_out(rt, files.bytes());
+    }
     status
 }
 
@@ -107,7 +146,7 @@ fn read_question(rt: &HostRuntime, words: &[&str]) -> Outcome<(Vec<String<Global
 fn answer_question(
     rt: &HostRuntime,
     words: &[&str],
-    files: &mut SystemFiles<'_, HostRuntime>,
+    files: &mut Source<'_>,
     writer: &mut Output<'_>,
 ) -> u8 {
     match read_question(rt, words) {
@@ -126,13 +165,14 @@ fn answer_question(
 fn answer_words(
     rt: &HostRuntime,
     words: &[String<Global>],
-    files: &mut SystemFiles<'_, HostRuntime>,
+    files: &mut Source<'_>,
     writer: &mut Output<'_>,
 ) -> u8 {
     match as_texts(rt, words) {
         Ok(texts) if asks_surroundings(texts.as_slice()) => {
             answer_question(rt, texts.as_slice(), files, writer)
         }
+        Ok(texts) if asks_readable(texts.as_slice()) => answer_readable(rt, words, files, writer),
         Ok(_) => answer(rt, words, files, writer),
         Err(AllocError) => refuse(WordsError::Memory, writer),
     }
@@ -148,7 +188,7 @@ fn answer_unread(rt: &HostRuntime, fault: WordsError, writer: &mut Output<'_>) -
 }
 
 fn main(rt: HostRuntime) -> ExitCode {
-    let mut files = SystemFiles::new(&rt);
+    let mut files = KeptFiles::new(rt.alloc(), SystemFiles::new(&rt));
     let mut writer = Watched::new(Retried::new(io::writer(&rt)));
     let status = match read_words(&rt) {
         Ok(words) => answer_words(&rt, words.as_slice(), &mut files, &mut writer),

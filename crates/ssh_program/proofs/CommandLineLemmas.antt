@@ -1,5 +1,5 @@
 -- The command line that is given to clap, and its errors.
-use Rattle.ssh_program.proofs.Imports.{ap, sym, subst, ◌∙◌, Option, Some, Result, Err, ℕ, ◌≡◌, true, refl, inl, inr, List, [], ◌∷◌, None, HasKind, IsAmong, Kinds, option_and_then, ok_or, and_parts, App, Row, Text, kind_of, is_simple, subcommand_of, Error, FaultIs, Parses, request_in_memory, WordsError, Subcommand, Show, Host, Rewrite, Hash, Admits, Trusts, Review, Explain, fault_of, is_simple_and_free, ErrorKind, program_app, request_in, request_of, spelled}
+use Rattle.ssh_program.proofs.Imports.{ap, sym, subst, ◌∙◌, Option, Some, Result, Err, ℕ, ◌≡◌, true, refl, inl, inr, List, [], ◌∷◌, None, HasKind, IsAmong, Kinds, option_and_then, ok_or, and_parts, App, Row, Text, kind_of, is_simple, subcommand_of, Error, FaultIs, Parses, request_in_memory, WordsError, Subcommand, Show, Host, Rewrite, Readable, Hash, Admits, Trusts, Review, Explain, fault_of, is_simple_and_free, ErrorKind, program_app, request_in, request_of, spelled}
 use Rattle.std.specs.Prelude.{option_map}
 use Rattle.ssh_program.specs.declared.command.Request.{Request}
 use Rattle.ssh_program.specs.declared.subcommand.Subcommand.TheVariants.{Login, Sshsig}
@@ -15,6 +15,7 @@ plain_subcommand Login = refl
 plain_subcommand Host = refl
 plain_subcommand Sshsig = refl
 plain_subcommand Rewrite = refl
+plain_subcommand Readable = refl
 plain_subcommand Hash = refl
 plain_subcommand Admits = refl
 plain_subcommand Trusts = refl

@@ -1,4 +1,5 @@
--- A run of `rewrite`, `hash` or `review` that ends without a fault printed a file that keeps the decisions, or the reviews of all files.
+-- A run of `rewrite`, `readable`, `hash` or `review` that ends without a fault printed a file that keeps the decisions, or those
+-- of the entries that are kept, or the reviews of all files.
 use Rattle.ssh_program.proofs.Imports.{◌≡◌, ◌⊎◌, ◌<◌, ◌≤◌, ◌+◌, ◌++◌, ◌∙◌, ◌^◌, cond, ℕ, zero, suc, Bool, true, false, List, [], ◌∷◌, length, take, drop, ◌*◌, ◌/◌, ◌%◌, Option, Some, None, Result, Ok, Err, ap, subst, sym, refl, inl, inr, arith, nat_lt, Row, TimeZone, Response, no_file_response, IfTells, SourceState, bytes_at, most_failures, within_limit, number_below, zone_text, ReadsZone, Request, request_of, Account, WritesResponse, Answers, RespondsBy, request_words, source_of, RespondsTo, given, needed, or_fault, value, value_or, Signed, file_limit, after_whole, salts_or_fault, salts_in, KeepsOthers, NoReadFailed, TellsFile, TellsFiles}
 use Rattle.std.proofs.lemmas.Bool.{ltb-false}
 use Rattle.std.proofs.lemmas.List.{append-nil, append_assoc, length-take-le, length-drop}
@@ -17,14 +18,17 @@ use Rattle.ssh_rewriting.specs.CanonicalFile.{canonical_auth_file, canonical_kno
 use Rattle.ssh_rewriting.specs.declared.hash.HashError.{HashError}
 use Rattle.ssh_rewriting.specs.declared.hash.HashError.TheVariants as hashing
 use Rattle.ssh_rewriting.specs.declared.rewrite.RewriteError.{RewriteError}
+use Rattle.ssh_rewriting.specs.declared.rewrite.RewriteError.TheVariants as rewriting
 use Rattle.ssh_trust.specs.Answer.{host_answer, login_answer}
 use Rattle.ssh_files.specs.FilesInTurn.{Telling}
 use Rattle.ssh_files.specs.Salts.{salts_of}
 use Rattle.ssh_review.proofs.GrantLemmas.{hashed-adds_none, hashed-blind, hashed-keeps, hashed-premises, hashed-revoked}
 use Rattle.ssh_review.proofs.HostListingLemmas.{trusted}
 use Rattle.ssh_review.proofs.ListingLemmas.{listed}
+use Rattle.ssh_review.proofs.ReadableDecisionLemmas.{readable-answers, readable-grants}
 use Rattle.ssh_review.proofs.RewritingLemmas.{host-rewritten, login-rewritten}
 use Rattle.ssh_review.specs.HostReviews.{host_whole_review, known_review}
+use Rattle.ssh_review.specs.Readable.{readable_file}
 use Rattle.ssh_review.specs.Reviews.{Review, auth_review, fault_review, whole_review}
 use Rattle.ssh_review.specs.declared.end.FileFault.{FileFault}
 use Rattle.ssh_review.specs.declared.end.FileFault.TheVariants.{TooLong, Unread}
@@ -35,11 +39,11 @@ use Rattle.ssh_program.specs.declared.args.ArgName.TheVariants as option
 use Rattle.ssh_program.specs.declared.review.ReviewKind.{ReviewKind}
 use Rattle.ssh_program.specs.declared.review.ReviewKind.TheVariants.{Auth, Known}
 use Rattle.ssh_program.specs.declared.rewriting.NewFile.{NewFile}
-use Rattle.ssh_program.specs.declared.rewriting.NewFile.TheVariants.{CanonicalAuth, CanonicalKnown, HashedKnown}
+use Rattle.ssh_program.specs.declared.rewriting.NewFile.TheVariants.{CanonicalAuth, CanonicalKnown, HashedKnown, ReadableAuth}
 use Rattle.ssh_program.specs.declared.subcommand.Subcommand.{Subcommand}
 use Rattle.ssh_program.specs.declared.subcommand.Subcommand.TheVariants as command
 use Rattle.ssh_program.specs.FileReviews.{Lines, ReviewsFiles, no_lines, review_of, telling_review, with_file}
-use Rattle.ssh_program.specs.FileRuns.{AnswersHosts, AnswersLogins, AsksWith, FileHashed, FileRewritten, FilesReviewed, IsPartOf, KeepsGrants, PrintsReview, PrintsReviews}
+use Rattle.ssh_program.specs.FileRuns.{AnswersHosts, AnswersKept, AnswersLogins, AsksWith, FileHashed, FileReadable, FileRewritten, FilesReviewed, GrantsKept, IsPartOf, KeepsGrants, PrintsReview, PrintsReviews}
 use Rattle.ssh_program.specs.Hashings.{Hashes, RespondsToHash, hashed_over}
 use Rattle.ssh_program.specs.KeyRuns.{AsksOfFiles}
 use Rattle.ssh_program.specs.Rewritings.{RespondsToRewrite, RewritesFile, new_file, new_response, rewrite_kind, rewrite_over}
@@ -118,6 +122,40 @@ rewritten-by rows s t r (Err fault) is (unfailed, same) done =
     let told = status-of r fault same in
     absurd (omega (arith, two, told, done))
 rewritten-by rows s t r (Ok kind) is h done = rewritten-named rows s t r kind is (needed option.File rows) refl h done
+
+-- ---- `readable`
+
+is-made : (file made new : List ℕ) → rewritten file made ≡ Ok new → new ≡ made
+is-made file made new h = by (nat_lt file_limit (length file)) (nat_lt file_limit (length made)) h
+  where
+    by : (a b : Bool) → ◌≡◌ {A = Result (List ℕ) RewriteError} (cond a (Err rewriting.TooLong) (cond b (Err rewriting.TooLong) (Ok made))) (Ok new) → new ≡ made
+    by true b e = cc
+    by false true e = cc
+    by false false e = cc
+
+readable-text : (file text new : List ℕ) → as_hash_error (rewritten file (readable_file file)) ≡ Ok new → text ≡ new → text ≡ readable_file file
+readable-text file text new made is = is ∙ is-made file (readable_file file) new (as-made (rewritten file (readable_file file)) new made)
+
+readable-as : (rows : List Row) (s : SourceState) (r : Response) (name : List ℕ) → needed option.File rows ≡ Ok name
+    → MadeOf (new_file ReadableAuth) (bytes_at s name) r → FileReadable rows s r
+readable-as rows s r name named m =
+    let is = readable-text m.file r.text m.written.new m.written.is m.written.printed in
+    record {
+      name = name;
+      named = named;
+      file = m.file;
+      there = m.there;
+      answers = subst (AnswersKept m.file) (sym is) (λ bytes claim vouched. readable-answers m.file claim vouched bytes);
+      grants = subst (GrantsKept m.file) (sym is) (λ bytes claim vouched n rights reasons evidence. readable-grants m.file claim vouched n rights reasons evidence bytes);
+    }
+
+readable-named : (rows : List Row) (s : SourceState) (t : Option SourceState) (r : Response) (name : Result (List ℕ) Response) → needed option.File rows ≡ name
+    → RespondsTo (RewritesFile (new_file ReadableAuth)) name s t r → r.status ≡ 0 → FileReadable rows s r
+readable-named rows s t r (Err fault) named (unfailed, same) done =
+    let two = needed-faulty option.File rows fault named in
+    let told = status-of r fault same in
+    absurd (omega (arith, two, told, done))
+readable-named rows s t r (Ok name) named h done = readable-as rows s r name named (made-of (new_file ReadableAuth) name s t r h done)
 
 -- ---- `hash`
 
@@ -412,6 +450,15 @@ file_rewritten_run words (Some s) t old new status h = λ room rows asks is.
     let done = ends-as 0 (omega arith) old new r status writes is in
     let by = asked-run command.Rewrite words s t r rows asks answers (omega (arith, done)) in
     (r, rewritten-by rows (source_of words s) t r (value rewrite_kind option.Kind rows) refl by done, writes)
+
+pub file_readable_run : (words : List (List ℕ)) (o t : Option SourceState) (old new : Option Account) (status : ℕ) → IfTells o (Answered words t old new status)
+    → IfTells o (λ s. (rows : List Row) → AsksWith command.Readable words s rows → status ≡ 0 → (r : Response) × FileReadable rows (source_of words s) r × WritesResponse old new r status)
+file_readable_run words None t old new status h = tt
+file_readable_run words (Some s) t old new status h = λ room rows asks is.
+    let (r, answers, writes) = h room in
+    let done = ends-as 0 (omega arith) old new r status writes is in
+    let by = asked-run command.Readable words s t r rows asks answers (omega (arith, done)) in
+    (r, readable-named rows (source_of words s) t r (needed option.File rows) refl by done, writes)
 
 pub file_hashed_run : (words : List (List ℕ)) (o t : Option SourceState) (old new : Option Account) (status : ℕ) → IfTells o (Answered words t old new status)
     → IfTells o (λ s. (rows : List Row) → AsksWith command.Hash words s rows → status ≡ 0 → (r : Response) × FileHashed rows (source_of words s) r × WritesResponse old new r status)

@@ -120,10 +120,10 @@ pub use Rattle.ssh_program.specs.declared.command.WordsError.{WordsError}
 pub use Rattle.ssh_program.specs.declared.review.ReviewKind.{ReviewKind}
 pub use Rattle.ssh_program.specs.declared.review.ReviewKind.TheVariants.{Auth, Known}
 pub use Rattle.ssh_program.specs.declared.rewriting.NewFile.{NewFile}
-pub use Rattle.ssh_program.specs.declared.rewriting.NewFile.TheVariants.{CanonicalAuth, CanonicalKnown, HashedKnown}
+pub use Rattle.ssh_program.specs.declared.rewriting.NewFile.TheVariants.{CanonicalAuth, CanonicalKnown, HashedKnown, ReadableAuth}
 pub use Rattle.ssh_program.specs.declared.sshsig.MessageDigest.{MessageDigest}
 pub use Rattle.ssh_program.specs.declared.subcommand.Subcommand.{Subcommand}
-pub use Rattle.ssh_program.specs.declared.subcommand.Subcommand.TheVariants.{Show, Host, Rewrite, Hash, Admits, Trusts, Review, Explain}
+pub use Rattle.ssh_program.specs.declared.subcommand.Subcommand.TheVariants.{Show, Host, Rewrite, Readable, Hash, Admits, Trusts, Review, Explain}
 pub use Rattle.ssh_program.specs.declared.texts.NoText.{NoText}
 pub use Rattle.ssh_program.specs.declared.texts.NoText.TheVariants.{Told}
 pub use Rattle.ssh_program.specs.declared.texts.TakenText.{TakenText}

@@ -1,5 +1,5 @@
 -- From the responses of the subcommands to the response and output of the program.
-use Rattle.ssh_program.proofs.Imports.{◌≡◌, ◌∙◌, ◌<◌, ℕ, List, [], ◌∷◌, length, map, Option, Some, None, Result, Ok, Err, refl, sym, ap, subst, inl, inr, arith, IfOk, lt-leb, Row, IfTells, SourceState, after_line, first_line, words_in, FailsLine, LoadsLine, ReadError, words_long, response, usage_response, show_kind, CommandError, Usage, Value, Subcommand, Show, Host, Rewrite, Hash, Admits, Trusts, Review, Explain, Request, request_of, AsksKey, Hashes, RespondsToHostKey, RespondsInZone, RespondsByTexts, text_places, Responds, RespondsBy, RespondsIn, IsUsageOf, RewritesFile, new_file, rewrite_kind, ShowsFile, Signs, IsToldAs, RespondsTo, needed, sshsig_question, value, IfAnswered, Alike, left-alike, none-failed}
+use Rattle.ssh_program.proofs.Imports.{◌≡◌, ◌∙◌, ◌<◌, ℕ, List, [], ◌∷◌, length, map, Option, Some, None, Result, Ok, Err, refl, sym, ap, subst, inl, inr, arith, IfOk, lt-leb, Row, IfTells, SourceState, after_line, first_line, words_in, FailsLine, LoadsLine, ReadError, words_long, response, usage_response, show_kind, CommandError, Usage, Value, Subcommand, Show, Host, Rewrite, Readable, Hash, Admits, Trusts, Review, Explain, Request, request_of, AsksKey, Hashes, RespondsToHostKey, RespondsInZone, RespondsByTexts, text_places, Responds, RespondsBy, RespondsIn, IsUsageOf, RewritesFile, new_file, rewrite_kind, ShowsFile, Signs, IsToldAs, RespondsTo, needed, sshsig_question, value, IfAnswered, Alike, left-alike, none-failed, ReadableAuth}
 use Rattle.ssh_files.specs.declared.read.ReadError.TheVariants as fault
 use Rattle.ssh_print.specs.declared.response.Response.{Response as Printed}
 use Rattle.ssh_print.specs.Responses.{Response as Shown}
@@ -36,6 +36,8 @@ subcommand-same Sshsig rows a b u r e h = spelled_same Signs (sshsig_question ro
 subcommand-same Rewrite rows a b u r e h =
     spelled_same (λ kind. RespondsTo (RewritesFile (new_file kind)) (needed option.File rows)) (value rewrite_kind option.Kind rows) a b u r e
     (λ kind. spelled_same (RewritesFile (new_file kind)) (needed option.File rows) a b u r e (λ name. rewrites-same (new_file kind) name a b u r e)) h
+subcommand-same Readable rows a b u r e h =
+    spelled_same (RewritesFile (new_file ReadableAuth)) (needed option.File rows) a b u r e (λ name. rewrites-same (new_file ReadableAuth) name a b u r e) h
 subcommand-same Hash rows a b u r e h =
     spelled_same (λ trust. RespondsTo (Hashes trust) (needed option.Salts rows)) (needed option.File rows) a b u r e
     (λ trust. spelled_same (Hashes trust) (needed option.Salts rows) a b u r e (λ salts. hashes-same trust salts a b u r e)) h

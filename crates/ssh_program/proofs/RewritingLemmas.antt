@@ -1,5 +1,5 @@
 -- From the bytes of a file to the response with the rewritten file.
-use Rattle.ssh_program.proofs.Imports.{◌≡◌, ◌∙◌, ◌<◌, ℕ, List, length, Option, Some, None, Result, Ok, Err, refl, sym, ap, inl, inr, IfOk, lt-ltb, IfTells, SourceState, bytes_at, after_whole, FailsLoad, IsLeft, IsTooLong, within_limit, ReadError, FileTooLong, refused_response, file_limit, HashError, NewFile, CanonicalAuth, CanonicalKnown, HashedKnown, IsTrustFault, Rewrites, RewritesFile, new_file, new_response, rewrite_over, Alike, file-alike, left-none, none-failed, one-failed, read-all}
+use Rattle.ssh_program.proofs.Imports.{◌≡◌, ◌∙◌, ◌<◌, ℕ, List, length, Option, Some, None, Result, Ok, Err, refl, sym, ap, inl, inr, IfOk, lt-ltb, IfTells, SourceState, bytes_at, after_whole, FailsLoad, IsLeft, IsTooLong, within_limit, ReadError, FileTooLong, refused_response, file_limit, HashError, NewFile, CanonicalAuth, CanonicalKnown, HashedKnown, ReadableAuth, IsTrustFault, Rewrites, RewritesFile, new_file, new_response, rewrite_over, Alike, file-alike, left-none, none-failed, one-failed, read-all}
 use Rattle.ssh_files.specs.declared.read.ReadError.TheVariants as fault
 use Rattle.ssh_print.specs.Responses.{Response as Shown}
 use Rattle.ssh_rewriting.specs.declared.hash.HashError.TheVariants.{TooLong}
@@ -35,6 +35,7 @@ Bounded made = (file : List ℕ) → file_limit < length file → made file ≡ 
 pub bounded : (kind : NewFile) → Bounded (new_file kind)
 bounded CanonicalAuth file h = rw (lt-ltb file_limit (length file) h) refl
 bounded CanonicalKnown file h = rw (lt-ltb file_limit (length file) h) refl
+bounded ReadableAuth file h = rw (lt-ltb file_limit (length file) h) refl
 bounded (HashedKnown salts) file h = rw (lt-ltb file_limit (length file) h) refl
 
 -- it is A7

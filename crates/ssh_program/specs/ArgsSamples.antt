@@ -6,7 +6,7 @@ use Rattle.ssh_print.specs.Responses.{Response, usage_response}
 use Rattle.ssh_program.specs.declared.args.ArgName.{ArgName}
 use Rattle.ssh_program.specs.declared.args.ArgName.TheVariants as option
 use Rattle.ssh_program.specs.declared.subcommand.Subcommand.{Subcommand}
-use Rattle.ssh_program.specs.declared.subcommand.Subcommand.TheVariants.{Show, Login, Host, Sshsig, Rewrite, Hash, Admits, Trusts, Review, Explain}
+use Rattle.ssh_program.specs.declared.subcommand.Subcommand.TheVariants.{Show, Login, Host, Sshsig, Rewrite, Readable, Hash, Admits, Trusts, Review, Explain}
 use Rattle.ssh_program.specs.CommandLine.{request_of, subcommand_app}
 use Rattle.ssh_program.specs.Options.{subcommand_options}
 use Rattle.ssh_program.specs.Spelling.{given, names_given}
@@ -89,6 +89,7 @@ texts_are_asked = (refl, refl, refl, refl)
 abbrev pub OthersAsked : Type 0
 OthersAsked = (asked (codes "show" ∷ codes "--kind" ∷ codes "key" ∷ codes "--file" ∷ codes "f" ∷ []) ≡ Some (Show, Some (codes "key") ∷ Some (codes "f") ∷ []))
     × (asked (codes "rewrite" ∷ codes "--file" ∷ codes "-" ∷ codes "--kind" ∷ codes "auth" ∷ []) ≡ Some (Rewrite, Some (codes "auth") ∷ Some (codes "-") ∷ []))
+    × (asked (codes "readable" ∷ codes "--file" ∷ codes "f" ∷ []) ≡ Some (Readable, Some (codes "f") ∷ []))
     × (asked (codes "hash" ∷ codes "--salts" ∷ codes "s" ∷ codes "--file" ∷ codes "f" ∷ []) ≡ Some (Hash, Some (codes "f") ∷ Some (codes "s") ∷ []))
     × (asked (codes "sshsig" ∷ codes "--body" ∷ codes "b" ∷ codes "--message" ∷ codes "m" ∷ codes "--namespace" ∷ codes "file" ∷ [])
     ≡ Some (Sshsig, Some (codes "b") ∷ Some (codes "m") ∷ Some (codes "file") ∷ None ∷ []))
@@ -97,7 +98,7 @@ OthersAsked = (asked (codes "show" ∷ codes "--kind" ∷ codes "key" ∷ codes 
 
 pub others_asked : OthersAsked
 unfolding subcommand_app clap_on_literals
-others_asked = (refl, refl, refl, refl, refl)
+others_asked = (refl, refl, refl, refl, refl, refl)
 
 -- the operands of arguments: a key is asked about over any number of files, anywhere among the options
 abbrev names_asked : List Text → Option (List Text)

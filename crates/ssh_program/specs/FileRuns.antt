@@ -1,4 +1,4 @@
--- What a run of `rewrite`, `hash` or `review` means that ends without a fault (this project's rule).
+-- What a run of `rewrite`, `readable`, `hash` or `review` means that ends without a fault (this project's rule).
 use Rattle.std.specs.Prelude.{◌≡◌, ◌⊎◌, ◌↔◌, ◌++◌, ℕ, List, [], ◌∷◌, Option, Some, Ok}
 use Rattle.clap.specs.Words.{Row}
 use Rattle.jiff.specs.Types.{TimeZone}
@@ -22,6 +22,7 @@ use Rattle.ssh_review.specs.Grants.{FindsShared, Grants, IsBlind, IsRevoked}
 use Rattle.ssh_review.specs.HostListing.{IsHostListed}
 use Rattle.ssh_review.specs.HostReviews.{host_whole_review}
 use Rattle.ssh_review.specs.Listing.{IsListed}
+use Rattle.ssh_review.specs.ReadableDecisions.{IsAnsweredAlike, IsKeptGrant}
 use Rattle.ssh_review.specs.Reviews.{whole_review}
 use Rattle.ssh_program.specs.declared.args.ArgName.TheVariants as option
 use Rattle.ssh_program.specs.declared.review.ReviewKind.TheVariants.{Auth, Known}
@@ -56,6 +57,26 @@ pub record FileRewritten (rows : List Row) (s : SourceState) (r : Response) : Ty
   pub there : bytes_at s name ≡ Some file
   pub logins : value rewrite_kind option.Kind rows ≡ Ok CanonicalAuth → AnswersLogins file r.text
   pub hosts : value rewrite_kind option.Kind rows ≡ Ok CanonicalKnown → AnswersHosts file r.text
+
+-- ---- `readable`
+
+-- the new authorized_keys file answers each login as the file does, or by a line that is left out, whatever is vouched for
+abbrev pub AnswersKept : List ℕ → List ℕ → Type 0
+AnswersKept file new = AreBytes file → (claim : LoginClaim) (vouched : List Signed) → IsAnsweredAlike file new claim vouched
+
+-- and whatever it grants, a line of the file admits that is kept
+abbrev pub GrantsKept : List ℕ → List ℕ → Type 0
+GrantsKept file new = AreBytes file → (claim : LoginClaim) (vouched : List Signed) (n : ℕ) (rights : Option Rights) (reasons : List (ℕ × Reason)) (evidence : List Signed)
+    → login_decision new claim vouched ≡ Granted n rights reasons evidence → IsKeptGrant file claim
+
+-- status 0: the file is there, and the text that was printed is such a file
+pub record FileReadable (rows : List Row) (s : SourceState) (r : Response) : Type 0 where
+  pub name : List ℕ
+  pub named : needed option.File rows ≡ Ok name
+  pub file : List ℕ
+  pub there : bytes_at s name ≡ Some file
+  pub answers : AnswersKept file r.text
+  pub grants : GrantsKept file r.text
 
 -- ---- `hash`
 

@@ -8,7 +8,7 @@ use Rattle.ssh_program.specs.declared.args.Needed.TheVariants.{Required, Optiona
 use Rattle.ssh_program.specs.declared.args.ArgName.{ArgName}
 use Rattle.ssh_program.specs.declared.args.ArgName.TheVariants as option
 use Rattle.ssh_program.specs.declared.subcommand.Subcommand.{Subcommand}
-use Rattle.ssh_program.specs.declared.subcommand.Subcommand.TheVariants.{Show, Login, Host, Sshsig, Rewrite, Hash, Admits, Trusts, Review, Explain}
+use Rattle.ssh_program.specs.declared.subcommand.Subcommand.TheVariants.{Show, Login, Host, Sshsig, Rewrite, Readable, Hash, Admits, Trusts, Review, Explain}
 use Rattle.ssh_program.specs.Options.{option_word, subcommand_options, subcommand_name, subcommands}
 
 -- ---- the sentences
@@ -20,6 +20,7 @@ command_sentence Login = codes "decide on a login with its signature, by an auth
 command_sentence Host = codes "decide on a host's key with its signature, by a known_hosts file"
 command_sentence Sshsig = codes "tell whether a file signature is for a namespace and is vouched for"
 command_sentence Rewrite = codes "print a trust file anew, in one spelling, so that every answer stays the same"
+command_sentence Readable = codes "print the entries of an authorized_keys file that OpenSSH reads as they are read here"
 command_sentence Hash = codes "print a known_hosts file anew with its host names hashed"
 command_sentence Admits = codes "tell whether a key would get in, by which line and with which rights, or why not"
 command_sentence Trusts = codes "tell whether a host's key is trusted, by which line, or which line revokes it"
@@ -62,6 +63,7 @@ kind_sentence c = codes "the format of the files: auth for authorized_keys, know
 -- what `--file` gives to a command
 abbrev pub file_sentence : Subcommand → Text
 file_sentence Login = codes "the authorized_keys file"
+file_sentence Readable = codes "the authorized_keys file"
 file_sentence Rewrite = codes "the trust file that is printed anew"
 file_sentence Show = codes "the file that is shown"
 file_sentence c = codes "the known_hosts file"

@@ -7,7 +7,7 @@ use Rattle.ssh_program.specs.declared.args.Needed.TheVariants.{Required, Optiona
 use Rattle.ssh_program.specs.declared.args.ArgName.{ArgName}
 use Rattle.ssh_program.specs.declared.args.ArgName.TheVariants as option
 use Rattle.ssh_program.specs.declared.subcommand.Subcommand.{Subcommand}
-use Rattle.ssh_program.specs.declared.subcommand.Subcommand.TheVariants.{Show, Login, Host, Sshsig, Rewrite, Hash, Admits, Trusts, Review, Explain}
+use Rattle.ssh_program.specs.declared.subcommand.Subcommand.TheVariants.{Show, Login, Host, Sshsig, Rewrite, Readable, Hash, Admits, Trusts, Review, Explain}
 
 -- ---- options
 
@@ -45,7 +45,7 @@ is_required Optional = false
 -- ---- subcommands
 
 abbrev pub subcommands : List Subcommand
-subcommands = Show ∷ Login ∷ Host ∷ Sshsig ∷ Rewrite ∷ Hash ∷ Admits ∷ Trusts ∷ Review ∷ Explain ∷ []
+subcommands = Show ∷ Login ∷ Host ∷ Sshsig ∷ Rewrite ∷ Readable ∷ Hash ∷ Admits ∷ Trusts ∷ Review ∷ Explain ∷ []
 
 abbrev pub subcommand_name : Subcommand → Text
 subcommand_name Show = codes "show"
@@ -53,6 +53,7 @@ subcommand_name Login = codes "login"
 subcommand_name Host = codes "host"
 subcommand_name Sshsig = codes "sshsig"
 subcommand_name Rewrite = codes "rewrite"
+subcommand_name Readable = codes "readable"
 subcommand_name Hash = codes "hash"
 subcommand_name Admits = codes "admits"
 subcommand_name Trusts = codes "trusts"
@@ -76,6 +77,7 @@ subcommand_options Host = (option.File, Required) ∷ (option.Offer, Optional) �
     ∷ (option.EmptyPrincipals, Optional) ∷ (option.RsaMinimum, Optional) ∷ []
 subcommand_options Sshsig = (option.Body, Required) ∷ (option.Message, Required) ∷ (option.Namespace, Required) ∷ (option.Vouch, Optional) ∷ []
 subcommand_options Rewrite = (option.Kind, Required) ∷ (option.File, Required) ∷ []
+subcommand_options Readable = (option.File, Required) ∷ []
 subcommand_options Hash = (option.File, Required) ∷ (option.Salts, Required) ∷ []
 subcommand_options Admits = (option.Key, Required) ∷ (option.User, Required) ∷ (option.Address, Required) ∷ (option.Now, Required)
     ∷ (option.Host, Optional) ∷ (option.Zone, Optional) ∷ (option.EmptyPrincipals, Optional) ∷ (option.RsaMinimum, Optional)

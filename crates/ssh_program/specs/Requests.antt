@@ -9,7 +9,7 @@ use Rattle.ssh_print.specs.Responses.{Response, out_of_memory, usage_response}
 use Rattle.ssh_program.specs.declared.command.WordsError.{WordsError}
 use Rattle.ssh_program.specs.declared.command.WordsError.TheVariants.{Usage, Memory}
 use Rattle.ssh_program.specs.declared.subcommand.Subcommand.{Subcommand}
-use Rattle.ssh_program.specs.declared.subcommand.Subcommand.TheVariants.{Show, Login, Host, Sshsig, Rewrite, Hash, Admits, Trusts, Review, Explain}
+use Rattle.ssh_program.specs.declared.subcommand.Subcommand.TheVariants.{Show, Login, Host, Sshsig, Rewrite, Readable, Hash, Admits, Trusts, Review, Explain}
 use Rattle.ssh_program.specs.CommandLine.{Request, request_of}
 use Rattle.ssh_program.specs.Spelled.{RespondsToReview}
 use Rattle.ssh_program.specs.Explanations.{RespondsToExplain}
@@ -17,7 +17,7 @@ use Rattle.ssh_program.specs.Hashings.{RespondsToHash}
 use Rattle.ssh_program.specs.Hosts.{RespondsToHost}
 use Rattle.ssh_program.specs.Keys.{RespondsToAdmits, RespondsToTrusts}
 use Rattle.ssh_program.specs.Logins.{RespondsToLogin}
-use Rattle.ssh_program.specs.Rewritings.{RespondsToRewrite}
+use Rattle.ssh_program.specs.Rewritings.{RespondsToReadable, RespondsToRewrite}
 use Rattle.ssh_program.specs.Shows.{RespondsToShow}
 use Rattle.ssh_program.specs.Sshsigs.{RespondsToSshsig}
 
@@ -32,6 +32,7 @@ RespondsIn Login = RespondsToLogin
 RespondsIn Host = RespondsToHost
 RespondsIn Sshsig = RespondsToSshsig
 RespondsIn Rewrite = RespondsToRewrite
+RespondsIn Readable = RespondsToReadable
 RespondsIn Hash = RespondsToHash
 RespondsIn Admits = RespondsToAdmits
 RespondsIn Trusts = RespondsToTrusts

@@ -1,4 +1,4 @@
--- The response to `rewrite`, and the steps that it shares with `hash`.
+-- The responses to `rewrite` and `readable`, and the steps that they share with `hash`.
 use Rattle.std.specs.Prelude.{◌≡◌, ◌⊎◌, ℕ, List, Option, Some, None, Result, Ok, Err, codes, if◌then◌else◌, ⊤}
 use Rattle.std.specs.Str.{bytes_eq}
 use Rattle.ssh_offers.specs.declared.claim.AuditError.TheVariants as audit
@@ -11,10 +11,11 @@ use Rattle.ssh_files.specs.Loading.{NoReadFailed, OneReadFailed}
 use Rattle.ssh_files.specs.declared.read.ReadError.{ReadError}
 use Rattle.ssh_files.specs.declared.read.ReadError.TheVariants as fault
 use Rattle.ssh_print.specs.Responses.{Response, refused_response}
+use Rattle.ssh_review.specs.Readable.{readable_file}
 use Rattle.clap.specs.Words.{Row}
 use Rattle.ssh_program.specs.declared.args.ArgName.TheVariants as option
 use Rattle.ssh_program.specs.declared.rewriting.NewFile.{NewFile}
-use Rattle.ssh_program.specs.declared.rewriting.NewFile.TheVariants.{CanonicalAuth, CanonicalKnown, HashedKnown}
+use Rattle.ssh_program.specs.declared.rewriting.NewFile.TheVariants.{CanonicalAuth, CanonicalKnown, HashedKnown, ReadableAuth}
 use Rattle.ssh_program.specs.Spelling.{RespondsTo, needed, value}
 
 -- how `rewrite` rewrites a file of this format
@@ -30,6 +31,7 @@ rewrite_kind word =
 abbrev pub new_file : NewFile → List ℕ → Result (List ℕ) HashError
 new_file CanonicalAuth file = as_hash_error (rewritten file (canonical_auth_file file))
 new_file CanonicalKnown file = as_hash_error (rewritten file (canonical_known_file file))
+new_file ReadableAuth file = as_hash_error (rewritten file (readable_file file))
 new_file (HashedKnown salts) file = hashed file salts.now
 
 -- the bytes of the new file and nothing else, or A7 (too long), or A12 (too few salts)
@@ -60,6 +62,9 @@ RewritesFile made name s t r = Rewrites name (rewrite_over made (bytes_at s name
 
 abbrev pub RespondsToRewrite : List Row → SourceState → Option SourceState → Response → Type 0
 RespondsToRewrite rows = RespondsTo (λ kind. RespondsTo (RewritesFile (new_file kind)) (needed option.File rows)) (value rewrite_kind option.Kind rows)
+
+abbrev pub RespondsToReadable : List Row → SourceState → Option SourceState → Response → Type 0
+RespondsToReadable rows = RespondsTo (RewritesFile (new_file ReadableAuth)) (needed option.File rows)
 
 -- ---- the steps
 

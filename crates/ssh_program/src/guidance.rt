@@ -165,11 +165,15 @@ fn push_file_fault(out: &mut Vec<u8>, command: Subcommand) -> Result<(), AllocEr
     Ok(())
 }
 
-/// Whether the faults of a command are told in a sentence: those that ask of files by their names,
-/// and `explain`.
+/// Whether the faults of a command are told in a sentence: `readable`, those that ask of files by
+/// their names, and `explain`.
 fn is_told(command: Subcommand) -> bool {
     match command {
-        Subcommand::Admits | Subcommand::Trusts | Subcommand::Review | Subcommand::Explain => true,
+        Subcommand::Readable
+        | Subcommand::Admits
+        | Subcommand::Trusts
+        | Subcommand::Review
+        | Subcommand::Explain => true,
         _ => false,
     }
 }
@@ -195,6 +199,15 @@ fn told_command(words: &[&str]) -> Option<Subcommand> {
         Some(command)
     } else {
         None
+    }
+}
+
+/// Whether the words ask for the readable entries of a file: then standard error says which lines
+/// are left out.
+pub fn asks_readable(words: &[&str]) -> bool {
+    match words.first() {
+        Some(name) => Subcommand::named(name) == Some(Subcommand::Readable),
+        None => false,
     }
 }
 

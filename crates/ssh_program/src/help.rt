@@ -24,6 +24,9 @@ fn command_sentence(command: Subcommand) -> &'static [u8]
         Subcommand::Rewrite => {
             b"print a trust file anew, in one spelling, so that every answer stays the same"
         }
+        Subcommand::Readable => {
+            b"print the entries of an authorized_keys file that OpenSSH reads as they are read here"
+        }
         Subcommand::Hash => b"print a known_hosts file anew with its host names hashed",
         Subcommand::Admits => {
             b"tell whether a key would get in, by which line and with which rights, or why not"
@@ -84,7 +87,7 @@ fn file_sentence(command: Subcommand) -> &'static [u8]
     ensures { result.now ≡ file_sentence command }
 {
     match command {
-        Subcommand::Login => b"the authorized_keys file",
+        Subcommand::Login | Subcommand::Readable => b"the authorized_keys file",
         Subcommand::Rewrite => b"the trust file that is printed anew",
         Subcommand::Show => b"the file that is shown",
         _ => b"the known_hosts file",

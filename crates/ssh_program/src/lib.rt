@@ -8,8 +8,8 @@
 //! codes mean.
 //!
 //! `review` lists the entries and findings of any number of trust files, and then their total.
-//! `rewrite` and `hash` print a new trust file, `show` prints one key, and `sshsig` answers about a
-//! file signature.
+//! `rewrite`, `readable` and `hash` print a new trust file, `show` prints one key, and `sshsig`
+//! answers about a file signature.
 //!
 //! `with_defaults` adds to the words of a question what it leaves out, by the surroundings; `run`
 //! sees no other words. `usage_guidance` and `fault_guidance` say for standard error which word or
@@ -50,7 +50,7 @@ pub use command::{CommandError, Request, WordsError, parse, respond_fault};
 pub use date::date_seconds;
 pub use decisions::{respond_host, respond_login};
 pub use defaults::{Surroundings, asks_surroundings, defaults_line, with_defaults};
-pub use guidance::{fault_guidance, usage_guidance};
+pub use guidance::{asks_readable, fault_guidance, usage_guidance};
 pub use key_file::{KeyFileForm, key_file_form};
 pub use program::{refuse, run};
 pub use review::respond_review;

@@ -13,18 +13,18 @@ ghost use Rattle.ssh_print.specs.Responses.{Response as Shown};
 ghost use Rattle.ssh_program.specs.GrantedRuns.{AsksFor, DeniesHost, DeniesLogin, GrantsHost, GrantsLogin};
 ghost use Rattle.ssh_program.specs.KeyRuns.{AsksOfFiles, ClientAdmitted, ClientKeptOut, HostDistrusted, HostTrusted};
 ghost use Rattle.ssh_program.specs.SignatureRuns.{AsksSignature, SignatureUnvouched, SignatureVouched};
-ghost use Rattle.ssh_program.specs.FileRuns.{AsksWith, FileHashed, FileRewritten, FilesReviewed};
+ghost use Rattle.ssh_program.specs.FileRuns.{AsksWith, FileHashed, FileReadable, FileRewritten, FilesReviewed};
 ghost use Rattle.ssh_program.specs.Printing.{WritesResponse};
 ghost use Rattle.ssh_program.specs.FileNames.{AuditFiles, SshsigQuestion as SshsigAsked};
 ghost use Rattle.ssh_program.specs.Texts.{TextPlaces};
-ghost use Rattle.ssh_program.specs.declared.subcommand.Subcommand.TheVariants.{Admits, Hash, Host, Login, Review, Rewrite, Trusts};
+ghost use Rattle.ssh_program.specs.declared.subcommand.Subcommand.TheVariants.{Admits, Hash, Host, Login, Readable, Review, Rewrite, Trusts};
 
 use crate::admits::{respond_admits, respond_trusts};
 use crate::command::{CommandError, Request, WordsError, parse, respond_fault};
 use crate::decisions::{respond_host, respond_login};
 use crate::printing::{put_fault, put_response};
 use crate::review::respond_review;
-use crate::rewriting::{respond_hash, respond_rewrite};
+use crate::rewriting::{respond_hash, respond_readable, respond_rewrite};
 use crate::show::{respond_explain, respond_show};
 use crate::sink::Sink;
 use crate::sshsig::respond_sshsig;
@@ -49,6 +49,7 @@ fn respond_subcommand<F: Files>(
         Subcommand::Host => respond_host(alloc, &request.words, files),
         Subcommand::Sshsig => respond_sshsig(alloc, &request.words, files),
         Subcommand::Rewrite => respond_rewrite(alloc, &request.words, files),
+        Subcommand::Readable => respond_readable(alloc, &request.words, files),
         Subcommand::Hash => respond_hash(alloc, &request.words, files),
         Subcommand::Admits => respond_admits(alloc, &request.words, files),
         Subcommand::Trusts => respond_trusts(alloc, &request.words, files),
@@ -239,6 +240,13 @@ pub fn run<S: AsStr, F: Files, W: Sink>(
         → AsksWith Rewrite (map S.text words.now) s rows
         → result ≡ 0
         → (r : Shown) × FileRewritten rows (source_of (map S.text words.now) s) r
+        × WritesResponse (W.account writer.old) (W.account writer.new) r result) }
+    // Status 0 of `readable`: what was printed is a file that answers logins as the file does, or
+    // the line that decides was left out, and that grants nothing by a line that was left out.
+    ensures readable { IfTells (F.source_state files.old) (λ s. (rows : List Row)
+        → AsksWith Readable (map S.text words.now) s rows
+        → result ≡ 0
+        → (r : Shown) × FileReadable rows (source_of (map S.text words.now) s) r
         × WritesResponse (W.account writer.old) (W.account writer.new) r result) }
     // Status 0 of `hash`: what was printed is a file that keeps each grant and each revocation.
     ensures hash { IfTells (F.source_state files.old) (λ s. (rows : List Row)

@@ -1,8 +1,8 @@
-//! The responses to `rewrite` and `hash`: a trust file with canonical lines, or with hashed host
-//! names.
+//! The responses to `rewrite`, `readable` and `hash`: a trust file with canonical lines, its
+//! readable entries alone, or with hashed host names.
 
 ghost use Rattle.std.specs.Prelude.{◌≡◌, IfOk, Some};
-ghost use Rattle.ssh_program.specs.Rewritings.{IsTrustFault, MakesNew, RespondsToRewrite, RewritesFile, new_file, new_response, rewrite_kind};
+ghost use Rattle.ssh_program.specs.Rewritings.{IsTrustFault, MakesNew, RespondsToReadable, RespondsToRewrite, RewritesFile, new_file, new_response, rewrite_kind};
 ghost use Rattle.ssh_program.specs.ArgsView.{IfAnswered, rows_in};
 ghost use Rattle.ssh_print.specs.ResponseView.{response};
 ghost use Rattle.ssh_files.specs.SourceState.{IfTells};
@@ -14,6 +14,7 @@ use crate::command::CommandError;
 use ssh_files::{Files, ReadError, read_salts, read_whole};
 use ssh_offers::AuditError;
 use ssh_print::{DONE, Response, audit_fault, file_fault};
+use ssh_review::readable_auth;
 use ssh_rewriting::{HashError, hash_known, rewrite_auth, rewrite_known};
 use std::alloc::{AllocError, Global};
 
@@ -24,6 +25,9 @@ pub enum NewFile<'a> {
     CanonicalAuth,
     /// A `known_hosts` file, to canonical lines.
     CanonicalKnown,
+    /// An `authorized_keys` file, to the canonical lines of the entries that OpenSSH has no known
+    /// reason to refuse or to read differently.
+    ReadableAuth,
     /// A `known_hosts` file, its host names hashed with these salts.
     HashedKnown(&'a [[u8; 20]]),
 }
@@ -49,6 +53,7 @@ fn write_new(alloc: Global, kind: NewFile<'_>, file: &[u8]) -> Result<Vec<u8>, H
     let new = match kind {
         NewFile::CanonicalAuth => rewrite_auth(alloc, file)?,
         NewFile::CanonicalKnown => rewrite_known(alloc, file)?,
+        NewFile::ReadableAuth => readable_auth(alloc, file)?,
         NewFile::HashedKnown(salts) => hash_known(alloc, file, salts)?,
     };
     Ok(new)
@@ -107,6 +112,20 @@ pub fn respond_rewrite<F: Files>(
     let kind = ArgName::Kind.or_fault(rewrite_kind(word))?;
     let name = words.needed(ArgName::File)?;
     let response = rewrite_file(alloc, kind, name, files)?;
+    Ok(response)
+}
+
+/// The response to `readable`.
+pub fn respond_readable<F: Files>(
+    alloc: Global,
+    words: &Args<'_>,
+    files: &mut F,
+) -> Result<Response, CommandError>
+    ensures { IfTells (F.source_state files.old) (λ s. IfAnswered result (λ r.
+        RespondsToReadable (rows_in words.now) s (F.source_state files.new) r)) }
+{
+    let name = words.needed(ArgName::File)?;
+    let response = rewrite_file(alloc, NewFile::ReadableAuth, name, files)?;
     Ok(response)
 }
 

@@ -17,6 +17,7 @@ pub enum Subcommand {
     Host,
     Sshsig,
     Rewrite,
+    Readable,
     Hash,
     Admits,
     Trusts,
@@ -27,12 +28,13 @@ pub enum Subcommand {
 /// An option of a subcommand, and whether it has to be given.
 pub type OptionRow = (ArgName, Needed);
 
-const SUBCOMMANDS: [Subcommand; 10] = [
+const SUBCOMMANDS: [Subcommand; 11] = [
     Subcommand::Show,
     Subcommand::Login,
     Subcommand::Host,
     Subcommand::Sshsig,
     Subcommand::Rewrite,
+    Subcommand::Readable,
     Subcommand::Hash,
     Subcommand::Admits,
     Subcommand::Trusts,
@@ -83,6 +85,8 @@ const SSHSIG: [OptionRow; 4] = [
 ];
 
 const REWRITE: [OptionRow; 2] = [(ArgName::Kind, Required), (ArgName::File, Required)];
+
+const READABLE: [OptionRow; 1] = [(ArgName::File, Required)];
 
 const HASH: [OptionRow; 2] = [(ArgName::File, Required), (ArgName::Salts, Required)];
 
@@ -135,6 +139,7 @@ impl Subcommand {
             Subcommand::Host => "host",
             Subcommand::Sshsig => "sshsig",
             Subcommand::Rewrite => "rewrite",
+            Subcommand::Readable => "readable",
             Subcommand::Hash => "hash",
             Subcommand::Admits => "admits",
             Subcommand::Trusts => "trusts",
@@ -163,6 +168,7 @@ impl Subcommand {
             Subcommand::Host => &HOST,
             Subcommand::Sshsig => &SSHSIG,
             Subcommand::Rewrite => &REWRITE,
+            Subcommand::Readable => &READABLE,
             Subcommand::Hash => &HASH,
             Subcommand::Admits => &ADMITS,
             Subcommand::Trusts => &TRUSTS,

@@ -34,3 +34,5 @@ pub mod ListingLemmas
 pub mod SpelledLemmas
 pub mod HostSpelledLemmas
 pub mod HostListingLemmas
+pub mod ReadableLemmas
+pub mod ReadableDecisionLemmas

@@ -24,7 +24,7 @@ first-by-facts passes read n (line ∷ lines) = ap (λ later. cond (passes (read
 
 -- ---- logins
 
-verdicts-by-facts : (claim : LoginClaim) (file : List ℕ) → verdicts claim file ≡ map (login_verdict claim) (auth_facts file)
+pub verdicts-by-facts : (claim : LoginClaim) (file : List ℕ) → verdicts claim file ≡ map (login_verdict claim) (auth_facts file)
 verdicts-by-facts claim file = by-facts (login_verdict claim) auth_line (lines_of file)
 
 pub login-same : (file other : List ℕ) (claim : LoginClaim) (vouched : List Signed) → auth_facts file ≡ auth_facts other → login_decision file claim vouched ≡ login_decision other claim vouched

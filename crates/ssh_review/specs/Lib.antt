@@ -26,3 +26,5 @@ pub mod Grants
 pub mod Listing
 pub mod HostListing
 pub mod HostSpelling
+pub mod Readable
+pub mod ReadableDecisions

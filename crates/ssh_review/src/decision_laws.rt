@@ -2,7 +2,7 @@
 //! let in or trusted is so by a line that the review lists.
 
 ghost use Rattle.std.specs.Prelude.{◌≡◌, ◌<◌, ◌≤◌, ◌↔◌, ◌⊎◌, ℕ, List, length, Ok, [], Option, Some};
-ghost use Rattle.std.specs.List.{AllByRecursion};
+ghost use Rattle.std.specs.List.{AllByRecursion, filter};
 ghost use Rattle.ssh_entries.specs.Names.{IsTwentyBytes};
 ghost use Rattle.ssh_rewriting.specs.Answer.{hashed, rewritten};
 ghost use Rattle.ssh_rewriting.specs.CanonicalFile.{canonical_auth_file, canonical_known_file};
@@ -33,6 +33,8 @@ ghost use Rattle.ssh_review.specs.HostSpelling.{HasNoMarkerTab};
 ghost use Rattle.ssh_review.specs.Listing.{IsListed};
 ghost use Rattle.ssh_rules.specs.declared.reason.Reason.TheVariants as reason;
 ghost use Rattle.ssh_review.specs.HostLines as hosts;
+ghost use Rattle.ssh_review.specs.Readable.{is_kept_line, readable_file};
+ghost use Rattle.ssh_review.specs.ReadableDecisions.{IsAnsweredAlike, IsKeptGrant};
 
 /// A decision on a login depends on a file only through what its lines are read as. So a rewritten
 /// file has the same answer as the file that it was made from.
@@ -54,7 +56,27 @@ fn login_rewritten_rule()
         × (login_answer new claim vouched ≡ Ok (login_decision file claim vouched)) }
 {}
 
-/// The same for a host's key, and for revocations.
+/// The file of the readable entries (`readable_auth`) lets in nobody whom the file does not. It may
+/// leave somebody out, or let a later line decide, but only where the first line that admits the
+/// login is one that is left out.
+fn readable_rule()
+    // Line by line the new file is read as the lines that are kept, in their order.
+    ensures facts { (file : List ℕ)
+        → AllByRecursion (λ c. c < 256) file
+        → auth_facts (readable_file file) ≡ filter is_kept_line (auth_facts file) }
+    // A login is answered as by the file, but for line numbers, or by a line that is left out.
+    ensures answered { (file : List ℕ) (claim : LoginClaim) (vouched : List SignedValue)
+        → AllByRecursion (λ c. c < 256) file
+        → IsAnsweredAlike file (readable_file file) claim vouched }
+    // Whatever the new file grants, a line of the file admits that is kept.
+    ensures grants { (file : List ℕ) (claim : LoginClaim) (vouched : List SignedValue) (n : ℕ)
+        (rights : Option Rights) (reasons : List (ℕ × LineReason)) (evidence : List SignedValue)
+        → AllByRecursion (λ c. c < 256) file
+        → login_decision (readable_file file) claim vouched ≡ Granted n rights reasons evidence
+        → IsKeptGrant file claim }
+{}
+
+/// The same of rewriting for a host's key, and for revocations.
 fn host_rewritten_rule()
     // Files whose lines are read alike, line by line, decide alike.
     ensures facts { (file other : List ℕ) (claim : HostClaim) (vouched : List SignedValue)

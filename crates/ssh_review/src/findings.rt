@@ -171,7 +171,7 @@ fn push_cause(alloc: Global, out: &mut Vec<u8>, cause: LineCause) -> Result<(), 
 }
 
 /// The detail after the code of a finding. It has no bytes where the code alone is enough.
-fn detail(alloc: Global, row: Row) -> Result<Vec<u8>, AllocError>
+pub(crate) fn detail(alloc: Global, row: Row) -> Result<Vec<u8>, AllocError>
     ensures { IfOk result (λ text. text.items ≡ row_detail (row_seen row)) }
 {
     let mut text = Vec::from_slice(alloc, row.detail)?;
@@ -213,7 +213,7 @@ fn push_sentence(alloc: Global, out: &mut Vec<u8>, row: Row) -> Result<(), Alloc
 }
 
 /// Appends the detail of a finding after a space, if it has one.
-fn push_detail(out: &mut Vec<u8>, said: &[u8]) -> Result<(), AllocError>
+pub(crate) fn push_detail(out: &mut Vec<u8>, said: &[u8]) -> Result<(), AllocError>
     ensures { OnOk result (out.new.items ≡ out.old.items ++ detail_part said.now) }
 {
     if !said.is_empty() {

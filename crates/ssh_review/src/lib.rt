@@ -46,6 +46,7 @@ mod host_record;
 mod host_review;
 mod json_record;
 mod laws;
+mod readable;
 mod record;
 mod table;
 
@@ -53,3 +54,4 @@ pub use answer_json::{answer_object, answer_total};
 pub use auth_review::{review_auth, review_fault, total_line};
 pub use end::{Counts, FileFault, Form, Reviewed, Total};
 pub use host_review::review_known;
+pub use readable::{left_out, readable_auth};

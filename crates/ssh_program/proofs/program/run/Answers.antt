@@ -1,5 +1,5 @@
 use Rattle.std.specs.Prelude.{map}
-use Rattle.ssh_program.proofs.FileRunLemmas.{file_hashed_run, file_rewritten_run, files_reviewed_run}
+use Rattle.ssh_program.proofs.FileRunLemmas.{file_hashed_run, file_readable_run, file_rewritten_run, files_reviewed_run}
 use Rattle.ssh_program.proofs.GrantedRunLemmas.{host_denied_run, host_granted_run, login_denied_run, login_granted_run}
 use Rattle.ssh_program.proofs.KeyRunLemmas.{client_admitted_run, client_kept_out_run, host_distrusted_run, host_trusted_run}
 use Rattle.ssh_program.proofs.SignatureRunLemmas.{signature_unvouched_run, signature_vouched_run}
@@ -58,6 +58,11 @@ returns-clause-trusts_none g c =
 pub returns-clause-rewrite : goal.returns-clause-rewrite
 returns-clause-rewrite g c =
     file_rewritten_run (map g.S.AsStr.text c.args.words.now) (g.F.Files.source_state c.args.files.now) (g.F.Files.source_state c.answer.new.files)
+    (g.W.Sink.account c.args.writer.now) (g.W.Sink.account c.answer.new.writer) c.answer.result c.answer.ensures
+
+pub returns-clause-readable : goal.returns-clause-readable
+returns-clause-readable g c =
+    file_readable_run (map g.S.AsStr.text c.args.words.now) (g.F.Files.source_state c.args.files.now) (g.F.Files.source_state c.answer.new.files)
     (g.W.Sink.account c.args.writer.now) (g.W.Sink.account c.answer.new.writer) c.answer.result c.answer.ensures
 
 pub returns-clause-hash : goal.returns-clause-hash

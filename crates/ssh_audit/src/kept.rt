@@ -1,0 +1,95 @@
+//! A source that remembers the bytes that were read, by which standard error can say more of a file.
+
+ghost use Rattle.std.specs.Prelude.{None, IfSome, IsSome, IsTrue, ◌↔◌};
+ghost use Rattle.std.specs.Io.{ReadsAtMost};
+ghost use Rattle.std.specs.Io.KnownBytes.{ReadConsumes};
+ghost use Rattle.ssh_files.specs.SourceState.{ChoosesKnown, ReadsKnown, bytes_at};
+
+use ssh_files::Files;
+use std::alloc::Global;
+use std::io::{Read, Result};
+
+/// Whether the bytes that are read are remembered.
+#[derive(Clone, Copy, PartialEq, Eq)]
+enum Keeping {
+    No,
+    Yes,
+    /// Memory for some of them was refused.
+    Failed,
+}
+
+/// A source that remembers what was read from it, if it is asked to.
+#[derive(Drop)]
+pub struct KeptFiles<F> {
+    files: F,
+    bytes: Vec<u8>,
+    keeping: Keeping,
+}
+
+impl<F> KeptFiles<F> {
+    /// A source over this one, which remembers nothing yet.
+    pub fn new(alloc: Global, files: F) -> Self {
+        KeptFiles {
+            files,
+            bytes: Vec::new(alloc),
+            keeping: Keeping::No,
+        }
+    }
+
+    /// Remembers what is read from now on.
+    pub fn keep_bytes(&mut self) {
+        self.keeping = Keeping::Yes;
+    }
+
+    /// The bytes that were read; `None` where they are not remembered.
+    pub fn bytes(&self) -> Option<&[u8]> {
+        match self.keeping {
+            Keeping::Yes => Some(self.bytes.as_slice()),
+            Keeping::No | Keeping::Failed => None,
+        }
+    }
+
+    /// Remembers bytes that were read.
+    fn keep(&mut self, bytes: &[u8]) {
+        if self.keeping == Keeping::Yes && self.bytes.extend_from_slice(bytes).is_err() {
+            self.keeping = Keeping::Failed;
+        }
+    }
+}
+
+impl<F: Files> Read for KeptFiles<F> {
+    fn read(&mut self, buf: &mut [u8]) -> Result<usize>
+        ensures bound { ReadsAtMost result buf.new }
+        ensures bytes { ReadConsumes None None result buf.new }
+    {
+        self.read_chosen(buf)
+    }
+}
+
+impl<F: Files> Files for KeptFiles<F> {
+    ghost source_state = { λ _. None };
+
+    ghost tells = { λ x. tt };
+
+    fn choose(&mut self, name: &str) -> bool
+        ensures there { IfSome None (λ s. IsTrue result ↔ IsSome (bytes_at s name.now)) }
+        ensures chosen { ChoosesKnown None None name.now }
+    {
+        self.files.choose(name)
+    }
+
+    fn is_regular(&self, name: &str) -> bool {
+        self.files.is_regular(name)
+    }
+
+    fn read_chosen(&mut self, buf: &mut [u8]) -> Result<usize>
+        ensures bound { ReadsAtMost result buf.new }
+        ensures bytes { ReadsKnown None None result buf.new }
+    {
+        let outcome = self.files.read_chosen(buf);
+        if let Ok(taken) = &outcome {
+            self.keep(&buf[..*taken]);
+        }
+        outcome
+    }
+}
