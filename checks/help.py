@@ -1,6 +1,6 @@
 #!/usr/bin/env python3
-"""Runs the built program and compares what goes to standard error: help, which word or value is wrong, and what a
-question was asked with that left something out. What goes to standard output is compared too.
+"""Runs the built program and compares what goes to standard error: help, which word or value is wrong, and on a terminal what
+a question was asked with that left something out. What goes to standard output is compared too.
 
 usage: help.py [PROGRAM]
 
@@ -41,6 +41,13 @@ def run(words, room, home=None, stdin=b""):
     """The status, what was printed, and what went to standard error."""
     given = {"PATH": os.environ["PATH"], **({"HOME": str(home)} if home else {})}
     ran = subprocess.run([PROGRAM, *words], cwd=room, env=given, input=stdin, capture_output=True, timeout=60, check=False)
+    return ran.returncode, ran.stdout, ran.stderr.decode()
+
+
+def run_on_terminal(words, room, home=None, terminal="xterm"):
+    """The same with an environment that names a terminal."""
+    given = {"PATH": os.environ["PATH"], "TERM": terminal, **({"HOME": str(home)} if home else {})}
+    ran = subprocess.run([PROGRAM, *words], cwd=room, env=given, stdin=subprocess.DEVNULL, capture_output=True, timeout=60, check=False)
     return ran.returncode, ran.stdout, ran.stderr.decode()
 
 
@@ -116,6 +123,8 @@ def help_rows(room):
         check(f"{command} --help", (status, printed, text.startswith(f"ssh_audit {command}: ")), (2, USAGE, True))
         for option, _ in options_of(command):
             check(f"{command} --{option}", len(re.findall(rf"--{option} [A-Z0-9]+", text)), 1)
+        usage = next(line for line in listed.decode().splitlines() if line.startswith(f"ssh_audit {command}"))
+        check(f"{command}: the words of the synopsis", re.findall(r"--[a-z-]+ [A-Z0-9]+", usage), re.findall(r"--[a-z-]+ [A-Z0-9]+", "\n".join(line for line in text.splitlines() if line.startswith("  "))))
         check(f"{command}: lines", all(len(line) < 121 for line in text.splitlines()), True)
 
 
@@ -159,6 +168,7 @@ def default_rows(home):
     yield "trusts --key keys --host h", f"{{now}} {home}/.ssh/known_hosts"
     yield "trusts --key keys --host h --now 1", f" {home}/.ssh/known_hosts"
     yield "trusts --key keys --host h --now 1 --", f" {home}/.ssh/known_hosts"
+    yield "trusts --key keys --host [h]:2222", f"{{now}} {home}/.ssh/known_hosts"
     yield "review --kind auth --now 1 --zone UTC0 keys", ""
     yield "explain F1", ""
     yield "show --kind key --file keys", ""
@@ -172,6 +182,15 @@ def same_rows():
     yield f"{given} --now 1970-01-01T00:00:00Z", f"{given} --now 0"
     for wrong in ("2026-11-29", "2026-11-29T00:45:08", "2026-11-29T00:45:08+00:00", "2026-02-30T00:00:00Z", "1969-12-31T23:59:59Z", "2026-11-29 00:45:08Z"):
         yield ["review", "--kind", "auth", "--zone", "UTC0", "--now", wrong, "keys"], "review --kind auth --zone UTC0 --now x keys"
+    asked = "trusts --key keys --now 1 ports"
+    for port, forms in (("2222", ("--host h:2222", "--host=h:2222", "--host [h]:2222", "--host=[h]:2222")), ("22", ("--host h:22", "--host [h]:22"))):
+        for form in forms:
+            yield f"{asked} {form}", f"{asked} --host h --port {port}"
+    yield f"{asked} --host [::1]:2222", f"{asked} --host ::1 --port 2222"
+    yield f"{asked} --host h:70000", f"{asked} --host h --port 70000"
+    for uncut in ("::1", "2001:db8::1", "h:x", "h:", "[h]:", "[h]", ":22", "[]:22x"):
+        yield f"{asked} --host {uncut}", f"{asked} --host {uncut} --port 22"
+    yield f"{asked} --host h:2222 --port 22", f"{asked} --port 22 --host h:2222"
     if (ZONES / "Europe" / "Berlin").exists():
         dated = "review --kind auth --now 1 dated"
         yield f"{dated} --zone Europe/Berlin", f"{dated} --zone CET-1CEST,M3.5.0,M10.5.0/3"
@@ -190,11 +209,14 @@ def defaults(room):
     for name in ("known_hosts", "known_hosts2", "ssh_known_hosts", "db.known_hosts", ".ssh/known_hosts"):
         (room / name if "/" not in name else home / name).write_text("h " + KEY)
     (room / "--now").write_text(KEY)
+    (room / "ports").write_text("[h]:2222,[::1]:2222 " + KEY)
     (room / "dated").write_text('expiry-time="20240229" ' + KEY)
     zone = local_zone()
     for words, wanted in default_rows(home):
-        status, printed, errors = run(words.split(), room, home)
+        status, printed, errors = run_on_terminal(words.split(), room, home)
         said = asked_with(errors) if wanted or errors.startswith("ssh_audit: asked") else ""
+        check(f"{words}: nothing of it in a job", "asked with" in run(words.split(), room, home)[2], False)
+        check(f"{words}: nothing of it without a real terminal", "asked with" in run_on_terminal(words.split(), room, home, "dumb")[2], False)
         wanted = wanted.replace("{zone}", zone).replace("{now}", " NOW")
         if words.startswith("review -- authorized_keys"):
             check(words, (status, errors), (2, "ssh_audit: review: --kind is missing\n" + see("review")))
@@ -206,6 +228,8 @@ def defaults(room):
     for words, others in same_rows():
         words = words if isinstance(words, list) else words.split()
         check(" ".join(words), run(words, room)[:2], run(others.split(), room)[:2])
+    for name, status in (("h:2222", 0), ("[::1]:2222", 0), ("h", 1), ("h:2222 --port 22", 1)):
+        check(f"trusts {name}", run(f"trusts --key keys --now 1 ports --host {name}".split(), room)[0], status)
     check("no home", run(["review", "--kind", "auth"], room)[2], "ssh_audit: review: no file is named\n" + see("review"))
 
 

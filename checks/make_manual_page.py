@@ -22,14 +22,7 @@ TOP = pathlib.Path(__file__).resolve().parent.parent
 PAGE = TOP / "docs" / "ssh_audit.1"
 TEMPLATE = TOP / "docs" / "ssh_audit.1.in"
 MANUAL = TOP / "docs" / "MANUAL.md"
-# What stands for the value of each option, and for an operand.
-VALUES = {
-    **dict.fromkeys(("file", "offer-file", "signature-file", "vouch", "body", "message", "salts", "key"), "FILE"),
-    **dict.fromkeys(("algorithm", "user", "host", "namespace"), "NAME"),
-    **dict.fromkeys(("signature", "session", "hash"), "HEX"),
-    **{"offer": "BASE64", "address": "ADDRESS", "now": "SECONDS", "zone": "RULE", "empty-principals": "WHO"},
-    **{"rsa-minimum": "BITS", "port": "NUMBER", "findings": "LIST", "form": "FORM", "kind": "KIND"},
-}
+HELP = documents.CODE / "help.rt"
 OPERANDS = {"admits": "NAME", "trusts": "NAME", "review": "NAME", "explain": "CODE"}
 MADE = re.compile(r"^@([\w ]+)@$", re.MULTILINE)
 ROW = re.compile(r"^\| `--([\w-]+)` \| (.*) \| (.*) \|$", re.MULTILINE)
@@ -56,6 +49,24 @@ def sentence(cell):
     return rendered(cell[0].upper() + cell[1:])
 
 
+def of_options(function, form):
+    """What a function of help.rt gives for each option, in this form."""
+    names = dict(re.findall(r'ArgName::(\w+) => "([\w-]+)"', (documents.CODE / "args.rt").read_text()))
+    body = HELP.read_text().split(f"fn {function}(", 1)[1].split("\n}\n", 1)[0]
+    return names, {names[option]: given for option, given in re.findall(rf"ArgName::(\w+) => {form}", body)}
+
+
+def values():
+    """What stands for the value of each option, as `--help` and `explain usage` have it."""
+    return of_options("value_word", r'b"(\w+)"')[1]
+
+
+def pairs():
+    """Of two options of which exactly one has to be given, the second by the first."""
+    names, others = of_options("other_place", r"Some\(ArgName::(\w+)\)")
+    return {option: names[other] for option, other in others.items()}
+
+
 def operands():
     """Whether each subcommand's operands may be left out; those without any are not in it."""
     text = (documents.CODE / "subcommand.rt").read_text()
@@ -66,12 +77,15 @@ def operands():
 def synopsis(command):
     """A command with its options and operands; those that may be left out are in brackets."""
     yield from (".PP", ".nh", ".ad l", f"\\fBssh_audit {command}\\fR")
+    asked = {option: f"\\fB{shown('--' + option)}\\fR \\fI{word}\\fR" for option, word in values().items()}
     for option, may_go in documents.rows_of_code().get(command, []):
-        asked = f"\\fB{shown('--' + option)}\\fR \\fI{VALUES[option]}\\fR"
-        yield f"[{asked}]" if may_go else asked
+        if option in pairs():
+            yield f"({asked[option]} | {asked[pairs()[option]]})"
+        elif option not in pairs().values():
+            yield f"[{asked[option]}]" if may_go else asked[option]
     if command in operands():
-        asked = f"\\fI{OPERANDS[command]}\\fR ..."
-        yield f"[{asked}]" if operands()[command] else asked
+        operand = f"\\fI{OPERANDS[command]}\\fR ..."
+        yield f"[{operand}]" if operands()[command] else operand
     yield from (".ad b", ".hy")
 
 
@@ -91,7 +105,7 @@ def options(command):
     table = dict(documents.TABLE.findall(MANUAL.read_text()))[command]
     said = {option: sentence(value) + "." + without(default) for option, value, default in ROW.findall(table)}
     for option, _ in documents.rows_of_code().get(command, []):
-        yield from (".TP", f'.BI {shown("--" + option)} " {VALUES[option]}"', said[option])
+        yield from (".TP", f'.BI {shown("--" + option)} " {values()[option]}"', said[option])
     if OPERANDS.get(command) == "NAME":
         yield from (".PP", "Each \\fINAME\\fR is a file; \\fB\\-\\fR is standard input.")
 

@@ -7,7 +7,7 @@ usage: manual_page.py
 
 Under COMMANDS each `.SS NAME` is a command, and each `.BI \\-\\-NAME ..` below it one of its options, whose text says "left
 out" exactly where the option may be. The paragraph of the synopsis that begins with the command names the same options,
-those that may be left out in brackets. Under CODES each `.B CODE` stands above its sentence, which ends with a full stop
+those that may be left out in brackets, and two of which one has to be given in parentheses. Under CODES each `.B CODE` stands above its sentence, which ends with a full stop
 there. The last line is 'N passed, M failed'; the status is 0 where nothing failed."""
 import itertools
 import os
@@ -25,7 +25,7 @@ PAGE = make_manual_page.PAGE
 SECTION = re.compile(r"^\.SH (.*)$", re.MULTILINE)
 COMMAND = re.compile(r"^\.SS (\w+)$", re.MULTILINE)
 OPTION = re.compile(r'^\.BI --([\w-]+) ".*"\n((?:(?!\.).*\n?)*)', re.MULTILINE)
-ASKED = re.compile(r"(\[?)--([\w-]+) \w+")
+ASKED = re.compile(r"([\[(]|\| )?--([\w-]+) \w+")
 CODE = re.compile(r"^\.B (\S+)\n(.*)\.$", re.MULTILINE)
 
 

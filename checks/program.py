@@ -49,6 +49,8 @@ NEEDS = {"ssh-keygen": "openssh-client", "sshd": "openssh-server", "openssl": "o
 COUNTS = re.compile(r"(\d+) passed, (\d+) failed")
 # What a check says that it did not try.
 MISSING = re.compile(r"^\S+ is missing.*\n", re.MULTILINE)
+# Where TERM names a terminal the program says more on standard error. help.py sets it.
+os.environ.pop("TERM", None)
 SECONDS = 60
 FILE_LIMIT = inputs.FILE_LIMIT
 
@@ -70,9 +72,9 @@ TRUSTED = f"granted line 1\nevidence 0 {HOST_TRIPLE}"
 REVOKED = f"denied N1 2\nevidence 0 {HOST_TRIPLE}"
 # Stands for what goes to standard error after a usage fault. help.py compares the texts.
 HINT = b"which word is wrong, and where help is\n"
-# What standard error says beside that: what a question was asked with, and the sentence of a fault.
+# What standard error says beside that: the sentence of a fault.
 BESIDE = re.compile(
-    rb"^ssh_audit: (?:asked with .*|--[a-z-]+ wants .*|fault \S+: .*"
+    rb"^ssh_audit: (?:--[a-z-]+ wants .*|fault \S+: .*"
     rb"|(?:admits|trusts|review|explain): (?:a file has a fault|a word is no code): .*)\n",
     re.MULTILINE,
 )

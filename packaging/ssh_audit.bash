@@ -25,6 +25,7 @@ _ssh_audit() {
     host) options='--file --offer --offer-file --signature --signature-file --hash --host --port --now --vouch --empty-principals --rsa-minimum' ;;
     sshsig) options='--body --message --namespace --vouch' ;;
     rewrite) options='--kind --file' ;;
+    readable) options='--file' ;;
     hash) options='--file --salts' ;;
     admits) options='--key --user --address --now --host --zone --empty-principals --rsa-minimum --form' operands=files ;;
     trusts) options='--key --host --now --port --empty-principals --rsa-minimum --form' operands=files ;;
@@ -33,7 +34,7 @@ _ssh_audit() {
     esac
     [[ $given != -- ]] || option=
     if ((COMP_CWORD == 1)); then
-        words='show login host sshsig rewrite hash admits trusts review explain --help'
+        words='show login host sshsig rewrite readable hash admits trusts review explain --help'
     elif [[ $option == --* && " $options " == *" $option "* ]]; then
         case "$command $option" in
         'show --kind') words='key cert private sshsig' ;;

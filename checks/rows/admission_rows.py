@@ -318,7 +318,7 @@ COMPARED = [
     (RSA_KEY, RSA_KEY, admits(rsa_minimum="9"), "G20", "; at least 9 bits"),
     (RSA_KEY, f"h {RSA_KEY}", trusts(rsa_minimum="9"), "G20", "; at least 9 bits"),
     (KEY, f'from="*.example" {KEY}', admits(host="a.other"), "G8", '; from "*.example"; address "192.0.2.1"; host "a.other"'),
-    (KEY, f"cert-authority {KEY}", admits(), "G3", ""),
+    (KEY, f"cert-authority {KEY}", admits(), "G3", "and the line is cert-authority"),
 ]
 
 
@@ -326,9 +326,8 @@ def tells_what_was_compared(asker):
     for key, file, words, code, compared in COMPARED:
         with standing(asker, {"k": key, "t": file}):
             _, answer, _ = asker.program.run([*words, "t"])
-            lines = [line for line in answer.decode().splitlines() if line.startswith(f"    1 {code}: ")]
-            _, mark, found = lines[0].partition(";") if lines else ("", "", "no such line")
-            asker.check(f"{' '.join(words)} of {file[:60]}", mark + found, compared)
+            found = [line for line in answer.decode().splitlines() if line.startswith(f"    1 {code}: ")]
+            asker.check(f"{' '.join(words)} of {file[:60]}: {found}", [line.endswith(compared) for line in found], [True])
 
 
 # The options of a security key's line, and what the key has to show.

@@ -53,7 +53,6 @@ FILES = [
     (f'expiry-time="20261127163000" {KEY}\n', 3, NO_LINE + SOUGHT + PAST.format("1795797000 2026-11-27T16:30:00Z") + MAY.format(1, LATER)),
     (f'expiry-time="20261127162959" {KEY}\n', 1, NO_LINE + SOUGHT + PAST.format("1795796999 2026-11-27T16:29:59Z")),
     (f'expiry-time="202611271700Z" {KEY}\n', 1, NO_LINE + SOUGHT + PAST.format("1795798800 2026-11-27T17:00:00Z")),
-    (f'expiry-time="2026" {KEY}\n', 1, NO_LINE + SOUGHT + PAST.format("-")),
     # A verified user.
     (
         f"verify-required {KEY}\n", 3,

@@ -12,9 +12,10 @@ mod system;
 mod writers;
 
 use kept::KeptFiles;
+use ssh_files::read_front;
 use ssh_program::{
-    WordsError, asks_readable, asks_surroundings, defaults_line, fault_guidance, refuse, run,
-    usage_guidance, with_defaults,
+    WordsError, asks_readable, asks_surroundings, defaults_line, fault_guidance, key_file_form,
+    refuse, run, usage_guidance, with_defaults,
 };
 use ssh_review::left_out;
 use std::alloc::{AllocError, Global};
@@ -39,6 +40,9 @@ const DONE: u8 = 0;
 
 /// The status where there is no answer.
 const FAULT: u8 = 2;
+
+/// How many bytes of a key's file tell what it is.
+const KEY_FRONT: usize = 512;
 
 /// What needs nothing but memory.
 type Outcome<T> = std::result::Result<T, AllocError>;
@@ -82,12 +86,45 @@ fn tell(rt: &HostRuntime, text: &[u8]) {
     }
 }
 
+/// Whether the environment names a terminal. A job of cron has none: it is told on standard error
+/// only where something is wrong, so that no mail comes of it.
+fn has_terminal(rt: &HostRuntime) -> bool {
+    match env::var(rt, "TERM") {
+        Ok(terminal) => terminal.as_str() != "dumb",
+        Err(_) => false,
+    }
+}
+
 /// Prints what standard error says after an answer; where memory is refused for it, where the
 /// manual is.
 fn tell_guidance(rt: &HostRuntime, words: &[String<Global>], status: u8, writer: &Output<'_>) {
     match guidance(rt, words, status, writer) {
         Ok(text) => tell(rt, &text),
         Err(AllocError) => tell(rt, b"ssh_audit: see the manual page ssh_audit(1)\n"),
+    }
+}
+
+/// The name of the file that `--key` gives.
+fn key_name<'a>(words: &[&'a str]) -> Option<&'a str> {
+    let mut is_next = false;
+    for word in words {
+        if is_next {
+            return Some(*word);
+        }
+        if let Some(name) = word.strip_prefix("--key=") {
+            return Some(name);
+        }
+        is_next = *word == "--key";
+    }
+    None
+}
+
+/// Prints what a file is that holds no public key line, where it can be told by its first bytes.
+fn tell_key_file(rt: &HostRuntime, name: &str, files: &mut Source<'_>) {
+    if let Ok(front) = read_front(rt.alloc(), files, name, KEY_FRONT) {
+        if let Some(form) = key_file_form(&front) {
+            tell(rt, form.sentence().as_bytes());
+        }
     }
 }
 
@@ -100,6 +137,14 @@ fn answer(
 ) -> u8 {
     let status = run(rt.alloc(), words, files, writer);
     tell_guidance(rt, words, status, writer);
+    if status == FAULT && writer.front().starts_with(b"fault L".as_slice()) {
+        if let Ok(texts) = as_texts(rt, words) {
+            match key_name(texts.as_slice()) {
+                Some("-") | None => {}
+                Some(name) => tell_key_file(rt, name, files),
+            }
+        }
+    }
     status
 }
 
@@ -152,7 +197,7 @@ fn answer_question(
     match read_question(rt, words) {
         Ok((told, line)) => {
             let status = answer(rt, told.as_slice(), files, writer);
-            if !writer.is_usage() {
+            if !writer.is_usage() && has_terminal(rt) {
                 tell(rt, &line);
             }
             status

@@ -1,5 +1,8 @@
 //! The surroundings of a question: the clock, the time zone and the home folder of the machine.
 
+ghost use Rattle.std.specs.Prelude.{◌≡◌, option_map, string_bytes};
+ghost use Rattle.ssh_program.specs.DefaultsView.{text_seen};
+
 use ssh_files::zone_of;
 use ssh_program::{Surroundings, date_seconds};
 use std::alloc::{AllocError, Global};
@@ -147,7 +150,9 @@ fn read_given_zone(rt: &HostRuntime, words: &[&str]) -> Outcome<Option<String<Gl
     read_rule(rt, path.as_str())
 }
 
-fn as_text(text: &Option<String<Global>>) -> Option<&str> {
+fn as_text(text: &Option<String<Global>>) -> Option<&str>
+    ensures { text_seen result ≡ option_map string_bytes text.now }
+{
     match text {
         Some(text) => Some(text.as_str()),
         None => None,
@@ -167,7 +172,15 @@ impl Known {
     }
 
     /// The same as texts.
-    pub fn as_surroundings(&self) -> Surroundings<'_> {
+    pub fn as_surroundings(&self) -> Surroundings<'_>
+        ensures time { text_seen result.time ≡ option_map string_bytes self.now.time }
+        ensures zone { text_seen result.zone ≡ option_map string_bytes self.now.zone }
+        ensures home { text_seen result.home ≡ option_map string_bytes self.now.home }
+        ensures given_time { text_seen result.given_time
+            ≡ option_map string_bytes self.now.given_time }
+        ensures given_zone { text_seen result.given_zone
+            ≡ option_map string_bytes self.now.given_zone }
+    {
         Surroundings {
             time: as_text(&self.time),
             zone: as_text(&self.zone),

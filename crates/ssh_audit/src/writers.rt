@@ -1,7 +1,7 @@
 //! Reads and writes that are tried again after a signal, and a writer that remembers what was
 //! printed first.
 
-ghost use Rattle.std.specs.Prelude.{◌≢◌, IfErr, ◌≡◌, None, ◌||◌, codes, false};
+ghost use Rattle.std.specs.Prelude.{◌≢◌, IfErr, ◌≡◌, None, ◌||◌, ◌++◌, [], codes, false, take};
 ghost use Rattle.std.specs.Io.{ReadsAtMost, WritesAtMost};
 ghost use Rattle.std.specs.IoError.{error_kind};
 ghost use Rattle.ssh_program.specs.Account.{NoneFailed, after_write, where_told};
@@ -111,6 +111,7 @@ impl<W> Watched<W> {
     pub fn new(writer: W) -> Self
         ensures writer { result.writer ≡ writer }
         ensures usage { result.is_usage ≡ false }
+        ensures front { result.front ≡ [] }
     {
         Watched {
             writer,
@@ -135,7 +136,9 @@ impl<W> Watched<W> {
     }
 
     /// The front of what was written to it.
-    pub fn front(&self) -> &[u8] {
+    pub fn front(&self) -> &[u8]
+        ensures { result.now ≡ self.now.front }
+    {
         self.front.as_slice()
     }
 }
@@ -164,6 +167,7 @@ impl<W: Sink> Sink for Watched<W> {
             (W.account self.old.writer) }
         ensures usage { self.new.is_usage
             ≡ (self.old.is_usage || bytes_eq buf.now (codes "fault usage\n")) }
+        ensures front { self.new.front ≡ take 64 (self.old.front ++ buf.now) }
     {
         self.is_usage = self.is_usage || buf == USAGE_FAULT;
         self.front.extend(buf);

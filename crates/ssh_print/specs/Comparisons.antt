@@ -5,7 +5,6 @@ use Rattle.std.specs.Fmt.{decimal}
 use Rattle.sha2.specs.Sha256.{sha256}
 use Rattle.ssh_keys.specs.Fingerprint.{digest_text_of}
 use Rattle.ssh_keys.specs.PublicKey.{key_blob}
-use Rattle.ssh_certs.specs.Certificate.{Certificate}
 use Rattle.ssh_certs.specs.CertificateOptions.{text_of_option}
 use Rattle.ssh_certs.specs.declared.options.CertificateOption.TheVariants.{ForceCommand, SourceAddress}
 use Rattle.ssh_entries.specs.AuthGrammar.{auth_line}

@@ -1,6 +1,6 @@
 -- What the holder of a security key has to show for a line that admits it (sshd(8), no-touch-required and
 -- verify-required; PROTOCOL.u2f).
-use Rattle.std.specs.Prelude.{ℕ, ◌==◌, Bool, true, false, not, if◌then◌else◌, List, [], ◌∷◌, codes, Option, Some, None}
+use Rattle.std.specs.Prelude.{ℕ, Bool, true, false, not, if◌then◌else◌, List, [], codes, Some}
 use Rattle.ssh_keys.specs.PublicKey.{kind_of}
 use Rattle.ssh_keys.specs.Signature.{Signature}
 use Rattle.ssh_entries.specs.AuthGrammar.{auth_line}

@@ -49,12 +49,7 @@ fn cut_mark(text: &[u8]) -> &'static [u8]
 
 /// Appends a word and any bytes, between quotes.
 #[tactic(auto, unfolding(crate::specs::Comparisons::value_text))]
-fn push_value(
-    alloc: Global,
-    out: &mut Vec<u8>,
-    word: &[u8],
-    text: &[u8],
-) -> Result<(), AllocError>
+fn push_value(alloc: Global, out: &mut Vec<u8>, word: &[u8], text: &[u8]) -> Result<(), AllocError>
     ensures { OnOk result (out.new.items ≡ out.old.items ++ value_text word.now text.now) }
 {
     out.extend_from_slice(b"; ")?;
@@ -195,11 +190,7 @@ fn push_first_principals(
     Ok(())
 }
 
-fn push_principals(
-    alloc: Global,
-    out: &mut Vec<u8>,
-    offer: &Offer<'_>,
-) -> Result<(), AllocError>
+fn push_principals(alloc: Global, out: &mut Vec<u8>, offer: &Offer<'_>) -> Result<(), AllocError>
     ensures { OnOk result (out.new.items
         ≡ out.old.items ++ offered_principals (offer_of offer.now)) }
 {
@@ -244,12 +235,7 @@ fn push_start(
     }
 }
 
-fn push_end(
-    alloc: Global,
-    out: &mut Vec<u8>,
-    now: u64,
-    offer: &Offer<'_>,
-) -> Result<(), AllocError>
+fn push_end(alloc: Global, out: &mut Vec<u8>, now: u64, offer: &Offer<'_>) -> Result<(), AllocError>
     ensures { OnOk result (out.new.items
         ≡ out.old.items ++ end_compared now (offer_of offer.now)) }
 {

@@ -39,11 +39,7 @@ pub fn moment_text(alloc: Global, moment: i64) -> Result<Vec<u8>, AllocError>
 }
 
 /// Appends the same of a moment that is not before 1970.
-pub(crate) fn push_moment(
-    alloc: Global,
-    out: &mut Vec<u8>,
-    moment: u64,
-) -> Result<(), AllocError>
+pub(crate) fn push_moment(alloc: Global, out: &mut Vec<u8>, moment: u64) -> Result<(), AllocError>
     ensures { OnOk result (out.new.items ≡ out.old.items ++ moment_text (pos moment)) }
 {
     let date = date(alloc, moment)?;

@@ -154,7 +154,11 @@ pub(crate) fn login_details(
     let mut out = Vec::new(alloc);
     match decision {
         Decision::Granted { line, reasons, .. } => {
-            let needs = shown_needs(alloc, matcher.claim(), line_from(&mut Lines::new(file), *line))?;
+            let needs = shown_needs(
+                alloc,
+                matcher.claim(),
+                line_from(&mut Lines::new(file), *line),
+            )?;
             out.extend_from_slice(needs)?;
             push_passed_text(alloc, &mut out, matcher, file, reasons.as_slice())?;
         }

@@ -12,8 +12,8 @@ ghost use Rattle.ssh_print.specs.OtherLines.{ground_text, decides_line, decides_
 
 use crate::admission_text::Subject;
 use crate::asked_key::{Admitting, first_line};
-use crate::details::login_details;
 use crate::decision_text::rights_lines;
+use crate::details::login_details;
 use crate::possible::{WhyPossible, possible_lines};
 use crate::shown_needs::is_security_key;
 use crate::text::push_number;

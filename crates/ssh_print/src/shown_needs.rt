@@ -37,7 +37,8 @@ fn needs_words(touch: bool, verification: bool) -> &'static [u8]
 /// The claim with a signature that shows neither a touch nor a verified user.
 fn unflagged<'a>(claim: &LoginClaimView<'a>) -> LoginClaimView<'a>
     ensures { claim_of result ≡ record (claim_of claim.now) {
-        signature = unflagged (claim_of claim.now).signature } }
+      signature = unflagged (claim_of claim.now).signature;
+    } }
 {
     LoginClaimView {
         query: claim.query,

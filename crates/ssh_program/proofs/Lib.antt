@@ -38,3 +38,7 @@ pub mod KeyRunLemmas
 pub mod SignatureRunLemmas
 mod FileRunLemmas
 mod WordLemmas
+mod ComplaintLemmas
+mod HostPortLemmas
+mod GuidanceLemmas
+mod AddedDateLemmas

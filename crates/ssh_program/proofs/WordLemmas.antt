@@ -1,6 +1,7 @@
 -- Words in turn: one word more.
-use Rattle.std.proofs.Common.{◌≡◌, ◌∙◌, ◌++◌, ◌∷◌, [], List, ap, map, sym, append_assoc}
-use Rattle.std.proofs.lemmas.List.{map-append}
+use Rattle.std.proofs.Common.{◌≡◌, ◌∙◌, ◌+◌, ◌++◌, ◌∷◌, [], ℕ, Bool, List, ap, cond, drop, map, not, refl, sym, append_assoc}
+use Rattle.std.proofs.lemmas.List.{drop-map, length-map, map-append}
+use Rattle.std.specs.List.{list_any, position, position_or_len}
 use Rattle.clap.specs.Words.{Text}
 use Rattle.ssh_program.specs.declared.word.Place.{Place}
 use Rattle.ssh_program.specs.WordPlaces.{Word, place_after, words_from}
@@ -26,3 +27,16 @@ pub turn_told : (seen more all : List Word) (before : Text) (place : Place) (tex
 turn_told seen more all before place text left rest last next is stands cut pushed whole =
     ap (λ x. more ++ words_from x next rest) is
     ∙ (ap (λ y. more ++ words_from text y rest) stands ∙ turn_more seen more all before place text left rest cut pushed whole)
+
+-- ---- what is found among words in memory is found among what is seen of them
+
+place-seen : {X Y : Type 0} (test : Y → Bool) (view : X → Y) (xs : List X) → position_or_len (λ x. test (view x)) xs ≡ position_or_len test (map view xs)
+place-seen test view [] = refl
+place-seen test view (x ∷ xs) = ap (λ n. cond (not (test (view x))) (1 + n) 0) (place-seen test view xs)
+
+pub position_seen : {X Y : Type 0} (test : Y → Bool) (view : X → Y) (xs : List X) → position (λ x. test (view x)) xs ≡ position test (map view xs)
+position_seen test view xs = rw (place-seen test view xs, length-map xs view) refl
+
+-- the words behind one of them
+pub behind_seen : {X Y : Type 0} (test : Y → Bool) (view : X → Y) (xs : List X) (n : ℕ) → list_any test (map view (drop n xs)) ≡ list_any test (drop n (map view xs))
+behind_seen test view xs n = ap (list_any test) (sym (drop-map view n xs))

@@ -146,15 +146,17 @@ pub words_refused : WordsRefused
 unfolding subcommand_app clap_on_literals
 words_refused = (refl, refl, refl, refl, refl, refl)
 
--- lines of the synopsis: required options, options that may be left out, and operands of both kinds
+-- lines of the synopsis: required options, options that may be left out, pairs of options, and operands of both kinds
 abbrev pub UsageTold : Type 0
-UsageTold = (usage_line Show ≡ codes "ssh_audit show --kind VALUE --file VALUE\n")
+UsageTold = (usage_line Show ≡ codes "ssh_audit show --kind KIND --file FILE\n")
     × (usage_line Trusts
-    ≡ codes "ssh_audit trusts --key VALUE --host VALUE --now VALUE [--port VALUE] [--empty-principals VALUE] [--rsa-minimum VALUE] [--form VALUE] NAME..\n")
-    × (usage_line Explain ≡ codes "ssh_audit explain [NAME..]\n")
+    ≡ codes "ssh_audit trusts --key FILE --host NAME --now SECONDS [--port PORT] [--empty-principals WHOM] [--rsa-minimum BITS] [--form FORM] NAME..\n")
+    × (usage_line Host
+    ≡ codes "ssh_audit host --file FILE (--offer BASE64 | --offer-file FILE) (--signature HEX | --signature-file FILE) --hash HEX --host NAME --port PORT --now SECONDS [--vouch FILE] [--empty-principals WHOM] [--rsa-minimum BITS]\n")
+    × (usage_line Explain ≡ codes "ssh_audit explain [CODE..]\n")
     × (asks_usage (codes "G8" ∷ codes "usage" ∷ []) ≡ true)
     × (asks_usage (codes "usages" ∷ codes "USAGE" ∷ []) ≡ false)
 
 pub usage_told : UsageTold
 unfolding usage_line
-usage_told = (refl, refl, refl, refl, refl)
+usage_told = (refl, refl, refl, refl, refl, refl)

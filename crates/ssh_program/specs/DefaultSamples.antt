@@ -39,6 +39,26 @@ OthersTold =
     × told somewhere (codes "login" ∷ codes "--user" ∷ codes "ann" ∷ []) (codes "login" ∷ codes "--user" ∷ codes "ann" ∷ [])
     × told somewhere [] []
 
+-- a host with its port, where `--port` is not given; an address of IPv6 is left as it is
+abbrev pub HostsTold : Type 0
+HostsTold =
+    told somewhere (codes "trusts" ∷ codes "--host" ∷ codes "[h]:2" ∷ codes "f" ∷ [])
+    (codes "trusts" ∷ codes "--now" ∷ codes "7" ∷ codes "--host" ∷ codes "h" ∷ codes "--port" ∷ codes "2" ∷ codes "f" ∷ [])
+    × told somewhere (codes "trusts" ∷ codes "--host=h:22" ∷ codes "f" ∷ [])
+    (codes "trusts" ∷ codes "--now" ∷ codes "7" ∷ codes "--host" ∷ codes "h" ∷ codes "--port" ∷ codes "22" ∷ codes "f" ∷ [])
+    × told somewhere (codes "trusts" ∷ codes "--host" ∷ codes "[::1]:2" ∷ codes "f" ∷ [])
+    (codes "trusts" ∷ codes "--now" ∷ codes "7" ∷ codes "--host" ∷ codes "::1" ∷ codes "--port" ∷ codes "2" ∷ codes "f" ∷ [])
+    × told somewhere (codes "trusts" ∷ codes "--host" ∷ codes "::1" ∷ codes "f" ∷ [])
+    (codes "trusts" ∷ codes "--now" ∷ codes "7" ∷ codes "--host" ∷ codes "::1" ∷ codes "f" ∷ [])
+    × told somewhere (codes "trusts" ∷ codes "--host" ∷ codes "h:2" ∷ codes "--port" ∷ codes "3" ∷ codes "f" ∷ [])
+    (codes "trusts" ∷ codes "--now" ∷ codes "7" ∷ codes "--host" ∷ codes "h:2" ∷ codes "--port" ∷ codes "3" ∷ codes "f" ∷ [])
+    × told somewhere (codes "admits" ∷ codes "--host" ∷ codes "h:2" ∷ codes "f" ∷ [])
+    (codes "admits" ∷ codes "--now" ∷ codes "7" ∷ codes "--zone" ∷ codes "UTC0" ∷ codes "--host" ∷ codes "h:2" ∷ codes "f" ∷ [])
+
+pub hosts_told : HostsTold
+unfolding asked
+hosts_told = (refl, refl, refl, refl, refl, refl)
+
 pub reviews_told : ReviewsTold
 unfolding asked
 reviews_told = (refl, refl, refl, refl)

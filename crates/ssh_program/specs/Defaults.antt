@@ -9,7 +9,8 @@ use Rattle.ssh_program.specs.declared.subcommand.Subcommand.{Subcommand}
 use Rattle.ssh_program.specs.declared.subcommand.Subcommand.TheVariants.{Admits, Review, Trusts}
 use Rattle.ssh_program.specs.declared.word.Place.{Place}
 use Rattle.ssh_program.specs.declared.word.Place.TheVariants.{Open, AfterOption, Behind}
-use Rattle.ssh_program.specs.Options.{option_word, subcommand_named}
+use Rattle.ssh_program.specs.Options.{option_word, subcommand_in, subcommand_named}
+use Rattle.ssh_program.specs.HostPorts.{parted, parts_in}
 use Rattle.ssh_program.specs.WordPlaces.{Word, has_operand, in_turn, is_given, is_operand}
 
 -- ---- the surroundings
@@ -133,11 +134,29 @@ told_at Behind s word = word.text ∷ []
 abbrev pub told_word : Surroundings → Word → List Text
 told_word s word = told_at word.place s word
 
+-- ---- a host with its port
+
+-- a port in the value of `--host` is that of `--port`, where this is not given
+abbrev pub parts_hosts : Subcommand → List Word → Bool
+parts_hosts Trusts words = not (is_given option.Port words)
+parts_hosts c words = false
+
+abbrev pub parts_if : Bool → Word → Option (Text × Text)
+parts_if apart word = if apart then parts_in word else None
+
+abbrev pub told_by : Option (Text × Text) → Surroundings → Word → List Text
+told_by None s word = told_word s word
+told_by (Some parts) s word = parted word.place parts
+
+-- a word, a host and its port as two options
+abbrev pub told_words : Bool → Surroundings → Word → List Text
+told_words apart s word = told_by (parts_if apart word) s word
+
 -- ---- the words
 
 -- the words after the name of a command, with what they leave out
 unfoldable pub asked : Subcommand → Surroundings → List Word → List Text
-asked c s words = added_options c s words ++ (flat_map (told_word s) words ++ added_files c s words)
+asked c s words = added_options c s words ++ (flat_map (told_words (parts_hosts c words) s) words ++ added_files c s words)
 
 -- the commands whose questions may leave something out
 abbrev pub takes_defaults : Subcommand → Bool
@@ -154,3 +173,13 @@ words_of (Some c) s words = if takes_defaults c then asked c s (in_turn words) e
 abbrev pub words_with_defaults : Surroundings → List Text → List Text
 words_with_defaults s [] = []
 words_with_defaults s (name ∷ words) = name ∷ words_of (subcommand_named name) s words
+
+-- ---- which words these are
+
+abbrev pub takes_by : Option Subcommand → Bool
+takes_by None = false
+takes_by (Some c) = takes_defaults c
+
+-- whether the words are a question that may leave something out
+abbrev pub asks_surroundings : List Text → Bool
+asks_surroundings words = takes_by (subcommand_in words)

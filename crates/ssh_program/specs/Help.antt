@@ -145,7 +145,7 @@ abbrev pub help_names : Subcommand → Text
 help_names Admits = codes "  NAME..\n      the authorized_keys files; ~/.ssh/authorized_keys without one\n"
 help_names Trusts = codes "  NAME..\n      the known_hosts files; ~/.ssh/known_hosts without one\n"
 help_names Review = codes "  NAME..\n      the files that are reviewed; the one in ~/.ssh without one\n"
-help_names Explain = codes "  NAME..\n      the codes, and usage for the synopsis; all codes without one\n"
+help_names Explain = codes "  CODE..\n      the codes, and usage for the synopsis; all codes without one\n"
 help_names c = []
 
 -- ---- options

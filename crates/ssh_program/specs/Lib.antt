@@ -17,9 +17,14 @@ pub mod Samples
 pub mod Options
 pub mod Help
 pub mod Complaints
+pub mod ComplaintsView
+pub mod Guidance
 pub mod Dates
 pub mod Defaults
+pub mod DefaultsLine
 pub mod DefaultsView
+pub mod HostPorts
+pub mod HostPortsView
 pub mod DefaultSamples
 pub mod WordPlaces
 pub mod WordPlacesView

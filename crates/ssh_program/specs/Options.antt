@@ -64,6 +64,11 @@ subcommand_name Explain = codes "explain"
 abbrev pub subcommand_named : Text → Option Subcommand
 subcommand_named name = find (λ c. bytes_eq (subcommand_name c) name) subcommands
 
+-- the subcommand that the first of these words names
+abbrev pub subcommand_in : List Text → Option Subcommand
+subcommand_in [] = None
+subcommand_in (name ∷ words) = subcommand_named name
+
 -- the options of a subcommand, and which of them have to be given
 abbrev pub subcommand_options : Subcommand → List (ArgName × Needed)
 subcommand_options Show = (option.Kind, Required) ∷ (option.File, Required) ∷ []

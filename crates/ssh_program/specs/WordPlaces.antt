@@ -1,6 +1,6 @@
 -- What the words after the name of a command are read as, before their values are (this project's rule, as clap reads
 -- them: `--` ends the options, and an option without `=` takes the next word).
-use Rattle.std.specs.Prelude.{◌==◌, ◌&&◌, ◌||◌, ℕ, Bool, true, false, not, List, [], ◌∷◌, codes, drop, length, if◌then◌else◌, nat_eq, slice_index}
+use Rattle.std.specs.Prelude.{◌==◌, ◌&&◌, ◌||◌, ◌+◌, ℕ, Bool, true, false, not, List, [], ◌∷◌, Option, Some, None, codes, drop, length, if◌then◌else◌, nat_eq, position, slice_index}
 use Rattle.std.specs.List.{list_any, starts_with}
 use Rattle.std.specs.Str.{bytes_eq}
 use Rattle.clap.specs.Words.{Text}
@@ -83,6 +83,14 @@ gives o word = gives_at word.place o word.text
 
 abbrev pub is_given : ArgName → List Word → Bool
 is_given o words = list_any (gives o) words
+
+abbrev pub is_given_behind : Option ℕ → ArgName → List Word → Bool
+is_given_behind None o words = false
+is_given_behind (Some place) o words = is_given o (drop (place + 1) words)
+
+-- whether the words give the option, and once more behind the first that does
+abbrev pub is_given_twice : ArgName → List Word → Bool
+is_given_twice o words = is_given_behind (position (gives o) words) o words
 
 abbrev pub is_operand_at : Place → Text → Bool
 is_operand_at Open text = not (is_flag text)

@@ -282,12 +282,7 @@ fn tell_files<Q: FileQuestion, F: Files>(
 }
 
 /// The line of the total, which comes last in JSON.
-fn total_in(
-    alloc: Global,
-    who: AnswerForm,
-    files: u64,
-    status: u8,
-) -> Result<Vec<u8>, AllocError>
+fn total_in(alloc: Global, who: AnswerForm, files: u64, status: u8) -> Result<Vec<u8>, AllocError>
     ensures { IfOk result (λ text. text.items ≡ total_of who.form who.subject files status) }
 {
     match who.form {

@@ -1,11 +1,17 @@
 //! Which word of a command line is wrong, and the sentence that says so.
 
-ghost use Rattle.std.specs.Prelude.{◌≡◌, ◌++◌, OnOk};
-ghost use Rattle.ssh_program.specs.Complaints.{both_text, complaint_text, neither_text, option_text, told_word};
+ghost use Rattle.std.specs.Prelude.{◌≡◌, ◌++◌, OnOk, map, option_map};
+ghost use Rattle.ssh_program.specs.Complaints.{both_text, complaint_of, complaint_text, first_wrong, flag_wrong, names_wrong, neither_text, open_wrong, operand_wrong, option_in, option_text, option_wrong, pair_by, pair_wrong, row_named, told_word, value_wrong, waiting, waiting_at, whole_wrong, word_wrong};
+ghost use Rattle.ssh_program.specs.ComplaintsView.{complaint_seen};
+ghost use Rattle.ssh_program.specs.Options.{subcommand_options};
+ghost use Rattle.ssh_program.specs.WordPlacesView.{word_seen};
 
 use crate::args::{ArgName, Needed};
 use crate::help::other_place;
-use crate::subcommand::Subcommand;
+use crate::subcommand::{OptionRow, Subcommand};
+use crate::word::{
+    Place, Word, has_operand, is_bare, is_flag, is_given, is_given_twice, names_option,
+};
 use ssh_print::push_escaped;
 use std::alloc::AllocError;
 
@@ -28,177 +34,207 @@ pub enum Complaint<'a> {
     Other,
 }
 
-/// Whether a word is read as an option: it begins with a dash, and `-` alone is a file.
-fn is_flag(word: &str) -> bool {
-    word.len() > 1 && word.starts_with('-')
-}
-
-/// The name in `--NAME` or `--NAME=VALUE`.
-fn name_in(word: &str) -> Option<&str> {
-    let rest = word.strip_prefix("--")?;
-    match rest.split_once('=') {
-        Some((name, _)) => Some(name),
-        None => Some(rest),
-    }
-}
-
-fn is_named(word: &str, option: ArgName) -> bool {
-    match name_in(word) {
-        Some(name) => name == option.name(),
-        None => false,
-    }
-}
-
-/// The option of the command that a word names.
-fn option_in(command: Subcommand, word: &str) -> Option<ArgName> {
+/// The row of the option of a command that a word names.
+fn row_named(command: Subcommand, word: &[u8]) -> Option<OptionRow>
+    ensures { result ≡ row_named command word.now }
+{
     for row in command.options() {
-        if is_named(word, row.0) {
-            return Some(row.0);
+        if names_option(row.0, word) {
+            return Some(*row);
         }
     }
     None
 }
 
-/// What the words so far came to.
-#[derive(Clone, Copy)]
-struct Reading {
-    /// The option whose value comes next.
-    waiting: Option<ArgName>,
-    /// Whether `--` was read: what follows are operands.
-    is_behind: bool,
-    has_names: bool,
+/// The option of a command that a word names.
+fn option_in(command: Subcommand, word: &[u8]) -> Option<ArgName>
+    ensures { result ≡ option_in command word.now }
+{
+    match row_named(command, word) {
+        Some(row) => Some(row.0),
+        None => None,
+    }
 }
 
-const NOTHING_READ: Reading = Reading {
-    waiting: None,
-    is_behind: false,
-    has_names: false,
-};
-
-/// A word that is no option: the value of the option before it, or an operand.
-fn read_plain<'a>(
-    command: Subcommand,
-    reading: Reading,
-    word: &'a str,
-) -> Result<Reading, Complaint<'a>> {
-    let mut reading = reading;
-    if reading.waiting.is_some() && !reading.is_behind {
-        reading.waiting = None;
-        return Ok(reading);
+/// An operand is wrong where the command takes none.
+fn operand_complaint<'a>(command: Subcommand, word: &'a str) -> Option<Complaint<'a>>
+    ensures { option_map complaint_seen result ≡ operand_wrong command word.now }
+{
+    match command.names() {
+        None => Some(Complaint::ExtraWord(word)),
+        Some(_) => None,
     }
-    if command.names().is_none() {
-        return Err(Complaint::ExtraWord(word));
-    }
-    reading.has_names = true;
-    Ok(reading)
 }
 
-/// A word that begins with a dash.
-fn read_flag<'a>(
-    command: Subcommand,
-    reading: Reading,
-    word: &'a str,
-) -> Result<Reading, Complaint<'a>> {
-    let mut reading = reading;
-    if let Some(option) = reading.waiting {
-        return Err(Complaint::NoValue(option));
-    }
+/// A word that is read as an option is wrong where it is none of the command.
+fn flag_complaint<'a>(command: Subcommand, word: &'a str) -> Option<Complaint<'a>>
+    ensures { option_map complaint_seen result ≡ flag_wrong command word.now }
+{
     if word == "--" {
-        reading.is_behind = true;
-        return Ok(reading);
+        return None;
     }
-    let Some(option) = option_in(command, word) else {
-        return Err(Complaint::NotOption(word));
-    };
-    if !word.contains('=') {
-        reading.waiting = Some(option);
+    match option_in(command, word.as_bytes()) {
+        None => Some(Complaint::NotOption(word)),
+        Some(_) => None,
     }
-    Ok(reading)
 }
 
-/// What all words come to, or the first that is wrong.
-fn read_all<'a>(command: Subcommand, words: &[&'a str]) -> Result<Reading, Complaint<'a>> {
-    let mut reading = NOTHING_READ;
+fn open_complaint<'a>(command: Subcommand, word: &'a str) -> Option<Complaint<'a>>
+    ensures { option_map complaint_seen result ≡ open_wrong command word.now }
+{
+    if is_flag(word) {
+        flag_complaint(command, word)
+    } else {
+        operand_complaint(command, word)
+    }
+}
+
+/// In the place of a value, a word that is read as an option is none.
+fn value_complaint<'a>(command: Subcommand, word: &Word<'a>) -> Option<Complaint<'a>>
+    ensures { option_map complaint_seen result ≡ value_wrong command (word_seen word.now) }
+{
+    if !is_flag(word.text) {
+        return None;
+    }
+    match option_in(command, word.before) {
+        Some(option) => Some(Complaint::NoValue(option)),
+        None => None,
+    }
+}
+
+/// What is wrong with a word.
+fn word_complaint<'a>(command: Subcommand, word: &Word<'a>) -> Option<Complaint<'a>>
+    ensures { option_map complaint_seen result ≡ word_wrong command (word_seen word.now) }
+{
+    match word.place {
+        Place::Open => open_complaint(command, word.text),
+        Place::AfterOption => value_complaint(command, word),
+        Place::Behind => operand_complaint(command, word.text),
+    }
+}
+
+/// What is wrong with the first wrong word.
+fn words_complaint<'a>(command: Subcommand, words: &[Word<'a>]) -> Option<Complaint<'a>>
+    ensures { option_map complaint_seen result
+        ≡ first_wrong (word_wrong command) (map word_seen words.now) }
+{
     for word in words {
-        let read = if reading.is_behind || !is_flag(word) {
-            read_plain(command, reading, word)
-        } else {
-            read_flag(command, reading, word)
-        };
-        match read {
-            Ok(next) => reading = next,
-            Err(complaint) => return Err(complaint),
+        if let Some(complaint) = word_complaint(command, word) {
+            return Some(complaint);
         }
     }
-    Ok(reading)
+    None
 }
 
-/// The words that may be options: those before `--`.
-pub fn option_words<'a, 'b>(words: &'b [&'a str]) -> &'b [&'a str] {
-    match words.iter().position(|word| *word == "--") {
-        Some(place) if place < words.len() => &words[..place],
-        _ => words,
+/// The option whose value would come after this word.
+fn waiting_at(place: Place, command: Subcommand, text: &str) -> Option<ArgName>
+    ensures { result ≡ waiting_at place command text.now }
+{
+    match place {
+        Place::Open if is_bare(text) => option_in(command, text.as_bytes()),
+        _ => None,
     }
 }
 
-fn is_given(words: &[&str], option: ArgName) -> bool {
-    for word in option_words(words) {
-        if is_named(word, option) {
-            return true;
-        }
-    }
-    false
+/// The option whose value would come after the last word.
+fn waiting(command: Subcommand, words: &[Word<'_>]) -> Option<ArgName>
+    ensures { result ≡ waiting command (map word_seen words.now) }
+{
+    let word = words.last()?;
+    waiting_at(word.place, command, word.text)
 }
 
-fn is_twice(words: &[&str], option: ArgName) -> bool {
-    let mut is_seen = false;
-    for word in option_words(words) {
-        if is_named(word, option) {
-            if is_seen {
-                return true;
-            }
-            is_seen = true;
-        }
-    }
-    false
-}
-
-/// What is wrong with one option as a whole.
-fn option_complaint<'a>(words: &[&str], option: ArgName, needed: Needed) -> Option<Complaint<'a>> {
-    if is_twice(words, option) {
-        return Some(Complaint::Twice(option));
-    }
-    let is_there = is_given(words, option);
-    if needed.is_required() && !is_there {
-        return Some(Complaint::Missing(option));
-    }
-    let other = other_place(option)?;
-    match (is_there, is_given(words, other)) {
+/// Of two options exactly one has to be given.
+fn pair_by<'a>(
+    option: ArgName,
+    other: ArgName,
+    is_here: bool,
+    is_there: bool,
+) -> Option<Complaint<'a>>
+    ensures { option_map complaint_seen result ≡ pair_by option other is_here is_there }
+{
+    match (is_here, is_there) {
         (true, true) => Some(Complaint::Both(option, other)),
         (false, false) => Some(Complaint::Neither(option, other)),
         _ => None,
     }
 }
 
-/// What is wrong with the words after the name of a command that are no command line of it. The
-/// first wrong word comes before what is missing.
-pub fn find_complaint<'a>(command: Subcommand, words: &[&'a str]) -> Complaint<'a> {
-    let reading = match read_all(command, words) {
-        Ok(reading) => reading,
-        Err(complaint) => return complaint,
-    };
-    if let Some(option) = reading.waiting {
-        return Complaint::NoValue(option);
+fn pair_complaint<'a>(
+    option: ArgName,
+    other: Option<ArgName>,
+    words: &[Word<'_>],
+) -> Option<Complaint<'a>>
+    ensures { option_map complaint_seen result ≡ pair_wrong option other (map word_seen words.now) }
+{
+    match other {
+        None => None,
+        Some(other) => pair_by(
+            option,
+            other,
+            is_given(option, words),
+            is_given(other, words),
+        ),
     }
+}
+
+/// What is wrong with one option as a whole.
+fn option_complaint<'a>(words: &[Word<'_>], row: OptionRow) -> Option<Complaint<'a>>
+    ensures { option_map complaint_seen result ≡ option_wrong (map word_seen words.now) row }
+{
+    if is_given_twice(row.0, words) {
+        return Some(Complaint::Twice(row.0));
+    }
+    if row.1.is_required() && !is_given(row.0, words) {
+        return Some(Complaint::Missing(row.0));
+    }
+    pair_complaint(row.0, other_place(row.0), words)
+}
+
+/// What is wrong with the first option with which something is.
+fn options_complaint<'a>(command: Subcommand, words: &[Word<'_>]) -> Option<Complaint<'a>>
+    ensures { option_map complaint_seen result
+        ≡ first_wrong (option_wrong (map word_seen words.now)) (subcommand_options command) }
+{
     for row in command.options() {
-        if let Some(complaint) = option_complaint(words, row.0, row.1) {
-            return complaint;
+        if let Some(complaint) = option_complaint(words, *row) {
+            return Some(complaint);
         }
     }
-    if command.names() == Some(Needed::Required) && !reading.has_names {
-        return Complaint::NoNames;
+    None
+}
+
+fn names_complaint<'a>(command: Subcommand, words: &[Word<'_>]) -> Complaint<'a>
+    ensures { complaint_seen result ≡ names_wrong command (map word_seen words.now) }
+{
+    match (command.names(), has_operand(words)) {
+        (Some(Needed::Required), false) => Complaint::NoNames,
+        _ => Complaint::Other,
     }
-    Complaint::Other
+}
+
+/// What is wrong with the options and the operands as a whole.
+fn whole_complaint<'a>(command: Subcommand, words: &[Word<'_>]) -> Complaint<'a>
+    ensures { complaint_seen result ≡ whole_wrong command (map word_seen words.now) }
+{
+    if let Some(option) = waiting(command, words) {
+        return Complaint::NoValue(option);
+    }
+    match options_complaint(command, words) {
+        Some(complaint) => complaint,
+        None => names_complaint(command, words),
+    }
+}
+
+/// What is wrong with the words after the name of a command that are no command line of it. The
+/// first wrong word comes before what is missing.
+pub fn find_complaint<'a>(command: Subcommand, words: &[Word<'a>]) -> Complaint<'a>
+    ensures { complaint_seen result ≡ complaint_of command (map word_seen words.now) }
+{
+    match words_complaint(command, words) {
+        Some(complaint) => complaint,
+        None => whole_complaint(command, words),
+    }
 }
 
 /// An option by its name.
@@ -242,7 +278,8 @@ pub fn push_complaint(
     command: Subcommand,
     complaint: Complaint<'_>,
 ) -> Result<(), AllocError>
-    ensures { OnOk result (out.new.items ≡ out.old.items ++ complaint_text command complaint.entry) }
+    ensures { OnOk result (out.new.items
+        ≡ out.old.items ++ complaint_text command (complaint_seen complaint.entry)) }
 {
     match complaint {
         Complaint::NotOption(word) => {

@@ -1,10 +1,9 @@
 //! What a question may leave out: the words of the program with what the surroundings say in its
 //! place.
 
-ghost use Rattle.std.specs.Prelude.{◌≡◌, ◌++◌, ◌∷◌, [], IfOk, OnOk, codes, map, nat_eq, option_map, string_bytes};
-ghost use Rattle.std.specs.List.{flat_map, starts_with};
+ghost use Rattle.std.specs.Prelude.{◌≡◌, ◌++◌, ◌∷◌, [], IfOk, OnOk, codes, map, option_map, string_bytes};
 ghost use Rattle.ssh_program.specs.Options.{option_word, subcommand_named};
-ghost use Rattle.ssh_program.specs.Defaults.{added_files, added_options, asked, default_words, given_words, home_file, kind_for, option_words, takes_defaults, told_at, told_option, told_value, told_word, usual_file, words_of, words_with_defaults, zone_for};
+ghost use Rattle.ssh_program.specs.Defaults.{added_files, added_options, asked, asks_surroundings, default_words, home_file, kind_for, option_words, takes_defaults, usual_file, words_of, words_with_defaults, zone_for};
 ghost use Rattle.ssh_program.specs.DefaultsView.{around_seen, text_seen};
 ghost use Rattle.ssh_program.specs.WordPlaces.{is_given};
 ghost use Rattle.ssh_program.specs.WordPlacesView.{word_seen};
@@ -12,9 +11,8 @@ ghost use Rattle.ssh_program.specs.WordPlacesView.{word_seen};
 use crate::args::ArgName;
 use crate::kinds::{asks_known, usual_kind};
 use crate::subcommand::Subcommand;
-use crate::word::{Place, Word, has_operand, in_turn, is_given};
-use ssh_files::read_number;
-use ssh_print::{date_text, push_escaped};
+use crate::told::{parts_hosts, push_words};
+use crate::word::{Word, has_operand, in_turn, is_given};
 use std::alloc::{AllocError, Global};
 
 /// What is known of the surroundings of a question.
@@ -33,7 +31,7 @@ pub struct Surroundings<'a> {
 }
 
 /// Appends a copy of a text.
-fn push_text(alloc: Global, out: &mut Vec<String>, text: &str) -> Result<(), AllocError>
+pub fn push_text(alloc: Global, out: &mut Vec<String>, text: &str) -> Result<(), AllocError>
     ensures { OnOk result (map string_bytes out.new.items
         ≡ map string_bytes out.old.items ++ text.now ∷ []) }
 {
@@ -119,7 +117,7 @@ fn kind_for(command: Subcommand, words: &[Word<'_>]) -> Option<&'static str>
 }
 
 /// Appends the options that are left out.
-fn push_options(
+pub fn push_options(
     alloc: Global,
     out: &mut Vec<String>,
     command: Subcommand,
@@ -172,7 +170,7 @@ fn push_home_file(
 }
 
 /// Appends the user's own trust file where no file is named.
-fn push_files(
+pub fn push_files(
     alloc: Global,
     out: &mut Vec<String>,
     command: Subcommand,
@@ -188,98 +186,6 @@ fn push_files(
     push_home_file(alloc, out, around.home, asks_known(command, words))
 }
 
-/// Appends the value of an option. Behind `--now` and `--zone` it may stand for another.
-fn push_value(
-    alloc: Global,
-    out: &mut Vec<String>,
-    around: &Surroundings<'_>,
-    before: &[u8],
-    text: &str,
-) -> Result<(), AllocError>
-    ensures { OnOk result (map string_bytes out.new.items ≡ map string_bytes out.old.items
-        ++ told_value (around_seen around.now) before.now text.now) }
-{
-    if before == b"--now".as_slice() {
-        push_text(alloc, out, around.given_time.unwrap_or(text))
-    } else if before == b"--zone".as_slice() {
-        push_text(alloc, out, around.given_zone.unwrap_or(text))
-    } else {
-        push_text(alloc, out, text)
-    }
-}
-
-/// Appends an option with the value that it stands for, if there is one, and else the word.
-fn push_given(
-    alloc: Global,
-    out: &mut Vec<String>,
-    name: &str,
-    value: Option<&str>,
-    word: &str,
-) -> Result<(), AllocError>
-    ensures { OnOk result (map string_bytes out.new.items ≡ map string_bytes out.old.items
-        ++ given_words name.now (text_seen value.entry) word.now) }
-{
-    match value {
-        None => push_text(alloc, out, word),
-        Some(value) => {
-            push_text(alloc, out, name)?;
-            push_text(alloc, out, value)
-        }
-    }
-}
-
-/// Appends a word that may be an option with its value.
-fn push_open(
-    alloc: Global,
-    out: &mut Vec<String>,
-    around: &Surroundings<'_>,
-    text: &str,
-) -> Result<(), AllocError>
-    ensures { OnOk result (map string_bytes out.new.items ≡ map string_bytes out.old.items
-        ++ told_option (around_seen around.now) text.now) }
-{
-    if text.as_bytes().starts_with(b"--now=".as_slice()) {
-        push_given(alloc, out, "--now", around.given_time, text)
-    } else if text.as_bytes().starts_with(b"--zone=".as_slice()) {
-        push_given(alloc, out, "--zone", around.given_zone, text)
-    } else {
-        push_text(alloc, out, text)
-    }
-}
-
-/// Appends a word of the question.
-fn push_word(
-    alloc: Global,
-    out: &mut Vec<String>,
-    around: &Surroundings<'_>,
-    word: &Word<'_>,
-) -> Result<(), AllocError>
-    ensures { OnOk result (map string_bytes out.new.items ≡ map string_bytes out.old.items
-        ++ told_word (around_seen around.now) (word_seen word.now)) }
-{
-    match word.place {
-        Place::Open => push_open(alloc, out, around, word.text),
-        Place::AfterOption => push_value(alloc, out, around, word.before, word.text),
-        Place::Behind => push_text(alloc, out, word.text),
-    }
-}
-
-/// Appends the words of the question.
-fn push_words(
-    alloc: Global,
-    out: &mut Vec<String>,
-    around: &Surroundings<'_>,
-    words: &[Word<'_>],
-) -> Result<(), AllocError>
-    ensures { OnOk result (map string_bytes out.new.items ≡ map string_bytes out.old.items
-        ++ flat_map (told_word (around_seen around.now)) (map word_seen words.now)) }
-{
-    for word in words {
-        push_word(alloc, out, around, word)?;
-    }
-    Ok(())
-}
-
 /// Appends the words of the question, with what they leave out.
 #[tactic(auto, unfolding(crate::specs::Defaults::asked))]
 fn push_asked(
@@ -293,13 +199,13 @@ fn push_asked(
         ++ asked command (around_seen around.now) (map word_seen words.now)) }
 {
     push_options(alloc, out, command, around, words)?;
-    push_words(alloc, out, around, words)?;
+    push_words(alloc, out, parts_hosts(command, words), around, words)?;
     push_files(alloc, out, command, around, words)?;
     Ok(())
 }
 
 /// Whether the questions of a command may leave something out.
-fn takes_defaults(command: Subcommand) -> bool
+pub fn takes_defaults(command: Subcommand) -> bool
     ensures { result ≡ takes_defaults command }
 {
     match command {
@@ -347,8 +253,9 @@ fn command_words(
 
 /// The words of the program with what a question leaves out: options behind the name of the
 /// command, and the user's own trust file at the end. What the question gives is not changed, but
-/// for a date and a time as `--now`, and the name of a zone as `--zone`: these are given as the
-/// values that they stand for. The words of other commands come out as they are.
+/// for a date and a time as `--now`, the name of a zone as `--zone`, and a host with its port as
+/// `--host` of `trusts`: these are given as the values that they stand for. The words of other
+/// commands come out as they are.
 pub fn with_defaults(
     alloc: Global,
     words: &[&str],
@@ -364,81 +271,11 @@ pub fn with_defaults(
 }
 
 /// Whether the question of these words may leave something out, so that the surroundings matter.
-pub fn asks_surroundings(words: &[&str]) -> bool {
-    let Some(name) = words.first() else {
-        return false;
-    };
-    match Subcommand::named(name) {
+pub fn asks_surroundings(words: &[&str]) -> bool
+    ensures { result ≡ asks_surroundings (map (λ word. word.now) words.now) }
+{
+    match Subcommand::in_words(words) {
         Some(command) => takes_defaults(command),
         None => false,
     }
-}
-
-/// What is added to the words of a question.
-fn added_words(
-    alloc: Global,
-    command: Subcommand,
-    around: &Surroundings<'_>,
-    words: &[Word<'_>],
-) -> Result<Vec<String>, AllocError>
-    ensures { IfOk result (λ added. map string_bytes added.items
-        ≡ added_options command (around_seen around.now) (map word_seen words.now)
-        ++ added_files command (around_seen around.now) (map word_seen words.now)) }
-{
-    let mut added = Vec::new(alloc);
-    push_options(alloc, &mut added, command, around, words)?;
-    push_files(alloc, &mut added, command, around, words)?;
-    Ok(added)
-}
-
-/// Appends the date of a time in seconds, in parentheses.
-fn push_date(alloc: Global, out: &mut Vec<u8>, seconds: &str) -> Result<(), AllocError> {
-    if let Some(moment) = read_number(seconds) {
-        out.extend_from_slice(b" (")?;
-        out.extend_from_slice(&date_text(alloc, moment)?)?;
-        out.push(b')')?;
-    }
-    Ok(())
-}
-
-/// Appends the words that were added, and the date of the time.
-fn push_added(alloc: Global, out: &mut Vec<u8>, added: &[String]) -> Result<(), AllocError> {
-    let mut is_time = false;
-    for word in added {
-        out.push(b' ')?;
-        push_escaped(out, word.as_bytes())?;
-        if is_time {
-            push_date(alloc, out, word.as_str())?;
-        }
-        is_time = word.as_str() == "--now";
-    }
-    Ok(())
-}
-
-/// The line that says what was added to these words: `ssh_audit: asked with ..`. It is empty where
-/// nothing was.
-pub fn defaults_line(
-    alloc: Global,
-    words: &[&str],
-    around: &Surroundings<'_>,
-) -> Result<Vec<u8>, AllocError> {
-    let mut line = Vec::new(alloc);
-    let Some((name, rest)) = words.split_first() else {
-        return Ok(line);
-    };
-    let Some(command) = Subcommand::named(name) else {
-        return Ok(line);
-    };
-    if !takes_defaults(command) {
-        return Ok(line);
-    }
-    let turn = in_turn(alloc, rest)?;
-    let added = added_words(alloc, command, around, turn.as_slice())?;
-    if added.is_empty() {
-        return Ok(line);
-    }
-    line.extend_from_slice(b"ssh_audit: asked with")?;
-    push_added(alloc, &mut line, added.as_slice())?;
-    line.push(b'\n')?;
-    Ok(line)
 }

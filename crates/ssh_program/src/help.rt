@@ -213,7 +213,7 @@ pub fn other_place(option: ArgName) -> Option<ArgName>
 }
 
 /// Whether an option is told together with the one before it.
-fn is_joined(option: ArgName) -> bool
+pub fn is_joined(option: ArgName) -> bool
     ensures { result ≡ is_joined option }
 {
     match option {
@@ -234,7 +234,7 @@ fn push_form(out: &mut Vec<u8>, option: ArgName) -> Result<(), AllocError>
 }
 
 /// An option, or the two of which exactly one has to be given, as in a synopsis of man-pages(7).
-fn push_forms(out: &mut Vec<u8>, option: ArgName) -> Result<(), AllocError>
+pub fn push_forms(out: &mut Vec<u8>, option: ArgName) -> Result<(), AllocError>
     ensures { OnOk result (out.new.items ≡ out.old.items ++ help_forms option (other_place option)) }
 {
     match other_place(option) {
@@ -373,7 +373,7 @@ fn names_sentence(command: Subcommand) -> &'static [u8]
         Subcommand::Review =>
             b"  NAME..\n      the files that are reviewed; the one in ~/.ssh without one\n",
         Subcommand::Explain =>
-            b"  NAME..\n      the codes, and usage for the synopsis; all codes without one\n",
+            b"  CODE..\n      the codes, and usage for the synopsis; all codes without one\n",
         _ => b"",
     }
 }

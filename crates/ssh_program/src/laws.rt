@@ -29,7 +29,7 @@ ghost use Rattle.ssh_program.specs.Keys.{login_asking};
 ghost use Rattle.ssh_trust.specs.declared.decision.Decision.{Decision as DecisionValue};
 ghost use Rattle.ssh_program.specs.FileSamples.{FaultsInOrder, HashFaultsInOrder, RewriteKinds, SignatureFaultsInOrder, TrustFilesLeft, VouchFilesTold, VouchFilesWritten};
 ghost use Rattle.jiff.specs.Types.{TimeZone as Zone};
-ghost use Rattle.ssh_program.specs.DefaultSamples.{OthersTold, ReviewsTold};
+ghost use Rattle.ssh_program.specs.DefaultSamples.{HostsTold, OthersTold, ReviewsTold};
 ghost use Rattle.ssh_program.specs.Samples.{HostValuesInOrder, LoginAsksMore, LoginSpelled, LoginValuesInOrder, ShowKinds, TextsOfFiles};
 ghost use Rattle.ssh_program.specs.ArgsSamples.{HostsAsked, KeysAsked, LoginsAsked, OthersAsked, ReviewsAsked, TextsAsked, UsageTold, WordsRefused};
 ghost use Rattle.ssh_program.specs.AnswerSamples.{AdmitsSpelled, OutcomesSummed, StatusesTold, TrustsSpelled};
@@ -129,4 +129,5 @@ fn outcomes_as_summed()
 fn defaults_as_told()
     ensures reviews { ReviewsTold }
     ensures others { OthersTold }
+    ensures hosts { HostsTold }
 {}

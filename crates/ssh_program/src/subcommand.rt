@@ -1,12 +1,13 @@
 //! The table of the subcommands and their options, and the synopsis that is printed of it.
 
 ghost use Rattle.std.specs.Prelude.{◌≡◌, ◌++◌, map, IfOk, OnOk};
-ghost use Rattle.ssh_program.specs.Options.{subcommand_operands, subcommand_options, subcommand_name, subcommand_named, subcommands};
+ghost use Rattle.ssh_program.specs.Options.{subcommand_in, subcommand_operands, subcommand_options, subcommand_name, subcommand_named, subcommands};
 ghost use Rattle.std.specs.List.{flat_map};
-ghost use Rattle.ssh_program.specs.Usage.{asks_usage, closed, opened, usage_line, usage_lines, usage_names, usage_option};
+ghost use Rattle.ssh_program.specs.Usage.{asks_usage, closed, shown_needed, opened, operand_word, usage_forms, usage_line, usage_lines, usage_names, usage_option};
 
 use crate::args::Needed::{Optional, Required};
-use crate::args::{ArgName, NAMES, Needed};
+use crate::args::{ArgName, Needed};
+use crate::help::{is_joined, other_place, push_forms};
 use std::alloc::{AllocError, Global};
 
 /// A subcommand, which the first argument names.
@@ -158,6 +159,16 @@ impl Subcommand {
             .find(|subcommand| subcommand.name() == name)
     }
 
+    /// The subcommand that the first of these words names; `None` if there is no such one.
+    pub fn in_words(words: &[&str]) -> Option<Subcommand>
+        ensures { result ≡ subcommand_in (map (λ word. word.now) words.now) }
+    {
+        match words.split_first() {
+            None => None,
+            Some((name, _)) => Subcommand::named(name),
+        }
+    }
+
     /// Its options, in the order of the synopsis.
     pub fn options(self) -> &'static [OptionRow]
         ensures { result.now ≡ subcommand_options self }
@@ -210,16 +221,34 @@ fn closed(needed: Needed) -> &'static [u8]
     }
 }
 
+/// Of two options one has to be given, though each may be left out.
+fn shown_needed(other: Option<ArgName>, needed: Needed) -> Needed
+    ensures { result ≡ shown_needed other needed }
+{
+    match other {
+        None => needed,
+        Some(_) => Required,
+    }
+}
+
 /// On an error the option may have been appended in part.
+fn push_usage_forms(out: &mut Vec<u8>, needed: Needed, option: ArgName) -> Result<(), AllocError>
+    ensures { OnOk result (out.new.items ≡ out.old.items ++ usage_forms needed option) }
+{
+    out.extend_from_slice(opened(needed))?;
+    push_forms(out, option)?;
+    out.extend_from_slice(closed(needed))?;
+    Ok(())
+}
+
 fn push_option(out: &mut Vec<u8>, row: OptionRow) -> Result<(), AllocError>
     ensures { OnOk result (out.new.items ≡ out.old.items ++ usage_option row) }
 {
-    out.extend_from_slice(opened(row.1))?;
-    out.extend_from_slice(b"--")?;
-    out.extend_from_slice(row.0.name().as_bytes())?;
-    out.extend_from_slice(b" VALUE")?;
-    out.extend_from_slice(closed(row.1))?;
-    Ok(())
+    if is_joined(row.0) {
+        Ok(())
+    } else {
+        push_usage_forms(out, shown_needed(other_place(row.0), row.1), row.0)
+    }
 }
 
 fn push_options(out: &mut Vec<u8>, rows: &[OptionRow]) -> Result<(), AllocError>
@@ -231,12 +260,26 @@ fn push_options(out: &mut Vec<u8>, rows: &[OptionRow]) -> Result<(), AllocError>
     Ok(())
 }
 
-fn push_names(out: &mut Vec<u8>, names: Option<Needed>) -> Result<(), AllocError>
-    ensures { OnOk result (out.new.items ≡ out.old.items ++ usage_names names) }
+/// What an operand of a subcommand is.
+fn operand_word(subcommand: Subcommand) -> &'static [u8]
+    ensures { result.now ≡ operand_word subcommand }
+{
+    match subcommand {
+        Subcommand::Explain => b"CODE",
+        _ => b"NAME",
+    }
+}
+
+fn push_names(
+    out: &mut Vec<u8>,
+    subcommand: Subcommand,
+    names: Option<Needed>,
+) -> Result<(), AllocError>
+    ensures { OnOk result (out.new.items ≡ out.old.items ++ usage_names subcommand names) }
 {
     if let Some(needed) = names {
         out.extend_from_slice(opened(needed))?;
-        out.extend_from_slice(NAMES.as_bytes())?;
+        out.extend_from_slice(operand_word(subcommand))?;
         out.extend_from_slice(b"..")?;
         out.extend_from_slice(closed(needed))?;
     }
@@ -250,7 +293,7 @@ fn push_line(out: &mut Vec<u8>, subcommand: Subcommand) -> Result<(), AllocError
     out.extend_from_slice(b"ssh_audit ")?;
     out.extend_from_slice(subcommand.name().as_bytes())?;
     push_options(out, subcommand.options())?;
-    push_names(out, subcommand.names())?;
+    push_names(out, subcommand, subcommand.names())?;
     out.push(b'\n')?;
     Ok(())
 }
@@ -264,8 +307,9 @@ fn push_lines(out: &mut Vec<u8>, subcommands: &[Subcommand]) -> Result<(), Alloc
     Ok(())
 }
 
-/// The synopsis, one line for each subcommand: its options, each with `VALUE`, and `NAME..` where
-/// it takes operands. What may be left out is in brackets.
+/// The synopsis, one line for each subcommand: its options, each with a word for its value, and its
+/// operands. What may be left out is in brackets, and two options of which exactly one has to be
+/// given in parentheses.
 #[tactic(auto, unfolding(crate::specs::Usage::usage_lines))]
 pub fn usage_lines(alloc: Global) -> Result<Vec<u8>, AllocError>
     ensures { IfOk result (λ text. text.items ≡ usage_lines) }

@@ -1,7 +1,7 @@
 //! What the words after the name of a command are read as, before their values are.
 
-ghost use Rattle.std.specs.Prelude.{◌≡◌, ◌≤◌, IfOk, drop, map, length};
-ghost use Rattle.ssh_program.specs.WordPlaces.{after_open, ends_name, gives, has_equals, has_operand, in_turn, is_bare, is_flag, is_given, is_long, is_named, is_operand, names_option, place_after};
+ghost use Rattle.std.specs.Prelude.{◌≡◌, ◌≤◌, ◌<◌, IfOk, IfSome, drop, map, length, position};
+ghost use Rattle.ssh_program.specs.WordPlaces.{after_open, ends_name, gives, has_equals, has_operand, in_turn, is_bare, is_flag, is_given, is_given_twice, is_long, is_named, is_operand, names_option, place_after};
 ghost use Rattle.ssh_program.specs.WordPlacesView.{word_seen};
 
 use crate::args::ArgName;
@@ -32,24 +32,24 @@ fn has_equals(word: &[u8]) -> bool
     word.iter().any(|byte| *byte == b'=')
 }
 
-fn is_long(word: &str) -> bool
+fn is_long(word: &[u8]) -> bool
     ensures { result ≡ is_long word.now }
 {
-    word.as_bytes().starts_with(b"--".as_slice())
+    word.starts_with(b"--".as_slice())
 }
 
 /// Whether a word is read as an option; `-` alone is the name of standard input.
-fn is_flag(word: &str) -> bool
+pub fn is_flag(word: &str) -> bool
     ensures { result ≡ is_flag word.now }
 {
     word.as_bytes().starts_with(b"-".as_slice()) && word != "-"
 }
 
 /// Whether a word is an option that takes the next word as its value.
-fn is_bare(word: &str) -> bool
+pub fn is_bare(word: &str) -> bool
     ensures { result ≡ is_bare word.now }
 {
-    is_long(word) && !has_equals(word.as_bytes())
+    is_long(word.as_bytes()) && !has_equals(word.as_bytes())
 }
 
 /// Whether the name of an option ends where this text begins: at the end of the word, or at `=`.
@@ -75,11 +75,10 @@ fn after_dashes(word: &[u8]) -> &[u8]
 }
 
 /// Whether a word is `--NAME` or `--NAME=VALUE`.
-fn names_option(option: ArgName, word: &str) -> bool
+pub fn names_option(option: ArgName, word: &[u8]) -> bool
     ensures { result ≡ names_option option word.now }
 {
-    let bytes = word.as_bytes();
-    bytes.starts_with(b"--".as_slice()) && is_named(option.name().as_bytes(), after_dashes(bytes))
+    word.starts_with(b"--".as_slice()) && is_named(option.name().as_bytes(), after_dashes(word))
 }
 
 fn after_open(word: &str) -> Place
@@ -130,7 +129,7 @@ fn gives(option: ArgName, word: &Word<'_>) -> bool
     ensures { result ≡ gives option (word_seen word.now) }
 {
     match word.place {
-        Place::Open => names_option(option, word.text),
+        Place::Open => names_option(option, word.text.as_bytes()),
         _ => false,
     }
 }
@@ -140,6 +139,24 @@ pub fn is_given(option: ArgName, words: &[Word<'_>]) -> bool
     ensures { result ≡ is_given option (map word_seen words.now) }
 {
     words.iter().any(|word| gives(option, word))
+}
+
+/// The place of the first word that gives the option.
+fn first_given(option: ArgName, words: &[Word<'_>]) -> Option<usize>
+    ensures place { result ≡ position (gives option) (map word_seen words.now) }
+    ensures bound { IfSome result (λ place. place < length words.now) }
+{
+    words.iter().position(|word| gives(option, word))
+}
+
+/// Whether the words give the option more than once.
+pub fn is_given_twice(option: ArgName, words: &[Word<'_>]) -> bool
+    ensures { result ≡ is_given_twice option (map word_seen words.now) }
+{
+    match first_given(option, words) {
+        Some(place) => is_given(option, words.split_at(place + 1).1),
+        None => false,
+    }
 }
 
 /// Whether a word is an operand.

@@ -1,7 +1,7 @@
 -- The records of lines, as text, are of printable bytes and LFs.
 use Rattle.ssh_review.proofs.Imports.{◌≡◌, ℕ, true, List, refl, Option, codes, HeldKey, HostFacts, RevocationFacts, HostFinding, host_row, AreBytes, are_printable}
 use Rattle.ssh_print.specs.Texts.{word_line}
-use Rattle.ssh_review.proofs.PrintableLemmas.{ArePrintable, escaped-printable, join, word}
+use Rattle.ssh_review.proofs.PrintableLemmas.{escaped-printable, join, word}
 use Rattle.ssh_review.specs.Records.{fingerprint_word}
 use Rattle.ssh_review.proofs.ShownLemmas.{AreShown, add, seen, show}
 use Rattle.ssh_review.proofs.RowLemmas.{host-texts, rows-shown}

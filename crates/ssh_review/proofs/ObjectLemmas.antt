@@ -1,5 +1,5 @@
 -- The record of an authorized_keys line, as an object, is one line.
-use Rattle.ssh_review.proofs.Imports.{◌≡◌, ℕ, Bool, true, false, List, ◌++◌, refl, Option, Some, None, codes, KeyKind, AuthOption, Facts, Finding, HeldKey, auth_row, findings_end, fingerprint_text, held_fields, is_word, no_key_fields, AreBytes, HaveByteValues, IsHeldOfBytes, IsOfBytes, are_printable, is_line, options_text}
+use Rattle.ssh_review.proofs.Imports.{◌≡◌, ℕ, Bool, true, false, List, refl, Option, Some, None, codes, KeyKind, AuthOption, Facts, Finding, HeldKey, auth_row, fingerprint_text, held_fields, is_word, no_key_fields, AreBytes, HaveByteValues, IsHeldOfBytes, IsOfBytes, is_line, options_text}
 use Rattle.ssh_review.specs.Objects.{empty_fields, entry_object, grant_fields, key_fields, object_head, owner_fields, unreadable_object}
 use Rattle.ssh_review.proofs.PrintableLemmas.{ArePrintable, bytes-append, bytes-from_printable, join, string-printable, word}
 use Rattle.ssh_review.proofs.WordLemmas.{kind-printable, options-bytes, rights-printable}

@@ -113,3 +113,11 @@ readable-facts file bytes =
     let lines : lines_of (readable_file file) ≡ new_lines (lines_of file) =
     ap lines_of (all-written (lines_of file)) ∙ lines_of-whole (new_lines (lines_of file)) (all-none (lines_of file) g) in
     ap (λ ls. map auth_line ls) lines ∙ all-say (lines_of file) g
+
+-- ---- the line of a line that is left out
+
+pub six-parts : (out a b c d e f v1 v2 v3 v4 v5 v6 : List ℕ) → v1 ≡ out ++ a → v2 ≡ v1 ++ b → v3 ≡ v2 ++ c → v4 ≡ v3 ++ d → v5 ≡ v4 ++ e → v6 ≡ v5 ++ f
+    → v6 ≡ out ++ (((((a ++ b) ++ c) ++ d) ++ e) ++ f)
+six-parts out a b c d e f v1 v2 v3 v4 v5 v6 h1 h2 h3 h4 h5 h6 =
+    let all : (((((out ++ a) ++ b) ++ c) ++ d) ++ e) ++ f ≡ out ++ (((((a ++ b) ++ c) ++ d) ++ e) ++ f) = simp append_assoc in
+    h6 ∙ (ap (λ t. t ++ f) (h5 ∙ ap (λ t. t ++ e) (h4 ∙ ap (λ t. t ++ d) (h3 ∙ ap (λ t. t ++ c) (h2 ∙ ap (λ t. t ++ b) h1)))) ∙ all)

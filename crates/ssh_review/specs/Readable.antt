@@ -1,13 +1,13 @@
 -- The entries of an authorized_keys file that OpenSSH has no known reason to refuse or to read differently, and what is told
 -- of the lines that are left out (this project's rule).
-use Rattle.std.specs.Prelude.{◌≡◌, ◌++◌, ◌∷◌, ◌==◌, ◌&&◌, [], ℕ, Bool, true, false, not, List, length, codes, if◌then◌else◌}
+use Rattle.std.specs.Prelude.{◌++◌, ◌∷◌, ◌==◌, ◌&&◌, [], ℕ, Bool, false, not, List, length, codes, if◌then◌else◌}
 use Rattle.std.specs.Fmt.{decimal}
 use Rattle.std.specs.List.{flat_map}
 use Rattle.jiff.specs.Types.{UTC}
 use Rattle.ssh_text.specs.Text.{lines_of, numbered}
 use Rattle.ssh_keys.specs.PublicKey.{PublicKey, key_blob, rsa, p256, p384, p521, ed25519, sk_p256, sk_ed25519}
 use Rattle.ssh_entries.specs.AuthEntry.{AuthEntry}
-use Rattle.ssh_entries.specs.AuthGrammar.{SpellsEntry, auth_line}
+use Rattle.ssh_entries.specs.AuthGrammar.{auth_line}
 use Rattle.ssh_entries.specs.declared.auth_line.AuthLine.{AuthLine}
 use Rattle.ssh_entries.specs.declared.auth_line.AuthLine.TheVariants.{Blank, Comment, Entry, Unreadable}
 use Rattle.ssh_rewriting.specs.Canonical.{canonical_auth}
@@ -74,7 +74,7 @@ readable_file file = flat_map (λ line. kept_line (auth_line line)) (lines_of fi
 -- ---- what is told of the lines that are left out
 
 -- the number of the line, a code, and its detail
-abbrev pub left_out_line : ℕ → List ℕ → List ℕ → List ℕ
+unfoldable pub left_out_line : ℕ → List ℕ → List ℕ → List ℕ
 left_out_line n code detail = codes "ssh_audit: line " ++ decimal n ++ codes " left out: " ++ code ++ detail_part detail ++ codes "\n"
 
 -- by the code and the detail that a review prints of a finding

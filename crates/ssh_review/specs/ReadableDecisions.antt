@@ -9,7 +9,7 @@ use Rattle.ssh_trust.specs.declared.decision.Decision.{Decision}
 use Rattle.ssh_trust.specs.declared.decision.Decision.TheVariants.{Denied, Granted}
 use Rattle.ssh_trust.specs.FileLines.{StandsAt}
 use Rattle.ssh_trust.specs.LoginDecision.{IsCandidate, login_decision}
-use Rattle.ssh_review.specs.Readable.{is_kept, readable_file}
+use Rattle.ssh_review.specs.Readable.{is_kept}
 
 -- a decision without the numbers of lines: whether it is a grant, with which rights, or the cause of the denial
 abbrev pub without_lines : Decision → Decision

@@ -145,11 +145,7 @@ fn push_nothing_carried(out: &mut Vec<u8>) -> Result<(), AllocError>
 
 /// Appends what a line lets the key do.
 #[tactic(auto, unfolding(crate::specs::AnswerObjects::answer_rights))]
-fn push_rights(
-    alloc: Global,
-    out: &mut Vec<u8>,
-    rights: &Option<Rights>,
-) -> Result<(), AllocError>
+fn push_rights(alloc: Global, out: &mut Vec<u8>, rights: &Option<Rights>) -> Result<(), AllocError>
     ensures { OnOk result (out.new.items ≡ out.old.items ++ answer_rights rights.now) }
 {
     match rights {
@@ -172,9 +168,8 @@ fn cause_number(why: Cause) -> Option<u64>
     ensures { result ≡ cause_number why }
 {
     match why {
-        Cause::Revoked(number)
-        | Cause::RevocationUnreadable(number)
-        | Cause::NotVouched(number) => Some(number),
+        Cause::Revoked(number) | Cause::RevocationUnreadable(number) | Cause::NotVouched(number) =>
+            Some(number),
         _ => None,
     }
 }
@@ -405,7 +400,13 @@ pub fn answer_object(
         (λ text. text.items ≡ answer_object who name.now (otherwise_seen other.now) answer.now) }
 {
     let mut out = Vec::new(alloc);
-    push_head(alloc, &mut out, who, name, answer_word(other.may_admit, answer))?;
+    push_head(
+        alloc,
+        &mut out,
+        who,
+        name,
+        answer_word(other.may_admit, answer),
+    )?;
     push_answer(alloc, &mut out, answer)?;
     push_notes(alloc, &mut out, &other.text)?;
     push_fault(alloc, &mut out, answer)?;

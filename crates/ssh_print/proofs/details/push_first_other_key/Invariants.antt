@@ -1,4 +1,4 @@
-use Rattle.ssh_print.proofs.Imports.{◌≡◌, ◌++◌, lines_of, numbered, first_other_key}
+use Rattle.ssh_print.proofs.Imports.{◌≡◌, lines_of, numbered, first_other_key}
 use Rattle.ssh_print.proofs.details.push_first_other_key.Given as goal
 
 abbrev pub invariant-loop-number : goal.invariant-loop-number

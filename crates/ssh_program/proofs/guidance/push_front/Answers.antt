@@ -1,0 +1,16 @@
+use Rattle.ssh_program.proofs.Imports.{◌≡◌, ◌++◌, codes, rules}
+use Rattle.ssh_review.proofs.Appended.{both}
+use Rattle.ssh_program.specs.Guidance.{front}
+use Rattle.ssh_program.specs.Options.{subcommand_name}
+use Rattle.ssh_program.proofs.guidance.push_front.Goals as goal
+
+pub returns : goal.returns
+unfolding front
+returns c =
+    let old = c.args.out.now.items in
+    let head = codes "ssh_audit: " in
+    let name = subcommand_name c.args.command in
+    let first = c.extend_from_slice.new.self.items in
+    let second = c.extend_from_slice-2.new.self.items in
+    let named : second ≡ first ++ name = search rules in
+    both old (head ++ name) (codes ": ") second c.extend_from_slice-3.new.self.items (both old head name first second c.in_ok-extend_from_slice.ensures.items named) c.in_ok-extend_from_slice-3.ensures.items
