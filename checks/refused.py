@@ -22,14 +22,14 @@ SIDE_BY_SIDE = max(1, min(3, (os.cpu_count() or 2) - 1))
 TOLD = ("error: AllocError", "error: Memory", "out of memory")
 
 
-# What no library is: the program, which refused_growth.py runs, and tests.
-NO_LIBRARIES = ("ssh_program", "ssh_program_tests", "ssh_audit")
+# What no library is: the program, which refused_growth.py runs, and tests. ssh_memory is asked by library.py, in C.
+NO_LIBRARIES = ("ssh_program", "ssh_program_tests", "ssh_audit", "ssh_memory")
 
 
 def libraries_of(top):
-    """The libraries of the repository, by crates.txt, and the zones of expiry times."""
+    """The libraries of the repository, by crates.txt, and the zones of expiry times. No crate can stand on a static library."""
     names = [line.split(":")[0] for line in (top / "crates.txt").read_text().splitlines() if ":" in line and line[0] != "#"]
-    return [name for name in names if name not in NO_LIBRARIES] + ["jiff"]
+    return [name for name in names if name not in NO_LIBRARIES and not name.endswith(" staticlib")] + ["jiff"]
 
 
 def answers(crate, index):
