@@ -1,0 +1,142 @@
+"""Reviews: who is let in by trust files, and what has to be fixed in them."""
+
+import json
+import re
+from dataclasses import dataclass
+from typing import Any, Dict, Iterator, Mapping, Optional, Tuple, Union
+
+from ._faults import lines
+from ._library import run
+
+
+@dataclass(frozen=True)
+class Finding:
+    """What is found of a line: a code, as `F2`, and its detail, as the number of another line."""
+
+    code: str
+    detail: Optional[str]
+
+
+@dataclass(frozen=True)
+class Record:
+    """A line that is neither blank nor a comment. `kind` is `key`, `authority` or `unreadable`, and of known_hosts also `revoked`
+    or `revocation-unreadable`; `key` is the fingerprint as `ssh-keygen -l` prints it. `source` is the line's `from=`. What the
+    line has not, or its kind of file never has, is None."""
+
+    file: str
+    line: int
+    kind: str
+    type: Optional[str]
+    bits: Optional[int]
+    key: Optional[str]
+    comment: Optional[str]
+    options: Optional[str]
+    rights: Optional[Tuple[str, ...]]
+    command: Optional[str]
+    source: Optional[str]
+    principals: Optional[str]
+    expires: Optional[int]
+    names: Optional[str]
+    shadowed_by: Optional[int]
+    findings: Tuple[Finding, ...]
+
+
+@dataclass(frozen=True)
+class FileEnd:
+    """The end of a file: its counts and the SHA-256 of its bytes in hexadecimal; or `fault`, as `A7`."""
+
+    file: str
+    lines: Optional[int]
+    keys: Optional[int]
+    unreadable: Optional[int]
+    findings: Optional[int]
+    sha256: Optional[str]
+    fault: Optional[str]
+
+
+@dataclass(frozen=True)
+class Total:
+    """The counts of all files. A review without it was cut off."""
+
+    files: int
+    faults: int
+    lines: int
+    keys: int
+    unreadable: int
+    findings: int
+
+
+_ESCAPE = re.compile(r"\\x([0-9a-f]{2})")
+
+
+def unescaped(text: str) -> bytes:
+    """The bytes that a printed text spells."""
+    return _ESCAPE.sub(lambda found: chr(int(found[1], 16)), text).encode("latin-1")
+
+
+def _rights(value: Optional[str]) -> Optional[Tuple[str, ...]]:
+    if value is None:
+        return None
+    return () if value == "none" else tuple(value.split(" "))
+
+
+def _record(told: Dict[str, Any], file: str) -> Record:
+    return Record(
+        file=file,
+        line=told["line"],
+        kind=told["is"],
+        type=told.get("type"),
+        bits=told.get("bits"),
+        key=told.get("key"),
+        comment=told.get("comment"),
+        options=told.get("options"),
+        rights=_rights(told.get("rights")),
+        command=told.get("command"),
+        source=told.get("from"),
+        principals=told.get("principals"),
+        expires=told.get("expires"),
+        names=told.get("names"),
+        shadowed_by=told.get("shadowed_by"),
+        findings=tuple(Finding(it["code"], it["detail"]) for it in told["findings"]),
+    )
+
+
+def _end(told: Dict[str, Any], file: str) -> FileEnd:
+    counts = (told.get(name) for name in ("lines", "keys", "unreadable", "findings", "sha256", "fault"))
+    return FileEnd(file, *counts)
+
+
+def _total(told: Dict[str, Any]) -> Total:
+    return Total(*(told[name] for name in ("files", "faults", "lines", "keys", "unreadable", "findings")))
+
+
+def review(
+    files: Mapping[str, bytes],
+    *,
+    now: int,
+    kind: str = "auth",
+    zone: str = "UTC0",
+    findings: Optional[str] = None,
+    rsa_minimum: int = 2048,
+) -> Iterator[Union[Record, FileEnd, Total]]:
+    """The records of authorized_keys files (`kind="auth"`) or known_hosts files (`kind="known"`), by their names, each file's followed
+    by its end; then the total. `findings` is `all`, `none` or codes joined by commas; without it F1 to F14 and F22 are reported.
+    `zone` is that of expiry times that name none, `rsa_minimum` how many bits an RSA key has to have. Raises Fault for a value; the
+    fault of a file is in its end."""
+    names = list(files)
+    held = {str(number): files[name] for number, name in enumerate(names)}
+    words = ["review", "--form=json", f"--kind={kind}", f"--now={now}", f"--zone={zone}", f"--rsa-minimum={rsa_minimum}"]
+    words += [f"--findings={findings}"] if findings is not None else []
+    told = lines(run([*words, *held], held))
+    return _told(told, names)
+
+
+def _told(told, names) -> Iterator[Union[Record, FileEnd, Total]]:
+    for line in told:
+        made = json.loads(line)
+        if made["is"] == "total":
+            yield _total(made)
+        elif made["is"] == "end":
+            yield _end(made, names[int(made["file"])])
+        else:
+            yield _record(made, names[int(made["file"])])
