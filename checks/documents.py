@@ -24,6 +24,8 @@ import subprocess
 import sys
 import tempfile
 
+# Where TERM names a terminal the program says more on standard error.
+os.environ.pop("TERM", None)
 HERE = pathlib.Path(__file__).resolve().parent
 TOP = HERE.parent
 PROGRAM = pathlib.Path(sys.argv[1] if len(sys.argv) > 1 else TOP / "crates" / "ssh_audit" / "out" / "ssh_audit").resolve()

@@ -316,6 +316,9 @@ def main():
     if missing:
         print(f"{', '.join(map(str, missing))} missing: nothing was tried\n0 passed, 1 failed")
         return 1
+    if ran("git", "-C", TOP, "log", "-1")[0]:
+        print("git does not know this folder: nothing was tried\n0 passed, 0 failed")
+        return 0
     with tempfile.TemporaryDirectory() as folder:
         room = pathlib.Path(folder).resolve()
         room.chmod(0o755)

@@ -7,9 +7,10 @@ usage: build.py [PROGRAM] [--out FOLDER]
 
 PROGRAM is crates/ssh_audit/out/ssh_audit and FOLDER packaging/out where they are left out; packages of earlier runs in
 FOLDER go. The version is RELEASE, the day and time of the commit in UTC and its hash, and `+dirty` where files of the
-repository are not as committed. share/doc/ssh-trust-audit/VERSION has it with the commit, the kit (`rt version`; the one
-that README.md names where there is no `rt`), and the program's SHA-256. The same commit, program and tools give the same
-bytes. It does not know which commit PROGRAM was built from: run `rt run` before.
+repository are not as committed; sources that git does not know have `unknown` there. share/doc/ssh-trust-audit/VERSION
+has it with the commit, the kit (`rt version`; the one that README.md names where there is no `rt`), and the program's
+SHA-256. The same commit, program and tools give the same bytes. It does not know which commit PROGRAM was built from:
+run `rt run` before.
 
 Needs git, readelf and gzip; and dpkg-deb for the .deb: without it only the .tar.gz is made, which it says. The status is
 0, or 1 where something is missing or the program needs a library that is not in LIBRARIES."""
@@ -94,11 +95,17 @@ def needs(program):
     return [f"{package} (>= {least})" if least else package for package, least in found.items()]
 
 
+def last_commit():
+    """Its hash, its seconds and its author; of sources that git does not know they are unknown, 0 and unknown."""
+    ran = subprocess.run(["git", "log", "-1", "--format=%H%n%ct%n%an <%ae>"], cwd=TOP, stdin=subprocess.DEVNULL, stdout=subprocess.PIPE, stderr=subprocess.DEVNULL, check=False)
+    return ran.stdout.decode().splitlines() if ran.returncode == 0 else ("unknown", "0", "unknown <unknown@localhost>")
+
+
 def facts(program):
     """What the control file and VERSION say."""
-    commit, seconds, maintainer = told("git", "log", "-1", "--format=%H%n%ct%n%an <%ae>").splitlines()
+    commit, seconds, maintainer = last_commit()
     moment = time.gmtime(int(seconds))
-    dirty = "+dirty" if told("git", "--no-optional-locks", "status", "--porcelain") else ""
+    dirty = "+dirty" if commit != "unknown" and told("git", "--no-optional-locks", "status", "--porcelain") else ""
     machine = re.search(r"Machine: +(.*)", told("readelf", "-hW", str(program)))[1]
     depends = ", ".join(needs(program))
     return {
