@@ -61,7 +61,7 @@ def listed(text):
         made = json.loads(line)
         if "line" in made:
             yield f"{made['file']}:{made['line']} {made['key']}"
-        elif made["is"] == "end":
+        elif made["what"] == "end":
             yield f"{made['file']} {made['sha256']}"
 
 

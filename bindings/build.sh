@@ -39,5 +39,11 @@ strip --strip-unneeded "$out/libssh_audit.so.0"
 ln -sf libssh_audit.so.0 "$out/libssh_audit.so"
 cp "$here/c/ssh_audit.h" "$out/"
 cp "$out/libssh_audit.so.0" "$here/python/ssh_audit/libssh_audit.so"
+# What was built of what: a wheel holds no proof.
+{
+    echo "commit $(git -C "$here" rev-parse HEAD 2> "$room/log" || echo unknown)$([ -z "$(git -C "$here" status --porcelain 2>> "$room/log")" ] || echo +dirty)"
+    echo "kit $(rt version)"
+    echo "library sha256 $(sha256sum < "$out/libssh_audit.so.0" | cut -d ' ' -f 1)"
+} > "$here/python/ssh_audit/BUILT.txt"
 (cd "$here/python" && python3 -c 'import backend, sys; print(backend.build_wheel(sys.argv[1]))' "$out") > "$room/wheel"
 echo "$out: libssh_audit.a libssh_audit.so.0 ssh_audit.h $(cat "$room/wheel")"

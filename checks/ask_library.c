@@ -3,8 +3,9 @@
  * A question is in numbers of 8 bytes, the least byte first, and of bytes with their length before them: its kind (0 a run, 1 a
  * login, 2 a host's key), the growth of memory to refuse, from 1 (0: none), and how many threads ask, then the parts of its kind.
  * An answer: how many growths there were, how many blocks were not given back, whether all threads were answered alike, the
- * numbers of the answer, and of a run the whole buffer. Each part that is lent ends where a page begins that may not be touched,
- * and each call has a thread of its own, with a stack of STACK bytes. The buffer holds 0xa5 before the call. */
+ * NUMBERS numbers of the answer, and the whole buffers: of reasons and of options that are passed on the two numbers of each row,
+ * then the bytes. Each part that is lent ends where a page begins that may not be touched, and each call has a thread of its
+ * own, with a stack of STACK bytes. The buffers hold 0xa5 before the call. */
 #define _GNU_SOURCE
 #include "../bindings/c/ssh_audit.h"
 
@@ -21,6 +22,7 @@
 #endif
 #define PAGE 4096
 #define THREADS 8
+#define NUMBERS 13
 
 /* ---- memory that is counted, and refused at one growth (linked with --wrap) */
 
@@ -94,7 +96,7 @@ static ssh_audit_bytes bytes(void) {
 
 static struct {
   uint64_t kind, refused, threads;
-  size_t words_length, files_length, vouched_length, out_length;
+  size_t words_length, files_length, vouched_length, reasons_length, carried_length, out_length;
   ssh_audit_bytes *words, input, trust;
   ssh_audit_file *files;
   ssh_audit_signed *vouched;
@@ -103,9 +105,21 @@ static struct {
 } asked;
 
 typedef struct {
+  ssh_audit_reason *reasons;
+  ssh_audit_carried *carried;
   uint8_t *out;
-  uint64_t growths, blocks, numbers[3];
+  uint64_t growths, blocks, numbers[NUMBERS];
 } answer;
+
+static void keep_decision(answer *told, ssh_audit_decided d) {
+  uint64_t numbers[] = {d.kind, d.code, d.number, d.reasons_length};
+  memcpy(told->numbers, numbers, sizeof numbers);
+}
+
+static void keep_rights(answer *told, ssh_audit_rights r) {
+  uint64_t numbers[] = {r.port, r.agent, r.x11, r.pty, r.user_rc, r.has_command, r.command_length, r.carried_length, r.texts_length};
+  memcpy(told->numbers + 4, numbers, sizeof numbers);
+}
 
 static void *ask(void *where) {
   answer *told = where;
@@ -116,13 +130,15 @@ static void *ask(void *where) {
                                        asked.input.length, told->out, asked.out_length);
     told->numbers[0] = a.status;
     told->numbers[1] = a.length;
-    told->numbers[2] = 0;
+  } else if (asked.kind == 1) {
+    ssh_audit_login_decided d =
+        ssh_audit_login(asked.trust.bytes, asked.trust.length, asked.login, asked.vouched, asked.vouched_length, told->reasons,
+                        asked.reasons_length, told->carried, asked.carried_length, told->out, asked.out_length);
+    keep_decision(told, d.decision);
+    keep_rights(told, d.rights);
   } else {
-    ssh_audit_decided d = asked.kind == 1 ? ssh_audit_login(asked.trust.bytes, asked.trust.length, asked.login, asked.vouched, asked.vouched_length)
-                                          : ssh_audit_host(asked.trust.bytes, asked.trust.length, asked.host, asked.vouched, asked.vouched_length);
-    told->numbers[0] = d.kind;
-    told->numbers[1] = d.code;
-    told->numbers[2] = d.number;
+    keep_decision(told, ssh_audit_host(asked.trust.bytes, asked.trust.length, asked.host, asked.vouched, asked.vouched_length,
+                                       told->reasons, asked.reasons_length));
   }
   told->growths = (uint64_t)growths;
   told->blocks = (uint64_t)blocks;
@@ -143,10 +159,10 @@ static void read_question(void) {
       asked.files[i].bytes = bytes();
     }
     asked.input = bytes();
+    asked.reasons_length = asked.carried_length = 0;
     asked.out_length = number();
     return;
   }
-  asked.out_length = 0;
   asked.trust = bytes();
   if (asked.kind == 1) {
     ssh_audit_login_asked *q = asked.login = room(sizeof *q);
@@ -163,10 +179,30 @@ static void read_question(void) {
   for (size_t i = 0; i < asked.vouched_length; i++) {
     asked.vouched[i].key = bytes(), asked.vouched[i].message = bytes(), asked.vouched[i].signature = bytes();
   }
+  asked.reasons_length = number(), asked.carried_length = number(), asked.out_length = number();
 }
 
+/* Room that holds 0xa5. */
+static void *filled(size_t size) { return memset(room(size), 0xa5, size); }
+
+static void lend_buffers(answer *told) {
+  told->reasons = filled(asked.reasons_length * sizeof *told->reasons);
+  told->carried = filled(asked.carried_length * sizeof *told->carried);
+  told->out = filled(asked.out_length);
+}
+
+/* Rows are compared by their fields: what is between these is nobody's. */
 static int alike(const answer *a, const answer *b) {
-  return a->growths == b->growths && !memcmp(a->numbers, b->numbers, sizeof a->numbers) && !memcmp(a->out, b->out, asked.out_length);
+  int same = a->growths == b->growths && !memcmp(a->numbers, b->numbers, sizeof a->numbers) && !memcmp(a->out, b->out, asked.out_length);
+  for (size_t i = 0; i < asked.reasons_length; i++) same &= a->reasons[i].line == b->reasons[i].line && a->reasons[i].code == b->reasons[i].code;
+  for (size_t i = 0; i < asked.carried_length; i++) same &= a->carried[i].name == b->carried[i].name && a->carried[i].length == b->carried[i].length;
+  return same;
+}
+
+static void tell_buffers(const answer *told) {
+  for (size_t i = 0; i < asked.reasons_length; i++) tell(told->reasons[i].line), tell(told->reasons[i].code);
+  for (size_t i = 0; i < asked.carried_length; i++) tell(told->carried[i].name), tell(told->carried[i].length);
+  fwrite(told->out, 1, asked.out_length, stdout);
 }
 
 int main(void) {
@@ -179,10 +215,7 @@ int main(void) {
     asked.kind = number();
     read_question();
     if (asked.threads < 1 || asked.threads > THREADS) return 3;
-    for (size_t i = 0; i < asked.threads; i++) {
-      answers[i].out = room(asked.out_length);
-      memset(answers[i].out, 0xa5, asked.out_length);
-    }
+    for (size_t i = 0; i < asked.threads; i++) lend_buffers(&answers[i]);
     for (size_t i = 0; i < asked.threads; i++) {
       if (pthread_create(&threads[i], &small, ask, &answers[i])) return 3;
     }
@@ -191,8 +224,8 @@ int main(void) {
     tell(answers[0].growths);
     tell(answers[0].blocks);
     tell(same);
-    for (int i = 0; i < 3; i++) tell(answers[0].numbers[i]);
-    fwrite(answers[0].out, 1, asked.out_length, stdout);
+    for (int i = 0; i < NUMBERS; i++) tell(answers[0].numbers[i]);
+    tell_buffers(&answers[0]);
     fflush(stdout);
     give_back();
   }

@@ -20,8 +20,8 @@ ROWS = [*(TOP / "crates" / "ssh_program_tests" / "src").glob("*.rt"), *(HERE / "
 CHECKS = [*HERE.glob("*.py"), *(HERE / "rows").glob("*.py")]
 STORED = TOP / "crates" / "ssh_audit" / "stdout"
 # A10 is what an audit answers that had a piece refused before. The program ends at the first refusal and never asks such
-# an audit; the contracts of LoginAudit and HostAudit say when they answer it.
-UNPRINTED = {"A10"}
+# an audit; the contracts of LoginAudit and HostAudit say when they answer it. `version` is a word for `explain` alone.
+UNPRINTED = {"A10", "version"}
 CODE = re.compile(r"[A-Z][0-9]+")
 BEGINNINGS = {"granted", "rights", "command", "carry", "evidence", "denied", "reason", "vouched", "fault"}
 # What a review finds of a line: four spaces, the code, its detail, a colon.

@@ -77,7 +77,7 @@ def repository(room, built):
     # A folder of its own, for packages are left in it.
     (top / "packaging").mkdir()
     packaging = (str(path.relative_to(TOP)) for path in (TOP / "packaging").iterdir() if path.is_file())
-    for path in (".git", "README.md", "crates.txt", "docs", "examples", "bench", *packaging, "crates/ssh_audit/stdin", "crates/ssh_audit/stdout"):
+    for path in (".git", "README.md", "crates.txt", "docs", "examples", "bench", *packaging, "crates/ssh_audit/stdin", "crates/ssh_audit/stdout", "crates/ssh_print"):
         (top / path).symlink_to(TOP / path)
     if built:
         (crate / "out" / "ssh_audit").symlink_to(PROGRAM)

@@ -78,7 +78,9 @@ def usage_rows():
     yield "readable", "ssh_audit: readable: --file is missing\n" + see("readable")
     yield "show --kind key", "ssh_audit: show: --file is missing\n" + see("show")
     yield "show --kind key --file f --port 1", "ssh_audit: show: --port is not an option of show\n" + see("show")
-    yield "admits --user ann --now 1 keys", "ssh_audit: admits: --key is missing\n" + see("admits")
+    yield "admits --user ann --now 1 keys", "ssh_audit: admits: --key or --fingerprint is missing\n" + see("admits")
+    yield "admits --key k --fingerprint f --user ann --now 1 keys", "ssh_audit: admits: --key and --fingerprint are given, and one of them is wanted\n" + see("admits")
+    yield "trusts --fingerprint f --host h --now 1 keys", "ssh_audit: trusts: --fingerprint is not an option of trusts\n" + see("trusts")
     yield "explain --all", "ssh_audit: explain: --all is not an option of explain\n" + see("explain")
 
 
@@ -91,8 +93,10 @@ def value_rows():
         given = {"kind": "auth", "now": "1", "zone": "UTC0", option: "?"}
         words = [word for name, value in given.items() for word in (f"--{name}", value)]
         yield ["review", *words, "keys"], f"fault value {option}\n", f"ssh_audit: --{option} wants {wanted}"
+    yield ["review", "--kind", "auth", "--now", "1", "--zone", "UTC0", "--key", "SHA256:x", "keys"], "fault value key\n", "ssh_audit: --key wants the name of a file, or a fingerprint"
     given = ["--key", "keys", "--zone", "UTC0", "--user", "ann", "--now", "1"]
     yield ["admits", *given, "--address", "?", "keys"], "fault A6\n", "ssh_audit: fault A6: "
+    yield ["admits", "--fingerprint", "MD5:?", *given[2:], "--address", "192.0.2.1", "keys"], "fault value fingerprint\n", "ssh_audit: --fingerprint wants SHA256: and 43 characters"
     yield ["trusts", "--key", "keys", "--host", "h", "--now", "1", "--port", "x", "keys"], "fault value port\n", "ssh_audit: --port wants decimal digits"
     yield ["readable", "--file", "missing"], "fault A9\n", "ssh_audit: fault A9: "
     yield ["explain", "F99"], "fault value code\n", "ssh_audit: explain: a word is no code: "

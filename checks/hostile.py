@@ -27,7 +27,7 @@ import time
 
 sys.dont_write_bytecode = True
 import program
-from program import FILES, SSHSIG, SIGNED_MESSAGE, Tally, hash_names, host, login, readable, review, rewrite, show, sshsig
+from program import FILES, SSHSIG, SIGNED_MESSAGE, Tally, asked_at, hash_names, host, login, readable, review, rewrite, show, sshsig
 from refused_growth import private_body
 
 HERE = pathlib.Path(__file__).resolve().parent
@@ -45,7 +45,7 @@ SHOWN = re.compile(rb"type [ -~]*\n([a-z-]+ [ -~]*\n)*")
 NEW = re.compile(rb"(.*\n)?", re.DOTALL)
 REVIEWED = re.compile(
     rb"(-:\d+: [ -~]+\n( {4}[ -~]+\n)*)*-: \d+ lines[ -~]+\ntotal: 1 files, 0 faults[ -~]+\n"
-    rb"|(\{\"file\":\"-\",[ -~]+\}\n)+\{\"is\":\"total\",[ -~]+\}\n"
+    rb"|(\{\"file\":\"-\",[ -~]+\}\n)+\{\"what\":\"total\",[ -~]+\}\n"
 )
 # What `readable` says on standard error of lines.
 LEFT_OUT = re.compile(rb"(ssh_audit: line \d+ left out: (F\d+( [ -~]+)?|application)\n)*")
@@ -97,7 +97,7 @@ def fifo_rows(path, room, tally):
         (readable("fifo"), "fault A7\n"),
         (hash_names("fifo", "salts"), "fault A7\n"),
         (hash_names("hosts", "fifo"), "fault file fifo\n"),
-        (review("fifo"), "fifo: fault A7\ntotal: 1 files, 1 faults, 0 lines, 0 keys, 0 unreadable, 0 findings\n"),
+        (review("fifo"), f"fifo: fault A7\ntotal: 1 files, 1 faults, 0 lines, 0 key lines, 0 unreadable, 0 findings, {asked_at()}\n"),
         *((show(kind, "fifo"), "fault file fifo\n") for kind in ("key", "cert", "private", "sshsig")),
     ):
         writer = fed(room / "fifo")

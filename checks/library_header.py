@@ -17,6 +17,10 @@ NAMES = {
     "LoginAsked": "ssh_audit_login_asked",
     "HostAsked": "ssh_audit_host_asked",
     "Decided": "ssh_audit_decided",
+    "LoginRights": "ssh_audit_rights",
+    "LoginDecided": "ssh_audit_login_decided",
+    "LineReason": "ssh_audit_reason",
+    "CarriedText": "ssh_audit_carried",
 }
 # The type in C of a field, with its size and its alignment.
 FIELDS = {
@@ -72,11 +76,19 @@ def functions_of_header(text):
     return {name: (result, " ".join(given.split())) for result, name, given in found}
 
 
-def offsets(fields):
+def field_of(kind, structures):
+    """The type in C of a field, with its size and its alignment: one of FIELDS, or a structure."""
+    if kind in FIELDS:
+        return FIELDS[kind]
+    fields = structures[kind]
+    return NAMES[kind], offsets(fields, structures)[""], max(field_of(inner, structures)[2] for _, inner in fields)
+
+
+def offsets(fields, structures):
     """Where each field begins, and the size of the whole, as C lays it out."""
     at, most, begins = 0, 1, {}
     for name, kind in fields:
-        _, size, alignment = FIELDS[kind]
+        _, size, alignment = field_of(kind, structures)
         at = -(-at // alignment) * alignment
         begins[name], at, most = at, at + size, max(most, alignment)
     return {**begins, "": -(-at // most) * most}
@@ -98,10 +110,10 @@ def layouts(room, compiler, structures):
 
 def header_rows(tally, room, compilers):
     text, sources = HEADER.read_text(), structures_of_sources()
-    wanted = {NAMES[name]: [(FIELDS[kind][0], field) for field, kind in fields] for name, fields in sources.items() if name != "Text"}
+    wanted = {NAMES[name]: [(field_of(kind, sources)[0], field) for field, kind in fields] for name, fields in sources.items() if name != "Text"}
     tally.check("the structures of the header", structures_of_header(text), {"ssh_audit_bytes": BYTES, **wanted})
     tally.check("a word is one slice", sources.get("Text"), [("bytes", "&'a [u8]")])
     tally.check("the functions of the header", functions_of_header(text), functions_of_sources())
-    laid_out = {NAMES[name]: offsets(fields) for name, fields in sources.items() if name != "Text"}
+    laid_out = {NAMES[name]: offsets(fields, sources) for name, fields in sources.items() if name != "Text"}
     for compiler in compilers:
         tally.check(f"sizes and offsets by {compiler}", layouts(room, compiler, laid_out), laid_out)

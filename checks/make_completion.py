@@ -6,6 +6,7 @@ a closed list (LISTS), the codes (crates/ssh_print/src/table.rt), and what docs/
 usage: make_completion.py
 
 It writes the two files in their places. completion.py sees that they are what is made here. It runs nothing."""
+import itertools
 import pathlib
 import re
 import sys
@@ -30,7 +31,7 @@ LISTS = {
     "findings": ("ssh_findings/src/code.rt", "parse_codes"),
 }
 # The words of help for a value that has no closed list and names no file.
-OPEN = {"BASE64", "HEX", "NAME", "ADDRESS", "SECONDS", "RULE", "BITS", "PORT", "TEXT"}
+OPEN = {"BASE64", "HEX", "FINGERPRINT", "NAME", "ADDRESS", "SECONDS", "RULE", "BITS", "PORT", "TEXT"}
 # What the machine knows of such a value.
 KNOWN = {"user": "users", "host": "hosts"}
 WORD = re.compile(r'if \w+ == b?"([\w-]+)"')
@@ -63,11 +64,9 @@ def value_words():
     return {names[variant]: word for variant, word in re.findall(r'ArgName::(\w+) => b"(\w+)",', body(HELP, "value_word"))}
 
 
-def alternatives():
-    """The option that may take the place of another one, for both."""
-    names = options_by_variant()
-    pairs = re.findall(r"ArgName::(\w+) => Some\(ArgName::(\w+)\)", body(HELP, "other_place"))
-    return {names[a]: names[b] for pair in pairs for a, b in (pair, pair[::-1])}
+def alternatives(command):
+    """The option of a command that may take the place of another one, for both."""
+    return {a: b for pair in make_manual_page.pairs(command).items() for a, b in (pair, pair[::-1])}
 
 
 def commands():
@@ -200,7 +199,7 @@ def bash_values():
 def bash_alternatives():
     """One of two options given excludes both."""
     done = set()
-    for option, other in alternatives().items():
+    for option, other in itertools.chain.from_iterable(alternatives(command).items() for command in commands()):
         if option not in done:
             done |= {option, other}
             yield f"        --{option} | --{other}) given+=' --{option} --{other} ' ;;"
@@ -262,7 +261,7 @@ def zsh_quoted(text):
 
 def zsh_option(command, option, said):
     """The specification of an option, as zsh's _arguments takes it."""
-    other = alternatives().get(option)
+    other = alternatives(command).get(option)
     excluded = f"(--{option} --{other})" if other else ""
     how, words = value(command, option)
     action = f"({' '.join(words)})" if how == "words" else ZSH_ACTIONS[how]

@@ -61,10 +61,18 @@ def values():
     return of_options("value_word", r'b"(\w+)"')[1]
 
 
-def pairs():
-    """Of two options of which exactly one has to be given, the second by the first."""
+def keys():
+    """The other way to give the key to a command, by the command."""
+    commands = dict(re.findall(r'Subcommand::(\w+) => "(\w+)",', (documents.CODE / "subcommand.rt").read_text()))
+    body = HELP.read_text().split("fn other_key(", 1)[1].split("\n}\n", 1)[0]
+    return {commands[command]: option for command, option in re.findall(r"Subcommand::(\w+) => Some\(ArgName::(\w+)\)", body)}
+
+
+def pairs(command):
+    """Of two options of a command of which exactly one has to be given, the second by the first."""
     names, others = of_options("other_place", r"Some\(ArgName::(\w+)\)")
-    return {option: names[other] for option, other in others.items()}
+    found = {option: names[other] for option, other in others.items()}
+    return {**found, "key": names[keys()[command]]} if command in keys() else found
 
 
 def operands():
@@ -79,9 +87,9 @@ def synopsis(command):
     yield from (".PP", ".nh", ".ad l", f"\\fBssh_audit {command}\\fR")
     asked = {option: f"\\fB{shown('--' + option)}\\fR \\fI{word}\\fR" for option, word in values().items()}
     for option, may_go in documents.rows_of_code().get(command, []):
-        if option in pairs():
-            yield f"({asked[option]} | {asked[pairs()[option]]})"
-        elif option not in pairs().values():
+        if option in pairs(command):
+            yield f"({asked[option]} | {asked[pairs(command)[option]]})"
+        elif option not in pairs(command).values():
             yield f"[{asked[option]}]" if may_go else asked[option]
     if command in operands():
         operand = f"\\fI{OPERANDS[command]}\\fR ..."

@@ -1,13 +1,16 @@
 #!/usr/bin/env python3
 """Makes the packages of the built program by packaging/build.py, twice, and compares the bytes; looks at what is in them;
 installs the .deb into a folder of its own, where dpkg keeps its records too, so that the machine stays as it is; asks
-`man`, the program and the completions of bash and zsh there; and removes it again.
+`man`, the program and the completions of bash and zsh there; compiles a C program there by pkg-config, and runs it; and
+removes it again.
 
-usage: packaging.py [PROGRAM]
+usage: packaging.py [PROGRAM] [--library MADE]
 
-PROGRAM is crates/ssh_audit/out/ssh_audit where it is left out. Needs dpkg-deb, git, bash, binutils and the built program.
-Without dpkg-deb it says so and tries nothing. Rows that need root (dpkg into a folder), `man` or zsh are skipped where it
-is missing, and counted in a line of their own. The last line is 'N passed, M failed'; the status is 0 where nothing failed."""
+PROGRAM is crates/ssh_audit/out/ssh_audit and MADE, what bindings/build.sh made, bindings/out where they are left out. Needs
+dpkg-deb, git, bash, binutils and the built program. Without dpkg-deb it says so and tries nothing. Rows that need root (dpkg
+into a folder), the library, pkg-config with gcc, `man` or zsh are skipped where it is missing, and counted in a line of their
+own. Without the library the packages are made without it. The last line is 'N passed, M failed'; the status is 0 where nothing failed."""
+import argparse
 import hashlib
 import os
 import pathlib
@@ -34,6 +37,9 @@ DEBIAN_PLACES = {
     "usr/share/zsh/vendor-completions/_ssh_audit": "packaging/_ssh_audit",
     "usr/share/man/man1/ssh_audit.1.gz": "docs/ssh_audit.1",
 }
+LIBRARY_PLACES = {"usr/include/ssh_audit.h": "ssh_audit.h", "usr/lib/libssh_audit.a": "libssh_audit.a", "usr/lib/libssh_audit.so.0": "libssh_audit.so.0"}
+PKG_CONFIG = "usr/lib/pkgconfig/ssh_audit.pc"
+LINKS = {"usr/lib/libssh_audit.so": "libssh_audit.so.0"}
 # A link to another file of the package: what checks and crates hold is in the repository alone.
 LINK = re.compile(r"\]\((?!https?:|#|\.\./(?:checks|crates)/)([^)#]+)")
 # Where one of these is missing, rows are skipped.
@@ -63,30 +69,33 @@ def digests(files):
 # ---- what is made
 
 
-def built(path, room, tally):
+def built(path, library, room, tally):
     """The folder of the packages; None where none are made. The second time all that should not matter is otherwise."""
+    given = ("--library", library) if library else ()
     first, second = room / "first", room / "second"
     other = room / "other name"
     shutil.copyfile(path, other)
     other.chmod(0o700)
-    status, printed = ran(sys.executable, BUILD, path, "--out", first)
+    status, printed = ran(sys.executable, BUILD, path, *given, "--out", first)
     tally.check("build.py", (status, printed.count("\n")), (0, 2))
     settings = {**os.environ, "TZ": "Asia/Tokyo", "LC_ALL": "C"}
-    tally.check("build.py again", ran("sh", "-c", 'umask 077; exec "$@"', "", sys.executable, BUILD, other, "--out", second, cwd=room, env=settings)[0], 0)
+    tally.check("build.py again", ran("sh", "-c", 'umask 077; exec "$@"', "", sys.executable, BUILD, other, *given, "--out", second, cwd=room, env=settings)[0], 0)
     if status:
         print(printed)
         return None
     tally.check("the same bytes again", digests(bytes_of(first)), digests(bytes_of(second)))
     tally.check("SHA256SUMS", ran("sha256sum", "--check", "--quiet", "SHA256SUMS", cwd=first), (0, ""))
-    ran(sys.executable, BUILD, path, "--out", first)
+    ran(sys.executable, BUILD, path, *given, "--out", first)
     tally.check("once more into the same folder", digests(bytes_of(first)), digests(bytes_of(second)))
     missing = ran(sys.executable, BUILD, room / "no such program", "--out", room / "third")
     tally.check("no program", (missing[0], (room / "third").exists()), (1, False))
+    missing = ran(sys.executable, BUILD, path, "--library", room / "no such folder", "--out", room / "third")
+    tally.check("no library", (missing[0], (room / "third").exists()), (1, False))
     tools = room / "tools"
     tools.mkdir()
     for name in ("git", "readelf", "gzip"):
         (tools / name).symlink_to(shutil.which(name))
-    status, printed = ran(sys.executable, BUILD, path, "--out", room / "third", env={"PATH": str(tools)})
+    status, printed = ran(sys.executable, BUILD, path, *given, "--out", room / "third", env={"PATH": str(tools)})
     made = [file.name for file in room.glob("third/*.*")]
     tally.check("neither dpkg-deb nor rt", (status, printed.splitlines()[0], made), (0, "no dpkg-deb: no .deb is made", [file.name for file in first.glob("*.tar.gz")]))
     return first
@@ -101,22 +110,23 @@ def wanted_version():
     return f"{day}.{commit[:8]}" + ("" if is_clean else "+dirty"), commit
 
 
-def wanted_glibc(path):
-    """The last version of glibc that the program's symbols name."""
-    found = re.findall(r"GLIBC_(\d+)\.(\d+)", ran("objdump", "-T", path)[1])
+def wanted_glibc(path, library):
+    """The last version of glibc that the symbols of the program and of the library name."""
+    printed = [ran("objdump", "-T", file)[1] for file in (path, *([library / "libssh_audit.so.0"] if library else []))]
+    found = re.findall(r"GLIBC_(\d+)\.(\d+)", "".join(printed))
     return max((int(major), int(minor)) for major, minor in found)
 
 
-def control_rows(package, path, tally):
+def control_rows(package, path, library, tally):
     """What the package says of itself."""
     version, commit = wanted_version()
     told = {name: ran("dpkg-deb", "-f", package, name)[1].strip() for name in ("Package", "Version", "Depends", "Description", "Architecture")}
     tally.check("the names of the files", sorted(file.name for file in package.parent.iterdir()), sorted(["SHA256SUMS", *(f"{NAME}_{version}_{told['Architecture']}.{end}" for end in ("deb", "tar.gz"))]))
     tally.check("package and version", (told["Package"], told["Version"]), (NAME, version))
     least = re.search(r"\blibc6 \(>= (\d+)\.(\d+)\)", told["Depends"])
-    tally.check("the libc6 that it needs", least and tuple(map(int, least.groups())), wanted_glibc(path))
+    tally.check("the libc6 that it needs", least and tuple(map(int, least.groups())), wanted_glibc(path, library))
     named = re.search(r"wants glibc (\d+)\.(\d+) or later", (TOP / "docs" / "MANUAL.md").read_text())
-    tally.check("the glibc that MANUAL names", named and tuple(map(int, named.groups())), wanted_glibc(path))
+    tally.check("the glibc that MANUAL names", named and tuple(map(int, named.groups())), wanted_glibc(path, None))
     tally.check("it is told from Debian's ssh-audit", "not Debian's ssh-audit" in told["Description"], True)
     tally.check("its commit", commit in told["Description"], True)
     tally.check("dpkg takes its version", ran("dpkg", "--compare-versions", version, "gt", "1.0.0")[0], 0)
@@ -129,31 +139,41 @@ def wanted_files():
     return {**DEBIAN_PLACES, **{f"{DOCUMENTS}/{path.relative_to(TOP)}": str(path.relative_to(TOP)) for path in kept}}
 
 
-def content_rows(package, path, room, told, tally):
+def files_listed(lines):
+    """The lines that `dpkg-deb -c` prints of files and links, as mode, owner and name."""
+    return sorted(((mode, owner, " ".join(name).removeprefix("./")) for mode, owner, _, _, _, *name in lines if not name[-1].endswith("/")), key=lambda line: line[2])
+
+
+def content_rows(package, path, library, room, told, tally):
     """Each file with its mode and its owner, in both packages; and its bytes."""
     version, commit = told
     wanted = wanted_files()
+    made = {name: library / file for name, file in LIBRARY_PLACES.items()} if library else {}
+    made["usr/bin/ssh_audit"] = path
     runs = {"usr/bin/ssh_audit", *(name for name, file in wanted.items() if file.startswith("examples/") and os.access(TOP / file, os.X_OK))}
-    files = sorted([*wanted, f"{DOCUMENTS}/VERSION"])
+    files = sorted([*wanted, f"{DOCUMENTS}/VERSION", *([*LIBRARY_PLACES, PKG_CONFIG] if library else [])])
+    links = [("lrwxrwxrwx", "root/root", f"{name} -> {to}") for name, to in LINKS.items()] if library else []
     lines = [line.split() for line in ran("dpkg-deb", "-c", package)[1].splitlines()]
     tally.check("folders of the .deb", {(mode, owner) for mode, owner, *_, name in lines if name.endswith("/")}, {("drwxr-xr-x", "root/root")})
-    tally.check("files of the .deb", [(mode, owner, name.removeprefix("./")) for mode, owner, *_, name in lines if not name.endswith("/")], [("-rwxr-xr-x" if name in runs else "-rw-r--r--", "root/root", name) for name in files])
+    tally.check("files of the .deb", files_listed(lines), sorted([*links, *(("-rwxr-xr-x" if name in runs else "-rw-r--r--", "root/root", name) for name in files)], key=lambda line: line[2]))
     tree = room / "tree"
     ran("dpkg-deb", "-R", package, tree)
     tally.check("md5sums", (ran("md5sum", "--check", "--quiet", "DEBIAN/md5sums", cwd=tree), (tree / "DEBIAN" / "md5sums").read_text().count("\n")), ((0, ""), len(files)))
     for name, file in wanted.items():
-        data = path.read_bytes() if name == "usr/bin/ssh_audit" else (TOP / file).read_bytes()
         held = subprocess.run(["gzip", "-dc", tree / name], stdout=subprocess.PIPE, check=False).stdout if name.endswith(".gz") else (tree / name).read_bytes()
-        tally.check(f"{name} is {file}", held == data, True)
-    mark = hashlib.sha256(path.read_bytes()).hexdigest()
+        tally.check(f"{name} is {file}", name in made or held == (TOP / file).read_bytes(), True)
+    for name, file in made.items():
+        tally.check(f"{name} is what was built", (tree / name).read_bytes() == file.read_bytes(), True)
+    marks = [f"program sha256 {hashlib.sha256(path.read_bytes()).hexdigest()}"]
+    marks += [f"library sha256 {hashlib.sha256((library / 'libssh_audit.so.0').read_bytes()).hexdigest()}"] if library else []
     said = (tree / DOCUMENTS / "VERSION").read_text()
-    tally.check("VERSION", [line for line in (f"ssh_audit {version}", f"commit {commit}", f"program sha256 {mark}") if line not in said.splitlines()], [])
+    tally.check("VERSION", [line for line in (f"ssh_audit {version}", f"commit {commit}", *marks) if line not in said.splitlines()], [])
     tally.check("VERSION names the kit", bool(re.search(r"^kit \S+ logic \w+$", said, re.MULTILINE)), True)
     for document in sorted((tree / DOCUMENTS).rglob("*.md")):
         lost = [link for link in LINK.findall(document.read_text()) if not (document.parent / link).exists()]
         tally.check(f"links of {document.relative_to(tree / DOCUMENTS)}", lost, [])
     archive = next(package.parent.glob("*.tar.gz"))
-    tally.check("no folder is an entry of the archive", [line for line in ran("tar", "-tvzf", archive)[1].splitlines() if not line.startswith("-") or " root/root " not in line], [])
+    tally.check("no folder is an entry of the archive", [line for line in ran("tar", "-tvzf", archive)[1].splitlines() if line[0] not in "-l" or " root/root " not in line], [])
     prefix = room / "prefix"
     prefix.mkdir()
     tally.check("tar -x", ran("tar", "-xzf", archive, "-C", prefix, "--strip-components", "1"), (0, ""))
@@ -165,7 +185,7 @@ def content_rows(package, path, room, told, tally):
 # ---- as it is installed
 
 
-def installed(package, path, room, tally):
+def installed(package, path, library, room, tally):
     """The folder that the package is installed into, and what removes it: by dpkg where it is run by root, else unpacked."""
     root = room / "root"
     if os.geteuid() != 0:
@@ -177,7 +197,7 @@ def installed(package, path, room, tally):
         (records / name).mkdir(parents=True)
     settings = {**os.environ, "PATH": f"{os.environ['PATH']}:/usr/sbin:/sbin"}
     dpkg = lambda *words: ran("dpkg", f"--root={root}", f"--log={room / 'dpkg.log'}", "--path-include=/usr/*", *words, env=settings)
-    major, minor = wanted_glibc(path)
+    major, minor = wanted_glibc(path, library)
     stanza = "Package: {}\nStatus: install ok installed\nArchitecture: {}\nVersion: {}\nMaintainer: none\nDescription: stands for the system's\n\n"
     machine = ran("dpkg-deb", "-f", package, "Architecture")[1].strip()
     others = "".join(stanza.format(name, machine, 1) for name in re.findall(r"[\w-]+(?=,|$)", ran("dpkg-deb", "-f", package, "Depends")[1].strip()))
@@ -203,6 +223,26 @@ def program_rows(root, room, tally):
     tally.check("show", ran("ssh_audit", *program.show("key", "keys"), cwd=room, env=settings), (0, program.SHOWN))
     status, printed = ran("ssh_audit", "review", "--kind", "auth", "--now", "1", "--zone", "UTC0", "keys", cwd=room, env=settings)
     tally.check("review", (status, printed.startswith("keys:1: key ssh-ed25519 SHA256:")), (0, True))
+
+
+def library_rows(root, library, room, tally):
+    """bindings/c/example.c, compiled by what pkg-config says of the installed library: with the shared library, and with the static
+    one."""
+    if not library:
+        skip("the library", 3)
+        return
+    if not shutil.which("pkg-config") or not shutil.which("gcc"):
+        skip("pkg-config with gcc", 3)
+        return
+    settings = {**os.environ, "PKG_CONFIG_PATH": str((root / PKG_CONFIG).parent), "LD_LIBRARY_PATH": str(root / "usr/lib")}
+    tally.check("pkg-config --modversion", ran("pkg-config", "--modversion", "ssh_audit", env=settings), (0, f"{wanted_version()[0]}\n"))
+    for kind, words in (("shared", "--cflags --libs"), ("static", "--static --cflags --libs")):
+        flags = ran("pkg-config", *words.split(), "ssh_audit", env=settings)[1].split()
+        # The linker takes the shared library where it finds both.
+        flags = [flag if kind == "shared" or flag != "-lssh_audit" else "-l:libssh_audit.a" for flag in flags]
+        told = ran("gcc", "-std=c99", "-Wall", "-Wextra", "-Werror", "-o", room / kind, TOP / "bindings" / "c" / "example.c", *flags)
+        status, printed = ran(room / kind, env=settings) if told == (0, "") else told
+        tally.check(f"a C program with the {kind} library", (status, printed.splitlines()[:1]), (0, ["kind 0 line 10, kind 1 code N6"]))
 
 
 def page_rows(root, tally):
@@ -240,7 +280,7 @@ def bash_rows(root, room, tally):
     for words, wanted in (
         (["rev"], ["review"]),
         (["review", "--kind", "=", "au"], ["auth"]),
-        (["review", "--kind", "auth", "--k"], []),
+        (["review", "--kind", "auth", "--k"], ["--key"]),
         (["review", "--", "--k"], []),
         (["review", "--now", ""], []),
         (["login", "--offer", "A", "--off"], []),
@@ -262,6 +302,8 @@ GOOD = {
 def given(command, rows, option, word):
     """A command line that gives this word to this option, and what the command wants beside it."""
     wanted = {name for name, may_go in make_completion.documents.rows_of_code()[command] if not may_go} | {"offer", "signature"}
+    # `admits` wants a key or its fingerprint.
+    wanted |= {"key"} if command == "admits" and option != "--fingerprint" else set()
     values = {name: GOOD.get(name, "keys") for name in rows if name[2:] in wanted}
     values[option] = word
     operands = ["keys"] if command in make_completion.make_manual_page.operands() else []
@@ -308,7 +350,12 @@ def typing_rows(root, room, tally):
 
 
 def main():
-    path, tally = pathlib.Path(sys.argv[1] if len(sys.argv) > 1 else program.CRATE / "out" / "ssh_audit").resolve(), Tally()
+    parser = argparse.ArgumentParser(description="Tries the packages.")
+    parser.add_argument("program", nargs="?", default=program.CRATE / "out" / "ssh_audit", type=pathlib.Path)
+    parser.add_argument("--library", metavar="MADE", default=TOP / "bindings" / "out", type=pathlib.Path)
+    asked = parser.parse_args()
+    path, tally = asked.program.resolve(), Tally()
+    library = asked.library.resolve() if (asked.library / "libssh_audit.a").is_file() else None
     if not shutil.which("dpkg-deb"):
         print("dpkg-deb is missing (Debian: dpkg): nothing was tried\n0 passed, 0 failed")
         return 0
@@ -322,12 +369,13 @@ def main():
     with tempfile.TemporaryDirectory() as folder:
         room = pathlib.Path(folder).resolve()
         room.chmod(0o755)
-        made = built(path, room, tally)
+        made = built(path, library, room, tally)
         if made:
             package = next(made.glob("*.deb"))
-            content_rows(package, path, room, control_rows(package, path, tally), tally)
-            root, removed = installed(package, path, room, tally)
+            content_rows(package, path, library, room, control_rows(package, path, library, tally), tally)
+            root, removed = installed(package, path, library, room, tally)
             program_rows(root, room, tally)
+            library_rows(root, library, room, tally)
             page_rows(root, tally)
             bash_rows(root, room, tally)
             typing_rows(root, room, tally)

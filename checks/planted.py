@@ -1,6 +1,6 @@
 #!/usr/bin/env python3
 """Tries the wrong edits of checks/planted outside the gate: the prover has to refuse each. They are those of the largest
-crates, of which an edit takes the prover minutes: one to three of each crate stand in its must-fail/, where the gate tries them,
+crates, of which an edit takes the prover minutes: at most three of each crate stand in its must-fail/, where the gate tries them,
 and the others here. Run it after a change of a contract of such a crate.
 
 usage: planted.py [--list] [CRATE ..]

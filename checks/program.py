@@ -24,6 +24,7 @@ program. It takes some ten minutes, without --after.
 """
 import argparse
 import base64
+import datetime
 import fcntl
 import hashlib
 import hmac
@@ -246,6 +247,18 @@ def review(*names, kind="auth", now=150, **other):
 # ---- rows
 
 
+def asked_at(now=150, zone="UTC0"):
+    """What the last line of an answer says of the moment and the zone; `trusts` reads no time in a zone."""
+    date = f"{datetime.datetime.fromtimestamp(int(now), datetime.timezone.utc):%Y-%m-%dT%H:%M:%SZ}"
+    return f"asked at {now} {date}" + (f", zone {zone}" if zone else "")
+
+
+def asked_by(words):
+    """The last line of the text of this `admits` or `trusts`."""
+    given = dict(zip(words, words[1:]))
+    return asked_at(given["--now"], given.get("--zone", "UTC0") if words[0] == "admits" else None) + "\n"
+
+
 def rows():
     """The words, what is wanted, the status, and standard input where it matters."""
     keys, hosts, certificate = (FILES[name].encode() for name in ("keys", "hosts", "certificate"))
@@ -303,7 +316,8 @@ def rows():
     yield login("keys", " vouched"), "fault file  vouched\n", 2
     yield login("keys\t", "vouched"), "fault A9\n", 2
     yield show("key", "keys "), SHOWN.replace(MARK, "gOPgXFWkBoXrFVwpjf0SBo3P1kFs+IvH5q/vnQhNpFw"), 0
-    denied = f"keys : does not admit: N3: no line admits the offer\n    looked for SHA256:{MARK}\n"
+    yield ["explain", "version"], "version: ssh_audit 1.0.0 - a package tells the commit too, in share/doc/ssh-trust-audit/VERSION\n", 0
+    denied = f"keys : does not admit: N3: no line admits the offer\n    looked for SHA256:{MARK}\n{asked_at()}\n"
     yield ["admits", "--key", "keys", "--user", "ann", "--address", "192.0.2.1", "--now", "150", "keys "], denied, 1
     # an offer and a signature in files: one place of each, the first line of a file, which is read before the values are
     # judged, the offer's first; the option that gives no value is named
@@ -425,10 +439,10 @@ def input_rows(program, tally):
         (show("key", "-"), "fault file -\n"),
         (rewrite("auth", "-"), "fault A9\n"),
         (readable("-"), "fault A9\n"),
-        (["admits", "--key", "keys", "--user", "ann", "--address", "192.0.2.1", "--now", "150", "-", "-"], 2 * "-: fault A9\n"),
-        (["trusts", "--key", "keys", "--host", "h", "--now", "150", "-", "-"], 2 * "-: fault A9\n"),
+        (["admits", "--key", "keys", "--user", "ann", "--address", "192.0.2.1", "--now", "150", "-", "-"], 2 * "-: fault A9\n" + asked_at() + "\n"),
+        (["trusts", "--key", "keys", "--host", "h", "--now", "150", "-", "-"], 2 * "-: fault A9\n" + asked_at(zone=None) + "\n"),
         (["trusts", "--key", "-", "--host", "h", "--now", "150", "-"], "fault file -\n"),
-        (review("-", "-"), 2 * "-: fault A9\n" + "total: 2 files, 2 faults, 0 lines, 0 keys, 0 unreadable, 0 findings\n"),
+        (review("-", "-"), 2 * "-: fault A9\n" + f"total: 2 files, 2 faults, 0 lines, 0 key lines, 0 unreadable, 0 findings, {asked_at()}\n"),
     ):
         folder = os.open(program.room, os.O_RDONLY)
         tally.check(f"a folder as input: {asked[:1]}", program.run(asked, folder), (2, wanted.encode(), hint_of(wanted)))
@@ -511,7 +525,7 @@ def picked_rows(program, tally, count=100_000):
     without an end, 2,000 of them took fifty times as long."""
     meter = program.room / "meter"
     subprocess.run(["gcc", "-O2", "-static", "-o", meter, HERE.parent / "bench" / "meter.c"], check=True)
-    total = f"total: 1 files, 0 faults, {count} lines, {count} keys, 0 unreadable, 0 findings\n".encode()
+    total = f"total: 1 files, 0 faults, {count} lines, {count} key lines, 0 unreadable, 0 findings, {asked_at()}\n".encode()
     for kind, front in (("auth", ""), ("known", "h ")):
         times = []
         for end in (b"", MULTIPLIER.to_bytes(8, "little")):

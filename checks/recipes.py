@@ -23,7 +23,7 @@ sys.dont_write_bytecode = True
 import keys_in_git
 import program
 from openssh_servers import ACCOUNT, FROM_FILE, Server, Tools
-from program import Tally
+from program import Tally, asked_at
 
 HERE = pathlib.Path(__file__).resolve().parent
 PAGE = HERE.parent / "docs" / "RECIPES.md"
@@ -101,7 +101,6 @@ ACCESS = [
 GONE = [
     (WEB, "key", "build", EVERY, 'command="/usr/bin/deploy"'),
     (WEB, "key", "old", EVERY, ""),
-    (WEB, "key", "bob", EVERY, 'expiry-time="20260101Z"'),
     (DB, "key", "backup", "none", 'from="10.0.0.0/8",restrict,command="/usr/bin/backup"'),
 ]
 NEW = [
@@ -137,6 +136,12 @@ Match User dave
     TrustedUserCAKeys none
 """
 USED = ("laptop", "backup", "build", "work", "old")
+# What is told of the login that sshd refused, by the key `backup` from outside the net of its line.
+REFUSED = """{WEB}: does not admit: N3: no line admits the offer
+    looked for {mark}
+    3 G8: the line's from= does not permit the client; from "10.0.0.0/8"; address "192.0.2.7"; host -
+{asked}
+"""
 COMMENTS = {name: f"{name}@example" for name in NAMES} | {"carol": "=carol@example", "work": "m\u00fcller"}
 TOLD = {name: comment.replace("\u00fc", "\\xc3\\xbc") for name, comment in COMMENTS.items()}
 
@@ -188,6 +193,12 @@ def machine_list(room, marks):
     return "".join(sorted([*machine_settings(room).splitlines(True), *table(rows).splitlines(True)]))
 
 
+def machine_zone():
+    """The rule of this machine's time zone, which is asked by default: the last line of its file."""
+    file = pathlib.Path("/etc/localtime")
+    return file.read_bytes().decode(errors="replace").rstrip("\n").rpartition("\n")[2] if file.exists() else "UTC0"
+
+
 def machine_review(room, marks):
     """What is printed of that machine: the settings, and the review of the files that sshd reads."""
     files, text = machine_files(room), machine_settings(room)
@@ -195,8 +206,8 @@ def machine_review(room, marks):
         key = MACHINE[os.path.relpath(file, room)]
         mark = hashlib.sha256(pathlib.Path(file).read_bytes()).hexdigest()
         text += f"{file}:1: key ssh-ed25519 {marks[key]} {TOLD[key]}\n    rights {EVERY}\n"
-        text += f"{file}: 1 lines, 1 keys, 0 unreadable, 0 findings, sha256 {mark}\n"
-    return text + f"total: {len(files)} files, 0 faults, {len(files)} lines, {len(files)} keys, 0 unreadable, 0 findings\n"
+        text += f"{file}: 1 lines, 1 key lines, 0 unreadable, 0 findings, sha256 {mark}\n"
+    return text + f"total: {len(files)} files, 0 faults, {len(files)} lines, {len(files)} key lines, 0 unreadable, 0 findings, {asked_at(SECOND, machine_zone())}\n"
 
 
 def table(rows):
@@ -209,10 +220,10 @@ def changes(rows, marks):
 
 
 def in_sqlite(marks):
-    """What SQLite prints of both quarters: a line that has expired is no access."""
+    """What SQLite prints of both quarters."""
     told = lambda rows: "".join("\t".join(row) + "\n" for row in sorted((file, what, marks[key], rights, options, TOLD[key]) for file, what, key, rights, options in rows))
     counts = "".join(f"{code}\t1\t0\n" for code in ("F1", "F4", "F5", "F6", "F9"))
-    text = f"not read:\ngone or changed:\n{told(row for row in GONE if row[2] != 'bob')}new or changed:\n{told(NEW)}"
+    text = f"not read:\ngone or changed:\n{told(GONE)}new or changed:\n{told(NEW)}"
     return f"{text}of nobody:\n{marks['ci']}\t{DB}\nfindings of both quarters:\n{counts}somebody|2\n"
 
 
@@ -240,7 +251,8 @@ def wanted(room, marks):
         "Who has access": table(access),
         "What changed since the last quarter": "gone or changed:\n" + changes(GONE, marks) + "new or changed:\n" + changes(NEW, marks),
         "The same in SQLite": in_sqlite(marks),
-        "Where one key stands": f"{DB}:1\n{WEB}:3\n",
+        "Where one key stands": "".join(f"{place}: key ssh-ed25519 {marks['backup']} {TOLD['backup']}\n" for place in (f"{DB}:1", f"{WEB}:3")),
+        "Why a login was refused": REFUSED.format(WEB=WEB, mark=marks["backup"], asked=asked_at(SECOND, machine_zone())),
         "Keys on many hosts": marks["backup"] + "\n",
         "Keys that nobody used": table([marks[key]] for key in unused),
         "Orphans": f"{marks['ci']}\t{DB}\n",
@@ -280,7 +292,9 @@ def recipe_rows(room, tally, settings, lines, marks):
     os.replace(room / "q2.json", room / "q1.json")
     write_quarter(room, 1, lines)
     log = "".join(f"Apr  1 00:00:00 web1 sshd[1]: Accepted publickey for ann from 10.0.0.1 port 1 ssh2: ED25519 {marks[key]}\n" for key in USED)
-    (room / "auth.log").write_text(log + f"Apr  1 00:00:00 web1 sshd[1]: Failed publickey for ann from 10.0.0.1 port 1 ssh2: ED25519 {marks['bob']}\n")
+    refused = (("10.0.0.1", "bob"), ("192.0.2.7", "backup"))
+    log += "".join(f"Apr  1 00:00:00 web1 sshd[1]: Failed publickey for ann from {address} port 1 ssh2: ED25519 {marks[key]}\n" for address, key in refused)
+    (room / "auth.log").write_text(log)
     (room / "owners.tsv").write_text("".join(f"{marks[key]}\tsomebody\n" for key in NAMES if key != "ci"))
     for (title, _), (printed, status) in zip(found, run_blocks(room, blocks, {**settings, "NOW": SECOND})):
         tally.check(title, (printed, status), (expected.get(title), "0"))
@@ -331,8 +345,8 @@ def gathered_rows(room, tally):
         return
     records = [json.loads(line) for line in (room / "all.json").read_text().splitlines()]
     files = machine_files(room)
-    tally.check("what Ansible gathered", [record["file"] for record in records if record["is"] == "end"], [f"lists/web1.json:{file}" for file in files])
-    tally.check("its total", [record["files"] for record in records if record["is"] == "total"], [len(files)])
+    tally.check("what Ansible gathered", [record["file"] for record in records if record["what"] == "end"], [f"lists/web1.json:{file}" for file in files])
+    tally.check("its total", [record["files"] for record in records if record["what"] == "total"], [len(files)])
 
 
 def login_rows(room, tally, path, lines):

@@ -165,6 +165,11 @@ def hash_rows(key):
         yield "too few salts", [*words, salts.name], 2 * (line + b"\n")
 
 
+def mark_of(key):
+    """The fingerprint of the key on a line."""
+    return "SHA256:" + base64.b64encode(hashlib.sha256(base64.b64decode(key.split(b" ")[1])).digest()).decode().rstrip("=")
+
+
 def key_rows(key):
     """A key and a certificate asked about over a trust file on standard input and one that is not there; a key's file that
     holds none; codes that are explained, one that is unknown, and `usage`."""
@@ -178,6 +183,10 @@ def key_rows(key):
         yield "admits a certificate", [*words, str(certified), "-"], b"cert-authority " + SIGNER
         yield "admits no key", [*words, "-", "missing"], b"ssh-rsa AAAA\n"
         yield "admits another address", [*changed(words, address="x"), str(plain), "-"], key
+        marked = [*words[:-1], "--fingerprint", mark_of(key)]
+        yield "admits a fingerprint", [*marked, "-", "missing"], b"no-ptty " + key + b"\n" + key
+        yield "admits no key of a fingerprint", [*marked, "-"], b"ssh-dss AAAA\n"
+        yield "admits no key of a fingerprint, as JSON", [*marked, "--form", "json", "-"], b"ssh-dss AAAA\n"
         words = ["trusts", "--host", "H", "--now", "150", "--key", str(plain)]
         yield "trusts", [*words, "-"], b"h " + key
         yield "trusts by a line that ssh may refuse", [*words, "-"], b"h,\0 " + key + b"\nh " + key
@@ -190,7 +199,7 @@ def key_rows(key):
 
 def review_rows(key):
     """Reviews in both forms: entries with all that a record may tell, one shadowed, unreadable lines, a missing file; a long
-    file; findings that are all, none and no list."""
+    file; one key's records; findings that are all, none and no list."""
     line = b'from="10.0.0.0/8",restrict,command="a \\"b\\"",permitopen="h:1",expiry-time="20240229" ' + key + b"\xff"
     authority = b'cert-authority,principals="ann," ' + SIGNER
     lines = b"\n".join([b"# c", line, key, b"no-touch-required,verify-required " + key, authority, b"no-ptty " + key, b"ssh-dss AAAA"])
@@ -201,6 +210,10 @@ def review_rows(key):
         yield f"review as {form}, all findings", [*formed, "--findings", "all", "--zone", "CET-1", "-"], lines
         yield f"review as {form}, no findings", [*formed, "--findings", "none", "-"], lines
         yield f"a long review as {form}", [*formed, "-"], b"\n".join(40 * [b"restrict " + key])
+    mark = "SHA256:" + base64.b64encode(hashlib.sha256(base64.b64decode(key.split(b" ")[1])).digest()).decode().rstrip("=")
+    for value in (mark, "SHA256:", "missing"):
+        yield f"review for {value}", [*words, "--key", value, "-"], lines
+    yield "review of hosts for a key", ["review", "--kind", "known", "--now", "1", "--key", mark, "-"], b"h " + key + b"\n@revoked h " + key + b"\nh,, " + key
     yield "review with no list", [*words, "--findings", "F1,,F2", "-"], lines
     yield "review of hosts", ["review", "--kind", "known", "--now", "1", "-"], b"H,*.x " + key + b"\n@revoked h " + key + b"\n@revoked x\n" + HASHED + b" " + key
 

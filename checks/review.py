@@ -7,7 +7,8 @@ Worked files, word for word, in both forms. Random authorized_keys files of keys
 all kinds and damaged lines, reviewed at several times: every record is compared with what a model in this script expects
 of the line; whoever `admits` lets in, gets in by a line that has a record, is not shadowed, not past its time, permits
 somebody, and leaves the rights that were admitted; the lines that `admits` cannot read are those that the review calls
-unreadable; each fingerprint that `ssh-keygen -lf` prints of the file is in a record; both forms tell the same, and the
+unreadable; each fingerprint that `ssh-keygen -lf` prints of the file is in a record; asked for by its fingerprint, each key has the records
+that the whole review has of it; both forms tell the same, and the
 JSON lines have their fields in order. Then names, limits, faults, statuses and writers that fail. Random known_hosts files
 are compared with a model of theirs in the same way, and with the hosts that `trusts` trusts by them.
 
@@ -30,15 +31,15 @@ import time
 
 sys.dont_write_bytecode = True
 import program
-from program import FILE_LIMIT, HINT, Program, Tally, review
+from program import FILE_LIMIT, HINT, Program, Tally, asked_at, review
 
 HERE = pathlib.Path(__file__).resolve().parent
 DEFAULT = pathlib.Path(program.CRATE) / "out" / "ssh_audit"
 RIGHTS = ("port", "agent", "x11", "pty", "rc")
-AUTH_FIELDS = ["file", "line", "is", "type", "bits", "key", "comment", "options", "rights", "command", "from", "principals", "expires", "shadowed_by", "findings"]
-KNOWN_FIELDS = ["file", "line", "is", "type", "bits", "key", "comment", "names", "findings"]
-END_FIELDS = ["file", "is", "lines", "keys", "unreadable", "findings", "sha256", "fault"]
-TOTAL_FIELDS = ["is", "format", "files", "faults", "lines", "keys", "unreadable", "findings"]
+AUTH_FIELDS = ["file", "line", "what", "type", "bits", "key", "comment", "options", "rights", "command", "source", "principals", "expires", "shadowed_by", "lets_in", "findings"]
+KNOWN_FIELDS = ["file", "line", "what", "type", "bits", "key", "comment", "names", "findings"]
+END_FIELDS = ["file", "what", "lines", "key_lines", "unreadable", "findings", "sha256", "fault"]
+TOTAL_FIELDS = ["what", "format", "program", "kind", "rsa_minimum", "told", "now", "at", "zone", "files", "faults", "lines", "key_lines", "unreadable", "findings"]
 # The first moment of 2026 in UTC, which an expiry time of that day names.
 NEW_YEAR = 1_767_225_600
 FORWARDS = "    F9: its command is forced, but it may still forward: add restrict"
@@ -100,23 +101,23 @@ web1/ann:10: key ssh-rsa 2048 SHA256:Bfvk8D9yagody1EbQdzAz5byw0A51qzcCWURIjCLnN4
     rights port agent x11 pty rc
     verify-required
     F8 verify-required: OpenSSH lets this key in: it ignores verify-required of a key that is no security key
-web1/ann: 10 lines, 8 keys, 1 unreadable, 6 findings, sha256 a3b51c142bcda45a43c1dd1d736f45ea9554b013929818c32d1e1950dbd33041
+web1/ann: 10 lines, 8 key lines, 1 unreadable, 6 findings, sha256 a3b51c142bcda45a43c1dd1d736f45ea9554b013929818c32d1e1950dbd33041
 web1/none: fault A9
-total: 2 files, 1 faults, 10 lines, 8 keys, 1 unreadable, 6 findings
+total: 2 files, 1 faults, 10 lines, 8 key lines, 1 unreadable, 6 findings, asked at 1770000000 2026-02-02T02:40:00Z, zone UTC0
 """
 
-WORKED_JSON = r"""{"file":"web1/ann","line":2,"is":"key","type":"ssh-ed25519","bits":null,"key":"SHA256:gXMk5B5PxTYWe+Q7kQzHGRTNDb0nrzC3BLT7EPMvKSg","comment":"laptop@example","options":"","rights":"port agent x11 pty rc","command":null,"from":null,"principals":null,"expires":null,"shadowed_by":null,"findings":[]}
-{"file":"web1/ann","line":3,"is":"key","type":"ssh-ed25519","bits":null,"key":"SHA256:HuPvXqxf+TUVK2iDHf0i9B8HYd2eAOw3Mu4FmYQ2sWE","comment":"backup@example","options":"from=\"10.0.0.0/8\",restrict,command=\"/usr/bin/backup \\x5c\"full\\x5c\"\"","rights":"none","command":"/usr/bin/backup \"full\"","from":"10.0.0.0/8","principals":null,"expires":null,"shadowed_by":null,"findings":[]}
-{"file":"web1/ann","line":4,"is":"key","type":"ecdsa-sha2-nistp256","bits":null,"key":"SHA256:nhLvnwTE6QRz1UfV65d6yv9hpeLkeOwkaw7Ql/YqjdM","comment":"build@example","options":"command=\"/usr/bin/deploy\"","rights":"port agent x11 pty rc","command":"/usr/bin/deploy","from":null,"principals":null,"expires":null,"shadowed_by":null,"findings":[{"code":"F9","detail":""}]}
-{"file":"web1/ann","line":5,"is":"key","type":"ssh-ed25519","bits":null,"key":"SHA256:gXMk5B5PxTYWe+Q7kQzHGRTNDb0nrzC3BLT7EPMvKSg","comment":"laptop again","options":"restrict","rights":"none","command":null,"from":null,"principals":null,"expires":null,"shadowed_by":2,"findings":[{"code":"F4","detail":"2"}]}
-{"file":"web1/ann","line":6,"is":"key","type":"ssh-rsa","bits":1024,"key":"SHA256:FM0qtkq6jK/AsMX000mmtkcGXYbwWv4bIewiR7lIzIo","comment":"old@example","options":"","rights":"port agent x11 pty rc","command":null,"from":null,"principals":null,"expires":null,"shadowed_by":null,"findings":[{"code":"F5","detail":"1024"}]}
-{"file":"web1/ann","line":7,"is":"key","type":"ssh-ed25519","bits":null,"key":"SHA256:1rPJzXSzwEYMADix8ifDkUhTn8XNhynMzeXpmR90rzk","comment":"bob@example","options":"expiry-time=\"20260101Z\"","rights":"port agent x11 pty rc","command":null,"from":null,"principals":null,"expires":1767225600,"shadowed_by":null,"findings":[{"code":"F6","detail":""}]}
-{"file":"web1/ann","line":8,"is":"authority","type":"ssh-ed25519","bits":null,"key":"SHA256:VySy8OgtRCL1Xyc8Pmw64Uan5/UBdBZUOemVHS+WeUo","comment":"ca@example","options":"cert-authority","rights":"port agent x11 pty rc","command":null,"from":null,"principals":null,"expires":null,"shadowed_by":null,"findings":[]}
-{"file":"web1/ann","line":9,"is":"unreadable","type":"ssh-ed25519","bits":null,"key":"SHA256:nvuWTLJLbG342Ro/cJyRt1aPYE9mITXTARX8I/yh8QQ","comment":null,"options":null,"rights":null,"command":null,"from":null,"principals":null,"expires":null,"shadowed_by":null,"findings":[{"code":"F1","detail":"L3"}]}
-{"file":"web1/ann","line":10,"is":"key","type":"ssh-rsa","bits":2048,"key":"SHA256:Bfvk8D9yagody1EbQdzAz5byw0A51qzcCWURIjCLnN4","comment":"","options":"verify-required","rights":"port agent x11 pty rc","command":null,"from":null,"principals":null,"expires":null,"shadowed_by":null,"findings":[{"code":"F8","detail":"verify-required"}]}
-{"file":"web1/ann","is":"end","lines":10,"keys":8,"unreadable":1,"findings":6,"sha256":"a3b51c142bcda45a43c1dd1d736f45ea9554b013929818c32d1e1950dbd33041","fault":null}
-{"file":"web1/none","is":"end","lines":0,"keys":0,"unreadable":0,"findings":0,"sha256":null,"fault":"A9"}
-{"is":"total","format":1,"files":2,"faults":1,"lines":10,"keys":8,"unreadable":1,"findings":6}
+WORKED_JSON = r"""{"file":"web1/ann","line":2,"what":"key","type":"ssh-ed25519","bits":null,"key":"SHA256:gXMk5B5PxTYWe+Q7kQzHGRTNDb0nrzC3BLT7EPMvKSg","comment":"laptop@example","options":"","rights":"port agent x11 pty rc","command":null,"source":null,"principals":null,"expires":null,"shadowed_by":null,"lets_in":true,"findings":[]}
+{"file":"web1/ann","line":3,"what":"key","type":"ssh-ed25519","bits":null,"key":"SHA256:HuPvXqxf+TUVK2iDHf0i9B8HYd2eAOw3Mu4FmYQ2sWE","comment":"backup@example","options":"from=\"10.0.0.0/8\",restrict,command=\"/usr/bin/backup \\x5c\"full\\x5c\"\"","rights":"none","command":"/usr/bin/backup \"full\"","source":"10.0.0.0/8","principals":null,"expires":null,"shadowed_by":null,"lets_in":true,"findings":[]}
+{"file":"web1/ann","line":4,"what":"key","type":"ecdsa-sha2-nistp256","bits":null,"key":"SHA256:nhLvnwTE6QRz1UfV65d6yv9hpeLkeOwkaw7Ql/YqjdM","comment":"build@example","options":"command=\"/usr/bin/deploy\"","rights":"port agent x11 pty rc","command":"/usr/bin/deploy","source":null,"principals":null,"expires":null,"shadowed_by":null,"lets_in":true,"findings":[{"code":"F9","detail":""}]}
+{"file":"web1/ann","line":5,"what":"key","type":"ssh-ed25519","bits":null,"key":"SHA256:gXMk5B5PxTYWe+Q7kQzHGRTNDb0nrzC3BLT7EPMvKSg","comment":"laptop again","options":"restrict","rights":"none","command":null,"source":null,"principals":null,"expires":null,"shadowed_by":2,"lets_in":false,"findings":[{"code":"F4","detail":"2"}]}
+{"file":"web1/ann","line":6,"what":"key","type":"ssh-rsa","bits":1024,"key":"SHA256:FM0qtkq6jK/AsMX000mmtkcGXYbwWv4bIewiR7lIzIo","comment":"old@example","options":"","rights":"port agent x11 pty rc","command":null,"source":null,"principals":null,"expires":null,"shadowed_by":null,"lets_in":true,"findings":[{"code":"F5","detail":"1024"}]}
+{"file":"web1/ann","line":7,"what":"key","type":"ssh-ed25519","bits":null,"key":"SHA256:1rPJzXSzwEYMADix8ifDkUhTn8XNhynMzeXpmR90rzk","comment":"bob@example","options":"expiry-time=\"20260101Z\"","rights":"port agent x11 pty rc","command":null,"source":null,"principals":null,"expires":1767225600,"shadowed_by":null,"lets_in":false,"findings":[{"code":"F6","detail":""}]}
+{"file":"web1/ann","line":8,"what":"authority","type":"ssh-ed25519","bits":null,"key":"SHA256:VySy8OgtRCL1Xyc8Pmw64Uan5/UBdBZUOemVHS+WeUo","comment":"ca@example","options":"cert-authority","rights":"port agent x11 pty rc","command":null,"source":null,"principals":null,"expires":null,"shadowed_by":null,"lets_in":true,"findings":[]}
+{"file":"web1/ann","line":9,"what":"unreadable","type":"ssh-ed25519","bits":null,"key":"SHA256:nvuWTLJLbG342Ro/cJyRt1aPYE9mITXTARX8I/yh8QQ","comment":null,"options":null,"rights":null,"command":null,"source":null,"principals":null,"expires":null,"shadowed_by":null,"lets_in":true,"findings":[{"code":"F1","detail":"L3"}]}
+{"file":"web1/ann","line":10,"what":"key","type":"ssh-rsa","bits":2048,"key":"SHA256:Bfvk8D9yagody1EbQdzAz5byw0A51qzcCWURIjCLnN4","comment":"","options":"verify-required","rights":"port agent x11 pty rc","command":null,"source":null,"principals":null,"expires":null,"shadowed_by":null,"lets_in":true,"findings":[{"code":"F8","detail":"verify-required"}]}
+{"file":"web1/ann","what":"end","lines":10,"key_lines":8,"unreadable":1,"findings":6,"sha256":"a3b51c142bcda45a43c1dd1d736f45ea9554b013929818c32d1e1950dbd33041","fault":null}
+{"file":"web1/none","what":"end","lines":0,"key_lines":0,"unreadable":0,"findings":0,"sha256":null,"fault":"A9"}
+{"what":"total","format":2,"program":"ssh_audit 1.0.0","kind":"auth","rsa_minimum":2048,"told":["F1","F2","F3","F4","F5","F6","F7","F8","F9","F10","F11","F12","F13","F14","F22"],"now":1770000000,"at":"2026-02-02T02:40:00Z","zone":"UTC0","files":2,"faults":1,"lines":10,"key_lines":8,"unreadable":1,"findings":6}
 """
 
 # Bytes that are no text: UTF-8, an escape sequence that clears a screen, a byte ff and a CR.
@@ -125,12 +126,12 @@ ODD_TEXT = r"""odd:1: key ssh-ed25519 SHA256:gXMk5B5PxTYWe+Q7kQzHGRTNDb0nrzC3BLT
     rights port agent x11 pty rc
     command a\x5cb "c" \xc3\xa4
     F9: its command is forced, but it may still forward: add restrict
-odd: 1 lines, 1 keys, 0 unreadable, 1 findings, sha256 886bbc8ffa56bed5a1030ccd048549abedd0932d9d3863db4d887f07638f2910
-total: 1 files, 0 faults, 1 lines, 1 keys, 0 unreadable, 1 findings
+odd: 1 lines, 1 key lines, 0 unreadable, 1 findings, sha256 886bbc8ffa56bed5a1030ccd048549abedd0932d9d3863db4d887f07638f2910
+total: 1 files, 0 faults, 1 lines, 1 key lines, 0 unreadable, 1 findings, asked at 1770000000 2026-02-02T02:40:00Z, zone UTC0
 """
-ODD_JSON = r"""{"file":"odd","line":1,"is":"key","type":"ssh-ed25519","bits":null,"key":"SHA256:gXMk5B5PxTYWe+Q7kQzHGRTNDb0nrzC3BLT7EPMvKSg","comment":"m\\xc3\\xbcller\\x1b[2J\\xff","options":"command=\"a\\x5cb \\x5c\"c\\x5c\" \\xc3\\xa4\"","rights":"port agent x11 pty rc","command":"a\\x5cb \"c\" \\xc3\\xa4","from":null,"principals":null,"expires":null,"shadowed_by":null,"findings":[{"code":"F9","detail":""}]}
-{"file":"odd","is":"end","lines":1,"keys":1,"unreadable":0,"findings":1,"sha256":"886bbc8ffa56bed5a1030ccd048549abedd0932d9d3863db4d887f07638f2910","fault":null}
-{"is":"total","format":1,"files":1,"faults":0,"lines":1,"keys":1,"unreadable":0,"findings":1}
+ODD_JSON = r"""{"file":"odd","line":1,"what":"key","type":"ssh-ed25519","bits":null,"key":"SHA256:gXMk5B5PxTYWe+Q7kQzHGRTNDb0nrzC3BLT7EPMvKSg","comment":"m\\xc3\\xbcller\\x1b[2J\\xff","options":"command=\"a\\x5cb \\x5c\"c\\x5c\" \\xc3\\xa4\"","rights":"port agent x11 pty rc","command":"a\\x5cb \"c\" \\xc3\\xa4","source":null,"principals":null,"expires":null,"shadowed_by":null,"lets_in":true,"findings":[{"code":"F9","detail":""}]}
+{"file":"odd","what":"end","lines":1,"key_lines":1,"unreadable":0,"findings":1,"sha256":"886bbc8ffa56bed5a1030ccd048549abedd0932d9d3863db4d887f07638f2910","fault":null}
+{"what":"total","format":2,"program":"ssh_audit 1.0.0","kind":"auth","rsa_minimum":2048,"told":["F1","F2","F3","F4","F5","F6","F7","F8","F9","F10","F11","F12","F13","F14","F22"],"now":1770000000,"at":"2026-02-02T02:40:00Z","zone":"UTC0","files":1,"faults":0,"lines":1,"key_lines":1,"unreadable":0,"findings":1}
 """
 POLICY = r"""web1/ann:2: key ssh-ed25519 SHA256:gXMk5B5PxTYWe+Q7kQzHGRTNDb0nrzC3BLT7EPMvKSg laptop@example
     rights port agent x11 pty rc
@@ -173,20 +174,20 @@ known:9: unreadable ssh-ed25519 SHA256:K1O2eINbmb17fEiDcz4h4FqkT185rAHrxyBBdF4KQ
     F1 L16: cannot be read here, and OpenSSH may read it: of known_hosts: an item of the list of host names is empty; ! alone is an empty item
 known:10: key ssh-ed25519 SHA256:K1O2eINbmb17fEiDcz4h4FqkT185rAHrxyBBdF4KQT8
     names [git.example.org]:2222
-known: 10 lines, 6 keys, 2 unreadable, 6 findings, sha256 256b6d0a7a61116a5090af644595ba7ab28f34ef7693844bf761f174a13ea6fa
-total: 1 files, 0 faults, 10 lines, 6 keys, 2 unreadable, 6 findings
+known: 10 lines, 6 key lines, 2 unreadable, 6 findings, sha256 256b6d0a7a61116a5090af644595ba7ab28f34ef7693844bf761f174a13ea6fa
+total: 1 files, 0 faults, 10 lines, 6 key lines, 2 unreadable, 6 findings, asked at 1770000000 2026-02-02T02:40:00Z, zone UTC0
 """
-HOSTS_JSON = r"""{"file":"known","line":2,"is":"key","type":"ssh-ed25519","bits":null,"key":"SHA256:K1O2eINbmb17fEiDcz4h4FqkT185rAHrxyBBdF4KQT8","comment":"","names":"web1.example.org,192.0.2.10","findings":[]}
-{"file":"known","line":3,"is":"key","type":"ssh-ed25519","bits":null,"key":"SHA256:JuhwEfWrsZjKfEIish58B33eZC/AoxsXRDYcAcjBP/Y","comment":"","names":"db1.example.org","findings":[]}
-{"file":"known","line":4,"is":"key","type":"ssh-ed25519","bits":null,"key":"SHA256:gXMk5B5PxTYWe+Q7kQzHGRTNDb0nrzC3BLT7EPMvKSg","comment":"","names":"db1.example.org","findings":[{"code":"F11","detail":"3"}]}
-{"file":"known","line":5,"is":"key","type":"ssh-rsa","bits":3072,"key":"SHA256:WWvqIBGfcehwggPf02VrrJSfTs7HADSzzKa2YkfEDwI","comment":"","names":"*.lab.example.org","findings":[{"code":"F13","detail":""}]}
-{"file":"known","line":6,"is":"authority","type":"ssh-ed25519","bits":null,"key":"SHA256:IPnB7yWGYOrw+mTQ7yfGdqL54Mal31hsY/4zFi2oBpg","comment":"","names":"*","findings":[{"code":"F14","detail":""}]}
-{"file":"known","line":7,"is":"revoked","type":null,"bits":null,"key":"SHA256:JuhwEfWrsZjKfEIish58B33eZC/AoxsXRDYcAcjBP/Y","comment":null,"names":"*","findings":[{"code":"F12","detail":"3"}]}
-{"file":"known","line":8,"is":"revocation-unreadable","type":null,"bits":null,"key":null,"comment":null,"names":null,"findings":[{"code":"F10","detail":""}]}
-{"file":"known","line":9,"is":"unreadable","type":"ssh-ed25519","bits":null,"key":"SHA256:K1O2eINbmb17fEiDcz4h4FqkT185rAHrxyBBdF4KQT8","comment":null,"names":null,"findings":[{"code":"F1","detail":"L16"}]}
-{"file":"known","line":10,"is":"key","type":"ssh-ed25519","bits":null,"key":"SHA256:K1O2eINbmb17fEiDcz4h4FqkT185rAHrxyBBdF4KQT8","comment":"","names":"[git.example.org]:2222","findings":[]}
-{"file":"known","is":"end","lines":10,"keys":6,"unreadable":2,"findings":6,"sha256":"256b6d0a7a61116a5090af644595ba7ab28f34ef7693844bf761f174a13ea6fa","fault":null}
-{"is":"total","format":1,"files":1,"faults":0,"lines":10,"keys":6,"unreadable":2,"findings":6}
+HOSTS_JSON = r"""{"file":"known","line":2,"what":"key","type":"ssh-ed25519","bits":null,"key":"SHA256:K1O2eINbmb17fEiDcz4h4FqkT185rAHrxyBBdF4KQT8","comment":"","names":"web1.example.org,192.0.2.10","findings":[]}
+{"file":"known","line":3,"what":"key","type":"ssh-ed25519","bits":null,"key":"SHA256:JuhwEfWrsZjKfEIish58B33eZC/AoxsXRDYcAcjBP/Y","comment":"","names":"db1.example.org","findings":[]}
+{"file":"known","line":4,"what":"key","type":"ssh-ed25519","bits":null,"key":"SHA256:gXMk5B5PxTYWe+Q7kQzHGRTNDb0nrzC3BLT7EPMvKSg","comment":"","names":"db1.example.org","findings":[{"code":"F11","detail":"3"}]}
+{"file":"known","line":5,"what":"key","type":"ssh-rsa","bits":3072,"key":"SHA256:WWvqIBGfcehwggPf02VrrJSfTs7HADSzzKa2YkfEDwI","comment":"","names":"*.lab.example.org","findings":[{"code":"F13","detail":""}]}
+{"file":"known","line":6,"what":"authority","type":"ssh-ed25519","bits":null,"key":"SHA256:IPnB7yWGYOrw+mTQ7yfGdqL54Mal31hsY/4zFi2oBpg","comment":"","names":"*","findings":[{"code":"F14","detail":""}]}
+{"file":"known","line":7,"what":"revoked","type":null,"bits":null,"key":"SHA256:JuhwEfWrsZjKfEIish58B33eZC/AoxsXRDYcAcjBP/Y","comment":null,"names":"*","findings":[{"code":"F12","detail":"3"}]}
+{"file":"known","line":8,"what":"revocation-unreadable","type":null,"bits":null,"key":null,"comment":null,"names":null,"findings":[{"code":"F10","detail":""}]}
+{"file":"known","line":9,"what":"unreadable","type":"ssh-ed25519","bits":null,"key":"SHA256:K1O2eINbmb17fEiDcz4h4FqkT185rAHrxyBBdF4KQT8","comment":null,"names":null,"findings":[{"code":"F1","detail":"L16"}]}
+{"file":"known","line":10,"what":"key","type":"ssh-ed25519","bits":null,"key":"SHA256:K1O2eINbmb17fEiDcz4h4FqkT185rAHrxyBBdF4KQT8","comment":"","names":"[git.example.org]:2222","findings":[]}
+{"file":"known","what":"end","lines":10,"key_lines":6,"unreadable":2,"findings":6,"sha256":"256b6d0a7a61116a5090af644595ba7ab28f34ef7693844bf761f174a13ea6fa","fault":null}
+{"what":"total","format":2,"program":"ssh_audit 1.0.0","kind":"known","rsa_minimum":2048,"told":["F1","F2","F3","F4","F5","F6","F7","F8","F9","F10","F11","F12","F13","F14","F22"],"now":1770000000,"at":"2026-02-02T02:40:00Z","zone":"UTC0","files":1,"faults":0,"lines":10,"key_lines":6,"unreadable":2,"findings":6}
 """
 
 
@@ -532,12 +533,13 @@ def quoted(value):
 def entry_record(file, number, entry, earlier, now, shift, minimum):
     """The record of an entry, as JSON has it."""
     options = ",".join(name if value is None else f"{name}={quoted(value)}" for name, value in entry.options)
-    found = findings_of(number, entry, earlier, now, shift, minimum)
+    found = list(findings_of(number, entry, earlier, now, shift, minimum))
+    idle = any(code in ("F3", "F4", "F6") or (code == "F7" and detail != "from-here") for code, detail in found)
     return {
-        "file": file, "line": number, "is": "authority" if entry.authority else "key", "type": entry.key.kind, "bits": entry.key.bits,
+        "file": file, "line": number, "what": "authority" if entry.authority else "key", "type": entry.key.kind, "bits": entry.key.bits,
         "key": entry.key.mark, "comment": escaped(entry.comment), "options": escaped(options.encode()),
-        "rights": " ".join(entry.rights) or "none", "command": told_value(entry, "command"), "from": told_value(entry, "from"),
-        "principals": told_value(entry, "principals"), "expires": entry.until(shift), "shadowed_by": shadow_of(entry, earlier),
+        "rights": " ".join(entry.rights) or "none", "command": told_value(entry, "command"), "source": told_value(entry, "from"),
+        "principals": told_value(entry, "principals"), "expires": entry.until(shift), "shadowed_by": shadow_of(entry, earlier), "lets_in": not idle,
         "findings": [{"code": code, "detail": detail} for code, detail in found],
     }
 
@@ -545,7 +547,7 @@ def entry_record(file, number, entry, earlier, now, shift, minimum):
 def unreadable_record(file, number, code, held):
     """The record of a line that cannot be read, with the key that it holds all the same."""
     known = {"type": held.kind, "bits": held.bits, "key": held.mark} if held else {}
-    return {field: None for field in AUTH_FIELDS} | {"file": file, "line": number, "is": "unreadable", "findings": [{"code": "F1", "detail": code}], **known}
+    return {field: None for field in AUTH_FIELDS} | {"file": file, "line": number, "what": "unreadable", "lets_in": True, "findings": [{"code": "F1", "detail": code}], **known}
 
 
 FLAGS = [
@@ -641,13 +643,13 @@ def records_of(answer):
 
 
 def plain(value):
-    """A value of the hook above: the findings are objects again."""
-    return [dict(one) for one in value] if isinstance(value, list) else value
+    """A value of the hook above: the findings are objects again; the codes of the total stay as they are."""
+    return [one if isinstance(one, str) else dict(one) for one in value] if isinstance(value, list) else value
 
 
 def wrong_fields(objects, fields, record_fields):
     for made, names in zip(objects, fields, strict=True):
-        wanted = TOTAL_FIELDS if made["is"] == "total" else END_FIELDS if made["is"] == "end" else record_fields
+        wanted = TOTAL_FIELDS if made["what"] == "total" else END_FIELDS if made["what"] == "end" else record_fields
         if names != wanted:
             yield made, names
 
@@ -658,16 +660,16 @@ def is_record(made):
 
 def head_of(made):
     """The first line of a record in text, made of its JSON."""
-    words = [made["is"], made["type"], made["bits"], made["key"], made["comment"] or None]
+    words = [made["what"], made["type"], made["bits"], made["key"], made["comment"] or None]
     return f"{made['file']}:{made['line']}: " + " ".join(str(word) for word in words if word is not None)
 
 
 def text_lines(made):
     """The lines of a record in text, made of its JSON, without sentences; of three kinds of lines JSON has no field."""
     yield head_of(made)
-    for field in ("rights", "command", "from", "principals", "names"):
+    for field, word in (("rights", "rights"), ("command", "command"), ("source", "from"), ("principals", "principals"), ("names", "names")):
         if made.get(field) is not None:
-            yield f"    {field} {made[field]}"
+            yield f"    {word} {made[field]}"
     if made.get("expires") is not None:
         moment = made["expires"]
         yield f"    expires {moment} " + time.strftime("%Y-%m-%dT%H:%M:%SZ", time.gmtime(moment))
@@ -676,9 +678,9 @@ def text_lines(made):
 
 
 def end_line(made):
-    counts = f"{made['lines']} lines, {made['keys']} keys, {made['unreadable']} unreadable, {made['findings']} findings"
-    if made["is"] == "total":
-        return f"total: {made['files']} files, {made['faults']} faults, {counts}"
+    counts = f"{made['lines']} lines, {made['key_lines']} key lines, {made['unreadable']} unreadable, {made['findings']} findings"
+    if made["what"] == "total":
+        return f"total: {made['files']} files, {made['faults']} faults, {counts}, {asked_at(made['now'], made['zone'])}"
     return f"{made['file']}: fault {made['fault']}" if made["fault"] else f"{made['file']}: {counts}, sha256 {made['sha256']}"
 
 
@@ -695,15 +697,15 @@ def same_text(objects, text):
 
 def counted(objects, contents):
     """Whether ends and the total count what stands before them; the wrong ones."""
-    sums, here, number = {"files": 0, "faults": 0, "lines": 0, "keys": 0, "unreadable": 0, "findings": 0}, [], 0
+    sums, here, number = {"files": 0, "faults": 0, "lines": 0, "key_lines": 0, "unreadable": 0, "findings": 0}, [], 0
     for made in objects:
         if is_record(made):
             here.append(made)
-        elif made["is"] == "end":
+        elif made["what"] == "end":
             content = contents[made["file"]]
             wanted = {
-                "lines": content.count(b"\n") + (content[-1:] not in (b"", b"\n")), "keys": sum(one["is"] in ("key", "authority") for one in here),
-                "unreadable": sum(one["is"] in ("unreadable", "revocation-unreadable") for one in here), "findings": sum(len(one["findings"]) for one in here),
+                "lines": content.count(b"\n") + (content[-1:] not in (b"", b"\n")), "key_lines": sum(one["what"] in ("key", "authority") for one in here),
+                "unreadable": sum(one["what"] in ("unreadable", "revocation-unreadable") for one in here), "findings": sum(len(one["findings"]) for one in here),
             }
             if wanted != {name: made[name] for name in wanted} or made["sha256"] != hashlib.sha256(content).hexdigest() or any(one["file"] != made["file"] for one in here):
                 yield made, wanted
@@ -713,9 +715,9 @@ def counted(objects, contents):
             here = []
         else:
             number += 1
-            if {name: made[name] for name in sums} != sums or made["format"] != 1:
+            if {name: made[name] for name in sums} != sums or made["format"] != 2:
                 yield made, sums
-    if number != 1 or objects[-1]["is"] != "total":
+    if number != 1 or objects[-1]["what"] != "total":
         yield "the total", number
 
 
@@ -747,22 +749,22 @@ def wrong_admission(answer, records, given, certified):
     file, said, told, unread = answer
     here = records[file]
     last = int(said) if said.isdigit() else len(here) + 10_000
-    calls = {number: made["findings"][0]["detail"] for number, made in here.items() if made["is"] == "unreadable" and number < last}
+    calls = {number: made["findings"][0]["detail"] for number, made in here.items() if made["what"] == "unreadable" and number < last}
     if (said.isdigit() or said == "N3") and len(calls) <= 50 and calls != unread:
         return "unreadable lines", calls, unread
     if not said.isdigit():
         return None
     made = here.get(last)
-    if made is None or made["is"] not in ("key", "authority") or made["shadowed_by"] is not None:
+    if made is None or made["what"] not in ("key", "authority") or made["shadowed_by"] is not None:
         return "no line that lets in", made
     if {found["code"] for found in made["findings"]} & {"F1", "F3", "F4", "F6", "F7"}:
         return "a line that lets nobody in", made
     rights = told[0].removeprefix("    rights").split()
     if certified:
-        return None if made["is"] == "authority" and set(rights) <= set(made["rights"].split()) else ("rights", made, told)
+        return None if made["what"] == "authority" and set(rights) <= set(made["rights"].split()) else ("rights", made, told)
     listed = given[file, last]
     wanted = [line.replace("    rights none", "    rights") for line in listed]
-    return None if made["is"] == "key" and [line.rstrip() for line in told] in (wanted, listed) else ("rights", listed, told)
+    return None if made["what"] == "key" and [line.rstrip() for line in told] in (wanted, listed) else ("rights", listed, told)
 
 
 def given_lines(text):
@@ -786,7 +788,7 @@ def by_file(objects):
     for made in objects:
         if is_record(made):
             found.setdefault(made["file"], {})[made["line"]] = made
-        elif made["is"] == "end":
+        elif made["what"] == "end":
             found.setdefault(made["file"], {})
     return found
 
@@ -801,6 +803,19 @@ def reviewed(audit, tally, what, names, contents, record_fields, **asked):
     tally.check(f"{what}: both forms", same_text(objects, text), None)
     tally.check(f"{what}: counts", list(counted(objects, contents))[:1], [])
     return objects, text
+
+
+def standing_row(audit, tally, what, names, keys, objects, **asked):
+    """By its fingerprint, each key has the records that the whole review has of it, and no others."""
+    wrong, stood = [], 0
+    for key in keys:
+        status, answer, errors = audit.run(review(*names, form="json", findings="all", key=key.mark, **asked))
+        found = [made for made in records_of(answer)[0] if is_record(made)]
+        wanted = [made for made in objects if is_record(made) and made["key"] == key.mark]
+        stood += len(wanted)
+        if (status, found, errors) != (1 if wanted else 0, wanted, b""):
+            wrong.append((key.mark, status, len(found), len(wanted)))
+    tally.check(f"{what}: {stood} records, each by its key", (wrong[:1], stood > 0), ([], True))
 
 
 def fingerprint_row(audit, tally, what, names, objects):
@@ -868,6 +883,7 @@ def auth_rows(audit, tally, draw, count):
             if now in TIMES[1:3]:
                 admission_row(audit, tally, what, list(made), asking, by_file(objects), given_lines(text), now)
         fingerprint_row(audit, tally, what, list(made), objects)
+        standing_row(audit, tally, what, list(made), keys, objects, now=now)
     contents = {name: content for name, (content, *_) in files.items()}
     asked = {"now": NEW_YEAR - 3600, "zone": "CET-1", "rsa_minimum": 3073}
     objects, _ = reviewed(audit, tally, "another zone", list(files), contents, AUTH_FIELDS, **asked)
@@ -897,11 +913,11 @@ def key_text(name, number=1):
 
 
 def end_text(name, content, lines=1, keys=1, unreadable=0, findings=0):
-    return f"{name}: {lines} lines, {keys} keys, {unreadable} unreadable, {findings} findings, sha256 {hashlib.sha256(content).hexdigest()}\n"
+    return f"{name}: {lines} lines, {keys} key lines, {unreadable} unreadable, {findings} findings, sha256 {hashlib.sha256(content).hexdigest()}\n"
 
 
 def total_text(files, faults=0, lines=0, keys=0, unreadable=0, findings=0):
-    return f"total: {files} files, {faults} faults, {lines} lines, {keys} keys, {unreadable} unreadable, {findings} findings\n"
+    return f"total: {files} files, {faults} faults, {lines} lines, {keys} key lines, {unreadable} unreadable, {findings} findings, {asked_at()}\n"
 
 
 ONE = key_text("key") + end_text("key", KEY_LINE)
@@ -969,15 +985,16 @@ def fault_rows(audit, tally):
     values = {
         "kind": ["", "auths", "AUTH", "key"], "now": ["", "-", "1.5", "18446744073709551616", "1 "], "zone": ["", "x", "Europe/Nowhere", "/usr/share/zoneinfo/Europe/Berlin", "Europe/../Europe/Berlin"],
         "rsa-minimum": ["", "x", "4294967296"], "form": ["", "tsv", "JSON"],
+        "key": ["SHA256:", "SHA256:x", "SHA256:" + 43 * "/"],
         "findings": ["", ",", "F1,,F2", "F1,", ",F1", "F0", "F23", "F01", "f1", "F", "F1 ,F2", "all,F1", "none,none", "ALL"],
     }
     for option, wrong in values.items():
         for value in wrong:
             given = {option.replace("-", "_"): value}
             tally.check(f"--{option} {value!r}", audit.run(review("key", **given)), (2, f"fault value {option}\n".encode(), b""))
-    order = ["kind", "now", "zone", "rsa-minimum", "findings", "form"]
+    order = ["kind", "now", "zone", "rsa-minimum", "findings", "form", "key"]
     for place, option in enumerate(order):
-        given = {name.replace("-", "_"): "x y" for name in order[place:]}
+        given = {name.replace("-", "_"): "SHA256:x y" for name in order[place:]}
         tally.check(f"the first of several: {option}", audit.run(review("missing", **given)), (2, f"fault value {option}\n".encode(), b""))
     for what, words in (
         ("no kind", review("key", kind=None)), ("an option twice", review("key", now=1) + ["--now", "1"]),
@@ -1125,7 +1142,7 @@ def host_record(file, number, line, earlier, minimum):
         found = [("F1", line.cause)] * (line.cause is not None) + [("F10", "")] * line.blind
     told |= {"type": key.kind, "bits": key.bits, "key": key.mark} if key else {}
     findings = [{"code": code, "detail": detail} for code, detail in found]
-    return {field: None for field in KNOWN_FIELDS} | {"file": file, "line": number, "is": kind, "findings": findings} | told
+    return {field: None for field in KNOWN_FIELDS} | {"file": file, "line": number, "what": kind, "findings": findings} | told
 
 
 def host_model_row(tally, what, objects, files, minimum=2048):
@@ -1226,12 +1243,12 @@ def wrong_trust(line, records):
     """What is wrong with the record of the line by which a host is trusted, or that revokes its key."""
     if found := TRUSTS.fullmatch(line):
         here, made = records[found[1]], records[found[1]].get(int(found[2]))
-        blind = [one for one in here.values() if one["is"] == "revocation-unreadable"]
-        good = made is not None and made["is"] in ("key", "authority") and not blind and not any(map(is_doubted, made["findings"]))
+        blind = [one for one in here.values() if one["what"] == "revocation-unreadable"]
+        good = made is not None and made["what"] in ("key", "authority") and not blind and not any(map(is_doubted, made["findings"]))
         return None if good else (line, made, blind)
     if (found := MISTRUSTS.fullmatch(line)) and found[2] in ("N1", "N2"):
         made = records[found[1]].get(int(found[3]))
-        return None if made and made["is"] == ("revoked" if found[2] == "N1" else "revocation-unreadable") else (line, made)
+        return None if made and made["what"] == ("revoked" if found[2] == "N1" else "revocation-unreadable") else (line, made)
     return None
 
 
@@ -1251,6 +1268,7 @@ def known_rows(audit, tally, draw, count):
     objects, _ = reviewed(audit, tally, "known_hosts files by 3,073 bits", list(contents), contents, KNOWN_FIELDS, kind="known", rsa_minimum=3073)
     host_model_row(tally, "known_hosts files by 3,073 bits", objects, files, 3073)
     fingerprint_row(audit, tally, "known_hosts files", list(contents), objects)
+    standing_row(audit, tally, "known_hosts files", list(contents), keys, objects, kind="known", rsa_minimum=3073)
     records, wrong, grants = by_file(objects), [], 0
     for key in keys:
         for host in ("h.example", "192.0.2.7", "g.example"):

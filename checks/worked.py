@@ -7,7 +7,7 @@ usage: worked.py [PROGRAM]
 PROGRAM is crates/ssh_audit/out/ssh_audit where it is left out. The rows stand in rows/: `login` in login_rows.py and
 key_rows.py, `host` in host_rows.py, lines that cannot be read in cause_rows.py, long values in long_rows.py, `hash` in
 hash_rows.py, `rewrite` in rewrite_rows.py, `readable` in readable_rows.py, `show` in show_rows.py and body_rows.py, `sshsig` in signature_rows.py,
-`admits` and `trusts` in admission_rows.py. Most logins and hosts' keys are asked about again over the file that
+`admits` and `trusts` in admission_rows.py, `admits --fingerprint` in fingerprint_rows.py, `review --key` in standing_rows.py. Most logins and hosts' keys are asked about again over the file that
 `rewrite` makes of the row's. What `run` prints where a read or a write fails at one of its calls is tested in
 crates/ssh_program_tests.
 
@@ -20,15 +20,15 @@ import tempfile
 sys.dont_write_bytecode = True
 from program import CRATE, Program, Tally
 from rows import (
-    admission_rows, body_rows, cause_rows, hash_rows, host_rows, key_rows, login_rows, long_rows, opening_rows,
-    readable_rows, rewrite_rows, show_rows, signature_rows,
+    admission_rows, body_rows, cause_rows, fingerprint_rows, hash_rows, host_rows, key_rows, login_rows, long_rows,
+    opening_rows, readable_rows, rewrite_rows, show_rows, signature_rows, standing_rows,
 )
 from rows.asking import Asker
 
 DEFAULT = CRATE / "out" / "ssh_audit"
 MODULES = (
     login_rows, key_rows, host_rows, cause_rows, hash_rows, rewrite_rows, readable_rows, long_rows, admission_rows,
-    opening_rows, show_rows, body_rows, signature_rows,
+    fingerprint_rows, opening_rows, show_rows, body_rows, signature_rows, standing_rows,
 )
 
 

@@ -17,17 +17,16 @@ create table records as select 1 as quarter, object from first union all select 
 drop table first;
 drop table second;
 create temp table whole (lists integer check (lists = 2));
-insert into whole select count(distinct quarter) from records where object ->> '$.is' = 'total';
+insert into whole select count(distinct quarter) from records where object ->> '$.what' = 'total';
 -- Each line of a file that holds a key.
 create table lines as
-    select quarter, object ->> '$.file' as file, object ->> '$.line' as line, object ->> '$.is' as what,
+    select quarter, object ->> '$.file' as file, object ->> '$.line' as line, object ->> '$.what' as what,
         object ->> '$.key' as key, object ->> '$.comment' as comment, coalesce(object ->> '$.rights', '-') as rights,
-        coalesce(object ->> '$.options', '-') as options, object ->> '$.expires' as expires,
-        object ->> '$.shadowed_by' as shadowed_by, object -> '$.findings' as findings
+        coalesce(object ->> '$.options', '-') as options, object ->> '$.expires' as expires, object ->> '$.lets_in' as lets_in
     from records where object ->> '$.key' is not null;
 create table files as
     select quarter, object ->> '$.file' as file, object ->> '$.sha256' as sha256, object ->> '$.fault' as fault
-    from records where object ->> '$.is' = 'end';
+    from records where object ->> '$.what' = 'end';
 create table findings as
     select quarter, object ->> '$.file' as file, object ->> '$.line' as line, value ->> '$.code' as code,
         value ->> '$.detail' as detail
@@ -39,10 +38,7 @@ create table owners (key text primary key, owner text);
 create index lines_by_key on lines (key);
 -- The lines that let in: not those that never decide, have expired, or whose from= or principals= permits nobody.
 create view access as
-    select quarter, file, line, what, key, comment, rights, options, expires from lines
-    where shadowed_by is null and not exists (
-        select 1 from json_each(findings)
-        where value ->> '$.code' = 'F6' or value ->> '$.code' = 'F7' and value ->> '$.detail' in ('from', 'principals'));
+    select quarter, file, line, what, key, comment, rights, options, expires from lines where lets_in;
 create view gone as
     select file, what, key, rights, options, comment from access where quarter = 1
     except select file, what, key, rights, options, comment from access where quarter = 2;

@@ -10,8 +10,8 @@ set -eu
 export LC_ALL=C
 review="ssh_audit review --kind auth --now ${NOW:-$(date +%s)}"
 codes=F1,F2,F3,F4,F5,F6,F7,F8,F9,F22
-access='select(.key and .shadowed_by == null)
-    | [.file, .is, .key, .rights, .options, .comment] | map(. // "-") | join("\t")'
+access='select(.key and .lets_in)
+    | [.file, .what, .key, .rights, .options, .comment] | map(. // "-") | join("\t")'
 room=$(mktemp -d)
 trap 'status=$?; rm -rf "$room"; [ "$status" -lt 2 ] || exit 2' EXIT
 mkdir "$room/old"

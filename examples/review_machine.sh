@@ -20,8 +20,8 @@ if [ ${#names[@]} -gt 0 ]; then
     state=0
     ssh_audit review --kind auth --now "${NOW:-$(date +%s)}" --form json -- "${names[@]}" > "$room/json" || state=$?
     [ "$state" -lt 2 ] || exit
-    jq -r 'select(.line and .shadowed_by == null)
-        | [.file, .is, .key, .rights, .options, .comment, (.findings | map(.code) | join(","))]
+    jq -r 'select(.line and .lets_in)
+        | [.file, .what, .key, .rights, .options, .comment, (.findings | map(.code) | join(","))]
         | map(. // "-") | join("\t")' "$room/json" >> "$room/list"
 fi
 sort -o "$room/list" "$room/list"

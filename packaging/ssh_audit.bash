@@ -15,6 +15,7 @@ _ssh_audit() {
         --) given=-- ;;
         --offer | --offer-file) given+=' --offer --offer-file ' ;;
         --signature | --signature-file) given+=' --signature --signature-file ' ;;
+        --key | --fingerprint) given+=' --key --fingerprint ' ;;
         --*) given+=" ${COMP_WORDS[at]} " ;;
         esac
         [[ $given != -- ]] || break
@@ -27,9 +28,9 @@ _ssh_audit() {
     rewrite) options='--kind --file' ;;
     readable) options='--file' ;;
     hash) options='--file --salts' ;;
-    admits) options='--key --user --address --now --host --zone --empty-principals --rsa-minimum --form' operands=files ;;
+    admits) options='--key --fingerprint --user --address --now --host --zone --empty-principals --rsa-minimum --form' operands=files ;;
     trusts) options='--key --host --now --port --empty-principals --rsa-minimum --form' operands=files ;;
-    review) options='--kind --now --zone --rsa-minimum --findings --form' operands=files ;;
+    review) options='--kind --now --key --zone --rsa-minimum --findings --form' operands=files ;;
     explain) operands=codes ;;
     esac
     [[ $given != -- ]] || option=
@@ -62,7 +63,7 @@ _ssh_audit() {
             [[ $given == *" $at "* ]] || words+=" $at"
         done
     elif [[ $operands == codes ]]; then
-        words='usage granted rights command carry evidence N1 N2 N3 N4 N5 N6 vouched namespace G1 G3 G4 G6 G7 G8 G9 G10 G11 G12 G19 G13 G14 G15 G16 G17 G18 G20 L1 L2 L3 L4 L5 L6 L7 L8 L9 L10 L11 L12 L13 L14 L15 L16 F1 F2 F3 F4 F5 F6 F7 F8 F9 F10 F11 F12 F13 F14 F15 F16 F17 F18 F19 F20 F21 F22 A1 A2 A3 A4 A5 A6 A7 A8 A9 A10 A11 A12 value file vouch K1 K2 K3 K4 K5 K6 K7 K8 C1 C2 C3 C4 C5 C6 C7 C8 C9 V1 V2 V3 V4 V5 B1 B2 B3 B4 B5 B6 B7 B8 B9 B10 B11 B12 B13 B14'
+        words='usage granted rights command carry evidence N1 N2 N3 N4 N5 N6 vouched namespace G1 G3 G4 G6 G7 G8 G9 G10 G11 G12 G19 G13 G14 G15 G16 G17 G18 G20 L1 L2 L3 L4 L5 L6 L7 L8 L9 L10 L11 L12 L13 L14 L15 L16 F1 F2 F3 F4 F5 F6 F7 F8 F9 F10 F11 F12 F13 F14 F15 F16 F17 F18 F19 F20 F21 F22 A1 A2 A3 A4 A5 A6 A7 A8 A9 A10 A11 A12 value file vouch version K1 K2 K3 K4 K5 K6 K7 K8 C1 C2 C3 C4 C5 C6 C7 C8 C9 V1 V2 V3 V4 V5 B1 B2 B3 B4 B5 B6 B7 B8 B9 B10 B11 B12 B13 B14'
     else
         words=files
     fi

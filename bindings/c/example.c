@@ -1,4 +1,4 @@
-/* A login by the typed call and by the words of the program, and a review: example [ROUNDS], which also times them. */
+/* Logins by the typed call and by the words of the program, and a review: example [ROUNDS], which also times them. */
 #define _POSIX_C_SOURCE 199309L
 #include "ssh_audit.h"
 
@@ -36,6 +36,26 @@ static ssh_audit_answer ask(const char *const *words, const ssh_audit_file *file
   return ssh_audit_ask(list, length, files, count, NULL, 0, out, size);
 }
 
+/* A login by a line with options: why lines before it were passed over, what the login may do, and the texts for whoever starts
+   the session. A buffer that is too short stays as it is, and the lengths say how much room is wanted. */
+static void restricted(const ssh_audit_login_asked *asked, const ssh_audit_signed *vouched) {
+  const char *keys = "from=\"10.0.0.0/8\" ssh-ed25519 " KEY "\n"
+                     "restrict,pty,command=\"backup\",permitopen=\"db:5432\" ssh-ed25519 " KEY "\n";
+  ssh_audit_reason reasons[100];
+  ssh_audit_carried carried[8];
+  char texts[256];
+  ssh_audit_login_decided told =
+      ssh_audit_ask_login(keys, strlen(keys), asked, vouched, 1, reasons, 100, carried, 8, texts, sizeof texts);
+  if (told.rights.carried_length > 8 || told.rights.texts_length > sizeof texts) exit(2);
+  printf("line %llu, pty %d, port %d, command %.*s\n", (unsigned long long)told.decision.number, told.rights.pty,
+         told.rights.port, (int)told.rights.command_length, texts);
+  for (size_t i = 0; i < told.decision.reasons_length; i++)
+    printf("not line %llu: G%u\n", (unsigned long long)reasons[i].line, reasons[i].code);
+  size_t from = told.rights.command_length;
+  for (size_t i = 0; i < told.rights.carried_length; from += carried[i++].length)
+    printf("option %u: %.*s\n", carried[i].name, (int)carried[i].length, texts + from);
+}
+
 static double seconds(void) {
   struct timespec now;
   clock_gettime(CLOCK_MONOTONIC, &now);
@@ -59,9 +79,12 @@ int main(int argc, char **argv) {
                                  .address = ssh_audit_text("192.0.2.1"),
                                  .host = ssh_audit_text(NULL),
                                  .now = 150};
-  ssh_audit_decided granted = ssh_audit_login((const uint8_t *)keys, strlen(keys), &asked, &vouched, 1);
-  ssh_audit_decided denied = ssh_audit_login((const uint8_t *)keys, strlen(keys), &asked, &vouched, 0);
+  ssh_audit_login_decided told = ssh_audit_ask_login(keys, strlen(keys), &asked, &vouched, 1, NULL, 0, NULL, 0, NULL, 0);
+  ssh_audit_decided granted = told.decision;
+  ssh_audit_decided denied =
+      ssh_audit_ask_login(keys, strlen(keys), &asked, NULL, 0, NULL, 0, NULL, 0, NULL, 0).decision;
   printf("kind %u line %llu, kind %u code N%u\n", granted.kind, (unsigned long long)granted.number, denied.kind, denied.code);
+  restricted(&asked, &vouched);
   const char *login[] = {"login", "--file", "keys", "--offer", KEY, "--signature", SIGNATURE, "--algorithm",
                          "ssh-ed25519", "--session", "01020304", "--user", "ann", "--address", "192.0.2.1", "--now",
                          "150", "--vouch", "vouched", NULL};
@@ -73,7 +96,8 @@ int main(int argc, char **argv) {
     printf("status %u\n%.*s", answer.status, (int)answer.length, (const char *)out);
   }
   double from = seconds();
-  for (long n = 0; n < rounds; n++) ssh_audit_login((const uint8_t *)keys, strlen(keys), &asked, &vouched, 1);
+  for (long n = 0; n < rounds; n++)
+    ssh_audit_ask_login(keys, strlen(keys), &asked, &vouched, 1, NULL, 0, NULL, 0, NULL, 0);
   if (rounds) printf("typed login: %.2f us a call\n", (seconds() - from) * 1e6 / (double)rounds);
   for (int i = 0; i < 2 && rounds; i++) {
     from = seconds();

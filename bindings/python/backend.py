@@ -19,7 +19,7 @@ TIME = (1980, 1, 1, 0, 0, 0)
 def contents():
     """The files of the wheel, but for the list of them."""
     folder = pathlib.Path(__file__).resolve().parent / "ssh_audit"
-    kept = [path for path in sorted(folder.iterdir()) if path.suffix in (".py", ".so") or path.name == "py.typed"]
+    kept = [path for path in sorted(folder.iterdir()) if path.suffix in (".py", ".so") or path.name in ("py.typed", "BUILT.txt")]
     files = {f"ssh_audit/{path.name}": path.read_bytes() for path in kept}
     if "ssh_audit/libssh_audit.so" not in files:
         raise SystemExit("libssh_audit.so is missing: run bindings/build.sh")

@@ -5,7 +5,7 @@ import contextlib
 import hashlib
 import json
 
-from program import review
+from program import asked_at, asked_by, review
 from rows.asking import as_bytes
 from rows.host_certificates import ANY_HOST, X1
 from rows.keys import K0, K1, RSA
@@ -19,6 +19,7 @@ AUTHORITY = f"cert-authority {OTHER_KEY}"
 HOST_AUTHORITY = f"@cert-authority h {OTHER_KEY}"
 
 K0_MARK = "SHA256:kmYcvdi2GkPeWxB6XLjrZB8JHsy2Hm8luHMFp9GMvqk"
+PROGRAM = "ssh_audit 1.0.0"
 K1_MARK = "SHA256:gOPgXFWkBoXrFVwpjf0SBo3P1kFs+IvH5q/vnQhNpFw"
 
 # What follows the name of a file: a plain key that gets in, a host's that is trusted, and either that is kept out.
@@ -59,6 +60,7 @@ def told(*answers):
 
 
 def compare(asker, words, stdin, wanted, status):
+    wanted += asked_by(words) if words[0] != "review" else ""
     asker.check(" ".join(words)[:300], asker.program.run(words, as_bytes(stdin)), (status, wanted.encode(), b""))
 
 
@@ -103,7 +105,7 @@ def reviews_standard_input_once(asker):
     for kind, line in (("auth", KEY), ("known", f"h {KEY}")):
         once = asker.program.run(review("-", kind=kind, findings="none"), line.encode())[1].decode()
         none = asker.program.run(review("-", kind=kind, findings="none"))[1].decode()
-        wanted = without_total(once) + without_total(none) + "total: 2 files, 0 faults, 1 lines, 1 keys, 0 unreadable, 0 findings\n"
+        wanted = without_total(once) + without_total(none) + f"total: 2 files, 0 faults, 1 lines, 1 key lines, 0 unreadable, 0 findings, {asked_at()}\n"
         asker.check("one key", once.count(K0_MARK), 1)
         compare(asker, review("-", "-", kind=kind, findings="none"), line, wanted, 0)
 
@@ -115,13 +117,14 @@ def without_total(text):
 # The certificate of X0 is K0's by K1 for `ann`, X1 the host's `h`; both are in force from 100 on and before 200.
 SIGNED = "if the client's and the signer's signatures are good\n"
 SIGNED_OF_HOST = "if the host's and the signer's signatures are good\n"
+ELSEWHERE = '    line 1 has this key, but not for this host and port; names "g"\n'
 LOOKED_FOR_SIGNER = f"    looked for the certificate's signer {K1_MARK}\n"
 OF_CERTIFICATES = [
     (admits(), X0, AUTHORITY, f"admits by line 1, {SIGNED}    rights none\n", 0),
     (admits(), X0, KEY, f"does not admit: N3: no line admits the offer\n{LOOKED_FOR_SIGNER}", 1),
     (admits(), X0, "", f"does not admit: N3: no line admits the offer\n{LOOKED_FOR_SIGNER}", 1),
     (trusts(), X1, HOST_AUTHORITY, f"trusts by line 1, {SIGNED_OF_HOST}", 0),
-    (trusts(), X1, f"g {KEY}", f"does not trust: N3: no line admits the offer\n{LOOKED_FOR_SIGNER}", 1),
+    (trusts(), X1, f"g {KEY}", f"does not trust: N3: no line admits the offer\n{LOOKED_FOR_SIGNER}{ELSEWHERE}", 1),
     (trusts(), X1, "", f"does not trust: N3: no line admits the offer\n{LOOKED_FOR_SIGNER}", 1),
 ]
 
@@ -348,7 +351,7 @@ def tells_what_a_security_key_has_to_show(asker):
 
 # The fields of an answer in JSON, in their order, as they are where a file has a fault.
 NO_ANSWER = {
-    "file": "t", "is": "answer", "asked": "admits", "answer": "fault", "line": None, "rights": None, "command": None, "carry": [],
+    "file": "t", "what": "answer", "asked": "admits", "answer": "fault", "line": None, "rights": None, "command": None, "carry": [],
     "cause": None, "number": None, "key": None, "signer": False, "reasons": [], "notes": [], "fault": None,
 }
 LET_IN = {"answer": "granted", "line": 1, "rights": "port agent x11 pty rc", "key": K0_MARK}
@@ -386,7 +389,10 @@ def answers_in_json(asker):
             one["notes"] = len(one["notes"])
         asker.check(f"fields of {file}", list(one), list(NO_ANSWER))
         asker.check(f"answer in JSON on {file}", one, wanted)
-        asker.check("total", total, {"is": "total", "format": 1, "asked": wanted["asked"], "files": 1, "status": status})
+        at = {"now": int(words[words.index("--now") + 1]), "zone": "UTC0" if wanted["asked"] == "admits" else None}
+        at["at"] = asked_at(at["now"]).split()[3].rstrip(",")
+        asker.check("total", total, {"what": "total", "format": 2, "program": PROGRAM, "asked": wanted["asked"], **at, "files": 1, "status": status})
+        asker.check("fields of the total", list(total), ["what", "format", "program", "asked", "now", "at", "zone", "files", "status"])
 
 
 TESTS = (

@@ -1,4 +1,5 @@
 """Lines by which OpenSSH 9.2 may answer otherwise than `admits`: the rows were tried with its own deciding functions."""
+from program import asked_by
 from rows.host_certificates import X1
 from rows.keys import K0, K1
 
@@ -93,6 +94,8 @@ REVOKED = (
 LONG = 65_500 * "c"
 EMPTY_NAME = "    1 G1 L16: of known_hosts: an item of the list of host names is empty; ! alone is an empty item"
 OTHER_MARK = "SHA256:gOPgXFWkBoXrFVwpjf0SBo3P1kFs+IvH5q/vnQhNpFw"
+# The key stands under names that are not those of the host.
+ELSEWHERE = '    line {} has this key, but not for this host and port; names "{}"\n'
 CHANGED = "    line {} names the host with another key of this type, " + OTHER_MARK + "\n"
 
 # A known_hosts file, the port, the status, and what is told of it.
@@ -113,9 +116,11 @@ HOST_FILES = [
     (f"@cert-authority * {KEY} {LONG}\n", 22, 3, BLIND + MAY_TRUST.format(1, HOLDS)),
     (f"@revoked * {KEY} {LONG}\n", 22, 1, BLIND),
     # The name without the port.
-    (f"h {KEY}\n", 2222, 3, NO_HOST_LINE + SOUGHT + MAY_TRUST.format(1, "ssh tries the name without the port too")),
+    (f"h {KEY}\n", 2222, 3, NO_HOST_LINE + SOUGHT + ELSEWHERE.format(1, "h") + MAY_TRUST.format(1, "ssh tries the name without the port too")),
     (f"[h]:2222 {KEY}\n", 2222, 0, "f: trusts by line 1, if the host's signature is good\n"),
-    (f"[h]:2223 {KEY}\n", 2222, 1, NO_HOST_LINE + SOUGHT),
+    (f"[h]:2223 {KEY}\n", 2222, 1, NO_HOST_LINE + SOUGHT + ELSEWHERE.format(1, "[h]:2223")),
+    (f"# h\n[h]:2223 {OTHER}\ng,[h]:2* {KEY}\n[h]:2224 {KEY}\n", 22, 1, NO_HOST_LINE + SOUGHT + ELSEWHERE.format(3, "g,[h]:2*")),
+    (f"h {OTHER}\n[h]:2223 {KEY}\n", 22, 1, NO_HOST_LINE + SOUGHT + CHANGED.format(1) + ELSEWHERE.format(2, "[h]:2223")),
 ]
 
 
@@ -125,12 +130,14 @@ def admits(*names):
 
 def tells_what_openssh_may_do(asker):
     for file, status, wanted in FILES:
+        wanted += asked_by(admits("f"))
         asker.check(file[:100], asker.printed(admits("f"), file, KEY + "\n"), (status, wanted.encode(), b""))
 
 
 def tells_what_ssh_may_do(asker):
     for file, port, status, wanted in HOST_FILES:
         words = ["trusts", "--key", "-", "--host", "h", "--port", str(port), "--now", NOW, "f"]
+        wanted += asked_by(words)
         asker.check(f"{file[:100]} {port}", asker.printed(words, file, KEY + "\n"), (status, wanted.encode(), b""))
 
 
@@ -139,14 +146,14 @@ def falls_back_to_the_plain_key(asker):
     words = ["trusts", "--key", "-", "--host", "h", "--now", "150", "f"]
     wanted = NO_HOST_LINE + SOUGHT_OTHER + MAY_TRUST.format(1, "ssh falls back to the plain key")
     certificate = f"ssh-ed25519-cert-v01@openssh.com {X1}\n"
-    asker.check("a certificate", asker.printed(words, f"h {KEY}\n", certificate), (3, wanted.encode(), b""))
+    asker.check("a certificate", asker.printed(words, f"h {KEY}\n", certificate), (3, (wanted + asked_by(words)).encode(), b""))
     # and passes over a revocation of that key at once: one with a tab after its marker, and one for another host
     wanted = REVOKED + MAY_TRUST.format(1, "ssh may pass over the revocation of the key")
     for revocation in (f"@revoked\th {KEY}\n", f"@revoked g {KEY}\n"):
         file = f"h {KEY}\n{revocation}"
-        asker.check(f"a certificate and {revocation[:12]}", asker.printed(words, file, certificate), (3, wanted.encode(), b""))
+        asker.check(f"a certificate and {revocation[:12]}", asker.printed(words, file, certificate), (3, (wanted + asked_by(words)).encode(), b""))
     file = f"h {KEY}\n@revoked h {KEY}\n"
-    asker.check("a certificate and a revocation", asker.printed(words, file, certificate), (1, REVOKED.encode(), b""))
+    asker.check("a certificate and a revocation", asker.printed(words, file, certificate), (1, (REVOKED + asked_by(words)).encode(), b""))
 
 
 def sums_up_several_files(asker):

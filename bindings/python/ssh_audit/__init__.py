@@ -8,7 +8,7 @@ with two digits for every other byte and for the backslash; `unescaped` gives th
 Not Debian's ssh-audit, which scans servers.
 """
 
-from ._decisions import Admission, Admissions, Denied, Granted, Reason, Signed, admits, host, login, trusts
+from ._decisions import Admission, Admissions, Denied, Granted, Reason, Signed, admits, decide_host, decide_login, host, login, trusts
 from ._faults import Explanation, Fault, explain
 from ._library import Answer, OutOfMemory, run
 from ._reviews import FileEnd, Finding, Record, Total, review, unescaped
@@ -29,6 +29,8 @@ __all__ = [
     "Signed",
     "Total",
     "admits",
+    "decide_host",
+    "decide_login",
     "explain",
     "host",
     "login",

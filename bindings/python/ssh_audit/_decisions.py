@@ -5,8 +5,8 @@ import re
 from dataclasses import dataclass
 from typing import Dict, List, Mapping, Optional, Sequence, Tuple, Union
 
-from ._faults import lines
-from ._library import run
+from ._faults import Fault, lines
+from ._library import HostAsked, LoginAsked, OutOfMemory, Told, call_host, call_login, run, slices
 
 
 @dataclass(frozen=True)
@@ -24,7 +24,8 @@ class Signed:
 
 @dataclass(frozen=True)
 class Reason:
-    """Why a line was passed over: its number, from 1, and a code, as `G8`."""
+    """Why a line was passed over: its number, from 1, and a code, as `G8`; from `login` and `host` with what follows the code, as
+    `G1 L8`."""
 
     line: int
     code: str
@@ -33,22 +34,24 @@ class Reason:
 @dataclass(frozen=True)
 class Granted:
     """Granted by this line, counted from 1. `rights` and `limits` (`command`, `carry`) are of a login; of two carried options
-    `limits` has both, one after the other on lines of their own."""
+    `limits` has both, one after the other on lines of their own. `reasons` are those of lines before it: `login` and `host` list
+    none. `evidence` is None where the call lists none."""
 
     line: int
     rights: Tuple[str, ...]
     limits: Dict[str, str]
     reasons: Tuple[Reason, ...]
-    evidence: Tuple[Signed, ...]
+    evidence: Optional[Tuple[Signed, ...]]
 
 
 @dataclass(frozen=True)
 class Denied:
-    """Denied, for this cause: `N3`, `N6 0`. `reasons` are those of the first hundred lines that were passed over."""
+    """Denied, for this cause: `N3`, `N6 0`. `reasons` are those of the first hundred lines that were passed over. `evidence` is None
+    where the call lists none."""
 
     cause: str
     reasons: Tuple[Reason, ...]
-    evidence: Tuple[Signed, ...]
+    evidence: Optional[Tuple[Signed, ...]]
 
 
 @dataclass(frozen=True)
@@ -164,6 +167,100 @@ def host(
     options = _options(hash=_blob(exchange_hash), host=host, port=port, now=now)
     options += _options(empty_principals=empty_principals, rsa_minimum=rsa_minimum)
     return _decided("host", trust, offer, signature, vouched, options)
+
+
+_RIGHTS = (("port", "port"), ("agent", "agent"), ("x11", "x11"), ("pty", "pty"), ("user_rc", "rc"))
+_CARRIED = ("environment", "permitlisten", "permitopen", "tunnel")
+
+
+def _escaped(text: bytes) -> str:
+    """The text as the program prints it."""
+    return "".join(chr(byte) if 32 <= byte < 127 and byte != 92 else f"\\x{byte:02x}" for byte in text)
+
+
+def _number(name: str, value: int, limit: int) -> int:
+    """The number, if it is below the limit: C would take what is left of it."""
+    if not 0 <= value < limit:
+        raise Fault(f"value {name}")
+    return value
+
+
+def _is_never(empty_principals: str) -> bool:
+    if empty_principals not in ("any", "never"):
+        raise Fault("value empty-principals")
+    return empty_principals == "never"
+
+
+def _text(text: str) -> bytes:
+    return text.encode("utf-8", "surrogateescape")
+
+
+def _limits(told: Told) -> Dict[str, str]:
+    limits = {} if told.command is None else {"command": _escaped(told.command)}
+    if told.carried:
+        limits["carry"] = "\n".join(f"{_CARRIED[name - 1]} {_escaped(text)}" for name, text in told.carried)
+    return limits
+
+
+def _told(told: Told) -> Union[Granted, Denied]:
+    """A decision, by its numbers."""
+    decision = told.decision
+    if decision.kind == 2 and decision.code == 8:
+        raise OutOfMemory("the library was refused memory")
+    if decision.kind == 2:
+        raise Fault(f"A{decision.code}")
+    reasons = tuple(Reason(line, f"G{code}") for line, code in told.reasons)
+    if decision.kind == 0:
+        rights = tuple(word for name, word in _RIGHTS if getattr(told.rights, name, False))
+        return Granted(decision.number, rights, _limits(told), reasons, None)
+    cause = f"N{decision.code}"
+    return Denied(f"{cause} {decision.number}" if cause in ("N1", "N2", "N6") else cause, reasons, None)
+
+
+def _parts(vouched: Sequence[Signed]) -> List[Tuple[bytes, bytes, bytes]]:
+    return [(signed.key, signed.message, signed.signature) for signed in vouched]
+
+
+def decide_login(
+    trust: bytes,
+    *,
+    offer: bytes,
+    signature: bytes,
+    algorithm: str,
+    session: bytes,
+    user: str,
+    address: str,
+    now: int,
+    host: Optional[str] = None,
+    empty_principals: str = "any",
+    rsa_minimum: int = 0,
+    vouched: Sequence[Signed] = (),
+) -> Union[Granted, Denied]:
+    """What `login` answers, without text between, in about a fifth of its time. It lists no evidence, and of a reason or a fault the first
+    code alone; a grant has its reasons too. Expiry times that name no zone are in UTC."""
+    blobs = slices(offer, signature, _text(algorithm), session, _text(user), _text(address), _text(host or ""))
+    numbers = (_number("now", now, 1 << 64), _number("rsa-minimum", rsa_minimum, 1 << 32))
+    asked = LoginAsked(*blobs, *numbers, host is not None, _is_never(empty_principals))
+    return _told(call_login(trust, asked, _parts(vouched)))
+
+
+def decide_host(
+    trust: bytes,
+    *,
+    offer: bytes,
+    signature: bytes,
+    exchange_hash: bytes,
+    host: str,
+    now: int,
+    port: int = 22,
+    empty_principals: str = "any",
+    rsa_minimum: int = 0,
+    vouched: Sequence[Signed] = (),
+) -> Union[Granted, Denied]:
+    """What `host` answers, in the same way."""
+    blobs = slices(offer, signature, exchange_hash, _text(host))
+    numbers = (_number("now", now, 1 << 64), _number("rsa-minimum", rsa_minimum, 1 << 32), _number("port", port, 1 << 16))
+    return _told(call_host(trust, HostAsked(*blobs, *numbers, _is_never(empty_principals)), _parts(vouched)))
 
 
 _HEAD = re.compile(r"(\d+): (?:(?:admits|trusts) by line (\d+)|does not (?:admit|trust): (N\d+(?: \d+)?)|fault (.*))")

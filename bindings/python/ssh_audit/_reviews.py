@@ -20,8 +20,8 @@ class Finding:
 @dataclass(frozen=True)
 class Record:
     """A line that is neither blank nor a comment. `kind` is `key`, `authority` or `unreadable`, and of known_hosts also `revoked`
-    or `revocation-unreadable`; `key` is the fingerprint as `ssh-keygen -l` prints it. `source` is the line's `from=`. What the
-    line has not, or its kind of file never has, is None."""
+    or `revocation-unreadable`; `key` is the fingerprint as `ssh-keygen -l` prints it. `source` is the line's `from=`. `lets_in`
+    is False where the line lets nobody in. What the line has not, or its kind of file never has, is None."""
 
     file: str
     line: int
@@ -38,6 +38,7 @@ class Record:
     expires: Optional[int]
     names: Optional[str]
     shadowed_by: Optional[int]
+    lets_in: Optional[bool]
     findings: Tuple[Finding, ...]
 
 
@@ -47,7 +48,7 @@ class FileEnd:
 
     file: str
     lines: Optional[int]
-    keys: Optional[int]
+    key_lines: Optional[int]
     unreadable: Optional[int]
     findings: Optional[int]
     sha256: Optional[str]
@@ -56,12 +57,15 @@ class FileEnd:
 
 @dataclass(frozen=True)
 class Total:
-    """The counts of all files. A review without it was cut off."""
+    """How was asked, and the counts of all files. A review without it was cut off."""
 
+    program: str
+    now: int
+    zone: Optional[str]
     files: int
     faults: int
     lines: int
-    keys: int
+    key_lines: int
     unreadable: int
     findings: int
 
@@ -84,7 +88,7 @@ def _record(told: Dict[str, Any], file: str) -> Record:
     return Record(
         file=file,
         line=told["line"],
-        kind=told["is"],
+        kind=told["what"],
         type=told.get("type"),
         bits=told.get("bits"),
         key=told.get("key"),
@@ -92,22 +96,23 @@ def _record(told: Dict[str, Any], file: str) -> Record:
         options=told.get("options"),
         rights=_rights(told.get("rights")),
         command=told.get("command"),
-        source=told.get("from"),
+        source=told.get("source"),
         principals=told.get("principals"),
         expires=told.get("expires"),
         names=told.get("names"),
         shadowed_by=told.get("shadowed_by"),
+        lets_in=told.get("lets_in"),
         findings=tuple(Finding(it["code"], it["detail"]) for it in told["findings"]),
     )
 
 
 def _end(told: Dict[str, Any], file: str) -> FileEnd:
-    counts = (told.get(name) for name in ("lines", "keys", "unreadable", "findings", "sha256", "fault"))
+    counts = (told.get(name) for name in ("lines", "key_lines", "unreadable", "findings", "sha256", "fault"))
     return FileEnd(file, *counts)
 
 
 def _total(told: Dict[str, Any]) -> Total:
-    return Total(*(told[name] for name in ("files", "faults", "lines", "keys", "unreadable", "findings")))
+    return Total(*(told[name] for name in ("program", "now", "zone", "files", "faults", "lines", "key_lines", "unreadable", "findings")))
 
 
 def review(
@@ -134,9 +139,9 @@ def review(
 def _told(told, names) -> Iterator[Union[Record, FileEnd, Total]]:
     for line in told:
         made = json.loads(line)
-        if made["is"] == "total":
+        if made["what"] == "total":
             yield _total(made)
-        elif made["is"] == "end":
+        elif made["what"] == "end":
             yield _end(made, names[int(made["file"])])
         else:
             yield _record(made, names[int(made["file"])])

@@ -1,6 +1,8 @@
 //! A source that remembers the bytes that were read, by which standard error can say more of a file.
 
-ghost use Rattle.std.specs.Prelude.{None, IfSome, IsSome, IsTrue, ◌↔◌};
+ghost use Rattle.std.specs.Prelude.{◌≡◌, ◌++◌, [], None, IfSome, IsSome, IsTrue, ◌↔◌, option_copied};
+ghost use Rattle.ssh_audit.specs.KeptBytes.{bytes_if};
+ghost use Rattle.ssh_audit.specs.declared.kept.Keeping.TheVariants.{No, Yes};
 ghost use Rattle.std.specs.Io.{ReadsAtMost};
 ghost use Rattle.std.specs.Io.KnownBytes.{ReadConsumes};
 ghost use Rattle.ssh_files.specs.SourceState.{ChoosesKnown, ReadsKnown, bytes_at};
@@ -28,7 +30,10 @@ pub struct KeptFiles<F> {
 
 impl<F> KeptFiles<F> {
     /// A source over this one, which remembers nothing yet.
-    pub fn new(alloc: Global, files: F) -> Self {
+    pub fn new(alloc: Global, files: F) -> Self
+        ensures none { result.keeping ≡ No }
+        ensures empty { result.bytes.items ≡ [] }
+    {
         KeptFiles {
             files,
             bytes: Vec::new(alloc),
@@ -37,20 +42,29 @@ impl<F> KeptFiles<F> {
     }
 
     /// Remembers what is read from now on.
-    pub fn keep_bytes(&mut self) {
+    pub fn keep_bytes(&mut self)
+        ensures kept { self.new.keeping ≡ Yes }
+        ensures same { self.new.bytes ≡ self.old.bytes }
+    {
         self.keeping = Keeping::Yes;
     }
 
     /// The bytes that were read; `None` where they are not remembered.
-    pub fn bytes(&self) -> Option<&[u8]> {
+    pub fn bytes(&self) -> Option<&[u8]>
+        ensures { option_copied result ≡ bytes_if self.now.keeping self.now.bytes.items }
+    {
         match self.keeping {
             Keeping::Yes => Some(self.bytes.as_slice()),
             Keeping::No | Keeping::Failed => None,
         }
     }
 
-    /// Remembers bytes that were read.
-    fn keep(&mut self, bytes: &[u8]) {
+    /// Remembers bytes that were read, or that memory for them was refused.
+    fn keep(&mut self, bytes: &[u8])
+        ensures kept { self.new.keeping ≡ Yes
+            → self.new.bytes.items ≡ self.old.bytes.items ++ bytes.now }
+        ensures asked { self.old.keeping ≡ No → self.new.keeping ≡ No }
+    {
         if self.keeping == Keeping::Yes && self.bytes.extend_from_slice(bytes).is_err() {
             self.keeping = Keeping::Failed;
         }

@@ -3,12 +3,13 @@
 #![tactic(auto)]
 
 ghost use Rattle.std.specs.Prelude.{◌≡◌, ℕ, List, false, true};
+ghost use Rattle.ssh_lending.specs.Lending.{Lends};
 ghost use Rattle.ssh_memory.specs.MemoryFiles.{source_at_first};
 ghost use Rattle.ssh_memory.specs.MemoryRuns.{Gives, RunMeans, are_texts, texts_of};
 ghost use Rattle.ssh_program.specs.Requests.{words_response};
 ghost use Rattle.ssh_program.specs.declared.command.WordsError.{WordsError as Fault};
-ghost use Rattle.ssh_audit_c.specs.Lending.{Lends};
 
+use ssh_lending::lend;
 use ssh_memory::{NamedBytes, Text, run_in_memory};
 use ssh_program::WordsError;
 use std::alloc::Global;
@@ -22,17 +23,6 @@ const FAULT: u8 = 2;
 pub struct Answer {
     pub status: u8,
     pub length: usize,
-}
-
-/// Writes the text to the front of the buffer, if it fits, and returns its length. A buffer that is
-/// too short stays as it is.
-fn lend(text: &[u8], out: &mut [u8]) -> usize
-    ensures { Lends text.now out.old out.new result }
-{
-    if text.len() <= out.len() {
-        out[..text.len()].copy_from_slice(text);
-    }
-    text.len()
 }
 
 /// What the program answers to words over files and a standard input in memory: as

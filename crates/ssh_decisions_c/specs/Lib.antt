@@ -1,2 +1,5 @@
+pub mod Answered
 pub mod Asked
 pub mod Decided
+pub mod Samples
+pub mod Told

@@ -1,59 +1,37 @@
 //! The decision on a host's key, for callers in C.
 
-ghost use Rattle.std.specs.Prelude.{◌≡◌, ℕ, map};
+ghost use Rattle.std.specs.Prelude.{◌≡◌, ◌<◌, Result, map};
 ghost use Rattle.ssh_entries.specs.KnownEntry.{KnownEntry};
 ghost use Rattle.ssh_offers.specs.FirstRefusal.{IsHostClaim};
-ghost use Rattle.ssh_offers.specs.HostClaim.{HostClaim, host_claim};
-ghost use Rattle.ssh_offers.specs.Query.{host_check_of};
-ghost use Rattle.ssh_trust.specs.Answer.{host_answer};
+ghost use Rattle.ssh_offers.specs.HostClaim.{HostClaim};
+ghost use Rattle.ssh_offers.specs.declared.claim.AuditError.{AuditError as Fault};
 ghost use Rattle.ssh_trust.specs.HostDecision.{IsHostGrant};
+ghost use Rattle.ssh_trust.specs.Telling.{HostCause};
+ghost use Rattle.ssh_trust.specs.declared.decision.Decision.{Decision as DecisionValue};
+ghost use Rattle.ssh_decisions_c.specs.Answered.{AnswersHost, AreHostReasons, LendsReasons, TellsDenial, TellsReasons};
 ghost use Rattle.ssh_decisions_c.specs.Asked.{host_asked, signed_of};
-ghost use Rattle.ssh_decisions_c.specs.Decided.{Answered};
+ghost use Rattle.ssh_decisions_c.specs.Decided.{told_of};
 
 use crate::asked::{HostAsked, SignedBytes, copy_all, empty_principals};
-use crate::decided::{Decided, told};
-use ssh_offers::{AuditError, HostQuery, Signed};
-use ssh_trust::host;
+use crate::decided::{Decided, LineReason};
+use crate::telling::tell;
+use ssh_lending::lend;
+use ssh_offers::{AuditError, HostQuery};
+use ssh_trust::{Decision, host};
 use std::alloc::{AllocError, Global};
 
-/// The decision on a host's key, as numbers.
-fn decide_host(alloc: Global, file: &[u8], query: &HostQuery<'_>, vouched: &[Signed]) -> Decided
-    ensures answer { Answered HostClaim (host_claim (host_check_of query.entry.now))
-        (λ claim. host_answer file.now claim vouched.now) result }
-    ensures granted { (claim : HostClaim) → IsHostClaim (host_check_of query.entry.now) claim
-        → result.kind ≡ 0
-        → (e : KnownEntry) × IsHostGrant file.now claim vouched.now result.number e }
-    ensures denied { (claim : HostClaim) → IsHostClaim (host_check_of query.entry.now) claim
-        → result.kind ≡ 1
-        → (line : ℕ) (e : KnownEntry) → IsHostGrant file.now claim vouched.now line e → ⊥ }
-{
-    told(host(alloc, file, query, vouched))
-}
-
-/// The decision on a host's key by the bytes of a known_hosts file, as `host` of `ssh_trust`
-/// decides, where the caller vouches for these signatures.
-#[unsafe(no_mangle)]
-pub extern "C" fn ssh_audit_host(
+/// The decision on a host's key.
+fn decide_host(
     alloc: Global,
     file: &[u8],
     asked: &HostAsked<'_>,
     vouched: &[SignedBytes<'_>],
-) -> Decided
-    // The defined answer as numbers; a refused offer is a fault, and so is want of memory.
-    ensures answer { Answered HostClaim (host_claim (host_asked asked.entry.now))
-        (λ claim. host_answer file.now claim (map signed_of vouched.entry.now)) result }
-    // Granted names the first line that admits the key; no line of the file revokes it, or may.
-    ensures granted { (claim : HostClaim) → IsHostClaim (host_asked asked.entry.now) claim
-        → result.kind ≡ 0
-        → (e : KnownEntry) × IsHostGrant file.now claim (map signed_of vouched.entry.now) result.number e }
-    // Denied means that this is false.
-    ensures denied { (claim : HostClaim) → IsHostClaim (host_asked asked.entry.now) claim
-        → result.kind ≡ 1
-        → (line : ℕ) (e : KnownEntry) → IsHostGrant file.now claim (map signed_of vouched.entry.now) line e → ⊥ }
+) -> Result<Decision, AuditError>
+    ensures { AnswersHost file.now (host_asked asked.entry.now) (map signed_of vouched.now) result }
 {
     let vouched = match copy_all(alloc, vouched) {
         Ok(vouched) => vouched,
-        Err(AllocError) => return told(Err(AuditError::Memory)),
+        Err(AllocError) => return Err(AuditError::Memory),
     };
     let query = HostQuery {
         offered: asked.offered,
@@ -65,5 +43,39 @@ pub extern "C" fn ssh_audit_host(
         empty_principals: empty_principals(asked.empty_principals_never),
         rsa_minimum: asked.rsa_minimum,
     };
-    decide_host(alloc, file, &query, vouched.as_slice())
+    host(alloc, file, &query, vouched.as_slice())
+}
+
+/// The decision on a host's key by the bytes of a known_hosts file, as `host` of `ssh_trust`
+/// decides, where the caller vouches for these signatures. The buffer is filled from its front, if
+/// it is long enough for all reasons; else it stays as it is.
+#[unsafe(no_mangle)]
+pub extern "C" fn ssh_audit_host(
+    alloc: Global,
+    file: &[u8],
+    asked: &HostAsked<'_>,
+    vouched: &[SignedBytes<'_>],
+    reasons: &mut [LineReason],
+) -> Decided
+    // The defined answer, or the fault of memory, with all its reasons.
+    ensures answer { (answer : Result DecisionValue Fault)
+        × AnswersHost file.now (host_asked asked.entry.now) (map signed_of vouched.entry.now) answer
+        × (result ≡ told_of answer) × LendsReasons answer reasons.old reasons.new }
+    // Granted names the first line that admits the key; no line of the file revokes it, or may.
+    ensures granted { (claim : HostClaim) → IsHostClaim (host_asked asked.entry.now) claim
+        → result.kind ≡ 0
+        → (e : KnownEntry) × IsHostGrant file.now claim (map signed_of vouched.entry.now) result.number e }
+    // Denied means that this is false, for the first cause that holds.
+    ensures denied { (claim : HostClaim) → IsHostClaim (host_asked asked.entry.now) claim
+        → result.kind ≡ 1
+        → TellsDenial KnownEntry (IsHostGrant file.now claim (map signed_of vouched.entry.now))
+        (HostCause file.now claim (map signed_of vouched.entry.now)) result }
+    // The reasons of both are those of the lines that were passed over.
+    ensures passed_over { (claim : HostClaim) → IsHostClaim (host_asked asked.entry.now) claim
+        → result.kind < 2
+        → TellsReasons (AreHostReasons file.now claim) result reasons.old reasons.new }
+{
+    let telling = tell(alloc, decide_host(alloc, file, asked, vouched));
+    lend(telling.reasons.as_slice(), reasons);
+    telling.decision
 }

@@ -59,6 +59,10 @@ moment_asked now f = if f.has_local_time then now - 3600 else now
 abbrev pub names_nobody : Facts → Bool
 names_nobody f = f.is_authority && is_some f.principals && not (has_name_in f.principals)
 
+-- The entry may let its key in: it has not expired, in OpenSSH either, and its lists permit somebody.
+abbrev pub may_let_in : Asking → Facts → Bool
+may_let_in asking f = not (is_known_past (moment_asked asking.now f) f.until) && (not (lets_nobody_in f) && not (names_nobody f))
+
 -- F5 to F7: a short key; an expiry time that is past in OpenSSH too; a list that permits nobody
 abbrev pub condition_findings : Asking → Facts → List Finding
 condition_findings asking f =

@@ -4,7 +4,7 @@ ghost use Rattle.std.specs.Prelude.{◌≡◌, ◌++◌, [], List, IfOk, IsOk, O
 ghost use Rattle.ssh_findings.specs.Asking.{asking_of};
 ghost use Rattle.ssh_findings.specs.Earlier.{Held};
 ghost use Rattle.ssh_findings.specs.Keeping.{RemembersEntries};
-ghost use Rattle.ssh_findings.specs.EntryFindings.{condition_findings, entry_findings, forces_but_forwards, ground_finding, ground_findings, has_empty_in, has_name_in, has_short_address_in, is_security_key, moment_asked, permits_bad, permits_any, policy_findings, reading_findings, refuses_all_in, unreadable_findings};
+ghost use Rattle.ssh_findings.specs.EntryFindings.{may_let_in, condition_findings, entry_findings, forces_but_forwards, ground_finding, ground_findings, has_empty_in, has_name_in, has_short_address_in, is_security_key, moment_asked, permits_bad, permits_any, policy_findings, reading_findings, refuses_all_in, unreadable_findings};
 
 use crate::code::ReviewOptions;
 use crate::earlier::Earlier;
@@ -76,6 +76,17 @@ fn names_of(list: &Option<Bytes>) -> (bool, bool)
         }
         None => (false, false),
     }
+}
+
+/// Whether an entry may let its key in at the moment asked about, where no earlier line decides: it has
+/// not expired, in OpenSSH either, and its lists permit somebody.
+pub fn may_let_in(asked: &ReviewOptions<'_>, facts: &Facts) -> bool
+    ensures { result ≡ may_let_in (asking_of asked.entry.now) facts.now }
+{
+    let (has_name, _) = names_of(&facts.principals);
+    let nobody = facts.is_authority && facts.principals.is_some() && !has_name;
+    let refuses = permits_bad(&facts.from) && refuses_all_in(&facts.from);
+    !is_past(moment_asked(asked.now, facts), facts.until) && !refuses && !nobody
 }
 
 /// F5 to F7: a short RSA key, an expiry time that is past, and lists that permit nobody.

@@ -47,9 +47,10 @@ fn fields_read<'a>(fields: KeyFields<'a>) -> KeyFields<'a>
     }
 }
 
-/// The key that OpenSSH reads for a key.
+/// The key that OpenSSH reads for a key: the same one, but for a NUL at the end of a security key's
+/// application.
 #[tactic(auto, using(crate::proofs::KeyReadLemmas::is_key_read))]
-fn key_read<'a>(key: &KeyView<'a>) -> KeyView<'a>
+pub fn view_read<'a>(key: &KeyView<'a>) -> KeyView<'a>
     ensures { key_of result ≡ key_read (key_of key.now) }
 {
     match KeyView::from_fields(fields_read(key.fields())) {
@@ -86,7 +87,7 @@ pub(crate) fn fingerprint_read(
     ensures { IfOk result (λ text. text ≡ fingerprint_of (key_read (key_of key.now))) }
 {
     if ends_in_nul(key) {
-        let text = fingerprint(alloc, &key_read(key))?;
+        let text = fingerprint(alloc, &view_read(key))?;
         return Ok(text);
     }
     let digest = Sha256::digest(blob);
@@ -107,7 +108,7 @@ pub fn is_read_as_key(
 {
     if ends_in_nul(key) {
         let mut read = Vec::new(alloc);
-        write_key(&key_read(key), &mut read)?;
+        write_key(&view_read(key), &mut read)?;
         return Ok(read.as_slice() == sought);
     }
     Ok(blob == sought)

@@ -67,7 +67,7 @@ mod table;
 pub use certified_key::known_certified_blob;
 pub use code::{Code, ReviewOptions, parse_codes};
 pub use earlier::Earlier;
-pub use entry::{entry_findings, unreadable_findings};
+pub use entry::{entry_findings, may_let_in, unreadable_findings};
 pub use facts::Facts;
 pub use finding::{Coded, Finding};
 pub use host_earlier::EarlierHosts;
@@ -76,8 +76,8 @@ pub use host_finding::{
     HostFinding, host_entry_findings, revocation_findings, unreadable_host_findings,
     unreadable_revocation_findings,
 };
-pub use key_read::is_read_as_key;
+pub use key_read::{is_read_as_key, view_read};
 pub use openssh::{Ground, has_ground, has_nul, may_refuse};
 pub use recovered_key::{HeldKey, held_blob, held_key, known_held_blob, known_held_key};
-pub use recovered_words::{canonical_blob, openssh_blob};
+pub use recovered_words::{canonical_blob, key_on_line, openssh_blob};
 pub use sources::is_read_otherwise;

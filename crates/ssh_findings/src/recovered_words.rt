@@ -102,9 +102,10 @@ fn authorized_key(alloc: Global, text: &[u8]) -> Result<Option<Key>, AllocError>
     }
 }
 
-/// The key on an authorized_keys line.
+/// The key that OpenSSH looks for on an authorized_keys line that is unreadable here, as `held_key`
+/// finds it.
 #[tactic(auto, unfolding(crate::specs::HeldKey::held_key))]
-pub(crate) fn key_on_line(alloc: Global, line: &[u8]) -> Result<Option<Key>, AllocError>
+pub fn key_on_line(alloc: Global, line: &[u8]) -> Result<Option<Key>, AllocError>
     ensures { IfOk result (λ key. key ≡ held_key line.now) }
 {
     let key = authorized_key(alloc, read_part(line))?;

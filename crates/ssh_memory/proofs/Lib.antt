@@ -1,1 +1,2 @@
+pub mod FirstNamedLemmas
 pub mod RunLemmas

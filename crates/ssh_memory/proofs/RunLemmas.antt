@@ -46,11 +46,15 @@ run_given words s status Seen Given turn m = record {
   signature_denied = λ w asks ends. let at = m.signature_denied w asks ends in (at.0, at.1, turn at.0 at.2);
   admits = m.admits;
   admits_none = m.admits_none;
+  admits_fingerprint = m.admits_fingerprint;
+  admits_no_fingerprint = m.admits_no_fingerprint;
   trusts = m.trusts;
   trusts_none = m.trusts_none;
   rewrite = λ rows asks ends. let at = m.rewrite rows asks ends in (at.0, at.1, turn at.0 at.2);
   hash = λ rows asks ends. let at = m.hash rows asks ends in (at.0, at.1, turn at.0 at.2);
-  review = λ rows names asks ends. let at = m.review rows names asks ends in (at.0, at.1, turn at.0 at.2);
+  review = λ rows names asks no_key ends. let at = m.review rows names asks no_key ends in (at.0, at.1, turn at.0 at.2);
+  review_key = λ rows names key asks for_key ends. let at = m.review_key rows names key asks for_key ends in (at.0, at.1, turn at.0 at.2);
+  review_key_none = λ rows names key asks for_key ends. let at = m.review_key_none rows names key asks for_key ends in (at.0, at.1, turn at.0 at.2);
 }
 
 -- the answer where there is no memory
@@ -65,9 +69,13 @@ no_memory words s = record {
   signature_denied = λ w asks ends. absurd (omega (arith, ends));
   admits = λ rows names asks ends. absurd (omega (arith, ends));
   admits_none = λ rows names asks ends. absurd (omega (arith, ends));
+  admits_fingerprint = λ rows names asks ends. absurd (omega (arith, ends));
+  admits_no_fingerprint = λ rows names asks ends. absurd (omega (arith, ends));
   trusts = λ rows names asks ends. absurd (omega (arith, ends));
   trusts_none = λ rows names asks ends. absurd (omega (arith, ends));
   rewrite = λ rows asks ends. absurd (omega (arith, ends));
   hash = λ rows asks ends. absurd (omega (arith, ends));
-  review = λ rows names asks ends. absurd (omega (arith, ends));
+  review = λ rows names asks no_key ends. absurd (omega (arith, ends));
+  review_key = λ rows names key asks for_key ends. absurd (omega (arith, ends));
+  review_key_none = λ rows names key asks for_key ends. absurd (omega (arith, ends));
 }

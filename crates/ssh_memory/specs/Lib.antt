@@ -1,2 +1,3 @@
+pub mod FirstNamed
 pub mod MemoryFiles
 pub mod MemoryRuns

@@ -1,16 +1,11 @@
 -- Files in memory as a source of files (this project's rule).
-use Rattle.std.specs.Prelude.{ℕ, List, Option, None, option_map}
-use Rattle.std.specs.List.{find}
-use Rattle.std.specs.Str.{bytes_eq}
+use Rattle.std.specs.Prelude.{ℕ, List, None}
 use Rattle.ssh_files.specs.SourceState.{Chosen, SourceState, named_file, nothing, standard_input}
+use Rattle.ssh_memory.specs.FirstNamed.{named_in}
 use Rattle.ssh_memory.specs.declared.files.MemoryFiles.{MemoryFiles}
 use Rattle.ssh_memory.specs.declared.files.NamedBytes.{NamedBytes}
 use Rattle.ssh_memory.specs.declared.files.Place.{Place}
 use Rattle.ssh_memory.specs.declared.files.Place.TheVariants.{File, Input, Nowhere}
-
--- the bytes of the first of these files that has the name
-abbrev pub named_in : List NamedBytes → List ℕ → Option (List ℕ)
-named_in files name = option_map (λ f. f.bytes.now) (find (λ f. bytes_eq f.name.now name) files)
 
 -- these files and this standard input, before anything is read
 abbrev pub source_at_first : List NamedBytes → List ℕ → SourceState
@@ -31,7 +26,7 @@ chosen_at File name left = named_file name left
 -- a read fails only where nothing is chosen, so no failed read has a name
 abbrev pub memory_source : MemoryFiles → SourceState
 memory_source h = record {
-  named = named_in h.files.now;
+  named = named_in h.files;
   input = h.input.now;
   chosen = chosen_at h.place h.name.now h.left.now;
   choices = h.choices;

@@ -7,12 +7,14 @@ use Rattle.ssh_files.specs.Loading.{NoReadFailed}
 use Rattle.ssh_files.specs.SourceState.{SourceState}
 use Rattle.ssh_files.specs.Words.{is_text}
 use Rattle.ssh_print.specs.Responses.{Response}
-use Rattle.ssh_program.specs.declared.subcommand.Subcommand.TheVariants.{Admits, Hash, Host, Login, Review, Rewrite, Trusts}
+use Rattle.ssh_program.specs.declared.subcommand.Subcommand.TheVariants.{Hash, Host, Login, Review, Rewrite, Trusts}
 use Rattle.ssh_program.specs.Account.{Account}
 use Rattle.ssh_program.specs.FileNames.{AuditFiles, SshsigQuestion}
-use Rattle.ssh_program.specs.FileRuns.{AsksWith, FileHashed, FileRewritten, FilesReviewed}
+use Rattle.ssh_program.specs.FileRuns.{AsksNoKey, AsksWith, FileHashed, FileRewritten, FilesReviewed}
 use Rattle.ssh_program.specs.GrantedRuns.{AsksFor, DeniesHost, DeniesLogin, GrantsHost, GrantsLogin}
-use Rattle.ssh_program.specs.KeyRuns.{AsksOfFiles, ClientAdmitted, ClientKeptOut, HostDistrusted, HostTrusted}
+use Rattle.ssh_program.specs.FingerprintRuns.{AsksByFingerprint, FingerprintAdmitted, FingerprintKeptOut}
+use Rattle.ssh_program.specs.KeyRuns.{AsksByKey, AsksOfFiles, ClientAdmitted, ClientKeptOut, HostDistrusted, HostTrusted}
+use Rattle.ssh_program.specs.KeyStanding.{AsksForKey, KeyNowhere, KeyStanding}
 use Rattle.ssh_program.specs.Requests.{Answers, source_of}
 use Rattle.ssh_program.specs.SignatureRuns.{AsksSignature, SignatureUnvouched, SignatureVouched}
 use Rattle.ssh_program.specs.Texts.{TextPlaces}
@@ -64,10 +66,14 @@ pub record RunMeans (words : List (List ℕ)) (s : SourceState) (status : ℕ) (
   pub signature_denied : (w : SshsigQuestion) → AsksSignature words s w → status ≡ 1
       → (r : Response) × SignatureUnvouched w (source_of words s) r × Given r
   -- Status 0 of `admits` and `trusts`: a line of one of the files lets the key in; status 1: no line of any does.
-  pub admits : (rows : List Row) (names : List (List ℕ)) → AsksOfFiles Admits words s rows names → status ≡ 0
+  pub admits : (rows : List Row) (names : List (List ℕ)) → AsksByKey words s rows names → status ≡ 0
       → ClientAdmitted rows (source_of words s)
-  pub admits_none : (rows : List Row) (names : List (List ℕ)) → AsksOfFiles Admits words s rows names → status ≡ 1
+  pub admits_none : (rows : List Row) (names : List (List ℕ)) → AsksByKey words s rows names → status ≡ 1
       → ClientKeptOut rows (source_of words s)
+  pub admits_fingerprint : (rows : List Row) (names : List (List ℕ)) → AsksByFingerprint words s rows names → status ≡ 0
+      → FingerprintAdmitted rows (source_of words s)
+  pub admits_no_fingerprint : (rows : List Row) (names : List (List ℕ)) → AsksByFingerprint words s rows names → status ≡ 1
+      → FingerprintKeptOut rows (source_of words s)
   pub trusts : (rows : List Row) (names : List (List ℕ)) → AsksOfFiles Trusts words s rows names → status ≡ 0
       → HostTrusted rows (source_of words s)
   pub trusts_none : (rows : List Row) (names : List (List ℕ)) → AsksOfFiles Trusts words s rows names → status ≡ 1
@@ -77,6 +83,11 @@ pub record RunMeans (words : List (List ℕ)) (s : SourceState) (status : ℕ) (
       → (r : Response) × FileRewritten rows (source_of words s) r × Given r
   pub hash : (rows : List Row) → AsksWith Hash words s rows → status ≡ 0
       → (r : Response) × FileHashed rows (source_of words s) r × Given r
-  -- Status 0 or 1 of `review`: the text lists each line by which one of the files lets somebody in.
-  pub review : (rows : List Row) (names : List (List ℕ)) → AsksOfFiles Review words s rows names → status < 2
+  -- Status 0 or 1 of `review` that asks for no key: the text lists each line by which one of the files lets somebody in.
+  pub review : (rows : List Row) (names : List (List ℕ)) → AsksOfFiles Review words s rows names → AsksNoKey rows → status < 2
       → (r : Response) × FilesReviewed rows (source_of words s) r × Given r
+  -- Status 1 of `review --key`: the text has the records of a line that holds the key; status 0: no line of any file does.
+  pub review_key : (rows : List Row) (names : List (List ℕ)) (key : List ℕ) → AsksOfFiles Review words s rows names → AsksForKey rows key → status ≡ 1
+      → (r : Response) × KeyStanding rows key (source_of words s) r × Given r
+  pub review_key_none : (rows : List Row) (names : List (List ℕ)) (key : List ℕ) → AsksOfFiles Review words s rows names → AsksForKey rows key → status ≡ 0
+      → (r : Response) × KeyNowhere rows key (source_of words s) r × Given r

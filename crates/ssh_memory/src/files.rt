@@ -1,9 +1,10 @@
 //! Files in memory, by name, as a source of files.
 
-ghost use Rattle.std.specs.Prelude.{◌≡◌, IfSome, Some, option_map, refl};
+ghost use Rattle.std.specs.Prelude.{◌≡◌, Some, refl};
 ghost use Rattle.ssh_files.specs.SourceState.{left_of};
-ghost use Rattle.ssh_memory.specs.MemoryFiles.{memory_source, named_in, source_at_first};
+ghost use Rattle.ssh_memory.specs.MemoryFiles.{memory_source, source_at_first};
 
+use crate::file_index::FileIndex;
 use ssh_files::Files;
 use std::io::{Error, ErrorKind, Read, Result};
 
@@ -13,18 +14,6 @@ use std::io::{Error, ErrorKind, Read, Result};
 pub struct NamedBytes<'a> {
     pub name: &'a [u8],
     pub bytes: &'a [u8],
-}
-
-/// The first of the files that has this name.
-fn find_named<'a>(files: &[NamedBytes<'a>], name: &str) -> Option<NamedBytes<'a>>
-    ensures found { option_map (λ f. f.bytes.now) result ≡ named_in files.now name.now }
-    ensures name { IfSome result (λ f. f.name.now ≡ name.now) }
-{
-    let found = files
-        .iter()
-        .find(|file| file.name == name.as_bytes())
-        .copied();
-    found
 }
 
 /// The file that was chosen last.
@@ -38,7 +27,7 @@ enum Place {
 /// A source of files in memory, and of a standard input in memory.
 #[derive(Drop)]
 pub(crate) struct MemoryFiles<'a> {
-    files: &'a [NamedBytes<'a>],
+    files: FileIndex<'a>,
     /// What is left of standard input.
     input: &'a [u8],
     place: Place,
@@ -51,8 +40,8 @@ pub(crate) struct MemoryFiles<'a> {
 
 impl<'a> MemoryFiles<'a> {
     /// A source of these files, of which none is chosen. No read of it has failed yet.
-    pub(crate) fn new(files: &'a [NamedBytes<'a>], input: &'a [u8]) -> Self
-        ensures { memory_source result ≡ source_at_first files.now input.now }
+    pub(crate) fn new(files: FileIndex<'a>, input: &'a [u8]) -> Self
+        ensures { memory_source result ≡ source_at_first files.entry input.now }
     {
         MemoryFiles {
             files,
@@ -85,7 +74,7 @@ impl Files for MemoryFiles<'_> {
             self.place = Place::Input;
             return true;
         }
-        match find_named(self.files, name) {
+        match self.files.find(name.as_bytes()) {
             Some(file) => {
                 self.name = file.name;
                 self.left = file.bytes;

@@ -5,6 +5,7 @@
 //! caller says the time, the files and the name of the user itself.
 #![tactic(auto)]
 
+mod file_index;
 mod files;
 mod memory_run;
 #[cfg(test)]

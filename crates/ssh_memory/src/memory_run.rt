@@ -4,11 +4,12 @@ ghost use Rattle.std.specs.Prelude.{◌≡◌, Err, IfErr, IfOk, false, map, tru
 ghost use Rattle.ssh_memory.specs.MemoryFiles.{source_at_first};
 ghost use Rattle.ssh_memory.specs.MemoryRuns.{Gives, RunMeans, are_texts, texts_of};
 
+use crate::file_index::FileIndex;
 use crate::files::{MemoryFiles, NamedBytes};
 use crate::texts::{Text, read_texts};
 use crate::writer::MemoryWriter;
 use ssh_program::{WordsError, run};
-use std::alloc::Global;
+use std::alloc::{AllocError, Global};
 
 /// The text that the program prints, and the status that it ends with.
 #[derive(Drop)]
@@ -29,7 +30,11 @@ fn run_words(
         (Gives output.text.items output.status)) }
     ensures memory { IfErr result (λ e. e ≡ WordsError.Memory) }
 {
-    let mut source = MemoryFiles::new(files, input);
+    let index = match FileIndex::new(alloc, files) {
+        Ok(index) => index,
+        Err(AllocError) => return Err(WordsError::Memory),
+    };
+    let mut source = MemoryFiles::new(index, input);
     let mut writer = MemoryWriter::new(alloc);
     let status = run(alloc, words, &mut source, &mut writer);
     // A read of memory fails only where no file was chosen, and the program reads none then. So the
@@ -47,7 +52,7 @@ fn run_words(
 /// What the program answers to words over files in memory, if each word is UTF-8: the words after
 /// its name, or where there are none those of the first line of standard input. The file `-` is the
 /// standard input, and of two files with one name the first counts. `Memory` where memory could not
-/// be allocated for the words or for the text.
+/// be allocated for the words, for the names of the files or for the text.
 pub fn run_in_memory(
     alloc: Global,
     texts: &[Text<'_>],

@@ -10,4 +10,6 @@ mod TableLemmas
 mod StandInLemmas
 pub mod DenialLemmas
 mod ScanLemmas
+mod PassedLemmas
 mod HostLemmas
+pub mod FingerprintLemmas

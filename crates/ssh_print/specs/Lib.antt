@@ -30,3 +30,4 @@ pub mod Denials
 pub mod KnownPossible
 pub mod PassedOver
 pub mod HostOther
+pub mod FingerprintKeys

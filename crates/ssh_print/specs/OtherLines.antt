@@ -28,7 +28,7 @@ use Rattle.ssh_print.specs.declared.possible.WhyPossible.TheVariants as why
 use Rattle.ssh_print.specs.Admitting.{first_line}
 use Rattle.ssh_print.specs.AnswerText.{indent}
 use Rattle.ssh_print.specs.Details.{login_details}
-use Rattle.ssh_print.specs.PossibleLines.{possible_lines, possible_words}
+use Rattle.ssh_print.specs.PossibleLines.{possible_lines, possible_words, untold_lines}
 
 -- lines, and whether OpenSSH may admit, by one of them, what is not admitted here
 pub record OtherLines : Type 0 where
@@ -73,6 +73,12 @@ unfoldable pub possible_other : LoginClaim → Option ℕ → List ℕ → Other
 possible_other claim before file =
     let lines = take 101 (possible_lines claim before (numbered 1 (lines_of file))) in
     record { may_admit = nat_lt 0 (length lines); text = possible_text Client (is_some before) lines }
+
+-- the lines of a file by which OpenSSH may admit any key
+unfoldable pub untold_other : List ℕ → OtherLines
+untold_other file =
+    let lines = take 101 (untold_lines (numbered 1 (lines_of file))) in
+    record { may_admit = nat_lt 0 (length lines); text = possible_text Client false lines }
 
 -- ---- a line that OpenSSH may refuse
 

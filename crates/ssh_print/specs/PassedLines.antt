@@ -1,5 +1,5 @@
 -- The printed lines of a file that were passed over, each with the reason and what was compared (this project's rule).
-use Rattle.std.specs.Prelude.{ℕ, ◌==◌, nat_le, if◌then◌else◌, List, [], ◌∷◌, ◌++◌, length, codes}
+use Rattle.std.specs.Prelude.{ℕ, ◌+◌, ◌≤◌, ◌==◌, nat_le, if◌then◌else◌, List, [], ◌∷◌, ◌++◌, length, codes}
 use Rattle.std.specs.Fmt.{decimal}
 use Rattle.ssh_text.specs.Text.{lines_of, numbered}
 use Rattle.ssh_rules.specs.declared.reason.Reason.{Reason}
@@ -29,6 +29,11 @@ abbrev pub passed_lines : Compared → List (ℕ × List ℕ) → List (ℕ × R
 passed_lines compared lines [] = []
 passed_lines compared lines (r ∷ reasons) =
     passed_line compared r (line_from r.0 lines) ++ passed_lines compared (lines_after r.0 lines) reasons
+
+-- the reasons come in the order of their lines, the first of them no earlier than this line
+abbrev pub ComeInOrder : ℕ → List (ℕ × Reason) → Type 0
+ComeInOrder n [] = Unit {0}
+ComeInOrder n (r ∷ reasons) = (n ≤ r.0) × ComeInOrder (r.0 + 1) reasons
 
 -- a decision lists the first 100 reasons
 abbrev pub cut_line : List (ℕ × Reason) → List ℕ

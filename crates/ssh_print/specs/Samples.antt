@@ -18,6 +18,7 @@ use Rattle.ssh_trust.specs.declared.decision.SshsigAnswer.TheVariants.{Vouched, 
 use Rattle.ssh_print.specs.Texts.{hex_text, escaped_text, text_line, word_line}
 use Rattle.ssh_print.specs.Codes.{wire_codes, key_codes, cert_codes, body_codes, line_codes, reason_codes, cause_codes, fault_codes}
 use Rattle.ssh_print.specs.DecisionText.{evidence_lines, rights_lines}
+use Rattle.ssh_print.specs.FingerprintKeys.{absent_text, absent_words}
 use Rattle.ssh_print.specs.Responses.{decision_response, fault_response, no_file_response, out_of_memory, refused_response, usage_response, value_response, vouch_response}
 use Rattle.ssh_print.specs.SshsigText.{sshsig_response}
 
@@ -244,6 +245,14 @@ DecisionsShown =
 pub decisions_shown : DecisionsShown
 unfolding digits evidence_lines
 decisions_shown = (refl, refl, refl, refl)
+
+-- a file that holds no key of a fingerprint
+abbrev pub AbsentShown : Type 0
+AbsentShown = absent_text (codes "a b") ≡ codes "a b: does not admit: N3: no line holds a key of this fingerprint\n"
+
+pub absent_shown : AbsentShown
+unfolding absent_text absent_words
+absent_shown = refl
 
 -- answers to file signatures, with their status
 abbrev pub SignaturesShown : Type 0

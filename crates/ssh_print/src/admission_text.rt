@@ -34,7 +34,7 @@ fn grants(who: Subject) -> &'static [u8]
     }
 }
 
-fn denies(who: Subject) -> &'static [u8]
+pub(crate) fn denies(who: Subject) -> &'static [u8]
     ensures { result.now ≡ denies who }
 {
     match who {
@@ -63,7 +63,7 @@ fn good_signatures(evidence: &[Signed]) -> &'static [u8]
 }
 
 /// The sentence that the table has for a code; empty if it has none.
-pub(crate) fn sentence(code: &str) -> &'static str
+pub fn sentence(code: &str) -> &'static str
     ensures { result.now ≡ sentence code.now }
 {
     match row_of(code) {

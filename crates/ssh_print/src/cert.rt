@@ -11,7 +11,7 @@ ghost use Rattle.ssh_print.specs.ShownLines.{Finds, Prints};
 ghost use Rattle.ssh_print.specs.ShownTexts.{IsCertText, cert_holder_lines, cert_key_lines, cert_lines, cert_option_lines, cert_time_lines, kind_word, moment_line, option_line, signer_line};
 ghost use Rattle.ssh_print.specs.Texts.{text_line, word_line};
 
-use crate::show_key::date_text;
+use crate::show_key::utc_date;
 use crate::showing::{ShowError, push_fingerprint, push_fingerprint_line, read_blob};
 use crate::text::{
     push_escaped, push_hex, push_number, push_number_line, push_text_line, push_word_line,
@@ -202,8 +202,8 @@ fn push_cert(
 fn cert_text(alloc: Global, cert: &CertView<'_>) -> Result<Vec<u8>, AllocError>
     ensures { IfOk result (λ text. IsCertText (certificate_of cert.now) text.items) }
 {
-    let after = date_text(alloc, cert.after())?;
-    let before = date_text(alloc, cert.before())?;
+    let after = utc_date(alloc, cert.after())?;
+    let before = utc_date(alloc, cert.before())?;
     let mut text = Vec::new(alloc);
     push_cert(alloc, &mut text, cert, &after, &before)?;
     Ok(text)

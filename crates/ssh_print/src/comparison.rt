@@ -49,7 +49,12 @@ fn cut_mark(text: &[u8]) -> &'static [u8]
 
 /// Appends a word and any bytes, between quotes.
 #[tactic(auto, unfolding(crate::specs::Comparisons::value_text))]
-fn push_value(alloc: Global, out: &mut Vec<u8>, word: &[u8], text: &[u8]) -> Result<(), AllocError>
+pub(crate) fn push_value(
+    alloc: Global,
+    out: &mut Vec<u8>,
+    word: &[u8],
+    text: &[u8],
+) -> Result<(), AllocError>
     ensures { OnOk result (out.new.items ≡ out.old.items ++ value_text word.now text.now) }
 {
     out.extend_from_slice(b"; ")?;

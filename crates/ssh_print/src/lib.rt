@@ -29,6 +29,7 @@ mod decision_text;
 mod details;
 mod escaped;
 mod explaining;
+mod fingerprint_key;
 mod host_otherwise;
 mod known_possible;
 mod laws;
@@ -42,23 +43,23 @@ mod shown_needs;
 mod table;
 mod text;
 
-pub use admission_text::{Subject, answer_text};
+pub use admission_text::{Subject, answer_text, sentence};
 pub use asked_key::{login_algorithm, stand_in};
 pub use codes::{
     body_codes, cause_code, cause_codes, cert_codes, fault_codes, line_code, line_codes,
     reason_code, reason_codes,
 };
-pub use dates::moment_text;
+pub use dates::{date_text, moment_text, push_moment};
 pub use decision_text::{carried_word, rights_lines, sshsig_response};
 pub use escaped::{EscapedPiece, PIECE_LIMIT, push_json_text, push_shown};
 pub use explaining::{ExplainError, Row, explain, explain_all, row_of};
+pub use fingerprint_key::{absent_text, find_key};
 pub use host_otherwise::other_host;
-pub use otherwise::{Otherwise, nothing_other, other_login};
+pub use otherwise::{Otherwise, nothing_other, other_login, other_untold};
 pub use response::{
     DONE, FAULT, HexPiece, Response, audit_fault, decision_response, fault_response, file_fault,
     usage_fault, value_fault, vouch_fault,
 };
-pub use show_key::date_text;
 pub use showing::{OfferedKey, ShowError, ShowKind, read_offer, show, show_fault, show_kind};
 pub use text::{
     Part, Text, push_escaped, push_hex, push_number, push_number_line, push_text_line,

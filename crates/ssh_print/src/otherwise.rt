@@ -8,13 +8,13 @@ ghost use Rattle.ssh_keys.specs.PublicKey.{kind_of};
 ghost use Rattle.ssh_findings.specs.OpenSsh.{has_plain_principals};
 ghost use Rattle.ssh_offers.specs.LoginClaim.{login_claim};
 ghost use Rattle.ssh_offers.specs.Query.{login_of};
-ghost use Rattle.ssh_print.specs.OtherLines.{ground_text, decides_line, decides_lines, decides_words, deeper_rights, grounds_text, ignored_at, ignored_other, login_other, line_word, may_words, more_line, nothing_other, order_word, other_both, other_cause, other_login, otherwise_seen, told_other, possible_line, possible_other, possible_text, principals_word, refused_lines, refused_other, then_lines};
+ghost use Rattle.ssh_print.specs.OtherLines.{ground_text, decides_line, decides_lines, decides_words, deeper_rights, grounds_text, ignored_at, ignored_other, login_other, line_word, may_words, more_line, nothing_other, order_word, other_both, other_cause, other_login, otherwise_seen, told_other, possible_line, possible_other, possible_text, principals_word, refused_lines, refused_other, then_lines, untold_other};
 
 use crate::admission_text::Subject;
 use crate::asked_key::{Admitting, first_line};
 use crate::decision_text::rights_lines;
 use crate::details::login_details;
-use crate::possible::{WhyPossible, possible_lines};
+use crate::possible::{WhyPossible, possible_lines, untold_lines};
 use crate::shown_needs::is_security_key;
 use crate::text::push_number;
 use ssh_findings::{Facts, Ground, has_ground, may_refuse};
@@ -449,4 +449,20 @@ pub fn other_login(
             Ok(other)
         }
     }
+}
+
+/// What is printed after a denial of a key that no line of an authorized_keys file holds: the first
+/// 100 lines by which OpenSSH may admit any key, since they cannot be read here and no key was
+/// recovered from them.
+#[tactic(auto, unfolding(crate::specs::OtherLines::untold_other))]
+pub fn other_untold(alloc: Global, file: &[u8]) -> Result<Otherwise, AllocError>
+    ensures { IfOk result (λ other. otherwise_seen other ≡ untold_other file.now) }
+{
+    let lines = untold_lines(alloc, file)?;
+    let mut text = Vec::new(alloc);
+    push_possible_text(alloc, &mut text, Subject::Client, false, &lines)?;
+    Ok(Otherwise {
+        may_admit: lines.len() > 0,
+        text,
+    })
 }

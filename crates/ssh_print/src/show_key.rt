@@ -52,7 +52,7 @@ fn clock_text(alloc: Global, shown: DateTime) -> Result<Vec<u8>, AllocError>
 
 /// The date of a time in seconds since 1970-01-01 UTC, in the form `YYYY-MM-DDTHH:MM:SSZ`; `-`
 /// after the year 9999.
-pub fn date_text(alloc: Global, moment: u64) -> Result<Vec<u8>, AllocError>
+pub(crate) fn utc_date(alloc: Global, moment: u64) -> Result<Vec<u8>, AllocError>
     ensures { IfOk result (λ text. IsDateText moment text.items) }
 {
     match clock_at(moment) {

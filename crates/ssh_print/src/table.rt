@@ -358,7 +358,7 @@ pub(crate) static FINDINGS: [Texts; 22] = [
 ];
 
 /// Faults: `A1` to `A12`, and those of arguments and files, such as `usage`.
-pub(crate) static FAULTS: [Texts; 16] = [
+pub(crate) static FAULTS: [Texts; 17] = [
     (
         "A1",
         "the offered blob is not a key; or it is of a certificate's type, and not a certificate",
@@ -434,6 +434,11 @@ pub(crate) static FAULTS: [Texts; 16] = [
         "vouch",
         "line LINE of the vouch file is not a triple",
         "three hexadecimal fields with one space between each two, and nothing more",
+    ),
+    (
+        "version",
+        "ssh_audit 1.0.0",
+        "a package tells the commit too, in share/doc/ssh-trust-audit/VERSION",
     ),
 ];
 

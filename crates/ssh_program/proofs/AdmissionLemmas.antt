@@ -1,5 +1,6 @@
 -- From what a trust file decides to what a list of them tells, and from that to what is answered about a key.
-use Rattle.ssh_program.proofs.Imports.{ReadToEnd, end-same, left-end, no-end, ◌≡◌, ◌∙◌, ◌<◌, ℕ, false, List, length, Option, Some, None, Result, Ok, Err, refl, sym, ap, subst, inl, inr, IfOk, lt-ltb, IfTells, SourceState, bytes_at, most_failures, after_whole, top_line, FailsLoad, IsLeft, IsTooLong, KeepsOthers, NoReadFailed, within_limit, ReadError, AuditError, Offer, Signature, WrongAlgorithm, WeakSignature, CertSignature, Address, FileTooLong, Memory, Read, Failed, Body, Salts, Signed, GivesOrMemory, OfClaim, RefusesAs, Decision, refused_response, ShowError, Offered, shown_offer_in, IsFaultOfShow, show_fault_response, Finds, line-offered, TellsFile, TellsFiles, KeyAsking, Otherness, IsToldUnread, beside_answer, told_by, told_over, unread_fault, AsksBy, AsksFiles, AsksKey, AsksOffer, ToldLines, told_both, nothing_told, offer_or_fault, or_shown_fault, telling, told_of, told_response, Deciding, answer_by, IsFaultOf, is_memory, Alike, file-alike, keeps-same, left-none, none-failed, one-failed, over_limit, read-all, file_limit, nothing_other}
+use Rattle.ssh_program.proofs.Imports.{ReadToEnd, end-same, left-end, no-end, ◌≡◌, ◌∙◌, ◌<◌, ℕ, false, List, length, Option, Some, None, Result, Ok, Err, refl, sym, ap, subst, inl, inr, IfOk, lt-ltb, IfTells, SourceState, bytes_at, most_failures, after_whole, top_line, FailsLoad, IsLeft, IsTooLong, KeepsOthers, NoReadFailed, within_limit, ReadError, AuditError, Offer, Signature, WrongAlgorithm, WeakSignature, CertSignature, Address, FileTooLong, Memory, Read, Failed, Body, Salts, Signed, GivesOrMemory, OfClaim, RefusesAs, Decision, refused_response, ShowError, Offered, shown_offer_in, IsFaultOfShow, show_fault_response, Finds, line-offered, TellsFile, TellsFiles, KeyAsking, Otherness, IsToldUnread, beside_answer, told_by, told_over, unread_fault, AsksBy, AsksFiles, AsksKey, AsksOffer, ToldLines, told_both, nothing_told, offer_or_fault, or_shown_fault, telling, told_of, told_response, Deciding, answer_by, IsFaultOf, is_memory, Alike, file-alike, keeps-same, left-none, none-failed, one-failed, over_limit, read-all, file_limit, nothing_other, told_alone_by}
+use Rattle.ssh_review.specs.Asked.{Asked}
 use Rattle.ssh_program.specs.declared.admission.AnswerForm.{AnswerForm}
 use Rattle.ssh_files.specs.declared.read.ReadError.TheVariants as fault
 use Rattle.ssh_print.specs.Responses.{Response as Shown}
@@ -77,18 +78,18 @@ file_unread view who by beside evidence name (Some s) t e (Ok r) fails keeps is 
 given-same : (e given : List Signed) → GivesOrMemory (Ok e) (Ok given) → given ≡ e
 given-same e given h = (let same : Ok e ≡ Ok given = h in cc)
 
-asks-told : (who : AnswerForm) (by : Deciding) (beside : Otherness) (rests : Result (List Signed) AuditError) (evidence : List Signed) (names : List (List ℕ)) (s : SourceState) (t : Option SourceState) (told : ToldLines) (r : Shown)
-    → RefusesAs rests (Ok evidence) → OfClaim rests (λ e. GivesOrMemory (Ok e) (Ok evidence)) → r ≡ told_response who (length names) told
-    → TellsFiles told_both (telling who by beside evidence) nothing_told names s t told → AsksBy who by beside rests names s t r
-asks-told who by beside (Err e) evidence names s t told r refused given is h = cc
-asks-told who by beside (Ok e) evidence names s t told r refused given is h =
+asks-told : (who : AnswerForm) (at : Asked) (by : Deciding) (beside : Otherness) (rests : Result (List Signed) AuditError) (evidence : List Signed) (names : List (List ℕ)) (s : SourceState) (t : Option SourceState) (told : ToldLines) (r : Shown)
+    → RefusesAs rests (Ok evidence) → OfClaim rests (λ e. GivesOrMemory (Ok e) (Ok evidence)) → r ≡ told_response who at (length names) told
+    → TellsFiles told_both (telling who by beside evidence) nothing_told names s t told → AsksBy who at by beside rests names s t r
+asks-told who at by beside (Err e) evidence names s t told r refused given is h = cc
+asks-told who at by beside (Ok e) evidence names s t told r refused given is h =
     (told, subst (λ (x : List Signed). TellsFiles told_both (telling who by beside x) nothing_told names s t told) (given-same e evidence given) h, is)
 
-pub asks_told : {R : Type 0} (view : R → Shown) (who : AnswerForm) (by : Deciding) (beside : Otherness) (rests : Result (List Signed) AuditError) (evidence : List Signed) (names : List (List ℕ)) (o t : Option SourceState)
-    (told : ToldLines) (r : R) → RefusesAs rests (Ok evidence) → OfClaim rests (λ e. GivesOrMemory (Ok e) (Ok evidence)) → view r ≡ told_response who (length names) told
-    → IfTells o (λ s. TellsFiles told_both (telling who by beside evidence) nothing_told names s t told) → IfTells o (λ s. AsksBy who by beside rests names s t (view r))
-asks_told view who by beside rests evidence names None t told r refused given is h = tt
-asks_told view who by beside rests evidence names (Some s) t told r refused given is h = λ counts. asks-told who by beside rests evidence names s t told (view r) refused given is (h counts)
+pub asks_told : {R : Type 0} (view : R → Shown) (who : AnswerForm) (at : Asked) (by : Deciding) (beside : Otherness) (rests : Result (List Signed) AuditError) (evidence : List Signed) (names : List (List ℕ)) (o t : Option SourceState)
+    (told : ToldLines) (r : R) → RefusesAs rests (Ok evidence) → OfClaim rests (λ e. GivesOrMemory (Ok e) (Ok evidence)) → view r ≡ told_response who at (length names) told
+    → IfTells o (λ s. TellsFiles told_both (telling who by beside evidence) nothing_told names s t told) → IfTells o (λ s. AsksBy who at by beside rests names s t (view r))
+asks_told view who at by beside rests evidence names None t told r refused given is h = tt
+asks_told view who at by beside rests evidence names (Some s) t told r refused given is h = λ counts. asks-told who at by beside rests evidence names s t told (view r) refused given is (h counts)
 
 err-same : {A B : Type 0} (a b : B) → ◌≡◌ {A = Result A B} (Err a) (Err b) → a ≡ b
 err-same a b h = cc
@@ -107,18 +108,31 @@ never-refused e Failed spared h = cc
 never-refused e (Body x) spared h = cc
 never-refused e Salts spared h = cc
 
-asks-refused : (who : AnswerForm) (by : Deciding) (beside : Otherness) (rests : Result (List Signed) AuditError) (error : AuditError) (names : List (List ℕ)) (s : SourceState) (r : Shown)
+asks-refused : (who : AnswerForm) (at : Asked) (by : Deciding) (beside : Otherness) (rests : Result (List Signed) AuditError) (error : AuditError) (names : List (List ℕ)) (s : SourceState) (r : Shown)
     → RefusesAs {A = List Signed} rests (Err error) → OfClaim rests (λ e. GivesOrMemory (Ok e) (Err error)) → is_memory {A = List Signed} (Err error) ≡ false → r ≡ refused_response error
-    → AsksBy who by beside rests names s (Some s) r
-asks-refused who by beside (Err e) error names s r refused given spared is = (refl, is ∙ ap refused_response (err-same error e refused))
-asks-refused who by beside (Ok e) error names s r refused given spared is = absurd (never-refused e error spared given)
+    → AsksBy who at by beside rests names s (Some s) r
+asks-refused who at by beside (Err e) error names s r refused given spared is = (refl, is ∙ ap refused_response (err-same error e refused))
+asks-refused who at by beside (Ok e) error names s r refused given spared is = absurd (never-refused e error spared given)
 
-pub asks_refused : {R E : Type 0} (view : R → Shown) (who : AnswerForm) (by : Deciding) (beside : Otherness) (rests : Result (List Signed) AuditError) (error : AuditError) (names : List (List ℕ)) (o : Option SourceState) (res : Result R E)
+pub asks_refused : {R E : Type 0} (view : R → Shown) (who : AnswerForm) (at : Asked) (by : Deciding) (beside : Otherness) (rests : Result (List Signed) AuditError) (error : AuditError) (names : List (List ℕ)) (o : Option SourceState) (res : Result R E)
     → RefusesAs {A = List Signed} rests (Err error) → OfClaim rests (λ e. GivesOrMemory (Ok e) (Err error)) → is_memory {A = List Signed} (Err error) ≡ false → IfOk res (λ r. view r ≡ refused_response error)
-    → IfTells o (λ s. IfOk res (λ r. AsksBy who by beside rests names s o (view r)))
-asks_refused view who by beside rests error names None res refused given spared is = tt
-asks_refused view who by beside rests error names (Some s) (Err x) refused given spared is = λ counts. tt
-asks_refused view who by beside rests error names (Some s) (Ok r) refused given spared is = λ counts. asks-refused who by beside rests error names s (view r) refused given spared is
+    → IfTells o (λ s. IfOk res (λ r. AsksBy who at by beside rests names s o (view r)))
+asks_refused view who at by beside rests error names None res refused given spared is = tt
+asks_refused view who at by beside rests error names (Some s) (Err x) refused given spared is = λ counts. tt
+asks_refused view who at by beside rests error names (Some s) (Ok r) refused given spared is = λ counts. asks-refused who at by beside rests error names s (view r) refused given spared is
+
+-- the answer of a file about an offer by itself
+pub alone_told : (who : AnswerForm) (by : Deciding) (beside : Otherness) (rests : Result (List Signed) AuditError) (evidence : List Signed) (name file : List ℕ) (told : ToldLines)
+    → RefusesAs rests (Ok evidence) → OfClaim rests (λ e. GivesOrMemory (Ok e) (Ok evidence)) → told ≡ told_by who by beside evidence name file → told ≡ told_alone_by who by beside rests name file
+alone_told who by beside (Err e) evidence name file told refused given is = cc
+alone_told who by beside (Ok e) evidence name file told refused given is = is ∙ ap (λ (x : List Signed). told_by who by beside x name file) (given-same e evidence given)
+
+-- or the refusal of the offer
+pub alone_refused : (who : AnswerForm) (by : Deciding) (beside : Otherness) (rests : Result (List Signed) AuditError) (error : AuditError) (name file : List ℕ) (told : ToldLines)
+    → RefusesAs {A = List Signed} rests (Err error) → OfClaim rests (λ e. GivesOrMemory (Ok e) (Err error)) → is_memory {A = List Signed} (Err error) ≡ false
+    → told ≡ told_of who name nothing_other (Err error) → told ≡ told_alone_by who by beside rests name file
+alone_refused who by beside (Err e) error name file told refused given spared is = is ∙ ap (λ (x : AuditError). told_of who name nothing_other (Err x)) (err-same error e refused)
+alone_refused who by beside (Ok e) error name file told refused given spared is = absurd (never-refused e error spared given)
 
 -- ---- the key's file
 

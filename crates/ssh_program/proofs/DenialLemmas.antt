@@ -15,10 +15,10 @@ denied-by claim file line (Ok (Granted n rights reasons evidence)) i cause one a
 denied-by claim file line (Ok (Denied why reasons evidence)) i cause one at is =
     unread_another claim file line why reasons evidence i cause (closed (login_other claim file (Denied why reasons evidence)).may_admit one) at is
 
-pub denied_another : (form : Form) (q : Login) (claim : LoginClaim) (evidence : List Signed) (name file line : List ℕ) (i : ℕ) (cause : LineCause)
-    → login_claim q ≡ Ok claim → status_by (login_asking form q) evidence name file ≡ 1
+pub denied_another : (form : Form) (rule : List ℕ) (q : Login) (claim : LoginClaim) (evidence : List Signed) (name file line : List ℕ) (i : ℕ) (cause : LineCause)
+    → login_claim q ≡ Ok claim → status_by (login_asking form rule q) evidence name file ≡ 1
     → slice_get (lines_of file) i ≡ Some line → auth_line line ≡ Unreadable cause → HoldsAnother line (sought_blob claim)
-denied_another form q claim evidence name file line i cause claimed one at is =
+denied_another form rule q claim evidence name file line i cause claimed one at is =
     denied-by claim file line (answer_by (decided_by login_decision (Ok claim)) file evidence) i cause
     (subst (λ (c : Result LoginClaim AuditError). status_of (outcome_of (beside_answer (other_login c) file (answer_by (decided_by login_decision c) file evidence)) (answer_by (decided_by login_decision c) file evidence)) ≡ 1) claimed one)
     at is

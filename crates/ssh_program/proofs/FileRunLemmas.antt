@@ -1,19 +1,17 @@
 -- A run of `rewrite`, `readable`, `hash` or `review` that ends without a fault printed a file that keeps the decisions, or those
 -- of the entries that are kept, or the reviews of all files.
-use Rattle.ssh_program.proofs.Imports.{◌≡◌, ◌⊎◌, ◌<◌, ◌≤◌, ◌+◌, ◌++◌, ◌∙◌, ◌^◌, cond, ℕ, zero, suc, Bool, true, false, List, [], ◌∷◌, length, take, drop, ◌*◌, ◌/◌, ◌%◌, Option, Some, None, Result, Ok, Err, ap, subst, sym, refl, inl, inr, arith, nat_lt, Row, TimeZone, Response, no_file_response, IfTells, SourceState, bytes_at, most_failures, within_limit, number_below, zone_text, ReadsZone, Request, request_of, Account, WritesResponse, Answers, RespondsBy, request_words, source_of, RespondsTo, given, needed, or_fault, value, value_or, Signed, file_limit, after_whole, salts_or_fault, salts_in, KeepsOthers, NoReadFailed, TellsFile, TellsFiles}
+use Rattle.ssh_program.proofs.Imports.{◌≡◌, ◌<◌, ◌≤◌, ◌+◌, ◌++◌, ◌∙◌, ◌^◌, cond, ℕ, zero, suc, Bool, true, false, List, [], ◌∷◌, length, take, drop, ◌*◌, ◌/◌, ◌%◌, Option, Some, None, Result, Ok, Err, ap, subst, sym, refl, inl, inr, arith, nat_lt, Row, TimeZone, Response, no_file_response, IfTells, SourceState, bytes_at, most_failures, within_limit, number_below, zone_text, ReadsZone, Account, WritesResponse, Answers, RespondsBy, source_of, RespondsTo, given, needed, or_fault, value, value_or, file_limit, after_whole, salts_or_fault, salts_in, KeepsOthers, TellsFile, TellsFiles}
 use Rattle.std.proofs.lemmas.Bool.{ltb-false}
 use Rattle.std.proofs.lemmas.List.{append-nil, append_assoc, length-take-le, length-drop}
 use Rattle.std.specs.List.{AllByRecursion}
-use Rattle.std.specs.Prelude.{◌==◌, min}
+use Rattle.std.specs.Prelude.{◌==◌}
 use Rattle.std.specs.Option.{ok_or}
 use Rattle.std.specs.Simd.{first_chunks}
 use Rattle.ssh_entries.proofs.ByteLemmas.{IsBytes-from_all}
 use Rattle.ssh_entries.specs.Names.{IsTwentyBytes}
 use Rattle.ssh_findings.specs.Codes.{codes_in, default_codes}
 use Rattle.ssh_offers.specs.FirstRefusal.{AreBytes}
-use Rattle.ssh_offers.specs.HostClaim.{HostClaim}
-use Rattle.ssh_offers.specs.LoginClaim.{LoginClaim}
-use Rattle.ssh_rewriting.specs.Answer.{as_hash_error, hash_error_of, hashed, rewritten}
+use Rattle.ssh_rewriting.specs.Answer.{as_hash_error, hashed, rewritten}
 use Rattle.ssh_rewriting.specs.CanonicalFile.{canonical_auth_file, canonical_known_file}
 use Rattle.ssh_rewriting.specs.declared.hash.HashError.{HashError}
 use Rattle.ssh_rewriting.specs.declared.hash.HashError.TheVariants as hashing
@@ -39,17 +37,18 @@ use Rattle.ssh_program.specs.declared.args.ArgName.TheVariants as option
 use Rattle.ssh_program.specs.declared.review.ReviewKind.{ReviewKind}
 use Rattle.ssh_program.specs.declared.review.ReviewKind.TheVariants.{Auth, Known}
 use Rattle.ssh_program.specs.declared.rewriting.NewFile.{NewFile}
-use Rattle.ssh_program.specs.declared.rewriting.NewFile.TheVariants.{CanonicalAuth, CanonicalKnown, HashedKnown, ReadableAuth}
+use Rattle.ssh_program.specs.declared.rewriting.NewFile.TheVariants.{CanonicalAuth, CanonicalKnown, ReadableAuth}
 use Rattle.ssh_program.specs.declared.subcommand.Subcommand.{Subcommand}
 use Rattle.ssh_program.specs.declared.subcommand.Subcommand.TheVariants as command
-use Rattle.ssh_program.specs.FileReviews.{Lines, ReviewsFiles, no_lines, review_of, telling_review, with_file}
-use Rattle.ssh_program.specs.FileRuns.{AnswersHosts, AnswersKept, AnswersLogins, AsksWith, FileHashed, FileReadable, FileRewritten, FilesReviewed, GrantsKept, IsPartOf, KeepsGrants, PrintsReview, PrintsReviews}
-use Rattle.ssh_program.specs.Hashings.{Hashes, RespondsToHash, hashed_over}
+use Rattle.ssh_program.specs.FileReviews.{Lines, ReviewsFiles, kind_name, no_lines, review_of, telling_review, with_file}
+use Rattle.ssh_program.specs.FileRuns.{AnswersHosts, AnswersKept, AnswersLogins, AsksNoKey, AsksWith, FileHashed, FileReadable, FileRewritten, FilesReviewed, GrantsKept, IsPartOf, KeepsGrants, PrintsReview, PrintsReviews}
+use Rattle.ssh_program.specs.Hashings.{Hashes, hashed_over}
 use Rattle.ssh_program.specs.KeyRuns.{AsksOfFiles}
-use Rattle.ssh_program.specs.Rewritings.{RespondsToRewrite, RewritesFile, new_file, new_response, rewrite_kind, rewrite_over}
-use Rattle.ssh_program.specs.Spelled.{RespondsToReview, ReviewAsked, ReviewsInZone, form_of, review_kind_of, review_spelled, usual_minimum}
+use Rattle.ssh_program.specs.KeySeeking.{ReviewsFor}
+use Rattle.ssh_program.specs.Rewritings.{RewritesFile, new_file, new_response, rewrite_kind, rewrite_over}
+use Rattle.ssh_program.specs.Spelled.{ReviewAsked, form_of, review_kind_of, review_spelled, usual_minimum}
 use Rattle.ssh_program.specs.Spelling.{names_needed, names_given}
-use Rattle.ssh_program.specs.Totals.{counted, fault_count, nothing, total_status, with_review}
+use Rattle.ssh_program.specs.Totals.{counted, fault_count, total_status}
 use Rattle.ssh_program.proofs.GrantedRunLemmas.{Answered, IsFaulty, ends-as, fault-faulty, needed-faulty, none-faulty, optional-faulty, or-faulty, responds-to, status-of, step-faulty, value-faulty}
 use Rattle.ssh_program.proofs.SpelledBytes.{ok-same, step-any, step-gives}
 
@@ -267,10 +266,10 @@ hashed-file rows s t r (Ok name) is h done = hashed-salts rows s t r name is (ne
 
 -- ---- `review`: one file
 
-none-counted : (a b : ℕ) → counted a b ≡ 0 → (a ≡ 0) × (b ≡ 0)
+pub none-counted : (a b : ℕ) → counted a b ≡ 0 → (a ≡ 0) × (b ≡ 0)
 none-counted a b h = (omega (arith, h), omega (arith, h))
 
-some-faults : (f : Option FileFault) → fault_count f ≡ 0 → f ≡ None
+pub some-faults : (f : Option FileFault) → fault_count f ≡ 0 → f ≡ None
 some-faults None h = refl
 some-faults (Some f) h = absurd (omega (arith, h))
 
@@ -375,7 +374,7 @@ prints-each asked text before after (name ∷ names) s rest (first, reviewed, wh
 
 -- ---- what the options spell
 
-review-faulty : (rows : List Row) (zone : Option TimeZone) → IsFaulty (review_spelled rows zone)
+pub review-faulty : (rows : List Row) (zone : Option TimeZone) → IsFaulty (review_spelled rows zone)
 unfolding review_spelled
 review-faulty rows zone =
     step-faulty _ _ (value-faulty review_kind_of option.Kind rows) (λ kind.
@@ -386,10 +385,10 @@ review-faulty rows zone =
     step-faulty _ _ (optional-faulty Text form_of option.Form rows) (λ form.
     step-faulty _ _ (or-faulty (names_given rows) _ refl) (λ names. none-faulty _)))))))
 
-abbrev IsNamed : List Row → ReviewAsked → Type 0
+abbrev pub IsNamed : List Row → ReviewAsked → Type 0
 IsNamed rows a = names_needed rows ≡ Ok a.names
 
-review-names : (rows : List Row) (zone : Option TimeZone) (a : ReviewAsked) → review_spelled rows zone ≡ Ok a → IsNamed rows a
+pub review-names : (rows : List Row) (zone : Option TimeZone) (a : ReviewAsked) → review_spelled rows zone ≡ Ok a → IsNamed rows a
 unfolding review_spelled
 review-names rows zone =
     step-any (IsNamed rows) (value review_kind_of option.Kind rows) _ (λ kind.
@@ -411,17 +410,17 @@ faultless total few = by (nat_lt 0 total.faults) refl few
     by false is few = let none = ltb-false 0 total.faults is in omega (arith, none)
 
 review-of : (asked : ReviewAsked) (s : SourceState) (t : Option SourceState) (r : Response) → s.failures + length asked.names < most_failures
-    → ReviewsFiles asked.kind asked.form asked.asking asked.names s t r → r.status < 2 → PrintsReviews asked r.text asked.names s
+    → ReviewsFiles asked.kind asked.form asked.rule asked.asking asked.names s t r → r.status < 2 → PrintsReviews asked r.text asked.names s
 review-of asked s t r room (told, chain, is) few =
     let status = status-of r _ is in
     let none = faultless told.total (omega (arith, status, few)) in
     let (rest, printed, each) = each-reviewed asked no_lines asked.names s t told room chain none in
-    let whole : r.text ≡ [] ++ (rest ++ total_line asked.form told.total) = ap (λ (x : Response). x.text) is ∙ ap (λ (x : List ℕ). x ++ total_line asked.form told.total) printed.text in
-    prints-each asked r.text [] (total_line asked.form told.total) asked.names s rest each whole
+    let whole : r.text ≡ [] ++ (rest ++ total_line asked.form (kind_name asked.kind) asked.rule asked.asking told.total) = ap (λ (x : Response). x.text) is ∙ ap (λ (x : List ℕ). x ++ total_line asked.form (kind_name asked.kind) asked.rule asked.asking told.total) printed.text in
+    prints-each asked r.text [] (total_line asked.form (kind_name asked.kind) asked.rule asked.asking told.total) asked.names s rest each whole
 
 reviewed-in : (rows : List Row) (names : List (List ℕ)) (zone : Option TimeZone) (s : SourceState) (t : Option SourceState) (r : Response) → names_needed rows ≡ Ok names
     → s.failures + length names < most_failures → ReadsZone (zone_text (given option.Zone rows)) zone
-    → (x : Result ReviewAsked Response) → review_spelled rows zone ≡ x → RespondsTo (λ q. ReviewsFiles q.kind q.form q.asking q.names) x s t r → r.status < 2 → FilesReviewed rows s r
+    → (x : Result ReviewAsked Response) → review_spelled rows zone ≡ x → RespondsTo (λ q. ReviewsFor None q.kind q.form q.rule q.asking q.names) x s t r → r.status < 2 → FilesReviewed rows s r
 reviewed-in rows names zone s t r named room read (Err fault) spelled (unfailed, is) few =
     let two = review-faulty rows zone fault spelled in
     let same = status-of r fault is in
@@ -438,7 +437,7 @@ reviewed-in rows names zone s t r named room read (Ok a) spelled h few =
 
 -- ---- a run
 
-asked-run : (subcommand : Subcommand) (words : List (List ℕ)) (s : SourceState) (t : Option SourceState) (r : Response) (rows : List Row) → AsksWith subcommand words s rows
+pub asked-run : (subcommand : Subcommand) (words : List (List ℕ)) (s : SourceState) (t : Option SourceState) (r : Response) (rows : List Row) → AsksWith subcommand words s rows
     → Answers words s t r → r.status < 2 → RespondsBy (Some (record { subcommand = subcommand; rows = rows })) (source_of words s) t r
 asked-run subcommand words s t r rows asks = responds-to words (Some (record { subcommand = subcommand; rows = rows })) s t r asks
 
@@ -469,16 +468,17 @@ file_hashed_run words (Some s) t old new status h = λ room rows asks is.
     let by = asked-run command.Hash words s t r rows asks answers (omega (arith, done)) in
     (r, hashed-file rows (source_of words s) t r (needed option.File rows) refl by done, writes)
 
-few-as : (old new : Option Account) (r : Response) (status : ℕ) → WritesResponse old new r status → status < 2 → r.status < 2
+pub few-as : (old new : Option Account) (r : Response) (status : ℕ) → WritesResponse old new r status → status < 2 → r.status < 2
 few-as old new r status (inl (taken, same)) few = omega (arith, same, few)
 few-as old new r status (inr (broken, two)) few = absurd (omega (arith, two, few))
 
 pub files_reviewed_run : (words : List (List ℕ)) (o t : Option SourceState) (old new : Option Account) (status : ℕ) → IfTells o (Answered words t old new status)
-    → IfTells o (λ s. (rows : List Row) (names : List (List ℕ)) → AsksOfFiles command.Review words s rows names → status < 2
+    → IfTells o (λ s. (rows : List Row) (names : List (List ℕ)) → AsksOfFiles command.Review words s rows names → AsksNoKey rows → status < 2
     → (r : Response) × FilesReviewed rows (source_of words s) r × WritesResponse old new r status)
 files_reviewed_run words None t old new status h = tt
-files_reviewed_run words (Some s) t old new status h = λ room rows names asks is.
+files_reviewed_run words (Some s) t old new status h = λ room rows names asks no_key is.
     let (r, answers, writes) = h room in
     let few = few-as old new r status writes is in
     let (zone, read, by) = asked-run command.Review words s t r rows asks.request answers few in
-    (r, reviewed-in rows names zone (source_of words s) t r asks.named asks.room read (review_spelled rows zone) refl by few, writes)
+    let whole = subst (λ (k : Option (List ℕ)). RespondsTo (λ q. ReviewsFor k q.kind q.form q.rule q.asking q.names) (review_spelled rows zone) (source_of words s) t r) no_key by in
+    (r, reviewed-in rows names zone (source_of words s) t r asks.named asks.room read (review_spelled rows zone) refl whole few, writes)

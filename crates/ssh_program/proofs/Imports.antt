@@ -52,6 +52,7 @@ pub use Rattle.ssh_print.proofs.DenialLemmas.{unread_another}
 pub use Rattle.ssh_print.proofs.TopLineLemmas.{line-offered, line-shown}
 pub use Rattle.ssh_print.specs.DecisionText.{evidence_line, evidence_from}
 pub use Rattle.ssh_print.specs.Denials.{HoldsAnother}
+pub use Rattle.ssh_print.specs.FingerprintKeys.{found_key, offered_key}
 pub use Rattle.ssh_print.specs.Explaining.{code_line, first_unknown_code}
 pub use Rattle.ssh_print.specs.Offering.{Offered, shown_offer_in}
 pub use Rattle.ssh_print.specs.OtherLines.{nothing_other, login_other, other_login}
@@ -88,7 +89,11 @@ pub use Rattle.ssh_program.specs.GrantedRuns.{AsksFor, TellsHost, TellsLogin}
 pub use Rattle.ssh_program.specs.Granting.{HostDenied, HostGranted, LoginDenied, LoginGranted, TrustsBytes, HostHeard, LoginHeard}
 pub use Rattle.ssh_program.specs.Hashings.{Hashes, HashesBy, IsHashFault, hash_response, hashed_over, salts_in, salts_or_fault}
 pub use Rattle.ssh_program.specs.Hosts.{RespondsToHostKey, RespondsToHost}
-pub use Rattle.ssh_program.specs.Keys.{login_asking, host_asking, AdmitsInZone}
+pub use Rattle.ssh_program.specs.Clients.{ClientOptions, client_asks, client_form, client_login, client_spelled, login_asking, login_with}
+pub use Rattle.ssh_program.specs.ClientView.{client_seen}
+pub use Rattle.ssh_program.specs.Fingerprints.{AsksFingerprint, AsksFound, IsUnreadFile, fingerprint_telling, fingerprint_told, told_absent, told_alone, told_alone_by, told_fault, told_found}
+pub use Rattle.ssh_program.specs.KeyPlaces.{key_place, key_place_by}
+pub use Rattle.ssh_program.specs.Keys.{host_asking, AdmitsAt, AdmitsInZone, FingerprintAsked}
 pub use Rattle.ssh_program.specs.Logins.{RespondsInZone, RespondsToLogin}
 pub use Rattle.ssh_program.specs.Options.{subcommand_name, option_word, subcommand_named, subcommands, names_id}
 pub use Rattle.ssh_program.specs.Printing.{Breaks, TakesUpTo, TakesAll, WritesResponse}
@@ -108,7 +113,7 @@ pub use Rattle.ssh_program.specs.TextsView.{places_seen}
 pub use Rattle.ssh_program.specs.Usage.{usage_line, usage_option}
 pub use Rattle.ssh_program.specs.VouchLines.{HasBytes, vouch_file, vouch_line}
 pub use Rattle.ssh_program.specs.Vouchings.{ByVouching, VouchesFor, again_in}
-pub use Rattle.ssh_program.specs.ArgsSamples.{hosts_asked, keys_asked, logins_asked, others_asked, reviews_asked, texts_are_asked, usage_told, words_refused}
+pub use Rattle.ssh_program.specs.ArgsSamples.{hosts_asked, key_places_asked, keys_asked, logins_asked, others_asked, reviews_asked, texts_are_asked, usage_told, words_refused}
 pub use Rattle.ssh_program.specs.ArgsView.{rows_in, request_in_memory, IfAnswered, FaultIs, Parses}
 pub use Rattle.ssh_program.specs.declared.args.ArgName.{ArgName}
 pub use Rattle.ssh_program.specs.declared.args.ArgName.TheVariants.{Zone, Kind}

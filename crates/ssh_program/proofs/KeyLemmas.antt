@@ -1,29 +1,14 @@
 -- From the values of the options of `admits` and `trusts` and the answers of the files, to the response.
-use Rattle.ssh_program.proofs.Imports.{◌≡◌, ℕ, [], List, Option, Ok, refl, ◌^◌, Row, TimeZone, EmptyPrincipals, Any, empty_principals_of, number_below, short_bytes, Offered, login_algorithm, stand_in, given, names_needed, needed, or_fault, usual_port, value, value_or, KeyAsking, host_asking, login_asking}
+use Rattle.ssh_program.proofs.Imports.{◌≡◌, ℕ, [], List, Option, Ok, refl, ◌^◌, Row, TimeZone, EmptyPrincipals, Any, empty_principals_of, number_below, short_bytes, ClientOptions, client_asks, Offered, stand_in, given, names_needed, needed, or_fault, usual_port, value, value_or, zone_text, KeyAsking, host_asking}
 use Rattle.ssh_review.specs.declared.end.Form.{Form}
 use Rattle.ssh_review.specs.declared.end.Form.TheVariants.{Text}
 use Rattle.ssh_program.specs.declared.args.ArgName.TheVariants as option
 use Rattle.ssh_program.specs.Spelled.{form_of}
-use Rattle.ssh_program.specs.Keys.{admits_spelled, trusts_spelled}
+use Rattle.ssh_program.specs.Clients.{client_spelled}
+use Rattle.ssh_program.specs.FingerprintValues.{fingerprint_bytes}
+use Rattle.ssh_program.specs.Keys.{admits_spelled, fingerprint_spelled, trusts_spelled}
 
--- the login that is asked about what is offered
-abbrev pub client_asks : (user : List ℕ) (host : Option (List ℕ)) (address : List ℕ) (now : ℕ) (zone : TimeZone) (empty : EmptyPrincipals) (bits : ℕ) (form : Form) → Offered → KeyAsking
-client_asks user host address now zone empty bits form o = login_asking form (record {
-  offered = o.blob;
-  signature = stand_in o.kind;
-  algorithm = login_algorithm o.kind o.is_certificate;
-  session = [];
-  user = user;
-  host = host;
-  address = address;
-  now = now;
-  zone = zone;
-  empty_principals = empty;
-  rsa_minimum = bits;
-})
-
-pub admits_is_spelled : (rows : List Row) (told : Option TimeZone) (key user : List ℕ) (now : ℕ) (zone : TimeZone) (empty : EmptyPrincipals) (bits : ℕ) (form : Form) (address : List ℕ) (names : List (List ℕ)) (host : Option (List ℕ))
-    → needed option.Key rows ≡ Ok key
+pub client_is_spelled : (rows : List Row) (told : Option TimeZone) (user : List ℕ) (now : ℕ) (zone : TimeZone) (empty : EmptyPrincipals) (bits : ℕ) (form : Form) (address : List ℕ) (host : Option (List ℕ)) (rule : List ℕ)
     → value short_bytes option.User rows ≡ Ok user
     → value (number_below (2 ^ 64)) option.Now rows ≡ Ok now
     → or_fault option.Zone told ≡ Ok zone
@@ -31,11 +16,23 @@ pub admits_is_spelled : (rows : List Row) (told : Option TimeZone) (key user : L
     → value_or 0 (number_below (2 ^ 32)) option.RsaMinimum rows ≡ Ok bits
     → value_or Text form_of option.Form rows ≡ Ok form
     → needed option.Address rows ≡ Ok address
-    → names_needed rows ≡ Ok names
     → host ≡ given option.Host rows
-    → admits_spelled rows told ≡ Ok (record { key = key; names = names; asks = client_asks user host address now zone empty bits form })
+    → rule ≡ zone_text (given option.Zone rows)
+    → client_spelled rows told ≡ Ok (record { user = user; host = host; address = address; now = now; zone = zone; rule = rule; empty_principals = empty; rsa_minimum = bits; form = form })
+unfolding client_spelled
+client_is_spelled rows told user now zone empty bits form address host rule a b c d e f g h i = rw (h, i, a, b, c, d, e, f, g) refl
+
+pub admits_is_spelled : (rows : List Row) (told : Option TimeZone) (key : List ℕ) (client : ClientOptions) (names : List (List ℕ))
+    → needed option.Key rows ≡ Ok key → client_spelled rows told ≡ Ok client → names_needed rows ≡ Ok names
+    → admits_spelled rows told ≡ Ok (record { key = key; names = names; asks = client_asks client })
 unfolding admits_spelled
-admits_is_spelled rows told key user now zone empty bits form address names host a b c d e f g h i j = rw (j, a, b, c, d, e, f, g, h, i) refl
+admits_is_spelled rows told key client names a b c = rw (a, b, c) refl
+
+pub fingerprint_is_spelled : (rows : List Row) (told : Option TimeZone) (digest : List ℕ) (client : ClientOptions) (names : List (List ℕ))
+    → value fingerprint_bytes option.Fingerprint rows ≡ Ok digest → client_spelled rows told ≡ Ok client → names_needed rows ≡ Ok names
+    → fingerprint_spelled rows told ≡ Ok (record { digest = digest; names = names; client = client })
+unfolding fingerprint_spelled
+fingerprint_is_spelled rows told digest client names a b c = rw (a, b, c) refl
 
 abbrev pub host_asks : (host : List ℕ) (port now : ℕ) (empty : EmptyPrincipals) (bits : ℕ) (form : Form) → Offered → KeyAsking
 host_asks host port now empty bits form o = host_asking form (record {

@@ -1,10 +1,9 @@
 -- A run of `admits` or `trusts` that ends with status 0 has a line that lets the key in, and one that ends with status 1 has none.
-use Rattle.ssh_program.proofs.Imports.{◌≡◌, ◌⊎◌, ◌<◌, ◌≤◌, ◌+◌, ◌∙◌, ◌^◌, cond, ℕ, Bool, true, false, List, [], ◌∷◌, length, Option, Some, None, Result, Ok, Err, ap, subst, sym, refl, inl, inr, arith, nat_lt, Row, TimeZone, Any, HostCheck, Response, IfTells, SourceState, bytes_at, most_failures, within_limit, empty_principals_of, number_below, zone_text, ReadsZone, ArgName, Request, request_of, Account, WritesResponse, Answers, RespondsBy, request_words, source_of, RespondsTo, given, needed, or_fault, value, value_or, Signed, file_limit, AuditError, FileTooLong, Read, Rights, Reason, Cause, Decision, Granted, Denied, LoginMeans, HostMeans, login_means, host_means, login_claim, host_claim, KeepsOthers, NoReadFailed, TellsFile, TellsFiles, KeyAsking, AsksBy, AsksFiles, AsksOffer, AsksKey, offer_or_fault, or_shown_fault, telling, told_both, nothing_told, ToldLines, status_of, outcome_of, denied_outcome, login_asking, host_asking}
+use Rattle.ssh_program.proofs.Imports.{◌≡◌, ◌⊎◌, ◌<◌, ◌≤◌, ◌+◌, ◌∙◌, ◌^◌, cond, ℕ, Bool, true, false, List, [], ◌∷◌, length, Option, Some, None, Result, Ok, Err, ap, subst, sym, refl, inl, inr, arith, nat_lt, Row, TimeZone, Any, HostCheck, Response, IfTells, SourceState, bytes_at, most_failures, within_limit, empty_principals_of, number_below, zone_text, ReadsZone, Account, source_of, RespondsTo, given, needed, value, value_or, Signed, file_limit, AuditError, FileTooLong, Decision, Granted, Denied, LoginMeans, HostMeans, login_means, host_means, login_claim, host_claim, KeepsOthers, NoReadFailed, TellsFile, TellsFiles, KeyAsking, AsksBy, AsksFiles, AsksOffer, AsksKey, offer_or_fault, or_shown_fault, telling, told_both, nothing_told, ToldLines, status_of, outcome_of, denied_outcome, login_asking, host_asking, AdmitsAt, client_login, key_place_by}
 use Rattle.ssh_offers.specs.Query.{Login as LoginAsked}
 use Rattle.ssh_offers.specs.LoginClaim.{LoginClaim}
 use Rattle.ssh_offers.specs.HostClaim.{HostClaim}
 use Rattle.ssh_offers.specs.Evidence.{host_evidence, login_evidence}
-use Rattle.ssh_offers.specs.FirstRefusal.{AreBytes}
 use Rattle.ssh_entries.specs.AuthEntry.{AuthEntry}
 use Rattle.ssh_entries.specs.KnownEntry.{KnownEntry}
 use Rattle.ssh_trust.specs.LoginDecision.{IsGrant, login_decision}
@@ -17,21 +16,24 @@ use Rattle.ssh_program.specs.declared.admission.AnswerForm.{AnswerForm}
 use Rattle.ssh_review.specs.declared.end.Form.{Form}
 use Rattle.ssh_review.specs.declared.end.Form.TheVariants.{Text}
 use Rattle.ssh_program.specs.Spelled.{form_of}
+use Rattle.ssh_program.specs.Clients.{client_spelled}
 use Rattle.ssh_print.specs.declared.showing.ShowError.{ShowError}
 use Rattle.ssh_print.specs.declared.showing.ShowError.TheVariants as shown
 use Rattle.ssh_files.specs.Values.{short_bytes}
 use Rattle.ssh_program.specs.declared.admission.Outcome.{Outcome}
 use Rattle.ssh_program.specs.declared.admission.Outcome.TheVariants.{Denies, Opens, Grants, Faulty}
 use Rattle.ssh_program.specs.declared.args.ArgName.TheVariants as option
+use Rattle.ssh_program.specs.declared.args.KeyPlace.TheVariants as place
 use Rattle.ssh_program.specs.declared.subcommand.Subcommand.TheVariants.{Admits, Trusts}
 use Rattle.ssh_files.specs.FilesInTurn.{Telling}
 use Rattle.ssh_program.specs.Admissions.{Otherness, and_then, beside_answer}
 use Rattle.ssh_program.specs.Audits.{decided_by, evidence_by}
-use Rattle.ssh_program.specs.KeyRuns.{AsksOfFiles, ClientAdmitted, ClientAsked, ClientKeptOut, DistrustsKey, EachFile, HostAsked, HostDistrusted, HostTrusted, KeepsOut, LetsIn, SomeFile, TrustsKey}
-use Rattle.ssh_program.specs.Keys.{KeyAsked, RespondsToAdmits, RespondsToTrusts, admits_spelled, trusts_spelled}
+use Rattle.ssh_review.specs.Asked.{Asked as AskedTime}
+use Rattle.ssh_program.specs.KeyRuns.{AsksByKey, AsksOfFiles, ClientAdmitted, ClientAsked, ClientKeptOut, DistrustsKey, EachFile, HostAsked, HostDistrusted, HostTrusted, KeepsOut, LetsIn, SomeFile, TrustsKey}
+use Rattle.ssh_program.specs.Keys.{KeyAsked, admits_spelled, trusts_spelled}
 use Rattle.ssh_program.specs.Spelling.{names_needed, names_given, usual_port}
 use Rattle.ssh_program.proofs.GrantedRunLemmas.{Answered, IsFaulty, ends-as, err-same, fault-faulty, needed-faulty, none-faulty, optional-faulty, or-faulty, responds-to, status-of, step-faulty, value-faulty}
-use Rattle.ssh_program.proofs.SpelledBytes.{Gives, ok-same, step-any, step-gives}
+use Rattle.ssh_program.proofs.SpelledBytes.{ok-same, step-any, step-gives}
 
 -- ---- what files come to
 
@@ -56,23 +58,23 @@ after-denies Grants Opens h = cc
 after-denies Grants Faulty h = cc
 after-denies Grants Grants h = cc
 
-status-grants : (o : Outcome) → status_of o ≡ 0 → o ≡ Grants
+pub status-grants : (o : Outcome) → status_of o ≡ 0 → o ≡ Grants
 status-grants Grants h = refl
 status-grants Denies h = absurd (omega (arith, h))
 status-grants Opens h = absurd (omega (arith, h))
 status-grants Faulty h = absurd (omega (arith, h))
 
-status-denies : (o : Outcome) → status_of o ≡ 1 → o ≡ Denies
+pub status-denies : (o : Outcome) → status_of o ≡ 1 → o ≡ Denies
 status-denies Denies h = refl
 status-denies Grants h = absurd (omega (arith, h))
 status-denies Opens h = absurd (omega (arith, h))
 status-denies Faulty h = absurd (omega (arith, h))
 
 -- what a file tells is a fault, if there is none, or if its read failed; and of a file with this outcome this holds
-record Tells (tells : Telling ToldLines) (o : Outcome) (P : List ℕ → Type 0) : Type 0 where
-  fault : (name : List ℕ) → (tells.of_fault name).outcome ≡ o → ⊥
-  none : (name : List ℕ) → (tells.of_bytes name None).outcome ≡ o → ⊥
-  some : (name file : List ℕ) → (tells.of_bytes name (Some file)).outcome ≡ o → P file
+pub record Tells (tells : Telling ToldLines) (o : Outcome) (P : List ℕ → Type 0) : Type 0 where
+  pub fault : (name : List ℕ) → (tells.of_fault name).outcome ≡ o → ⊥
+  pub none : (name : List ℕ) → (tells.of_bytes name None).outcome ≡ o → ⊥
+  pub some : (name file : List ℕ) → (tells.of_bytes name (Some file)).outcome ≡ o → P file
 
 abbrev HasFile : (List ℕ → Type 0) → List ℕ → SourceState → Type 0
 HasFile P name s = (file : List ℕ) × (bytes_at s name ≡ Some file) × P file
@@ -92,7 +94,7 @@ few-failures : (tells : Telling ToldLines) (name : List ℕ) (s m : SourceState)
 few-failures tells name s m first (keeps, inl (failed, is)) = let one : m.failures ≡ s.failures + 1 = failed.0 in omega (arith, one)
 few-failures tells name s m first (keeps, inr (unfailed, end, is)) = let same : m.failures ≡ s.failures = unfailed in omega (arith, same)
 
-some-file : (tells : Telling ToldLines) (P : List ℕ → Type 0) → Tells tells Grants P → (sofar : ToldLines) (names : List (List ℕ)) (s : SourceState) (t : Option SourceState) (told : ToldLines)
+pub some-file : (tells : Telling ToldLines) (P : List ℕ → Type 0) → Tells tells Grants P → (sofar : ToldLines) (names : List (List ℕ)) (s : SourceState) (t : Option SourceState) (told : ToldLines)
     → s.failures + length names < most_failures → TellsFiles told_both tells sofar names s t told → told.outcome ≡ Grants → (sofar.outcome ≡ Grants) ⊎ SomeFile P names s
 some-file tells P h sofar [] s t told room (unfailed, is) e = inl (sym (ap (λ (x : ToldLines). x.outcome) is) ∙ e)
 some-file tells P h sofar (name ∷ names) s t told room (m, first, one, more) e =
@@ -107,7 +109,7 @@ some-file tells P h sofar (name ∷ names) s t told room (m, first, one, more) e
       | inr later ↦ inr (inr (m, one.0, later))
     ]
 
-each-file : (tells : Telling ToldLines) (P : List ℕ → Type 0) → Tells tells Denies P → (sofar : ToldLines) (names : List (List ℕ)) (s : SourceState) (t : Option SourceState) (told : ToldLines)
+pub each-file : (tells : Telling ToldLines) (P : List ℕ → Type 0) → Tells tells Denies P → (sofar : ToldLines) (names : List (List ℕ)) (s : SourceState) (t : Option SourceState) (told : ToldLines)
     → s.failures + length names < most_failures → TellsFiles told_both tells sofar names s t told → told.outcome ≡ Denies → (sofar.outcome ≡ Denies) × EachFile P names s
 each-file tells P h sofar [] s t told room (unfailed, is) e = (sym (ap (λ (x : ToldLines). x.outcome) is) ∙ e, tt)
 each-file tells P h sofar (name ∷ names) s t told room (m, first, one, more) e =
@@ -119,7 +121,7 @@ each-file tells P h sofar (name ∷ names) s t told room (m, first, one, more) e
 
 -- ---- what a file decides
 
-not-grants : (b : Bool) → denied_outcome b ≡ Grants → ⊥
+pub not-grants : (b : Bool) → denied_outcome b ≡ Grants → ⊥
 not-grants true h = cc
 not-grants false h = cc
 
@@ -147,13 +149,13 @@ distrust-key claim file other true d h means = cc
 distrust-key claim file other false (Granted line rights reasons evidence) h means = cc
 distrust-key claim file other false (Denied why reasons evidence) h means = means.0
 
-abbrev login-telling : AnswerForm → Otherness → LoginClaim → Telling ToldLines
+abbrev pub login-telling : AnswerForm → Otherness → LoginClaim → Telling ToldLines
 login-telling who beside claim = telling who (decided_by login_decision (Ok claim)) beside (login_evidence claim)
 
 abbrev host-telling : AnswerForm → Otherness → HostClaim → Telling ToldLines
 host-telling who beside claim = telling who (decided_by host_decision (Ok claim)) beside (host_evidence claim)
 
-tells-grants : (who : AnswerForm) (beside : Otherness) (claim : LoginClaim) → Tells (login-telling who beside claim) Grants (LetsIn claim)
+pub tells-grants : (who : AnswerForm) (beside : Otherness) (claim : LoginClaim) → Tells (login-telling who beside claim) Grants (LetsIn claim)
 tells-grants who beside claim = record {
   fault = λ name h. cc;
   none = λ name h. cc;
@@ -164,7 +166,7 @@ tells-grants who beside claim = record {
       let-in claim file (beside_answer beside file in_full) long d h (login_means file claim (login_evidence claim) bytes);
 }
 
-tells-denies : (who : AnswerForm) (beside : Otherness) (claim : LoginClaim) → Tells (login-telling who beside claim) Denies (KeepsOut claim)
+pub tells-denies : (who : AnswerForm) (beside : Otherness) (claim : LoginClaim) → Tells (login-telling who beside claim) Denies (KeepsOut claim)
 tells-denies who beside claim = record {
   fault = λ name h. cc;
   none = λ name h. cc;
@@ -208,11 +210,11 @@ record Asked {C : Type 0} (claimed : Result C AuditError) (who : AnswerForm) (de
   chain : TellsFiles told_both (telling who (decided_by decision (Ok claim)) beside (evidence claim)) nothing_told names s t told
   status : status_of told.outcome ≡ r.status
 
-asked-by : {C : Type 0} (claimed : Result C AuditError) (who : AnswerForm) (decision : List ℕ → C → List Signed → Decision) (evidence : C → List Signed) (beside : Otherness)
+asked-by : {C : Type 0} (claimed : Result C AuditError) (who : AnswerForm) (at : AskedTime) (decision : List ℕ → C → List Signed → Decision) (evidence : C → List Signed) (beside : Otherness)
     (names : List (List ℕ)) (s : SourceState) (t : Option SourceState) (r : Response)
-    → AsksBy who (decided_by decision claimed) beside (evidence_by evidence claimed) names s t r → r.status < 2 → Asked claimed who decision evidence beside names s t r
-asked-by (Err e) who decision evidence beside names s t r (unfailed, is) few = let two = status-of r _ is in absurd (omega (arith, two, few))
-asked-by (Ok claim) who decision evidence beside names s t r (told, chain, is) few = record { claim = claim; is = refl; told = told; chain = chain; status = sym (status-of r _ is) }
+    → AsksBy who at (decided_by decision claimed) beside (evidence_by evidence claimed) names s t r → r.status < 2 → Asked claimed who decision evidence beside names s t r
+asked-by (Err e) who at decision evidence beside names s t r (unfailed, is) few = let two = status-of r _ is in absurd (omega (arith, two, few))
+asked-by (Ok claim) who at decision evidence beside names s t r (told, chain, is) few = record { claim = claim; is = refl; told = told; chain = chain; status = sym (status-of r _ is) }
 
 offer-faulty : (key : List ℕ) (o : Option (List ℕ)) → IsFaulty (offer_or_fault key o)
 offer-faulty key None f h = sym (status-of _ f (err-same _ f h))
@@ -250,21 +252,26 @@ offers asks key names s t r (inr (m, keeps, none, end, h)) few = offers-in asks 
 
 -- ---- what the options spell
 
-names-faulty : (rows : List Row) → IsFaulty (names_needed rows)
+pub names-faulty : (rows : List Row) → IsFaulty (names_needed rows)
 names-faulty rows = or-faulty (names_given rows) _ refl
 
-admits-faulty : (rows : List Row) (zone : Option TimeZone) → IsFaulty (admits_spelled rows zone)
-unfolding admits_spelled
-admits-faulty rows zone =
-    step-faulty _ _ (needed-faulty option.Key rows) (λ key.
+pub client-faulty : (rows : List Row) (zone : Option TimeZone) → IsFaulty (client_spelled rows zone)
+unfolding client_spelled
+client-faulty rows zone =
     step-faulty _ _ (value-faulty short_bytes option.User rows) (λ user.
     step-faulty _ _ (value-faulty (number_below (2 ^ 64)) option.Now rows) (λ now.
     step-faulty _ _ (fault-faulty option.Zone zone) (λ zone.
     step-faulty _ _ (optional-faulty Any empty_principals_of option.EmptyPrincipals rows) (λ empty_principals.
     step-faulty _ _ (optional-faulty 0 (number_below (2 ^ 32)) option.RsaMinimum rows) (λ rsa_minimum.
     step-faulty _ _ (optional-faulty Text form_of option.Form rows) (λ form.
-    step-faulty _ _ (needed-faulty option.Address rows) (λ address.
-    step-faulty _ _ (names-faulty rows) (λ names. none-faulty _)))))))))
+    step-faulty _ _ (needed-faulty option.Address rows) (λ address. none-faulty _)))))))
+
+admits-faulty : (rows : List Row) (zone : Option TimeZone) → IsFaulty (admits_spelled rows zone)
+unfolding admits_spelled
+admits-faulty rows zone =
+    step-faulty _ _ (needed-faulty option.Key rows) (λ key.
+    step-faulty _ _ (client-faulty rows zone) (λ client.
+    step-faulty _ _ (names-faulty rows) (λ names. none-faulty _)))
 
 trusts-faulty : (rows : List Row) → IsFaulty (trusts_spelled rows)
 unfolding trusts_spelled
@@ -280,7 +287,7 @@ trusts-faulty rows =
 
 -- the names are those of the options, and of each offer a login is made
 abbrev AsksLogin : List Row → KeyAsked → Type 0
-AsksLogin rows a = (names_needed rows ≡ Ok a.names) × ((o : Offered) → (form : Form) × (q : LoginAsked) × (q.offered ≡ o.blob) × (a.asks o ≡ login_asking form q))
+AsksLogin rows a = (names_needed rows ≡ Ok a.names) × ((o : Offered) → (form : Form) × (rule : List ℕ) × (q : LoginAsked) × (q.offered ≡ o.blob) × (a.asks o ≡ login_asking form rule q))
 
 abbrev AsksHost : List Row → KeyAsked → Type 0
 AsksHost rows a = (names_needed rows ≡ Ok a.names) × ((o : Offered) → (form : Form) × (q : HostCheck) × (q.offered ≡ o.blob) × (a.asks o ≡ host_asking form q))
@@ -289,15 +296,9 @@ admits-asks : (rows : List Row) (zone : Option TimeZone) (a : KeyAsked) → admi
 unfolding admits_spelled
 admits-asks rows zone =
     step-any (AsksLogin rows) (needed option.Key rows) _ (λ key.
-    step-any (AsksLogin rows) (value short_bytes option.User rows) _ (λ user.
-    step-any (AsksLogin rows) (value (number_below (2 ^ 64)) option.Now rows) _ (λ now.
-    step-any (AsksLogin rows) (or_fault option.Zone zone) _ (λ zone.
-    step-any (AsksLogin rows) (value_or Any empty_principals_of option.EmptyPrincipals rows) _ (λ empty_principals.
-    step-any (AsksLogin rows) (value_or 0 (number_below (2 ^ 32)) option.RsaMinimum rows) _ (λ rsa_minimum.
-    step-any (AsksLogin rows) (value_or Text form_of option.Form rows) _ (λ form.
-    step-any (AsksLogin rows) (needed option.Address rows) _ (λ address.
+    step-any (AsksLogin rows) (client_spelled rows zone) _ (λ client.
     step-gives (λ names. names_needed rows ≡ Ok names) (AsksLogin rows) (names_needed rows) _ (λ names h. h) (λ names is.
-    λ a h. subst (AsksLogin rows) (ok-same {A = KeyAsked} {B = Response} _ a h) (is, λ o. (form, _, refl, refl)))))))))))
+    λ a h. subst (AsksLogin rows) (ok-same {A = KeyAsked} {B = Response} _ a h) (is, λ o. (client.form, client.rule, client_login client o, refl, refl)))))
 
 trusts-asks : (rows : List Row) (a : KeyAsked) → trusts_spelled rows ≡ Ok a → AsksHost rows a
 unfolding trusts_spelled
@@ -311,6 +312,22 @@ trusts-asks rows =
     step-any (AsksHost rows) (needed option.Host rows) _ (λ host.
     step-gives (λ names. names_needed rows ≡ Ok names) (AsksHost rows) (names_needed rows) _ (λ names h. h) (λ names is.
     λ a h. subst (AsksHost rows) (ok-same {A = KeyAsked} {B = Response} _ a h) (is, λ o. (form, _, refl, refl))))))))))
+
+-- ---- which option gives the key
+
+-- the key's file, where no fingerprint is given
+by-file : (rows : List Row) (zone : Option TimeZone) (key fingerprint : Option (List ℕ)) (s : SourceState) (t : Option SourceState) (r : Response) → fingerprint ≡ None
+    → RespondsTo (AdmitsAt rows zone) (key_place_by key fingerprint) s t r → r.status < 2 → AdmitsAt rows zone place.File s t r
+by-file rows zone (Some key) None s t r alone h few = h
+by-file rows zone None None s t r alone h few = let two = status-of r _ h.1 in absurd (omega (arith, two, few))
+by-file rows zone key (Some text) s t r alone h few = cc
+
+-- the fingerprint, where no key's file is given
+pub by-fingerprint : (rows : List Row) (zone : Option TimeZone) (key fingerprint : Option (List ℕ)) (s : SourceState) (t : Option SourceState) (r : Response) → key ≡ None
+    → RespondsTo (AdmitsAt rows zone) (key_place_by key fingerprint) s t r → r.status < 2 → AdmitsAt rows zone place.Fingerprint s t r
+by-fingerprint rows zone None (Some text) s t r alone h few = h
+by-fingerprint rows zone None None s t r alone h few = let two = status-of r _ h.1 in absurd (omega (arith, two, few))
+by-fingerprint rows zone (Some key) fingerprint s t r alone h few = cc
 
 -- ---- a response to a client's key
 
@@ -335,9 +352,9 @@ client-of rows names zone s t r named read (Err fault) spelled (unfailed, is) fe
 client-of rows names zone s t r named read (Ok a) spelled h few =
     let o = offers a.asks a.key a.names s t r h few in
     let asks = admits-asks rows zone a spelled in
-    let (form, q, blob, is) = asks.1 o.offer in
+    let (form, rule, q, blob, is) = asks.1 o.offer in
     let files = subst (λ (k : KeyAsking). AsksFiles k a.names o.left t r) is o.asked in
-    let by = asked-by (login_claim q) (record { subject = Client; form = form }) login_decision login_evidence (other_login (login_claim q)) a.names o.left t r files few in
+    let by = asked-by (login_claim q) (record { subject = Client; form = form }) (record { now = q.now; zone = Some rule }) login_decision login_evidence (other_login (login_claim q)) a.names o.left t r files few in
     record {
       client = record {
         zone = zone;
@@ -349,6 +366,7 @@ client-of rows names zone s t r named read (Ok a) spelled h few =
         login = q;
         blob = blob;
         form = form;
+        rule = rule;
         asks = is;
         claim = by.claim;
         claimed = by.is;
@@ -364,7 +382,7 @@ client-of rows names zone s t r named read (Ok a) spelled h few =
       status = by.status;
     }
 
-room-left : (s m : SourceState) (names others : List (List ℕ)) → m.failures ≡ s.failures → names ≡ others → s.failures + length others < most_failures → m.failures + length names < most_failures
+pub room-left : (s m : SourceState) (names others : List (List ℕ)) → m.failures ≡ s.failures → names ≡ others → s.failures + length others < most_failures → m.failures + length names < most_failures
 room-left s m names others same is room = let len = ap length is in omega (arith, same, len, room)
 
 client-admitted : (rows : List Row) (names : List (List ℕ)) (s : SourceState) (t : Option SourceState) (r : Response) → s.failures + length names < most_failures
@@ -407,7 +425,7 @@ host-of rows names s t r named (Ok a) spelled h few =
     let asks = trusts-asks rows a spelled in
     let (form, q, blob, is) = asks.1 o.offer in
     let files = subst (λ (k : KeyAsking). AsksFiles k a.names o.left t r) is o.asked in
-    let by = asked-by (host_claim q) (record { subject = Host; form = form }) host_decision host_evidence (other_host (host_claim q)) a.names o.left t r files few in
+    let by = asked-by (host_claim q) (record { subject = Host; form = form }) (record { now = q.now; zone = None }) host_decision host_evidence (other_host (host_claim q)) a.names o.left t r files few in
     record {
       host = record {
         asked = a;
@@ -451,22 +469,24 @@ host-distrusted rows names s t r room c one =
 -- ---- a run
 
 pub client_admitted_run : (words : List (List ℕ)) (o t : Option SourceState) (old new : Option Account) (status : ℕ) → IfTells o (Answered words t old new status)
-    → IfTells o (λ s. (rows : List Row) (names : List (List ℕ)) → AsksOfFiles Admits words s rows names → status ≡ 0 → ClientAdmitted rows (source_of words s))
+    → IfTells o (λ s. (rows : List Row) (names : List (List ℕ)) → AsksByKey words s rows names → status ≡ 0 → ClientAdmitted rows (source_of words s))
 client_admitted_run words None t old new status h = tt
 client_admitted_run words (Some s) t old new status h = λ room rows names asks is.
     let (r, answers, writes) = h room in
     let zero = ends-as 0 (omega arith) old new r status writes is in
-    let (zone, read, by) = responds-to words (Some (record { subcommand = Admits; rows = rows })) s t r asks.request answers (omega (arith, zero)) in
-    client-admitted rows names (source_of words s) t r asks.room (client-of rows names zone (source_of words s) t r asks.named read (admits_spelled rows zone) refl by (omega (arith, zero))) zero
+    let (zone, read, by) = responds-to words (Some (record { subcommand = Admits; rows = rows })) s t r (asks.asks).request answers (omega (arith, zero)) in
+    let file = by-file rows zone (given option.Key rows) (given option.Fingerprint rows) (source_of words s) t r asks.alone by (omega (arith, zero)) in
+    client-admitted rows names (source_of words s) t r (asks.asks).room (client-of rows names zone (source_of words s) t r (asks.asks).named read (admits_spelled rows zone) refl file (omega (arith, zero))) zero
 
 pub client_kept_out_run : (words : List (List ℕ)) (o t : Option SourceState) (old new : Option Account) (status : ℕ) → IfTells o (Answered words t old new status)
-    → IfTells o (λ s. (rows : List Row) (names : List (List ℕ)) → AsksOfFiles Admits words s rows names → status ≡ 1 → ClientKeptOut rows (source_of words s))
+    → IfTells o (λ s. (rows : List Row) (names : List (List ℕ)) → AsksByKey words s rows names → status ≡ 1 → ClientKeptOut rows (source_of words s))
 client_kept_out_run words None t old new status h = tt
 client_kept_out_run words (Some s) t old new status h = λ room rows names asks is.
     let (r, answers, writes) = h room in
     let one = ends-as 1 (omega arith) old new r status writes is in
-    let (zone, read, by) = responds-to words (Some (record { subcommand = Admits; rows = rows })) s t r asks.request answers (omega (arith, one)) in
-    client-kept_out rows names (source_of words s) t r asks.room (client-of rows names zone (source_of words s) t r asks.named read (admits_spelled rows zone) refl by (omega (arith, one))) one
+    let (zone, read, by) = responds-to words (Some (record { subcommand = Admits; rows = rows })) s t r (asks.asks).request answers (omega (arith, one)) in
+    let file = by-file rows zone (given option.Key rows) (given option.Fingerprint rows) (source_of words s) t r asks.alone by (omega (arith, one)) in
+    client-kept_out rows names (source_of words s) t r (asks.asks).room (client-of rows names zone (source_of words s) t r (asks.asks).named read (admits_spelled rows zone) refl file (omega (arith, one))) one
 
 pub host_trusted_run : (words : List (List ℕ)) (o t : Option SourceState) (old new : Option Account) (status : ℕ) → IfTells o (Answered words t old new status)
     → IfTells o (λ s. (rows : List Row) (names : List (List ℕ)) → AsksOfFiles Trusts words s rows names → status ≡ 0 → HostTrusted rows (source_of words s))

@@ -28,17 +28,21 @@ mod LoginLemmas
 mod HostLemmas
 pub mod AdmissionLemmas
 mod KeyLemmas
+mod ByFingerprintLemmas
 mod ExplainLemmas
 mod FileAnswerLemmas
 mod DenialLemmas
 mod FileLemmas
+pub mod KeySeekingLemmas
 pub mod SpelledLemmas
 pub mod SpelledBytes
 pub mod KeyRunLemmas
+pub mod FingerprintRunLemmas
 pub mod SignatureRunLemmas
 mod FileRunLemmas
 mod WordLemmas
 mod ComplaintLemmas
 mod HostPortLemmas
 mod GuidanceLemmas
-mod AddedDateLemmas
+mod FingerprintLemmas
+mod KeyStandingLemmas

@@ -1,14 +1,15 @@
 -- From the responses of the subcommands to the response and output of the program.
-use Rattle.ssh_program.proofs.Imports.{◌≡◌, ◌∙◌, ◌<◌, ℕ, List, [], ◌∷◌, length, map, Option, Some, None, Result, Ok, Err, refl, sym, ap, subst, inl, inr, arith, IfOk, lt-leb, Row, IfTells, SourceState, after_line, first_line, words_in, FailsLine, LoadsLine, ReadError, words_long, response, usage_response, show_kind, CommandError, Usage, Value, Subcommand, Show, Host, Rewrite, Readable, Hash, Admits, Trusts, Review, Explain, Request, request_of, AsksKey, Hashes, RespondsToHostKey, RespondsInZone, RespondsByTexts, text_places, Responds, RespondsBy, RespondsIn, IsUsageOf, RewritesFile, new_file, rewrite_kind, ShowsFile, Signs, IsToldAs, RespondsTo, needed, sshsig_question, value, IfAnswered, Alike, left-alike, none-failed, ReadableAuth}
+use Rattle.ssh_program.proofs.Imports.{◌≡◌, ◌∙◌, ◌<◌, ℕ, List, [], ◌∷◌, length, map, Option, Some, None, Result, Ok, Err, refl, sym, ap, subst, inl, inr, arith, IfOk, lt-leb, Row, IfTells, SourceState, after_line, first_line, words_in, FailsLine, LoadsLine, ReadError, words_long, response, usage_response, show_kind, CommandError, Usage, Value, Subcommand, Show, Host, Rewrite, Readable, Hash, Admits, Trusts, Review, Explain, Request, request_of, AdmitsAt, AsksKey, Hashes, key_place, RespondsToHostKey, RespondsInZone, RespondsByTexts, text_places, Responds, RespondsBy, RespondsIn, IsUsageOf, RewritesFile, new_file, rewrite_kind, ShowsFile, Signs, IsToldAs, RespondsTo, needed, sshsig_question, value, IfAnswered, Alike, left-alike, none-failed, ReadableAuth}
 use Rattle.ssh_files.specs.declared.read.ReadError.TheVariants as fault
 use Rattle.ssh_print.specs.declared.response.Response.{Response as Printed}
 use Rattle.ssh_print.specs.Responses.{Response as Shown}
 use Rattle.ssh_program.specs.declared.command.CommandError.TheVariants.{Memory}
 use Rattle.ssh_program.specs.declared.args.ArgName.TheVariants as option
 use Rattle.ssh_program.specs.declared.subcommand.Subcommand.TheVariants.{Login, Sshsig}
-use Rattle.ssh_program.specs.Keys.{admits_spelled, trusts_spelled}
+use Rattle.ssh_program.specs.Keys.{trusts_spelled}
 use Rattle.ssh_program.proofs.TextLemmas.{host-same, login-same, texts-same}
 use Rattle.ssh_program.proofs.AdmissionLemmas.{key-same}
+use Rattle.ssh_program.proofs.ByFingerprintLemmas.{admits-same}
 use Rattle.ssh_program.proofs.SpelledLemmas.{reviews_same}
 use Rattle.ssh_program.proofs.AnsweredLemmas.{spelled_same}
 use Rattle.ssh_program.proofs.CommandLineLemmas.{no_request}
@@ -42,7 +43,7 @@ subcommand-same Hash rows a b u r e h =
     spelled_same (λ trust. RespondsTo (Hashes trust) (needed option.Salts rows)) (needed option.File rows) a b u r e
     (λ trust. spelled_same (Hashes trust) (needed option.Salts rows) a b u r e (λ salts. hashes-same trust salts a b u r e)) h
 subcommand-same Admits rows a b u r e (zone, read, h) =
-    (zone, read, spelled_same (λ q. AsksKey q.asks q.key q.names) (admits_spelled rows zone) a b u r e (λ q. key-same q.asks q.key q.names a b u r e) h)
+    (zone, read, spelled_same (AdmitsAt rows zone) (key_place rows) a b u r e (λ place. admits-same rows zone place a b u r e) h)
 subcommand-same Trusts rows a b u r e h =
     spelled_same (λ q. AsksKey q.asks q.key q.names) (trusts_spelled rows) a b u r e (λ q. key-same q.asks q.key q.names a b u r e) h
 subcommand-same Review rows a b u r e h = reviews_same rows a b u r e h

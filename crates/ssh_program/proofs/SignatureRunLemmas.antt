@@ -1,5 +1,5 @@
 -- A run of `sshsig` that ends with status 0 or 1 has the answer that is defined, with its meaning.
-use Rattle.ssh_program.proofs.Imports.{◌≡◌, ◌<◌, ◌∙◌, cond, ℕ, List, Option, Some, None, Result, Ok, Err, ap, subst, sym, refl, inl, inr, arith, ok_or, Row, Response, no_file_response, refused_response, usage_response, IfTells, SourceState, bytes_at, within_limit, Request, request_of, Account, WritesResponse, Answers, RespondsBy, request_words, source_of, RespondsTo, Signed, AuditError, vouched_in, after_vouching}
+use Rattle.ssh_program.proofs.Imports.{◌≡◌, ◌<◌, ◌∙◌, ℕ, List, Option, Some, None, Result, Ok, Err, ap, subst, sym, refl, inl, inr, arith, Row, Response, IfTells, SourceState, bytes_at, within_limit, Account, WritesResponse, Answers, source_of, RespondsTo, Signed, AuditError, vouched_in, after_vouching}
 use Rattle.ssh_wire.specs.Reading.{◌>>=◌}
 use Rattle.ssh_keys.specs.PublicKey.{kind_of}
 use Rattle.ssh_keys.specs.Signature.{fit_of}
@@ -17,7 +17,7 @@ use Rattle.ssh_offers.specs.HostClaim.{fitting_test}
 use Rattle.ssh_offers.specs.Refusal.{or_refuse}
 use Rattle.ssh_trust.specs.declared.decision.SshsigAnswer.{SshsigAnswer}
 use Rattle.ssh_trust.specs.declared.decision.SshsigAnswer.TheVariants.{Vouched, OtherNamespace, NotVouched}
-use Rattle.ssh_trust.specs.SshsigAnswer.{SshsigMeans, sshsig_answer}
+use Rattle.ssh_trust.specs.SshsigAnswer.{sshsig_answer}
 use Rattle.ssh_trust.proofs.SshsigLemmas.{answered_means}
 use Rattle.ssh_print.specs.SshsigText.{sshsig_answer_status, sshsig_response}
 use Rattle.ssh_files.specs.Parts.{after_whole}
@@ -25,7 +25,7 @@ use Rattle.ssh_program.specs.declared.subcommand.Subcommand.TheVariants.{Sshsig}
 use Rattle.ssh_program.specs.FileNames.{SshsigQuestion}
 use Rattle.ssh_program.specs.SignatureRuns.{AsksSignature, BodyBytes, SignatureAnswered, SignatureUnvouched, SignatureVouched}
 use Rattle.ssh_program.specs.Spelling.{sshsig_question}
-use Rattle.ssh_program.specs.Sshsigs.{IsContentFault, IsLastFault, IsSecondFault, IsSshsigReadFault, Signs, body_over, body_response, claim_answer, claim_over, claim_response, message_response, read_again, signature_over, signature_response, vouched_over}
+use Rattle.ssh_program.specs.Sshsigs.{IsContentFault, IsSshsigReadFault, Signs, body_over, claim_answer, claim_over, read_again, signature_response, vouched_over}
 use Rattle.ssh_program.proofs.GrantedRunLemmas.{Answered, ends-as, responds-to, status-of, vouch-fault}
 use Rattle.ssh_program.proofs.GrantingLemmas.{fault-in}
 

@@ -1,5 +1,5 @@
 -- What hexadecimal digits and base64 spell are bytes: so are an offer and a signature that options spell.
-use Rattle.ssh_program.proofs.Imports.{◌≡◌, ◌<◌, ◌+◌, ◌*◌, cond, ℕ, Bool, true, false, List, [], ◌∷◌, length, Option, Some, None, Result, Ok, Err, subst, refl, arith, ◌^◌, Row, TimeZone, ◌>>=◌, Any, HostCheck, Response, standard, empty_principals_of, hex_bytes, number_below, ArgName, OptionTexts, OptionText, spelled_by, given, needed, or_fault, value, value_or}
+use Rattle.ssh_program.proofs.Imports.{◌≡◌, ◌<◌, ◌+◌, ◌*◌, cond, ℕ, Bool, true, false, List, [], ◌∷◌, length, Option, Some, None, Result, Ok, Err, subst, refl, arith, ◌^◌, Row, TimeZone, ◌>>=◌, Any, HostCheck, Response, standard, empty_principals_of, hex_bytes, number_below, OptionTexts, OptionText, spelled_by, needed, or_fault, value, value_or}
 use Rattle.std.proofs.Common.{◌==◌, bytes_eq, ok_or}
 use Rattle.base64.specs.GeneralPurpose.{decode_of, decoded_of}
 use Rattle.base64.specs.declared.decode.DecodeError.{DecodeError}

@@ -1,5 +1,5 @@
 -- Steps of writing a text.
-use Rattle.ssh_program.proofs.Imports.{◌≡◌, ◌∙◌, ◌++◌, ◌<◌, ℕ, List, Option, Some, None, [], ap, sym, refl, take, length, arith, if◌then◌else◌, OnErr, flat_map, append-nil, append_assoc, length-append, flat_map-append, Account, NoneFailed, failing, takes_nothing, taking, where_told, Breaks, TakesAll, TakesUpTo}
+use Rattle.ssh_program.proofs.Imports.{◌≡◌, ◌∙◌, ◌++◌, ℕ, List, Option, Some, None, [], ap, sym, refl, take, arith, if◌then◌else◌, OnErr, flat_map, append-nil, append_assoc, length-append, flat_map-append, Account, NoneFailed, failing, takes_nothing, taking, where_told, Breaks, TakesAll, TakesUpTo}
 use Rattle.std.proofs.Common.{ne_eqb}
 use Rattle.std.specs.Prelude.{Result, Ok, Err}
 

@@ -18,6 +18,7 @@ use Rattle.ssh_print.specs.declared.admission_text.Subject.{Subject}
 use Rattle.ssh_review.specs.declared.end.Form.{Form}
 use Rattle.ssh_review.specs.declared.end.Form.TheVariants.{Text, Json}
 use Rattle.ssh_review.specs.AnswerObjects.{answer_object, answer_total}
+use Rattle.ssh_review.specs.Asked.{Asked, asked_line}
 use Rattle.ssh_print.specs.AnswerText.{answer_text}
 use Rattle.ssh_print.specs.OtherLines.{OtherLines, nothing_other}
 use Rattle.ssh_program.specs.declared.admission.AnswerForm.{AnswerForm}
@@ -74,15 +75,15 @@ text_of Json who name other answer = answer_object who name other answer
 abbrev pub told_of : AnswerForm → List ℕ → OtherLines → Result Decision AuditError → ToldLines
 told_of who name other answer = record { outcome = outcome_of other answer; text = text_of who.form who.subject name other answer }
 
--- in JSON the total of the files comes last
-abbrev pub total_of : Form → Subject → ℕ → ℕ → List ℕ
-total_of Text who files status = []
-total_of Json who files status = answer_total who files status
+-- when the files were asked comes last; in JSON in the total
+abbrev pub total_of : Form → Subject → Asked → ℕ → ℕ → List ℕ
+total_of Text who at files status = asked_line at
+total_of Json who at files status = answer_total who at files status
 
-abbrev pub told_response : AnswerForm → ℕ → ToldLines → Response
-told_response who files told = record {
+abbrev pub told_response : AnswerForm → Asked → ℕ → ToldLines → Response
+told_response who at files told = record {
   status = status_of told.outcome;
-  text = told.text ++ total_of who.form who.subject files (status_of told.outcome);
+  text = told.text ++ total_of who.form who.subject at files (status_of told.outcome);
 }
 
 -- ---- files
@@ -91,10 +92,11 @@ told_response who files told = record {
 abbrev pub Otherness : Type 0
 Otherness = List ℕ → Decision → OtherLines
 
--- the question to each file: whose key it is and how the answer is printed, how a file decides, what the decision rests on, and what is printed after
--- it
+-- the question to each file: whose key it is and how the answer is printed, when it is asked, how a file decides, what the decision rests on, and what
+-- is printed after it
 pub record KeyAsking : Type 0 where
   pub who : AnswerForm
+  pub at : Asked
   pub by : Deciding
   pub rests_on : Result (List Signed) AuditError
   pub beside : Otherness
@@ -140,17 +142,17 @@ IsToldUnread who by name read.TooLong told = told ≡ told_of who name nothing_o
 IsToldUnread who by name read.Failed told = told ≡ told_of who name nothing_other (Err (unread_fault by read.Failed))
 
 -- a refused offer is reported before any file is read
-abbrev pub AsksBy : AnswerForm → Deciding → Otherness → Result (List Signed) AuditError → List (List ℕ) → SourceState → Option SourceState → Response → Type 0
-AsksBy who by beside (Err e) names s t r = NoReadFailed s t × (r ≡ refused_response e)
-AsksBy who by beside (Ok evidence) names s t r =
-    (told : ToldLines) × TellsFiles told_both (telling who by beside evidence) nothing_told names s t told × (r ≡ told_response who (length names) told)
+abbrev pub AsksBy : AnswerForm → Asked → Deciding → Otherness → Result (List Signed) AuditError → List (List ℕ) → SourceState → Option SourceState → Response → Type 0
+AsksBy who at by beside (Err e) names s t r = NoReadFailed s t × (r ≡ refused_response e)
+AsksBy who at by beside (Ok evidence) names s t r =
+    (told : ToldLines) × TellsFiles told_both (telling who by beside evidence) nothing_told names s t told × (r ≡ told_response who at (length names) told)
 
 -- the status of one file with these bytes
 abbrev pub status_by : KeyAsking → List Signed → List ℕ → List ℕ → ℕ
 status_by a evidence name file = status_of (told_by a.who a.by a.beside evidence name file).outcome
 
 abbrev pub AsksFiles : KeyAsking → List (List ℕ) → SourceState → Option SourceState → Response → Type 0
-AsksFiles a names s t r = AsksBy a.who a.by a.beside a.rests_on names s t r
+AsksFiles a names s t r = AsksBy a.who a.at a.by a.beside a.rests_on names s t r
 
 -- ---- the key's file
 

@@ -6,14 +6,16 @@ use Rattle.clap.specs.declared.builder.value_parser.Reading.TheVariants as readi
 use Rattle.jiff.specs.Types.{TimeZone}
 use Rattle.ssh_offers.specs.declared.claim.EmptyPrincipals.{EmptyPrincipals}
 use Rattle.ssh_offers.specs.declared.claim.EmptyPrincipals.TheVariants.{Any, Never}
-use Rattle.ssh_offers.specs.Query.{HostCheck, Login}
+use Rattle.ssh_offers.specs.Query.{Login}
 use Rattle.ssh_print.specs.Offering.{Offered}
-use Rattle.ssh_print.specs.Responses.{Response}
+use Rattle.ssh_print.specs.Responses.{Response, usage_response}
 use Rattle.ssh_print.specs.StandIn.{login_algorithm, stand_in}
 use Rattle.ssh_program.specs.declared.args.ArgName.{ArgName}
 use Rattle.ssh_program.specs.declared.args.ArgName.TheVariants as option
 use Rattle.ssh_review.specs.declared.end.Form.TheVariants as form
-use Rattle.ssh_program.specs.Keys.{KeyAsked, admits_spelled, host_asking, login_asking, trusts_spelled}
+use Rattle.ssh_program.specs.Clients.{client_spelled, login_asking}
+use Rattle.ssh_program.specs.FingerprintValues.{digest_in}
+use Rattle.ssh_program.specs.Keys.{KeyAsked, admits_spelled, fingerprint_spelled, host_asking, trusts_spelled}
 use Rattle.ssh_program.specs.Options.{names_id, option_word}
 use Rattle.ssh_program.specs.declared.admission.Outcome.TheVariants.{Denies, Opens, Grants, Faulty}
 use Rattle.ssh_program.specs.Admissions.{and_then, status_of}
@@ -82,21 +84,36 @@ admits_login zone host empty bits o = record {
   rsa_minimum = bits;
 }
 
-abbrev admits_asked : TimeZone → Option Text → EmptyPrincipals → ℕ → KeyAsked
-admits_asked zone host empty bits = record { key = codes "k"; names = codes "a" ∷ codes "b" ∷ []; asks = λ o. login_asking form.Text (admits_login zone host empty bits o) }
+abbrev admits_asked : TimeZone → Text → Option Text → EmptyPrincipals → ℕ → KeyAsked
+admits_asked zone rule host empty bits = record { key = codes "k"; names = codes "a" ∷ codes "b" ∷ []; asks = λ o. login_asking form.Text rule (admits_login zone host empty bits o) }
 
 -- Each option that may be left out counts where it is given. The zone is not the host's name.
 abbrev pub AdmitsSpelled : TimeZone → Type 0
-AdmitsSpelled zone = (admits_spelled (admits_values []) (Some zone) ≡ Ok (admits_asked zone None Any 0))
-    × (admits_spelled (admits_values (row option.Host (codes "h.example") ∷ row option.Zone (codes "CET-1") ∷ [])) (Some zone) ≡ Ok (admits_asked zone (Some (codes "h.example")) Any 0))
-    × (admits_spelled (admits_values (row option.EmptyPrincipals (codes "never") ∷ [])) (Some zone) ≡ Ok (admits_asked zone None Never 0))
-    × (admits_spelled (admits_values (row option.RsaMinimum (codes "2048") ∷ [])) (Some zone) ≡ Ok (admits_asked zone None Any 2048))
+AdmitsSpelled zone = (admits_spelled (admits_values []) (Some zone) ≡ Ok (admits_asked zone (codes "UTC0") None Any 0))
+    × (admits_spelled (admits_values (row option.Host (codes "h.example") ∷ row option.Zone (codes "CET-1") ∷ [])) (Some zone) ≡ Ok (admits_asked zone (codes "CET-1") (Some (codes "h.example")) Any 0))
+    × (admits_spelled (admits_values (row option.EmptyPrincipals (codes "never") ∷ [])) (Some zone) ≡ Ok (admits_asked zone (codes "UTC0") None Never 0))
+    × (admits_spelled (admits_values (row option.RsaMinimum (codes "2048") ∷ [])) (Some zone) ≡ Ok (admits_asked zone (codes "UTC0") None Any 2048))
     × (admits_spelled (admits_values (row option.RsaMinimum (codes "2k") ∷ [])) (Some zone) ≡ no_value (codes "rsa-minimum"))
     × (admits_spelled (admits_values []) None ≡ no_value (codes "zone"))
 
 pub admits_is_spelled : (zone : TimeZone) → AdmitsSpelled zone
-unfolding admits_spelled
+unfolding admits_spelled client_spelled
 admits_is_spelled zone = (refl, refl, refl, refl, refl, refl)
+
+-- the options of `admits` that it needs, with this fingerprint, and a file
+abbrev fingerprint_values : Text → List Row
+fingerprint_values text =
+    row option.Fingerprint text ∷ row option.User (codes "ann") ∷ row option.Now (codes "150") ∷ row option.Address (codes "192.0.2.1") ∷ names (codes "a" ∷ []) ∷ []
+
+-- A text that is no fingerprint has its fault, and so has one that is left out.
+abbrev pub FingerprintsRefused : TimeZone → Type 0
+FingerprintsRefused zone = (fingerprint_spelled (fingerprint_values (codes "MD5:00")) (Some zone) ≡ no_value (codes "fingerprint"))
+    × (fingerprint_spelled (fingerprint_values (codes "SHA256:kmYc")) (Some zone) ≡ no_value (codes "fingerprint"))
+    × (fingerprint_spelled (admits_values []) (Some zone) ≡ Err usage_response)
+
+pub fingerprints_are_refused : (zone : TimeZone) → FingerprintsRefused zone
+unfolding fingerprint_spelled client_spelled digest_in
+fingerprints_are_refused zone = (refl, refl, refl)
 
 abbrev trusts_values : List Row → List Row
 trusts_values more =

@@ -5,9 +5,12 @@ use Rattle.clap.specs.Words.{Text}
 use Rattle.ssh_print.specs.Responses.{Response, usage_response}
 use Rattle.ssh_program.specs.declared.args.ArgName.{ArgName}
 use Rattle.ssh_program.specs.declared.args.ArgName.TheVariants as option
+use Rattle.ssh_program.specs.declared.args.KeyPlace.{KeyPlace}
+use Rattle.ssh_program.specs.declared.args.KeyPlace.TheVariants as place
 use Rattle.ssh_program.specs.declared.subcommand.Subcommand.{Subcommand}
 use Rattle.ssh_program.specs.declared.subcommand.Subcommand.TheVariants.{Show, Login, Host, Sshsig, Rewrite, Readable, Hash, Admits, Trusts, Review, Explain}
 use Rattle.ssh_program.specs.CommandLine.{request_of, subcommand_app}
+use Rattle.ssh_program.specs.KeyPlaces.{key_place}
 use Rattle.ssh_program.specs.Options.{subcommand_options}
 use Rattle.ssh_program.specs.Spelling.{given, names_given}
 use Rattle.ssh_program.specs.Texts.{TextPlace, TextPlaces, text_places}
@@ -109,7 +112,7 @@ admits_needed = codes "admits" ∷ codes "--key" ∷ codes "k" ∷ codes "--user
 
 abbrev pub KeysAsked : Type 0
 KeysAsked = (asked admits_needed
-    ≡ Some (Admits, Some (codes "k") ∷ Some (codes "u") ∷ Some (codes "d") ∷ Some (codes "n") ∷ None ∷ None ∷ None ∷ None ∷ None ∷ []))
+    ≡ Some (Admits, Some (codes "k") ∷ None ∷ Some (codes "u") ∷ Some (codes "d") ∷ Some (codes "n") ∷ None ∷ None ∷ None ∷ None ∷ None ∷ []))
     × (names_asked (admits_needed ++ codes "b" ∷ codes "-" ∷ []) ≡ Some (codes "a" ∷ codes "b" ∷ codes "-" ∷ []))
     × (asked (codes "trusts" ∷ codes "f" ∷ codes "--key" ∷ codes "k" ∷ codes "--host" ∷ codes "h" ∷ codes "--now" ∷ codes "n" ∷ codes "--port" ∷ codes "22" ∷ [])
     ≡ Some (Trusts, Some (codes "k") ∷ Some (codes "h") ∷ Some (codes "n") ∷ Some (codes "22") ∷ None ∷ None ∷ None ∷ []))
@@ -121,17 +124,35 @@ pub keys_asked : KeysAsked
 unfolding subcommand_app clap_on_literals
 keys_asked = (refl, refl, refl, refl, refl, refl)
 
+-- which option gives the key, by the arguments of `admits`
+abbrev place_asked : List Text → Option (Result KeyPlace Response)
+place_asked words = option_map (λ q. key_place q.rows) (request_of (codes "admits" ∷ codes "--user" ∷ codes "u" ∷ codes "--address" ∷ codes "d"
+    ∷ codes "--now" ∷ codes "n" ∷ codes "a" ∷ words))
+
+-- exactly one of its two options
+abbrev pub KeyPlacesAsked : Type 0
+KeyPlacesAsked = (place_asked (codes "--key" ∷ codes "k" ∷ []) ≡ Some (Ok place.File))
+    × (place_asked (codes "--fingerprint" ∷ codes "f" ∷ []) ≡ Some (Ok place.Fingerprint))
+    × (place_asked (codes "--fingerprint" ∷ codes "f" ∷ codes "--key" ∷ codes "k" ∷ []) ≡ Some (Err usage_response))
+    × (place_asked [] ≡ Some (Err usage_response))
+
+pub key_places_asked : KeyPlacesAsked
+unfolding subcommand_app clap_on_literals
+key_places_asked = (refl, refl, refl, refl)
+
 -- `review` needs at least one file
 abbrev pub ReviewsAsked : Type 0
 ReviewsAsked = (asked (codes "review" ∷ codes "--kind" ∷ codes "auth" ∷ codes "a" ∷ codes "--now" ∷ codes "n" ∷ codes "--form" ∷ codes "json" ∷ [])
-    ≡ Some (Review, Some (codes "auth") ∷ Some (codes "n") ∷ None ∷ None ∷ None ∷ Some (codes "json") ∷ []))
+    ≡ Some (Review, Some (codes "auth") ∷ Some (codes "n") ∷ None ∷ None ∷ None ∷ None ∷ Some (codes "json") ∷ []))
+    × (asked (codes "review" ∷ codes "--kind" ∷ codes "known" ∷ codes "--now" ∷ codes "n" ∷ codes "--key" ∷ codes "k.pub" ∷ codes "a" ∷ [])
+    ≡ Some (Review, Some (codes "known") ∷ Some (codes "n") ∷ Some (codes "k.pub") ∷ None ∷ None ∷ None ∷ None ∷ []))
     × (names_asked (codes "review" ∷ codes "--kind" ∷ codes "auth" ∷ codes "--now" ∷ codes "n" ∷ codes "a" ∷ codes "--findings" ∷ codes "F1" ∷ codes "b" ∷ [])
     ≡ Some (codes "a" ∷ codes "b" ∷ []))
     × (request_of (codes "review" ∷ codes "--kind" ∷ codes "auth" ∷ codes "--now" ∷ codes "n" ∷ []) ≡ None)
 
 pub reviews_asked : ReviewsAsked
 unfolding subcommand_app clap_on_literals
-reviews_asked = (refl, refl, refl)
+reviews_asked = (refl, refl, refl, refl)
 
 -- no command, an unknown one, a missing option, an option without a value, an option or an operand of another command
 abbrev pub WordsRefused : Type 0
@@ -151,12 +172,16 @@ abbrev pub UsageTold : Type 0
 UsageTold = (usage_line Show ≡ codes "ssh_audit show --kind KIND --file FILE\n")
     × (usage_line Trusts
     ≡ codes "ssh_audit trusts --key FILE --host NAME --now SECONDS [--port PORT] [--empty-principals WHOM] [--rsa-minimum BITS] [--form FORM] NAME..\n")
+    × (usage_line Admits
+    ≡ codes "ssh_audit admits (--key FILE | --fingerprint FINGERPRINT) --user NAME --address ADDRESS --now SECONDS [--host NAME] [--zone RULE] [--empty-principals WHOM] [--rsa-minimum BITS] [--form FORM] NAME..\n")
     × (usage_line Host
     ≡ codes "ssh_audit host --file FILE (--offer BASE64 | --offer-file FILE) (--signature HEX | --signature-file FILE) --hash HEX --host NAME --port PORT --now SECONDS [--vouch FILE] [--empty-principals WHOM] [--rsa-minimum BITS]\n")
+    × (usage_line Review
+    ≡ codes "ssh_audit review --kind KIND --now SECONDS [--key FILE] [--zone RULE] [--rsa-minimum BITS] [--findings CODES] [--form FORM] NAME..\n")
     × (usage_line Explain ≡ codes "ssh_audit explain [CODE..]\n")
     × (asks_usage (codes "G8" ∷ codes "usage" ∷ []) ≡ true)
     × (asks_usage (codes "usages" ∷ codes "USAGE" ∷ []) ≡ false)
 
 pub usage_told : UsageTold
 unfolding usage_line
-usage_told = (refl, refl, refl, refl, refl, refl)
+usage_told = (refl, refl, refl, refl, refl, refl, refl, refl)

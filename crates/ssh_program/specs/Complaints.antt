@@ -92,11 +92,11 @@ pair_wrong o None words = None
 pair_wrong o (Some other) words = pair_by o other (is_given o words) (is_given other words)
 
 -- an option that is given twice or missing, or one of such a pair
-abbrev pub option_wrong : List Word → ArgName × Needed → Option Wrong
-option_wrong words row =
+abbrev pub option_wrong : Subcommand → List Word → ArgName × Needed → Option Wrong
+option_wrong c words row =
     if is_given_twice row.0 words then Some (Wrong.twice row.0)
     else if is_required row.1 && not (is_given row.0 words) then Some (Wrong.missing row.0)
-    else pair_wrong row.0 (other_place row.0) words
+    else pair_wrong row.0 (other_place c row.0) words
 
 -- ---- the operands
 
@@ -113,7 +113,7 @@ names_wrong c words = names_by (subcommand_operands c) (has_operand words)
 abbrev pub whole_wrong : Subcommand → List Word → Wrong
 whole_wrong c words =
     unwrap_or (option_map Wrong.no_value (waiting c words))
-    (unwrap_or (first_wrong (option_wrong words) (subcommand_options c)) (names_wrong c words))
+    (unwrap_or (first_wrong (option_wrong c words) (subcommand_options c)) (names_wrong c words))
 
 -- the first wrong word comes before all of these
 abbrev pub complaint_of : Subcommand → List Word → Wrong

@@ -1,5 +1,5 @@
 -- The reviews of files, one after the other (this project's rule).
-use Rattle.std.specs.Prelude.{◌≡◌, ◌++◌, ℕ, List, [], Option, Some, None}
+use Rattle.std.specs.Prelude.{◌≡◌, ◌++◌, ℕ, List, [], Option, Some, None, codes}
 use Rattle.ssh_findings.specs.Asking.{Asking}
 use Rattle.ssh_files.specs.FilesInTurn.{Telling, TellsFiles}
 use Rattle.ssh_files.specs.SourceState.{SourceState}
@@ -53,10 +53,18 @@ IsUnreadReview form name read.Failed r = r ≡ fault_review form name Unread
 abbrev pub telling_review : ReviewKind → Form → Asking → Telling Review
 telling_review kind form asking = record { of_bytes = review_over kind form asking; of_fault = λ name. fault_review form name Unread }
 
--- the reviews, and the line of their total
-abbrev pub review_response : Form → Lines → Response
-review_response form told = record { status = total_status told.total; text = told.text ++ total_line form told.total }
+-- the format by its name in `--kind`
+abbrev pub kind_name : ReviewKind → List ℕ
+kind_name Auth = codes "auth"
+kind_name Known = codes "known"
 
-abbrev pub ReviewsFiles : ReviewKind → Form → Asking → List (List ℕ) → SourceState → Option SourceState → Response → Type 0
-ReviewsFiles kind form asking names s t r =
-    (told : Lines) × TellsFiles with_file (telling_review kind form asking) no_lines names s t told × (r ≡ review_response form told)
+-- the reviews, and the line of their total, which says the time zone by its rule
+abbrev pub review_response : ReviewKind → Form → List ℕ → Asking → Lines → Response
+review_response kind form rule asking told = record {
+  status = total_status told.total;
+  text = told.text ++ total_line form (kind_name kind) rule asking told.total;
+}
+
+abbrev pub ReviewsFiles : ReviewKind → Form → List ℕ → Asking → List (List ℕ) → SourceState → Option SourceState → Response → Type 0
+ReviewsFiles kind form rule asking names s t r =
+    (told : Lines) × TellsFiles with_file (telling_review kind form asking) no_lines names s t told × (r ≡ review_response kind form rule asking told)

@@ -1,5 +1,5 @@
 -- What a run of `rewrite`, `readable`, `hash` or `review` means that ends without a fault (this project's rule).
-use Rattle.std.specs.Prelude.{◌≡◌, ◌⊎◌, ◌↔◌, ◌++◌, ℕ, List, [], ◌∷◌, Option, Some, Ok}
+use Rattle.std.specs.Prelude.{◌≡◌, ◌⊎◌, ◌↔◌, ◌++◌, ℕ, List, [], ◌∷◌, Option, Some, None, Ok}
 use Rattle.clap.specs.Words.{Row}
 use Rattle.jiff.specs.Types.{TimeZone}
 use Rattle.ssh_offers.specs.declared.claim.Signed.{Signed}
@@ -103,6 +103,10 @@ pub record FileHashed (rows : List Row) (s : SourceState) (r : Response) : Type 
   pub grants : AreBytes salt_bytes → AreBytes file → KeepsGrants file salts r.text
 
 -- ---- `review`
+
+-- no key is asked for, so the reviews are whole
+abbrev pub AsksNoKey : List Row → Type 0
+AsksNoKey rows = given option.Key rows ≡ None
 
 abbrev pub IsPartOf : List ℕ → List ℕ → Type 0
 IsPartOf part text = (before : List ℕ) × (after : List ℕ) × (text ≡ before ++ (part ++ after))

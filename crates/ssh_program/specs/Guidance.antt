@@ -141,3 +141,14 @@ fault_by (Some c) printed = if tells_faults c then fault_sentence c printed else
 -- what is said of words whose answer is another fault; nothing is said of other commands
 abbrev pub fault_guidance : List Text → Text → Text
 fault_guidance words printed = fault_by (subcommand_in words) printed
+
+-- ---- the lines that `readable` leaves out
+
+abbrev pub is_readable : Option Subcommand → Bool
+is_readable (Some Readable) = true
+is_readable command = false
+
+-- the words ask for the readable entries of a file, and standard error says what is left out
+abbrev pub asks_readable : List Text → Bool
+asks_readable [] = false
+asks_readable (name ∷ words) = is_readable (subcommand_named name)

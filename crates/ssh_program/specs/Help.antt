@@ -9,7 +9,7 @@ use Rattle.ssh_program.specs.declared.args.ArgName.{ArgName}
 use Rattle.ssh_program.specs.declared.args.ArgName.TheVariants as option
 use Rattle.ssh_program.specs.declared.subcommand.Subcommand.{Subcommand}
 use Rattle.ssh_program.specs.declared.subcommand.Subcommand.TheVariants.{Show, Login, Host, Sshsig, Rewrite, Readable, Hash, Admits, Trusts, Review, Explain}
-use Rattle.ssh_program.specs.Options.{option_word, subcommand_options, subcommand_name, subcommands}
+use Rattle.ssh_program.specs.Options.{option_word, subcommand_options, subcommand_name}
 
 -- ---- the sentences
 
@@ -52,6 +52,7 @@ value_word option.Message = codes "FILE"
 value_word option.Namespace = codes "TEXT"
 value_word option.Salts = codes "FILE"
 value_word option.Key = codes "FILE"
+value_word option.Fingerprint = codes "FINGERPRINT"
 value_word option.Findings = codes "CODES"
 value_word option.Form = codes "FORM"
 
@@ -84,6 +85,12 @@ abbrev pub port_sentence : Subcommand → Text
 port_sentence Host = codes "the port that the client connects to, from 0 to 65535"
 port_sentence c = codes "the port that the client connects to, from 0 to 65535; 22 without it"
 
+-- what `--key` gives to a command
+abbrev pub key_sentence : Subcommand → Text
+key_sentence Review = codes "list only this key: the file of the public key or certificate, or its fingerprint"
+key_sentence Admits = codes "the .pub file of the key or certificate, or the key's fingerprint as sshd logs it"
+key_sentence c = codes "the file of the public key or certificate, as id_ed25519.pub"
+
 -- what an option gives to a command
 abbrev pub option_sentence : Subcommand → ArgName → Text
 option_sentence c option.Kind = kind_sentence c
@@ -108,7 +115,8 @@ option_sentence c option.Body = codes "a file of the signature's raw bytes"
 option_sentence c option.Message = codes "the file that was signed"
 option_sentence c option.Namespace = codes "what the signature has to be for"
 option_sentence c option.Salts = codes "a file of 20 raw bytes for each name"
-option_sentence c option.Key = codes "the file of the public key or certificate, as id_ed25519.pub"
+option_sentence c option.Key = key_sentence c
+option_sentence c option.Fingerprint = codes "the fingerprint of the key, as sshd logs it"
 option_sentence c option.Findings = codes "the findings that are reported: all, none, or codes joined by commas"
 option_sentence c option.Form = codes "text (so without it), or json for one object on each line"
 
@@ -136,7 +144,8 @@ wanted_value option.Body = codes "the name of a file"
 wanted_value option.Message = codes "the name of a file"
 wanted_value option.Namespace = codes "a text"
 wanted_value option.Salts = codes "the name of a file"
-wanted_value option.Key = codes "the name of a file"
+wanted_value option.Key = codes "the name of a file, or a fingerprint as ssh-keygen -l prints it"
+wanted_value option.Fingerprint = codes "SHA256: and 43 characters of base64, as in sshd's log"
 wanted_value option.Findings = codes "all, none, or codes from F1 to F22 joined by commas"
 wanted_value option.Form = codes "text or json"
 
@@ -150,16 +159,23 @@ help_names c = []
 
 -- ---- options
 
--- the option that gives the same in another way: exactly one of the two has to be given
-abbrev pub other_place : ArgName → Option ArgName
-other_place option.Offer = Some option.OfferFile
-other_place option.Signature = Some option.SignatureFile
-other_place o = None
+-- the other way to give the key to a command
+abbrev pub other_key : Subcommand → Option ArgName
+other_key Admits = Some option.Fingerprint
+other_key c = None
+
+-- the option that gives the same to a command in another way: exactly one of the two has to be given
+abbrev pub other_place : Subcommand → ArgName → Option ArgName
+other_place c option.Offer = Some option.OfferFile
+other_place c option.Signature = Some option.SignatureFile
+other_place c option.Key = other_key c
+other_place c o = None
 
 -- whether an option is told together with the one before it
 abbrev pub is_joined : ArgName → Bool
 is_joined option.OfferFile = true
 is_joined option.SignatureFile = true
+is_joined option.Fingerprint = true
 is_joined o = false
 
 -- an option with its value
@@ -206,7 +222,7 @@ needed_by fallback needed other = if length fallback == 0 then needed_word neede
 abbrev pub help_option : Subcommand → ArgName × Needed → Text
 help_option c row =
     if is_joined row.0 then []
-    else codes "  " ++ help_forms row.0 (other_place row.0) ++ codes "\n      " ++ needed_by (default_word c row.0) row.1 (other_place row.0) ++ option_sentence c row.0 ++ default_word c row.0 ++ codes "\n"
+    else codes "  " ++ help_forms row.0 (other_place c row.0) ++ codes "\n      " ++ needed_by (default_word c row.0) row.1 (other_place c row.0) ++ option_sentence c row.0 ++ default_word c row.0 ++ codes "\n"
 
 -- ---- the texts
 

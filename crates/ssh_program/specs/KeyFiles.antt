@@ -36,3 +36,13 @@ key_file_form front =
     else if starts_with nat_eq front (codes "#") then Some CommentLine
     else if is_host_line front then Some HostLine
     else None
+
+-- what it is, and what to hand in, as a line of standard error
+abbrev pub form_sentence : KeyFileForm → List ℕ
+form_sentence PrivateKey = codes "ssh_audit: --key: this is a private key: hand in its .pub file (ssh-keygen -y makes one)\n"
+form_sentence PemKey = codes "ssh_audit: --key: this is PEM: convert a public key with ssh-keygen -i -m PKCS8 -f FILE\n"
+form_sentence Ssh2Key = codes "ssh_audit: --key: this is a key as of RFC 4716: convert it with ssh-keygen -i -f FILE\n"
+form_sentence ByteOrderMark = codes "ssh_audit: --key: the file begins with a byte order mark: save it as plain text without one\n"
+form_sentence WideText = codes "ssh_audit: --key: the file is UTF-16: save it as plain text\n"
+form_sentence HostLine = codes "ssh_audit: --key: this is a line of known_hosts: leave out the host's name in front of the key\n"
+form_sentence CommentLine = codes "ssh_audit: --key: the first line is a comment: the key has to stand on the first line\n"

@@ -1,5 +1,5 @@
 -- What a run of `admits` or `trusts` that ends with status 0 or 1 means (this project's rule).
-use Rattle.std.specs.Prelude.{◌≡◌, ◌⊎◌, ◌+◌, ◌<◌, ℕ, List, [], ◌∷◌, length, Option, Some, Result, Ok}
+use Rattle.std.specs.Prelude.{◌≡◌, ◌⊎◌, ◌+◌, ◌<◌, ℕ, List, [], ◌∷◌, length, Option, Some, None, Ok}
 use Rattle.clap.specs.Words.{Row}
 use Rattle.jiff.specs.Types.{TimeZone}
 use Rattle.ssh_entries.specs.AuthEntry.{AuthEntry}
@@ -18,9 +18,11 @@ use Rattle.ssh_files.specs.Values.{ReadsZone, zone_text}
 use Rattle.ssh_review.specs.declared.end.Form.{Form}
 use Rattle.ssh_program.specs.declared.args.ArgName.TheVariants as option
 use Rattle.ssh_program.specs.declared.subcommand.Subcommand.{Subcommand}
+use Rattle.ssh_program.specs.declared.subcommand.Subcommand.TheVariants.{Admits}
+use Rattle.ssh_program.specs.Clients.{login_asking}
 use Rattle.ssh_program.specs.Admissions.{offer_or_fault}
 use Rattle.ssh_program.specs.CommandLine.{request_of}
-use Rattle.ssh_program.specs.Keys.{KeyAsked, admits_spelled, host_asking, login_asking, trusts_spelled}
+use Rattle.ssh_program.specs.Keys.{KeyAsked, admits_spelled, host_asking, trusts_spelled}
 use Rattle.ssh_program.specs.Requests.{request_words, source_of}
 use Rattle.ssh_program.specs.Spelling.{given, names_needed}
 
@@ -29,6 +31,11 @@ pub record AsksOfFiles (subcommand : Subcommand) (words : List (List ℕ)) (s : 
   pub request : request_of (request_words words s) ≡ Some (record { subcommand = subcommand; rows = rows })
   pub named : names_needed rows ≡ Ok names
   pub room : (source_of words s).failures + length names < most_failures
+
+-- the arguments ask about the key in a file, and about no fingerprint
+pub record AsksByKey (words : List (List ℕ)) (s : SourceState) (rows : List Row) (names : List (List ℕ)) : Type 0 where
+  pub asks : AsksOfFiles Admits words s rows names
+  pub alone : given option.Fingerprint rows ≡ None
 
 -- ---- files, each read after those before it
 
@@ -65,13 +72,14 @@ pub record ClientAsked (rows : List Row) (s : SourceState) : Type 0 where
   pub login : Login
   pub blob : login.offered ≡ offer.blob
   pub form : Form
-  pub asks : asked.asks offer ≡ login_asking form login
+  pub rule : List ℕ
+  pub asks : asked.asks offer ≡ login_asking form rule login
   pub claim : LoginClaim
   pub claimed : login_claim login ≡ Ok claim
   pub left : SourceState
   pub kept : KeepsOthers asked.key s (Some left)
 
--- status 0 of `admits`: a line of one of the named files lets the key in
+-- status 0 of `admits --key`: a line of one of the named files lets the key in
 pub record ClientAdmitted (rows : List Row) (s : SourceState) : Type 0 where
   pub client : ClientAsked rows s
   pub admitted : SomeFile (LetsIn client.claim) client.asked.names client.left

@@ -47,6 +47,10 @@ pub mod Logins
 pub mod Hosts
 pub mod Admissions
 pub mod AdmissionsView
+pub mod KeyPlaces
+pub mod Clients
+pub mod ClientView
+pub mod Fingerprints
 pub mod Keys
 pub mod Explanations
 pub mod AnswerSamples
@@ -54,6 +58,12 @@ pub mod Totals
 pub mod FileReviews
 pub mod Spelled
 pub mod KeyRuns
+pub mod FingerprintRuns
 pub mod SignatureRuns
 pub mod FileRuns
 pub mod KeyFiles
+pub mod FingerprintValues
+pub mod FingerprintSamples
+pub mod OfferPrints
+pub mod KeySeeking
+pub mod KeyStanding

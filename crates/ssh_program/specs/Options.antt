@@ -35,6 +35,7 @@ option_word option.Message = codes "message"
 option_word option.Namespace = codes "namespace"
 option_word option.Salts = codes "salts"
 option_word option.Key = codes "key"
+option_word option.Fingerprint = codes "fingerprint"
 option_word option.Findings = codes "findings"
 option_word option.Form = codes "form"
 
@@ -84,12 +85,12 @@ subcommand_options Sshsig = (option.Body, Required) ∷ (option.Message, Require
 subcommand_options Rewrite = (option.Kind, Required) ∷ (option.File, Required) ∷ []
 subcommand_options Readable = (option.File, Required) ∷ []
 subcommand_options Hash = (option.File, Required) ∷ (option.Salts, Required) ∷ []
-subcommand_options Admits = (option.Key, Required) ∷ (option.User, Required) ∷ (option.Address, Required) ∷ (option.Now, Required)
+subcommand_options Admits = (option.Key, Optional) ∷ (option.Fingerprint, Optional) ∷ (option.User, Required) ∷ (option.Address, Required) ∷ (option.Now, Required)
     ∷ (option.Host, Optional) ∷ (option.Zone, Optional) ∷ (option.EmptyPrincipals, Optional) ∷ (option.RsaMinimum, Optional)
     ∷ (option.Form, Optional) ∷ []
 subcommand_options Trusts = (option.Key, Required) ∷ (option.Host, Required) ∷ (option.Now, Required) ∷ (option.Port, Optional)
     ∷ (option.EmptyPrincipals, Optional) ∷ (option.RsaMinimum, Optional) ∷ (option.Form, Optional) ∷ []
-subcommand_options Review = (option.Kind, Required) ∷ (option.Now, Required) ∷ (option.Zone, Optional) ∷ (option.RsaMinimum, Optional)
+subcommand_options Review = (option.Kind, Required) ∷ (option.Now, Required) ∷ (option.Key, Optional) ∷ (option.Zone, Optional) ∷ (option.RsaMinimum, Optional)
     ∷ (option.Findings, Optional) ∷ (option.Form, Optional) ∷ []
 subcommand_options Explain = []
 

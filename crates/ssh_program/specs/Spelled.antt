@@ -12,7 +12,7 @@ use Rattle.ssh_review.specs.declared.end.Form.{Form}
 use Rattle.ssh_review.specs.declared.end.Form.TheVariants.{Json, Text}
 use Rattle.ssh_program.specs.declared.review.ReviewKind.{ReviewKind}
 use Rattle.ssh_program.specs.declared.review.ReviewKind.TheVariants.{Auth, Known}
-use Rattle.ssh_program.specs.FileReviews.{ReviewsFiles}
+use Rattle.ssh_program.specs.KeySeeking.{ReviewsFor}
 use Rattle.ssh_wire.specs.Reading.{◌>>=◌}
 use Rattle.ssh_program.specs.declared.args.ArgName.TheVariants as option
 use Rattle.ssh_program.specs.Spelling.{RespondsTo, given, names_needed, or_fault, value, value_or}
@@ -35,10 +35,11 @@ form_of word =
     else if bytes_eq word (codes "json") then Some Json
     else None
 
--- the format of the files, the options of the review, its output format, and the names of the files
+-- the format of the files, the output format, the rule of the time zone, the options of the review, and the names of the files
 pub record ReviewAsked : Type 0 where
   pub kind : ReviewKind
   pub form : Form
+  pub rule : List ℕ
   pub asking : Asking
   pub names : List (List ℕ)
 
@@ -54,12 +55,14 @@ review_spelled rows zone = do
   Ok (record {
     kind = kind;
     form = form;
+    rule = zone_text (given option.Zone rows);
     asking = record { now = now; zone = zone; rsa_minimum = rsa_minimum; told = told };
     names = names;
   })
 
+-- where a key is asked for, the reviews are for it; its value is read after those of the other options
 abbrev pub ReviewsInZone : List Row → Option TimeZone → SourceState → Option SourceState → Response → Type 0
-ReviewsInZone rows zone = RespondsTo (λ q. ReviewsFiles q.kind q.form q.asking q.names) (review_spelled rows zone)
+ReviewsInZone rows zone = RespondsTo (λ q. ReviewsFor (given option.Key rows) q.kind q.form q.rule q.asking q.names) (review_spelled rows zone)
 
 -- the same in the zone of the option's text
 abbrev pub RespondsToReview : List Row → SourceState → Option SourceState → Response → Type 0

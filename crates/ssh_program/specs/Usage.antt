@@ -26,12 +26,12 @@ abbrev pub shown_needed : Option ArgName → Needed → Needed
 shown_needed None needed = needed
 shown_needed (Some other) needed = Required
 
-abbrev pub usage_forms : Needed → ArgName → Text
-usage_forms needed o = opened needed ++ help_forms o (other_place o) ++ closed needed
+abbrev pub usage_forms : Needed → ArgName → Option ArgName → Text
+usage_forms needed o other = opened needed ++ help_forms o other ++ closed needed
 
 -- an option with its value, or the two of which exactly one has to be given, as in `--help`
-abbrev pub usage_option : ArgName × Needed → Text
-usage_option row = if is_joined row.0 then [] else usage_forms (shown_needed (other_place row.0) row.1) row.0
+abbrev pub usage_option : Subcommand → ArgName × Needed → Text
+usage_option c row = if is_joined row.0 then [] else usage_forms (shown_needed (other_place c row.0) row.1) row.0 (other_place c row.0)
 
 -- what an operand is
 abbrev pub operand_word : Subcommand → Text
@@ -45,7 +45,7 @@ usage_names c (Some needed) = opened needed ++ operand_word c ++ codes ".." ++ c
 
 -- the line of a subcommand, which ends with an LF
 unfoldable pub usage_line : Subcommand → Text
-usage_line c = codes "ssh_audit " ++ subcommand_name c ++ flat_map usage_option (subcommand_options c) ++ usage_names c (subcommand_operands c) ++ codes "\n"
+usage_line c = codes "ssh_audit " ++ subcommand_name c ++ flat_map (usage_option c) (subcommand_options c) ++ usage_names c (subcommand_operands c) ++ codes "\n"
 
 -- the lines of all subcommands, in the order of the table
 unfoldable pub usage_lines : Text

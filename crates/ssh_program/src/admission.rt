@@ -4,10 +4,12 @@ ghost use Rattle.std.specs.Prelude.{◌≡◌, ◌++◌, IfOk, Ok, Err, map};
 ghost use Rattle.ssh_program.specs.Admissions.{AsksBy, IsToldUnread, and_then, beside_answer, denied_outcome, nothing_told, outcome_of, refusal_or, status_of, telling, text_of, told_both, told_by, told_of, told_response, total_of, unread_fault};
 ghost use Rattle.ssh_program.specs.AdmissionsView.{told_seen};
 ghost use Rattle.ssh_print.specs.OtherLines.{nothing_other, otherwise_seen};
+ghost use Rattle.ssh_review.specs.Asked.{asked_of};
 ghost use Rattle.ssh_files.specs.FilesInTurn.{TellsFile, TellsFiles};
 ghost use Rattle.ssh_files.specs.SourceState.{IfTells};
 ghost use Rattle.ssh_print.specs.ResponseView.{response};
 ghost use Rattle.ssh_program.specs.Audits.{Deciding, refusal_of};
+ghost use Rattle.ssh_program.specs.Fingerprints.{told_alone_by};
 
 use crate::audit::is_memory;
 use crate::file_question::FileQuestion;
@@ -16,7 +18,7 @@ use ssh_offers::{AuditError, Signed};
 use ssh_print::{
     DONE, FAULT, Otherwise, Response, Subject, answer_text, audit_fault, nothing_other,
 };
-use ssh_review::{Form, answer_object, answer_total};
+use ssh_review::{AskedAt, Form, answer_object, answer_total, asked_line};
 use ssh_trust::Decision;
 use std::alloc::{AllocError, Global};
 
@@ -39,7 +41,8 @@ pub enum Outcome {
     Faulty,
 }
 
-fn denied_outcome(may_admit: bool) -> Outcome
+/// The result of a file that denies.
+pub(crate) fn denied_outcome(may_admit: bool) -> Outcome
     ensures { result ≡ denied_outcome may_admit }
 {
     if may_admit {
@@ -62,7 +65,7 @@ impl Outcome {
 
     /// The result of the files so far together with that of one more file. A fault outranks a
     /// grant, as an error outranks a match in the status of grep(1).
-    fn and_then(self, next: Outcome) -> Outcome
+    pub(crate) fn and_then(self, next: Outcome) -> Outcome
         ensures { result ≡ and_then self next }
     {
         match (self, next) {
@@ -123,7 +126,7 @@ fn answer_in(
 }
 
 /// The answer of a file that could not be decided on.
-fn tell_fault(
+pub(crate) fn tell_fault(
     alloc: Global,
     who: AnswerForm,
     name: &[u8],
@@ -194,6 +197,35 @@ fn tell_bytes<Q: FileQuestion>(
     }
     let told = tell_answer(alloc, who, question, name, file, answer)?;
     Ok(told)
+}
+
+/// The answer of a trust file with these bytes, where all evidence is vouched for. An offer that is
+/// refused (A1 to A6) is a fault of the file.
+#[tactic(auto, using(crate::proofs::AdmissionLemmas::alone_told, crate::proofs::AdmissionLemmas::alone_refused))]
+pub(crate) fn tell_alone<Q: FileQuestion>(
+    alloc: Global,
+    who: AnswerForm,
+    question: &Q,
+    name: &[u8],
+    file: &[u8],
+) -> Result<FileAnswer, AllocError>
+    ensures { IfOk result (λ told. told_seen told ≡ told_alone_by who (Q.decides question.entry.now)
+        (Q.beside question.entry.now) (Q.rests_on question.entry.now) name.now file.now) }
+{
+    let evidence = question.evidence(alloc);
+    if is_memory(&evidence) {
+        return Err(AllocError);
+    }
+    match evidence {
+        Ok(evidence) => {
+            let told = tell_bytes(alloc, who, question, evidence.as_slice(), name, file)?;
+            Ok(told)
+        }
+        Err(error) => {
+            let told = tell_fault(alloc, who, name, error)?;
+            Ok(told)
+        }
+    }
 }
 
 fn refusal_or(refusal: Option<AuditError>, error: AuditError) -> AuditError
@@ -281,43 +313,54 @@ fn tell_files<Q: FileQuestion, F: Files>(
     Ok(FileAnswer { outcome, text })
 }
 
-/// The line of the total, which comes last in JSON.
-fn total_in(alloc: Global, who: AnswerForm, files: u64, status: u8) -> Result<Vec<u8>, AllocError>
-    ensures { IfOk result (λ text. text.items ≡ total_of who.form who.subject files status) }
+/// The last line, which says when the files were asked; in JSON it is the total.
+fn total_in(
+    alloc: Global,
+    who: AnswerForm,
+    at: &AskedAt<'_>,
+    files: u64,
+    status: u8,
+) -> Result<Vec<u8>, AllocError>
+    ensures { IfOk result (λ text. text.items
+        ≡ total_of who.form who.subject (asked_of at.entry.now) files status) }
 {
     match who.form {
-        Form::Text => Ok(Vec::new(alloc)),
-        Form::Json => answer_total(alloc, who.subject, files, status),
+        Form::Text => asked_line(alloc, at),
+        Form::Json => answer_total(alloc, who.subject, at, files, status),
     }
 }
 
 /// The response of files of this number.
-fn told_response(
+pub(crate) fn told_response(
     alloc: Global,
     who: AnswerForm,
+    at: &AskedAt<'_>,
     files: usize,
     told: FileAnswer,
 ) -> Result<Response, AllocError>
-    ensures { IfOk result (λ r. response r ≡ told_response who files (told_seen told)) }
+    ensures { IfOk result (λ r. response r
+        ≡ told_response who (asked_of at.entry.now) files (told_seen told)) }
 {
     let status = told.outcome.status();
-    let total = total_in(alloc, who, files as u64, status)?;
+    let total = total_in(alloc, who, at, files as u64, status)?;
     let mut text = told.text;
     text.extend_from_slice(&total)?;
     Ok(Response::new(status, text))
 }
 
 /// The response about the key by the trust files of these names, where all evidence is vouched for.
-/// An offer that is refused (A1 to A6) is reported before any file is read.
+/// An offer that is refused (A1 to A6) is reported before any file is read. The last line says when
+/// they were asked.
 pub fn ask_files<Q: FileQuestion, F: Files>(
     alloc: Global,
     who: AnswerForm,
+    at: &AskedAt<'_>,
     question: &Q,
     names: &[&str],
     files: &mut F,
 ) -> Result<Response, AllocError>
     ensures { IfTells (F.source_state files.old) (λ s. IfOk result (λ r.
-        AsksBy who (Q.decides question.entry.now) (Q.beside question.entry.now)
+        AsksBy who (asked_of at.entry.now) (Q.decides question.entry.now) (Q.beside question.entry.now)
         (Q.rests_on question.entry.now) (map (λ name. name.now) names.now) s (F.source_state files.new) (response r))) }
 {
     let evidence = question.evidence(alloc);
@@ -327,7 +370,7 @@ pub fn ask_files<Q: FileQuestion, F: Files>(
     match evidence {
         Ok(evidence) => {
             let told = tell_files(alloc, who, question, evidence.as_slice(), names, files)?;
-            let response = told_response(alloc, who, names.len(), told)?;
+            let response = told_response(alloc, who, at, names.len(), told)?;
             Ok(response)
         }
         Err(error) => audit_fault(alloc, error),

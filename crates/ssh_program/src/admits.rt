@@ -1,26 +1,31 @@
 //! The responses to `admits` and `trusts`: whether trust files would let in the key in a public
 //! key's file.
 
-ghost use Rattle.std.specs.Prelude.{IfOk, map, ◌<◌, ◌^◌, [], length, option_copied, option_map};
+ghost use Rattle.std.specs.Prelude.{IfOk, map, [], option_map};
 ghost use Rattle.ssh_program.specs.Admissions.{AsksFiles, AsksKey, AsksOffer, KeyAsking, or_shown_fault};
 ghost use Rattle.ssh_files.specs.SourceState.{IfTells};
 ghost use Rattle.ssh_print.specs.ResponseView.{response};
 ghost use Rattle.ssh_print.specs.Offering.{Offered, shown_offer_in, offer_seen};
 ghost use Rattle.jiff.specs.Words.{plain_zone};
-ghost use Rattle.ssh_print.specs.StandIn.{login_algorithm, stand_in};
-ghost use Rattle.ssh_program.specs.Keys.{AdmitsInZone, RespondsToAdmits, login_asking, RespondsToTrusts, host_asking};
+ghost use Rattle.ssh_print.specs.StandIn.{stand_in};
+ghost use Rattle.ssh_program.specs.Clients.{client_asks};
+ghost use Rattle.ssh_program.specs.ClientView.{client_seen};
+ghost use Rattle.ssh_program.specs.Keys.{AdmitsAt, AdmitsInZone, RespondsToAdmits, RespondsToTrusts, host_asking};
+ghost use Rattle.ssh_program.specs.declared.args.KeyPlace.TheVariants.{File};
 ghost use Rattle.ssh_program.specs.ArgsView.{IfAnswered, rows_in};
 
 use crate::admission::{AnswerForm, ask_files};
-use crate::args::{ArgName, Args};
-use crate::audit::{LoginQuestion, unread};
+use crate::args::{ArgName, Args, KeyPlace};
+use crate::audit::unread;
+use crate::by_fingerprint::admits_by_fingerprint;
+use crate::client::Client;
 use crate::command::CommandError;
 use crate::review::form;
 use jiff::tz::TimeZone;
 use ssh_files::{Files, read_top_line, zone_of};
-use ssh_offers::{EmptyPrincipals, HostQuery, LoginQuery};
-use ssh_print::{OfferedKey, Response, Subject, login_algorithm, read_offer, show_fault, stand_in};
-use ssh_review::Form;
+use ssh_offers::{EmptyPrincipals, HostQuery};
+use ssh_print::{OfferedKey, Response, Subject, read_offer, show_fault, stand_in};
+use ssh_review::{AskedAt, Form};
 use std::alloc::{AllocError, Global};
 
 /// The names of the input files of `login` and `host`: a trust file, and a vouch file where one is
@@ -96,35 +101,8 @@ pub fn ask_key<K: KeyQuestion, F: Files>(
     }
 }
 
-/// The options of `admits`: a login without its key and signature. The session identifier is empty
-/// and the signature is a stand-in, since no rule looks into either.
-#[derive(Clone, Copy)]
-struct Client<'a> {
-    user: &'a [u8],
-    host: Option<&'a [u8]>,
-    address: &'a [u8],
-    now: u64,
-    zone: &'a TimeZone<'static>,
-    empty_principals: EmptyPrincipals,
-    rsa_minimum: u32,
-    form: Form,
-    ghost short: { length user.now < 2 ^ 32 },
-}
-
 impl KeyQuestion for Client<'_> {
-    ghost asks = { λ x o. login_asking x.form (record {
-      offered = o.blob;
-      signature = stand_in o.kind;
-      algorithm = login_algorithm o.kind o.is_certificate;
-      session = [];
-      user = x.user.now;
-      host = option_copied x.host;
-      address = x.address.now;
-      now = x.now;
-      zone = plain_zone x.zone.now;
-      empty_principals = x.empty_principals;
-      rsa_minimum = x.rsa_minimum;
-    }) };
+    ghost asks = { λ x o. client_asks (client_seen x) o };
 
     fn ask<F: Files>(
         &self,
@@ -134,32 +112,33 @@ impl KeyQuestion for Client<'_> {
         files: &mut F,
     ) -> Result<Response, AllocError> {
         let signature = stand_in(alloc, offer.kind)?;
-        let query = LoginQuery {
-            offered: offer.blob.as_slice(),
-            signature: signature.as_slice(),
-            algorithm: login_algorithm(offer.kind, offer.is_certificate),
-            session: b"",
-            user: self.user,
-            host: self.host,
-            address: self.address,
-            now: self.now,
-            zone: self.zone,
-            empty_principals: self.empty_principals,
-            rsa_minimum: self.rsa_minimum,
-        };
-        let question = LoginQuestion { query };
-        let who = AnswerForm {
-            subject: Subject::Client,
-            form: self.form,
-        };
-        let response = ask_files(alloc, who, &question, names, files)?;
+        let question = self.question(offer, signature.as_slice());
+        let response = ask_files(alloc, self.who(), &self.at(), &question, names, files)?;
         Ok(response)
     }
 }
 
+/// The response to `admits` where the key's file is given.
+#[tactic(auto, unfolding(crate::specs::Keys::admits_spelled))]
+fn admits_by_file<F: Files>(
+    alloc: Global,
+    words: &Args<'_>,
+    zone: Option<TimeZone<'static>>,
+    files: &mut F,
+) -> Result<Response, CommandError>
+    ensures { IfTells (F.source_state files.old) (λ s. IfAnswered result (λ r.
+        AdmitsAt (rows_in words.now) (option_map plain_zone zone.entry) File s
+        (F.source_state files.new) r)) }
+{
+    let key = words.needed(ArgName::Key)?;
+    let client = Client::read(words, zone)?;
+    let names = words.needed_names()?;
+    let response = ask_key(alloc, &client, key, names, files)?;
+    Ok(response)
+}
+
 /// The response to `admits`, where the option for the zone has been read; `None` where its text is
 /// no zone.
-#[tactic(auto, unfolding(crate::specs::Keys::admits_spelled))]
 fn admits_in_zone<F: Files>(
     alloc: Global,
     words: &Args<'_>,
@@ -170,27 +149,11 @@ fn admits_in_zone<F: Files>(
         AdmitsInZone (rows_in words.now) (option_map plain_zone zone.entry) s
         (F.source_state files.new) r)) }
 {
-    let key = words.needed(ArgName::Key)?;
-    let user = words.short_text(ArgName::User)?;
-    let now = words.number(ArgName::Now)?;
-    let zone = ArgName::Zone.or_fault(zone)?;
-    let empty_principals = words.empty_principals()?;
-    let rsa_minimum = words.rsa_minimum()?;
-    let form = form(words)?;
-    let address = words.needed(ArgName::Address)?;
-    let names = words.needed_names()?;
-    let client = Client {
-        user: user.as_bytes(),
-        host: words.given(ArgName::Host).map(str::as_bytes),
-        address: address.as_bytes(),
-        now,
-        zone: &zone,
-        empty_principals,
-        rsa_minimum,
-        form,
-    };
-    let response = ask_key(alloc, &client, key, names, files)?;
-    Ok(response)
+    let place = words.key_place()?;
+    match place {
+        KeyPlace::File => admits_by_file(alloc, words, zone, files),
+        KeyPlace::Fingerprint => admits_by_fingerprint(alloc, words, zone, files),
+    }
 }
 
 /// The response to `admits`: whether `authorized_keys` files let the key in.
@@ -252,7 +215,11 @@ impl KeyQuestion for Host<'_> {
             subject: Subject::Host,
             form: self.form,
         };
-        let response = ask_files(alloc, who, &query, names, files)?;
+        let at = AskedAt {
+            now: self.now,
+            zone: None,
+        };
+        let response = ask_files(alloc, who, &at, &query, names, files)?;
         Ok(response)
     }
 }

@@ -10,6 +10,7 @@ ghost use Rattle.ssh_program.specs.Options.{is_required, option_word};
 ghost use Rattle.ssh_program.specs.Spelling.{or_fault, audit_files, given, names_given, names_needed, needed, pairs_given, sshsig_question, usual_port, value, value_or};
 ghost use Rattle.ssh_program.specs.ArgsView.{Spells, rows_in};
 ghost use Rattle.ssh_program.specs.FileNamesView.{files_seen, question_of};
+ghost use Rattle.ssh_program.specs.KeyPlaces.{key_place};
 ghost use Rattle.ssh_program.specs.Texts.{text_place, text_places};
 ghost use Rattle.ssh_program.specs.TextsView.{place_seen, places_seen};
 ghost use Rattle.ssh_offers.specs.declared.claim.EmptyPrincipals.TheVariants.{Any};
@@ -52,6 +53,7 @@ pub enum ArgName {
     Namespace,
     Salts,
     Key,
+    Fingerprint,
     Findings,
     Form,
 }
@@ -85,6 +87,7 @@ impl ArgName {
             ArgName::Namespace => "namespace",
             ArgName::Salts => "salts",
             ArgName::Key => "key",
+            ArgName::Fingerprint => "fingerprint",
             ArgName::Findings => "findings",
             ArgName::Form => "form",
         }
@@ -135,6 +138,15 @@ impl Needed {
             Needed::Optional => false,
         }
     }
+}
+
+/// The option of `admits` that gives the key.
+#[derive(Clone, Copy, Debug, PartialEq, Eq)]
+pub enum KeyPlace {
+    /// `--key`, the name of its file.
+    File,
+    /// `--fingerprint`.
+    Fingerprint,
 }
 
 /// The default port of ssh(1).
@@ -295,6 +307,17 @@ impl<'a> Args<'a> {
             offer: self.text_place(ArgName::Offer, ArgName::OfferFile)?,
             signature: self.text_place(ArgName::Signature, ArgName::SignatureFile)?,
         })
+    }
+
+    /// Which option gives the key. Exactly one of the two has to be given.
+    pub fn key_place(&self) -> Result<KeyPlace, CommandError>
+        ensures { Spells (λ place. place) (key_place (rows_in self.now)) result }
+    {
+        match (self.given(ArgName::Key), self.given(ArgName::Fingerprint)) {
+            (Some(_), None) => Ok(KeyPlace::File),
+            (None, Some(_)) => Ok(KeyPlace::Fingerprint),
+            _ => Err(CommandError::Usage),
+        }
     }
 
     /// The names of the files that `login` and `host` read.

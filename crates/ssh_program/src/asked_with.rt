@@ -4,7 +4,6 @@ ghost use Rattle.std.specs.Prelude.{◌≡◌, ◌++◌, IfOk, OnOk, false, map,
 ghost use Rattle.ssh_program.specs.DefaultsLine.{added, date_behind, date_if, defaults_line, line_of, said_line, said_word, said_words};
 ghost use Rattle.ssh_program.specs.DefaultsView.{around_seen};
 ghost use Rattle.ssh_program.specs.WordPlacesView.{word_seen};
-ghost use Rattle.ssh_print.specs.Dates.{date_of};
 
 use crate::defaults::{Surroundings, push_files, push_options, takes_defaults};
 use crate::subcommand::Subcommand;
@@ -29,14 +28,6 @@ fn added_words(
     Ok(added)
 }
 
-/// The date of a time in seconds.
-fn date_of(alloc: Global, moment: u64) -> Result<Vec<u8>, AllocError>
-    ensures { IfOk result (λ text. text.items ≡ date_of moment) }
-{
-    let text = date_text(alloc, moment)?;
-    Ok(text)
-}
-
 /// Appends the date of a time, in parentheses.
 fn push_date(alloc: Global, out: &mut Vec<u8>, moment: Option<u64>) -> Result<(), AllocError>
     ensures { OnOk result (out.new.items ≡ out.old.items ++ date_behind moment) }
@@ -44,7 +35,7 @@ fn push_date(alloc: Global, out: &mut Vec<u8>, moment: Option<u64>) -> Result<()
     let Some(moment) = moment else {
         return Ok(());
     };
-    let date = date_of(alloc, moment)?;
+    let date = date_text(alloc, moment)?;
     out.extend_from_slice(b" (")?;
     out.extend_from_slice(&date)?;
     out.push(b')')?;

@@ -179,8 +179,13 @@ fn pair_complaint<'a>(
 }
 
 /// What is wrong with one option as a whole.
-fn option_complaint<'a>(words: &[Word<'_>], row: OptionRow) -> Option<Complaint<'a>>
-    ensures { option_map complaint_seen result ≡ option_wrong (map word_seen words.now) row }
+fn option_complaint<'a>(
+    command: Subcommand,
+    words: &[Word<'_>],
+    row: OptionRow,
+) -> Option<Complaint<'a>>
+    ensures { option_map complaint_seen result
+        ≡ option_wrong command (map word_seen words.now) row }
 {
     if is_given_twice(row.0, words) {
         return Some(Complaint::Twice(row.0));
@@ -188,16 +193,16 @@ fn option_complaint<'a>(words: &[Word<'_>], row: OptionRow) -> Option<Complaint<
     if row.1.is_required() && !is_given(row.0, words) {
         return Some(Complaint::Missing(row.0));
     }
-    pair_complaint(row.0, other_place(row.0), words)
+    pair_complaint(row.0, other_place(command, row.0), words)
 }
 
 /// What is wrong with the first option with which something is.
 fn options_complaint<'a>(command: Subcommand, words: &[Word<'_>]) -> Option<Complaint<'a>>
     ensures { option_map complaint_seen result
-        ≡ first_wrong (option_wrong (map word_seen words.now)) (subcommand_options command) }
+        ≡ first_wrong (option_wrong command (map word_seen words.now)) (subcommand_options command) }
 {
     for row in command.options() {
-        if let Some(complaint) = option_complaint(words, *row) {
+        if let Some(complaint) = option_complaint(command, words, *row) {
             return Some(complaint);
         }
     }

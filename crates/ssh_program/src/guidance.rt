@@ -5,7 +5,7 @@ ghost use Rattle.std.specs.List.{before_first, list_any};
 ghost use Rattle.ssh_print.specs.Explaining.{row_text};
 ghost use Rattle.ssh_print.specs.Table.{code_row, row_of};
 ghost use Rattle.ssh_program.specs.ComplaintsView.{complaint_seen};
-ghost use Rattle.ssh_program.specs.Guidance.{asks_commands, asks_help, code_by, code_sentence, command_usage, complaint_front, complaint_lines, fault_by, fault_guidance, fault_sentence, file_sentence, front, is_end, is_help, is_space, line_sentence, no_command, no_words, option_of, options_pointer, row_sentence, tells_faults, text_of, told_sentence, usage_by, usage_guidance, value_sentence};
+ghost use Rattle.ssh_program.specs.Guidance.{asks_commands, asks_help, asks_readable, code_by, code_sentence, command_usage, complaint_front, complaint_lines, fault_by, fault_guidance, fault_sentence, file_sentence, front, is_end, is_help, is_readable, is_space, line_sentence, no_command, no_words, option_of, options_pointer, row_sentence, tells_faults, text_of, told_sentence, usage_by, usage_guidance, value_sentence};
 ghost use Rattle.ssh_program.specs.Help.{wants_text};
 ghost use Rattle.ssh_program.specs.Options.{subcommand_named};
 ghost use Rattle.ssh_program.specs.WordPlacesView.{word_seen};
@@ -371,12 +371,20 @@ fn push_named_fault(
     }
 }
 
+fn is_readable(command: Option<Subcommand>) -> bool
+    ensures { result ≡ is_readable command }
+{
+    matches!(command, Some(Subcommand::Readable))
+}
+
 /// Whether the words ask for the readable entries of a file: then standard error says which lines
 /// are left out.
-pub fn asks_readable(words: &[&str]) -> bool {
-    match words.first() {
-        Some(name) => Subcommand::named(name) == Some(Subcommand::Readable),
+pub fn asks_readable(words: &[&str]) -> bool
+    ensures { result ≡ asks_readable (map (λ word. word.now) words.now) }
+{
+    match words.split_first() {
         None => false,
+        Some((name, _)) => is_readable(Subcommand::named(name)),
     }
 }
 

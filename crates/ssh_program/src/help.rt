@@ -2,7 +2,7 @@
 
 ghost use Rattle.std.specs.Prelude.{◌≡◌, ◌++◌, OnOk, Some};
 ghost use Rattle.std.specs.List.{flat_map};
-ghost use Rattle.ssh_program.specs.Help.{command_line, command_sentence, commands_help, default_kind, default_time, default_word, default_zone, file_sentence, help_form, help_forms, help_names, help_option, host_sentence, is_joined, kind_sentence, minimum_sentence, needed_by, needed_word, option_sentence, options_help, other_place, port_sentence, value_word, wanted_value};
+ghost use Rattle.ssh_program.specs.Help.{command_line, command_sentence, commands_help, default_kind, default_time, default_word, default_zone, file_sentence, help_form, help_forms, help_names, help_option, host_sentence, is_joined, key_sentence, kind_sentence, minimum_sentence, needed_by, needed_word, option_sentence, options_help, other_key, other_place, port_sentence, value_word, wanted_value};
 
 use crate::args::{ArgName, Needed};
 use crate::subcommand::{OptionRow, Subcommand};
@@ -67,6 +67,7 @@ fn value_word(option: ArgName) -> &'static [u8]
         ArgName::Namespace => b"TEXT",
         ArgName::Salts => b"FILE",
         ArgName::Key => b"FILE",
+        ArgName::Fingerprint => b"FINGERPRINT",
         ArgName::Findings => b"CODES",
         ArgName::Form => b"FORM",
     }
@@ -125,6 +126,21 @@ fn port_sentence(command: Subcommand) -> &'static [u8]
     }
 }
 
+/// What `--key` gives to a command.
+fn key_sentence(command: Subcommand) -> &'static [u8]
+    ensures { result.now ≡ key_sentence command }
+{
+    match command {
+        Subcommand::Review => {
+            b"list only this key: the file of the public key or certificate, or its fingerprint"
+        }
+        Subcommand::Admits => {
+            b"the .pub file of the key or certificate, or the key's fingerprint as sshd logs it"
+        }
+        _ => b"the file of the public key or certificate, as id_ed25519.pub",
+    }
+}
+
 /// What an option gives to a command, as a sentence.
 fn option_sentence(command: Subcommand, option: ArgName) -> &'static [u8]
     ensures { result.now ≡ option_sentence command option }
@@ -158,7 +174,8 @@ fn option_sentence(command: Subcommand, option: ArgName) -> &'static [u8]
         ArgName::Message => b"the file that was signed",
         ArgName::Namespace => b"what the signature has to be for",
         ArgName::Salts => b"a file of 20 raw bytes for each name",
-        ArgName::Key => b"the file of the public key or certificate, as id_ed25519.pub",
+        ArgName::Key => key_sentence(command),
+        ArgName::Fingerprint => b"the fingerprint of the key, as sshd logs it",
         ArgName::Findings =>
             b"the findings that are reported: all, none, or codes joined by commas",
         ArgName::Form => b"text (so without it), or json for one object on each line",
@@ -194,20 +211,32 @@ pub fn wanted_value(option: ArgName) -> &'static [u8]
         ArgName::Message => b"the name of a file",
         ArgName::Namespace => b"a text",
         ArgName::Salts => b"the name of a file",
-        ArgName::Key => b"the name of a file",
+        ArgName::Key => b"the name of a file, or a fingerprint as ssh-keygen -l prints it",
+        ArgName::Fingerprint => b"SHA256: and 43 characters of base64, as in sshd's log",
         ArgName::Findings => b"all, none, or codes from F1 to F22 joined by commas",
         ArgName::Form => b"text or json",
     }
 }
 
-/// The option that gives the same in another way: exactly one of the two has to be given. `None` of
-/// an option that stands alone.
-pub fn other_place(option: ArgName) -> Option<ArgName>
-    ensures { result ≡ other_place option }
+/// The other way to give the key to a command.
+fn other_key(command: Subcommand) -> Option<ArgName>
+    ensures { result ≡ other_key command }
+{
+    match command {
+        Subcommand::Admits => Some(ArgName::Fingerprint),
+        _ => None,
+    }
+}
+
+/// The option that gives the same to a command in another way: exactly one of the two has to be
+/// given. `None` of an option that stands alone.
+pub fn other_place(command: Subcommand, option: ArgName) -> Option<ArgName>
+    ensures { result ≡ other_place command option }
 {
     match option {
         ArgName::Offer => Some(ArgName::OfferFile),
         ArgName::Signature => Some(ArgName::SignatureFile),
+        ArgName::Key => other_key(command),
         _ => None,
     }
 }
@@ -217,7 +246,7 @@ pub fn is_joined(option: ArgName) -> bool
     ensures { result ≡ is_joined option }
 {
     match option {
-        ArgName::OfferFile | ArgName::SignatureFile => true,
+        ArgName::OfferFile | ArgName::SignatureFile | ArgName::Fingerprint => true,
         _ => false,
     }
 }
@@ -234,10 +263,14 @@ fn push_form(out: &mut Vec<u8>, option: ArgName) -> Result<(), AllocError>
 }
 
 /// An option, or the two of which exactly one has to be given, as in a synopsis of man-pages(7).
-pub fn push_forms(out: &mut Vec<u8>, option: ArgName) -> Result<(), AllocError>
-    ensures { OnOk result (out.new.items ≡ out.old.items ++ help_forms option (other_place option)) }
+pub fn push_forms(
+    out: &mut Vec<u8>,
+    option: ArgName,
+    other: Option<ArgName>,
+) -> Result<(), AllocError>
+    ensures { OnOk result (out.new.items ≡ out.old.items ++ help_forms option other) }
 {
-    match other_place(option) {
+    match other {
         None => push_form(out, option),
         Some(other) => push_both_forms(out, option, other),
     }
@@ -337,10 +370,11 @@ fn push_option_help(
     if is_joined(row.0) {
         return Ok(());
     }
+    let other = other_place(command, row.0);
     out.extend_from_slice(b"  ")?;
-    push_forms(out, row.0)?;
+    push_forms(out, row.0, other)?;
     out.extend_from_slice(b"\n      ")?;
-    push_needed(out, default_word(command, row.0), row.1, other_place(row.0))?;
+    push_needed(out, default_word(command, row.0), row.1, other)?;
     out.extend_from_slice(option_sentence(command, row.0))?;
     out.extend_from_slice(default_word(command, row.0))?;
     out.push(b'\n')?;

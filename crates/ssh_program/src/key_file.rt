@@ -1,7 +1,7 @@
 //! What a file is that holds no public key line, by its first bytes, and what to hand in instead.
 
 ghost use Rattle.std.specs.Prelude.{◌≡◌};
-ghost use Rattle.ssh_program.specs.KeyFiles.{is_host_line, is_plain_class, is_private_key, key_file_form};
+ghost use Rattle.ssh_program.specs.KeyFiles.{form_sentence, is_host_line, is_plain_class, is_private_key, key_file_form};
 
 use ssh_keys::{NameClass, name_class};
 use ssh_text::{skip_blanks, split_word};
@@ -78,7 +78,9 @@ pub fn key_file_form(front: &[u8]) -> Option<KeyFileForm>
 
 impl KeyFileForm {
     /// What it is, and what to hand in, as a line of standard error.
-    pub fn sentence(self) -> &'static str {
+    pub fn sentence(self) -> &'static str
+        ensures { result.now ≡ form_sentence self }
+    {
         match self {
             KeyFileForm::PrivateKey => {
                 "ssh_audit: --key: this is a private key: hand in its .pub file (ssh-keygen -y makes one)\n"

@@ -1,7 +1,7 @@
 //! Laws of the definitions, and worked examples: the check proves what each function ensures. No call
 //! needs them.
 
-ghost use Rattle.std.specs.Prelude.{◌≡◌, ◌++◌, ℕ, List, Ok, codes, Some, slice_get};
+ghost use Rattle.std.specs.Prelude.{◌≡◌, ◌++◌, ℕ, List, Ok, codes, Some, length, slice_get};
 ghost use Rattle.std.specs.Fmt.{decimal};
 ghost use Rattle.std.specs.List.{AllByRecursion};
 ghost use Rattle.ssh_bodies.specs.Sshsig.{Sshsig, digest_of};
@@ -25,14 +25,18 @@ ghost use Rattle.ssh_print.specs.Denials.{HoldsAnother};
 ghost use Rattle.ssh_print.specs.PossibleLines.{sought_blob};
 ghost use Rattle.ssh_program.specs.Admissions.{status_by};
 ghost use Rattle.ssh_review.specs.declared.end.Form.{Form};
-ghost use Rattle.ssh_program.specs.Keys.{login_asking};
+ghost use Rattle.ssh_program.specs.Clients.{login_asking};
 ghost use Rattle.ssh_trust.specs.declared.decision.Decision.{Decision as DecisionValue};
+ghost use Rattle.ssh_keys.specs.Fingerprint.{digest_text_of};
+ghost use Rattle.ssh_offers.specs.FirstRefusal.{AreBytes};
+ghost use Rattle.ssh_program.specs.FingerprintSamples.{FingerprintsRead};
+ghost use Rattle.ssh_program.specs.FingerprintValues.{fingerprint_bytes};
 ghost use Rattle.ssh_program.specs.FileSamples.{FaultsInOrder, HashFaultsInOrder, RewriteKinds, SignatureFaultsInOrder, TrustFilesLeft, VouchFilesTold, VouchFilesWritten};
 ghost use Rattle.jiff.specs.Types.{TimeZone as Zone};
 ghost use Rattle.ssh_program.specs.DefaultSamples.{HostsTold, OthersTold, ReviewsTold};
 ghost use Rattle.ssh_program.specs.Samples.{HostValuesInOrder, LoginAsksMore, LoginSpelled, LoginValuesInOrder, ShowKinds, TextsOfFiles};
-ghost use Rattle.ssh_program.specs.ArgsSamples.{HostsAsked, KeysAsked, LoginsAsked, OthersAsked, ReviewsAsked, TextsAsked, UsageTold, WordsRefused};
-ghost use Rattle.ssh_program.specs.AnswerSamples.{AdmitsSpelled, OutcomesSummed, StatusesTold, TrustsSpelled};
+ghost use Rattle.ssh_program.specs.ArgsSamples.{HostsAsked, KeyPlacesAsked, KeysAsked, LoginsAsked, OthersAsked, ReviewsAsked, TextsAsked, UsageTold, WordsRefused};
+ghost use Rattle.ssh_program.specs.AnswerSamples.{AdmitsSpelled, FingerprintsRefused, OutcomesSummed, StatusesTold, TrustsSpelled};
 
 /// What is printed of a signature is, after its number, a line of a vouch file; and a vouch file of
 /// such lines vouches for exactly these signatures.
@@ -74,10 +78,10 @@ fn granted_rule()
 /// Where `admits` answers status 1 to a file, every line of it that cannot be read holds another key
 /// where sshd looks for one.
 fn denied_rule()
-    ensures { (form : Form) (q : Login) (claim : LoginClaim) (evidence : List Signed)
-        (name file line : List ℕ) (i : ℕ) (cause : LineCause)
+    ensures { (form : Form) (rule : List ℕ) (q : Login) (claim : LoginClaim)
+        (evidence : List Signed) (name file line : List ℕ) (i : ℕ) (cause : LineCause)
         → login_claim q ≡ Ok claim
-        → status_by (login_asking form q) evidence name file ≡ 1
+        → status_by (login_asking form rule q) evidence name file ≡ 1
         → slice_get (lines_of file) i ≡ Some line
         → auth_line line ≡ Unreadable cause
         → HoldsAnother line (sought_blob claim) }
@@ -111,6 +115,7 @@ fn words_as_asked()
     ensures hosts { HostsAsked }
     ensures texts { TextsAsked }
     ensures keys { KeysAsked }
+    ensures places { KeyPlacesAsked }
     ensures others { OthersAsked }
     ensures reviews { ReviewsAsked }
     ensures refused { WordsRefused }
@@ -120,6 +125,7 @@ fn words_as_asked()
 /// What the options of `admits` and `trusts` spell, what files come to together, and the status of that.
 fn outcomes_as_summed()
     ensures admits { (zone : Zone) → AdmitsSpelled zone }
+    ensures fingerprints { (zone : Zone) → FingerprintsRefused zone }
     ensures trusts { TrustsSpelled }
     ensures summed { OutcomesSummed }
     ensures statuses { StatusesTold }
@@ -130,4 +136,15 @@ fn defaults_as_told()
     ensures reviews { ReviewsTold }
     ensures others { OthersTold }
     ensures hosts { HostsTold }
+{}
+
+/// Which digest the text of a fingerprint gives: the text that `ssh-keygen -l` prints of a digest
+/// gives it, and no other text gives one.
+fn fingerprints_as_read()
+    ensures read { FingerprintsRead }
+    ensures spelled { (text digest : List ℕ) → AreBytes text
+        → fingerprint_bytes text ≡ Some digest
+        → text ≡ codes "SHA256:" ++ digest_text_of digest }
+    ensures again { (digest : List ℕ) → length digest ≡ 32 → AreBytes digest
+        → fingerprint_bytes (codes "SHA256:" ++ digest_text_of digest) ≡ Some digest }
 {}

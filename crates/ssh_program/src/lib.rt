@@ -4,10 +4,11 @@
 //! `login` and `host` decide on an offer with its signature: the vouch file is read, then the trust
 //! file.
 //!
-//! `admits` and `trusts` decide on a key alone, by any number of trust files. `explain` prints what
-//! codes mean.
+//! `admits` and `trusts` decide on a key alone, by any number of trust files. `admits` also takes a
+//! fingerprint in place of the key. `explain` prints what codes mean.
 //!
-//! `review` lists the entries and findings of any number of trust files, and then their total.
+//! `review` lists the entries and findings of any number of trust files, or those of one key, and
+//! then their total.
 //! `rewrite`, `readable` and `hash` print a new trust file, `show` prints one key, and `sshsig`
 //! answers about a file signature.
 //!
@@ -21,18 +22,23 @@ mod admits;
 mod args;
 mod asked_with;
 mod audit;
+mod by_fingerprint;
+mod client;
 mod command;
 mod complaint;
 mod date;
 mod decisions;
 mod defaults;
 mod file_question;
+mod fingerprint_value;
 mod guidance;
 mod help;
 mod host_port;
 mod key_file;
+mod key_seeking;
 mod kinds;
 mod laws;
+mod offer_fingerprint;
 mod printing;
 mod program;
 mod review;
@@ -47,7 +53,7 @@ mod vouching;
 mod word;
 
 pub use admits::{AuditFiles, SshsigQuestion, respond_admits, respond_trusts};
-pub use args::{ArgName, Args, Needed};
+pub use args::{ArgName, Args, KeyPlace, Needed};
 pub use asked_with::defaults_line;
 pub use audit::{LoginQuestion, Question, decide_by_file, is_memory, unread};
 pub use command::{CommandError, Request, WordsError, parse, respond_fault};

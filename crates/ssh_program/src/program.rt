@@ -11,13 +11,15 @@ ghost use Rattle.clap.specs.Words.{Row};
 ghost use Rattle.ssh_program.specs.Account.{NoneFailed};
 ghost use Rattle.ssh_print.specs.Responses.{Response as Shown};
 ghost use Rattle.ssh_program.specs.GrantedRuns.{AsksFor, DeniesHost, DeniesLogin, GrantsHost, GrantsLogin};
-ghost use Rattle.ssh_program.specs.KeyRuns.{AsksOfFiles, ClientAdmitted, ClientKeptOut, HostDistrusted, HostTrusted};
+ghost use Rattle.ssh_program.specs.FingerprintRuns.{AsksByFingerprint, FingerprintAdmitted, FingerprintKeptOut};
+ghost use Rattle.ssh_program.specs.KeyRuns.{AsksByKey, AsksOfFiles, ClientAdmitted, ClientKeptOut, HostDistrusted, HostTrusted};
+ghost use Rattle.ssh_program.specs.KeyStanding.{AsksForKey, KeyNowhere, KeyStanding};
 ghost use Rattle.ssh_program.specs.SignatureRuns.{AsksSignature, SignatureUnvouched, SignatureVouched};
-ghost use Rattle.ssh_program.specs.FileRuns.{AsksWith, FileHashed, FileReadable, FileRewritten, FilesReviewed};
+ghost use Rattle.ssh_program.specs.FileRuns.{AsksNoKey, AsksWith, FileHashed, FileReadable, FileRewritten, FilesReviewed};
 ghost use Rattle.ssh_program.specs.Printing.{WritesResponse};
 ghost use Rattle.ssh_program.specs.FileNames.{AuditFiles, SshsigQuestion as SshsigAsked};
 ghost use Rattle.ssh_program.specs.Texts.{TextPlaces};
-ghost use Rattle.ssh_program.specs.declared.subcommand.Subcommand.TheVariants.{Admits, Hash, Host, Login, Readable, Review, Rewrite, Trusts};
+ghost use Rattle.ssh_program.specs.declared.subcommand.Subcommand.TheVariants.{Hash, Host, Login, Readable, Review, Rewrite, Trusts};
 
 use crate::admits::{respond_admits, respond_trusts};
 use crate::command::{CommandError, Request, WordsError, parse, respond_fault};
@@ -211,18 +213,32 @@ pub fn run<S: AsStr, F: Files, W: Sink>(
         → result ≡ 1
         → (r : Shown) × SignatureUnvouched w (source_of (map S.text words.now) s) r
         × WritesResponse (W.account writer.old) (W.account writer.new) r result) }
-    // Status 0 of `admits`: a line of one of the named files admits the key of the client.
+    // Status 0 of `admits --key`: a line of one of the named files admits the key of the client.
     ensures admits { IfTells (F.source_state files.old) (λ s. (rows : List Row)
         (names : List (List ℕ))
-        → AsksOfFiles Admits (map S.text words.now) s rows names
+        → AsksByKey (map S.text words.now) s rows names
         → result ≡ 0
         → ClientAdmitted rows (source_of (map S.text words.now) s)) }
-    // Status 1 of `admits`: each of the named files is there, and no line of any admits it.
+    // Status 1 of `admits --key`: each of the named files is there, and no line of any admits it.
     ensures admits_none { IfTells (F.source_state files.old) (λ s. (rows : List Row)
         (names : List (List ℕ))
-        → AsksOfFiles Admits (map S.text words.now) s rows names
+        → AsksByKey (map S.text words.now) s rows names
         → result ≡ 1
         → ClientKeptOut rows (source_of (map S.text words.now) s)) }
+    // Status 0 of `admits --fingerprint`: a line of one of the named files admits the first key of
+    // this fingerprint that the file holds.
+    ensures admits_fingerprint { IfTells (F.source_state files.old) (λ s. (rows : List Row)
+        (names : List (List ℕ))
+        → AsksByFingerprint (map S.text words.now) s rows names
+        → result ≡ 0
+        → FingerprintAdmitted rows (source_of (map S.text words.now) s)) }
+    // Status 1 of `admits --fingerprint`: each of the named files is there. It holds no key of this
+    // fingerprint and admits none, or no line of it admits the first one that it holds.
+    ensures admits_no_fingerprint { IfTells (F.source_state files.old) (λ s. (rows : List Row)
+        (names : List (List ℕ))
+        → AsksByFingerprint (map S.text words.now) s rows names
+        → result ≡ 1
+        → FingerprintKeptOut rows (source_of (map S.text words.now) s)) }
     // Status 0 of `trusts`: a line of one of the named files trusts the key of the host.
     ensures trusts { IfTells (F.source_state files.old) (λ s. (rows : List Row)
         (names : List (List ℕ))
@@ -254,13 +270,31 @@ pub fn run<S: AsStr, F: Files, W: Sink>(
         → result ≡ 0
         → (r : Shown) × FileHashed rows (source_of (map S.text words.now) s) r
         × WritesResponse (W.account writer.old) (W.account writer.new) r result) }
-    // Status 0 or 1 of `review`: each of the named files is there, and what was printed lists each
-    // line by which one of them lets in a login or trusts a host's key.
+    // Status 0 or 1 of `review` that asks for no key: each of the named files is there, and what was
+    // printed lists each line by which one of them lets in a login or trusts a host's key.
     ensures review { IfTells (F.source_state files.old) (λ s. (rows : List Row)
         (names : List (List ℕ))
         → AsksOfFiles Review (map S.text words.now) s rows names
+        → AsksNoKey rows
         → result < 2
         → (r : Shown) × FilesReviewed rows (source_of (map S.text words.now) s) r
+        × WritesResponse (W.account writer.old) (W.account writer.new) r result) }
+    // Status 1 of `review --key`: a line of one of the named files holds the key, or cannot be read
+    // and holds it, and the records of these lines were printed.
+    ensures review_key { IfTells (F.source_state files.old) (λ s. (rows : List Row)
+        (names : List (List ℕ)) (key : List ℕ)
+        → AsksOfFiles Review (map S.text words.now) s rows names
+        → AsksForKey rows key
+        → result ≡ 1
+        → (r : Shown) × KeyStanding rows key (source_of (map S.text words.now) s) r
+        × WritesResponse (W.account writer.old) (W.account writer.new) r result) }
+    // Status 0 of `review --key`: each of the named files is there, and no line of any holds the key.
+    ensures review_key_none { IfTells (F.source_state files.old) (λ s. (rows : List Row)
+        (names : List (List ℕ)) (key : List ℕ)
+        → AsksOfFiles Review (map S.text words.now) s rows names
+        → AsksForKey rows key
+        → result ≡ 0
+        → (r : Shown) × KeyNowhere rows key (source_of (map S.text words.now) s) r
         × WritesResponse (W.account writer.old) (W.account writer.new) r result) }
 {
     answer(alloc, words, files, writer)

@@ -2,10 +2,10 @@
 
 ghost use Rattle.std.specs.Prelude.{◌≡◌, ◌^◌, Some, option_map, IfOk, map};
 ghost use Rattle.ssh_findings.specs.Codes.{codes_in, default_codes};
-ghost use Rattle.ssh_files.specs.Values.{number_below};
+ghost use Rattle.ssh_files.specs.Values.{number_below, zone_text};
 ghost use Rattle.ssh_review.specs.declared.end.Form.TheVariants.{Text};
 ghost use Rattle.ssh_program.specs.Spelled.{form_of, review_kind_of, usual_minimum, RespondsToReview, ReviewsInZone};
-ghost use Rattle.ssh_program.specs.Spelling.{value, value_or};
+ghost use Rattle.ssh_program.specs.Spelling.{given, value, value_or};
 ghost use Rattle.ssh_program.specs.ArgsView.{Spells, rows_in, IfAnswered};
 ghost use Rattle.ssh_review.specs.Reviews.{review};
 ghost use Rattle.ssh_program.specs.Totals.{fault_count, nothing, total_status, with_counts, with_review};
@@ -13,12 +13,13 @@ ghost use Rattle.ssh_findings.specs.Asking.{asking_of};
 ghost use Rattle.ssh_files.specs.FilesInTurn.{TellsFile, TellsFiles};
 ghost use Rattle.ssh_files.specs.SourceState.{IfTells};
 ghost use Rattle.ssh_print.specs.ResponseView.{response};
-ghost use Rattle.ssh_program.specs.FileReviews.{IsUnreadReview, ReviewsFiles, no_lines, review_of, telling_review, lines_seen, with_file};
+ghost use Rattle.ssh_program.specs.FileReviews.{IsUnreadReview, ReviewsFiles, kind_name, no_lines, review_of, telling_review, lines_seen, with_file};
 ghost use Rattle.jiff.specs.Words.{plain_zone};
 ghost use Rattle.ssh_program.specs.declared.args.ArgName.TheVariants as option;
 
 use crate::args::{ArgName, Args};
 use crate::command::CommandError;
+use crate::key_seeking::review_for;
 use jiff::tz::TimeZone;
 use ssh_files::{Files, ReadError, read_bits, read_whole, zone_of};
 use ssh_findings::{Code, ReviewOptions, parse_codes};
@@ -47,6 +48,16 @@ fn read_kind(word: &str) -> Option<ReviewKind>
         Some(ReviewKind::Known)
     } else {
         None
+    }
+}
+
+/// The name of a format in `--kind`.
+pub fn kind_name(kind: ReviewKind) -> &'static [u8]
+    ensures { result.now ≡ kind_name kind }
+{
+    match kind {
+        ReviewKind::Auth => b"auth",
+        ReviewKind::Known => b"known",
     }
 }
 
@@ -110,8 +121,18 @@ pub fn form(words: &Args<'_>) -> Result<Form, CommandError>
     ArgName::Form.or_fault(read)
 }
 
+/// The time zone of expiry times without `Z`, as the POSIX rule in `--zone`: UTC where the option is not given.
+pub fn zone_rule<'a>(words: &Args<'a>) -> &'a [u8]
+    ensures { result.now ≡ zone_text (given option.Zone (rows_in words.now)) }
+{
+    match words.given(ArgName::Zone) {
+        None => b"UTC0",
+        Some(rule) => rule.as_bytes(),
+    }
+}
+
 /// The status where something was found.
-const FOUND: u8 = 1;
+pub const FOUND: u8 = 1;
 
 /// The total before the first file.
 pub const NOTHING: Total = Total {
@@ -248,22 +269,23 @@ fn tell_files<F: Files>(
     Ok(FileReport { total, text })
 }
 
-/// The response: the reviews of the files of these names, and then their total. A file that cannot
-/// be reviewed has its fault, and the next is reviewed all the same.
+/// The response: the reviews of the files of these names, and then their total, which says the time
+/// zone by its rule. A file that cannot be reviewed has its fault, and the next is reviewed all the same.
 pub fn review_files<F: Files>(
     alloc: Global,
     kind: ReviewKind,
     form: Form,
+    rule: &[u8],
     asked: &ReviewOptions<'_>,
     names: &[&str],
     files: &mut F,
 ) -> Result<Response, AllocError>
     ensures { IfTells (F.source_state files.old) (λ s. IfOk result (λ r.
-        ReviewsFiles kind form (asking_of asked.entry.now) (map (λ name. name.now) names.now) s
+        ReviewsFiles kind form rule.now (asking_of asked.entry.now) (map (λ name. name.now) names.now) s
         (F.source_state files.new) (response r))) }
 {
     let told = tell_files(alloc, kind, form, asked, names, files)?;
-    let line = total_line(alloc, form, &told.total)?;
+    let line = total_line(alloc, form, kind_name(kind), rule, asked, &told.total)?;
     let status = total_status(&told.total);
     let mut text = told.text;
     text.extend_from_slice(&line)?;
@@ -290,18 +312,19 @@ fn review_in_zone<F: Files>(
     let told = told_codes(alloc, words)?;
     let form = form(words)?;
     let names = words.needed_names()?;
+    let rule = zone_rule(words);
     let asked = ReviewOptions {
         now,
         zone: &zone,
         rsa_minimum,
         told: &told,
     };
-    let response = review_files(alloc, kind, form, &asked, names, files)?;
-    Ok(response)
+    let key = words.given(ArgName::Key);
+    review_for(alloc, kind, form, rule, &asked, names, key, files)
 }
 
-/// The response to `review`. The values of the options are read first, then the files in their
-/// order.
+/// The response to `review`. The values of the options are read first, then the file of `--key` if
+/// it names one, then the files in their order.
 pub fn respond_review<F: Files>(
     alloc: Global,
     words: &Args<'_>,

@@ -91,8 +91,9 @@ const READABLE: [OptionRow; 1] = [(ArgName::File, Required)];
 
 const HASH: [OptionRow; 2] = [(ArgName::File, Required), (ArgName::Salts, Required)];
 
-const ADMITS: [OptionRow; 9] = [
-    (ArgName::Key, Required),
+const ADMITS: [OptionRow; 10] = [
+    (ArgName::Key, Optional),
+    (ArgName::Fingerprint, Optional),
     (ArgName::User, Required),
     (ArgName::Address, Required),
     (ArgName::Now, Required),
@@ -113,9 +114,10 @@ const TRUSTS: [OptionRow; 7] = [
     (ArgName::Form, Optional),
 ];
 
-const REVIEW: [OptionRow; 6] = [
+const REVIEW: [OptionRow; 7] = [
     (ArgName::Kind, Required),
     (ArgName::Now, Required),
+    (ArgName::Key, Optional),
     (ArgName::Zone, Optional),
     (ArgName::RsaMinimum, Optional),
     (ArgName::Findings, Optional),
@@ -232,30 +234,40 @@ fn shown_needed(other: Option<ArgName>, needed: Needed) -> Needed
 }
 
 /// On an error the option may have been appended in part.
-fn push_usage_forms(out: &mut Vec<u8>, needed: Needed, option: ArgName) -> Result<(), AllocError>
-    ensures { OnOk result (out.new.items ≡ out.old.items ++ usage_forms needed option) }
+fn push_usage_forms(
+    out: &mut Vec<u8>,
+    needed: Needed,
+    option: ArgName,
+    other: Option<ArgName>,
+) -> Result<(), AllocError>
+    ensures { OnOk result (out.new.items ≡ out.old.items ++ usage_forms needed option other) }
 {
     out.extend_from_slice(opened(needed))?;
-    push_forms(out, option)?;
+    push_forms(out, option, other)?;
     out.extend_from_slice(closed(needed))?;
     Ok(())
 }
 
-fn push_option(out: &mut Vec<u8>, row: OptionRow) -> Result<(), AllocError>
-    ensures { OnOk result (out.new.items ≡ out.old.items ++ usage_option row) }
+fn push_option(out: &mut Vec<u8>, subcommand: Subcommand, row: OptionRow) -> Result<(), AllocError>
+    ensures { OnOk result (out.new.items ≡ out.old.items ++ usage_option subcommand row) }
 {
     if is_joined(row.0) {
-        Ok(())
-    } else {
-        push_usage_forms(out, shown_needed(other_place(row.0), row.1), row.0)
+        return Ok(());
     }
+    let other = other_place(subcommand, row.0);
+    push_usage_forms(out, shown_needed(other, row.1), row.0, other)
 }
 
-fn push_options(out: &mut Vec<u8>, rows: &[OptionRow]) -> Result<(), AllocError>
-    ensures { OnOk result (out.new.items ≡ out.old.items ++ flat_map usage_option rows.now) }
+fn push_options(
+    out: &mut Vec<u8>,
+    subcommand: Subcommand,
+    rows: &[OptionRow],
+) -> Result<(), AllocError>
+    ensures { OnOk result
+        (out.new.items ≡ out.old.items ++ flat_map (usage_option subcommand) rows.now) }
 {
     for row in rows {
-        push_option(out, *row)?;
+        push_option(out, subcommand, *row)?;
     }
     Ok(())
 }
@@ -292,7 +304,7 @@ fn push_line(out: &mut Vec<u8>, subcommand: Subcommand) -> Result<(), AllocError
 {
     out.extend_from_slice(b"ssh_audit ")?;
     out.extend_from_slice(subcommand.name().as_bytes())?;
-    push_options(out, subcommand.options())?;
+    push_options(out, subcommand, subcommand.options())?;
     push_names(out, subcommand, subcommand.names())?;
     out.push(b'\n')?;
     Ok(())

@@ -62,7 +62,7 @@ blind-short asking line = both _ _ 1 1 (if-short asking _ _) (if-short asking tr
 
 -- ---- lines
 
-line-within : (asking : Asking) (earlier : List HostLine) (line : List ℕ) (said : KnownLine) → Within (host_line_counts asking earlier line said) 1
+pub line-within : (asking : Asking) (earlier : List HostLine) (line : List ℕ) (said : KnownLine) → Within (host_line_counts asking earlier line said) 1
 line-within asking earlier line Blank = record { lines = omega arith; keys = omega arith; unreadable = omega arith; findings = omega arith }
 line-within asking earlier line Comment = record { lines = omega arith; keys = omega arith; unreadable = omega arith; findings = omega arith }
 line-within asking earlier line (Entry e) =

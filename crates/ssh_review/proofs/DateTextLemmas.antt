@@ -43,7 +43,7 @@ date-by-printable moment true e =
     clock-printable (clock_at moment (leb-true moment last_second e)).shown (clock_at-whole moment (leb-true moment last_second e))
 date-by-printable moment false e = word (codes "-") refl
 
-date-printable : (moment : ℤ) → ArePrintable (moment_date moment)
+pub date-printable : (moment : ℤ) → ArePrintable (moment_date moment)
 unfolding date_of
 date-printable (pos moment) = date-by-printable moment (nat_le moment last_second) refl
 date-printable (negsuc n) = word (codes "-") refl

@@ -1,19 +1,26 @@
 -- The end of a file and the total are one line each as JSON objects.
-use Rattle.ssh_review.proofs.Imports.{◌≡◌, ℕ, true, List, refl, codes, AreBytes, is_line, Counts, FileFault, Unread, TooLong, Total, no_counts, fault_code}
-use Rattle.ssh_review.proofs.FieldLemmas.{null-printable, number-printable, said-printable}
-use Rattle.ssh_review.proofs.PrintableLemmas.{ArePrintable, hex-printable, join, line-from, string-printable, word}
-use Rattle.ssh_review.specs.EndObjects.{counts_fields, end_head, end_object, fault_object, total_head, total_object}
+use Rattle.ssh_review.proofs.Imports.{◌≡◌, ℕ, pos, true, List, [], ◌∷◌, refl, codes, flat_map, Code, Asking, code_text, AreBytes, AreBytesIfAny, are_printable, is_line, Counts, FileFault, Unread, TooLong, Total, no_counts, fault_code}
+use Rattle.ssh_review.proofs.DateTextLemmas.{date-printable}
+use Rattle.ssh_review.proofs.FieldLemmas.{any-text-printable, null-printable, number-printable, said-printable, text-printable}
+use Rattle.ssh_review.proofs.PrintableLemmas.{ArePrintable, bytes-from_printable, hex-printable, join, line-from, rest-printable, string-printable, word}
+use Rattle.ssh_review.proofs.WordLemmas.{code-printable as code_word-printable}
+use Rattle.ssh_print.specs.AnswerText.{sentence}
+use Rattle.ssh_print.specs.Table.{answers, bodies, certificates, faults, fields, findings, keys, lines, reasons, row_of, table}
+use Rattle.ssh_review.specs.Asked.{Asked, asked_fields, program_field, total_head}
+use Rattle.ssh_review.specs.Ends.{asked_by}
+use Rattle.ssh_review.specs.Fields.{array_field}
+use Rattle.ssh_review.specs.EndObjects.{code_element, counts_fields, end_head, end_object, fault_object, review_fields, total_counts, total_object}
 
 head-printable : (name : List ℕ) → AreBytes name → ArePrintable (end_head name)
 unfolding end_head
 head-printable name h =
-    join (join (word (codes "{\"file\":") refl) (string-printable name h)) (said-printable (codes "is") refl (word (codes "end") refl))
+    join (join (word (codes "{\"file\":") refl) (string-printable name h)) (said-printable (codes "what") refl (word (codes "end") refl))
 
 counts-printable : (c : Counts) → ArePrintable (counts_fields c)
 unfolding counts_fields
 counts-printable c =
     let lines = number-printable (codes "lines") c.lines refl in
-    let keys = number-printable (codes "keys") c.keys refl in
+    let keys = number-printable (codes "key_lines") c.keys refl in
     let unreadable = number-printable (codes "unreadable") c.unreadable refl in
     join (join (join lines keys) unreadable) (number-printable (codes "findings") c.findings refl)
 
@@ -34,10 +41,48 @@ fault-line name fault h =
     let code = said-printable (codes "fault") refl (code-printable fault) in
     line-from (codes "}\n") (join (join (join (head-printable name h) (counts-printable no_counts)) digest) code) refl
 
-pub total-line : (t : Total) → is_line (total_object t) ≡ true
-unfolding total_object total_head
-total-line t =
-    let format = number-printable (codes "format") 1 refl in
+-- ---- the total
+
+program-printable : ArePrintable program_field
+unfolding program_field row_of table answers reasons lines findings faults keys certificates fields bodies
+program-printable = said-printable (codes "program") refl (word (sentence (codes "version")) refl)
+
+pub asked-printable : (a : Asked) → AreBytesIfAny a.zone → ArePrintable (asked_fields a)
+unfolding asked_fields
+asked-printable a h =
+    let now = number-printable (codes "now") a.now refl in
+    let at = said-printable (codes "at") refl (date-printable (pos a.now)) in
+    join (join now at) (any-text-printable (codes "zone") a.zone refl h)
+
+elements-printable : (told : List Code) → ArePrintable (flat_map code_element told)
+elements-printable [] = word [] refl
+elements-printable (c ∷ told) =
+    let text = string-printable (code_text c) (bytes-from_printable (code_word-printable c)) in
+    join (join (word (codes ",") refl) text) (elements-printable told)
+
+pub array-printable : (name elements : List ℕ) → are_printable name ≡ true → ArePrintable elements → ArePrintable (array_field name elements)
+array-printable name elements h k =
+    let named = join (join (word (codes ",\"") refl) (word name h)) (word (codes "\":") refl) in
+    join (join (join named (word (codes "[") refl)) (rest-printable k)) (word (codes "]") refl)
+
+review-printable : (kind : List ℕ) (asking : Asking) → AreBytes kind → ArePrintable (review_fields kind asking)
+unfolding review_fields
+review-printable kind asking h =
+    let named = text-printable (codes "kind") kind refl h in
+    let least = number-printable (codes "rsa_minimum") asking.rsa_minimum refl in
+    join (join named least) (array-printable (codes "told") (flat_map code_element asking.told) refl (elements-printable asking.told))
+
+total-counts-printable : (t : Total) → ArePrintable (total_counts t)
+unfolding total_counts
+total-counts-printable t =
     let files = number-printable (codes "files") t.files refl in
     let faults = number-printable (codes "faults") t.faults refl in
-    line-from (codes "}\n") (join (join (join (join (word (codes "{\"is\":\"total\"") refl) format) files) faults) (counts-printable t.counts)) refl
+    join (join files faults) (counts-printable t.counts)
+
+pub total-line : (kind zone : List ℕ) (asking : Asking) (t : Total) → AreBytes kind → AreBytes zone → is_line (total_object kind zone asking t) ≡ true
+unfolding total_object total_head
+total-line kind zone asking t h k =
+    let format = number-printable (codes "format") 2 refl in
+    let head = join (join (word (codes "{\"what\":\"total\"") refl) format) program-printable in
+    let asked = join (join head (review-printable kind asking h)) (asked-printable (asked_by zone asking) k) in
+    line-from (codes "}\n") (join asked (total-counts-printable t)) refl

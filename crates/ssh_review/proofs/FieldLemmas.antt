@@ -1,5 +1,6 @@
 -- The fields of an object are of printable ASCII.
-use Rattle.ssh_review.proofs.Imports.{◌≡◌, ℕ, true, List, ◌++◌, ℤ, Option, Some, None, codes, refl, field_name, moment_or_null, null_field, number_field, number_or_null, text_field, text_or_null, AreBytes, AreBytesIfAny, are_printable}
+use Rattle.ssh_review.proofs.Imports.{◌≡◌, ℕ, Bool, true, false, List, ◌++◌, ℤ, Option, Some, None, codes, refl, field_name, moment_or_null, null_field, number_field, number_or_null, text_field, text_or_null, AreBytes, AreBytesIfAny, are_printable}
+use Rattle.ssh_review.specs.Fields.{truth_field}
 use Rattle.ssh_review.proofs.PrintableLemmas.{ArePrintable, bytes-from_printable, decimal-printable, join, signed-printable, string-printable, word}
 
 pub name-then : {value : List ℕ} (name : List ℕ) → are_printable name ≡ true → ArePrintable value → ArePrintable (field_name name ++ value)
@@ -18,6 +19,10 @@ said-printable {text} name h k = text-printable name text h (bytes-from_printabl
 pub any-text-printable : (name : List ℕ) (text : Option (List ℕ)) → are_printable name ≡ true → AreBytesIfAny text → ArePrintable (text_or_null name text)
 any-text-printable name None h k = null-printable name h
 any-text-printable name (Some text) h k = text-printable name text h k
+
+pub truth-printable : (name : List ℕ) (b : Bool) → are_printable name ≡ true → ArePrintable (truth_field name b)
+truth-printable name true h = name-then name h (word (codes "true") refl)
+truth-printable name false h = name-then name h (word (codes "false") refl)
 
 pub number-printable : (name : List ℕ) (n : ℕ) → are_printable name ≡ true → ArePrintable (number_field name n)
 number-printable name n h = name-then name h (decimal-printable n)

@@ -36,3 +36,6 @@ pub mod HostSpelledLemmas
 pub mod HostListingLemmas
 pub mod ReadableLemmas
 pub mod ReadableDecisionLemmas
+pub mod KeyStepLemmas
+pub mod KeyReviewLemmas
+pub mod KeyListingLemmas

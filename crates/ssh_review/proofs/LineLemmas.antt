@@ -80,7 +80,7 @@ entry-short asking earlier blob f =
       if-short asking (not f.is_authority && forces_but_forwards f.rights) finding.ForcedButForwards,
     )
 
-line-within : (asking : Asking) (earlier : List Held) (line : AuthLine) → Within (line_counts asking earlier line) 1
+pub line-within : (asking : Asking) (earlier : List Held) (line : AuthLine) → Within (line_counts asking earlier line) 1
 line-within asking earlier Blank = record { lines = omega arith; keys = omega arith; unreadable = omega arith; findings = omega arith }
 line-within asking earlier Comment = record { lines = omega arith; keys = omega arith; unreadable = omega arith; findings = omega arith }
 line-within asking earlier (Entry entry) =

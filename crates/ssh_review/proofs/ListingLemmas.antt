@@ -1,5 +1,10 @@
 -- A granted login's line is listed, and no other line lets anybody in.
 use Rattle.ssh_review.proofs.Imports.{◌≡◌, ◌∙◌, ◌<◌, ◌+◌, ◌-◌, ◌++◌, ℕ, suc, Bool, true, false, not, cond, List, [], ◌∷◌, Option, Some, None, ap, sym, refl, subst, drop, take, arith, ℤ, pos, find, le_z, AllByRecursion, slice_get, append_assoc, TimeZone, moment_of, moment-only, lines_of, numbered, PublicKey, key_blob, AuthEntry, auth_line, Entry, Unreadable, auth_line-spelled, auth_line-spells, Signed, LoginClaim, Offer, plain, Login, LineCause, Command, ExpiryTime, setting, settings, Rights, command_of, IsUnexpired, login_verdict, Reason, Skips, le_z-decides, Decision, Granted, StandsAt, IsCandidate, IsGrant, line_verdict, at-place, line-bytes, line-of, LoginReading, login_reading, lines_of-are, Asking, Held, is_free, is_of_key, earlier, is_known_past, least_of, named, no_principals, no_sources, sha256, Form, counts_of, held_by_line, line_record, records_of, end_line, HasRecord, IsListed, entries_of}
+use Rattle.ssh_findings.specs.EntryFindings.{moment_asked, names_nobody, permits_bad}
+use Rattle.ssh_findings.specs.declared.facts.Facts.{Facts}
+use Rattle.ssh_review.specs.Lines.{lets_in}
+use Rattle.std.specs.Prelude.{◌≤ℤ◌}
+use Rattle.jiff_core.proofs.SignedLemmas.{signed_arith}
 use Rattle.ssh_trust.proofs.CandidateLemmas.{AreBytes}
 use Rattle.std.specs.Prelude.{◌&&◌}
 use Rattle.ssh_rights.specs.Rights.{rights_of}
@@ -93,6 +98,33 @@ fresh : (asking : Asking) (q : Login) (e : AuthEntry) → AllByRecursion (IsUnex
 unfolding facts_of
 fresh asking q e all now zone = rw (now, zone) (unpast q None (settings ExpiryTime e.options) all refl)
 
+-- what is not past now was not past an hour ago
+sooner : (now k : ℕ) (until : Option ℤ) → is_known_past now until ≡ false → is_known_past (now - k) until ≡ false
+sooner now k None h = refl
+sooner now k (Some moment) h = not-past (le_z (pos (now - k)) moment) ((le_z-decides (pos (now - k)) moment).1 least)
+  where
+    is-true : (b : Bool) → not b ≡ false → b ≡ true
+    is-true true e = refl
+    is-true false e = cc
+
+    late : le_z (pos now) moment ≡ true
+    late = is-true (le_z (pos now) moment) h
+
+    least : pos (now - k) ≤ℤ moment
+    least = omega (arith, signed_arith, (le_z-decides (pos now) moment).0 late)
+
+still : (now : ℕ) (f : Facts) → is_known_past now f.until ≡ false → is_known_past (moment_asked now f) f.until ≡ false
+still now f h = by f.has_local_time
+  where
+    by : (b : Bool) → is_known_past (cond b (now - 3600) now) f.until ≡ false
+    by true = sooner now 3600 f.until h
+    by false = h
+
+let-in : (asking : Asking) (earlier : List Held) (e : AuthEntry) → shadow earlier (key_blob e.key) (facts_of asking.zone e) ≡ None
+    → permits_bad (facts_of asking.zone e).from ≡ false → names_nobody (facts_of asking.zone e) ≡ false
+    → is_known_past asking.now (facts_of asking.zone e).until ≡ false → lets_in asking earlier e ≡ true
+let-in asking earlier e unshadowed sources principals unexpired = rw (unshadowed, still asking.now (facts_of asking.zone e) unexpired, sources, principals) refl
+
 -- ---- its rights
 
 own-command : (o : Option (List ℕ)) (a b : PublicKey) → command_of o (plain a) ≡ command_of o (plain b)
@@ -118,16 +150,21 @@ listed-by form asking name file claim vouched n rights e bytes grant left =
     let candidate = grant.candidate in
     let number = predecessor n (candidate.stands).from_one in
     let spells = auth_line-spelled e candidate.line candidate.spelled in
+    let unshadowed = absent _ (no-shadow asking file claim n (n - 1) e number bytes candidate) in
+    let sources = denied _ (λ bad. no_sources asking.zone e claim bad candidate.admits) in
+    let principals = denied _ (λ bad. no_principals asking.zone e claim bad candidate.admits) in
+    let unexpired = fresh asking claim.query e (candidate.admits).unexpired in
     record {
       line = candidate.line;
       stands = candidate.stands;
       entry = e;
       spells = spells;
       recorded = recorded form asking name file candidate.line n (n - 1) e number (line-of file n candidate.line candidate.stands) spells;
-      unshadowed = absent _ (no-shadow asking file claim n (n - 1) e number bytes candidate);
-      sources = denied _ (λ bad. no_sources asking.zone e claim bad candidate.admits);
-      principals = denied _ (λ bad. no_principals asking.zone e claim bad candidate.admits);
-      unexpired = fresh asking claim.query e (candidate.admits).unexpired;
+      unshadowed = unshadowed;
+      sources = sources;
+      principals = principals;
+      unexpired = unexpired;
+      marked = λ now zone. let-in asking _ e unshadowed sources principals (unexpired now zone);
       left = left;
       told = λ key offered. left ∙ ap (λ (o : Offer). Some (rights_of e o)) offered ∙ ap (λ (r : Rights). Some r) (same-rights asking.zone e key);
     }

@@ -3,7 +3,7 @@ use Rattle.ssh_review.proofs.Imports.{◌≡◌, ℕ, Bool, true, false, List, r
 use Rattle.ssh_review.specs.Objects.{empty_fields, entry_object, grant_fields, key_fields, object_head, owner_fields, unreadable_object}
 use Rattle.ssh_review.proofs.PrintableLemmas.{ArePrintable, bytes-append, bytes-from_printable, join, string-printable, word}
 use Rattle.ssh_review.proofs.WordLemmas.{kind-printable, options-bytes, rights-printable}
-use Rattle.ssh_review.proofs.FieldLemmas.{any-moment-printable, any-number-printable, any-text-printable, number-printable, said-printable, text-printable}
+use Rattle.ssh_review.proofs.FieldLemmas.{any-moment-printable, any-number-printable, any-text-printable, number-printable, said-printable, text-printable, truth-printable}
 use Rattle.ssh_review.proofs.RowLemmas.{auth-texts, rows-end-line}
 
 -- ---- records
@@ -12,7 +12,7 @@ pub head-printable : {is : List ℕ} (name : List ℕ) (n : ℕ) → AreBytes na
 unfolding object_head
 head-printable name n h k =
     let file = join (word (codes "{\"file\":") refl) (string-printable name h) in
-    join (join file (number-printable (codes "line") n refl)) (said-printable (codes "is") refl k)
+    join (join file (number-printable (codes "line") n refl)) (said-printable (codes "what") refl k)
 
 pub is-printable : (b : Bool) → ArePrintable (is_word b)
 is-printable true = word (codes "authority") refl
@@ -34,18 +34,19 @@ unfolding grant_fields
 grant-printable f h =
     let rights = said-printable (codes "rights") refl (rights-printable f.rights) in
     let command = any-text-printable (codes "command") f.rights.command refl h.command in
-    let from = any-text-printable (codes "from") f.from refl h.from in
+    let from = any-text-printable (codes "source") f.from refl h.from in
     let principals = any-text-printable (codes "principals") f.principals refl h.principals in
     join (join (join (join rights command) from) principals) (any-moment-printable (codes "expires") f.until refl)
 
-pub entry-line : (name : List ℕ) (n : ℕ) (f : Facts) (options : List AuthOption) (shadowed_by : Option ℕ) (found : List Finding)
-    → AreBytes name → IsOfBytes f → HaveByteValues options → is_line (entry_object name n f options shadowed_by found) ≡ true
+pub entry-line : (name : List ℕ) (n : ℕ) (f : Facts) (options : List AuthOption) (shadowed_by : Option ℕ) (lets_in : Bool) (found : List Finding)
+    → AreBytes name → IsOfBytes f → HaveByteValues options → is_line (entry_object name n f options shadowed_by lets_in found) ≡ true
 unfolding entry_object
-entry-line name n f options shadowed_by found h k m =
+entry-line name n f options shadowed_by lets_in found h k m =
     let head = head-printable name n h (is-printable f.is_authority) in
     let said = text-printable (codes "options") (options_text options) refl (options-bytes options m) in
     let shadow = any-number-printable (codes "shadowed_by") shadowed_by refl in
-    rows-end-line auth_row auth-texts found (join (join (join (join head (owner-printable f k)) said) (grant-printable f k)) shadow)
+    let lets = truth-printable (codes "lets_in") lets_in refl in
+    rows-end-line auth_row auth-texts found (join (join (join (join (join head (owner-printable f k)) said) (grant-printable f k)) shadow) lets)
 
 pub held-printable : (held : Option HeldKey) → IsHeldOfBytes held → ArePrintable (held_fields held)
 held-printable None h = word no_key_fields refl

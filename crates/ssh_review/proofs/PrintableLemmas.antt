@@ -1,5 +1,5 @@
 -- The texts that are printed are of printable ASCII.
-use Rattle.ssh_review.proofs.Imports.{◌≡◌, ◌∙◌, ℕ, zero, suc, ◌+◌, ◌<◌, ◌≤◌, ◌==◌, ◌/◌, ◌%◌, nat_le, nat_lt, Bool, true, false, not, ◌&&◌, ◌||◌, cond, List, [], ◌∷◌, ◌++◌, length, refl, ap, arith, ℤ, pos, negsuc, codes, flat_map, decimal, digit_glyph, digits_onto, signed_decimal, and_from, le-leb, lt-ltb, ltb-true, list_all-append, escaped_text, escaped_byte, hex_digit, hex_pair, hex_text, is_plain_byte, AreBytes, are_printable, is_line, is_printable, quoted_byte}
+use Rattle.ssh_review.proofs.Imports.{◌≡◌, ◌∙◌, ℕ, zero, suc, ◌+◌, ◌<◌, ◌≤◌, ◌==◌, ◌/◌, ◌%◌, nat_le, nat_lt, Bool, true, false, not, ◌&&◌, ◌||◌, cond, List, [], ◌∷◌, ◌++◌, length, drop, refl, ap, arith, ℤ, pos, negsuc, codes, flat_map, decimal, digit_glyph, digits_onto, signed_decimal, and_from, le-leb, lt-ltb, ltb-true, list_all-append, escaped_text, escaped_byte, hex_digit, hex_pair, hex_text, is_plain_byte, AreBytes, are_printable, is_line, is_printable, quoted_byte}
 use Rattle.std.specs.Fmt.{digits}
 use Rattle.ssh_print.specs.Strings.{json_text}
 
@@ -57,6 +57,17 @@ bytes-by (c ∷ cs) h = go (is_printable c) refl (bytes-by cs) h
 
 pub bytes-from_printable : {text : List ℕ} → ArePrintable text → AreBytes text
 bytes-from_printable {text} h = bytes-by text h.all
+
+rest-by : (text : List ℕ) → are_printable text ≡ true → are_printable (drop 1 text) ≡ true
+rest-by [] h = refl
+rest-by (c ∷ text) h = go (is_printable c) h
+  where
+    go : (p : Bool) → (p && are_printable text) ≡ true → are_printable text ≡ true
+    go true h = h
+    go false h = absurd (let no : false ≡ true = h in cc)
+
+pub rest-printable : {text : List ℕ} → ArePrintable text → ArePrintable (drop 1 text)
+rest-printable {text} h = record { all = rest-by text h.all }
 
 -- ---- numbers
 

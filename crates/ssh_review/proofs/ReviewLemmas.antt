@@ -1,15 +1,19 @@
 -- A review is of printable bytes and LFs, in each form.
-use Rattle.ssh_review.proofs.Imports.{◌≡◌, ◌+◌, ℕ, nat_lt, Bool, true, false, cond, List, [], ◌∷◌, ◌++◌, length, refl, Option, Some, None, codes, option_map, AllByRecursion, TimeZone, file_limit, lines_of, numbered, PublicKey, key_blob, AuthLine, Blank, Comment, Entry, Unreadable, AuthEntry, auth_line, Asking, Held, held_key, AreBytes, are_printable, Counts, FileFault, TooLong, Total, Form, Text, Json, count_text, counts_text, end_line, file_fault_line, total_line, counts_of, held_by_line, key_told, line_findings, line_record, records_of, shadow_line, auth_review, fault_review}
+use Rattle.ssh_review.proofs.Imports.{◌≡◌, ◌+◌, ℕ, nat_lt, Bool, true, false, cond, List, [], ◌∷◌, ◌++◌, length, refl, Option, Some, None, codes, option_map, AllByRecursion, TimeZone, file_limit, lines_of, numbered, PublicKey, key_blob, AuthLine, Blank, Comment, Entry, Unreadable, AuthEntry, auth_line, Asking, Held, held_key, AreBytes, AreBytesIfAny, pos, are_printable, Counts, FileFault, TooLong, Total, Form, Text, Json, count_text, counts_text, end_line, file_fault_line, total_line, counts_of, held_by_line, key_told, line_findings, line_record, records_of, shadow_line, auth_review, fault_review}
 use Rattle.sha2.specs.Sha256.{sha256}
 use Rattle.ssh_keys.specs.Fingerprint.{digest_text_of, fingerprint_of}
 use Rattle.ssh_findings.specs.Facts.{facts_of}
 use Rattle.ssh_findings.specs.HeldKey.{held_of as told_of}
 use Rattle.ssh_findings.specs.KeyRead.{key_read}
+use Rattle.ssh_review.specs.Lines.{lets_in}
 use Rattle.ssh_review.proofs.ObjectLemmas.{entry-line, unreadable-line}
 use Rattle.ssh_review.proofs.PrintableLemmas.{ArePrintable, decimal-printable, escaped-printable, hex-printable, join, word}
 use Rattle.ssh_review.specs.Reviews.{whole_review}
 use Rattle.ssh_review.proofs.ByteLemmas.{entry-facts, held-bytes, lines-bytes}
 use Rattle.ssh_review.proofs.DigestLemmas.{base64-printable, digest-bytes}
+use Rattle.ssh_review.proofs.DateTextLemmas.{moment-printable}
+use Rattle.ssh_review.specs.Asked.{Asked, asked_words, zone_words}
+use Rattle.ssh_review.specs.Ends.{asked_by}
 use Rattle.ssh_review.proofs.EndLemmas.{code-printable, end-line, fault-line, total-line}
 use Rattle.ssh_review.proofs.ShownLemmas.{AreShown, add, from-line, seen, show}
 use Rattle.ssh_review.proofs.TextLemmas.{IsHeldPrintable, entry-shown, unreadable-shown}
@@ -36,7 +40,7 @@ record-by Text asking name earlier n line (Entry e) h k is =
     entry-shown name n (facts_of asking.zone e) (line_findings asking earlier (Entry e)) h (entry-facts asking.zone line e k is).0 (entry-printable asking.zone e)
 record-by Json asking name earlier n line (Entry e) h k is =
     let bytes = entry-facts asking.zone line e k is in
-    from-line (entry-line name n (facts_of asking.zone e) e.options (shadow_line asking earlier e) (line_findings asking earlier (Entry e)) h bytes.0 bytes.1)
+    from-line (entry-line name n (facts_of asking.zone e) e.options (shadow_line asking earlier e) (lets_in asking earlier e) (line_findings asking earlier (Entry e)) h bytes.0 bytes.1)
 record-by Text asking name earlier n line (Unreadable cause) h k is =
     unreadable-shown name n (key_told line) (line_findings asking earlier (Unreadable cause)) h (held-printable (held_key line))
 record-by Json asking name earlier n line (Unreadable cause) h k is =
@@ -57,7 +61,7 @@ count-printable n what h = join (decimal-printable n) (word what h)
 counts-printable : (c : Counts) → ArePrintable (counts_text c)
 counts-printable c =
     let lines = count-printable c.lines (codes " lines, ") refl in
-    let keys = count-printable c.keys (codes " keys, ") refl in
+    let keys = count-printable c.keys (codes " key lines, ") refl in
     let unreadable = count-printable c.unreadable (codes " unreadable, ") refl in
     join (join (join lines keys) unreadable) (count-printable c.findings (codes " findings") refl)
 
@@ -73,12 +77,21 @@ fault-shown Text name fault h =
     add (seen (join (join (escaped-printable name h) (word (codes ": fault ") refl)) (code-printable fault))) (show (codes "\n") refl)
 fault-shown Json name fault h = from-line (fault-line name fault h)
 
-pub total-shown : (form : Form) (t : Total) → AreShown (total_line form t)
-total-shown Text t =
+asked-words-printable : (a : Asked) → AreBytesIfAny a.zone → ArePrintable (asked_words a)
+unfolding asked_words
+asked-words-printable a h = join (join (word (codes "asked at ") refl) (moment-printable (pos a.now))) (zone-printable a.zone h)
+  where
+    zone-printable : (zone : Option (List ℕ)) → AreBytesIfAny zone → ArePrintable (zone_words zone)
+    zone-printable None k = word [] refl
+    zone-printable (Some rule) k = join (word (codes ", zone ") refl) (escaped-printable rule k)
+
+pub total-shown : (form : Form) (kind zone : List ℕ) (asking : Asking) (t : Total) → AreBytes kind → AreBytes zone → AreShown (total_line form kind zone asking t)
+total-shown Text kind zone asking t h k =
     let files = join (word (codes "total: ") refl) (count-printable t.files (codes " files, ") refl) in
     let faults = join files (count-printable t.faults (codes " faults, ") refl) in
-    add (seen (join faults (counts-printable t.counts))) (show (codes "\n") refl)
-total-shown Json t = from-line (total-line t)
+    let counted = join (join faults (counts-printable t.counts)) (word (codes ", ") refl) in
+    add (seen (join counted (asked-words-printable (asked_by zone asking) k))) (show (codes "\n") refl)
+total-shown Json kind zone asking t h k = from-line (total-line kind zone asking t h k)
 
 -- ---- reviews
 

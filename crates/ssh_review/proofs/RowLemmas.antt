@@ -1,5 +1,5 @@
 -- What is printed of findings is of printable ASCII.
-use Rattle.ssh_review.proofs.Imports.{◌≡◌, ℕ, true, List, [], ◌∷◌, ◌++◌, refl, append_assoc, codes, decimal, flat_map, LineCause, Ground, ground_word, Finding, HostFinding, code_text, FindingRow, auth_row, host_row, Value, cause_text, detail_part, detail_with, finding_head, object_after_comma, row_detail, row_line, row_object, row_sentence, rows_end, rows_list, value_text, are_printable, is_line}
+use Rattle.ssh_review.proofs.Imports.{◌≡◌, ℕ, true, List, [], ◌∷◌, ◌++◌, refl, append_assoc, codes, flat_map, LineCause, Ground, Finding, HostFinding, code_text, FindingRow, auth_row, host_row, Value, cause_text, detail_part, detail_with, finding_head, object_after_comma, row_detail, row_line, row_object, rows_end, rows_list, value_text, are_printable, is_line}
 use Rattle.ssh_options.specs.declared.option_text.LineCause.TheVariants as cause
 use Rattle.ssh_print.specs.Table.{answers, lines, reasons, row_of, table}
 use Rattle.ssh_findings.specs.declared.finding.Finding.TheVariants as finding

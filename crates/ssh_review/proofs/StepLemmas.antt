@@ -1,7 +1,7 @@
 -- One more line of a file: what is written, counted and stored then.
 use Rattle.ssh_review.proofs.Imports.{◌≡◌, ◌∙◌, ℕ, ◌+◌, ◌≤◌, List, ◌∷◌, ◌++◌, refl, sym, ap, append_assoc, arith, add_assoc, AuthLine, auth_line, Asking, Held, Counts, Form, plus, counts_of, held_by_line, held_lines, line_counts, line_record, records_of, line_bytes, lines_bytes}
 
-plus-assoc : (a b c : Counts) → plus (plus a b) c ≡ plus a (plus b c)
+pub plus-assoc : (a b c : Counts) → plus (plus a b) c ≡ plus a (plus b c)
 plus-assoc a b c =
     rw (
       add_assoc a.lines b.lines c.lines,

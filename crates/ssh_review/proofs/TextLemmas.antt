@@ -1,5 +1,5 @@
 -- The records of lines, as text, are of printable bytes and LFs.
-use Rattle.ssh_review.proofs.Imports.{◌≡◌, ℕ, Bool, true, false, List, [], ◌∷◌, ◌++◌, refl, ℤ, Option, Some, None, codes, AllByRecursion, flat_map, KeyKind, Carried, CarriedName, Rights, carried_word, Facts, Finding, HeldKey, auth_row, AreBytes, AreBytesIfAny, IsOfBytes, are_printable, bits_text, carried_inset, comment_text, held_words, place_text, role_word, are_shown}
+use Rattle.ssh_review.proofs.Imports.{◌≡◌, ℕ, Bool, true, false, List, [], ◌∷◌, refl, ℤ, Option, Some, None, codes, AllByRecursion, flat_map, KeyKind, Carried, CarriedName, Rights, carried_word, Facts, Finding, HeldKey, auth_row, AreBytes, AreBytesIfAny, IsOfBytes, are_printable, bits_text, carried_inset, comment_text, held_words, place_text, role_word, are_shown}
 use Rattle.ssh_rights.specs.declared.rights.CarriedName.TheVariants as carried
 use Rattle.ssh_print.specs.Texts.{word_line}
 use Rattle.ssh_review.proofs.PrintableLemmas.{ArePrintable, decimal-printable, escaped-printable, join, word}

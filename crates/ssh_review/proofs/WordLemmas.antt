@@ -1,5 +1,5 @@
 -- The texts that are printed of a line are printable ASCII.
-use Rattle.ssh_review.proofs.Imports.{◌≡◌, ℕ, ◌==◌, Bool, true, false, ◌&&◌, cond, List, [], ◌∷◌, ◌++◌, refl, arith, codes, flat_map, decimal, WireCause, KeyError, KeyKind, Rsa, P256, P384, P521, Ed25519, SkP256, SkEd25519, key_name_of, LineCause, Flag, AgentForwarding, CertAuthority, NoAgentForwarding, NoPortForwarding, NoPty, NoUserRc, NoX11Forwarding, PortForwarding, Pty, NoTouchRequired, VerifyRequired, Restrict, UserRc, X11Forwarding, ValueName, Command, Environment, ExpiryTime, From, PermitListen, PermitOpen, Principals, Tunnel, AuthOption, Switch, Setting, flag_name, value_name, Rights, after_comma, option_text, key_codes, wire_code, right_word, right_words, Code, Ground, ground_word, Finding, code_text, cause_detail, AreBytes, HaveByteValues, are_printable, is_printable, options_text, without_space}
+use Rattle.ssh_review.proofs.Imports.{◌≡◌, ℕ, ◌==◌, Bool, true, false, ◌&&◌, cond, List, [], ◌∷◌, ◌++◌, refl, arith, codes, flat_map, decimal, WireCause, KeyError, KeyKind, Rsa, P256, P384, P521, Ed25519, SkP256, SkEd25519, key_name_of, LineCause, Flag, AgentForwarding, CertAuthority, NoAgentForwarding, NoPortForwarding, NoPty, NoUserRc, NoX11Forwarding, PortForwarding, Pty, NoTouchRequired, VerifyRequired, Restrict, UserRc, X11Forwarding, ValueName, Command, Environment, ExpiryTime, From, PermitListen, PermitOpen, Principals, Tunnel, AuthOption, Switch, Setting, flag_name, value_name, Rights, after_comma, option_text, key_codes, wire_code, right_word, right_words, Code, Ground, ground_word, code_text, cause_detail, AreBytes, HaveByteValues, are_printable, is_printable, options_text, without_space}
 use Rattle.ssh_wire.specs.declared.cursor.WireCause.TheVariants as wire
 use Rattle.ssh_keys.specs.declared.key.KeyError.TheVariants as key
 use Rattle.ssh_options.specs.declared.option_text.LineCause.TheVariants as cause
@@ -7,7 +7,6 @@ use Rattle.ssh_options.specs.OptionNames.{option_row}
 use Rattle.ssh_options.specs.OptionText.{escaped as value_text}
 use Rattle.ssh_findings.specs.declared.code.Code.TheVariants as code
 use Rattle.ssh_findings.specs.declared.openssh.Ground.TheVariants as grounds
-use Rattle.ssh_findings.specs.declared.finding.Finding.TheVariants as finding
 use Rattle.ssh_review.specs.RightsWords.{rights_words}
 use Rattle.ssh_review.proofs.PrintableLemmas.{ArePrintable, bytes-append, bytes-from_printable, decimal-printable, join, word}
 

@@ -20,18 +20,10 @@ use Rattle.ssh_print.specs.DecisionText.{carried_word}
 use Rattle.ssh_print.specs.OtherLines.{OtherLines}
 use Rattle.ssh_print.specs.Strings.{json_text}
 use Rattle.ssh_print.specs.declared.admission_text.Subject.{Subject}
-use Rattle.ssh_review.specs.Fields.{field_name, null_field, number_field, number_or_null, text_field, text_or_null}
+use Rattle.ssh_review.specs.Asked.{Asked, asked_fields, total_head}
+use Rattle.ssh_review.specs.Fields.{array_field, null_field, number_field, number_or_null, text_field, text_or_null, truth_field}
 use Rattle.ssh_review.specs.HostRecords.{print_of}
 use Rattle.ssh_review.specs.Objects.{fingerprint_text, rights_field}
-
--- ---- arrays and truth values
-
--- an array, of its elements with a comma before each
-abbrev pub array_field : List ℕ → List ℕ → List ℕ
-array_field name elements = field_name name ++ codes "[" ++ drop 1 elements ++ codes "]"
-
-abbrev pub truth_field : List ℕ → Bool → List ℕ
-truth_field name b = field_name name ++ (if b then codes "true" else codes "false")
 
 -- ---- fields
 
@@ -43,7 +35,7 @@ answer_word may (Err e) = codes "fault"
 
 unfoldable pub answer_head : Subject → List ℕ → List ℕ → List ℕ
 answer_head who name word =
-    codes "{\"file\":" ++ json_text name ++ text_field (codes "is") (codes "answer") ++ text_field (codes "asked") (grants who)
+    codes "{\"file\":" ++ json_text name ++ text_field (codes "what") (codes "answer") ++ text_field (codes "asked") (grants who)
     ++ text_field (codes "answer") word
 
 -- the text of an option that is passed on unread, after its name
@@ -126,8 +118,8 @@ unfoldable pub answer_object : Subject → List ℕ → OtherLines → Result De
 answer_object who name other answer =
     answer_head who name (answer_word other.may_admit answer) ++ answer_fields answer ++ answer_notes other.text ++ answer_fault answer ++ codes "}\n"
 
--- the number of files that were asked, and the status
-unfoldable pub answer_total : Subject → ℕ → ℕ → List ℕ
-answer_total who files status =
-    codes "{\"is\":\"total\"" ++ number_field (codes "format") 1 ++ text_field (codes "asked") (grants who)
+-- when the files were asked, their number, and the status
+unfoldable pub answer_total : Subject → Asked → ℕ → ℕ → List ℕ
+answer_total who asked files status =
+    total_head ++ text_field (codes "asked") (grants who) ++ asked_fields asked
     ++ number_field (codes "files") files ++ number_field (codes "status") status ++ codes "}\n"

@@ -1,20 +1,25 @@
 -- The end of a file and the total, as JSON objects (this project's rule). Each is one line.
 use Rattle.std.specs.Prelude.{◌++◌, ℕ, List, codes}
 use Rattle.ssh_print.specs.Texts.{hex_text}
-use Rattle.ssh_review.specs.Fields.{null_field, number_field, text_field}
+use Rattle.std.specs.List.{flat_map}
+use Rattle.ssh_findings.specs.Asking.{Asking}
+use Rattle.ssh_findings.specs.Codes.{code_text}
+use Rattle.ssh_findings.specs.declared.code.Code.{Code}
+use Rattle.ssh_review.specs.Asked.{asked_fields, total_head}
+use Rattle.ssh_review.specs.Fields.{array_field, null_field, number_field, text_field}
 use Rattle.ssh_print.specs.Strings.{json_text}
 use Rattle.ssh_review.specs.declared.end.Counts.{Counts}
 use Rattle.ssh_review.specs.declared.end.FileFault.{FileFault}
 use Rattle.ssh_review.specs.declared.end.Total.{Total}
 use Rattle.ssh_review.specs.Counting.{no_counts}
-use Rattle.ssh_review.specs.Ends.{fault_code}
+use Rattle.ssh_review.specs.Ends.{asked_by, fault_code}
 
 unfoldable pub end_head : List ℕ → List ℕ
-end_head name = codes "{\"file\":" ++ json_text name ++ text_field (codes "is") (codes "end")
+end_head name = codes "{\"file\":" ++ json_text name ++ text_field (codes "what") (codes "end")
 
 unfoldable pub counts_fields : Counts → List ℕ
 counts_fields c =
-    number_field (codes "lines") c.lines ++ number_field (codes "keys") c.keys
+    number_field (codes "lines") c.lines ++ number_field (codes "key_lines") c.keys
     ++ number_field (codes "unreadable") c.unreadable ++ number_field (codes "findings") c.findings
 
 -- the end of a file, with the SHA-256 of its bytes
@@ -27,11 +32,22 @@ unfoldable pub fault_object : List ℕ → FileFault → List ℕ
 fault_object name fault =
     end_head name ++ counts_fields no_counts ++ null_field (codes "sha256") ++ text_field (codes "fault") (fault_code fault) ++ codes "}\n"
 
--- The number of the format and of the files. The number of the format rises when a field is added or changes.
-unfoldable pub total_head : Total → List ℕ
-total_head t =
-    codes "{\"is\":\"total\"" ++ number_field (codes "format") 1 ++ number_field (codes "files") t.files
-    ++ number_field (codes "faults") t.faults
+-- ---- the total
 
-unfoldable pub total_object : Total → List ℕ
-total_object t = total_head t ++ counts_fields t.counts ++ codes "}\n"
+-- a code of a finding, in an array
+abbrev pub code_element : Code → List ℕ
+code_element c = codes "," ++ json_text (code_text c)
+
+-- the format of the files by its name in `--kind`, the least size of an RSA key, and the findings that were asked for
+unfoldable pub review_fields : List ℕ → Asking → List ℕ
+review_fields kind asking =
+    text_field (codes "kind") kind ++ number_field (codes "rsa_minimum") asking.rsa_minimum
+    ++ array_field (codes "told") (flat_map code_element asking.told)
+
+unfoldable pub total_counts : Total → List ℕ
+total_counts t = number_field (codes "files") t.files ++ number_field (codes "faults") t.faults ++ counts_fields t.counts
+
+-- how the review was asked, and what was counted in all files
+unfoldable pub total_object : List ℕ → List ℕ → Asking → Total → List ℕ
+total_object kind zone asking t =
+    total_head ++ review_fields kind asking ++ asked_fields (asked_by zone asking) ++ total_counts t ++ codes "}\n"

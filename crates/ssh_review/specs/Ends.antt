@@ -1,7 +1,9 @@
 -- The end of a file and the total, as text (this project's rule).
-use Rattle.std.specs.Prelude.{◌++◌, ℕ, List, codes}
+use Rattle.std.specs.Prelude.{◌++◌, ℕ, List, Some, codes}
 use Rattle.std.specs.Fmt.{decimal}
+use Rattle.ssh_findings.specs.Asking.{Asking}
 use Rattle.ssh_print.specs.Texts.{escaped_text, hex_text}
+use Rattle.ssh_review.specs.Asked.{Asked, asked_words}
 use Rattle.ssh_review.specs.declared.end.Counts.{Counts}
 use Rattle.ssh_review.specs.declared.end.FileFault.{FileFault}
 use Rattle.ssh_review.specs.declared.end.FileFault.TheVariants.{Unread, TooLong}
@@ -13,7 +15,7 @@ count_text number what = decimal number ++ what
 
 abbrev pub counts_text : Counts → List ℕ
 counts_text c =
-    count_text c.lines (codes " lines, ") ++ count_text c.keys (codes " keys, ")
+    count_text c.lines (codes " lines, ") ++ count_text c.keys (codes " key lines, ")
     ++ count_text c.unreadable (codes " unreadable, ") ++ count_text c.findings (codes " findings")
 
 -- the end of a file, with the SHA-256 of its bytes
@@ -28,8 +30,12 @@ fault_code TooLong = codes "A7"
 abbrev pub fault_text : List ℕ → FileFault → List ℕ
 fault_text name fault = escaped_text name ++ codes ": fault " ++ fault_code fault ++ codes "\n"
 
--- the total of all files
-abbrev pub total_text : Total → List ℕ
-total_text t =
+-- when a review was asked, in the time zone of this POSIX rule
+abbrev pub asked_by : List ℕ → Asking → Asked
+asked_by zone asking = record { now = asking.now; zone = Some zone }
+
+-- the total of all files, and when it was asked
+abbrev pub total_text : List ℕ → Asking → Total → List ℕ
+total_text zone asking t =
     codes "total: " ++ count_text t.files (codes " files, ") ++ count_text t.faults (codes " faults, ")
-    ++ counts_text t.counts ++ codes "\n"
+    ++ counts_text t.counts ++ codes ", " ++ asked_words (asked_by zone asking) ++ codes "\n"

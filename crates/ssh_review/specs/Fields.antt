@@ -1,5 +1,5 @@
 -- Fields of JSON objects (RFC 8259, section 4), each after a comma.
-use Rattle.std.specs.Prelude.{◌++◌, ℕ, ℤ, List, Option, Some, None, codes}
+use Rattle.std.specs.Prelude.{◌++◌, ℕ, ℤ, Bool, if◌then◌else◌, List, Option, Some, None, codes, drop}
 use Rattle.std.specs.Fmt.{decimal, signed_decimal}
 use Rattle.ssh_print.specs.Strings.{json_text}
 
@@ -22,6 +22,13 @@ number_field name n = field_name name ++ decimal n
 abbrev pub number_or_null : List ℕ → Option ℕ → List ℕ
 number_or_null name None = null_field name
 number_or_null name (Some n) = number_field name n
+
+abbrev pub truth_field : List ℕ → Bool → List ℕ
+truth_field name b = field_name name ++ (if b then codes "true" else codes "false")
+
+-- an array, of its elements with a comma before each
+abbrev pub array_field : List ℕ → List ℕ → List ℕ
+array_field name elements = field_name name ++ codes "[" ++ drop 1 elements ++ codes "]"
 
 -- a moment in seconds since 1970-01-01 in UTC, negative before 1970
 abbrev pub moment_or_null : List ℕ → Option ℤ → List ℕ

@@ -1,5 +1,5 @@
 -- The records, the ends and the total of a review in each output format (this project's rule).
-use Rattle.std.specs.Prelude.{ℕ, List, Option}
+use Rattle.std.specs.Prelude.{ℕ, Bool, List, Option}
 use Rattle.ssh_options.specs.AuthOption.{AuthOption}
 use Rattle.ssh_findings.specs.declared.facts.Facts.{Facts}
 use Rattle.ssh_findings.specs.declared.finding.Finding.{Finding}
@@ -11,14 +11,15 @@ use Rattle.ssh_review.specs.declared.end.Total.{Total}
 use Rattle.ssh_review.specs.declared.end.Form.{Form}
 use Rattle.ssh_review.specs.declared.end.Form.TheVariants.{Text, Json}
 use Rattle.ssh_review.specs.Records.{entry_text, unreadable_text}
+use Rattle.ssh_findings.specs.Asking.{Asking}
 use Rattle.ssh_review.specs.Ends.{end_text, fault_text, total_text}
 use Rattle.ssh_review.specs.EndObjects.{end_object, fault_object, total_object}
 
--- The record of an entry with these options, with the line that lets its key in first, if there is one, and the
--- reported findings.
-abbrev pub entry_record : Form → List ℕ → ℕ → Facts → List AuthOption → Option ℕ → List Finding → List ℕ
-entry_record Text name n f options shadowed_by found = entry_text name n f found
-entry_record Json name n f options shadowed_by found = entry_object name n f options shadowed_by found
+-- The record of an entry with these options, with the line that lets its key in first, if there is one, whether this one
+-- may let it in, and the reported findings.
+abbrev pub entry_record : Form → List ℕ → ℕ → Facts → List AuthOption → Option ℕ → Bool → List Finding → List ℕ
+entry_record Text name n f options shadowed_by lets_in found = entry_text name n f found
+entry_record Json name n f options shadowed_by lets_in found = entry_object name n f options shadowed_by lets_in found
 
 -- the record of a line that cannot be read, with its recovered key (the key that OpenSSH reads there), if there is one
 abbrev pub unreadable_record : Form → List ℕ → ℕ → Option HeldKey → List Finding → List ℕ
@@ -35,7 +36,7 @@ abbrev pub file_fault_line : Form → List ℕ → FileFault → List ℕ
 file_fault_line Text name fault = fault_text name fault
 file_fault_line Json name fault = fault_object name fault
 
--- the total of all files
-abbrev pub total_line : Form → Total → List ℕ
-total_line Text t = total_text t
-total_line Json t = total_object t
+-- the total of all files of a format, asked in the time zone of this POSIX rule
+abbrev pub total_line : Form → List ℕ → List ℕ → Asking → Total → List ℕ
+total_line Text kind zone asking t = total_text zone asking t
+total_line Json kind zone asking t = total_object kind zone asking t

@@ -8,6 +8,7 @@ pub mod Memory
 pub mod Reviews
 pub mod Shown
 pub mod Fields
+pub mod Asked
 pub mod FindingRows
 pub mod Findings
 pub mod OptionsText
@@ -28,3 +29,7 @@ pub mod HostListing
 pub mod HostSpelling
 pub mod Readable
 pub mod ReadableDecisions
+pub mod KeyRecords
+pub mod HostKeyRecords
+pub mod KeyReviews
+pub mod KeyListing

@@ -1,5 +1,5 @@
 -- The records of an authorized_keys file's lines, and their counts.
-use Rattle.std.specs.Prelude.{◌++◌, ◌∷◌, [], ℕ, List, Option, option_map, length}
+use Rattle.std.specs.Prelude.{◌++◌, ◌∷◌, [], ◌&&◌, ℕ, Bool, List, Option, is_none, option_map, length}
 use Rattle.ssh_entries.specs.declared.auth_line.AuthLine.{AuthLine}
 use Rattle.ssh_entries.specs.declared.auth_line.AuthLine.TheVariants.{Blank, Comment, Entry, Unreadable}
 use Rattle.ssh_entries.specs.AuthEntry.{AuthEntry}
@@ -11,7 +11,7 @@ use Rattle.ssh_keys.specs.PublicKey.{key_blob}
 use Rattle.ssh_findings.specs.Asking.{Asking}
 use Rattle.ssh_findings.specs.Earlier.{Held, held_entry, shadow}
 use Rattle.ssh_review.specs.Counting.{counts_with, no_counts, plus}
-use Rattle.ssh_findings.specs.EntryFindings.{entry_findings, unreadable_findings}
+use Rattle.ssh_findings.specs.EntryFindings.{entry_findings, may_let_in, unreadable_findings}
 use Rattle.ssh_findings.specs.Facts.{facts_of}
 use Rattle.ssh_findings.specs.declared.recovered_key.HeldKey.{HeldKey}
 use Rattle.ssh_findings.specs.HeldKey.{held_key, held_of as told_of}
@@ -28,6 +28,11 @@ line_findings asking earlier (Unreadable cause) = unreadable_findings asking cau
 abbrev pub shadow_line : Asking → List Held → AuthEntry → Option ℕ
 shadow_line asking earlier entry = option_map (λ d. d.line) (shadow earlier (key_blob entry.key) (facts_of asking.zone entry))
 
+-- The entry may let its key in at the moment asked about: no earlier line decides in its place, it has not expired, and its
+-- lists permit somebody.
+abbrev pub lets_in : Asking → List Held → AuthEntry → Bool
+lets_in asking earlier entry = is_none (shadow_line asking earlier entry) && may_let_in asking (facts_of asking.zone entry)
+
 -- the recovered key of a line that cannot be read (the key that OpenSSH reads there), if there is one
 abbrev pub key_told : List ℕ → Option HeldKey
 key_told line = option_map told_of (held_key line)
@@ -38,7 +43,7 @@ line_record form asking name earlier (n, line) Blank = []
 line_record form asking name earlier (n, line) Comment = []
 line_record form asking name earlier (n, line) (Entry entry) =
     entry_record form name n (facts_of asking.zone entry) entry.options (shadow_line asking earlier entry)
-    (line_findings asking earlier (Entry entry))
+    (lets_in asking earlier entry) (line_findings asking earlier (Entry entry))
 line_record form asking name earlier (n, line) (Unreadable cause) =
     unreadable_record form name n (key_told line) (line_findings asking earlier (Unreadable cause))
 

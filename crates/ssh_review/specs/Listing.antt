@@ -1,5 +1,5 @@
 -- Whoever is let in by a file is let in by a line that its review lists (this project's rule).
-use Rattle.std.specs.Prelude.{◌≡◌, ◌++◌, ◌-◌, ℕ, false, List, Option, Some, None, take}
+use Rattle.std.specs.Prelude.{◌≡◌, ◌++◌, ◌-◌, ℕ, true, false, List, Option, Some, None, take}
 use Rattle.std.specs.List.{flat_map}
 use Rattle.ssh_text.specs.Text.{lines_of, numbered}
 use Rattle.ssh_keys.specs.PublicKey.{PublicKey}
@@ -18,7 +18,7 @@ use Rattle.ssh_findings.specs.EntryFindings.{names_nobody, permits_bad}
 use Rattle.ssh_findings.specs.Facts.{facts_of}
 use Rattle.ssh_findings.specs.Moments.{is_known_past}
 use Rattle.ssh_review.specs.declared.end.Form.{Form}
-use Rattle.ssh_review.specs.Lines.{held_by_line, line_record}
+use Rattle.ssh_review.specs.Lines.{held_by_line, lets_in, line_record}
 use Rattle.ssh_review.specs.Reviews.{whole_review}
 
 -- the entries of these lines, each with its number
@@ -50,6 +50,8 @@ pub record IsListed (form : Form) (asking : Asking) (name file : List ℕ) (clai
   pub principals : names_nobody (facts_of asking.zone entry) ≡ false
   -- it has not expired, at the time and in the zone of the login
   pub unexpired : asking.now ≡ claim.query.now → asking.zone ≡ claim.query.zone → is_known_past asking.now (facts_of asking.zone entry).until ≡ false
+  -- so the record says that it may let in
+  pub marked : asking.now ≡ claim.query.now → asking.zone ≡ claim.query.zone → lets_in asking (entries_before asking file n) entry ≡ true
   -- the rights are those that the line gives to the offer; for a plain key they are those in the record
   pub left : rights ≡ Some (rights_of entry claim.offer)
   pub told : (key : PublicKey) → claim.offer ≡ plain key → rights ≡ Some (facts_of asking.zone entry).rights

@@ -4,15 +4,17 @@ ghost use Rattle.std.specs.Prelude.{◌≡◌, ◌++◌, drop, codes, OnOk, IfOk
 ghost use Rattle.std.specs.List.{flat_map};
 ghost use Rattle.ssh_print.specs.AnswerText.{grants};
 ghost use Rattle.ssh_print.specs.OtherLines.{otherwise_seen};
-ghost use Rattle.ssh_review.specs.AnswerObjects.{answer_cause, answer_fault, answer_fields, answer_head, answer_key, answer_line, answer_notes, answer_object, answer_reasons, answer_rights, answer_total, answer_word, array_field, carried_element, cause_number, decision_fields, no_rights, note_element, nothing_carried, reason_detail, reason_element, truth_field};
+ghost use Rattle.ssh_review.specs.AnswerObjects.{answer_cause, answer_fault, answer_fields, answer_head, answer_key, answer_line, answer_notes, answer_object, answer_reasons, answer_rights, answer_total, answer_word, carried_element, cause_number, decision_fields, no_rights, note_element, nothing_carried, reason_detail, reason_element};
+ghost use Rattle.ssh_review.specs.Asked.{asked_of};
 ghost use Rattle.ssh_review.specs.Fields.{text_field};
 ghost use Rattle.ssh_review.specs.HostRecords.{print_of};
 ghost use Rattle.ssh_review.specs.Objects.{fingerprint_text};
 ghost use Rattle.ssh_text.specs.Text.{lines_of, numbered};
 
+use crate::asked::{AskedAt, push_asked_fields, push_total_head};
 use crate::fields::{
-    print_of, push_field_name, push_null_field, push_number_field, push_number_or_null,
-    push_text_field, push_text_or_null,
+    print_of, push_array, push_field_name, push_null_field, push_number_field, push_number_or_null,
+    push_text_field, push_text_or_null, push_truth, without_first,
 };
 use crate::json_record::{fingerprint_text, push_rights_field};
 use ssh_offers::{AuditError, Signed};
@@ -25,39 +27,6 @@ use ssh_rules::Reason;
 use ssh_text::Lines;
 use ssh_trust::{Cause, Decision};
 use std::alloc::{AllocError, Global};
-
-/// The text without its first byte.
-fn without_first(text: &[u8]) -> &[u8]
-    ensures { result.now ≡ drop 1 text.now }
-{
-    match text {
-        [] => text,
-        [_, rest @ ..] => rest,
-    }
-}
-
-/// Appends an array, of its elements with a comma before each.
-fn push_array(out: &mut Vec<u8>, name: &[u8], elements: &[u8]) -> Result<(), AllocError>
-    ensures { OnOk result (out.new.items ≡ out.old.items ++ array_field name.now elements.now) }
-{
-    push_field_name(out, name)?;
-    out.push(b'[')?;
-    out.extend_from_slice(without_first(elements))?;
-    out.push(b']')?;
-    Ok(())
-}
-
-fn push_truth(out: &mut Vec<u8>, name: &[u8], value: bool) -> Result<(), AllocError>
-    ensures { OnOk result (out.new.items ≡ out.old.items ++ truth_field name.now value) }
-{
-    push_field_name(out, name)?;
-    if value {
-        out.extend_from_slice(b"true")?;
-    } else {
-        out.extend_from_slice(b"false")?;
-    }
-    Ok(())
-}
 
 fn answer_word(may_admit: bool, answer: &Result<Decision, AuditError>) -> &'static [u8]
     ensures { result.now ≡ answer_word may_admit answer.now }
@@ -92,7 +61,7 @@ fn push_head(
 {
     out.extend_from_slice(b"{\"file\":")?;
     push_json_text(alloc, out, name)?;
-    push_text_field(alloc, out, b"is", b"answer")?;
+    push_text_field(alloc, out, b"what", b"answer")?;
     push_text_field(alloc, out, b"asked", asked_word(who))?;
     push_text_field(alloc, out, b"answer", word)?;
     Ok(())
@@ -414,19 +383,23 @@ pub fn answer_object(
     Ok(out)
 }
 
-/// The last line of the answers in JSON: how many files were asked, and the status.
+/// The last line of the answers in JSON: when the files were asked, how many there are, and the
+/// status.
 #[tactic(auto, unfolding(crate::specs::AnswerObjects::answer_total))]
 pub fn answer_total(
     alloc: Global,
     who: Subject,
+    at: &AskedAt<'_>,
     files: u64,
     status: u8,
 ) -> Result<Vec<u8>, AllocError>
-    ensures { IfOk result (λ text. text.items ≡ answer_total who files status) }
+    ensures { IfOk result
+        (λ text. text.items ≡ answer_total who (asked_of at.entry.now) files status) }
 {
-    let mut out = Vec::from_slice(alloc, b"{\"is\":\"total\"")?;
-    push_number_field(alloc, &mut out, b"format", 1)?;
+    let mut out = Vec::new(alloc);
+    push_total_head(alloc, &mut out)?;
     push_text_field(alloc, &mut out, b"asked", asked_word(who))?;
+    push_asked_fields(alloc, &mut out, at)?;
     push_number_field(alloc, &mut out, b"files", files)?;
     push_number_field(alloc, &mut out, b"status", status as u64)?;
     out.extend_from_slice(b"}\n")?;

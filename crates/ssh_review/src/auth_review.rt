@@ -22,13 +22,15 @@ use crate::json_record::{LineRef, push_entry_object, push_unreadable_object};
 use crate::record::{push_entry_text, push_unreadable_text};
 use sha2::{Digest, Sha256};
 use ssh_entries::{AuthEntryView, AuthLineView, KeyBuffer, read_auth_view};
-use ssh_findings::{Earlier, Facts, ReviewOptions, entry_findings, held_key, unreadable_findings};
+use ssh_findings::{
+    Earlier, Facts, ReviewOptions, entry_findings, held_key, may_let_in, unreadable_findings,
+};
 use ssh_options::LineCause;
 use ssh_text::{FILE_LIMIT, Lines};
 use std::alloc::{AllocError, Global};
 
 /// Appends the record of an entry, and stores what later lines need of the entry.
-fn push_entry_line(
+pub(crate) fn push_entry_line(
     alloc: Global,
     form: Form,
     asked: &ReviewOptions<'_>,
@@ -56,9 +58,19 @@ fn push_entry_line(
     match form {
         Form::Text => push_entry_text(alloc, out, place, &facts, &found)?,
         Form::Json => {
-            // This field does not depend on which findings are asked for.
+            // These fields do not depend on which findings are asked for.
             let shadow = earlier.shadow_line(entry.blob(), &facts);
-            push_entry_object(alloc, out, place, &facts, entry.options(), shadow, &found)?;
+            let lets_in = shadow.is_none() && may_let_in(asked, &facts);
+            push_entry_object(
+                alloc,
+                out,
+                place,
+                &facts,
+                entry.options(),
+                shadow,
+                lets_in,
+                &found,
+            )?;
         }
     }
     earlier.keep(alloc, place.number, entry.blob(), facts)?;
@@ -71,7 +83,7 @@ fn push_entry_line(
 }
 
 /// Appends the record of a line that cannot be read.
-fn push_unreadable_line(
+pub(crate) fn push_unreadable_line(
     alloc: Global,
     form: Form,
     asked: &ReviewOptions<'_>,
@@ -280,14 +292,23 @@ pub fn review_auth(
     }
 }
 
-/// The line with the total of all files.
-pub fn total_line(alloc: Global, form: Form, total: &Total) -> Result<Vec<u8>, AllocError>
-    ensures { IfOk result (λ line. line.items ≡ total_line form total.now) }
+/// The line with the total of all files. It says how they were asked: of which format they are, by its name in
+/// `--kind`, the time zone as a POSIX rule, and the options of the review.
+pub fn total_line(
+    alloc: Global,
+    form: Form,
+    kind: &[u8],
+    zone: &[u8],
+    asked: &ReviewOptions<'_>,
+    total: &Total,
+) -> Result<Vec<u8>, AllocError>
+    ensures { IfOk result (λ line. line.items
+        ≡ total_line form kind.now zone.now (asking_of asked.entry.now) total.now) }
 {
     let mut line = Vec::new(alloc);
     match form {
-        Form::Text => push_total_text(alloc, &mut line, total)?,
-        Form::Json => push_total_object(alloc, &mut line, total)?,
+        Form::Text => push_total_text(alloc, &mut line, zone, asked, total)?,
+        Form::Json => push_total_object(alloc, &mut line, kind, zone, asked, total)?,
     }
     Ok(line)
 }

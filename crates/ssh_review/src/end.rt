@@ -2,10 +2,15 @@
 
 ghost use Rattle.std.specs.Prelude.{◌≡◌, ◌+◌, ◌<◌, ◌^◌, ◌++◌, OnOk};
 ghost use Rattle.ssh_review.specs.Counting.{no_counts, plus};
-ghost use Rattle.ssh_review.specs.Ends.{count_text, counts_text, end_text, fault_code, fault_text, total_text};
-ghost use Rattle.ssh_review.specs.EndObjects.{counts_fields, end_head, end_object, fault_object, total_head, total_object};
+ghost use Rattle.std.specs.List.{flat_map};
+ghost use Rattle.ssh_findings.specs.Asking.{asking_of};
+ghost use Rattle.ssh_review.specs.Asked.{asked_of};
+ghost use Rattle.ssh_review.specs.Ends.{asked_by, count_text, counts_text, end_text, fault_code, fault_text, total_text};
+ghost use Rattle.ssh_review.specs.EndObjects.{code_element, counts_fields, end_head, end_object, fault_object, review_fields, total_counts, total_object};
 
-use crate::fields::{push_null_field, push_number_field, push_text_field};
+use crate::asked::{AskedAt, push_asked_fields, push_asked_words, push_total_head};
+use crate::fields::{push_array, push_null_field, push_number_field, push_text_field};
+use ssh_findings::{Code, ReviewOptions};
 use ssh_print::{push_escaped, push_hex, push_json_text, push_number};
 use std::alloc::{AllocError, Global};
 
@@ -95,7 +100,7 @@ fn push_counts(alloc: Global, out: &mut Vec<u8>, counts: Counts) -> Result<(), A
     ensures { OnOk result (out.new.items ≡ out.old.items ++ counts_text counts) }
 {
     push_count(alloc, out, counts.lines, b" lines, ")?;
-    push_count(alloc, out, counts.keys, b" keys, ")?;
+    push_count(alloc, out, counts.keys, b" key lines, ")?;
     push_count(alloc, out, counts.unreadable, b" unreadable, ")?;
     push_count(alloc, out, counts.findings, b" findings")?;
     Ok(())
@@ -146,18 +151,33 @@ pub(crate) fn push_fault_text(
     Ok(())
 }
 
+/// When a review was asked, in the time zone of this POSIX rule.
+fn asked_by<'a>(zone: &'a [u8], asked: &ReviewOptions<'_>) -> AskedAt<'a>
+    ensures { asked_of result ≡ asked_by zone.now (asking_of asked.entry.now) }
+{
+    AskedAt {
+        now: asked.now,
+        zone: Some(zone),
+    }
+}
+
 /// Appends the total of all files, as text.
 pub(crate) fn push_total_text(
     alloc: Global,
     out: &mut Vec<u8>,
+    zone: &[u8],
+    asked: &ReviewOptions<'_>,
     total: &Total,
 ) -> Result<(), AllocError>
-    ensures { OnOk result (out.new.items ≡ out.old.items ++ total_text total.now) }
+    ensures { OnOk result (out.new.items
+        ≡ out.old.items ++ total_text zone.now (asking_of asked.entry.now) total.now) }
 {
     out.extend_from_slice(b"total: ")?;
     push_count(alloc, out, total.files, b" files, ")?;
     push_count(alloc, out, total.faults, b" faults, ")?;
     push_counts(alloc, out, total.counts)?;
+    out.extend_from_slice(b", ")?;
+    push_asked_words(alloc, out, &asked_by(zone, asked))?;
     out.push(b'\n')?;
     Ok(())
 }
@@ -169,7 +189,7 @@ fn push_end_head(alloc: Global, out: &mut Vec<u8>, name: &[u8]) -> Result<(), Al
 {
     out.extend_from_slice(b"{\"file\":")?;
     push_json_text(alloc, out, name)?;
-    push_text_field(alloc, out, b"is", b"end")?;
+    push_text_field(alloc, out, b"what", b"end")?;
     Ok(())
 }
 
@@ -178,7 +198,7 @@ fn push_counts_fields(alloc: Global, out: &mut Vec<u8>, counts: Counts) -> Resul
     ensures { OnOk result (out.new.items ≡ out.old.items ++ counts_fields counts) }
 {
     push_number_field(alloc, out, b"lines", counts.lines)?;
-    push_number_field(alloc, out, b"keys", counts.keys)?;
+    push_number_field(alloc, out, b"key_lines", counts.keys)?;
     push_number_field(alloc, out, b"unreadable", counts.unreadable)?;
     push_number_field(alloc, out, b"findings", counts.findings)?;
     Ok(())
@@ -225,16 +245,49 @@ pub(crate) fn push_fault_object(
     Ok(())
 }
 
-/// Appends the number of the JSON format, which rises when a field is added or changes, and how
-/// many files there are.
-#[tactic(auto, unfolding(crate::specs::EndObjects::total_head))]
-fn push_total_head(alloc: Global, out: &mut Vec<u8>, total: &Total) -> Result<(), AllocError>
-    ensures { OnOk result (out.new.items ≡ out.old.items ++ total_head total.now) }
+fn push_code_element(alloc: Global, out: &mut Vec<u8>, code: Code) -> Result<(), AllocError>
+    ensures { OnOk result (out.new.items ≡ out.old.items ++ code_element code) }
 {
-    out.extend_from_slice(b"{\"is\":\"total\"")?;
-    push_number_field(alloc, out, b"format", 1)?;
+    out.push(b',')?;
+    push_json_text(alloc, out, code.text())?;
+    Ok(())
+}
+
+fn push_code_elements(alloc: Global, out: &mut Vec<u8>, told: &[Code]) -> Result<(), AllocError>
+    ensures { OnOk result (out.new.items ≡ out.old.items ++ flat_map code_element told.now) }
+{
+    for code in told {
+        push_code_element(alloc, out, *code)?;
+    }
+    Ok(())
+}
+
+/// Appends what was asked of the files.
+#[tactic(auto, unfolding(crate::specs::EndObjects::review_fields))]
+fn push_review_fields(
+    alloc: Global,
+    out: &mut Vec<u8>,
+    kind: &[u8],
+    asked: &ReviewOptions<'_>,
+) -> Result<(), AllocError>
+    ensures { OnOk result (out.new.items
+        ≡ out.old.items ++ review_fields kind.now (asking_of asked.entry.now)) }
+{
+    let mut told = Vec::new(alloc);
+    push_code_elements(alloc, &mut told, asked.told)?;
+    push_text_field(alloc, out, b"kind", kind)?;
+    push_number_field(alloc, out, b"rsa_minimum", asked.rsa_minimum as u64)?;
+    push_array(out, b"told", &told)?;
+    Ok(())
+}
+
+#[tactic(auto, unfolding(crate::specs::EndObjects::total_counts))]
+fn push_total_counts(alloc: Global, out: &mut Vec<u8>, total: &Total) -> Result<(), AllocError>
+    ensures { OnOk result (out.new.items ≡ out.old.items ++ total_counts total.now) }
+{
     push_number_field(alloc, out, b"files", total.files)?;
     push_number_field(alloc, out, b"faults", total.faults)?;
+    push_counts_fields(alloc, out, total.counts)?;
     Ok(())
 }
 
@@ -243,12 +296,18 @@ fn push_total_head(alloc: Global, out: &mut Vec<u8>, total: &Total) -> Result<()
 pub(crate) fn push_total_object(
     alloc: Global,
     out: &mut Vec<u8>,
+    kind: &[u8],
+    zone: &[u8],
+    asked: &ReviewOptions<'_>,
     total: &Total,
 ) -> Result<(), AllocError>
-    ensures { OnOk result (out.new.items ≡ out.old.items ++ total_object total.now) }
+    ensures { OnOk result (out.new.items ≡ out.old.items
+        ++ total_object kind.now zone.now (asking_of asked.entry.now) total.now) }
 {
-    push_total_head(alloc, out, total)?;
-    push_counts_fields(alloc, out, total.counts)?;
+    push_total_head(alloc, out)?;
+    push_review_fields(alloc, out, kind, asked)?;
+    push_asked_fields(alloc, out, &asked_by(zone, asked))?;
+    push_total_counts(alloc, out, total)?;
     out.extend_from_slice(b"}\n")?;
     Ok(())
 }

@@ -1,7 +1,7 @@
 //! Fields of JSON objects; and the fingerprints, rights and options in records.
 
-ghost use Rattle.std.specs.Prelude.{◌≡◌, ◌++◌, OnOk, codes, IfOk, ◌==◌, ◌∷◌, []};
-ghost use Rattle.ssh_review.specs.Fields.{field_name, moment_or_null, null_field, number_field, number_or_null, text_field, text_or_null};
+ghost use Rattle.std.specs.Prelude.{◌≡◌, ◌++◌, OnOk, codes, drop, IfOk, ◌==◌, ◌∷◌, []};
+ghost use Rattle.ssh_review.specs.Fields.{array_field, field_name, moment_or_null, null_field, number_field, number_or_null, text_field, text_or_null, truth_field};
 ghost use Rattle.ssh_review.specs.HostRecords.{print_of};
 ghost use Rattle.ssh_print.specs.DecisionText.{right_word, right_words};
 ghost use Rattle.ssh_review.specs.RightsWords.{rights_words, without_space};
@@ -106,6 +106,39 @@ pub(crate) fn push_bits_field(
         Some(bits) => push_number_field(alloc, out, b"bits", bits as u64),
         None => push_null_field(out, b"bits"),
     }
+}
+
+/// The text without its first byte.
+pub(crate) fn without_first(text: &[u8]) -> &[u8]
+    ensures { result.now ≡ drop 1 text.now }
+{
+    match text {
+        [] => text,
+        [_, rest @ ..] => rest,
+    }
+}
+
+pub(crate) fn push_truth(out: &mut Vec<u8>, name: &[u8], value: bool) -> Result<(), AllocError>
+    ensures { OnOk result (out.new.items ≡ out.old.items ++ truth_field name.now value) }
+{
+    push_field_name(out, name)?;
+    if value {
+        out.extend_from_slice(b"true")?;
+    } else {
+        out.extend_from_slice(b"false")?;
+    }
+    Ok(())
+}
+
+/// Appends an array, of its elements with a comma before each.
+pub(crate) fn push_array(out: &mut Vec<u8>, name: &[u8], elements: &[u8]) -> Result<(), AllocError>
+    ensures { OnOk result (out.new.items ≡ out.old.items ++ array_field name.now elements.now) }
+{
+    push_field_name(out, name)?;
+    out.push(b'[')?;
+    out.extend_from_slice(without_first(elements))?;
+    out.push(b']')?;
+    Ok(())
 }
 
 /// Appends a field with a moment, in seconds since 1970-01-01 in UTC; negative before that.

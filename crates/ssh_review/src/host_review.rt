@@ -33,7 +33,7 @@ use ssh_text::{FILE_LIMIT, Lines};
 use std::alloc::{AllocError, Global};
 
 /// Appends the record of an entry, and stores what later lines need of the entry.
-fn push_entry_line(
+pub(crate) fn push_entry_line(
     alloc: Global,
     form: Form,
     asked: &ReviewOptions<'_>,
@@ -72,7 +72,7 @@ fn push_entry_line(
 }
 
 /// Appends the record of a line that revokes these bytes, and stores the revocation.
-fn push_revoked_line(
+pub(crate) fn push_revoked_line(
     alloc: Global,
     form: Form,
     asked: &ReviewOptions<'_>,
@@ -140,7 +140,7 @@ fn push_bare_line(
 
 /// Appends the record of an unreadable revocation. It may revoke any key, so here it denies every
 /// host.
-fn push_blind_line(
+pub(crate) fn push_blind_line(
     alloc: Global,
     form: Form,
     asked: &ReviewOptions<'_>,
@@ -167,7 +167,7 @@ fn push_blind_line(
 }
 
 /// Appends the record of a line that cannot be read.
-fn push_unreadable_line(
+pub(crate) fn push_unreadable_line(
     alloc: Global,
     form: Form,
     asked: &ReviewOptions<'_>,

@@ -6,7 +6,7 @@ ghost use Rattle.ssh_review.specs.Objects.{empty_fields, entry_object, fingerpri
 
 use crate::fields::{
     push_bits_field, push_moment_or_null, push_null_field, push_number_field, push_number_or_null,
-    push_options, push_rights_words, push_text_field, push_text_or_null,
+    push_options, push_rights_words, push_text_field, push_text_or_null, push_truth,
 };
 use crate::findings::push_findings_end;
 use ssh_findings::{Facts, Finding, HeldKey};
@@ -32,19 +32,19 @@ pub(crate) fn push_object_head(
     alloc: Global,
     out: &mut Vec<u8>,
     place: &LineRef<'_>,
-    is: &[u8],
+    what: &[u8],
 ) -> Result<(), AllocError>
     ensures { OnOk result (out.new.items
-        ≡ out.old.items ++ object_head place.entry.now.name.now place.entry.now.number is.now) }
+        ≡ out.old.items ++ object_head place.entry.now.name.now place.entry.now.number what.now) }
 {
     out.extend_from_slice(b"{\"file\":")?;
     push_json_text(alloc, out, place.name)?;
     push_number_field(alloc, out, b"line", place.number)?;
-    push_text_field(alloc, out, b"is", is)?;
+    push_text_field(alloc, out, b"what", what)?;
     Ok(())
 }
 
-/// The field `is` of an entry: a certificate authority, or a key.
+/// The field `what` of an entry: a certificate authority, or a key.
 pub(crate) fn is_word(is_authority: bool) -> &'static [u8]
     ensures { result.now ≡ is_word is_authority }
 {
@@ -121,14 +121,14 @@ fn push_grant_fields(alloc: Global, out: &mut Vec<u8>, facts: &Facts) -> Result<
 {
     push_rights_field(alloc, out, &facts.rights)?;
     push_text_or_null(alloc, out, b"command", &facts.rights.command)?;
-    push_text_or_null(alloc, out, b"from", &facts.from)?;
+    push_text_or_null(alloc, out, b"source", &facts.from)?;
     push_text_or_null(alloc, out, b"principals", &facts.principals)?;
     push_moment_or_null(alloc, out, b"expires", facts.until)?;
     Ok(())
 }
 
 /// Appends the record of an entry with these options. `shadowed_by` is the line whose entry lets
-/// the key in first, if there is one.
+/// the key in first, if there is one; `lets_in` says whether this one may let it in.
 #[tactic(auto, unfolding(crate::specs::Objects::entry_object))]
 pub(crate) fn push_entry_object(
     alloc: Global,
@@ -137,16 +137,18 @@ pub(crate) fn push_entry_object(
     facts: &Facts,
     options: OptionsView<'_>,
     shadowed_by: Option<u64>,
+    lets_in: bool,
     found: &[Finding],
 ) -> Result<(), AllocError>
     ensures { OnOk result (out.new.items ≡ out.old.items ++ entry_object place.entry.now.name.now
-        place.entry.now.number facts.now options.entry shadowed_by found.now) }
+        place.entry.now.number facts.now options.entry shadowed_by lets_in found.now) }
 {
     push_object_head(alloc, out, place, is_word(facts.is_authority))?;
     push_owner_fields(alloc, out, facts)?;
     push_options_field(alloc, out, options)?;
     push_grant_fields(alloc, out, facts)?;
     push_number_or_null(alloc, out, b"shadowed_by", shadowed_by)?;
+    push_truth(out, b"lets_in", lets_in)?;
     push_findings_end(alloc, out, found)?;
     Ok(())
 }
@@ -175,7 +177,7 @@ pub(crate) fn push_held_fields(
     }
 }
 
-/// Appends `null` for the fields that only an entry has.
+/// Appends `null` for the fields that only an entry has; a line that cannot be read counts as access.
 #[tactic(auto, unfolding(crate::specs::Objects::empty_fields))]
 fn push_empty_fields(out: &mut Vec<u8>) -> Result<(), AllocError>
     ensures { OnOk result (out.new.items ≡ out.old.items ++ empty_fields) }
@@ -184,10 +186,11 @@ fn push_empty_fields(out: &mut Vec<u8>) -> Result<(), AllocError>
     push_null_field(out, b"options")?;
     push_null_field(out, b"rights")?;
     push_null_field(out, b"command")?;
-    push_null_field(out, b"from")?;
+    push_null_field(out, b"source")?;
     push_null_field(out, b"principals")?;
     push_null_field(out, b"expires")?;
     push_null_field(out, b"shadowed_by")?;
+    push_truth(out, b"lets_in", true)?;
     Ok(())
 }
 

@@ -1,6 +1,6 @@
 //! Laws about the output of a review, proved of functions without a body.
 
-ghost use Rattle.std.specs.Prelude.{◌≡◌, ◌⊎◌, [], ℕ, true, List, Option};
+ghost use Rattle.std.specs.Prelude.{◌≡◌, ◌⊎◌, [], ℕ, Bool, true, List, Option};
 ghost use Rattle.ssh_entries.specs.AuthGrammar.{auth_line};
 ghost use Rattle.ssh_findings.specs.Asking.{Asking};
 ghost use Rattle.ssh_findings.specs.Earlier.{Held};
@@ -42,7 +42,10 @@ fn one_line_rule()
     ensures fault { (name : List ℕ) (fault : FileFault)
         → AreBytes name
         → is_line (fault_object name fault) ≡ true }
-    ensures total { (t : Total) → is_line (total_object t) ≡ true }
+    ensures total { (kind zone : List ℕ) (asking : Asking) (t : Total)
+        → AreBytes kind
+        → AreBytes zone
+        → is_line (total_object kind zone asking t) ≡ true }
 {}
 
 /// In both formats the output is printable ASCII and the LFs at the ends of lines, whatever bytes
@@ -55,7 +58,10 @@ fn shown_rule()
     ensures fault { (form : Form) (name : List ℕ) (fault : FileFault)
         → AreBytes name
         → are_shown (file_fault_line form name fault) ≡ true }
-    ensures total { (form : Form) (t : Total) → are_shown (total_line form t) ≡ true }
+    ensures total { (form : Form) (kind zone : List ℕ) (asking : Asking) (t : Total)
+        → AreBytes kind
+        → AreBytes zone
+        → are_shown (total_line form kind zone asking t) ≡ true }
 {}
 
 /// Each record is one line of printable ASCII, whatever bytes it is given: no byte of a file can
@@ -63,11 +69,11 @@ fn shown_rule()
 fn json_lines_rule()
     ensures string { (text : List ℕ) → AreBytes text → are_printable (json_text text) ≡ true }
     ensures entry { (name : List ℕ) (n : ℕ) (f : Facts) (options : List AuthOption)
-        (shadowed_by : Option ℕ) (found : List Finding)
+        (shadowed_by : Option ℕ) (lets_in : Bool) (found : List Finding)
         → AreBytes name
         → IsOfBytes f
         → HaveByteValues options
-        → is_line (entry_object name n f options shadowed_by found) ≡ true }
+        → is_line (entry_object name n f options shadowed_by lets_in found) ≡ true }
     ensures unreadable { (name : List ℕ) (n : ℕ) (held : Option HeldKey) (found : List Finding)
         → AreBytes name
         → IsHeldOfBytes held

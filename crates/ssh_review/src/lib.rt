@@ -29,6 +29,15 @@
 //! Ok(reviewed.counts.findings > 0)
 //! ```
 //!
+//! `review_auth_key` and `review_known_key` are the reviews for one key: their records are those of the
+//! lines that hold it. A caller that tells whether a key stands in a file:
+//!
+//! ```
+//! let reviewed = review_auth_key(alloc, Form::Text, &asked, name, file, fingerprint)?;
+//! out.extend_from_slice(&reviewed.review.text)?;
+//! Ok(reviewed.stands)
+//! ```
+//!
 //! `decision_laws.rt` has the laws that join the decisions of `ssh_trust`, the new files of
 //! `ssh_rewriting` and these reviews: a rewritten file keeps every decision, a file with hashed host
 //! names keeps it but for line numbers, and whoever is let in or trusted is so by a line that the
@@ -36,22 +45,29 @@
 #![tactic(auto)]
 
 mod answer_json;
+mod asked;
 mod auth_review;
 mod decision_laws;
 mod end;
 mod fields;
 mod findings;
 mod host_json_record;
+mod host_key_review;
 mod host_record;
 mod host_review;
 mod json_record;
+mod key_laws;
+mod key_review;
 mod laws;
 mod readable;
 mod record;
 mod table;
 
 pub use answer_json::{answer_object, answer_total};
+pub use asked::{AskedAt, asked_line};
 pub use auth_review::{review_auth, review_fault, total_line};
 pub use end::{Counts, FileFault, Form, Reviewed, Total};
+pub use host_key_review::review_known_key;
 pub use host_review::review_known;
+pub use key_review::{KeyReviewed, review_auth_key, review_key_fault};
 pub use readable::{left_out, readable_auth};

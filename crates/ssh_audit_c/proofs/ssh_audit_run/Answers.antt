@@ -1,8 +1,8 @@
 use Rattle.std.proofs.Common.{List, subst, ℕ}
+use Rattle.ssh_lending.specs.Lending.{Lends}
 use Rattle.ssh_print.specs.Responses.{out_of_memory}
 use Rattle.ssh_memory.specs.MemoryFiles.{source_at_first}
 use Rattle.ssh_memory.specs.MemoryRuns.{texts_of}
-use Rattle.ssh_audit_c.specs.Lending.{Lends}
 use Rattle.ssh_memory.proofs.RunLemmas.{no_memory}
 use Rattle.ssh_audit_c.proofs.ssh_audit_run.Goals as goal
 

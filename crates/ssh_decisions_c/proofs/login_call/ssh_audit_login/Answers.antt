@@ -1,28 +1,40 @@
-use Rattle.std.proofs.Common.{◌≡◌, ◌∙◌, ℕ, map}
-use Rattle.ssh_entries.specs.AuthEntry.{AuthEntry}
+use Rattle.std.proofs.Common.{◌∙◌, List, ap, map, ℕ}
+use Rattle.ssh_lending.specs.Lending.{filled}
 use Rattle.ssh_offers.specs.FirstRefusal.{IsLoginClaim}
 use Rattle.ssh_offers.specs.LoginClaim.{LoginClaim, login_claim}
-use Rattle.ssh_offers.specs.Query.{Login}
 use Rattle.ssh_trust.specs.Answer.{login_answer}
-use Rattle.ssh_trust.specs.LoginDecision.{IsGrant}
+use Rattle.ssh_trust.specs.LoginDecision.{LoginMeans}
+use Rattle.ssh_trust.specs.Telling.{LoginTells}
+use Rattle.ssh_decisions_c.specs.Answered.{AnswersLogin, TellsLogin}
 use Rattle.ssh_decisions_c.specs.Asked.{login_asked, signed_of}
-use Rattle.ssh_decisions_c.proofs.ToldLemmas.{login_same, memory_told, moved}
+use Rattle.ssh_decisions_c.specs.declared.decided.CarriedText.{CarriedText}
+use Rattle.ssh_decisions_c.specs.declared.decided.LineReason.{LineReason}
+use Rattle.ssh_decisions_c.specs.declared.decided.LoginDecided.{LoginDecided}
+use Rattle.ssh_decisions_c.proofs.ToldLemmas.{answers_or_memory, login_denied, login_granted, login_passed}
 use Rattle.ssh_decisions_c.proofs.login_call.ssh_audit_login.Goals as goal
 
-pub returns-then-not-is_short-clause-answer : goal.returns-then-not-is_short-clause-answer
-returns-then-not-is_short-clause-answer c =
-    memory_told LoginClaim (login_claim (login_asked c.args.asked.now)) (λ claim. login_answer c.args.file.now claim (map signed_of c.args.vouched.now)) c.told.result c.told.ensures
-
-pub returns-in-Err-clause-answer : goal.returns-in-Err-clause-answer
-returns-in-Err-clause-answer c =
-    memory_told LoginClaim (login_claim (login_asked c.args.asked.now)) (λ claim. login_answer c.args.file.now claim (map signed_of c.args.vouched.now)) c.told-in-Err.result c.told-in-Err.ensures
-
-pub returns-clause-granted : goal.returns-clause-granted
-returns-clause-granted c =
-    moved Login LoginClaim IsLoginClaim (λ v claim. c.decide_login.result.kind ≡ 0 → (e : AuthEntry) × IsGrant c.args.file.now claim v c.decide_login.result.number e) _ _ _ _
-    (login_same c.args.asked.now _ _ c.host_name.ensures c.empty_principals.ensures) (c.as_slice.ensures.value ∙ c.in-Ok.ensures) c.decide_login.ensures.granted
-
-pub returns-clause-denied : goal.returns-clause-denied
-returns-clause-denied c =
-    moved Login LoginClaim IsLoginClaim (λ v claim. c.decide_login.result.kind ≡ 1 → (line : ℕ) (e : AuthEntry) → IsGrant c.args.file.now claim v line e → ⊥) _ _ _ _
-    (login_same c.args.asked.now _ _ c.host_name.ensures c.empty_principals.ensures) (c.as_slice.ensures.value ∙ c.in-Ok.ensures) c.decide_login.ensures.denied
+pub returns : goal.returns
+returns c =
+    let file = c.args.file.now in
+    let asked = login_asked c.args.asked.now in
+    let vouched = map signed_of c.args.vouched.now in
+    let answer = c.tell-telling.ensures.0 in
+    let is = c.tell-telling.ensures.2 in
+    let decided : LoginDecided = record { decision = c.tell-telling.result.decision; rights = c.tell-telling.result.rights.numbers } in
+    let answers : AnswersLogin file asked vouched answer =
+    answers_or_memory LoginClaim (login_claim asked) (IsLoginClaim asked) (λ claim. login_answer file claim vouched) (λ claim. LoginMeans file claim vouched)
+    (λ claim. LoginTells file claim vouched) c.decide_login.result answer c.tell-telling.ensures.1 c.decide_login.ensures in
+    let told : TellsLogin answer decided c.args.reasons.now c.lend.new.out c.args.carried.now c.lend-2.new.out c.args.texts.now c.lend-3.new.out =
+    record {
+      decision = is.decision;
+      rights = is.rights.numbers;
+      reasons = c.lend.ensures.0 ∙ ap (λ (l : List LineReason). filled l c.args.reasons.now) (c.as_slice.ensures.value ∙ is.reasons);
+      carried = c.lend-2.ensures.0 ∙ ap (λ (l : List CarriedText). filled l c.args.carried.now) (c.as_slice-2.ensures.value ∙ is.rights.carried);
+      texts = c.lend-3.ensures.0 ∙ ap (λ (l : List ℕ). filled l c.args.texts.now) (c.as_slice-3.ensures.value ∙ is.rights.texts);
+    } in
+    record {
+      answer = (answer, answers, told);
+      granted = λ claim of zero. login_granted file claim vouched answer decided _ _ _ _ _ _ told (answers.means claim of) zero;
+      denied = λ claim of one. login_denied file claim vouched answer decided.decision told.decision (answers.means claim of) (answers.tells claim of) one;
+      passed_over = λ claim of few. login_passed file claim vouched answer decided.decision _ _ told.decision told.reasons (answers.tells claim of) few;
+    }

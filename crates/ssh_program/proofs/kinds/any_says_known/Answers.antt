@@ -1,4 +1,4 @@
-use Rattle.ssh_program.proofs.Imports.{rules, tests, ◌∙◌, sym, YieldsList-from_slice, any_from_yields_List, list_any-map}
+use Rattle.ssh_program.proofs.Imports.{rules, tests, ◌∙◌, YieldsList-from_slice, any_from_yields_List, list_any-map}
 use Rattle.ssh_program.specs.Defaults.{says_known}
 use Rattle.ssh_program.specs.WordPlacesView.{word_seen}
 use Rattle.ssh_program.specs.declared.word.Word.{Word}

@@ -1,4 +1,4 @@
-use Rattle.ssh_program.proofs.Imports.{◌++◌, List, ℕ, subst, Breaks, TakesAll, escaped_text}
+use Rattle.ssh_program.proofs.Imports.{List, ℕ, subst, Breaks, TakesAll, escaped_text}
 use Rattle.ssh_program.proofs.WrittenText.{first_broken, on_err, second_broken}
 use Rattle.ssh_program.proofs.printing.put_part.Goals as goal
 

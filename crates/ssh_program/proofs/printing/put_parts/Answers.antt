@@ -1,4 +1,4 @@
-use Rattle.ssh_program.proofs.Imports.{◌≡◌, ◌∙◌, ◌++◌, ◌∷◌, ◌+◌, ◌<◌, List, ℕ, ap, sym, drop, get_or, length, flat_map, drop_more, Part, part_bytes}
+use Rattle.ssh_program.proofs.Imports.{◌≡◌, ◌∙◌, ◌++◌, ◌+◌, ◌<◌, List, ℕ, ap, sym, drop, get_or, length, flat_map, drop_more, Part, part_bytes}
 use Rattle.ssh_program.proofs.WrittenText.{broken_on, none_failed, on_err, taken_on}
 use Rattle.ssh_program.proofs.printing.put_parts.Goals as goal
 

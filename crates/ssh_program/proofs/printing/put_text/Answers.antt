@@ -1,4 +1,4 @@
-use Rattle.ssh_program.proofs.Imports.{◌++◌, List, ℕ, subst, flat_map, Breaks, TakesAll, Part, part_bytes}
+use Rattle.ssh_program.proofs.Imports.{List, ℕ, subst, flat_map, Breaks, TakesAll, Part, part_bytes}
 use Rattle.ssh_program.proofs.WrittenText.{first_broken, on_err, second_broken}
 use Rattle.ssh_program.proofs.printing.put_text.Goals as goal
 

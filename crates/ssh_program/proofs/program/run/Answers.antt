@@ -1,7 +1,9 @@
 use Rattle.std.specs.Prelude.{map}
 use Rattle.ssh_program.proofs.FileRunLemmas.{file_hashed_run, file_readable_run, file_rewritten_run, files_reviewed_run}
+use Rattle.ssh_program.proofs.FingerprintRunLemmas.{fingerprint_admitted_run, fingerprint_kept_out_run}
 use Rattle.ssh_program.proofs.GrantedRunLemmas.{host_denied_run, host_granted_run, login_denied_run, login_granted_run}
 use Rattle.ssh_program.proofs.KeyRunLemmas.{client_admitted_run, client_kept_out_run, host_distrusted_run, host_trusted_run}
+use Rattle.ssh_program.proofs.KeyStandingLemmas.{key_nowhere_run, key_standing_run}
 use Rattle.ssh_program.proofs.SignatureRunLemmas.{signature_unvouched_run, signature_vouched_run}
 use Rattle.ssh_program.proofs.program.run.Goals as goal
 
@@ -45,6 +47,16 @@ returns-clause-admits_none g c =
     client_kept_out_run (map g.S.AsStr.text c.args.words.now) (g.F.Files.source_state c.args.files.now) (g.F.Files.source_state c.answer.new.files)
     (g.W.Sink.account c.args.writer.now) (g.W.Sink.account c.answer.new.writer) c.answer.result c.answer.ensures
 
+pub returns-clause-admits_fingerprint : goal.returns-clause-admits_fingerprint
+returns-clause-admits_fingerprint g c =
+    fingerprint_admitted_run (map g.S.AsStr.text c.args.words.now) (g.F.Files.source_state c.args.files.now) (g.F.Files.source_state c.answer.new.files)
+    (g.W.Sink.account c.args.writer.now) (g.W.Sink.account c.answer.new.writer) c.answer.result c.answer.ensures
+
+pub returns-clause-admits_no_fingerprint : goal.returns-clause-admits_no_fingerprint
+returns-clause-admits_no_fingerprint g c =
+    fingerprint_kept_out_run (map g.S.AsStr.text c.args.words.now) (g.F.Files.source_state c.args.files.now) (g.F.Files.source_state c.answer.new.files)
+    (g.W.Sink.account c.args.writer.now) (g.W.Sink.account c.answer.new.writer) c.answer.result c.answer.ensures
+
 pub returns-clause-trusts : goal.returns-clause-trusts
 returns-clause-trusts g c =
     host_trusted_run (map g.S.AsStr.text c.args.words.now) (g.F.Files.source_state c.args.files.now) (g.F.Files.source_state c.answer.new.files)
@@ -73,4 +85,14 @@ returns-clause-hash g c =
 pub returns-clause-review : goal.returns-clause-review
 returns-clause-review g c =
     files_reviewed_run (map g.S.AsStr.text c.args.words.now) (g.F.Files.source_state c.args.files.now) (g.F.Files.source_state c.answer.new.files)
+    (g.W.Sink.account c.args.writer.now) (g.W.Sink.account c.answer.new.writer) c.answer.result c.answer.ensures
+
+pub returns-clause-review_key : goal.returns-clause-review_key
+returns-clause-review_key g c =
+    key_standing_run (map g.S.AsStr.text c.args.words.now) (g.F.Files.source_state c.args.files.now) (g.F.Files.source_state c.answer.new.files)
+    (g.W.Sink.account c.args.writer.now) (g.W.Sink.account c.answer.new.writer) c.answer.result c.answer.ensures
+
+pub returns-clause-review_key_none : goal.returns-clause-review_key_none
+returns-clause-review_key_none g c =
+    key_nowhere_run (map g.S.AsStr.text c.args.words.now) (g.F.Files.source_state c.args.files.now) (g.F.Files.source_state c.answer.new.files)
     (g.W.Sink.account c.args.writer.now) (g.W.Sink.account c.answer.new.writer) c.answer.result c.answer.ensures

@@ -1,5 +1,4 @@
 use Rattle.ssh_program.proofs.Imports.{rules, tests, ◌∙◌, YieldsList-from_slice, any_from_yields_List, list_any-map}
-use Rattle.std.proofs.Common.{Bor}
 use Rattle.ssh_program.specs.WordPlaces.{is_operand}
 use Rattle.ssh_program.specs.WordPlacesView.{word_seen}
 use Rattle.ssh_program.specs.declared.word.Word.{Word}

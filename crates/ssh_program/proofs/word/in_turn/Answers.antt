@@ -1,4 +1,4 @@
-use Rattle.ssh_program.proofs.Imports.{◌+◌, drop, map, rules, at_drop_more}
+use Rattle.ssh_program.proofs.Imports.{◌+◌, drop, map, at_drop_more}
 use Rattle.ssh_program.specs.WordPlaces.{in_turn}
 use Rattle.ssh_program.specs.WordPlacesView.{word_seen}
 use Rattle.ssh_program.proofs.WordLemmas.{seen_pushed, turn_told}

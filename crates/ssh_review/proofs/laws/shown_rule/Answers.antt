@@ -5,5 +5,5 @@ pub returns : goal.returns
 returns c = record {
   review = λ form asking name file h k. (review-shown form asking name file h k).all;
   fault = λ form name fault h. (fault-shown form name fault h).all;
-  total = λ form t. (total-shown form t).all;
+  total = λ form kind zone asking t h k. (total-shown form kind zone asking t h k).all;
 }

@@ -1,0 +1,345 @@
+-- A run of `review` with `--key` that ends with status 1 found the key in one of the files, and one with status 0 in none.
+use Rattle.ssh_program.proofs.Imports.{◌≡◌, ◌∙◌, ◌<◌, ◌≤◌, ◌+◌, ◌++◌, cond, ℕ, Bool, true, false, List, [], ◌∷◌, length, Option, Some, None, Result, Ok, Err, option_map, ap, subst, sym, refl, inl, inr, arith, nat_lt, Row, TimeZone, Response, no_file_response, IfTells, SourceState, bytes_at, most_failures, within_limit, zone_text, ReadsZone, Account, WritesResponse, source_of, RespondsTo, given, file_limit, KeepsOthers, TellsFile, TellsFiles, ShowError, Offered, shown_offer_in}
+use Rattle.std.proofs.lemmas.Bool.{ltb-false}
+use Rattle.std.proofs.lemmas.List.{append-nil, append_assoc}
+use Rattle.std.specs.Prelude.{◌||◌}
+use Rattle.ssh_files.specs.FilesInTurn.{Telling}
+use Rattle.ssh_keys.specs.Fingerprint.{digest_text_of}
+use Rattle.ssh_print.specs.Showing.{show_fault_response}
+use Rattle.ssh_print.specs.declared.showing.ShowError.TheVariants as show
+use Rattle.ssh_review.proofs.KeyListingLemmas.{host-key-nowhere, host-key-stands, key-nowhere, key-stands}
+use Rattle.ssh_review.specs.Forms.{total_line}
+use Rattle.ssh_review.specs.KeyReviews.{KeyReview, host_whole_key_review, key_fault_review, whole_key_review}
+use Rattle.ssh_review.specs.declared.end.FileFault.{FileFault}
+use Rattle.ssh_review.specs.declared.end.FileFault.TheVariants.{TooLong, Unread}
+use Rattle.ssh_review.specs.declared.end.Total.{Total}
+use Rattle.ssh_program.specs.declared.args.ArgName.TheVariants as option
+use Rattle.ssh_program.specs.declared.review.ReviewKind.{ReviewKind}
+use Rattle.ssh_program.specs.declared.review.ReviewKind.TheVariants.{Auth, Known}
+use Rattle.ssh_program.specs.declared.subcommand.Subcommand.TheVariants as command
+use Rattle.ssh_program.specs.FileRuns.{IsPartOf}
+use Rattle.ssh_program.specs.FingerprintValues.{fingerprint_bytes, is_fingerprint}
+use Rattle.ssh_program.specs.KeyRuns.{AsksOfFiles, EachFile, SomeFile}
+use Rattle.ssh_program.specs.FileReviews.{kind_name}
+use Rattle.ssh_program.specs.KeySeeking.{KeyLines, ReviewsFor, SeeksBy, SeeksKey, SeeksKeyOfFile, fingerprint_or_fault, key_review_of, key_status, no_key_lines, or_key_fault, spelled_fingerprint, telling_key_review, with_key_file}
+use Rattle.ssh_program.specs.KeyStanding.{AsksForKey, GivesBy, StandsIn, StandsNowhereIn, KeyNowhere, KeySought, KeyStanding, PrintsKeyReviews, whole_for_key}
+use Rattle.ssh_program.specs.OfferPrints.{offer_print}
+use Rattle.ssh_program.specs.Spelled.{ReviewAsked, review_spelled}
+use Rattle.ssh_program.specs.Spelling.{names_needed}
+use Rattle.ssh_program.specs.Totals.{fault_count}
+use Rattle.ssh_program.proofs.FileRunLemmas.{asked-run, none-counted, review-faulty, review-names, some-faults}
+use Rattle.ssh_program.proofs.GrantedRunLemmas.{Answered, IsFaulty, ends-as, fault-faulty, none-faulty, or-faulty, status-of}
+use Rattle.ssh_program.proofs.SpelledBytes.{ok-same}
+
+-- ---- one file
+
+-- a review without a fault is that of all lines
+without-fault : (kind : ReviewKind) (sought : List ℕ) (asked : ReviewAsked) (name file : List ℕ) → (key_review_of sought kind asked.form asked.asking name file).file.fault ≡ None
+    → key_review_of sought kind asked.form asked.asking name file ≡ whole_for_key kind sought asked.form asked.asking name file
+without-fault Auth sought asked name file h = by (nat_lt file_limit (length file)) h
+  where
+    by : (long : Bool) → (cond long (key_fault_review asked.form name TooLong) (whole_key_review sought asked.form asked.asking name file)).file.fault ≡ None
+        → cond long (key_fault_review asked.form name TooLong) (whole_key_review sought asked.form asked.asking name file) ≡ whole_key_review sought asked.form asked.asking name file
+    by true e = cc
+    by false e = refl
+without-fault Known sought asked name file h = by (nat_lt file_limit (length file)) h
+  where
+    by : (long : Bool) → (cond long (key_fault_review asked.form name TooLong) (host_whole_key_review sought asked.form asked.asking name file)).file.fault ≡ None
+        → cond long (key_fault_review asked.form name TooLong) (host_whole_key_review sought asked.form asked.asking name file) ≡ host_whole_key_review sought asked.form asked.asking name file
+    by true e = cc
+    by false e = refl
+
+-- the file is there, and its review for the key is this
+record SoughtAs (asked : ReviewAsked) (sought name : List ℕ) (s : SourceState) (first : KeyReview) : Type 0 where
+  file : List ℕ
+  there : bytes_at s name ≡ Some file
+  is : first ≡ whole_for_key asked.kind sought asked.form asked.asking name file
+
+abbrev telling : ReviewAsked → List ℕ → Telling KeyReview
+telling asked sought = telling_key_review sought asked.kind asked.form asked.asking
+
+no-fault : ◌≡◌ {A = Option FileFault} (Some Unread) None → ⊥
+no-fault e = cc
+
+sought-by : (asked : ReviewAsked) (sought name : List ℕ) (s : SourceState) (first : KeyReview) (bytes : Option (List ℕ)) → bytes_at s name ≡ bytes
+    → first ≡ (telling asked sought).of_bytes name bytes → first.file.fault ≡ None → SoughtAs asked sought name s first
+sought-by asked sought name s first None there is whole = absurd (no-fault (sym (ap (λ (x : KeyReview). x.file.fault) is) ∙ whole))
+sought-by asked sought name s first (Some file) there is whole = record {
+  file = file;
+  there = there;
+  is = is ∙ without-fault asked.kind sought asked name file (sym (ap (λ (x : KeyReview). x.file.fault) is) ∙ whole);
+}
+
+sought-as : (asked : ReviewAsked) (sought name : List ℕ) (s m : SourceState) (first : KeyReview) → TellsFile (telling asked sought) name s (Some m) first → first.file.fault ≡ None → SoughtAs asked sought name s first
+sought-as asked sought name s m first (keeps, inl (failed, is)) whole = absurd (no-fault (sym (ap (λ (x : KeyReview). x.file.fault) is) ∙ whole))
+sought-as asked sought name s m first (keeps, inr (unfailed, end, is)) whole = sought-by asked sought name s first (bytes_at s name) refl is whole
+
+few-failures : (asked : ReviewAsked) (sought name : List ℕ) (s m : SourceState) (first : KeyReview) → TellsFile (telling asked sought) name s (Some m) first → m.failures ≤ s.failures + 1
+few-failures asked sought name s m first (keeps, inl (failed, is)) = let one : m.failures ≡ s.failures + 1 = failed.0 in omega (arith, one)
+few-failures asked sought name s m first (keeps, inr (unfailed, end, is)) = let same : m.failures ≡ s.failures = unfailed in omega (arith, same)
+
+holds : (kind : ReviewKind) (sought : List ℕ) (asked : ReviewAsked) (name file : List ℕ) → (whole_for_key kind sought asked.form asked.asking name file).stands ≡ true → StandsIn kind sought file
+holds Auth sought asked name file h = key-stands sought asked.form asked.asking name file h
+holds Known sought asked name file h = host-key-stands sought asked.form asked.asking name file h
+
+holds-none : (kind : ReviewKind) (sought : List ℕ) (asked : ReviewAsked) (name file : List ℕ) → (whole_for_key kind sought asked.form asked.asking name file).stands ≡ false → StandsNowhereIn kind sought file
+holds-none Auth sought asked name file h = key-nowhere sought asked.form asked.asking name file h
+holds-none Known sought asked name file h = host-key-nowhere sought asked.form asked.asking name file h
+
+-- ---- all files
+
+-- the text of these files follows what was printed so far, and the key stands so far or in one of them
+record Printed (sofar told : KeyLines) (rest : List ℕ) (stands : Bool) : Type 0 where
+  text : told.lines.text ≡ sofar.lines.text ++ rest
+  standing : told.stands ≡ (sofar.stands || stands)
+  faultless : sofar.lines.total.faults ≡ 0
+
+-- each of the files was reviewed without a fault, this text is printed of them, and the key stands in one of them or not
+abbrev EachSought : ReviewAsked → List ℕ → List (List ℕ) → SourceState → List ℕ → Bool → Type 0
+EachSought asked sought [] s rest stands = (rest ≡ []) × (stands ≡ false)
+EachSought asked sought (name ∷ names) s rest stands =
+    (first : KeyReview) × SoughtAs asked sought name s first
+    × ((m : SourceState) × (more : List ℕ) × (others : Bool) × KeepsOthers name s (Some m) × (rest ≡ first.file.text ++ more) × (stands ≡ (first.stands || others))
+    × EachSought asked sought names m more others)
+
+or-none : (b : Bool) → b ≡ (b || false)
+or-none true = refl
+or-none false = refl
+
+or-assoc : (a b c : Bool) → ((a || b) || c) ≡ (a || (b || c))
+or-assoc true b c = refl
+or-assoc false b c = refl
+
+each-sought : (asked : ReviewAsked) (sought : List ℕ) (sofar : KeyLines) (names : List (List ℕ)) (s : SourceState) (t : Option SourceState) (told : KeyLines)
+    → s.failures + length names < most_failures → TellsFiles with_key_file (telling asked sought) sofar names s t told → told.lines.total.faults ≡ 0
+    → (rest : List ℕ) × (stands : Bool) × Printed sofar told rest stands × EachSought asked sought names s rest stands
+each-sought asked sought sofar [] s t told room (unfailed, is) none = (
+  [],
+  false,
+  record {
+    text = ap (λ (x : KeyLines). x.lines.text) is ∙ sym (append-nil sofar.lines.text);
+    standing = ap (λ (x : KeyLines). x.stands) is ∙ or-none sofar.stands;
+    faultless = sym (ap (λ (x : KeyLines). x.lines.total.faults) is) ∙ none;
+  },
+  (refl, refl),
+)
+each-sought asked sought sofar (name ∷ names) s t told room (m, first, one, more) none =
+    let few = few-failures asked sought name s m first one in
+    let left : m.failures + length names < most_failures = omega (arith, room, few) in
+    let (rest, others, printed, each) = each-sought asked sought (with_key_file sofar first) names m t told left (more (omega (arith, left))) none in
+    let (before, here) = none-counted sofar.lines.total.faults (fault_count first.file.fault) printed.faultless in
+    let whole = some-faults first.file.fault here in (
+      first.file.text ++ rest,
+      first.stands || others,
+      record {
+        text = printed.text ∙ append_assoc sofar.lines.text first.file.text rest;
+        standing = printed.standing ∙ or-assoc sofar.stands first.stands others;
+        faultless = before;
+      },
+      (first, sought-as asked sought name s m first one whole, (m, rest, others, one.0, refl, refl, each)),
+    )
+
+prints-each : (asked : ReviewAsked) (sought text before after : List ℕ) (names : List (List ℕ)) (s : SourceState) (rest : List ℕ) (stands : Bool) → EachSought asked sought names s rest stands
+    → text ≡ before ++ (rest ++ after) → PrintsKeyReviews asked sought text names s
+prints-each asked sought text before after [] s rest stands h is = tt
+prints-each asked sought text before after (name ∷ names) s rest stands (first, found, (m, more, others, keeps, are, standing, each)) is =
+    let parts : text ≡ before ++ (first.file.text ++ (more ++ after)) = is ∙ ap (λ (x : List ℕ). before ++ (x ++ after)) are ∙ ap (λ (x : List ℕ). before ++ x) (append_assoc first.file.text more after) in
+    let later : text ≡ (before ++ first.file.text) ++ (more ++ after) = parts ∙ sym (append_assoc before first.file.text (more ++ after)) in
+    let part = subst (λ (x : KeyReview). IsPartOf x.file.text text) found.is (before, more ++ after, parts) in
+    ((found.file, found.there, part), (m, keeps, prints-each asked sought text (before ++ first.file.text) after names m more others each later))
+
+none-of : (a b : Bool) → false ≡ (a || b) → (a ≡ false) × (b ≡ false)
+none-of true b h = cc
+none-of false b h = (refl, sym h)
+
+nowhere-in : (asked : ReviewAsked) (sought : List ℕ) (names : List (List ℕ)) (s : SourceState) (rest : List ℕ) (stands : Bool) → EachSought asked sought names s rest stands → stands ≡ false
+    → EachFile (StandsNowhereIn asked.kind sought) names s
+nowhere-in asked sought [] s rest stands h none = tt
+nowhere-in asked sought (name ∷ names) s rest stands (first, found, (m, more, others, keeps, are, standing, each)) none =
+    let (here, later) = none-of first.stands others (sym none ∙ standing) in
+    let not_here = sym (ap (λ (x : KeyReview). x.stands) found.is) ∙ here in
+    ((found.file, found.there, holds-none asked.kind sought asked name found.file not_here), (m, keeps, nowhere-in asked sought names m more others each later))
+
+stands-in : (asked : ReviewAsked) (sought : List ℕ) (names : List (List ℕ)) (s : SourceState) (rest : List ℕ) (stands : Bool) → EachSought asked sought names s rest stands → stands ≡ true
+    → SomeFile (StandsIn asked.kind sought) names s
+stands-in asked sought [] s rest stands h some = (let no : true ≡ false = sym some ∙ h.1 in cc)
+stands-in asked sought (name ∷ names) s rest stands (first, found, (m, more, others, keeps, are, standing, each)) some =
+    by first.stands refl (sym standing ∙ some) (stands-in asked sought names m more others each)
+  where
+    by : (b : Bool) → first.stands ≡ b → (b || others) ≡ true → (others ≡ true → SomeFile (StandsIn asked.kind sought) names m) → SomeFile (StandsIn asked.kind sought) (name ∷ names) s
+    by true is e later = inl (found.file, found.there, holds asked.kind sought asked name found.file (sym (ap (λ (x : KeyReview). x.stands) found.is) ∙ is))
+    by false is e later = inr (m, keeps, later e)
+
+-- ---- a response
+
+status-faultless : (total : Total) (stands : Bool) → key_status total stands < 2 → total.faults ≡ 0
+status-faultless total stands few = by (nat_lt 0 total.faults) refl few
+  where
+    by : (some : Bool) → nat_lt 0 total.faults ≡ some → cond some 2 (cond stands 1 0) < 2 → total.faults ≡ 0
+    by true is few = absurd (omega (arith, few))
+    by false is few = let none = ltb-false 0 total.faults is in omega (arith, none)
+
+status-nowhere : (total : Total) (stands : Bool) → key_status total stands ≡ 0 → stands ≡ false
+status-nowhere total stands h = by (nat_lt 0 total.faults) stands h
+  where
+    by : (some stands : Bool) → ◌≡◌ {A = ℕ} (cond some 2 (cond stands 1 0)) 0 → stands ≡ false
+    by true stands e = absurd (omega (arith, e))
+    by false true e = absurd (omega (arith, e))
+    by false false e = refl
+
+status-stands : (total : Total) (stands : Bool) → key_status total stands ≡ 1 → stands ≡ true
+status-stands total stands h = by (nat_lt 0 total.faults) stands h
+  where
+    by : (some stands : Bool) → ◌≡◌ {A = ℕ} (cond some 2 (cond stands 1 0)) 1 → stands ≡ true
+    by true stands e = absurd (omega (arith, e))
+    by false true e = refl
+    by false false e = absurd (omega (arith, e))
+
+-- what the files come to, by the status
+record Found (asked : ReviewAsked) (sought : List ℕ) (s : SourceState) (r : Response) : Type 0 where
+  reviews : PrintsKeyReviews asked sought r.text asked.names s
+  nowhere : r.status ≡ 0 → EachFile (StandsNowhereIn asked.kind sought) asked.names s
+  stands : r.status ≡ 1 → SomeFile (StandsIn asked.kind sought) asked.names s
+
+found-of : (asked : ReviewAsked) (sought : List ℕ) (s : SourceState) (t : Option SourceState) (r : Response) → s.failures + length asked.names < most_failures
+    → SeeksKey asked.kind asked.form asked.rule asked.asking asked.names sought s t r → r.status < 2 → Found asked sought s r
+found-of asked sought s t r room (told, chain, is) few =
+    let status = status-of r _ is in
+    let none = status-faultless told.lines.total told.stands (omega (arith, status, few)) in
+    let (rest, stands, printed, each) = each-sought asked sought no_key_lines asked.names s t told room chain none in
+    let whole : r.text ≡ [] ++ (rest ++ total_line asked.form (kind_name asked.kind) asked.rule asked.asking told.lines.total) = ap (λ (x : Response). x.text) is ∙ ap (λ (x : List ℕ). x ++ total_line asked.form (kind_name asked.kind) asked.rule asked.asking told.lines.total) printed.text in
+    let standing : told.stands ≡ stands = printed.standing in
+    record {
+      reviews = prints-each asked sought r.text [] (total_line asked.form (kind_name asked.kind) asked.rule asked.asking told.lines.total) asked.names s rest stands each whole;
+      nowhere = λ done. nowhere-in asked sought asked.names s rest stands each (sym standing ∙ status-nowhere told.lines.total told.stands (sym status ∙ done));
+      stands = λ done. stands-in asked sought asked.names s rest stands each (sym standing ∙ status-stands told.lines.total told.stands (sym status ∙ done));
+    }
+
+-- ---- the key
+
+-- the fingerprint that the value gives, and what the files come to then
+record GivenKey (asked : ReviewAsked) (key : List ℕ) (s : SourceState) (r : Response) : Type 0 where
+  fingerprint : List ℕ
+  left : SourceState
+  gives : GivesBy (is_fingerprint key) key s fingerprint left
+  found : Found asked fingerprint left r
+
+print-faulty : (read : Result Offered ShowError) → IsFaulty (or_key_fault read)
+print-faulty (Ok offer) = none-faulty (offer_print offer)
+print-faulty (Err (show.Line cause)) = or-faulty None (show_fault_response (show.Line cause)) refl
+print-faulty (Err (show.Cert e)) = or-faulty None (show_fault_response (show.Cert e)) refl
+print-faulty (Err (show.Body e)) = or-faulty None (show_fault_response (show.Body e)) refl
+print-faulty (Err show.Memory) = or-faulty None (show_fault_response show.Memory) refl
+
+file-faulty : (key : List ℕ) (bytes : Option (List ℕ)) → IsFaulty (fingerprint_or_fault key bytes)
+file-faulty key None = or-faulty None (no_file_response key) refl
+file-faulty key (Some file) = print-faulty (shown_offer_in file)
+
+spelled-faulty : (key : List ℕ) → IsFaulty (spelled_fingerprint key)
+spelled-faulty key = fault-faulty option.Key (option_map digest_text_of (fingerprint_bytes key))
+
+by-spelled : (asked : ReviewAsked) (key : List ℕ) (s : SourceState) (t : Option SourceState) (r : Response) → is_fingerprint key ≡ true → s.failures + length asked.names < most_failures
+    → (sought : Result (List ℕ) Response) → spelled_fingerprint key ≡ sought → RespondsTo (SeeksKey asked.kind asked.form asked.rule asked.asking asked.names) sought s t r → r.status < 2 → GivenKey asked key s r
+by-spelled asked key s t r is room (Err fault) spelled (unfailed, same) few =
+    let two = spelled-faulty key fault spelled in
+    let told = status-of r fault same in
+    absurd (omega (arith, two, told, few))
+by-spelled asked key s t r is room (Ok sought) spelled h few = record {
+  fingerprint = sought;
+  left = s;
+  gives = subst (λ (b : Bool). GivesBy b key s sought s) (sym is) (spelled, refl);
+  found = found-of asked sought s t r room h few;
+}
+
+of-file : (asked : ReviewAsked) (key : List ℕ) (s m : SourceState) (t : Option SourceState) (r : Response) → is_fingerprint key ≡ false → m.failures + length asked.names < most_failures → KeepsOthers key s (Some m)
+    → (sought : Result (List ℕ) Response) → fingerprint_or_fault key (within_limit (bytes_at s key)) ≡ sought → RespondsTo (SeeksKey asked.kind asked.form asked.rule asked.asking asked.names) sought m t r → r.status < 2
+    → GivenKey asked key s r
+of-file asked key s m t r is room keeps (Err fault) printed (unfailed, same) few =
+    let two = file-faulty key (within_limit (bytes_at s key)) fault printed in
+    let told = status-of r fault same in
+    absurd (omega (arith, two, told, few))
+of-file asked key s m t r is room keeps (Ok sought) printed h few = record {
+  fingerprint = sought;
+  left = m;
+  gives = subst (λ (b : Bool). GivesBy b key s sought m) (sym is) (printed, keeps);
+  found = found-of asked sought m t r room h few;
+}
+
+by-file : (asked : ReviewAsked) (key : List ℕ) (s : SourceState) (t : Option SourceState) (r : Response) → is_fingerprint key ≡ false → s.failures + length asked.names < most_failures
+    → SeeksKeyOfFile asked.kind asked.form asked.rule asked.asking asked.names key s t r → r.status < 2 → GivenKey asked key s r
+by-file asked key s t r is room (inl (failed, same)) few = let two = status-of r _ same in absurd (omega (arith, two, few))
+by-file asked key s t r is room (inr (m, keeps, none, end, h)) few =
+    let same : m.failures ≡ s.failures = none in
+    of-file asked key s m t r is (omega (arith, room, same)) keeps (fingerprint_or_fault key (within_limit (bytes_at s key))) refl h few
+
+given-by : (asked : ReviewAsked) (key : List ℕ) (s : SourceState) (t : Option SourceState) (r : Response) (spelled : Bool) → is_fingerprint key ≡ spelled → s.failures + length asked.names < most_failures
+    → SeeksBy spelled asked.kind asked.form asked.rule asked.asking asked.names key s t r → r.status < 2 → GivenKey asked key s r
+given-by asked key s t r true is room h few = by-spelled asked key s t r is room (spelled_fingerprint key) refl h few
+given-by asked key s t r false is room h few = by-file asked key s t r is room h few
+
+-- ---- a run
+
+-- what the options ask, and what came of it
+record SoughtRun (rows : List Row) (key : List ℕ) (s : SourceState) (r : Response) : Type 0 where
+  zone : Option TimeZone
+  read : ReadsZone (zone_text (given option.Zone rows)) zone
+  asked : ReviewAsked
+  spelled : review_spelled rows zone ≡ Ok asked
+  given_key : GivenKey asked key s r
+
+sought-in : (rows : List Row) (names : List (List ℕ)) (key : List ℕ) (zone : Option TimeZone) (s : SourceState) (t : Option SourceState) (r : Response) → names_needed rows ≡ Ok names
+    → s.failures + length names < most_failures → ReadsZone (zone_text (given option.Zone rows)) zone
+    → (x : Result ReviewAsked Response) → review_spelled rows zone ≡ x → RespondsTo (λ q. ReviewsFor (Some key) q.kind q.form q.rule q.asking q.names) x s t r → r.status < 2 → SoughtRun rows key s r
+sought-in rows names key zone s t r named room read (Err fault) spelled (unfailed, is) few =
+    let two = review-faulty rows zone fault spelled in
+    let same = status-of r fault is in
+    absurd (omega (arith, two, same, few))
+sought-in rows names key zone s t r named room read (Ok a) spelled h few =
+    let are = ok-same {A = List (List ℕ)} {B = Response} names a.names (sym named ∙ review-names rows zone a spelled) in
+    record {
+      zone = zone;
+      read = read;
+      asked = a;
+      spelled = spelled;
+      given_key = given-by a key s t r (is_fingerprint key) refl (subst (λ (x : List (List ℕ)). s.failures + length x < most_failures) are room) h few;
+    }
+
+told-of : (rows : List Row) (key : List ℕ) (s : SourceState) (r : Response) → SoughtRun rows key s r → KeySought rows key s r
+told-of rows key s r h = record {
+  zone = h.zone;
+  read = h.read;
+  asked = h.asked;
+  spelled = h.spelled;
+  fingerprint = h.given_key.fingerprint;
+  left = h.given_key.left;
+  gives = h.given_key.gives;
+  reviews = h.given_key.found.reviews;
+}
+
+pub key_nowhere_run : (words : List (List ℕ)) (o t : Option SourceState) (old new : Option Account) (status : ℕ) → IfTells o (Answered words t old new status)
+    → IfTells o (λ s. (rows : List Row) (names : List (List ℕ)) (key : List ℕ) → AsksOfFiles command.Review words s rows names → AsksForKey rows key → status ≡ 0
+    → (r : Response) × KeyNowhere rows key (source_of words s) r × WritesResponse old new r status)
+unfolding told-of sought-in
+key_nowhere_run words None t old new status h = tt
+key_nowhere_run words (Some s) t old new status h = λ room rows names key asks for_key is.
+    let (r, answers, writes) = h room in
+    let done = ends-as 0 (omega arith) old new r status writes is in
+    let few : r.status < 2 = omega (arith, done) in
+    let (zone, read, by) = asked-run command.Review words s t r rows asks.request answers few in
+    let run = sought-in rows names key zone (source_of words s) t r asks.named asks.room read (review_spelled rows zone) refl
+    (subst (λ (k : Option (List ℕ)). RespondsTo (λ q. ReviewsFor k q.kind q.form q.rule q.asking q.names) (review_spelled rows zone) (source_of words s) t r) for_key by) few in
+    (r, record { sought = told-of rows key (source_of words s) r run; nowhere = run.given_key.found.nowhere done }, writes)
+
+pub key_standing_run : (words : List (List ℕ)) (o t : Option SourceState) (old new : Option Account) (status : ℕ) → IfTells o (Answered words t old new status)
+    → IfTells o (λ s. (rows : List Row) (names : List (List ℕ)) (key : List ℕ) → AsksOfFiles command.Review words s rows names → AsksForKey rows key → status ≡ 1
+    → (r : Response) × KeyStanding rows key (source_of words s) r × WritesResponse old new r status)
+unfolding told-of sought-in
+key_standing_run words None t old new status h = tt
+key_standing_run words (Some s) t old new status h = λ room rows names key asks for_key is.
+    let (r, answers, writes) = h room in
+    let done = ends-as 1 (omega arith) old new r status writes is in
+    let few : r.status < 2 = omega (arith, done) in
+    let (zone, read, by) = asked-run command.Review words s t r rows asks.request answers few in
+    let run = sought-in rows names key zone (source_of words s) t r asks.named asks.room read (review_spelled rows zone) refl
+    (subst (λ (k : Option (List ℕ)). RespondsTo (λ q. ReviewsFor k q.kind q.form q.rule q.asking q.names) (review_spelled rows zone) (source_of words s) t r) for_key by) few in
+    (r, record { sought = told-of rows key (source_of words s) r run; stands = run.given_key.found.stands done }, writes)

@@ -1,0 +1,288 @@
+//! The review of a `known_hosts` file for one key: the records of the lines that hold it, and the
+//! end of the file.
+
+ghost use Rattle.std.specs.Prelude.{◌≡◌, ◌++◌, [], ◌≤◌, List, IfOk, OnOk, length};
+ghost use Rattle.ssh_entries.specs.declared.known_line.KnownLine.{KnownLine};
+ghost use Rattle.ssh_entries.specs.KnownSeen.{known_seen};
+ghost use Rattle.ssh_text.specs.Text.{file_limit, lines_of, numbered};
+ghost use Rattle.ssh_findings.specs.Asking.{asking_of};
+ghost use Rattle.ssh_findings.specs.HostFacts.{host_facts_of};
+ghost use Rattle.ssh_findings.specs.HostLines.{HostLine};
+ghost use Rattle.ssh_findings.specs.StandsFor.{RemembersLines};
+ghost use Rattle.ssh_review.specs.HostKeyRecords.{host_key_counts, host_key_counts_of, host_key_record, host_key_records_of};
+ghost use Rattle.ssh_review.specs.HostLines.{host_kept_of};
+ghost use Rattle.ssh_review.specs.KeyRecords.{lists_key};
+ghost use Rattle.ssh_review.specs.KeyReviews.{host_whole_key_review, key_review, known_key_review};
+
+use crate::end::{FileFault, Form};
+use crate::fields::print_of;
+use crate::host_review::{
+    push_blind_line, push_entry_line, push_revoked_line, push_unreadable_line,
+};
+use crate::json_record::LineRef;
+use crate::key_review::{KeyCounts, KeyReviewed, recovers_key, review_key_fault, with_end};
+use ssh_entries::{KeyBuffer, KnownEntryView, KnownLineView, read_known_view};
+use ssh_findings::{EarlierHosts, HostFacts, ReviewOptions, RevocationFacts, known_held_key};
+use ssh_options::LineCause;
+use ssh_text::{FILE_LIMIT, Lines};
+use std::alloc::{AllocError, Global};
+
+/// The facts of an entry, and whether its record lists this fingerprint.
+#[tactic(auto, unfolding(ssh_findings::specs::HostFacts::host_facts_of))]
+fn read_facts(
+    alloc: Global,
+    line: &[u8],
+    entry: &KnownEntryView<'_>,
+    sought: &[u8; 43],
+) -> Result<(HostFacts, bool), AllocError>
+    ensures facts { IfOk result (λ r. r.0 ≡ host_facts_of line.now entry.now) }
+    ensures lists { IfOk result (λ r. r.1 ≡ lists_key sought.now entry.now.key) }
+{
+    let facts = HostFacts::read(alloc, line, entry)?;
+    let lists = facts.fingerprint.as_slice() == sought.as_slice();
+    Ok((facts, lists))
+}
+
+/// Appends the record of an entry that has the key, as the whole review does. Of any other entry
+/// only what later lines need is stored.
+fn push_key_entry(
+    alloc: Global,
+    form: Form,
+    asked: &ReviewOptions<'_>,
+    place: &LineRef<'_>,
+    line: &[u8],
+    entry: &KnownEntryView<'_>,
+    sought: &[u8; 43],
+    earlier: &mut EarlierHosts,
+    out: &mut Vec<u8>,
+) -> Result<KeyCounts, AllocError>
+    ensures text { OnOk result ((lines : List HostLine) → RemembersLines earlier.old lines
+        → out.new.items ≡ out.old.items ++ host_key_record sought.now form
+        (asking_of asked.entry.now) place.entry.now.name.now lines place.entry.now.number line.now
+        (KnownLine.Entry entry.now)) }
+    ensures counts { IfOk result (λ told. (lines : List HostLine) → RemembersLines earlier.old lines
+        → told ≡ host_key_counts sought.now (asking_of asked.entry.now) lines line.now
+        (KnownLine.Entry entry.now)) }
+    ensures kept { OnOk result ((lines : List HostLine) → RemembersLines earlier.old lines
+        → RemembersLines earlier.new (lines ++ host_kept_of
+        place.entry.now.number line.now (KnownLine.Entry entry.now))) }
+{
+    let (facts, stands) = read_facts(alloc, line, entry, sought)?;
+    if stands {
+        let counts = push_entry_line(alloc, form, asked, place, line, entry, earlier, out)?;
+        Ok(KeyCounts { counts, stands })
+    } else {
+        earlier.keep_entry(alloc, place.number, entry.blob(), &facts)?;
+        Ok(KeyCounts::OTHER_LINE)
+    }
+}
+
+/// Appends the record of a line that revokes these bytes, if they have the fingerprint. Of any other
+/// revocation only what later lines need is stored.
+fn push_key_revoked(
+    alloc: Global,
+    form: Form,
+    asked: &ReviewOptions<'_>,
+    place: &LineRef<'_>,
+    line: &[u8],
+    bytes: &[u8],
+    sought: &[u8; 43],
+    earlier: &mut EarlierHosts,
+    out: &mut Vec<u8>,
+) -> Result<KeyCounts, AllocError>
+    ensures text { OnOk result ((lines : List HostLine) → RemembersLines earlier.old lines
+        → out.new.items ≡ out.old.items ++ host_key_record sought.now form
+        (asking_of asked.entry.now) place.entry.now.name.now lines place.entry.now.number line.now
+        (KnownLine.Revoked bytes.now)) }
+    ensures counts { IfOk result (λ told. (lines : List HostLine) → RemembersLines earlier.old lines
+        → told ≡ host_key_counts sought.now (asking_of asked.entry.now) lines line.now
+        (KnownLine.Revoked bytes.now)) }
+    ensures kept { OnOk result ((lines : List HostLine) → RemembersLines earlier.old lines
+        → RemembersLines earlier.new (lines ++ host_kept_of
+        place.entry.now.number line.now (KnownLine.Revoked bytes.now))) }
+{
+    let fingerprint = print_of(alloc, bytes)?;
+    let stands = fingerprint.as_slice() == sought.as_slice();
+    if stands {
+        let counts = push_revoked_line(alloc, form, asked, place, line, bytes, earlier, out)?;
+        Ok(KeyCounts { counts, stands })
+    } else {
+        let facts = RevocationFacts::read(alloc, line, bytes)?;
+        earlier.keep_revocation(alloc, place.number, bytes, &facts)?;
+        Ok(KeyCounts::OTHER_LINE)
+    }
+}
+
+/// Appends the record of an unreadable revocation, if it holds the key.
+fn push_key_blind(
+    alloc: Global,
+    form: Form,
+    asked: &ReviewOptions<'_>,
+    place: &LineRef<'_>,
+    line: &[u8],
+    sought: &[u8; 43],
+    out: &mut Vec<u8>,
+) -> Result<KeyCounts, AllocError>
+    ensures text { OnOk result (out.new.items ≡ out.old.items ++ host_key_record sought.now form
+        (asking_of asked.entry.now) place.entry.now.name.now [] place.entry.now.number line.now
+        KnownLine.RevokedUnreadable) }
+    ensures counts { IfOk result (λ told. told ≡ host_key_counts sought.now
+        (asking_of asked.entry.now) [] line.now KnownLine.RevokedUnreadable) }
+{
+    let held = known_held_key(alloc, line)?;
+    let stands = recovers_key(held, sought);
+    if stands {
+        let counts = push_blind_line(alloc, form, asked, place, line, out)?;
+        Ok(KeyCounts { counts, stands })
+    } else {
+        Ok(KeyCounts::OTHER_LINE)
+    }
+}
+
+/// Appends the record of a line that cannot be read, if it holds the key.
+fn push_key_unreadable(
+    alloc: Global,
+    form: Form,
+    asked: &ReviewOptions<'_>,
+    place: &LineRef<'_>,
+    line: &[u8],
+    cause: LineCause,
+    sought: &[u8; 43],
+    out: &mut Vec<u8>,
+) -> Result<KeyCounts, AllocError>
+    ensures text { OnOk result (out.new.items ≡ out.old.items ++ host_key_record sought.now form
+        (asking_of asked.entry.now) place.entry.now.name.now [] place.entry.now.number line.now
+        (KnownLine.Unreadable cause)) }
+    ensures counts { IfOk result (λ told. told ≡ host_key_counts sought.now
+        (asking_of asked.entry.now) [] line.now (KnownLine.Unreadable cause)) }
+{
+    let held = known_held_key(alloc, line)?;
+    let stands = recovers_key(held, sought);
+    if stands {
+        let counts = push_unreadable_line(alloc, form, asked, place, line, cause, out)?;
+        Ok(KeyCounts { counts, stands })
+    } else {
+        Ok(KeyCounts::OTHER_LINE)
+    }
+}
+
+/// Appends the record of a line, if it holds the key.
+fn push_key_line(
+    alloc: Global,
+    form: Form,
+    asked: &ReviewOptions<'_>,
+    place: &LineRef<'_>,
+    line: &[u8],
+    view: &KnownLineView<'_>,
+    sought: &[u8; 43],
+    earlier: &mut EarlierHosts,
+    out: &mut Vec<u8>,
+) -> Result<KeyCounts, AllocError>
+    ensures text { OnOk result ((lines : List HostLine) → RemembersLines earlier.old lines
+        → out.new.items ≡ out.old.items ++ host_key_record sought.now form
+        (asking_of asked.entry.now) place.entry.now.name.now lines place.entry.now.number line.now
+        (known_seen view.now)) }
+    ensures counts { IfOk result (λ told. (lines : List HostLine) → RemembersLines earlier.old lines
+        → told ≡ host_key_counts sought.now (asking_of asked.entry.now) lines line.now
+        (known_seen view.now)) }
+    ensures kept { OnOk result ((lines : List HostLine) → RemembersLines earlier.old lines
+        → RemembersLines earlier.new (lines ++ host_kept_of
+        place.entry.now.number line.now (known_seen view.now))) }
+{
+    match view {
+        KnownLineView::Blank | KnownLineView::Comment => Ok(KeyCounts::OTHER_LINE),
+        KnownLineView::Entry(entry) => push_key_entry(
+            alloc, form, asked, place, line, entry, sought, earlier, out,
+        ),
+        KnownLineView::Revoked(bytes) => push_key_revoked(
+            alloc, form, asked, place, line, bytes, sought, earlier, out,
+        ),
+        KnownLineView::RevokedUnreadable => {
+            push_key_blind(alloc, form, asked, place, line, sought, out)
+        }
+        KnownLineView::Unreadable(cause) => push_key_unreadable(
+            alloc, form, asked, place, line, *cause, sought, out,
+        ),
+    }
+}
+
+/// Appends the records of the lines of a file that hold the key, and returns their counts.
+fn push_key_records(
+    alloc: Global,
+    form: Form,
+    asked: &ReviewOptions<'_>,
+    name: &[u8],
+    file: &[u8],
+    sought: &[u8; 43],
+    out: &mut Vec<u8>,
+) -> Result<KeyCounts, AllocError>
+    requires limit { length file.now ≤ file_limit }
+    ensures text { OnOk result (out.new.items ≡ out.old.items
+        ++ host_key_records_of sought.now form (asking_of asked.entry.now) name.now []
+        (numbered 1 (lines_of file.now))) }
+    ensures counts { IfOk result (λ told. told ≡ host_key_counts_of sought.now
+        (asking_of asked.entry.now) [] (numbered 1 (lines_of file.now))) }
+{
+    let mut earlier = EarlierHosts::new(alloc);
+    let mut buffer = KeyBuffer::new(alloc)?;
+    let mut sum = KeyCounts::NONE;
+    for (number, line) in Lines::new(file) {
+        let place = LineRef { name, number };
+        let view = read_known_view(line, &mut buffer);
+        let told = push_key_line(
+            alloc,
+            form,
+            asked,
+            &place,
+            line,
+            &view,
+            sought,
+            &mut earlier,
+            out,
+        )?;
+        sum = sum.plus(told);
+    }
+    Ok(sum)
+}
+
+/// The review of a file within the limit.
+#[tactic(auto, unfolding(crate::specs::KeyReviews::host_whole_key_review))]
+fn whole_key_review(
+    alloc: Global,
+    form: Form,
+    asked: &ReviewOptions<'_>,
+    name: &[u8],
+    file: &[u8],
+    sought: &[u8; 43],
+) -> Result<KeyReviewed, AllocError>
+    requires { length file.now ≤ file_limit }
+    ensures { IfOk result (λ r. key_review r
+        ≡ host_whole_key_review sought.now form (asking_of asked.entry.now) name.now file.now) }
+{
+    let mut records = Vec::new(alloc);
+    let told = push_key_records(alloc, form, asked, name, file, sought, &mut records)?;
+    let reviewed = with_end(alloc, form, name, file, told, records)?;
+    Ok(reviewed)
+}
+
+/// The review of a `known_hosts` file for the key with this fingerprint, which is the base64 after
+/// `SHA256:`. It has the records that `review_known` prints of the lines that hold the key, also of
+/// those that revoke it or cannot be read, and the end of the file. A file of more than 67,108,864
+/// bytes has the fault A7.
+pub fn review_known_key(
+    alloc: Global,
+    form: Form,
+    asked: &ReviewOptions<'_>,
+    name: &[u8],
+    file: &[u8],
+    sought: &[u8; 43],
+) -> Result<KeyReviewed, AllocError>
+    ensures { IfOk result (λ r. key_review r
+        ≡ known_key_review sought.now form (asking_of asked.entry.now) name.now file.now) }
+{
+    if file.len() > FILE_LIMIT {
+        review_key_fault(alloc, form, name, FileFault::TooLong)
+    } else {
+        whole_key_review(alloc, form, asked, name, file, sought)
+    }
+}

@@ -1,0 +1,316 @@
+//! The review of an `authorized_keys` file for one key: the records of the lines that hold it, and
+//! the end of the file.
+
+ghost use Rattle.std.specs.Prelude.{◌≡◌, ◌+◌, ◌<◌, ◌^◌, ◌++◌, [], ◌≤◌, List, IfOk, OnOk, length};
+ghost use Rattle.ssh_entries.specs.declared.auth_line.AuthLine.{AuthLine};
+ghost use Rattle.ssh_entries.specs.LineView.{line_seen};
+ghost use Rattle.ssh_text.specs.Text.{file_limit, lines_of, numbered};
+ghost use Rattle.ssh_findings.specs.Asking.{asking_of};
+ghost use Rattle.ssh_findings.specs.Earlier.{Held};
+ghost use Rattle.ssh_findings.specs.Facts.{facts_of};
+ghost use Rattle.ssh_findings.specs.Keeping.{RemembersEntries};
+ghost use Rattle.ssh_review.specs.KeyRecords.{key_counts, key_counts_of, key_record, key_records_of, lists_key, plus_key, recovers_key};
+ghost use Rattle.ssh_review.specs.KeyReviews.{auth_key_review, key_fault_review, key_review, reviewed_by, whole_key_review};
+ghost use Rattle.ssh_review.specs.Lines.{held_by_line};
+
+use crate::auth_review::{push_end, push_entry_line, push_unreadable_line, review_fault};
+use crate::end::{Counts, FileFault, Form, Reviewed};
+use crate::json_record::LineRef;
+use sha2::{Digest, Sha256};
+use ssh_entries::{AuthEntryView, AuthLineView, KeyBuffer, read_auth_view};
+use ssh_findings::{Earlier, Facts, HeldKey, ReviewOptions, held_key};
+use ssh_options::LineCause;
+use ssh_text::{FILE_LIMIT, Lines};
+use std::alloc::{AllocError, Global};
+
+/// The counts of the records that are printed, with those of all lines, and whether some line holds
+/// the key.
+#[derive(Clone, Copy, Debug)]
+pub(crate) struct KeyCounts {
+    pub(crate) counts: Counts,
+    pub(crate) stands: bool,
+}
+
+impl KeyCounts {
+    pub(crate) const NONE: KeyCounts = KeyCounts {
+        counts: Counts::NONE,
+        stands: false,
+    };
+
+    /// A line that does not hold the key.
+    pub(crate) const OTHER_LINE: KeyCounts = KeyCounts {
+        counts: Counts {
+            lines: 1,
+            keys: 0,
+            unreadable: 0,
+            findings: 0,
+        },
+        stands: false,
+    };
+
+    /// The sums of both, and whether the key stands in either part.
+    pub(crate) fn plus(self, other: KeyCounts) -> KeyCounts
+        requires lines { self.counts.lines + other.counts.lines < 2 ^ 64 }
+        requires keys { self.counts.keys + other.counts.keys < 2 ^ 64 }
+        requires unreadable { self.counts.unreadable + other.counts.unreadable < 2 ^ 64 }
+        requires findings { self.counts.findings + other.counts.findings < 2 ^ 64 }
+        ensures { result ≡ plus_key self other }
+    {
+        KeyCounts {
+            counts: self.counts.plus(other.counts),
+            stands: self.stands || other.stands,
+        }
+    }
+}
+
+/// The review of a file for one key.
+#[derive(Debug, Drop)]
+pub struct KeyReviewed {
+    /// The records of the lines that hold the key, and the end of the file. The counts are those of
+    /// these records, but for `lines`, which counts all lines.
+    pub review: Reviewed,
+    /// Whether some line of the file holds the key.
+    pub stands: bool,
+}
+
+/// Whether there is a recovered key, and it has this fingerprint.
+pub(crate) fn recovers_key(held: Option<HeldKey>, sought: &[u8; 43]) -> bool
+    ensures { result ≡ recovers_key sought.now held }
+{
+    match held {
+        None => false,
+        Some(held) => held.fingerprint.as_slice() == sought.as_slice(),
+    }
+}
+
+/// The facts of an entry, and whether its record lists this fingerprint.
+#[tactic(auto, unfolding(ssh_findings::specs::Facts::facts_of))]
+fn read_facts(
+    alloc: Global,
+    asked: &ReviewOptions<'_>,
+    entry: &AuthEntryView<'_>,
+    sought: &[u8; 43],
+) -> Result<(Facts, bool), AllocError>
+    ensures facts { IfOk result
+        (λ r. r.0 ≡ facts_of (asking_of asked.entry.now).zone entry.now) }
+    ensures lists { IfOk result (λ r. r.1 ≡ lists_key sought.now entry.now.key) }
+{
+    let facts = Facts::read(alloc, asked.zone, entry)?;
+    let lists = facts.fingerprint.as_slice() == sought.as_slice();
+    Ok((facts, lists))
+}
+
+/// Appends the record of an entry that has the key, as the whole review does. Of any other entry
+/// only what later lines need is stored.
+fn push_key_entry(
+    alloc: Global,
+    form: Form,
+    asked: &ReviewOptions<'_>,
+    place: &LineRef<'_>,
+    entry: &AuthEntryView<'_>,
+    sought: &[u8; 43],
+    earlier: &mut Earlier,
+    out: &mut Vec<u8>,
+) -> Result<KeyCounts, AllocError>
+    ensures text { OnOk result ((held : List Held) → RemembersEntries earlier.old held
+        → out.new.items ≡ out.old.items ++ key_record sought.now form (asking_of asked.entry.now)
+        place.entry.now.name.now held (place.entry.now.number, []) (AuthLine.Entry entry.now)) }
+    ensures counts { IfOk result (λ told. (held : List Held) → RemembersEntries earlier.old held
+        → told ≡ key_counts sought.now (asking_of asked.entry.now) held []
+        (AuthLine.Entry entry.now)) }
+    ensures kept { OnOk result ((held : List Held) → RemembersEntries earlier.old held
+        → RemembersEntries earlier.new (held ++ held_by_line
+        (asking_of asked.entry.now) (place.entry.now.number, AuthLine.Entry entry.now))) }
+{
+    let (facts, stands) = read_facts(alloc, asked, entry, sought)?;
+    if stands {
+        let counts = push_entry_line(alloc, form, asked, place, entry, earlier, out)?;
+        Ok(KeyCounts { counts, stands })
+    } else {
+        earlier.keep(alloc, place.number, entry.blob(), facts)?;
+        Ok(KeyCounts::OTHER_LINE)
+    }
+}
+
+/// Appends the record of a line that cannot be read, if it holds the key.
+fn push_key_unreadable(
+    alloc: Global,
+    form: Form,
+    asked: &ReviewOptions<'_>,
+    place: &LineRef<'_>,
+    line: &[u8],
+    cause: LineCause,
+    sought: &[u8; 43],
+    out: &mut Vec<u8>,
+) -> Result<KeyCounts, AllocError>
+    ensures text { OnOk result (out.new.items ≡ out.old.items ++ key_record sought.now form
+        (asking_of asked.entry.now) place.entry.now.name.now [] (place.entry.now.number, line.now)
+        (AuthLine.Unreadable cause)) }
+    ensures counts { IfOk result (λ told. told ≡ key_counts sought.now (asking_of asked.entry.now)
+        [] line.now (AuthLine.Unreadable cause)) }
+{
+    let held = held_key(alloc, line)?;
+    let stands = recovers_key(held, sought);
+    if stands {
+        let counts = push_unreadable_line(alloc, form, asked, place, line, cause, out)?;
+        Ok(KeyCounts { counts, stands })
+    } else {
+        Ok(KeyCounts::OTHER_LINE)
+    }
+}
+
+/// Appends the record of a line, if it holds the key.
+fn push_key_line(
+    alloc: Global,
+    form: Form,
+    asked: &ReviewOptions<'_>,
+    place: &LineRef<'_>,
+    line: &[u8],
+    view: &AuthLineView<'_>,
+    sought: &[u8; 43],
+    earlier: &mut Earlier,
+    out: &mut Vec<u8>,
+) -> Result<KeyCounts, AllocError>
+    ensures text { OnOk result ((held : List Held) → RemembersEntries earlier.old held
+        → out.new.items ≡ out.old.items ++ key_record sought.now form (asking_of asked.entry.now)
+        place.entry.now.name.now held (place.entry.now.number, line.now) (line_seen view.now)) }
+    ensures counts { IfOk result (λ told. (held : List Held) → RemembersEntries earlier.old held
+        → told ≡ key_counts sought.now (asking_of asked.entry.now) held line.now
+        (line_seen view.now)) }
+    ensures kept { OnOk result ((held : List Held) → RemembersEntries earlier.old held
+        → RemembersEntries earlier.new (held ++ held_by_line
+        (asking_of asked.entry.now) (place.entry.now.number, line_seen view.now))) }
+{
+    match view {
+        AuthLineView::Blank | AuthLineView::Comment => Ok(KeyCounts::OTHER_LINE),
+        AuthLineView::Entry(entry) => push_key_entry(
+            alloc, form, asked, place, entry, sought, earlier, out,
+        ),
+        AuthLineView::Unreadable(cause) => push_key_unreadable(
+            alloc, form, asked, place, line, *cause, sought, out,
+        ),
+    }
+}
+
+/// Appends the records of the lines of a file that hold the key, and returns their counts.
+fn push_key_records(
+    alloc: Global,
+    form: Form,
+    asked: &ReviewOptions<'_>,
+    name: &[u8],
+    file: &[u8],
+    sought: &[u8; 43],
+    out: &mut Vec<u8>,
+) -> Result<KeyCounts, AllocError>
+    requires limit { length file.now ≤ file_limit }
+    ensures text { OnOk result (out.new.items ≡ out.old.items
+        ++ key_records_of sought.now form (asking_of asked.entry.now) name.now []
+        (numbered 1 (lines_of file.now))) }
+    ensures counts { IfOk result (λ told. told ≡ key_counts_of sought.now
+        (asking_of asked.entry.now) [] (numbered 1 (lines_of file.now))) }
+{
+    let mut earlier = Earlier::new(alloc);
+    let mut buffer = KeyBuffer::new(alloc)?;
+    let mut sum = KeyCounts::NONE;
+    for (number, line) in Lines::new(file) {
+        let place = LineRef { name, number };
+        let view = read_auth_view(line, &mut buffer);
+        let told = push_key_line(
+            alloc,
+            form,
+            asked,
+            &place,
+            line,
+            &view,
+            sought,
+            &mut earlier,
+            out,
+        )?;
+        sum = sum.plus(told);
+    }
+    Ok(sum)
+}
+
+/// The review of a file with these records, of which these are the counts: they are followed by the
+/// end of the file.
+pub(crate) fn with_end(
+    alloc: Global,
+    form: Form,
+    name: &[u8],
+    file: &[u8],
+    told: KeyCounts,
+    records: Vec<u8>,
+) -> Result<KeyReviewed, AllocError>
+    ensures { IfOk result
+        (λ r. key_review r ≡ reviewed_by form name.now file.now records.items told) }
+{
+    let mut text = records;
+    let digest = Sha256::digest(file);
+    push_end(alloc, form, &mut text, name, told.counts, &digest)?;
+    Ok(KeyReviewed {
+        review: Reviewed {
+            text,
+            counts: told.counts,
+            fault: None,
+        },
+        stands: told.stands,
+    })
+}
+
+/// The review of a file within the limit.
+#[tactic(auto, unfolding(crate::specs::KeyReviews::whole_key_review))]
+fn whole_key_review(
+    alloc: Global,
+    form: Form,
+    asked: &ReviewOptions<'_>,
+    name: &[u8],
+    file: &[u8],
+    sought: &[u8; 43],
+) -> Result<KeyReviewed, AllocError>
+    requires { length file.now ≤ file_limit }
+    ensures { IfOk result (λ r. key_review r
+        ≡ whole_key_review sought.now form (asking_of asked.entry.now) name.now file.now) }
+{
+    let mut records = Vec::new(alloc);
+    let told = push_key_records(alloc, form, asked, name, file, sought, &mut records)?;
+    let reviewed = with_end(alloc, form, name, file, told, records)?;
+    Ok(reviewed)
+}
+
+/// The review of a file with a fault, for whichever key: only its end.
+pub fn review_key_fault(
+    alloc: Global,
+    form: Form,
+    name: &[u8],
+    fault: FileFault,
+) -> Result<KeyReviewed, AllocError>
+    ensures { IfOk result (λ r. key_review r ≡ key_fault_review form name.now fault) }
+{
+    let review = review_fault(alloc, form, name, fault)?;
+    Ok(KeyReviewed {
+        review,
+        stands: false,
+    })
+}
+
+/// The review of an `authorized_keys` file for the key with this fingerprint, which is the base64
+/// after `SHA256:`. It has the records that `review_auth` prints of the lines that hold the key, also
+/// of those that cannot be read, and the end of the file. A file of more than 67,108,864 bytes has
+/// the fault A7.
+pub fn review_auth_key(
+    alloc: Global,
+    form: Form,
+    asked: &ReviewOptions<'_>,
+    name: &[u8],
+    file: &[u8],
+    sought: &[u8; 43],
+) -> Result<KeyReviewed, AllocError>
+    ensures { IfOk result (λ r. key_review r
+        ≡ auth_key_review sought.now form (asking_of asked.entry.now) name.now file.now) }
+{
+    if file.len() > FILE_LIMIT {
+        review_key_fault(alloc, form, name, FileFault::TooLong)
+    } else {
+        whole_key_review(alloc, form, asked, name, file, sought)
+    }
+}
