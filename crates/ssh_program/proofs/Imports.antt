@@ -79,7 +79,7 @@ pub use Rattle.ssh_program.specs.FileNames.{AuditFiles, SshsigQuestion}
 pub use Rattle.ssh_program.specs.FileNamesView.{question_of, files_seen}
 pub use Rattle.ssh_program.specs.Audits.{host_by, login_by, Deciding, Audits, or_vouch_fault, vouched_in, answer_by, decided_by, after_vouching, vouched_or_fault, evidence_by, audit_response, IsAuditFault, IsVouchReadFault, decided_response, vouched_response, IsTrustReadFault, DecidesReader, refusal_of, answer_over, host_rests, login_rests}
 pub use Rattle.ssh_program.specs.ChosenReads.{FailsOn, ReadsOn}
-pub use Rattle.ssh_program.specs.CommandLine.{request_of, Request, with_subcommands, request_in, with_options, program_app, spelled, option_rule}
+pub use Rattle.ssh_program.specs.CommandLine.{request_of, Request, request_in, with_options, program_app, spelled, option_rule}
 pub use Rattle.ssh_program.specs.Digests.{answer_where, digest_bytes, IsDigest}
 pub use Rattle.ssh_program.specs.Explanations.{explained_by, usage_after}
 pub use Rattle.ssh_program.specs.FileAnswers.{IsFaultOf, AuditsFile, AuditsVouched, is_memory, AnswersFile}

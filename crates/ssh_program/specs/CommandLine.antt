@@ -8,7 +8,7 @@ use Rattle.clap.specs.Simple.{on_top}
 use Rattle.ssh_program.specs.declared.args.Needed.{Needed}
 use Rattle.ssh_program.specs.declared.args.ArgName.{ArgName}
 use Rattle.ssh_program.specs.declared.subcommand.Subcommand.{Subcommand}
-use Rattle.ssh_program.specs.Options.{is_required, names_id, subcommand_operands, option_word, subcommand_options, subcommand_name, subcommand_named, subcommands}
+use Rattle.ssh_program.specs.Options.{is_required, names_id, subcommand_operands, option_word, subcommand_options, subcommand_in, subcommand_name, subcommand_named}
 
 -- ---- the rules given to clap
 
@@ -32,13 +32,16 @@ with_names a (Some needed) = with_rule a (names_rule needed)
 unfoldable pub subcommand_app : Subcommand → App
 subcommand_app c = with_names (with_options (new_app (subcommand_name c)) (subcommand_options c)) (subcommand_operands c)
 
--- a command with these subcommands
-abbrev pub with_subcommands : App → List Subcommand → App
-with_subcommands = fold (λ a c. with_subcommand a (subcommand_app c).top)
+-- a command with this subcommand, if there is one
+abbrev pub with_named : App → Option Subcommand → App
+with_named a None = a
+with_named a (Some c) = with_subcommand a (subcommand_app c).top
 
--- the program's command line: the first argument has to be a subcommand
-abbrev pub program_app : App
-program_app = on_top (λ s. record s { no_binary_name = true; subcommand_required = true }) (with_subcommands (new_app (codes "ssh_audit")) subcommands)
+-- The program's command line: the first argument has to be a subcommand. clap is given the rules of the one that it names,
+-- and no others, since it reads the rest by these alone.
+abbrev pub program_app : Option Subcommand → App
+program_app named =
+    on_top (λ s. record s { no_binary_name = true; subcommand_required = true }) (with_named (new_app (codes "ssh_audit")) named)
 
 -- ---- the request of the arguments
 
@@ -52,8 +55,8 @@ request_in p = option_map (λ c. record { subcommand = c; rows = p.1 }) (subcomm
 
 -- the request of arguments in which clap finds these errors: none if there is an error
 abbrev pub spelled : List Text → List ErrorKind → Option Request
-spelled words [] = option_and_then request_in (subcommand_of program_app words)
+spelled words [] = option_and_then request_in (subcommand_of (program_app (subcommand_in words)) words)
 spelled words (k ∷ ks) = None
 
 abbrev pub request_of : List Text → Option Request
-request_of words = spelled words (fault_of program_app words)
+request_of words = spelled words (fault_of (program_app (subcommand_in words)) words)

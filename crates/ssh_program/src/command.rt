@@ -5,7 +5,7 @@ ghost use Rattle.ssh_program.specs.declared.command.CommandError.TheVariants.{Me
 ghost use Rattle.ssh_program.specs.Spelling.{IsToldAs};
 ghost use Rattle.ssh_print.specs.ResponseView.{response};
 ghost use Rattle.clap.specs.Words.{subcommand_rows_of, app_of, with_rule, with_subcommand};
-ghost use Rattle.ssh_program.specs.CommandLine.{request_in, program_app, names_rule, option_rule, subcommand_app, with_names, with_options, with_subcommands};
+ghost use Rattle.ssh_program.specs.CommandLine.{request_in, program_app, names_rule, option_rule, subcommand_app, with_named, with_names, with_options};
 ghost use Rattle.ssh_program.specs.ArgsView.{FaultIs, Parses, request_in_memory};
 
 use crate::args::{ArgName, Args, NAMES, Needed};
@@ -83,20 +83,6 @@ fn read_request<'a>(matches: ArgMatches<'a>) -> Option<Request<'a>>
     })
 }
 
-/// The request of the arguments, without the program's own name.
-pub fn parse<'a, S: AsStr>(alloc: Global, words: &'a [S]) -> Result<Request<'a>, WordsError>
-    ensures { Parses (map S.text words.entry.now) result }
-{
-    let command = match program(alloc) {
-        Ok(command) => command,
-        Err(_) => return Err(WordsError::Memory),
-    };
-    match command.try_get_matches_from(words) {
-        Ok(matches) => read_request(matches).ok_or(WordsError::Usage),
-        Err(error) => Err(words_fault(&error)),
-    }
-}
-
 fn with_option<'a>(
     alloc: Global,
     command: Command<'a>,
@@ -168,27 +154,41 @@ fn with_subcommand<'a>(
     Ok(command)
 }
 
-/// The command with these subcommands too, in their order.
-fn with_subcommands<'a>(
+/// The command with this subcommand too, if there is one.
+fn with_named<'a>(
     alloc: Global,
     command: Command<'a>,
-    subcommands: &[Subcommand],
+    named: Option<Subcommand>,
 ) -> Result<Command<'a>, AllocError>
-    ensures { IfOk result (λ c.
-        app_of c ≡ with_subcommands (app_of command.entry) subcommands.entry.now) }
+    ensures { IfOk result (λ c. app_of c ≡ with_named (app_of command.entry) named) }
 {
-    let mut command = command;
-    for subcommand in subcommands {
-        command = with_subcommand(alloc, command, *subcommand)?;
+    match named {
+        None => Ok(command),
+        Some(subcommand) => with_subcommand(alloc, command, subcommand),
     }
-    Ok(command)
 }
 
-/// The program's command line.
-pub fn program<'a>(alloc: Global) -> Result<Command<'a>, AllocError>
-    ensures { IfOk result (λ c. app_of c ≡ program_app) }
+/// The command line of the program whose first argument names this subcommand. Building the rules of
+/// all subcommands would take most of the time of a short answer.
+fn program<'a>(alloc: Global, named: Option<Subcommand>) -> Result<Command<'a>, AllocError>
+    ensures { IfOk result (λ c. app_of c ≡ program_app named) }
 {
     let command = Command::new(alloc, "ssh_audit");
-    let command = with_subcommands(alloc, command, Subcommand::all())?;
+    let command = with_named(alloc, command, named)?;
     Ok(command.no_binary_name(true).subcommand_required(true))
+}
+
+/// The request of the arguments, without the program's own name.
+pub fn parse<'a, S: AsStr>(alloc: Global, words: &'a [S]) -> Result<Request<'a>, WordsError>
+    ensures { Parses (map S.text words.entry.now) result }
+{
+    let named = Subcommand::in_words(words);
+    let command = match program(alloc, named) {
+        Ok(command) => command,
+        Err(_) => return Err(WordsError::Memory),
+    };
+    match command.try_get_matches_from(words) {
+        Ok(matches) => read_request(matches).ok_or(WordsError::Usage),
+        Err(error) => Err(words_fault(&error)),
+    }
 }

@@ -9,6 +9,7 @@ use crate::args::Needed::{Optional, Required};
 use crate::args::{ArgName, Needed};
 use crate::help::{is_joined, other_place, push_forms};
 use std::alloc::{AllocError, Global};
+use std::convert::AsStr;
 
 /// A subcommand, which the first argument names.
 #[derive(Clone, Copy, Debug, PartialEq, Eq)]
@@ -162,12 +163,12 @@ impl Subcommand {
     }
 
     /// The subcommand that the first of these words names; `None` if there is no such one.
-    pub fn in_words(words: &[&str]) -> Option<Subcommand>
-        ensures { result ≡ subcommand_in (map (λ word. word.now) words.now) }
+    pub fn in_words<S: AsStr>(words: &[S]) -> Option<Subcommand>
+        ensures { result ≡ subcommand_in (map S.text words.now) }
     {
         match words.split_first() {
             None => None,
-            Some((name, _)) => Subcommand::named(name),
+            Some((name, _)) => Subcommand::named(name.as_str()),
         }
     }
 
