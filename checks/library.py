@@ -471,6 +471,10 @@ def python_rows(package, tally):
     told = list(package.review({"a": FILES["loose keys"].encode(), "\u00e9": trust}, now=150))
     tally.check("review", [(type(it).__name__, getattr(it, "file", None)) for it in told],
                 [("Record", "a"), ("FileEnd", "a"), ("Record", "\u00e9"), ("FileEnd", "\u00e9"), ("Total", None)])
+    dated = f'expiry-time="20300101" ssh-ed25519 {KEY}\n'.encode()
+    for zone, found in ((None, [("F8", "local-time")]), ("local:UTC0", [("F8", "local-time")]), ("UTC0", [])):
+        made = next(package.review({"a": dated}, now=150, zone=zone))
+        tally.check(f"review in the zone {zone}", [(it.code, it.detail) for it in made.findings], found)
     tally.check("explain", package.explain("L9").sentence, "ssh-dss, which is retired")
     tally.check("unescaped", package.unescaped("a\\xff\\x5cb"), b"a\xff\\b")
     for code, call in (

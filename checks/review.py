@@ -266,7 +266,7 @@ FOUND_OF_KEYS = [
     ("F8", 'principals="a" {K}\n', "    F8 principals: OpenSSH refuses this line: principals= stands without cert-authority"),
     ("F8", 'cert-authority,principals="a,,b" {K}\n', "    F8 empty-principal: OpenSSH reads principals= only up to its empty piece"),
     ("F8", "verify-required {K}\n", "    F8 verify-required: OpenSSH lets this key in: it ignores verify-required of a key that is no security key"),
-    ("F8", 'expiry-time="20300101" {K}\n', "    F8 local-time: an expiry time without Z is in the zone of the server, here in that of --zone"),
+    ("F8", 'expiry-time="20300101" {K}\n', "    F8 local-time: an expiry time without Z is in the zone of the server: give that as --zone"),
     ("F8", 'from="127.1" {K}\n', SHORT_ADDRESS),
     ("F8", 'from="!0x7f.1,*" {K}\n', SHORT_ADDRESS),
     ("F8", 'from="127.0.0.1,1.example" {K}\n', None),
@@ -468,7 +468,7 @@ def pieces(text):
 
 
 def findings_of(number, entry, earlier, now, shift, minimum):
-    """All that is found of an entry, and the line that lets its key in first."""
+    """All that is found of an entry, and the line that lets its key in first. No zone is given where the shift is None."""
     same = [k for k, other in earlier if is_same(entry, other)]
     lists = entry.authority and entry.has("principals")
     shadow = None if lists else next((k for k, other in earlier if is_same(entry, other) and other.free), None)
@@ -476,7 +476,7 @@ def findings_of(number, entry, earlier, now, shift, minimum):
         yield ("F4" if is_narrower(entry, dict(earlier)[shadow]) else "F3"), str(shadow)
     elif same:
         yield "F2", str(same[0])
-    until, names = entry.until(shift), pieces(entry.first("principals") or "")
+    until, names = entry.until(shift or 0), pieces(entry.first("principals") or "")
     local = any(name == "expiry-time" and not value.endswith("Z") for name, value in entry.options)
     if entry.key.bits is not None and entry.key.bits < minimum:
         yield "F5", str(entry.key.bits)
@@ -494,7 +494,7 @@ def findings_of(number, entry, earlier, now, shift, minimum):
         yield "F8", "empty-principal"
     if not entry.authority and entry.has("verify-required") and not entry.key.kind.startswith("sk-"):
         yield "F8", "verify-required"
-    if local:
+    if local and shift is None:
         yield "F8", "local-time"
     if entry.first("from") in SHORT_SOURCES:
         yield "F8", "short-address"
@@ -539,7 +539,7 @@ def entry_record(file, number, entry, earlier, now, shift, minimum):
         "file": file, "line": number, "what": "authority" if entry.authority else "key", "type": entry.key.kind, "bits": entry.key.bits,
         "key": entry.key.mark, "comment": escaped(entry.comment), "options": escaped(options.encode()),
         "rights": " ".join(entry.rights) or "none", "command": told_value(entry, "command"), "source": told_value(entry, "from"),
-        "principals": told_value(entry, "principals"), "expires": entry.until(shift), "shadowed_by": shadow_of(entry, earlier), "lets_in": not idle,
+        "principals": told_value(entry, "principals"), "expires": entry.until(shift or 0), "shadowed_by": shadow_of(entry, earlier), "lets_in": not idle,
         "findings": [{"code": code, "detail": detail} for code, detail in found],
     }
 
@@ -828,7 +828,7 @@ def fingerprint_row(audit, tally, what, names, objects):
     tally.check(f"{what}: of {listed} fingerprints of ssh-keygen, none is missing", missing[:1], [])
 
 
-def model_row(tally, what, objects, files, now, shift=0, minimum=2048):
+def model_row(tally, what, objects, files, now, shift=None, minimum=2048):
     """Each record is the one that the model expects."""
     wanted = []
     for name, (_, entries, unreadable) in files.items():
@@ -889,6 +889,7 @@ def auth_rows(audit, tally, draw, count):
     objects, _ = reviewed(audit, tally, "another zone", list(files), contents, AUTH_FIELDS, **asked)
     model_row(tally, "another zone", objects, files, NEW_YEAR - 3600, shift=3600, minimum=3073)
     told_rows(audit, tally, list(files), objects, asked)
+    zone_row(audit, tally, list(files), objects, asked)
 
 
 def told_rows(audit, tally, names, everything, asked):
@@ -900,6 +901,16 @@ def told_rows(audit, tally, names, everything, asked):
         wanted = [{**made, "findings": [found for found in made["findings"] if found["code"] in told]} for made in everything if is_record(made)]
         count = sum(len(made["findings"]) for made in wanted)
         tally.check(f"findings {listed}", ([made for made in objects if is_record(made)] == wanted, objects[-1]["findings"], status), (True, count, 1 if count else 0))
+
+
+def zone_row(audit, tally, names, objects, asked):
+    """Of the same zone that is this machine's, and was not given, the times without Z are told beside, and nothing else changes."""
+    records = [made for made in objects if is_record(made)]
+    made_here, _ = records_of(audit.run(review(*names, form="json", findings="all", **{**asked, "zone": f"local:{asked['zone']}"}))[1])
+    here = [made for made in made_here if is_record(made)]
+    more = [found for made in here for found in made["findings"] if found["detail"] == "local-time"]
+    rest = [{**made, "findings": [found for found in made["findings"] if found["detail"] != "local-time"]} for made in here]
+    tally.check(f"the zone of this machine: {len(more)} times without Z", (rest == records, bool(more), made_here[-1]["zone"]), (True, True, asked["zone"]))
 
 
 # ---- names, limits, faults
@@ -983,7 +994,8 @@ def size_rows(audit, tally):
 def fault_rows(audit, tally):
     """Values that cannot be read; of several, the first in the order of the options is told. Words that are none."""
     values = {
-        "kind": ["", "auths", "AUTH", "key"], "now": ["", "-", "1.5", "18446744073709551616", "1 "], "zone": ["", "x", "Europe/Nowhere", "/usr/share/zoneinfo/Europe/Berlin", "Europe/../Europe/Berlin"],
+        "kind": ["", "auths", "AUTH", "key"], "now": ["", "-", "1.5", "18446744073709551616", "1 "], "zone": ["", "x", "Europe/Nowhere", "/usr/share/zoneinfo/Europe/Berlin", "Europe/../Europe/Berlin",
+                 "local:", "local:x", "local:Europe/Berlin", "Local:UTC0"],
         "rsa-minimum": ["", "x", "4294967296"], "form": ["", "tsv", "JSON"],
         "key": ["SHA256:", "SHA256:x", "SHA256:" + 43 * "/"],
         "findings": ["", ",", "F1,,F2", "F1,", ",F1", "F0", "F23", "F01", "f1", "F", "F1 ,F2", "all,F1", "none,none", "ALL"],
@@ -1004,7 +1016,7 @@ def fault_rows(audit, tally):
     for listed in ("all", "none", ",".join(f"F{number}" for number in range(22, 0, -1)), "F1,F1"):
         status = 1 if listed == "all" or "F15" in listed else 0
         tally.check(f"--findings {listed}", audit.run(review("key", findings=listed))[0], status)
-    for asked in ({"rsa_minimum": 4294967295}, {"now": 18446744073709551615}, {"zone": "EST5EDT,M3.2.0,M11.1.0"}):
+    for asked in ({"rsa_minimum": 4294967295}, {"now": 18446744073709551615}, {"zone": "EST5EDT,M3.2.0,M11.1.0"}, {"zone": "local:UTC0"}):
         tally.check(f"a good value: {asked}", audit.run(review("key", **asked))[0], 0)
 
 

@@ -359,6 +359,7 @@ NO_VALUES = [
     (["--zone", ""], "fault value zone\n"),
     (["--zone", "EST5EDT"], "fault value zone\n"),
     (["--zone", "Europe/Berlin"], "fault value zone\n"),
+    (["--zone", "local:UTC0"], "fault value zone\n"),
     (["--empty-principals", "none", "--zone", "UTC0 "], "fault value zone\n"),
     (["--rsa-minimum", "2k", "--empty-principals", "Never"], "fault value empty-principals\n"),
     (["--empty-principals", ""], "fault value empty-principals\n"),

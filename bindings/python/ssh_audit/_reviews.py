@@ -120,17 +120,18 @@ def review(
     *,
     now: int,
     kind: str = "auth",
-    zone: str = "UTC0",
+    zone: Optional[str] = None,
     findings: Optional[str] = None,
     rsa_minimum: int = 2048,
 ) -> Iterator[Union[Record, FileEnd, Total]]:
     """The records of authorized_keys files (`kind="auth"`) or known_hosts files (`kind="known"`), by their names, each file's followed
     by its end; then the total. `findings` is `all`, `none` or codes joined by commas; without it F1 to F14 and F22 are reported.
-    `zone` is that of expiry times that name none, `rsa_minimum` how many bits an RSA key has to have. Raises Fault for a value; the
-    fault of a file is in its end."""
+    `zone` is that of expiry times that name none; without it it is UTC, and these times have F8 `local-time`. `rsa_minimum` is how
+    many bits an RSA key has to have. Raises Fault for a value; the fault of a file is in its end."""
     names = list(files)
     held = {str(number): files[name] for number, name in enumerate(names)}
-    words = ["review", "--form=json", f"--kind={kind}", f"--now={now}", f"--zone={zone}", f"--rsa-minimum={rsa_minimum}"]
+    words = ["review", "--form=json", f"--kind={kind}", f"--now={now}", f"--rsa-minimum={rsa_minimum}"]
+    words += [f"--zone={zone}"] if zone is not None else []
     words += [f"--findings={findings}"] if findings is not None else []
     told = lines(run([*words, *held], held))
     return _told(told, names)

@@ -12,13 +12,21 @@ pub record Asking : Type 0 where
   pub now : ℕ
   -- the time zone of expiry times without `Z`
   pub zone : TimeZone
+  -- whether that zone was given for these files
+  pub is_zone_given : Bool
   -- the minimum size of an RSA key, in bits
   pub rsa_minimum : ℕ
   -- the codes of the findings to report
   pub told : List Code
 
 abbrev pub asking_of : ReviewOptions → Asking
-asking_of a = record { now = a.now; zone = plain_zone a.zone.now; rsa_minimum = a.rsa_minimum; told = a.told.now }
+asking_of a = record {
+  now = a.now;
+  zone = plain_zone a.zone.now;
+  is_zone_given = a.is_zone_given;
+  rsa_minimum = a.rsa_minimum;
+  told = a.told.now;
+}
 
 -- whether findings with this code are reported
 abbrev pub is_told : Asking → Code → Bool

@@ -82,13 +82,13 @@ is_security_key kind.SkP256 = true
 is_security_key kind.SkEd25519 = true
 
 -- F8: `principals` of a plain key; an empty name among others; `verify-required` without a security key; a time without
--- `Z`
+-- `Z`, where its zone was not given; an address for OpenSSH alone
 abbrev pub reading_findings : Asking → Facts → List Finding
 reading_findings asking f =
     told_if code_of asking (not f.is_authority && is_some f.principals) finding.PlainPrincipals
     ++ told_if code_of asking (f.is_authority && has_empty_in f.principals && has_name_in f.principals) finding.EmptyPrincipal
     ++ told_if code_of asking (not f.is_authority && f.verify_required && not (is_security_key f.kind)) finding.VerifyIgnored
-    ++ told_if code_of asking f.has_local_time finding.LocalTime
+    ++ told_if code_of asking (f.has_local_time && not asking.is_zone_given) finding.LocalTime
     ++ told_if code_of asking (has_other_address f) finding.ShortAddress
 
 -- F9: a command is forced, and TCP ports, the agent or X11 may be forwarded

@@ -22,7 +22,7 @@ use Rattle.ssh_findings.specs.Least.{least_line}
 
 -- a review that reports these codes
 abbrev asking : List Code → Asking
-asking told = record { now = 0; zone = UTC; rsa_minimum = 2048; told = told }
+asking told = record { now = 0; zone = UTC; is_zone_given = false; rsa_minimum = 2048; told = told }
 
 -- the facts of an entry: its kind and size, whether it is an authority, and its list of names, or none if they are
 -- hashed

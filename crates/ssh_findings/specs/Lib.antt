@@ -7,6 +7,7 @@ pub mod Facts
 pub mod Ground
 pub mod Carried
 pub mod OpenSsh
+pub mod FindingRows
 pub mod Findings
 pub mod Shadows
 pub mod Earlier

@@ -218,6 +218,8 @@ pub struct ReviewOptions<'a> {
     pub now: u64,
     /// The time zone of expiry times without `Z`.
     pub zone: &'a TimeZone<'a>,
+    /// Whether that zone was given for these files: otherwise F8 is reported of such a time.
+    pub is_zone_given: bool,
     /// The minimum size of an RSA key, in bits.
     pub rsa_minimum: u32,
     /// The codes of the findings to report.

@@ -137,10 +137,11 @@ fn tell_readings(
     let empty = facts.is_authority && has_empty && has_name;
     let other = has_short_address_in(&facts.from) && !refuses_all_in(&facts.from);
     let ignored = !facts.is_authority && facts.verify_required && !is_security_key(facts.kind);
+    let local = facts.has_local_time && !asked.is_zone_given;
     tell(found, asked, plain, Finding::PlainPrincipals)?;
     tell(found, asked, empty, Finding::EmptyPrincipal)?;
     tell(found, asked, ignored, Finding::VerifyIgnored)?;
-    tell(found, asked, facts.has_local_time, Finding::LocalTime)?;
+    tell(found, asked, local, Finding::LocalTime)?;
     tell(found, asked, other, Finding::ShortAddress)?;
     Ok(())
 }

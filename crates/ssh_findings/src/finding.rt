@@ -1,6 +1,7 @@
-//! The findings of an authorized_keys line, and how a finding is added if its code is selected.
+//! The findings of an authorized_keys line with their codes and texts, and how a finding is added if
+//! its code is selected.
 
-ghost use Rattle.ssh_findings.specs.Findings.{code_of};
+ghost use Rattle.ssh_findings.specs.Findings.{auth_row, code_of};
 ghost use Rattle.std.specs.Prelude.{◌≡◌, ◌++◌, [], IsOk, OnErr, OnOk};
 ghost use Rattle.ssh_findings.specs.declared.code.Code.{Code as CodeValue};
 ghost use Rattle.ssh_findings.specs.Asking.{asking_of};
@@ -8,8 +9,145 @@ ghost use Rattle.ssh_findings.specs.Telling.{told_if, told_some};
 
 use crate::code::{Code, ReviewOptions};
 use crate::openssh::Ground;
+use crate::row::{Printed, Row, Texts, Value, row_with};
 use ssh_options::LineCause;
 use std::alloc::AllocError;
+
+// Of both formats.
+
+pub(crate) const UNREADABLE: Texts = (
+    Code::Unreadable,
+    "",
+    "cannot be read here, and OpenSSH may read it: ",
+    "",
+);
+
+pub(crate) const SHORT_KEY: Texts = (Code::ShortKey, "", "an RSA key of ", " bits is too short");
+
+// Of authorized_keys.
+
+const SAME_KEY: Texts = (
+    Code::SameKey,
+    "",
+    "line ",
+    " has the same key: where that line does not let it in, this one may",
+);
+
+const NEVER_DECIDES: Texts = (
+    Code::NeverDecides,
+    "",
+    "never decides: line ",
+    " has the same key and lets it in first",
+);
+
+const GIVES_MORE: Texts = (
+    Code::GivesMore,
+    "",
+    "never decides: line ",
+    " has the same key, lets it in first and gives more",
+);
+
+const EXPIRED: Texts = (Code::Expired, "", "has expired", "");
+
+const BAD_SOURCES: Texts = (
+    Code::PermitsNobody,
+    "from",
+    "lets nobody in: its from= list permits nobody",
+    "",
+);
+
+const SOURCES_HERE: Texts = (
+    Code::PermitsNobody,
+    "from-here",
+    "permits nobody here, but OpenSSH may read its from= list otherwise: count it as access",
+    "",
+);
+
+const NO_PRINCIPAL: Texts = (
+    Code::PermitsNobody,
+    "principals",
+    "lets nobody in: its principals= list permits nobody",
+    "",
+);
+
+const PLAIN_PRINCIPALS: Texts = (
+    Code::ReadOtherwise,
+    "principals",
+    "OpenSSH refuses this line: principals= stands without cert-authority",
+    "",
+);
+
+const EMPTY_PRINCIPAL: Texts = (
+    Code::ReadOtherwise,
+    "empty-principal",
+    "OpenSSH reads principals= only up to its empty piece",
+    "",
+);
+
+const VERIFY_IGNORED: Texts = (
+    Code::ReadOtherwise,
+    "verify-required",
+    "OpenSSH lets this key in: it ignores verify-required of a key that is no security key",
+    "",
+);
+
+const LOCAL_TIME: Texts = (
+    Code::ReadOtherwise,
+    "local-time",
+    "an expiry time without Z is in the zone of the server: give that as --zone",
+    "",
+);
+
+const SHORT_ADDRESS: Texts = (
+    Code::ReadOtherwise,
+    "short-address",
+    "OpenSSH reads a short address in from= (127.1) as an address: count it as access",
+    "",
+);
+
+const FORCED_BUT_FORWARDS: Texts = (
+    Code::ForcedButForwards,
+    "",
+    "its command is forced, but it may still forward: add restrict",
+    "",
+);
+
+const ANY_ADDRESS: Texts = (
+    Code::AnyAddress,
+    "",
+    "good from any address: no from=, or from=\"*\"",
+    "",
+);
+
+const ANY_COMMAND: Texts = (
+    Code::AnyCommand,
+    "",
+    "any command may be run: no command=",
+    "",
+);
+
+const NO_EXPIRY: Texts = (Code::NoExpiry, "", "good for ever: no expiry-time=", "");
+
+const ANY_PRINCIPAL: Texts = (
+    Code::AnyPrincipal,
+    "",
+    "whoever it certifies for the user's name is let in: no principals=",
+    "",
+);
+
+const NO_COMMENT: Texts = (
+    Code::NoComment,
+    "",
+    "nothing says whose key this is: no comment",
+    "",
+);
+
+const MAY_REFUSE: Texts = (
+    Code::MayRefuse,
+    "",
+    "OpenSSH may refuse this line, and a later one then decides",
+    "",
+);
 
 /// A finding of an authorized_keys line. The numbers of other lines, N below, count from 1.
 #[derive(Clone, Copy, Debug, PartialEq, Eq)]
@@ -38,7 +176,7 @@ pub enum Finding {
     EmptyPrincipal,
     /// F8: `verify-required` for a key that is not a security key, where OpenSSH ignores it.
     VerifyIgnored,
-    /// F8: an expiry time without `Z`, which OpenSSH may read an hour later.
+    /// F8: an expiry time without `Z`, whose zone was not given.
     LocalTime,
     /// F8: an item of its `from` list is an address for OpenSSH, but not here.
     ShortAddress,
@@ -58,33 +196,44 @@ pub enum Finding {
     MayRefuse(Ground),
 }
 
+impl Printed for Finding {
+    ghost printed = { auth_row };
+
+    fn row(self) -> Row {
+        match self {
+            Finding::Unreadable(cause) => row_with(UNREADABLE, Value::Cause(cause)),
+            Finding::SameKey(line) => row_with(SAME_KEY, Value::Number(line)),
+            Finding::NeverDecides(line) => row_with(NEVER_DECIDES, Value::Number(line)),
+            Finding::GivesMore(line) => row_with(GIVES_MORE, Value::Number(line)),
+            Finding::ShortKey(bits) => row_with(SHORT_KEY, Value::Number(bits as u64)),
+            Finding::Expired => row_with(EXPIRED, Value::Nothing),
+            Finding::BadSources => row_with(BAD_SOURCES, Value::Nothing),
+            Finding::SourcesHere => row_with(SOURCES_HERE, Value::Nothing),
+            Finding::NoPrincipal => row_with(NO_PRINCIPAL, Value::Nothing),
+            Finding::PlainPrincipals => row_with(PLAIN_PRINCIPALS, Value::Nothing),
+            Finding::EmptyPrincipal => row_with(EMPTY_PRINCIPAL, Value::Nothing),
+            Finding::VerifyIgnored => row_with(VERIFY_IGNORED, Value::Nothing),
+            Finding::LocalTime => row_with(LOCAL_TIME, Value::Nothing),
+            Finding::ShortAddress => row_with(SHORT_ADDRESS, Value::Nothing),
+            Finding::ForcedButForwards => row_with(FORCED_BUT_FORWARDS, Value::Nothing),
+            Finding::AnyAddress => row_with(ANY_ADDRESS, Value::Nothing),
+            Finding::AnyCommand => row_with(ANY_COMMAND, Value::Nothing),
+            Finding::NoExpiry => row_with(NO_EXPIRY, Value::Nothing),
+            Finding::AnyPrincipal => row_with(ANY_PRINCIPAL, Value::Nothing),
+            Finding::NoComment => row_with(NO_COMMENT, Value::Nothing),
+            Finding::MayRefuse(ground) => Row {
+                detail: ground.word(),
+                ..row_with(MAY_REFUSE, Value::Nothing)
+            },
+        }
+    }
+}
+
 impl Coded for Finding {
     ghost code = { code_of };
 
     fn code(self) -> Code {
-        match self {
-            Finding::Unreadable(_) => Code::Unreadable,
-            Finding::SameKey(_) => Code::SameKey,
-            Finding::NeverDecides(_) => Code::NeverDecides,
-            Finding::GivesMore(_) => Code::GivesMore,
-            Finding::ShortKey(_) => Code::ShortKey,
-            Finding::Expired => Code::Expired,
-            Finding::BadSources | Finding::SourcesHere | Finding::NoPrincipal => {
-                Code::PermitsNobody
-            }
-            Finding::PlainPrincipals
-            | Finding::EmptyPrincipal
-            | Finding::VerifyIgnored
-            | Finding::LocalTime
-            | Finding::ShortAddress => Code::ReadOtherwise,
-            Finding::ForcedButForwards => Code::ForcedButForwards,
-            Finding::AnyAddress => Code::AnyAddress,
-            Finding::AnyCommand => Code::AnyCommand,
-            Finding::NoExpiry => Code::NoExpiry,
-            Finding::AnyPrincipal => Code::AnyPrincipal,
-            Finding::NoComment => Code::NoComment,
-            Finding::MayRefuse(_) => Code::MayRefuse,
-        }
+        self.row().code
     }
 }
 

@@ -10,7 +10,8 @@
 //! let AuthLineView::Entry(entry) = read_auth_view(line, &mut buffer) else {
 //!     return Ok(None);
 //! };
-//! let asked = ReviewOptions { now, zone, rsa_minimum: 2048, told: Code::by_default() };
+//! let told = Code::by_default();
+//! let asked = ReviewOptions { now, zone, is_zone_given: true, rsa_minimum: 2048, told };
 //! let facts = Facts::read(alloc, zone, &entry)?;
 //! let earlier = Earlier::new(alloc);
 //! Ok(Some(entry_findings(alloc, &asked, &earlier, entry.blob(), &facts)?))
@@ -61,6 +62,7 @@ mod named;
 mod openssh;
 mod recovered_key;
 mod recovered_words;
+mod row;
 mod sources;
 mod table;
 
@@ -80,4 +82,5 @@ pub use key_read::{is_read_as_key, view_read};
 pub use openssh::{Ground, has_ground, has_nul, may_refuse};
 pub use recovered_key::{HeldKey, held_blob, held_key, known_held_blob, known_held_key};
 pub use recovered_words::{canonical_blob, key_on_line, openssh_blob};
+pub use row::{Printed, Row, Value};
 pub use sources::is_read_otherwise;

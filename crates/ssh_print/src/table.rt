@@ -282,7 +282,7 @@ pub(crate) static FINDINGS: [Texts; 22] = [
     ),
     (
         "F8",
-        "OpenSSH reads the line otherwise: principals= without cert-authority, empty-principal in the list, verify-required of a key that is no security key, local-time of an expiry time without Z, short-address in from= (127.1), tab after a marker, type of a revocation that is not its key's",
+        "OpenSSH reads the line otherwise: principals= without cert-authority, empty-principal in the list, verify-required of a key that is no security key, local-time of an expiry time without Z where no --zone is given, short-address in from= (127.1), tab after a marker, type of a revocation that is not its key's",
         "write what is meant: both programs then say the same. Count short-address as access until then; a revocation with tab or type, ssh may pass over",
     ),
     (

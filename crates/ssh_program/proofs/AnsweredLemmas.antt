@@ -1,9 +1,8 @@
 -- From values that were read and the response to them, to the response to the options.
-use Rattle.ssh_program.proofs.Imports.{◌≡◌, List, Option, Some, None, Result, Ok, Err, option_map, subst, sym, ok_or, IfOk, Row, TimeZone, IfTells, SourceState, ReadsZone, zone_text, Alike, none-failed, CommandError, Usage, Value, ArgName, RespondsTo, given, or_fault, IfAnswered}
+use Rattle.ssh_program.proofs.Imports.{◌≡◌, ℕ, List, Option, Some, None, Result, Ok, Err, option_map, subst, sym, ok_or, IfOk, TimeZone, IfTells, SourceState, ReadsZone, Alike, none-failed, CommandError, Usage, Value, ArgName, RespondsTo, or_fault, IfAnswered}
 use Rattle.ssh_print.specs.declared.response.Response.{Response as Printed}
 use Rattle.ssh_print.specs.Responses.{Response as Shown}
 use Rattle.ssh_program.specs.declared.command.CommandError.TheVariants.{Memory}
-use Rattle.ssh_program.specs.declared.args.ArgName.TheVariants as option
 
 -- a value that was read is the option's value
 pub given_value : {V A : Type 0} (view : V → A) (o : ArgName) (read : Option V) (v : V) → Ok v ≡ ok_or read (Value o) → or_fault o (option_map view read) ≡ Ok (view v)
@@ -23,16 +22,16 @@ pub spelled_responds : {Q R E : Type 0} (responds : Q → SourceState → Option
 spelled_responds {Q = Q} responds view spelled q o t res is h =
     subst (λ (x : Result Q Shown). IfTells o (λ s. IfOk res (λ r. RespondsTo responds x s t (view r)))) (sym is) h
 
--- and where the zone is that of the option's text
-pub zone_responds : (responds : Option TimeZone → SourceState → Option SourceState → Shown → Type 0) (rows : List Row) (told : Option TimeZone) (o t : Option SourceState)
-    (res : Result Printed CommandError) → ReadsZone (zone_text (given option.Zone rows)) told
+-- and where the zone is that of a text
+pub zone_responds : (responds : Option TimeZone → SourceState → Option SourceState → Shown → Type 0) (text : List ℕ) (told : Option TimeZone) (o t : Option SourceState)
+    (res : Result Printed CommandError) → ReadsZone text told
     → IfTells o (λ s. IfAnswered res (λ r. responds told s t r))
-    → IfTells o (λ s. IfAnswered res (λ r. (zone : Option TimeZone) × ReadsZone (zone_text (given option.Zone rows)) zone × responds zone s t r))
-zone_responds responds rows told None t res read h = tt
-zone_responds responds rows told (Some s) t (Ok r) read h = λ counts. (told, read, h counts)
-zone_responds responds rows told (Some s) t (Err Usage) read h = λ counts. (told, read, h counts)
-zone_responds responds rows told (Some s) t (Err (Value x)) read h = λ counts. (told, read, h counts)
-zone_responds responds rows told (Some s) t (Err Memory) read h = λ counts. tt
+    → IfTells o (λ s. IfAnswered res (λ r. (zone : Option TimeZone) × ReadsZone text zone × responds zone s t r))
+zone_responds responds text told None t res read h = tt
+zone_responds responds text told (Some s) t (Ok r) read h = λ counts. (told, read, h counts)
+zone_responds responds text told (Some s) t (Err Usage) read h = λ counts. (told, read, h counts)
+zone_responds responds text told (Some s) t (Err (Value x)) read h = λ counts. (told, read, h counts)
+zone_responds responds text told (Some s) t (Err Memory) read h = λ counts. tt
 
 -- ---- sources that are alike have the same answers
 

@@ -1,6 +1,6 @@
 -- A run of `rewrite`, `readable`, `hash` or `review` that ends without a fault printed a file that keeps the decisions, or those
 -- of the entries that are kept, or the reviews of all files.
-use Rattle.ssh_program.proofs.Imports.{◌≡◌, ◌<◌, ◌≤◌, ◌+◌, ◌++◌, ◌∙◌, ◌^◌, cond, ℕ, zero, suc, Bool, true, false, List, [], ◌∷◌, length, take, drop, ◌*◌, ◌/◌, ◌%◌, Option, Some, None, Result, Ok, Err, ap, subst, sym, refl, inl, inr, arith, nat_lt, Row, TimeZone, Response, no_file_response, IfTells, SourceState, bytes_at, most_failures, within_limit, number_below, zone_text, ReadsZone, Account, WritesResponse, Answers, RespondsBy, source_of, RespondsTo, given, needed, or_fault, value, value_or, file_limit, after_whole, salts_or_fault, salts_in, KeepsOthers, TellsFile, TellsFiles}
+use Rattle.ssh_program.proofs.Imports.{◌≡◌, ◌<◌, ◌≤◌, ◌+◌, ◌++◌, ◌∙◌, ◌^◌, cond, ℕ, zero, suc, Bool, true, false, List, [], ◌∷◌, length, take, drop, ◌*◌, ◌/◌, ◌%◌, Option, Some, None, Result, Ok, Err, ap, subst, sym, refl, inl, inr, arith, nat_lt, Row, TimeZone, Response, no_file_response, IfTells, SourceState, bytes_at, most_failures, within_limit, number_below, ReadsZone, Account, WritesResponse, Answers, RespondsBy, source_of, RespondsTo, needed, or_fault, value, value_or, file_limit, after_whole, salts_or_fault, salts_in, KeepsOthers, TellsFile, TellsFiles}
 use Rattle.std.proofs.lemmas.Bool.{ltb-false}
 use Rattle.std.proofs.lemmas.List.{append-nil, append_assoc, length-take-le, length-drop}
 use Rattle.std.specs.List.{AllByRecursion}
@@ -46,6 +46,7 @@ use Rattle.ssh_program.specs.Hashings.{Hashes, hashed_over}
 use Rattle.ssh_program.specs.KeyRuns.{AsksOfFiles}
 use Rattle.ssh_program.specs.KeySeeking.{ReviewsFor}
 use Rattle.ssh_program.specs.Rewritings.{RewritesFile, new_file, new_response, rewrite_kind, rewrite_over}
+use Rattle.ssh_program.specs.ReviewZones.{review_rule}
 use Rattle.ssh_program.specs.Spelled.{ReviewAsked, form_of, review_kind_of, review_spelled, usual_minimum}
 use Rattle.ssh_program.specs.Spelling.{names_needed, names_given}
 use Rattle.ssh_program.specs.Totals.{counted, fault_count, total_status}
@@ -419,7 +420,7 @@ review-of asked s t r room (told, chain, is) few =
     prints-each asked r.text [] (total_line asked.form (kind_name asked.kind) asked.rule asked.asking told.total) asked.names s rest each whole
 
 reviewed-in : (rows : List Row) (names : List (List ℕ)) (zone : Option TimeZone) (s : SourceState) (t : Option SourceState) (r : Response) → names_needed rows ≡ Ok names
-    → s.failures + length names < most_failures → ReadsZone (zone_text (given option.Zone rows)) zone
+    → s.failures + length names < most_failures → ReadsZone (review_rule rows) zone
     → (x : Result ReviewAsked Response) → review_spelled rows zone ≡ x → RespondsTo (λ q. ReviewsFor None q.kind q.form q.rule q.asking q.names) x s t r → r.status < 2 → FilesReviewed rows s r
 reviewed-in rows names zone s t r named room read (Err fault) spelled (unfailed, is) few =
     let two = review-faulty rows zone fault spelled in

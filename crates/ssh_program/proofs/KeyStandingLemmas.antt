@@ -1,5 +1,5 @@
 -- A run of `review` with `--key` that ends with status 1 found the key in one of the files, and one with status 0 in none.
-use Rattle.ssh_program.proofs.Imports.{◌≡◌, ◌∙◌, ◌<◌, ◌≤◌, ◌+◌, ◌++◌, cond, ℕ, Bool, true, false, List, [], ◌∷◌, length, Option, Some, None, Result, Ok, Err, option_map, ap, subst, sym, refl, inl, inr, arith, nat_lt, Row, TimeZone, Response, no_file_response, IfTells, SourceState, bytes_at, most_failures, within_limit, zone_text, ReadsZone, Account, WritesResponse, source_of, RespondsTo, given, file_limit, KeepsOthers, TellsFile, TellsFiles, ShowError, Offered, shown_offer_in}
+use Rattle.ssh_program.proofs.Imports.{◌≡◌, ◌∙◌, ◌<◌, ◌≤◌, ◌+◌, ◌++◌, cond, ℕ, Bool, true, false, List, [], ◌∷◌, length, Option, Some, None, Result, Ok, Err, option_map, ap, subst, sym, refl, inl, inr, arith, nat_lt, Row, TimeZone, Response, no_file_response, IfTells, SourceState, bytes_at, most_failures, within_limit, ReadsZone, Account, WritesResponse, source_of, RespondsTo, file_limit, KeepsOthers, TellsFile, TellsFiles, ShowError, Offered, shown_offer_in}
 use Rattle.std.proofs.lemmas.Bool.{ltb-false}
 use Rattle.std.proofs.lemmas.List.{append-nil, append_assoc}
 use Rattle.std.specs.Prelude.{◌||◌}
@@ -24,6 +24,7 @@ use Rattle.ssh_program.specs.FileReviews.{kind_name}
 use Rattle.ssh_program.specs.KeySeeking.{KeyLines, ReviewsFor, SeeksBy, SeeksKey, SeeksKeyOfFile, fingerprint_or_fault, key_review_of, key_status, no_key_lines, or_key_fault, spelled_fingerprint, telling_key_review, with_key_file}
 use Rattle.ssh_program.specs.KeyStanding.{AsksForKey, GivesBy, StandsIn, StandsNowhereIn, KeyNowhere, KeySought, KeyStanding, PrintsKeyReviews, whole_for_key}
 use Rattle.ssh_program.specs.OfferPrints.{offer_print}
+use Rattle.ssh_program.specs.ReviewZones.{review_rule}
 use Rattle.ssh_program.specs.Spelled.{ReviewAsked, review_spelled}
 use Rattle.ssh_program.specs.Spelling.{names_needed}
 use Rattle.ssh_program.specs.Totals.{fault_count}
@@ -282,13 +283,13 @@ given-by asked key s t r false is room h few = by-file asked key s t r is room h
 -- what the options ask, and what came of it
 record SoughtRun (rows : List Row) (key : List ℕ) (s : SourceState) (r : Response) : Type 0 where
   zone : Option TimeZone
-  read : ReadsZone (zone_text (given option.Zone rows)) zone
+  read : ReadsZone (review_rule rows) zone
   asked : ReviewAsked
   spelled : review_spelled rows zone ≡ Ok asked
   given_key : GivenKey asked key s r
 
 sought-in : (rows : List Row) (names : List (List ℕ)) (key : List ℕ) (zone : Option TimeZone) (s : SourceState) (t : Option SourceState) (r : Response) → names_needed rows ≡ Ok names
-    → s.failures + length names < most_failures → ReadsZone (zone_text (given option.Zone rows)) zone
+    → s.failures + length names < most_failures → ReadsZone (review_rule rows) zone
     → (x : Result ReviewAsked Response) → review_spelled rows zone ≡ x → RespondsTo (λ q. ReviewsFor (Some key) q.kind q.form q.rule q.asking q.names) x s t r → r.status < 2 → SoughtRun rows key s r
 sought-in rows names key zone s t r named room read (Err fault) spelled (unfailed, is) few =
     let two = review-faulty rows zone fault spelled in

@@ -46,3 +46,4 @@ mod HostPortLemmas
 mod GuidanceLemmas
 mod FingerprintLemmas
 mod KeyStandingLemmas
+mod ZoneLemmas

@@ -1,6 +1,7 @@
 -- From the values of the options of `review` to the response, and sources that are alike.
-use Rattle.ssh_program.proofs.Imports.{◌≡◌, ℕ, List, Option, Result, Ok, refl, sym, subst, ◌^◌, Row, TimeZone, Asking, Code, codes_in, default_codes, IfTells, SourceState, number_below, Alike, Response, Form, ReviewKind, CommandError, ReviewAsked, RespondsToReview, form_of, review_kind_of, usual_minimum, RespondsTo, given, names_needed, or_fault, value, value_or, zone_text, IfAnswered}
+use Rattle.ssh_program.proofs.Imports.{◌≡◌, ℕ, Bool, List, Option, Result, Ok, refl, sym, subst, ◌^◌, Row, TimeZone, Asking, Code, codes_in, default_codes, IfTells, SourceState, number_below, Alike, Response, Form, ReviewKind, CommandError, ReviewAsked, RespondsToReview, form_of, review_kind_of, usual_minimum, RespondsTo, given, names_needed, or_fault, value, value_or, IfAnswered}
 use Rattle.ssh_review.specs.declared.end.Form.TheVariants.{Text}
+use Rattle.ssh_program.specs.ReviewZones.{is_zone_given, review_rule}
 use Rattle.ssh_program.specs.Spelled.{review_spelled}
 use Rattle.ssh_program.specs.declared.args.ArgName.TheVariants as option
 use Rattle.ssh_print.specs.declared.response.Response.{Response as Printed}
@@ -8,7 +9,7 @@ use Rattle.ssh_program.specs.KeySeeking.{ReviewsFor}
 use Rattle.ssh_program.proofs.AnsweredLemmas.{spelled_same}
 use Rattle.ssh_program.proofs.KeySeekingLemmas.{reviews_for_same}
 
-pub review_is_spelled : (rows : List Row) (told : Option TimeZone) (kind : ReviewKind) (now : ℕ) (zone : TimeZone) (minimum : ℕ) (codes : List Code) (form : Form) (names : List (List ℕ)) (rule : List ℕ)
+pub review_is_spelled : (rows : List Row) (told : Option TimeZone) (kind : ReviewKind) (now : ℕ) (zone : TimeZone) (minimum : ℕ) (codes : List Code) (form : Form) (names : List (List ℕ)) (rule : List ℕ) (is_given : Bool)
     → value review_kind_of option.Kind rows ≡ Ok kind
     → value (number_below (2 ^ 64)) option.Now rows ≡ Ok now
     → or_fault option.Zone told ≡ Ok zone
@@ -16,10 +17,11 @@ pub review_is_spelled : (rows : List Row) (told : Option TimeZone) (kind : Revie
     → value_or default_codes codes_in option.Findings rows ≡ Ok codes
     → value_or Text form_of option.Form rows ≡ Ok form
     → names_needed rows ≡ Ok names
-    → rule ≡ zone_text (given option.Zone rows)
-    → review_spelled rows told ≡ Ok (record { kind = kind; form = form; rule = rule; asking = record { now = now; zone = zone; rsa_minimum = minimum; told = codes }; names = names })
+    → rule ≡ review_rule rows
+    → is_given ≡ is_zone_given rows
+    → review_spelled rows told ≡ Ok (record { kind = kind; form = form; rule = rule; asking = record { now = now; zone = zone; is_zone_given = is_given; rsa_minimum = minimum; told = codes }; names = names })
 unfolding review_spelled
-review_is_spelled rows told kind now zone minimum codes form names rule a b c d e f g h = rw (h, a, b, c, d, e, f, g) refl
+review_is_spelled rows told kind now zone minimum codes form names rule is_given a b c d e f g h i = rw (h, i, a, b, c, d, e, f, g) refl
 
 -- the response to the values of the options is the response to the options
 pub review_responds : (rows : List Row) (spelled : Result ReviewAsked Response) (key : Option (List ℕ)) (kind : ReviewKind) (form : Form) (rule : List ℕ) (asked asking : Asking) (names : List (List ℕ)) (o t : Option SourceState)

@@ -1,7 +1,8 @@
 -- Worked examples of what a question may leave out (this project's rules).
-use Rattle.std.specs.Prelude.{◌≡◌, List, [], ◌∷◌, codes, Some, None, refl}
+use Rattle.std.specs.Prelude.{◌≡◌, true, false, List, [], ◌∷◌, codes, Some, None, refl}
 use Rattle.clap.specs.Words.{Text}
 use Rattle.ssh_program.specs.Defaults.{Surroundings, asked, words_with_defaults}
+use Rattle.ssh_program.specs.ReviewZones.{gives_zone, rule_in}
 
 -- nothing is known
 abbrev nowhere : Surroundings
@@ -22,13 +23,23 @@ told around words wanted = words_with_defaults around words ≡ wanted
 abbrev pub ReviewsTold : Type 0
 ReviewsTold =
     told somewhere (codes "review" ∷ codes "a/authorized_keys" ∷ [])
-    (codes "review" ∷ codes "--now" ∷ codes "7" ∷ codes "--zone" ∷ codes "UTC0" ∷ codes "--kind" ∷ codes "auth" ∷ codes "a/authorized_keys" ∷ [])
+    (codes "review" ∷ codes "--now" ∷ codes "7" ∷ codes "--zone" ∷ codes "local:UTC0" ∷ codes "--kind" ∷ codes "auth" ∷ codes "a/authorized_keys" ∷ [])
     × told somewhere (codes "review" ∷ codes "--now=1" ∷ codes "db.known_hosts" ∷ [])
-    (codes "review" ∷ codes "--zone" ∷ codes "UTC0" ∷ codes "--kind" ∷ codes "known" ∷ codes "--now=1" ∷ codes "db.known_hosts" ∷ [])
+    (codes "review" ∷ codes "--zone" ∷ codes "local:UTC0" ∷ codes "--kind" ∷ codes "known" ∷ codes "--now=1" ∷ codes "db.known_hosts" ∷ [])
     × told somewhere (codes "review" ∷ codes "--now" ∷ codes "1" ∷ codes "--zone" ∷ codes "EST5" ∷ codes "--kind" ∷ codes "known" ∷ [])
     (codes "review" ∷ codes "--now" ∷ codes "1" ∷ codes "--zone" ∷ codes "EST5" ∷ codes "--kind" ∷ codes "known" ∷ codes "/h/.ssh/known_hosts" ∷ [])
     × told dated (codes "review" ∷ codes "--now" ∷ codes "d" ∷ codes "--zone=z" ∷ codes "--kind" ∷ codes "auth" ∷ codes "-" ∷ [])
     (codes "review" ∷ codes "--now" ∷ codes "9" ∷ codes "--zone" ∷ codes "CET-1" ∷ codes "--kind" ∷ codes "auth" ∷ codes "-" ∷ [])
+
+-- the zone of a review: what the value of `--zone` says, and whether it was given for the files
+abbrev pub ReviewZonesRead : Type 0
+ReviewZonesRead =
+    (rule_in (codes "local:CET-1") ≡ codes "CET-1")
+    × (rule_in (codes "CET-1") ≡ codes "CET-1")
+    × (gives_zone None ≡ false)
+    × (gives_zone (Some (codes "local:CET-1")) ≡ false)
+    × (gives_zone (Some (codes "CET-1")) ≡ true)
+    × (gives_zone (Some (codes "")) ≡ true)
 
 -- a host's key asks of no zone; where nothing is known nothing is added, and nothing to other commands
 abbrev pub OthersTold : Type 0
@@ -66,3 +77,6 @@ reviews_told = (refl, refl, refl, refl)
 pub others_told : OthersTold
 unfolding asked
 others_told = (refl, refl, refl, refl)
+
+pub review_zones_read : ReviewZonesRead
+review_zones_read = (refl, refl, refl, refl, refl, refl)

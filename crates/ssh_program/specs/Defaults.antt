@@ -1,5 +1,5 @@
 -- What a question may leave out, and what is asked in its place (this project's rule).
-use Rattle.std.specs.Prelude.{◌++◌, ◌&&◌, ◌||◌, Bool, true, false, not, List, [], ◌∷◌, Option, Some, None, codes, if◌then◌else◌, nat_eq, unwrap_or}
+use Rattle.std.specs.Prelude.{◌++◌, ◌&&◌, ◌||◌, Bool, true, false, not, List, [], ◌∷◌, Option, Some, None, codes, if◌then◌else◌, nat_eq, option_map, unwrap_or}
 use Rattle.std.specs.List.{ends_with, flat_map, list_all, list_any, starts_with}
 use Rattle.std.specs.Str.{bytes_eq}
 use Rattle.clap.specs.Words.{Text}
@@ -11,6 +11,7 @@ use Rattle.ssh_program.specs.declared.word.Place.{Place}
 use Rattle.ssh_program.specs.declared.word.Place.TheVariants.{Open, AfterOption, Behind}
 use Rattle.ssh_program.specs.Options.{option_word, subcommand_in, subcommand_named}
 use Rattle.ssh_program.specs.HostPorts.{parted, parts_in}
+use Rattle.ssh_program.specs.ReviewZones.{local_mark}
 use Rattle.ssh_program.specs.WordPlaces.{Word, has_operand, in_turn, is_given, is_operand}
 
 -- ---- the surroundings
@@ -67,9 +68,10 @@ option_words o (Some text) = (codes "--" ++ option_word o) ∷ text ∷ []
 abbrev pub default_words : ArgName → Option Text → List Word → List Text
 default_words o text words = if is_given o words then [] else option_words o text
 
--- `trusts` asks of no expiry time, so of no zone
+-- `trusts` asks of no expiry time, so of no zone; to a review the zone is that of this machine, and not one that was given
 abbrev pub zone_for : Subcommand → Option Text → Option Text
 zone_for Trusts rule = None
+zone_for Review rule = option_map (λ r. local_mark ++ r) rule
 zone_for c rule = rule
 
 -- the others know the format of their files

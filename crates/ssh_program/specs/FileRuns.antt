@@ -17,7 +17,7 @@ use Rattle.ssh_files.specs.SourceState.{SourceState, bytes_at}
 use Rattle.ssh_files.specs.Loading.{KeepsOthers, within_limit}
 use Rattle.ssh_files.specs.Parts.{after_whole}
 use Rattle.ssh_files.specs.Salts.{salts_of}
-use Rattle.ssh_files.specs.Values.{ReadsZone, zone_text}
+use Rattle.ssh_files.specs.Values.{ReadsZone}
 use Rattle.ssh_review.specs.Grants.{FindsShared, Grants, IsBlind, IsRevoked}
 use Rattle.ssh_review.specs.HostListing.{IsHostListed}
 use Rattle.ssh_review.specs.HostReviews.{host_whole_review}
@@ -32,6 +32,7 @@ use Rattle.ssh_program.specs.declared.subcommand.Subcommand.{Subcommand}
 use Rattle.ssh_program.specs.CommandLine.{request_of}
 use Rattle.ssh_program.specs.Requests.{request_words}
 use Rattle.ssh_program.specs.Rewritings.{rewrite_kind}
+use Rattle.ssh_program.specs.ReviewZones.{review_rule}
 use Rattle.ssh_program.specs.Spelled.{ReviewAsked, review_spelled}
 use Rattle.ssh_program.specs.Spelling.{given, needed, value}
 
@@ -136,7 +137,7 @@ PrintsReviews asked text (name ∷ names) s =
 -- status 0 or 1: whoever is let in by one of the named files is so by a line that was printed
 pub record FilesReviewed (rows : List Row) (s : SourceState) (r : Response) : Type 0 where
   pub zone : Option TimeZone
-  pub read : ReadsZone (zone_text (given option.Zone rows)) zone
+  pub read : ReadsZone (review_rule rows) zone
   pub asked : ReviewAsked
   pub spelled : review_spelled rows zone ≡ Ok asked
   pub reviews : PrintsReviews asked r.text asked.names s

@@ -6,7 +6,7 @@ use Rattle.ssh_findings.specs.Asking.{Asking}
 use Rattle.ssh_print.specs.Responses.{Response}
 use Rattle.ssh_files.specs.SourceState.{SourceState, bytes_at}
 use Rattle.ssh_files.specs.Loading.{KeepsOthers, within_limit}
-use Rattle.ssh_files.specs.Values.{ReadsZone, zone_text}
+use Rattle.ssh_files.specs.Values.{ReadsZone}
 use Rattle.ssh_review.specs.declared.end.Form.{Form}
 use Rattle.ssh_review.specs.KeyListing.{HostStands, HostStandsNowhere, Stands, StandsNowhere}
 use Rattle.ssh_review.specs.KeyReviews.{KeyReview, host_whole_key_review, whole_key_review}
@@ -17,6 +17,7 @@ use Rattle.ssh_program.specs.FileRuns.{IsPartOf}
 use Rattle.ssh_program.specs.FingerprintValues.{is_fingerprint}
 use Rattle.ssh_program.specs.KeyRuns.{EachFile, SomeFile}
 use Rattle.ssh_program.specs.KeySeeking.{fingerprint_or_fault, spelled_fingerprint}
+use Rattle.ssh_program.specs.ReviewZones.{review_rule}
 use Rattle.ssh_program.specs.Spelled.{ReviewAsked, review_spelled}
 use Rattle.ssh_program.specs.Spelling.{given}
 
@@ -54,7 +55,7 @@ PrintsKeyReviews asked fingerprint text (name ∷ names) s =
 -- the options ask where the key with this fingerprint stands, and each file's records of it were printed
 pub record KeySought (rows : List Row) (key : List ℕ) (s : SourceState) (r : Response) : Type 0 where
   pub zone : Option TimeZone
-  pub read : ReadsZone (zone_text (given option.Zone rows)) zone
+  pub read : ReadsZone (review_rule rows) zone
   pub asked : ReviewAsked
   pub spelled : review_spelled rows zone ≡ Ok asked
   pub fingerprint : List ℕ

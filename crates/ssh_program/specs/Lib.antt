@@ -56,6 +56,7 @@ pub mod Explanations
 pub mod AnswerSamples
 pub mod Totals
 pub mod FileReviews
+pub mod ReviewZones
 pub mod Spelled
 pub mod KeyRuns
 pub mod FingerprintRuns

@@ -6,13 +6,14 @@ use Rattle.jiff.specs.Types.{TimeZone}
 use Rattle.ssh_findings.specs.Asking.{Asking}
 use Rattle.ssh_findings.specs.Codes.{codes_in, default_codes}
 use Rattle.ssh_files.specs.SourceState.{SourceState}
-use Rattle.ssh_files.specs.Values.{ReadsZone, number_below, zone_text}
+use Rattle.ssh_files.specs.Values.{ReadsZone, number_below}
 use Rattle.ssh_print.specs.Responses.{Response}
 use Rattle.ssh_review.specs.declared.end.Form.{Form}
 use Rattle.ssh_review.specs.declared.end.Form.TheVariants.{Json, Text}
 use Rattle.ssh_program.specs.declared.review.ReviewKind.{ReviewKind}
 use Rattle.ssh_program.specs.declared.review.ReviewKind.TheVariants.{Auth, Known}
 use Rattle.ssh_program.specs.KeySeeking.{ReviewsFor}
+use Rattle.ssh_program.specs.ReviewZones.{is_zone_given, review_rule}
 use Rattle.ssh_wire.specs.Reading.{◌>>=◌}
 use Rattle.ssh_program.specs.declared.args.ArgName.TheVariants as option
 use Rattle.ssh_program.specs.Spelling.{RespondsTo, given, names_needed, or_fault, value, value_or}
@@ -55,8 +56,8 @@ review_spelled rows zone = do
   Ok (record {
     kind = kind;
     form = form;
-    rule = zone_text (given option.Zone rows);
-    asking = record { now = now; zone = zone; rsa_minimum = rsa_minimum; told = told };
+    rule = review_rule rows;
+    asking = record { now = now; zone = zone; is_zone_given = is_zone_given rows; rsa_minimum = rsa_minimum; told = told };
     names = names;
   })
 
@@ -64,6 +65,6 @@ review_spelled rows zone = do
 abbrev pub ReviewsInZone : List Row → Option TimeZone → SourceState → Option SourceState → Response → Type 0
 ReviewsInZone rows zone = RespondsTo (λ q. ReviewsFor (given option.Key rows) q.kind q.form q.rule q.asking q.names) (review_spelled rows zone)
 
--- the same in the zone of the option's text
+-- the same in the zone of the option's rule
 abbrev pub RespondsToReview : List Row → SourceState → Option SourceState → Response → Type 0
-RespondsToReview rows s t r = (zone : Option TimeZone) × ReadsZone (zone_text (given option.Zone rows)) zone × ReviewsInZone rows zone s t r
+RespondsToReview rows s t r = (zone : Option TimeZone) × ReadsZone (review_rule rows) zone × ReviewsInZone rows zone s t r

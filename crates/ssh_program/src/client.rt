@@ -6,7 +6,8 @@ use crate::admission::AnswerForm;
 use crate::args::{ArgName, Args};
 use crate::audit::LoginQuestion;
 use crate::command::CommandError;
-use crate::review::{form, zone_rule};
+use crate::review::form;
+use crate::review_zone::zone_text;
 use jiff::tz::TimeZone;
 use ssh_offers::{EmptyPrincipals, LoginQuery};
 use ssh_print::{OfferedKey, Subject, login_algorithm};
@@ -55,7 +56,7 @@ impl<'a> Client<'a> {
         let rsa_minimum = words.rsa_minimum()?;
         let form = form(words)?;
         let address = words.needed(ArgName::Address)?;
-        let rule = zone_rule(words);
+        let rule = zone_text(words.given(ArgName::Zone));
         Ok(Client {
             user: user.as_bytes(),
             host: words.given(ArgName::Host).map(str::as_bytes),

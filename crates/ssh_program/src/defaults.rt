@@ -5,8 +5,11 @@ ghost use Rattle.std.specs.Prelude.{◌≡◌, ◌++◌, ◌∷◌, [], IfOk, On
 ghost use Rattle.ssh_program.specs.Options.{option_word, subcommand_named};
 ghost use Rattle.ssh_program.specs.Defaults.{added_files, added_options, asked, asks_surroundings, default_words, home_file, kind_for, option_words, takes_defaults, usual_file, words_of, words_with_defaults, zone_for};
 ghost use Rattle.ssh_program.specs.DefaultsView.{around_seen, text_seen};
+ghost use Rattle.ssh_program.specs.ReviewZones.{local_mark};
 ghost use Rattle.ssh_program.specs.WordPlaces.{is_given};
 ghost use Rattle.ssh_program.specs.WordPlacesView.{word_seen};
+ghost use Rattle.ssh_program.specs.declared.args.ArgName.TheVariants as option;
+ghost use Rattle.ssh_program.specs.declared.subcommand.Subcommand.TheVariants.{Review};
 
 use crate::args::ArgName;
 use crate::kinds::{asks_known, usual_kind};
@@ -96,13 +99,50 @@ fn push_default(
     }
 }
 
-/// `trusts` asks of no expiry time, so of no zone.
-fn zone_for<'a>(command: Subcommand, zone: Option<&'a str>) -> Option<&'a str>
-    ensures { text_seen result ≡ zone_for command (text_seen zone.entry) }
+/// This machine's zone as the value of an option of `review`: it was not given for the files.
+fn local_zone(alloc: Global, rule: &str) -> Result<String, AllocError>
+    ensures { IfOk result (λ text. string_bytes text ≡ local_mark ++ rule.now) }
+{
+    let mut text = String::from_str(alloc, "local:")?;
+    text.push_str(rule)?;
+    Ok(text)
+}
+
+/// Appends the option for the zone of a review, unless it is given.
+fn push_local_zone(
+    alloc: Global,
+    out: &mut Vec<String>,
+    zone: Option<&str>,
+    words: &[Word<'_>],
+) -> Result<(), AllocError>
+    ensures { OnOk result (map string_bytes out.new.items ≡ map string_bytes out.old.items
+        ++ default_words option.Zone (zone_for Review (text_seen zone.entry)) (map word_seen words.now)) }
+{
+    match zone {
+        None => push_default(alloc, out, ArgName::Zone, None, words),
+        Some(rule) => {
+            let text = local_zone(alloc, rule)?;
+            push_default(alloc, out, ArgName::Zone, Some(text.as_str()), words)
+        }
+    }
+}
+
+/// Appends the option for the zone, unless it is given. `trusts` asks of no expiry time, so of no
+/// zone.
+fn push_zone(
+    alloc: Global,
+    out: &mut Vec<String>,
+    command: Subcommand,
+    zone: Option<&str>,
+    words: &[Word<'_>],
+) -> Result<(), AllocError>
+    ensures { OnOk result (map string_bytes out.new.items ≡ map string_bytes out.old.items
+        ++ default_words option.Zone (zone_for command (text_seen zone.entry)) (map word_seen words.now)) }
 {
     match command {
-        Subcommand::Trusts => None,
-        _ => zone,
+        Subcommand::Trusts => push_default(alloc, out, ArgName::Zone, None, words),
+        Subcommand::Review => push_local_zone(alloc, out, zone, words),
+        _ => push_default(alloc, out, ArgName::Zone, zone, words),
     }
 }
 
@@ -128,13 +168,7 @@ pub fn push_options(
         ++ added_options command (around_seen around.now) (map word_seen words.now)) }
 {
     push_default(alloc, out, ArgName::Now, around.time, words)?;
-    push_default(
-        alloc,
-        out,
-        ArgName::Zone,
-        zone_for(command, around.zone),
-        words,
-    )?;
+    push_zone(alloc, out, command, around.zone, words)?;
     push_default(alloc, out, ArgName::Kind, kind_for(command, words), words)?;
     Ok(())
 }

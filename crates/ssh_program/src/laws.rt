@@ -33,7 +33,7 @@ ghost use Rattle.ssh_program.specs.FingerprintSamples.{FingerprintsRead};
 ghost use Rattle.ssh_program.specs.FingerprintValues.{fingerprint_bytes};
 ghost use Rattle.ssh_program.specs.FileSamples.{FaultsInOrder, HashFaultsInOrder, RewriteKinds, SignatureFaultsInOrder, TrustFilesLeft, VouchFilesTold, VouchFilesWritten};
 ghost use Rattle.jiff.specs.Types.{TimeZone as Zone};
-ghost use Rattle.ssh_program.specs.DefaultSamples.{HostsTold, OthersTold, ReviewsTold};
+ghost use Rattle.ssh_program.specs.DefaultSamples.{HostsTold, OthersTold, ReviewZonesRead, ReviewsTold};
 ghost use Rattle.ssh_program.specs.Samples.{HostValuesInOrder, LoginAsksMore, LoginSpelled, LoginValuesInOrder, ShowKinds, TextsOfFiles};
 ghost use Rattle.ssh_program.specs.ArgsSamples.{HostsAsked, KeyPlacesAsked, KeysAsked, LoginsAsked, OthersAsked, ReviewsAsked, TextsAsked, UsageTold, WordsRefused};
 ghost use Rattle.ssh_program.specs.AnswerSamples.{AdmitsSpelled, FingerprintsRefused, OutcomesSummed, StatusesTold, TrustsSpelled};
@@ -134,6 +134,7 @@ fn outcomes_as_summed()
 /// What a question may leave out, and what is asked in its place.
 fn defaults_as_told()
     ensures reviews { ReviewsTold }
+    ensures zones { ReviewZonesRead }
     ensures others { OthersTold }
     ensures hosts { HostsTold }
 {}

@@ -42,6 +42,7 @@ mod offer_fingerprint;
 mod printing;
 mod program;
 mod review;
+mod review_zone;
 mod rewriting;
 mod show;
 mod sink;

@@ -2,10 +2,10 @@
 
 ghost use Rattle.std.specs.Prelude.{◌≡◌, ◌^◌, Some, option_map, IfOk, map};
 ghost use Rattle.ssh_findings.specs.Codes.{codes_in, default_codes};
-ghost use Rattle.ssh_files.specs.Values.{number_below, zone_text};
+ghost use Rattle.ssh_files.specs.Values.{number_below};
 ghost use Rattle.ssh_review.specs.declared.end.Form.TheVariants.{Text};
 ghost use Rattle.ssh_program.specs.Spelled.{form_of, review_kind_of, usual_minimum, RespondsToReview, ReviewsInZone};
-ghost use Rattle.ssh_program.specs.Spelling.{given, value, value_or};
+ghost use Rattle.ssh_program.specs.Spelling.{value, value_or};
 ghost use Rattle.ssh_program.specs.ArgsView.{Spells, rows_in, IfAnswered};
 ghost use Rattle.ssh_review.specs.Reviews.{review};
 ghost use Rattle.ssh_program.specs.Totals.{fault_count, nothing, total_status, with_counts, with_review};
@@ -20,6 +20,7 @@ ghost use Rattle.ssh_program.specs.declared.args.ArgName.TheVariants as option;
 use crate::args::{ArgName, Args};
 use crate::command::CommandError;
 use crate::key_seeking::review_for;
+use crate::review_zone::{given_rule, is_zone_given, zone_text};
 use jiff::tz::TimeZone;
 use ssh_files::{Files, ReadError, read_bits, read_whole, zone_of};
 use ssh_findings::{Code, ReviewOptions, parse_codes};
@@ -119,16 +120,6 @@ pub fn form(words: &Args<'_>) -> Result<Form, CommandError>
         Some(word) => read_form(word),
     };
     ArgName::Form.or_fault(read)
-}
-
-/// The time zone of expiry times without `Z`, as the POSIX rule in `--zone`: UTC where the option is not given.
-pub fn zone_rule<'a>(words: &Args<'a>) -> &'a [u8]
-    ensures { result.now ≡ zone_text (given option.Zone (rows_in words.now)) }
-{
-    match words.given(ArgName::Zone) {
-        None => b"UTC0",
-        Some(rule) => rule.as_bytes(),
-    }
 }
 
 /// The status where something was found.
@@ -312,10 +303,12 @@ fn review_in_zone<F: Files>(
     let told = told_codes(alloc, words)?;
     let form = form(words)?;
     let names = words.needed_names()?;
-    let rule = zone_rule(words);
+    let rule = zone_text(given_rule(words));
+    let is_given = is_zone_given(words);
     let asked = ReviewOptions {
         now,
         zone: &zone,
+        is_zone_given: is_given,
         rsa_minimum,
         told: &told,
     };
@@ -333,6 +326,6 @@ pub fn respond_review<F: Files>(
     ensures { IfTells (F.source_state files.old) (λ s. IfAnswered result (λ r.
         RespondsToReview (rows_in words.now) s (F.source_state files.new) r)) }
 {
-    let zone = zone_of(words.given(ArgName::Zone));
+    let zone = zone_of(given_rule(words));
     review_in_zone(alloc, words, zone, files)
 }

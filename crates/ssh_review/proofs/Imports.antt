@@ -102,9 +102,11 @@ pub use Rattle.ssh_review.specs.Counting.{plus, no_counts}
 pub use Rattle.ssh_print.specs.Dates.{clock_at, date_by, clock_at-whole, moment_date, moment_text}
 pub use Rattle.ssh_review.specs.Ends.{fault_code, count_text, counts_text}
 pub use Rattle.ssh_review.specs.Fields.{number_field, field_name, moment_or_null, null_field, number_or_null, text_field, text_or_null}
-pub use Rattle.ssh_review.specs.FindingRows.{FindingRow, auth_row, host_refusal, host_row}
+pub use Rattle.ssh_findings.specs.FindingRows.{FindingRow}
+pub use Rattle.ssh_findings.specs.Findings.{auth_row}
+pub use Rattle.ssh_findings.specs.HostFindingsFindings.{host_refusal, host_row}
 pub use Rattle.ssh_review.specs.Findings.{cause_detail, cause_text, code_object, detail_part, detail_with, finding_head, finding_line, findings_end, host_finding_line, host_findings_end, object_after_comma, row_detail, row_line, row_object, row_sentence, rows_end, rows_list, value_text}
-pub use Rattle.ssh_review.specs.declared.findings.Value.{Value}
+pub use Rattle.ssh_findings.specs.declared.row.Value.{Value}
 pub use Rattle.ssh_review.specs.Forms.{end_line, file_fault_line, total_line, unreadable_record}
 pub use Rattle.ssh_review.specs.Grants.{FindsShared, Grants, IsBlind, IsRevoked}
 pub use Rattle.ssh_review.specs.HostListing.{IsHostListed, lines_kept}

@@ -6,7 +6,7 @@ use Rattle.ssh_findings.specs.declared.finding.Finding.TheVariants as finding
 use Rattle.ssh_findings.specs.declared.host_finding.HostFinding.TheVariants as host
 use Rattle.ssh_findings.specs.declared.openssh.Ground.TheVariants as grounds
 use Rattle.ssh_review.specs.Findings.{code_object}
-use Rattle.ssh_review.specs.declared.findings.Value.TheVariants.{Nothing, Number, Cause}
+use Rattle.ssh_findings.specs.declared.row.Value.TheVariants.{Nothing, Number, Cause}
 use Rattle.ssh_review.proofs.FieldLemmas.{said-printable}
 use Rattle.ssh_review.proofs.PrintableLemmas.{ArePrintable, bytes-from_printable, decimal-printable, join, line-from, string-printable, word}
 use Rattle.ssh_review.proofs.ShownLemmas.{AreShown, add, seen, show}

@@ -9,10 +9,12 @@ use Rattle.ssh_print.specs.Table.{CodeRow, row_of}
 use Rattle.ssh_findings.specs.Codes.{code_text}
 use Rattle.ssh_findings.specs.declared.finding.Finding.{Finding}
 use Rattle.ssh_findings.specs.declared.host_finding.HostFinding.{HostFinding}
-use Rattle.ssh_review.specs.declared.findings.Value.{Value}
-use Rattle.ssh_review.specs.declared.findings.Value.TheVariants.{Nothing, Number, Cause}
+use Rattle.ssh_findings.specs.declared.row.Value.{Value}
+use Rattle.ssh_findings.specs.declared.row.Value.TheVariants.{Nothing, Number, Cause}
 use Rattle.ssh_review.specs.Fields.{text_field}
-use Rattle.ssh_review.specs.FindingRows.{FindingRow, auth_row, host_row}
+use Rattle.ssh_findings.specs.FindingRows.{FindingRow}
+use Rattle.ssh_findings.specs.Findings.{auth_row}
+use Rattle.ssh_findings.specs.HostFindingsFindings.{host_row}
 
 -- ---- the detail and the sentence
 

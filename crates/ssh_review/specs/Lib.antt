@@ -9,7 +9,6 @@ pub mod Reviews
 pub mod Shown
 pub mod Fields
 pub mod Asked
-pub mod FindingRows
 pub mod Findings
 pub mod OptionsText
 pub mod RightsWords

@@ -19,7 +19,8 @@ use Rattle.ssh_findings.specs.OpenSsh.{has_nul}
 use Rattle.ssh_findings.specs.declared.code.Code.TheVariants.{MayRefuse, PermitsNobody, ReadOtherwise}
 use Rattle.ssh_findings.specs.declared.finding.Finding.{Finding}
 use Rattle.ssh_findings.specs.declared.finding.Finding.TheVariants as finding
-use Rattle.ssh_review.specs.FindingRows.{FindingRow, auth_row}
+use Rattle.ssh_findings.specs.FindingRows.{FindingRow}
+use Rattle.ssh_findings.specs.Findings.{auth_row}
 use Rattle.ssh_review.specs.Findings.{detail_part, row_detail}
 
 -- ---- entries
@@ -27,7 +28,7 @@ use Rattle.ssh_review.specs.Findings.{detail_part, row_detail}
 -- F7, F8 and F22: lists that permit nobody, what OpenSSH reads differently, and why it may refuse a line. None of them
 -- depends on the time, the zone or the minimum.
 abbrev pub doubting : Asking
-doubting = record { now = 0; zone = UTC; rsa_minimum = 0; told = PermitsNobody ∷ ReadOtherwise ∷ MayRefuse ∷ [] }
+doubting = record { now = 0; zone = UTC; is_zone_given = false; rsa_minimum = 0; told = PermitsNobody ∷ ReadOtherwise ∷ MayRefuse ∷ [] }
 
 -- the findings for which an entry is left out
 unfoldable pub doubts : AuthEntry → List Finding

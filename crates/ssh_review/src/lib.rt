@@ -7,7 +7,8 @@
 //! of it or `AllocError`. A caller that reviews a file and returns whether something was found:
 //!
 //! ```
-//! let asked = ReviewOptions { now, zone, rsa_minimum: 2048, told: Code::by_default() };
+//! let told = Code::by_default();
+//! let asked = ReviewOptions { now, zone, is_zone_given: true, rsa_minimum: 2048, told };
 //! let reviewed = review_auth(alloc, Form::Text, &asked, name, file)?;
 //! out.extend_from_slice(&reviewed.text)?;
 //! Ok(reviewed.counts.findings > 0)
@@ -23,7 +24,8 @@
 //! its formats are the same. A caller that reviews a file and returns whether something was found:
 //!
 //! ```
-//! let asked = ReviewOptions { now, zone, rsa_minimum: 2048, told: Code::by_default() };
+//! let told = Code::by_default();
+//! let asked = ReviewOptions { now, zone, is_zone_given: true, rsa_minimum: 2048, told };
 //! let reviewed = review_known(alloc, Form::Text, &asked, name, file)?;
 //! out.extend_from_slice(&reviewed.text)?;
 //! Ok(reviewed.counts.findings > 0)
@@ -61,7 +63,6 @@ mod key_review;
 mod laws;
 mod readable;
 mod record;
-mod table;
 
 pub use answer_json::{answer_object, answer_total};
 pub use asked::{AskedAt, asked_line};

@@ -8,13 +8,15 @@ ghost use Rattle.ssh_entries.specs.LineView.{line_seen};
 ghost use Rattle.ssh_rewriting.specs.Answer.{rewritten};
 ghost use Rattle.ssh_rewriting.specs.declared.rewrite.RewriteError.TheVariants.{TooLong};
 ghost use Rattle.ssh_text.specs.Text.{file_limit};
-ghost use Rattle.ssh_review.specs.FindingRows.{row_seen};
+ghost use Rattle.ssh_findings.specs.FindingRows.{row_seen};
 ghost use Rattle.ssh_review.specs.Readable.{doubts, has_nul_application, is_kept, kept_entry, kept_line, left_out, left_out_entry, left_out_for, left_out_key, left_out_line, left_out_of, left_out_row, readable_file};
 
-use crate::findings::{Printed, Row, detail, push_detail};
+use crate::findings::{detail, push_detail};
 use jiff::tz::TimeZone;
 use ssh_entries::{AuthEntryView, AuthLineView, KeyBuffer, read_auth_view};
-use ssh_findings::{Code, Earlier, Facts, Finding, ReviewOptions, entry_findings, has_nul};
+use ssh_findings::{
+    Code, Earlier, Facts, Finding, Printed, ReviewOptions, Row, entry_findings, has_nul,
+};
 use ssh_keys::{KeyFields, KeyView};
 use ssh_print::push_number;
 use ssh_rewriting::{RewriteError, write_auth_line};
@@ -33,6 +35,7 @@ fn doubts(alloc: Global, entry: &AuthEntryView<'_>) -> Result<Vec<Finding>, Allo
     let asked = ReviewOptions {
         now: 0,
         zone: &zone,
+        is_zone_given: false,
         rsa_minimum: 0,
         told: &DOUBTS,
     };

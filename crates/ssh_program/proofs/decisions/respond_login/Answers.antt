@@ -1,4 +1,4 @@
-use Rattle.ssh_program.proofs.Imports.{List, Option, option_map, subst, ℕ, plain_zone, ReadsZone, zone_text, RespondsTo, text_places, places_seen, rows_in, RespondsInZone, RespondsByTexts}
+use Rattle.ssh_program.proofs.Imports.{List, Option, option_map, subst, ℕ, plain_zone, ReadsZone, zone_text, Zone, given, RespondsTo, text_places, places_seen, rows_in, RespondsInZone, RespondsByTexts}
 use Rattle.ssh_program.proofs.AnsweredLemmas.{zone_responds}
 use Rattle.ssh_program.proofs.TextLemmas.{login-same, text_told, texts_answered, zone_told}
 use Rattle.ssh_program.proofs.decisions.respond_login.Goals as goal
@@ -7,7 +7,7 @@ pub returns-in-Ok : goal.returns-in-Ok
 returns-in-Ok g c =
     let rows = rows_in c.args.words.now in
     let told = option_map plain_zone c.zone_of-zone.result in
-    zone_responds (λ zone. RespondsTo (RespondsByTexts (RespondsInZone rows zone)) (text_places rows)) rows told
+    zone_responds (λ zone. RespondsTo (RespondsByTexts (RespondsInZone rows zone)) (text_places rows)) (zone_text (given Zone rows)) told
     (g.F.Files.source_state c.args.files.now) (g.F.Files.source_state c.respond_in_zone.new.files) c.respond_in_zone.result
     (subst (λ (o : Option (List ℕ)). ReadsZone (zone_text o) told) c.given.ensures c.zone_of-zone.ensures)
     (texts_answered (RespondsInZone rows told) (login-same rows told) (text_places rows) (places_seen c.in_ok-places.places)
