@@ -1,11 +1,8 @@
 -- What is answered by an audit, whatever it searches for.
-use Rattle.ssh_trust.proofs.Imports.{◌≡◌, ◌∙◌, ◌+◌, ◌<◌, ◌≤◌, ◌↔◌, ℕ, List, length, nat_lt, Result, Ok, Err, subst, refl, inl, inr, arith, cases_Bool, le-ltb, lt-ltb, ltb-false, ltb-true, IfOk, file_limit, AuditError, FileTooLong, Memory, Decision, GivesOrMemory, OfClaim, RefusesAs, if_short}
+use Rattle.ssh_trust.proofs.Imports.{◌≡◌, ◌∙◌, ◌+◌, ◌<◌, ◌≤◌, ◌↔◌, ℕ, List, length, nat_lt, Result, Ok, Err, sym, subst, refl, inl, inr, arith, cases_Bool, le-ltb, lt-ltb, ltb-false, ltb-true, IfOk, file_limit, AuditError, FileTooLong, Memory, Decision, GivesOrMemory, OfClaim, RefusesAs, if_short}
 
 pub err-inj : {A : Type 0} (e f : AuditError) → ◌≡◌ {A = Result A AuditError} (Err e) (Err f) → e ≡ f
 err-inj e f h = cc
-
-err-same : {B : Type 0} (e f : AuditError) → e ≡ f → ◌≡◌ {A = Result B AuditError} (Err e) (Err f)
-err-same e f h = rw h refl
 
 -- ---- an offer is refused, or it has a claim
 
@@ -13,25 +10,20 @@ pub of-claim : {Q : Type 0} (r : Result Q AuditError) (P : Q → Type 0) → ((c
 of-claim (Ok claim) P h = h claim refl
 of-claim (Err e) P h = tt
 
--- what each decision on the claim implies holds of the result too
-pub decided-too : {Q : Type 0} (r : Result Q AuditError) (claim : Q) (result : Result Decision AuditError) (P R : Q → Decision → Type 0) → ((d : Decision) → P claim d → R claim d)
-    → r ≡ Ok claim → OfClaim r (λ c. IfOk result (P c)) → IfOk result (R claim)
-decided-too (Err e) claim result P R f is h = cc
-decided-too (Ok c) claim (Err e) P R f is h = tt
-decided-too (Ok c) claim (Ok d) P R f is h =
-    let same : c ≡ claim = cc in
-    f d (subst (λ x. P x d) same h)
+-- where a matcher was made, the offer is not refused
+pub made-refused : {Q A B : Type 0} (r : Result Q AuditError) (matcher : A) (result : Result B AuditError) → RefusesAs r (Ok matcher) → RefusesAs r result
+made-refused (Ok claim) matcher result h = tt
+made-refused (Err e) matcher result h = cc
 
--- where an audit was made, the offer is not refused
-pub made-refused : {Q A B : Type 0} (r : Result Q AuditError) (audit : A) (result : Result B AuditError) → RefusesAs r (Ok audit) → RefusesAs r result
-made-refused (Ok claim) audit result h = tt
-made-refused (Err e) audit result h = cc
+-- a query has one claim
+pub claims-same : {Q : Type 0} (r : Result Q AuditError) (a b : Q) → r ≡ Ok a → r ≡ Ok b → a ≡ b
+claims-same {Q} r a b h k = let both : ◌≡◌ {A = Result Q AuditError} (Ok a) (Ok b) = sym h ∙ k in cc
 
--- where none was, the refusal is passed on
-pub same-refused : {Q B : Type 0} (A : Type 0) (r : Result Q AuditError) (e : AuditError) (result : Result B AuditError)
-    → RefusesAs {A = A} r (Err e) → result ≡ Err e → RefusesAs r result
-same-refused A (Ok claim) e result h same = tt
-same-refused A (Err f) e result h same = same ∙ err-same e f (err-inj e f h)
+-- what each decision implies holds of the result too, for the claim of the matcher
+pub decided-too : {Q : Type 0} (matcher claim : Q) (result : Result Decision AuditError) (P R : Q → Decision → Type 0) → ((d : Decision) → P claim d → R claim d)
+    → matcher ≡ claim → IfOk result (P matcher) → IfOk result (R claim)
+decided-too matcher claim (Err e) P R f is h = tt
+decided-too matcher claim (Ok d) P R f is h = f d (subst (λ q. P q d) is h)
 
 -- ---- the answer
 

@@ -1,5 +1,5 @@
 -- What a reader gave, read by read, and what is answered on it.
-use Rattle.ssh_trust.proofs.Imports.{◌≡◌, ◌∙◌, ◌+◌, ◌<◌, ◌≤◌, ◌↔◌, ℕ, Bool, true, false, List, [], ◌++◌, length, nat_lt, Option, Some, None, Result, Ok, Err, inl, inr, refl, sym, ap, subst, arith, append-nil, append_assoc, IfOk, OnErr, OnOk, Consumes, IsAtEnd, Keeps, cases_Bool, lt-ltb, ltb-false, ltb-true, length-append, AuditError, Signature, WrongAlgorithm, WeakSignature, CertSignature, FileTooLong, Memory, Read, Failed, Body, Salts, Decision, Pieces, Search, GivesOrMemory, RefusesAs, if_short, file_limit, HasRead, HasTaken, AnswersReader, HoldsOfRead, IsFedBy, StopsBy, piece_size}
+use Rattle.ssh_trust.proofs.Imports.{◌≡◌, ◌∙◌, ◌+◌, ◌<◌, ◌≤◌, ◌↔◌, ℕ, Bool, true, false, List, [], ◌++◌, length, nat_lt, Option, Some, None, Result, Ok, Err, inl, inr, refl, sym, ap, subst, arith, append-nil, append_assoc, IfOk, OnOk, Consumes, IsAtEnd, Keeps, cases_Bool, lt-ltb, ltb-false, ltb-true, length-append, AuditError, Signature, WrongAlgorithm, WeakSignature, CertSignature, FileTooLong, Memory, Read, Failed, Body, Salts, Decision, Pieces, Search, GivesOrMemory, if_short, file_limit, HasRead, HasTaken, AnswersReader, HoldsOfRead, IsFedBy, StopsBy, piece_size}
 use Rattle.ssh_offers.specs.declared.claim.AuditError.TheVariants.{Offer, Address}
 use Rattle.ssh_trust.proofs.AuditLemmas.{taken-more}
 use Rattle.ssh_trust.proofs.AnswerLemmas.{err-inj}
@@ -186,14 +186,15 @@ means-whole P old new Means (Err e) h means = tt
 
 -- ---- where no audit was made, or no decision
 
--- where an audit was made, the offer is not refused
-pub on-claim : {Q A : Type 0} (r : Result Q AuditError) (audit : A) → RefusesAs r (Ok audit) → ((claim : Q) → r ≡ Ok claim → ⊥) → ⊥
-on-claim (Ok claim) audit h k = k claim refl
-on-claim (Err e) audit h k = cc
-
-pub made-claims : {Q A : Type 0} (r : Result Q AuditError) (audit : A) (P : Type 0) → RefusesAs r (Ok audit) → OnErr r P
-made-claims (Ok claim) audit P h = tt
-made-claims (Err e) audit P h = cc
+-- no memory for an audit: nothing was read
+pub answers-spared : (left : Option (List ℕ)) (of_file : List ℕ → Result Decision AuditError) → AnswersReader left left of_file (Err Memory)
+answers-spared left of_file = record {
+  given = [];
+  consumed = consumes-none left;
+  bounded = omega arith;
+  to_end = tt;
+  answer = λ _. tt;
+}
 
 -- a file's answer is no failed read
 pub answers-not : (file : List ℕ) (d : Decision) → GivesOrMemory (if_short file d) (Err Read) → ⊥

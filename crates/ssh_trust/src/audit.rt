@@ -17,7 +17,7 @@ use crate::search::{Pieces, Scan, Search};
 use ssh_host_rules::HostMatcher;
 use ssh_offers::{AuditError, Signed};
 use ssh_rules::LoginMatcher;
-use std::alloc::Global;
+use std::alloc::{AllocError, Global};
 use std::marker::Model;
 
 /// Answers a login by an authorized_keys file that is fed in pieces, cut anywhere. An audit stores
@@ -69,7 +69,18 @@ impl<T: Matcher<State = S> + Drop, S: Listing + Drop> Audit<T, S> {
         // No reader is involved, so there is no read error.
         ensures unread { result ≡ Err Read → ⊥ }
     {
-        let search = Search::<T, S>::new(alloc, query)?;
+        let matcher = T::read(alloc, query)?;
+        let audit = Audit::<T, S>::of_matcher(alloc, matcher)?;
+        Ok(audit)
+    }
+
+    /// An audit of a claim that has taken no piece yet.
+    pub(crate) fn of_matcher(alloc: Global, matcher: T) -> Result<Audit<T, S>, AllocError>
+        ensures made { IfOk result (λ audit.
+            HasAudited T.claimed T.nothing T.add T.most T.least (T.claimed matcher) audit []) }
+        ensures bounded { IfOk result (IsBounded S.reasons) }
+    {
+        let search = Search::<T, S>::new(alloc, matcher)?;
         Ok(Audit {
             pieces: Pieces::new(alloc, search),
         })
@@ -183,42 +194,34 @@ impl<T: Matcher<State = S> + Drop, S: Listing + Drop> Audit<T, S> {
     pub(crate) fn of_file(
         alloc: Global,
         file: &[u8],
-        query: &T::Query,
+        matcher: T,
         vouched: &[Signed],
     ) -> Result<Decision, AuditError>
-        requires can_ask { T.can_ask query.now }
-        ensures refused { RefusesAs (T.claim query.entry.now) result }
-        ensures means { OfClaim (T.claim query.entry.now)
-            (λ claim. IfOk result (T.means file.now claim vouched.now)) }
-        ensures answer { OfClaim (T.claim query.entry.now)
-            (λ claim. GivesOrMemory (if_short file.now (T.decision file.now claim vouched.now)) result) }
+        ensures means { IfOk result (T.means file.now (T.claimed matcher) vouched.now) }
+        ensures answer { GivesOrMemory
+            (if_short file.now (T.decision file.now (T.claimed matcher) vouched.now)) result }
     {
-        let mut audit = Audit::<T, S>::new(alloc, query)?;
+        let mut audit = Audit::<T, S>::of_matcher(alloc, matcher)?;
         audit.feed(file)?;
         audit.finish(vouched)
     }
 
-    /// Answers by what is left of a reader. A refused offer reads nothing.
+    /// Answers by what is left of a reader.
     pub(crate) fn of_reader<R: Source>(
         alloc: Global,
         reader: &mut R,
-        query: &T::Query,
+        matcher: T,
         vouched: &[Signed],
     ) -> Result<Decision, AuditError>
-        requires can_ask { T.can_ask query.now }
-        ensures refused { RefusesAs (T.claim query.entry.now) result }
-        ensures unread { OnErr (T.claim query.entry.now) (reader.new ≡ reader.old) }
         ensures read { result ≡ Err Read → R.failed reader.old reader.new }
         ensures unfailed { (result ≡ Err Read → ⊥) → R.unfailed reader.old reader.new }
-        ensures means { OfClaim (T.claim query.entry.now)
-            (λ claim. IfOk result (λ decision.
+        ensures means { IfOk result (λ decision.
             HoldsOfRead (R.left reader.old) (R.left reader.new)
-            (λ file. T.means file claim vouched.now decision))) }
-        ensures answer { OfClaim (T.claim query.entry.now)
-            (λ claim. AnswersReader (R.left reader.old) (R.left reader.new)
-            (λ file. if_short file (T.decision file claim vouched.now)) result) }
+            (λ file. T.means file (T.claimed matcher) vouched.now decision)) }
+        ensures answer { AnswersReader (R.left reader.old) (R.left reader.new)
+            (λ file. if_short file (T.decision file (T.claimed matcher) vouched.now)) result }
     {
-        let mut audit = Audit::<T, S>::new(alloc, query)?;
+        let mut audit = Audit::<T, S>::of_matcher(alloc, matcher)?;
         audit.feed_from(reader)?;
         audit.finish(vouched)
     }

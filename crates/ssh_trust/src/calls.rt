@@ -14,7 +14,7 @@ ghost use Rattle.ssh_trust.specs.Reads.{AnswersReader, HoldsOfRead};
 ghost use Rattle.ssh_offers.specs.HostClaim.{HostClaim, host_claim};
 ghost use Rattle.ssh_trust.specs.HostDecision.{HostMeans};
 
-use crate::audit::{HostAudit, LoginAudit};
+use crate::claim_calls::{host_by_claim, host_by_claim_from, login_by_claim, login_by_claim_from};
 use crate::decision::Decision;
 use crate::reader::Source;
 use ssh_offers::{
@@ -53,7 +53,8 @@ pub fn login(
     ensures answer { OfClaim (login_claim (login_of query.entry.now))
         (λ claim. GivesOrMemory (login_answer file.now claim vouched.now) result) }
 {
-    LoginAudit::of_file(alloc, file, query, vouched)
+    let claim = LoginClaimView::read(query)?;
+    login_by_claim(alloc, file, &claim, vouched)
 }
 
 /// Answers a login by what is left of a reader of an authorized_keys file, as `login` answers by
@@ -95,7 +96,8 @@ pub fn login_from<S: Source>(
         (λ claim. AnswersReader (S.left reader.old) (S.left reader.new)
         (λ file. login_answer file claim vouched.now) result) }
 {
-    LoginAudit::of_reader(alloc, reader, query, vouched)
+    let claim = LoginClaimView::read(query)?;
+    login_by_claim_from(alloc, reader, &claim, vouched)
 }
 
 /// The signatures that a decision on this login depends on, whatever the file: the offered key's
@@ -142,7 +144,8 @@ pub fn host(
     ensures answer { OfClaim (host_claim (host_check_of query.entry.now))
         (λ claim. GivesOrMemory (host_answer file.now claim vouched.now) result) }
 {
-    HostAudit::of_file(alloc, file, query, vouched)
+    let claim = HostClaimView::read(query)?;
+    host_by_claim(alloc, file, &claim, vouched)
 }
 
 /// Answers a host's key by what is left of a reader of a known_hosts file, as `host` answers by the
@@ -182,7 +185,8 @@ pub fn host_from<S: Source>(
         (λ claim. AnswersReader (S.left reader.old) (S.left reader.new)
         (λ file. host_answer file claim vouched.now) result) }
 {
-    HostAudit::of_reader(alloc, reader, query, vouched)
+    let claim = HostClaimView::read(query)?;
+    host_by_claim_from(alloc, reader, &claim, vouched)
 }
 
 /// The signatures that a decision on this host's key depends on, whatever the file: the key's over

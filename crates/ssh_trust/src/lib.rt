@@ -16,10 +16,14 @@
 //!     Decision::Denied { .. } => Ok(None),
 //! }
 //! ```
+//!
+//! An offer that is asked of several files is read once, by `LoginClaimView::read` or
+//! `HostClaimView::read`; each file then answers by the claim (`login_by_claim`, `host_by_claim`).
 #![tactic(auto)]
 
 mod audit;
 mod calls;
+mod claim_calls;
 mod decision;
 mod host_scan;
 mod laws;
@@ -30,11 +34,13 @@ mod search;
 
 pub use audit::{HostAudit, LoginAudit};
 pub use calls::{evidence_of_host, evidence_of_login, host, host_from, login, login_from};
+pub use claim_calls::{host_by_claim, host_by_claim_from, login_by_claim, login_by_claim_from};
 pub use decision::{Cause, Decision, SshsigAnswer, sshsig};
 pub use reader::{Counted, READ_SIZE, Source};
 pub use search::REASON_LIMIT;
 pub use ssh_offers::{
-    AuditError, EmptyPrincipals, HostQuery, Items, LoginQuery, OfferError, Signed,
+    AuditError, EmptyPrincipals, HostClaimView, HostQuery, Items, LoginClaimView, LoginQuery,
+    OfferError, Signed,
 };
 pub use ssh_rewriting::{HashError, RewriteError, hash_known, rewrite_auth, rewrite_known};
 pub use ssh_rights::{Carried, CarriedName, Rights};

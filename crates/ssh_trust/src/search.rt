@@ -7,7 +7,6 @@ ghost use Rattle.ssh_trust.specs.Scan.{empty_scan, listed_with};
 ghost use Rattle.std.specs.List.{AllByRecursion};
 ghost use Rattle.ssh_offers.specs.declared.claim.AuditError.TheVariants.{Memory, Read, Failed, FileTooLong};
 ghost use Rattle.ssh_text.specs.Text.{lines_of, numbered, file_limit, line_limit};
-ghost use Rattle.ssh_trust.specs.Answer.{OfClaim, RefusesAs};
 ghost use Rattle.ssh_trust.specs.FileLines.{IsHandedLine};
 ghost use Rattle.ssh_trust.specs.Findings.{HasFound, IsKept};
 ghost use Rattle.ssh_trust.specs.Audit.{HasRead, HasTaken};
@@ -101,17 +100,11 @@ fn with_more(before: u128, taken: u128) -> u128
 
 impl<T: Matcher<State = S> + Drop, S: Listing + Drop> Search<T, S> {
     /// The search before the first line.
-    pub(crate) fn new(alloc: Global, query: &T::Query) -> Result<Search<T, S>, AuditError>
-        requires can_ask { T.can_ask query.now }
-        ensures refused { RefusesAs (T.claim query.entry.now) result }
-        ensures made { OfClaim (T.claim query.entry.now)
-            (λ claim. IfOk result (HasFound T.claimed T.nothing T.add T.most T.least claim [])) }
-        ensures else_memory { OfClaim (T.claim query.entry.now)
-            (λ claim. OnErr result (result ≡ Err Memory)) }
+    pub(crate) fn new(alloc: Global, matcher: T) -> Result<Search<T, S>, AllocError>
+        ensures made { IfOk result
+            (HasFound T.claimed T.nothing T.add T.most T.least (T.claimed matcher) []) }
         ensures bounded { IfOk result (IsKept S.reasons) }
-        ensures unread { result ≡ Err Read → ⊥ }
     {
-        let matcher = T::read(alloc, query)?;
         let buffer = KeyBuffer::new(alloc)?;
         let state = matcher.initial_state(alloc);
         Ok(Search {

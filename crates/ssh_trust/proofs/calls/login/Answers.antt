@@ -1,13 +1,13 @@
-use Rattle.ssh_trust.proofs.Imports.{login_claim, login_of, login-claimed, LoginDecides, LoginTells, LoginMeans}
-use Rattle.ssh_trust.proofs.AnswerLemmas.{decided-too}
+use Rattle.ssh_trust.proofs.Imports.{subst, IfOk, login_of, login-claimed, LoginClaim, LoginTells, LoginMeans}
+use Rattle.ssh_trust.proofs.AnswerLemmas.{claims-same}
 use Rattle.ssh_trust.proofs.calls.login.Goals as goal
 
 pub returns-clause-means : goal.returns-clause-means
 returns-clause-means c = λ claim is.
-    decided-too (login_claim (login_of c.args.query.now)) claim c.of_file.result (λ x d. LoginDecides c.args.file.now x c.args.vouched.now d)
-    (λ x d. LoginMeans c.args.file.now x c.args.vouched.now d) (λ d h. h.0) (login-claimed (login_of c.args.query.now) claim is) c.of_file.ensures.means
+    subst (λ (x : LoginClaim). IfOk c.login_by_claim.result (LoginMeans c.args.file.now x c.args.vouched.now))
+    (claims-same _ _ _ c.in_ok-claim.ensures.exact (login-claimed (login_of c.args.query.now) claim is)) c.login_by_claim.ensures.means
 
 pub returns-clause-tells : goal.returns-clause-tells
 returns-clause-tells c = λ claim is.
-    decided-too (login_claim (login_of c.args.query.now)) claim c.of_file.result (λ x d. LoginDecides c.args.file.now x c.args.vouched.now d)
-    (λ x d. LoginTells c.args.file.now x c.args.vouched.now d) (λ d h. h.1) (login-claimed (login_of c.args.query.now) claim is) c.of_file.ensures.means
+    subst (λ (x : LoginClaim). IfOk c.login_by_claim.result (LoginTells c.args.file.now x c.args.vouched.now))
+    (claims-same _ _ _ c.in_ok-claim.ensures.exact (login-claimed (login_of c.args.query.now) claim is)) c.login_by_claim.ensures.tells
