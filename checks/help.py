@@ -104,6 +104,26 @@ def value_rows():
     yield ["trusts", "--key", "missing", "--host", "h", "--now", "1", "keys"], "fault file missing\n", "ssh_audit: fault file: "
 
 
+def why(words):
+    """What is said of the file that these words name and that is not there."""
+    return ["ssh_audit: missing: there is no such file\n"] if "missing" in words else []
+
+
+def unread_rows(room):
+    """Standard error says why each file could not be read, once and by its name, and standard output says A9."""
+    (room / "closed").write_text(KEY)
+    (room / "closed").chmod(0)
+    for name, wanted in (("none", "there is no such file"), (".", "it is a folder"), ("keys/under", "it could not be read"), ("a\nb", "there is no such file"), ("closed", "it may not be read")):
+        if name == "closed" and os.geteuid() == 0:
+            continue
+        shown = name.replace("\n", "\\x0a")
+        status, printed, errors = run(["review", "--kind", "auth", "--now", "1", "--zone", "UTC0", "keys", name], room)
+        check(f"why: {shown}", (status, f"{shown}: fault A9\n" in printed.decode(), errors.splitlines()[1:]), (2, True, [f"ssh_audit: {shown}: {wanted}"]))
+    status, _, errors = run(["review", "--kind", "auth", "--now", "1", "--zone", "UTC0", "none", "keys", ".", "none"], room)
+    check("why: each in its turn", errors.splitlines()[1:], [f"ssh_audit: {told}" for told in ("none: there is no such file", ".: it is a folder", "none: there is no such file")])
+    check("why: nothing of a file that is read", run(["review", "--kind", "auth", "--now", "1", "--zone", "UTC0", "keys"], room)[2], "")
+
+
 def options_of(name):
     """The options of a subcommand in the source, and whether each has to be given."""
     rows = re.search(rf"const {name.upper()}: \[OptionRow; \d+\] = \[(.*?)\];", (SUBCOMMANDS / "subcommand.rt").read_text(), re.DOTALL)
@@ -146,12 +166,12 @@ def asked_with(errors):
 
 
 def local_zone():
-    """The POSIX rule of this machine's zone, the last line of its file (RFC 9636 section 3.3), as it is added."""
+    """The POSIX rule of this machine's zone, the last line of its file (RFC 9636 section 3.3); the empty text without one."""
     try:
         last = pathlib.Path("/etc/localtime").read_bytes().split(b"\n")[-2].decode()
     except (OSError, IndexError, UnicodeDecodeError):
         return ""
-    return f" --zone {last}" if last else ""
+    return last
 
 
 def default_rows(home):
@@ -215,12 +235,13 @@ def defaults(room):
     (room / "--now").write_text(KEY)
     (room / "ports").write_text("[h]:2222,[::1]:2222 " + KEY)
     (room / "dated").write_text('expiry-time="20240229" ' + KEY)
-    zone = local_zone()
+    rule = local_zone()
     for words, wanted in default_rows(home):
         status, printed, errors = run_on_terminal(words.split(), room, home)
         said = asked_with(errors) if wanted or errors.startswith("ssh_audit: asked") else ""
         check(f"{words}: nothing of it in a job", "asked with" in run(words.split(), room, home)[2], False)
         check(f"{words}: nothing of it without a real terminal", "asked with" in run_on_terminal(words.split(), room, home, "dumb")[2], False)
+        zone = f" --zone {'local:' if words.startswith('review') else ''}{rule}" if rule else ""
         wanted = wanted.replace("{zone}", zone).replace("{now}", " NOW")
         if words.startswith("review -- authorized_keys"):
             check(words, (status, errors), (2, "ssh_audit: review: --kind is missing\n" + see("review")))
@@ -246,7 +267,9 @@ def main():
         check("no UTF-8", run(["review", b"\xff"], room), (2, USAGE, "ssh_audit: an argument is not UTF-8\n"))
         for words, printed, wanted in value_rows():
             status, found, errors = run(words, room)
-            check(" ".join(words), (status, found.decode()[: len(printed)], errors[: len(wanted)], errors.count("\n")), (2, printed, wanted, 1))
+            told = errors.splitlines(keepends=True)
+            check(" ".join(words), (status, found.decode()[: len(printed)], errors[: len(wanted)], told[1:]), (2, printed, wanted, why(words)))
+        unread_rows(room)
         help_rows(room)
         defaults(room)
     print(f"{passed} passed, {failed} failed")

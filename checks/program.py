@@ -4,9 +4,9 @@
 usage: program.py [PROGRAM] [--after LOG]
 
 PROGRAM is crates/ssh_audit/out/ssh_audit where it is left out. After its own rows it starts the checks beside it:
-help.py (what goes to standard error), worked.py (worked rows of the whole command), examples.py (keys, certificates
-and signatures of ssh-keygen and openssl through examples/), documents.py (the commands of README.md and
-docs/MANUAL.md as they stand), packaging.py (packages: made, installed into a folder, used and removed), review.py (reviews
+help.py (what goes to standard error), colour.py (colours on a terminal), worked.py (worked rows of the whole command),
+examples.py (keys, certificates and signatures of ssh-keygen and openssl through examples/), documents.py (the commands of
+README.md and docs/MANUAL.md as they stand), packaging.py (packages: made, installed into a folder, used and removed), review.py (reviews
 of random files), openssh.py (what docs/OPENSSH_DIFFERENCES.md says, asked of a real sshd and ssh, and whether whoever they
 let in is shown), recipes.py (the commands of docs/RECIPES.md), codes.py (whether each printed code is in a row),
 explained.py (whether docs/CODES.md says what the source's table says), manual_page.py and completion.py (whether
@@ -73,9 +73,10 @@ TRUSTED = f"granted line 1\nevidence 0 {HOST_TRIPLE}"
 REVOKED = f"denied N1 2\nevidence 0 {HOST_TRIPLE}"
 # Stands for what goes to standard error after a usage fault. help.py compares the texts.
 HINT = b"which word is wrong, and where help is\n"
-# What standard error says beside that: the sentence of a fault.
+# What standard error says beside that: the sentence of a fault, and why a file could not be read.
 BESIDE = re.compile(
     rb"^ssh_audit: (?:--[a-z-]+ wants .*|fault \S+: .*"
+    rb"|.*: (?:there is no such file|it may not be read|it is a folder|it could not be read)"
     rb"|(?:admits|trusts|review|explain): (?:a file has a fault|a word is no code): .*)\n",
     re.MULTILINE,
 )
@@ -852,7 +853,7 @@ def try_all(path, tally):
             except (OSError, subprocess.SubprocessError) as error:
                 tally.check(row.__name__, repr(error), "no error")
     print(f"program.py itself: {tally.passed} passed, {tally.failed} failed", flush=True)
-    for name in ("help.py", "worked.py", "examples.py", "documents.py", "packaging.py", "review.py", "recipes.py", "refused_growth.py", "cut_vectors.py", "hostile.py"):
+    for name in ("help.py", "colour.py", "worked.py", "examples.py", "documents.py", "packaging.py", "review.py", "recipes.py", "refused_growth.py", "cut_vectors.py", "hostile.py"):
         other_check(name, tally, path)
     other_check("openssh.py", tally, "--audit", path)
 

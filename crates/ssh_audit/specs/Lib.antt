@@ -1,2 +1,5 @@
 pub mod Places
 pub mod KeptBytes
+pub mod Unread
+pub mod Colours
+pub mod ColourSamples

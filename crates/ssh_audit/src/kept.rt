@@ -41,6 +41,13 @@ impl<F> KeptFiles<F> {
         }
     }
 
+    /// The source inside.
+    pub fn source(&self) -> &F
+        ensures { result.now ≡ self.now.files }
+    {
+        &self.files
+    }
+
     /// Remembers what is read from now on.
     pub fn keep_bytes(&mut self)
         ensures kept { self.new.keeping ≡ Yes }

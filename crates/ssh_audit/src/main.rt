@@ -5,12 +5,16 @@
 //! file signature is vouched for, and rewrites a trust file so that every answer stays the same.
 #![tactic(auto)]
 
+mod colour;
 mod front;
 mod kept;
+mod laws;
 mod surroundings;
 mod system;
+mod unread;
 mod writers;
 
+use colour::{Coloured, Printed, printed_by};
 use kept::KeptFiles;
 use ssh_files::read_front;
 use ssh_program::{
@@ -19,7 +23,8 @@ use ssh_program::{
 };
 use ssh_review::left_out;
 use std::alloc::{AllocError, Global};
-use std::io::{ErrorKind, Result};
+use std::env::VarError;
+use std::io::{ErrorKind, IsTerminal, Result};
 use std::process::ExitCode;
 use std::{env, io};
 use surroundings::Known;
@@ -51,7 +56,7 @@ type Outcome<T> = std::result::Result<T, AllocError>;
 type Source<'a> = KeptFiles<SystemFiles<'a, HostRuntime>>;
 
 /// The writer to standard output.
-type Output<'a> = Watched<Retried<io::Printer<'a, HostRuntime>>>;
+type Output<'a> = Watched<Retried<Coloured<io::Printer<'a, HostRuntime>>>>;
 
 /// The same words as texts.
 fn as_texts<'a>(rt: &HostRuntime, words: &'a [String<Global>]) -> Outcome<Vec<&'a str>> {
@@ -93,6 +98,25 @@ fn has_terminal(rt: &HostRuntime) -> bool {
         Ok(terminal) => terminal.as_str() != "dumb",
         Err(_) => false,
     }
+}
+
+/// Whether the user asked for no colour (https://no-color.org).
+fn wants_no_colour(rt: &HostRuntime) -> bool {
+    match env::var(rt, "NO_COLOR") {
+        Ok(value) => !value.as_str().is_empty(),
+        Err(VarError::NotPresent) => false,
+        Err(_) => true,
+    }
+}
+
+/// What these words print that is shown in colour: nothing where standard output is no terminal,
+/// and where the words are those of standard input.
+fn read_printed(rt: &HostRuntime, words: &[String<Global>]) -> Option<Printed> {
+    if !rt.stdout().is_terminal() || !has_terminal(rt) || wants_no_colour(rt) {
+        return None;
+    }
+    let name = words.first()?;
+    printed_by(name.as_str())
 }
 
 /// Prints what standard error says after an answer; where memory is refused for it, where the
@@ -233,14 +257,20 @@ fn answer_unread(rt: &HostRuntime, fault: WordsError, writer: &mut Output<'_>) -
 }
 
 fn main(rt: HostRuntime) -> ExitCode {
-    let mut files = KeptFiles::new(rt.alloc(), SystemFiles::new(&rt));
-    let mut writer = Watched::new(Retried::new(io::writer(&rt)));
-    let status = match read_words(&rt) {
+    let mut files = KeptFiles::new(rt.alloc(), SystemFiles::new(rt.alloc(), &rt));
+    let words = read_words(&rt);
+    let printed = match &words {
+        Ok(words) => read_printed(&rt, words.as_slice()),
+        Err(_) => None,
+    };
+    let mut writer = Watched::new(Retried::new(Coloured::new(io::writer(&rt), printed)));
+    let status = match words {
         Ok(words) => answer_words(&rt, words.as_slice(), &mut files, &mut writer),
         Err(error) if error.kind() == ErrorKind::OutOfMemory => {
             answer_unread(&rt, WordsError::Memory, &mut writer)
         }
         Err(_) => answer_unread(&rt, WordsError::Usage, &mut writer),
     };
+    tell(&rt, files.source().unread());
     ExitCode::from(status)
 }
