@@ -28,7 +28,7 @@ import time
 sys.dont_write_bytecode = True
 import program
 from program import FILES, SSHSIG, SIGNED_MESSAGE, Tally, asked_at, hash_names, host, login, readable, review, rewrite, show, sshsig
-from refused_growth import private_body
+from refused_growth import private_body, without_memory
 
 HERE = pathlib.Path(__file__).resolve().parent
 DEFAULT = pathlib.Path(program.CRATE) / "out" / "ssh_audit"
@@ -119,7 +119,8 @@ def memory_rows(path, room, tally):
         own = run(path, room, asked)
         answers = [run(path, room, asked, memory=mebibytes << 20) for mebibytes in range(1, 40)]
         started = [answer for answer in answers if answer[0] >= 0 and answer[0] != 127]
-        other = [answer for answer in started if answer not in (own, (2, b"fault A8\n", b""))]
+        cut = [(*answer, b"") for answer in without_memory(asked, own)]
+        other = [answer for answer in started if answer != own and answer not in cut]
         tally.check(f"little address space: {asked[0]}", (other[:1], answers[-1]), ([], own))
 
 

@@ -32,6 +32,7 @@ import hostile
 import program
 from library_header import header_rows
 from program import BLOB, FILES, KEY, MESSAGE, SIGNATURE, SIGNED_MESSAGE, SSHSIG, Program, Tally, hash_names, host, login, review, rewrite, show, sshsig
+from refused_growth import without_memory
 from rows.asking import Asker
 from worked import MODULES
 
@@ -384,18 +385,21 @@ def refused_rows(driver, tally):
     for words, files, stdin in questions():
         parts = run_parts(words, files, stdin, ROOM)
         whole = driver.ask(0, parts, room=ROOM)
-        refuse_each(driver, tally, words, whole, lambda index: driver.ask(0, parts, room=ROOM, refused=index), 9, b"fault A8\n".ljust(ROOM, FILLED))
+        texts = [text for _, text in without_memory(words, (whole[3][0], whole[4][: whole[3][1]]))]
+        faults = [(len(text), text.ljust(ROOM, FILLED)) for text in texts]
+        refuse_each(driver, tally, words, whole, lambda index: driver.ask(0, parts, room=ROOM, refused=index), faults)
     for words, kind, parts in typed_questions():
         whole = driver.ask_typed(kind, parts)
-        refuse_each(driver, tally, words, whole, lambda index: driver.ask_typed(kind, parts, refused=index), 8, FILLED * ROOMS[2])
+        refuse_each(driver, tally, words, whole, lambda index: driver.ask_typed(kind, parts, refused=index), [(8, FILLED * ROOMS[2])])
 
 
-def refuse_each(driver, tally, words, whole, asked, number, out):
-    """`number` is the second number of the fault of memory, and `out` its buffer of bytes. Its buffers of rows are as they were."""
+def refuse_each(driver, tally, words, whole, asked, faults):
+    """Each fault of memory has its second number and its buffer of bytes. Its buffers of rows are as they were."""
     for index in range(1, whole[0] + 1):
         found = asked(index)
-        fault = ((2, number, *[0] * (NUMBERS - 2)), out, [FILLED_REASON] * len(whole[5]), [FILLED_OPTION] * len(whole[6]))
-        is_right = not isinstance(found, str) and found[1] == 0 and found[3:] in (whole[3:], fault)
+        rows = [FILLED_REASON] * len(whole[5]), [FILLED_OPTION] * len(whole[6])
+        allowed = [whole[3:], *(((2, number, *[0] * (NUMBERS - 2)), out, *rows) for number, out in faults)]
+        is_right = not isinstance(found, str) and found[1] == 0 and found[3:] in allowed
         tally.check(f"{driver.name}: growth {index} of {whole[0]} refused: {words}", is_right, True)
 
 

@@ -7,7 +7,8 @@ PROGRAM is crates/ssh_audit/out/ssh_audit where it is left out. After its own ro
 help.py (what goes to standard error), colour.py (colours on a terminal), worked.py (worked rows of the whole command),
 examples.py (keys, certificates and signatures of ssh-keygen and openssl through examples/), documents.py (the commands of
 README.md and docs/MANUAL.md as they stand), packaging.py (packages: made, installed into a folder, used and removed), review.py (reviews
-of random files), openssh.py (what docs/OPENSSH_DIFFERENCES.md says, asked of a real sshd and ssh, and whether whoever they
+of random files), streamed.py (whether a review is written file by file), openssh.py (what docs/OPENSSH_DIFFERENCES.md
+says, asked of a real sshd and ssh, and whether whoever they
 let in is shown), recipes.py (the commands of docs/RECIPES.md), codes.py (whether each printed code is in a row),
 explained.py (whether docs/CODES.md says what the source's table says), manual_page.py and completion.py (whether
 docs/ssh_audit.1 and the completions are made of the sources), closure.py (how much a reviewer has to read),
@@ -853,7 +854,7 @@ def try_all(path, tally):
             except (OSError, subprocess.SubprocessError) as error:
                 tally.check(row.__name__, repr(error), "no error")
     print(f"program.py itself: {tally.passed} passed, {tally.failed} failed", flush=True)
-    for name in ("help.py", "colour.py", "worked.py", "examples.py", "documents.py", "packaging.py", "review.py", "recipes.py", "refused_growth.py", "cut_vectors.py", "hostile.py"):
+    for name in ("help.py", "colour.py", "worked.py", "examples.py", "documents.py", "packaging.py", "review.py", "streamed.py", "recipes.py", "refused_growth.py", "cut_vectors.py", "hostile.py"):
         other_check(name, tally, path)
     other_check("openssh.py", tally, "--audit", path)
 

@@ -1,11 +1,13 @@
 #!/usr/bin/env python3
 """Runs the program once for each growth of memory that it asks for, with that growth refused, alone and with all later
-ones. Each run has to print the row's own answer, or `fault A8` with status 2. Needs gcc and the built program, which may
+ones. Each run has to print the row's own answer, or `fault A8` with status 2; of a review `fault A8` may stand behind the
+lines of the files at the front, in the place of all that follows. Needs gcc and the built program, which may
 be given as an argument."""
 import base64
 import hashlib
 import os
 import pathlib
+import re
 import shutil
 import subprocess
 import sys
@@ -15,6 +17,8 @@ HERE = pathlib.Path(__file__).resolve().parent
 CRATE = HERE.parent / "crates" / "ssh_audit"
 PROGRAM = pathlib.Path(sys.argv[1] if len(sys.argv) > 1 else CRATE / "out" / "ssh_audit")
 OUT_OF_MEMORY = (2, b"fault A8\n")
+# The last line of a file under review, in both forms.
+END = re.compile(rb"[ -~]*: (?:fault A\d|\d+ lines, )[ -~]*\n|\{\"file\":\"[ -~]*\",\"what\":\"end\",[ -~]*\n")
 # A certificate of an unknown kind, with two principals, a critical option and an extension.
 CERTIFICATE = (
     b"ssh-ed25519-cert-v01@openssh.com "
@@ -244,14 +248,25 @@ def rows():
     yield from review_rows(key)
 
 
+def without_memory(words, own):
+    """What may be printed where memory is refused: of a review also after each of its files."""
+    fronts, front = [b""], b""
+    for line in own[1].splitlines(keepends=True) if words[:1] == ["review"] else ():
+        front += line
+        if END.fullmatch(line):
+            fronts.append(front)
+    return [(2, front + OUT_OF_MEMORY[1]) for front in fronts]
+
+
 def check(preload, name, words, stdin):
     own, _ = run(words, stdin)
+    cut = without_memory(words, own)
     growths = 0
     for later in (False, True):
         index = 1
         while True:
             answer, refused = run(words, stdin, preload, index, later)
-            if answer not in (own, OUT_OF_MEMORY):
+            if answer != own and answer not in cut:
                 print(f"{name}: growth {index} refused: {answer}, and not {own}")
                 return False
             if not refused:

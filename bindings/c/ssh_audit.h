@@ -47,7 +47,8 @@ typedef struct {
 /* What `ssh_audit WORDS` prints, where these are its files and `input` is its standard input, the file "-". Nothing is added
    to the words: say the time, the user and the files. A word that is not UTF-8 is a usage fault. No words: they are on the
    first line of `input`. The text is written to the front of `out` if `length <= out_length`; else `out` stays as it is,
-   and a call with that much room gives the text. Without memory the text is "fault A8\n". */
+   and a call with that much room gives the text. Without memory the text is "fault A8\n"; of `review` this may stand behind
+   the lines of files that were reviewed before, in the place of the total. */
 ssh_audit_answer ssh_audit_run(const ssh_audit_bytes *words, size_t words_length, const ssh_audit_file *files,
                                size_t files_length, const uint8_t *input, size_t input_length, uint8_t *out,
                                size_t out_length);

@@ -1,7 +1,8 @@
 -- From values that were read and the response to them, to the response to the options.
-use Rattle.ssh_program.proofs.Imports.{◌≡◌, ℕ, List, Option, Some, None, Result, Ok, Err, option_map, subst, sym, ok_or, IfOk, TimeZone, IfTells, SourceState, ReadsZone, Alike, none-failed, CommandError, Usage, Value, ArgName, RespondsTo, or_fault, IfAnswered}
+use Rattle.ssh_program.proofs.Imports.{◌≡◌, ℕ, List, Option, Some, None, Result, Ok, Err, option_map, refl, subst, sym, option_word, usage_response, value_response, ok_or, IfOk, TimeZone, IfTells, SourceState, ReadsZone, Alike, none-failed, CommandError, Usage, Value, ArgName, RespondsTo, or_fault, IfAnswered}
 use Rattle.ssh_print.specs.declared.response.Response.{Response as Printed}
 use Rattle.ssh_print.specs.Responses.{Response as Shown}
+use Rattle.ssh_program.specs.ArgsView.{Spells}
 use Rattle.ssh_program.specs.declared.command.CommandError.TheVariants.{Memory}
 
 -- a value that was read is the option's value
@@ -32,6 +33,14 @@ zone_responds responds text told (Some s) t (Ok r) read h = λ counts. (told, re
 zone_responds responds text told (Some s) t (Err Usage) read h = λ counts. (told, read, h counts)
 zone_responds responds text told (Some s) t (Err (Value x)) read h = λ counts. (told, read, h counts)
 zone_responds responds text told (Some s) t (Err Memory) read h = λ counts. tt
+
+-- the fault of a value that an option does not spell is the response to the options, and no file was read
+pub unspelled_responds : {Q V : Type 0} (responds : Q → SourceState → Option SourceState → Shown → Type 0) (view : V → Q) (spelled : Result Q Shown) (fault : CommandError) (o : Option SourceState)
+    → Spells view spelled (Err fault) → IfTells o (λ s. IfAnswered (Err fault) (RespondsTo responds spelled s o))
+unspelled_responds responds view spelled fault None is = tt
+unspelled_responds {Q = Q} responds view spelled Usage (Some s) is = λ counts. subst (λ (x : Result Q Shown). RespondsTo responds x s (Some s) usage_response) (sym is) (refl, refl)
+unspelled_responds {Q = Q} responds view spelled (Value o) (Some s) is = λ counts. subst (λ (x : Result Q Shown). RespondsTo responds x s (Some s) (value_response (option_word o))) (sym is) (refl, refl)
+unspelled_responds responds view spelled Memory (Some s) is = λ counts. tt
 
 -- ---- sources that are alike have the same answers
 

@@ -412,7 +412,8 @@ faultless total few = by (nat_lt 0 total.faults) refl few
 
 review-of : (asked : ReviewAsked) (s : SourceState) (t : Option SourceState) (r : Response) → s.failures + length asked.names < most_failures
     → ReviewsFiles asked.kind asked.form asked.rule asked.asking asked.names s t r → r.status < 2 → PrintsReviews asked r.text asked.names s
-review-of asked s t r room (told, chain, is) few =
+review-of asked s t r room (inr (told, front, is)) few = let two : r.status ≡ 2 = status-of r _ is in absurd (omega (arith, two, few))
+review-of asked s t r room (inl (told, chain, is)) few =
     let status = status-of r _ is in
     let none = faultless told.total (omega (arith, status, few)) in
     let (rest, printed, each) = each-reviewed asked no_lines asked.names s t told room chain none in

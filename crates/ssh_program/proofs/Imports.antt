@@ -100,7 +100,7 @@ pub use Rattle.ssh_program.specs.Printing.{Breaks, TakesUpTo, TakesAll, WritesRe
 pub use Rattle.ssh_program.specs.OfferTexts.{OptionTexts, RespondsByTexts, IsTextReadFault, IsTextsReadFault, after_text, after_texts, text_at, text_in, texts_at, text_on}
 pub use Rattle.ssh_program.specs.OfferTextsView.{texts_seen, TakesText, TakesTexts, taken_seen}
 pub use Rattle.ssh_program.specs.Requests.{RespondsBy, Answers, request_words, source_of, Responds, RespondsIn}
-pub use Rattle.ssh_program.specs.Responding.{SignsDigest, IsUsageOf, SignsBody, SignsClaim, SignsMessage, SignsVouched, SignsAgain, SignsOne}
+pub use Rattle.ssh_program.specs.Responding.{SignsDigest, SignsBody, SignsClaim, SignsMessage, SignsVouched, SignsAgain, SignsOne}
 pub use Rattle.ssh_program.specs.NeededVouches.{RestsOn, VouchAlike, first_resting, second_resting, kept_by, evidence_found, sought_in}
 pub use Rattle.ssh_program.specs.Rewritings.{new_file, rewrite_over, RewritesFile, rewrite_kind, IsTrustFault, Rewrites, new_response}
 pub use Rattle.ssh_program.specs.Samples.{host_values_in_order, login_asks_more, login_is_spelled, login_values_in_order, show_kinds, texts_of_files}

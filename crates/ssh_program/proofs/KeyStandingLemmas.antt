@@ -204,7 +204,8 @@ record Found (asked : ReviewAsked) (sought : List ℕ) (s : SourceState) (r : Re
 
 found-of : (asked : ReviewAsked) (sought : List ℕ) (s : SourceState) (t : Option SourceState) (r : Response) → s.failures + length asked.names < most_failures
     → SeeksKey asked.kind asked.form asked.rule asked.asking asked.names sought s t r → r.status < 2 → Found asked sought s r
-found-of asked sought s t r room (told, chain, is) few =
+found-of asked sought s t r room (inr (told, front, is)) few = let two : r.status ≡ 2 = status-of r _ is in absurd (omega (arith, two, few))
+found-of asked sought s t r room (inl (told, chain, is)) few =
     let status = status-of r _ is in
     let none = status-faultless told.lines.total told.stands (omega (arith, status, few)) in
     let (rest, stands, printed, each) = each-sought asked sought no_key_lines asked.names s t told room chain none in

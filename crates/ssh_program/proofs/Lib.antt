@@ -2,6 +2,7 @@ pub mod Imports
 mod PartLemmas
 mod DigestLemmas
 mod WrittenText
+mod StreamLemmas
 mod EvidenceText
 mod VouchingLemmas
 mod SshsigLemmas

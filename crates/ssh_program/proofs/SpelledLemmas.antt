@@ -1,13 +1,14 @@
--- From the values of the options of `review` to the response, and sources that are alike.
-use Rattle.ssh_program.proofs.Imports.{◌≡◌, ℕ, Bool, List, Option, Result, Ok, refl, sym, subst, ◌^◌, Row, TimeZone, Asking, Code, codes_in, default_codes, IfTells, SourceState, number_below, Alike, Response, Form, ReviewKind, CommandError, ReviewAsked, RespondsToReview, form_of, review_kind_of, usual_minimum, RespondsTo, given, names_needed, or_fault, value, value_or, IfAnswered}
+-- From the values of the options of `review` to the answer, and sources that are alike.
+use Rattle.ssh_program.proofs.Imports.{◌≡◌, ℕ, Bool, List, Option, Result, Ok, refl, sym, subst, ◌^◌, Row, TimeZone, Asking, Code, codes_in, default_codes, IfTells, SourceState, number_below, Alike, Response, Form, ReviewKind, Account, ReviewAsked, RespondsToReview, form_of, review_kind_of, usual_minimum, RespondsTo, given, names_needed, or_fault, value, value_or}
 use Rattle.ssh_review.specs.declared.end.Form.TheVariants.{Text}
 use Rattle.ssh_program.specs.ReviewZones.{is_zone_given, review_rule}
 use Rattle.ssh_program.specs.Spelled.{review_spelled}
 use Rattle.ssh_program.specs.declared.args.ArgName.TheVariants as option
-use Rattle.ssh_print.specs.declared.response.Response.{Response as Printed}
 use Rattle.ssh_program.specs.KeySeeking.{ReviewsFor}
+use Rattle.ssh_program.specs.Printing.{WritesAnswer}
 use Rattle.ssh_program.proofs.AnsweredLemmas.{spelled_same}
 use Rattle.ssh_program.proofs.KeySeekingLemmas.{reviews_for_same}
+use Rattle.ssh_program.proofs.StreamLemmas.{writes_in}
 
 pub review_is_spelled : (rows : List Row) (told : Option TimeZone) (kind : ReviewKind) (now : ℕ) (zone : TimeZone) (minimum : ℕ) (codes : List Code) (form : Form) (names : List (List ℕ)) (rule : List ℕ) (is_given : Bool)
     → value review_kind_of option.Kind rows ≡ Ok kind
@@ -23,15 +24,17 @@ pub review_is_spelled : (rows : List Row) (told : Option TimeZone) (kind : Revie
 unfolding review_spelled
 review_is_spelled rows told kind now zone minimum codes form names rule is_given a b c d e f g h i = rw (h, i, a, b, c, d, e, f, g) refl
 
--- the response to the values of the options is the response to the options
+-- what is answered to the values of the options is answered to the options
 pub review_responds : (rows : List Row) (spelled : Result ReviewAsked Response) (key : Option (List ℕ)) (kind : ReviewKind) (form : Form) (rule : List ℕ) (asked asking : Asking) (names : List (List ℕ)) (o t : Option SourceState)
-    (res : Result Printed CommandError) → spelled ≡ Ok (record { kind = kind; form = form; rule = rule; asking = asking; names = names }) → asked ≡ asking → key ≡ given option.Key rows
-    → IfTells o (λ s. IfAnswered res (λ r. ReviewsFor key kind form rule asked names s t r))
-    → IfTells o (λ s. IfAnswered res (λ r. RespondsTo (λ q. ReviewsFor (given option.Key rows) q.kind q.form q.rule q.asking q.names) spelled s t r))
-review_responds rows spelled key kind form rule asked asking names o t res is same asks h =
-    let whole = subst (λ (a : Asking). IfTells o (λ s. IfAnswered res (λ r. ReviewsFor key kind form rule a names s t r))) same h in
-    let of_rows = subst (λ (k : Option (List ℕ)). IfTells o (λ s. IfAnswered res (λ r. ReviewsFor k kind form rule asking names s t r))) asks whole in
-    subst (λ (x : Result ReviewAsked Response). IfTells o (λ s. IfAnswered res (λ r. RespondsTo (λ q. ReviewsFor (given option.Key rows) q.kind q.form q.rule q.asking q.names) x s t r))) (sym is) of_rows
+    (old new : Option Account) (status : ℕ) → spelled ≡ Ok (record { kind = kind; form = form; rule = rule; asking = asking; names = names }) → asked ≡ asking → key ≡ given option.Key rows
+    → IfTells o (λ s. WritesAnswer (ReviewsFor key kind form rule asked names s t) old new status)
+    → IfTells o (λ s. WritesAnswer (RespondsTo (λ q. ReviewsFor (given option.Key rows) q.kind q.form q.rule q.asking q.names) spelled s t) old new status)
+review_responds rows spelled key kind form rule asked asking names o t old new status is same asks h =
+    writes_in (λ s. ReviewsFor key kind form rule asked names s t) (λ s. RespondsTo (λ q. ReviewsFor (given option.Key rows) q.kind q.form q.rule q.asking q.names) spelled s t) o old new status
+    (λ s r reviews.
+    let whole = subst (λ (a : Asking). ReviewsFor key kind form rule a names s t r) same reviews in
+    let of_rows = subst (λ (k : Option (List ℕ)). ReviewsFor k kind form rule asking names s t r) asks whole in
+    subst (λ (x : Result ReviewAsked Response). RespondsTo (λ q. ReviewsFor (given option.Key rows) q.kind q.form q.rule q.asking q.names) x s t r) (sym is) of_rows) h
 
 -- sources that are alike have the same reviews
 pub reviews_same : (rows : List Row) (a b : SourceState) (u : Option SourceState) (r : Response) → Alike a b → RespondsToReview rows a u r → RespondsToReview rows b u r

@@ -62,7 +62,7 @@ broken_on o p q text rest front left w cut b = record {
   told = b.told ∙ (ap (λ p. where_told (λ a. failing (taking a b.front)) p) w.told ∙ failed_after o w.front b.front);
 }
 
-nothing_taken : (o : Option Account) → o ≡ where_told (λ a. taking a []) o
+pub nothing_taken : (o : Option Account) → o ≡ where_told (λ a. taking a []) o
 nothing_taken None = refl
 nothing_taken (Some x) = ap (λ l. Some (record x { taken = l })) (sym (append-nil x.taken))
 

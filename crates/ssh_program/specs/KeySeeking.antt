@@ -17,11 +17,11 @@ use Rattle.ssh_review.specs.declared.end.Total.{Total}
 use Rattle.ssh_review.specs.Forms.{total_line}
 use Rattle.ssh_review.specs.KeyReviews.{KeyReview, auth_key_review, key_fault_review, known_key_review}
 use Rattle.ssh_program.specs.declared.args.ArgName.TheVariants as option
-use Rattle.ssh_program.specs.declared.key_seeking.KeyReport.{KeyReport}
+use Rattle.ssh_program.specs.declared.key_seeking.KeyTotal.{KeyTotal}
 use Rattle.ssh_program.specs.declared.review.ReviewKind.{ReviewKind}
 use Rattle.ssh_program.specs.declared.review.ReviewKind.TheVariants.{Auth, Known}
 use Rattle.ssh_program.specs.Audits.{IsFileFault}
-use Rattle.ssh_program.specs.FileReviews.{Lines, ReviewsFiles, kind_name, lines_seen, no_lines, with_file}
+use Rattle.ssh_program.specs.FileReviews.{EndsEarly, Lines, ReviewsFiles, kind_name, no_lines, with_file}
 use Rattle.ssh_program.specs.FingerprintValues.{fingerprint_bytes, is_fingerprint}
 use Rattle.ssh_program.specs.OfferPrints.{offer_print}
 use Rattle.ssh_program.specs.Spelling.{RespondsTo, or_fault}
@@ -33,8 +33,9 @@ pub record KeyLines : Type 0 where
   pub lines : Lines
   pub stands : Bool
 
-abbrev pub key_lines_seen : KeyReport → KeyLines
-key_lines_seen t = record { lines = lines_seen t.report; stands = t.stands }
+-- what is kept of the lines, whose text is written
+abbrev pub key_total : KeyLines → KeyTotal
+key_total k = record { total = k.lines.total; stands = k.stands }
 
 abbrev pub no_key_lines : KeyLines
 no_key_lines = record { lines = no_lines; stands = false }
@@ -80,7 +81,8 @@ key_review_response kind form rule asking told = record {
 
 abbrev pub SeeksKey : ReviewKind → Form → List ℕ → Asking → List (List ℕ) → List ℕ → SourceState → Option SourceState → Response → Type 0
 SeeksKey kind form rule asking names fingerprint s t r =
-    (told : KeyLines) × TellsFiles with_key_file (telling_key_review fingerprint kind form asking) no_key_lines names s t told × (r ≡ key_review_response kind form rule asking told)
+    ((told : KeyLines) × TellsFiles with_key_file (telling_key_review fingerprint kind form asking) no_key_lines names s t told × (r ≡ key_review_response kind form rule asking told))
+    ⊎ EndsEarly with_key_file (telling_key_review fingerprint kind form asking) no_key_lines (λ told. told.lines.text) names s r
 
 -- ---- the key
 

@@ -5,6 +5,8 @@ use Rattle.ssh_files.specs.SourceState.{SourceState}
 use Rattle.ssh_files.specs.Parts.{first_line, after_line}
 use Rattle.ssh_files.specs.Words.{words_in}
 use Rattle.ssh_files.specs.Loading.{NoReadFailed, LineReadFailed}
+use Rattle.ssh_files.specs.declared.read.ReadError.{ReadError}
+use Rattle.ssh_files.specs.declared.read.ReadError.TheVariants as fault
 use Rattle.ssh_print.specs.Responses.{Response, out_of_memory, usage_response}
 use Rattle.ssh_program.specs.declared.command.WordsError.{WordsError}
 use Rattle.ssh_program.specs.declared.command.WordsError.TheVariants.{Usage, Memory}
@@ -64,6 +66,11 @@ abbrev pub Answers : List (List ℕ) → SourceState → Option SourceState → 
 Answers words s t r = Responds words s t r ⊎ (r ≡ out_of_memory)
 
 -- ---- arguments that cannot be read
+
+-- the fault where the first line of standard input gives no arguments
+abbrev pub line_fault : ReadError → WordsError
+line_fault fault.Memory = Memory
+line_fault e = Usage
 
 -- the response where the program's own arguments cannot be read
 abbrev pub words_response : WordsError → Response

@@ -1,16 +1,14 @@
--- The contracts of the steps of `sshsig`, and the fault of a first line without arguments.
+-- The contracts of the steps of `sshsig`.
 use Rattle.std.specs.Prelude.{◌≡◌, ◌⊎◌, ℕ, List, [], ◌∷◌, Option, Some, Result, Ok, Err}
 use Rattle.ssh_files.specs.SourceState.{SourceState}
 use Rattle.ssh_files.specs.Loading.{NoReadFailed}
-use Rattle.ssh_files.specs.declared.read.ReadError.{ReadError}
-use Rattle.ssh_files.specs.declared.read.ReadError.TheVariants as fault
 use Rattle.ssh_bodies.specs.Sshsig.{Sshsig}
 use Rattle.ssh_offers.specs.FileSignature.{sshsig_claim}
 use Rattle.ssh_offers.specs.declared.claim.AuditError.{AuditError}
 use Rattle.ssh_offers.specs.declared.claim.Signed.{Signed}
 use Rattle.ssh_trust.specs.SshsigAnswer.{vouched_answer}
 use Rattle.ssh_program.specs.FileNames.{SshsigQuestion}
-use Rattle.ssh_print.specs.Responses.{Response, usage_response}
+use Rattle.ssh_print.specs.Responses.{Response}
 use Rattle.ssh_print.specs.SshsigText.{sshsig_response}
 use Rattle.ssh_program.specs.Audits.{IsFileFault, IsVouchReadFault, vouched_in}
 use Rattle.ssh_program.specs.Digests.{answer_by_digest}
@@ -47,10 +45,3 @@ SignsBody w again vouched s t r = (NoReadFailed s t × (r ≡ body_response w vo
 abbrev pub SignsVouched : SshsigQuestion → Option (List ℕ) → Result (List Signed) Response → SourceState → Option SourceState → Response → Type 0
 SignsVouched w again (Err v) s t r = NoReadFailed s t × (r ≡ v)
 SignsVouched w again (Ok vouched) s t r = SignsBody w again vouched s t r
-
--- ---- arguments
-
--- the response to a first line of standard input without arguments
-abbrev pub IsUsageOf : ReadError → Response → Type 0
-IsUsageOf fault.Memory r = ⊥
-IsUsageOf e r = r ≡ usage_response

@@ -1,31 +1,35 @@
-//! The response to `review` with `--key`: where one key stands in trust files.
+//! The answer to `review` with `--key`: where one key stands in trust files.
 
 ghost use Rattle.std.specs.Prelude.{◌≡◌, ◌||◌, IfOk, map, option_map};
 ghost use Rattle.ssh_findings.specs.Asking.{asking_of};
-ghost use Rattle.ssh_files.specs.FilesInTurn.{TellsFile, TellsFiles};
+ghost use Rattle.ssh_files.specs.FilesInTurn.{TellsFile};
 ghost use Rattle.ssh_files.specs.SourceState.{IfTells};
-ghost use Rattle.ssh_print.specs.ResponseView.{response};
 ghost use Rattle.ssh_print.specs.Offering.{offer_seen, shown_offer_in};
 ghost use Rattle.ssh_review.specs.KeyReviews.{key_review};
-ghost use Rattle.ssh_program.specs.ArgsView.{IfAnswered, Spells};
+ghost use Rattle.ssh_program.specs.Account.{NoneFailed};
+ghost use Rattle.ssh_program.specs.ArgsView.{Spells};
+ghost use Rattle.ssh_program.specs.FileReviews.{FailedIfStopped, TextsWritten};
 ghost use Rattle.ssh_program.specs.FingerprintValues.{is_fingerprint};
-ghost use Rattle.ssh_program.specs.KeySeeking.{IsUnreadKeyReview, ReviewsFor, SeeksBy, SeeksKey, SeeksKeyOfFile, key_lines_seen, key_review_of, key_status, no_key_lines, or_key_fault, spelled_fingerprint, telling_key_review, with_key_file};
+ghost use Rattle.ssh_program.specs.KeySeeking.{IsUnreadKeyReview, ReviewsFor, SeeksBy, SeeksKey, SeeksKeyOfFile, key_review_of, key_status, key_total, no_key_lines, or_key_fault, spelled_fingerprint, telling_key_review, with_key_file};
 ghost use Rattle.ssh_program.specs.OfferPrints.{offer_print};
+ghost use Rattle.ssh_program.specs.Printing.{WritesAnswer};
 ghost use Rattle.ssh_program.specs.Spelling.{RespondsTo};
 
 use crate::args::ArgName;
 use crate::audit::unread;
-use crate::command::CommandError;
+use crate::command::{CommandError, respond_fault};
 use crate::fingerprint_value::{is_fingerprint, read_fingerprint};
 use crate::offer_fingerprint::offer_print;
-use crate::review::{FOUND, FileReport, NOTHING, ReviewKind, kind_name, review_files, with_review};
+use crate::printing::{put_bytes, put_made, put_no_memory};
+use crate::review::{FOUND, NOTHING, ReviewKind, review_files, with_review};
+use crate::sink::Sink;
+use crate::streaming::{Stop, put_total};
 use ssh_files::{Files, ReadError, read_top_line, read_whole};
 use ssh_findings::ReviewOptions;
 use ssh_keys::digest_text;
-use ssh_print::{DONE, FAULT, OfferedKey, Response, read_offer, show_fault};
+use ssh_print::{DONE, FAULT, OfferedKey, read_offer, show_fault};
 use ssh_review::{
     FileFault, Form, KeyReviewed, Total, review_auth_key, review_key_fault, review_known_key,
-    total_line,
 };
 use std::alloc::{AllocError, Global};
 
@@ -42,10 +46,10 @@ fn key_status(total: &Total, stands: bool) -> u8
     }
 }
 
-/// The output lines of some files, their total, and whether the key stands in one of them.
-#[derive(Drop)]
-pub struct KeyReport {
-    pub report: FileReport,
+/// The total of some files, and whether the key stands in one of them.
+#[derive(Clone, Copy, Debug, PartialEq, Eq)]
+pub struct KeyTotal {
+    pub total: Total,
     pub stands: bool,
 }
 
@@ -110,9 +114,9 @@ fn review_file<F: Files>(
     }
 }
 
-/// The reviews of the files of these names, in their order. The text of all is stored before any of
-/// it is written, so a failed allocation leaves no part of a list in the output.
-fn tell_files<F: Files>(
+/// Writes the reviews of the files of these names, each when its file was read, and returns their
+/// total. No more than one is in memory, however many files there are.
+fn tell_files<F: Files, W: Sink>(
     alloc: Global,
     kind: ReviewKind,
     form: Form,
@@ -120,29 +124,30 @@ fn tell_files<F: Files>(
     sought: &[u8; 43],
     names: &[&str],
     files: &mut F,
-) -> Result<KeyReport, AllocError>
-    ensures { IfTells (F.source_state files.old) (λ s. IfOk result (λ told.
-        TellsFiles with_key_file (telling_key_review sought.now kind form (asking_of asked.entry.now)) no_key_lines
-        (map (λ name. name.now) names.now) s (F.source_state files.new) (key_lines_seen told))) }
+    writer: &mut W,
+) -> Result<KeyTotal, Stop>
+    requires { NoneFailed (W.account writer.old) }
+    ensures failed { FailedIfStopped result (W.account writer.new) }
+    ensures told { IfTells (F.source_state files.old) (λ s. TextsWritten with_key_file
+        (telling_key_review sought.now kind form (asking_of asked.entry.now)) no_key_lines
+        (λ told. told.lines.text) key_total (map (λ name. name.now) names.now) s
+        (F.source_state files.new) (W.account writer.old) (W.account writer.new) result) }
 {
     let mut total = NOTHING;
-    let mut text = Vec::new(alloc);
     let mut stands = false;
     for name in names {
         let told = review_file(alloc, kind, form, asked, sought, name, files)?;
+        put_bytes(writer, &told.review.text)?;
         total = with_review(total, &told.review);
-        text.extend_from_slice(&told.review.text)?;
         stands = either(stands, told.stands);
     }
-    Ok(KeyReport {
-        report: FileReport { total, text },
-        stands,
-    })
+    Ok(KeyTotal { total, stands })
 }
 
-/// The response: the reviews of the files of these names for the key with this fingerprint, and then
-/// their total. A file that cannot be reviewed has its fault, and the next is reviewed all the same.
-fn seek_key<F: Files>(
+/// Writes the reviews of the files of these names for the key with this fingerprint, and then their
+/// total. Returns the status. A file that cannot be reviewed has its fault, and the next is reviewed
+/// all the same; after a failed write no file is read.
+fn seek_key<F: Files, W: Sink>(
     alloc: Global,
     kind: ReviewKind,
     form: Form,
@@ -151,24 +156,22 @@ fn seek_key<F: Files>(
     names: &[&str],
     sought: &[u8; 43],
     files: &mut F,
-) -> Result<Response, AllocError>
-    ensures { IfTells (F.source_state files.old) (λ s. IfOk result (λ r.
-        SeeksKey kind form rule.now (asking_of asked.entry.now) (map (λ name. name.now) names.now) sought.now s
-        (F.source_state files.new) (response r))) }
+    writer: &mut W,
+) -> u8
+    requires { NoneFailed (W.account writer.old) }
+    ensures { IfTells (F.source_state files.old) (λ s. WritesAnswer
+        (SeeksKey kind form rule.now (asking_of asked.entry.now) (map (λ name. name.now) names.now)
+        sought.now s (F.source_state files.new))
+        (W.account writer.old) (W.account writer.new) result) }
 {
-    let told = tell_files(alloc, kind, form, asked, sought, names, files)?;
-    let line = total_line(
-        alloc,
-        form,
-        kind_name(kind),
-        rule,
-        asked,
-        &told.report.total,
-    )?;
-    let status = key_status(&told.report.total, told.stands);
-    let mut text = told.report.text;
-    text.extend_from_slice(&line)?;
-    Ok(Response::new(status, text))
+    match tell_files(alloc, kind, form, asked, sought, names, files, writer) {
+        Ok(told) => {
+            let status = key_status(&told.total, told.stands);
+            put_total(alloc, kind, form, rule, asked, &told.total, status, writer)
+        }
+        Err(Stop::Memory) => put_no_memory(writer),
+        Err(Stop::Write) => FAULT,
+    }
 }
 
 /// The text of the fingerprint that a value gives which begins as one.
@@ -180,8 +183,8 @@ fn spelled_fingerprint(alloc: Global, text: &str) -> Result<[u8; 43], CommandErr
     Ok(fingerprint)
 }
 
-/// The response about the key in an offer.
-fn seek_offer<F: Files>(
+/// The same of the key in an offer.
+fn seek_offer<F: Files, W: Sink>(
     alloc: Global,
     kind: ReviewKind,
     form: Form,
@@ -190,18 +193,24 @@ fn seek_offer<F: Files>(
     names: &[&str],
     offer: &OfferedKey,
     files: &mut F,
-) -> Result<Response, AllocError>
-    ensures { IfTells (F.source_state files.old) (λ s. IfOk result (λ r.
-        SeeksKey kind form rule.now (asking_of asked.entry.now) (map (λ name. name.now) names.now)
-        (offer_print (offer_seen offer.now)) s (F.source_state files.new) (response r))) }
+    writer: &mut W,
+) -> u8
+    requires { NoneFailed (W.account writer.old) }
+    ensures { IfTells (F.source_state files.old) (λ s. WritesAnswer
+        (SeeksKey kind form rule.now (asking_of asked.entry.now) (map (λ name. name.now) names.now)
+        (offer_print (offer_seen offer.now)) s (F.source_state files.new))
+        (W.account writer.old) (W.account writer.new) result) }
 {
-    let sought = offer_print(alloc, offer)?;
-    let response = seek_key(alloc, kind, form, rule, asked, names, &sought, files)?;
-    Ok(response)
+    match offer_print(alloc, offer) {
+        Ok(sought) => seek_key(
+            alloc, kind, form, rule, asked, names, &sought, files, writer,
+        ),
+        Err(AllocError) => put_no_memory(writer),
+    }
 }
 
-/// The response by the first line of the key's file.
-fn seek_by_line<F: Files>(
+/// The same by the first line of the key's file.
+fn seek_by_line<F: Files, W: Sink>(
     alloc: Global,
     kind: ReviewKind,
     form: Form,
@@ -210,20 +219,23 @@ fn seek_by_line<F: Files>(
     names: &[&str],
     line: &[u8],
     files: &mut F,
-) -> Result<Response, AllocError>
-    ensures { IfTells (F.source_state files.old) (λ s. IfOk result (λ r.
-        RespondsTo (SeeksKey kind form rule.now (asking_of asked.entry.now) (map (λ name. name.now) names.now))
-        (or_key_fault (shown_offer_in line.now)) s (F.source_state files.new) (response r))) }
+    writer: &mut W,
+) -> u8
+    requires { NoneFailed (W.account writer.old) }
+    ensures { IfTells (F.source_state files.old) (λ s. WritesAnswer
+        (RespondsTo (SeeksKey kind form rule.now (asking_of asked.entry.now) (map (λ name. name.now) names.now))
+        (or_key_fault (shown_offer_in line.now)) s (F.source_state files.new))
+        (W.account writer.old) (W.account writer.new) result) }
 {
     match read_offer(alloc, line) {
-        Ok(offer) => seek_offer(alloc, kind, form, rule, asked, names, &offer, files),
-        Err(error) => show_fault(alloc, error),
+        Ok(offer) => seek_offer(alloc, kind, form, rule, asked, names, &offer, files, writer),
+        Err(error) => put_made(writer, show_fault(alloc, error)),
     }
 }
 
-/// The response about the key in the file of this name. The key's file is read before the trust
-/// files. It is read to its end, and only its first line is stored.
-fn seek_key_of_file<F: Files>(
+/// The same of the key in the file of this name. The key's file is read before the trust files. It
+/// is read to its end, and only its first line is stored.
+fn seek_key_of_file<F: Files, W: Sink>(
     alloc: Global,
     kind: ReviewKind,
     form: Form,
@@ -232,19 +244,21 @@ fn seek_key_of_file<F: Files>(
     names: &[&str],
     key: &str,
     files: &mut F,
-) -> Result<Response, AllocError>
-    ensures { IfTells (F.source_state files.old) (λ s. IfOk result (λ r.
-        SeeksKeyOfFile kind form rule.now (asking_of asked.entry.now) (map (λ name. name.now) names.now) key.now s
-        (F.source_state files.new) (response r))) }
+    writer: &mut W,
+) -> u8
+    requires { NoneFailed (W.account writer.old) }
+    ensures { IfTells (F.source_state files.old) (λ s. WritesAnswer
+        (SeeksKeyOfFile kind form rule.now (asking_of asked.entry.now) (map (λ name. name.now) names.now) key.now s
+        (F.source_state files.new)) (W.account writer.old) (W.account writer.new) result) }
 {
     match read_top_line(alloc, files, key) {
-        Ok(line) => seek_by_line(alloc, kind, form, rule, asked, names, &line, files),
-        Err(fault) => unread(alloc, key, fault),
+        Ok(line) => seek_by_line(alloc, kind, form, rule, asked, names, &line, files, writer),
+        Err(fault) => put_made(writer, unread(alloc, key, fault)),
     }
 }
 
-/// The response about the key whose fingerprint this value gives.
-fn seek_fingerprint<F: Files>(
+/// The same of the key whose fingerprint this value gives.
+fn seek_fingerprint<F: Files, W: Sink>(
     alloc: Global,
     kind: ReviewKind,
     form: Form,
@@ -253,18 +267,24 @@ fn seek_fingerprint<F: Files>(
     names: &[&str],
     text: &str,
     files: &mut F,
-) -> Result<Response, CommandError>
-    ensures { IfTells (F.source_state files.old) (λ s. IfAnswered result (λ r.
-        RespondsTo (SeeksKey kind form rule.now (asking_of asked.entry.now) (map (λ name. name.now) names.now))
-        (spelled_fingerprint text.now) s (F.source_state files.new) r)) }
+    writer: &mut W,
+) -> u8
+    requires { NoneFailed (W.account writer.old) }
+    ensures { IfTells (F.source_state files.old) (λ s. WritesAnswer
+        (RespondsTo (SeeksKey kind form rule.now (asking_of asked.entry.now) (map (λ name. name.now) names.now))
+        (spelled_fingerprint text.now) s (F.source_state files.new))
+        (W.account writer.old) (W.account writer.new) result) }
 {
-    let sought = spelled_fingerprint(alloc, text)?;
-    let response = seek_key(alloc, kind, form, rule, asked, names, &sought, files)?;
-    Ok(response)
+    match spelled_fingerprint(alloc, text) {
+        Ok(sought) => seek_key(
+            alloc, kind, form, rule, asked, names, &sought, files, writer,
+        ),
+        Err(fault) => put_made(writer, respond_fault(alloc, fault)),
+    }
 }
 
-/// The response about the key of this value: a fingerprint, or the name of a file.
-fn seek<F: Files>(
+/// The same of the key of this value: a fingerprint, or the name of a file.
+fn seek<F: Files, W: Sink>(
     alloc: Global,
     kind: ReviewKind,
     form: Form,
@@ -273,22 +293,24 @@ fn seek<F: Files>(
     names: &[&str],
     key: &str,
     files: &mut F,
-) -> Result<Response, CommandError>
-    ensures { IfTells (F.source_state files.old) (λ s. IfAnswered result (λ r.
-        SeeksBy (is_fingerprint key.now) kind form rule.now (asking_of asked.entry.now)
-        (map (λ name. name.now) names.now) key.now s (F.source_state files.new) r)) }
+    writer: &mut W,
+) -> u8
+    requires { NoneFailed (W.account writer.old) }
+    ensures { IfTells (F.source_state files.old) (λ s. WritesAnswer
+        (SeeksBy (is_fingerprint key.now) kind form rule.now (asking_of asked.entry.now)
+        (map (λ name. name.now) names.now) key.now s (F.source_state files.new))
+        (W.account writer.old) (W.account writer.new) result) }
 {
     if is_fingerprint(key) {
-        seek_fingerprint(alloc, kind, form, rule, asked, names, key, files)
+        seek_fingerprint(alloc, kind, form, rule, asked, names, key, files, writer)
     } else {
-        let response = seek_key_of_file(alloc, kind, form, rule, asked, names, key, files)?;
-        Ok(response)
+        seek_key_of_file(alloc, kind, form, rule, asked, names, key, files, writer)
     }
 }
 
-/// The response: the reviews of the files of these names, or, where `--key` has a value, their
-/// reviews for that key.
-pub fn review_for<F: Files>(
+/// Writes the reviews of the files of these names, or, where `--key` has a value, their reviews for
+/// that key, and then their total. Returns the status.
+pub fn review_for<F: Files, W: Sink>(
     alloc: Global,
     kind: ReviewKind,
     form: Form,
@@ -297,16 +319,16 @@ pub fn review_for<F: Files>(
     names: &[&str],
     key: Option<&str>,
     files: &mut F,
-) -> Result<Response, CommandError>
-    ensures { IfTells (F.source_state files.old) (λ s. IfAnswered result (λ r.
-        ReviewsFor (option_map (λ k. k.now) key.entry) kind form rule.now (asking_of asked.entry.now)
-        (map (λ name. name.now) names.now) s (F.source_state files.new) r)) }
+    writer: &mut W,
+) -> u8
+    requires { NoneFailed (W.account writer.old) }
+    ensures { IfTells (F.source_state files.old) (λ s. WritesAnswer
+        (ReviewsFor (option_map (λ k. k.now) key.entry) kind form rule.now (asking_of asked.entry.now)
+        (map (λ name. name.now) names.now) s (F.source_state files.new))
+        (W.account writer.old) (W.account writer.new) result) }
 {
     match key {
-        None => {
-            let response = review_files(alloc, kind, form, rule, asked, names, files)?;
-            Ok(response)
-        }
-        Some(key) => seek(alloc, kind, form, rule, asked, names, key, files),
+        None => review_files(alloc, kind, form, rule, asked, names, files, writer),
+        Some(key) => seek(alloc, kind, form, rule, asked, names, key, files, writer),
     }
 }

@@ -5,6 +5,8 @@ ghost use Rattle.std.specs.Fmt.{decimal};
 ghost use Rattle.std.specs.List.{flat_map};
 ghost use Rattle.ssh_program.specs.Account.{NoneFailed};
 ghost use Rattle.ssh_program.specs.Printing.{Breaks, TakesAll, WritesResponse};
+ghost use Rattle.ssh_program.specs.Writing.{IsMade};
+ghost use Rattle.ssh_print.specs.Responses.{Response as Shown, out_of_memory};
 ghost use Rattle.ssh_print.specs.DecisionText.{evidence_line, evidence_lines};
 ghost use Rattle.ssh_print.specs.ResponseView.{response};
 ghost use Rattle.ssh_print.specs.TextParts.{part_bytes, text_bytes};
@@ -14,11 +16,12 @@ use crate::sink::Sink;
 use itoa::Buffer;
 use ssh_offers::Signed;
 use ssh_print::{EscapedPiece, FAULT, HexPiece, PIECE_LIMIT, Part, Response, Text};
+use std::alloc::AllocError;
 use std::io::{Error, ErrorKind, Result};
 
 /// Writes the bytes. After an `Err`, by which a write failed, a front of them was taken that is not
 /// the whole.
-fn put_bytes<W: Sink>(writer: &mut W, bytes: &[u8]) -> Result<()>
+pub(crate) fn put_bytes<W: Sink>(writer: &mut W, bytes: &[u8]) -> Result<()>
     requires { NoneFailed (W.account writer.old) }
     ensures ok { OnOk result (TakesAll (W.account writer.old) (W.account writer.new) bytes.now) }
     ensures err { OnErr result (Breaks (W.account writer.old) (W.account writer.new) bytes.now) }
@@ -206,12 +209,47 @@ pub(crate) fn put_response<W: Sink>(writer: &mut W, answer: &Response) -> u8
     }
 }
 
+/// Writes a text, and returns this status, or 2 if a write failed before all was written.
+pub(crate) fn put_whole<W: Sink>(writer: &mut W, text: &[u8], status: u8) -> u8
+    requires { NoneFailed (W.account writer.old) }
+    ensures { WritesResponse (W.account writer.old) (W.account writer.new)
+        (record { status = status; text = text.now }) result }
+{
+    match put_bytes(writer, text) {
+        Ok(()) => status,
+        Err(_) => FAULT,
+    }
+}
+
 /// Writes the text of a fault and returns 2, also if the write fails.
 pub(crate) fn put_fault<W: Sink>(writer: &mut W, text: &[u8]) -> u8
     requires { NoneFailed (W.account writer.old) }
     ensures { WritesResponse (W.account writer.old) (W.account writer.new)
         (record { status = FAULT; text = text.now }) result }
 {
-    let _ = put_bytes(writer, text);
-    FAULT
+    put_whole(writer, text, FAULT)
+}
+
+/// Writes that memory could not be allocated, and returns 2.
+pub(crate) fn put_no_memory<W: Sink>(writer: &mut W) -> u8
+    requires { NoneFailed (W.account writer.old) }
+    ensures { WritesResponse (W.account writer.old) (W.account writer.new) out_of_memory result }
+{
+    put_fault(writer, b"fault A8\n")
+}
+
+/// Writes the response that was made, or that memory could not be allocated for one, and returns
+/// the status.
+pub(crate) fn put_made<W: Sink>(
+    writer: &mut W,
+    made: std::result::Result<Response, AllocError>,
+) -> u8
+    requires { NoneFailed (W.account writer.old) }
+    ensures { (r : Shown) × IsMade made r
+        × WritesResponse (W.account writer.old) (W.account writer.new) r result }
+{
+    match made {
+        Ok(response) => put_response(writer, &response),
+        Err(AllocError) => put_no_memory(writer),
+    }
 }

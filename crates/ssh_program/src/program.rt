@@ -1,11 +1,12 @@
 //! Runs the program: arguments and files in, an answer to a writer and an exit status out.
 
-ghost use Rattle.std.specs.Prelude.{ℕ, [], map, IfOk, Some, ◌≡◌, ◌<◌, List};
+ghost use Rattle.std.specs.Prelude.{ℕ, [], map, Some, ◌≡◌, ◌<◌, List};
 ghost use Rattle.ssh_program.specs.CommandLine.{request_of};
-ghost use Rattle.ssh_program.specs.Requests.{Responds, RespondsBy, Answers, source_of, words_response};
-ghost use Rattle.ssh_program.specs.Responding.{IsUsageOf};
-ghost use Rattle.ssh_program.specs.ArgsView.{IfAnswered, request_in_memory};
-ghost use Rattle.ssh_print.specs.ResponseView.{response};
+ghost use Rattle.ssh_program.specs.Explanations.{explained};
+ghost use Rattle.ssh_program.specs.Requests.{Responds, RespondsBy, Answers, line_fault, source_of, words_response};
+ghost use Rattle.ssh_program.specs.Spelling.{names_given};
+ghost use Rattle.ssh_program.specs.ArgsView.{IfAnswered, request_in_memory, rows_in};
+ghost use Rattle.ssh_files.specs.Words.{words_in};
 ghost use Rattle.ssh_files.specs.SourceState.{IfTells};
 ghost use Rattle.clap.specs.Words.{Row};
 ghost use Rattle.ssh_program.specs.Account.{NoneFailed};
@@ -16,127 +17,139 @@ ghost use Rattle.ssh_program.specs.KeyRuns.{AsksByKey, AsksOfFiles, ClientAdmitt
 ghost use Rattle.ssh_program.specs.KeyStanding.{AsksForKey, KeyNowhere, KeyStanding};
 ghost use Rattle.ssh_program.specs.SignatureRuns.{AsksSignature, SignatureUnvouched, SignatureVouched};
 ghost use Rattle.ssh_program.specs.FileRuns.{AsksNoKey, AsksWith, FileHashed, FileReadable, FileRewritten, FilesReviewed};
-ghost use Rattle.ssh_program.specs.Printing.{WritesResponse};
+ghost use Rattle.ssh_program.specs.Printing.{WritesAnswer, WritesResponse};
+ghost use Rattle.ssh_program.specs.Writing.{AnswersInMemory};
 ghost use Rattle.ssh_program.specs.FileNames.{AuditFiles, SshsigQuestion as SshsigAsked};
 ghost use Rattle.ssh_program.specs.Texts.{TextPlaces};
 ghost use Rattle.ssh_program.specs.declared.subcommand.Subcommand.TheVariants.{Hash, Host, Login, Readable, Review, Rewrite, Trusts};
 
 use crate::admits::{respond_admits, respond_trusts};
+use crate::args::Args;
 use crate::command::{CommandError, Request, WordsError, parse, respond_fault};
 use crate::decisions::{respond_host, respond_login};
-use crate::printing::{put_fault, put_response};
-use crate::review::respond_review;
+use crate::printing::{put_fault, put_made, put_no_memory, put_response};
+use crate::review::answer_review;
 use crate::rewriting::{respond_hash, respond_readable, respond_rewrite};
 use crate::show::{respond_explain, respond_show};
 use crate::sink::Sink;
 use crate::sshsig::respond_sshsig;
 use crate::subcommand::Subcommand;
 use ssh_files::{Files, ReadError, read_first_line, read_words};
-use ssh_print::{Response, usage_fault};
+use ssh_print::Response;
 use std::alloc::{AllocError, Global};
 use std::convert::AsStr;
 
-/// The response to a request, or the error of its options.
+/// The response to `explain`.
+fn respond_codes(alloc: Global, words: &Args<'_>) -> Result<Response, CommandError>
+    ensures { IfAnswered result (λ r. r ≡ explained (names_given (rows_in words.now))) }
+{
+    Ok(respond_explain(alloc, words)?)
+}
+
+/// The response to a request, or the error of its options; `None` for `review`, which writes while
+/// it reads.
 fn respond_subcommand<F: Files>(
     alloc: Global,
     request: &Request<'_>,
     files: &mut F,
-) -> Result<Response, CommandError>
-    ensures { IfTells (F.source_state files.old) (λ s. IfAnswered result (λ r.
-        RespondsBy (Some (request_in_memory request.now)) s (F.source_state files.new) r)) }
+) -> Option<Result<Response, CommandError>>
+    ensures { AnswersInMemory request.now.subcommand result (F.source_state files.old)
+        (F.source_state files.new)
+        (λ s r. RespondsBy (Some (request_in_memory request.now)) s (F.source_state files.new) r) }
 {
+    let words = &request.words;
     match request.subcommand {
-        Subcommand::Show => respond_show(alloc, &request.words, files),
-        Subcommand::Login => respond_login(alloc, &request.words, files),
-        Subcommand::Host => respond_host(alloc, &request.words, files),
-        Subcommand::Sshsig => respond_sshsig(alloc, &request.words, files),
-        Subcommand::Rewrite => respond_rewrite(alloc, &request.words, files),
-        Subcommand::Readable => respond_readable(alloc, &request.words, files),
-        Subcommand::Hash => respond_hash(alloc, &request.words, files),
-        Subcommand::Admits => respond_admits(alloc, &request.words, files),
-        Subcommand::Trusts => respond_trusts(alloc, &request.words, files),
-        Subcommand::Review => respond_review(alloc, &request.words, files),
-        Subcommand::Explain => Ok(respond_explain(alloc, &request.words)?),
+        Subcommand::Show => Some(respond_show(alloc, words, files)),
+        Subcommand::Login => Some(respond_login(alloc, words, files)),
+        Subcommand::Host => Some(respond_host(alloc, words, files)),
+        Subcommand::Sshsig => Some(respond_sshsig(alloc, words, files)),
+        Subcommand::Rewrite => Some(respond_rewrite(alloc, words, files)),
+        Subcommand::Readable => Some(respond_readable(alloc, words, files)),
+        Subcommand::Hash => Some(respond_hash(alloc, words, files)),
+        Subcommand::Admits => Some(respond_admits(alloc, words, files)),
+        Subcommand::Trusts => Some(respond_trusts(alloc, words, files)),
+        Subcommand::Review => None,
+        Subcommand::Explain => Some(respond_codes(alloc, words)),
     }
 }
 
-/// The response to a request, also where its options have an error.
-fn respond_request<F: Files>(
+/// Writes the answer to a request, and returns the status.
+fn answer_request<F: Files, W: Sink>(
     alloc: Global,
     request: &Request<'_>,
     files: &mut F,
-) -> Result<Response, AllocError>
-    ensures { IfTells (F.source_state files.old) (λ s. IfOk result (λ r.
-        RespondsBy (Some (request_in_memory request.now)) s (F.source_state files.new)
-        (response r))) }
+    writer: &mut W,
+) -> u8
+    requires { NoneFailed (W.account writer.old) }
+    ensures { IfTells (F.source_state files.old) (λ s. WritesAnswer
+        (RespondsBy (Some (request_in_memory request.now)) s (F.source_state files.new))
+        (W.account writer.old) (W.account writer.new) result) }
 {
     match respond_subcommand(alloc, request, files) {
-        Ok(response) => Ok(response),
-        Err(fault) => respond_fault(alloc, fault),
+        None => answer_review(alloc, &request.words, files, writer),
+        Some(Ok(response)) => put_response(writer, &response),
+        Some(Err(fault)) => put_made(writer, respond_fault(alloc, fault)),
     }
 }
 
-/// The response to arguments, of which there is at least one.
-fn respond_words<S: AsStr, F: Files>(
+/// Writes the answer to arguments, of which there is at least one, and returns the status.
+fn answer_words<S: AsStr, F: Files, W: Sink>(
     alloc: Global,
     words: &[S],
     files: &mut F,
-) -> Result<Response, AllocError>
-    ensures { IfTells (F.source_state files.old) (λ s. IfOk result (λ r.
-        RespondsBy (request_of (map S.text words.now)) s (F.source_state files.new)
-        (response r))) }
+    writer: &mut W,
+) -> u8
+    requires { NoneFailed (W.account writer.old) }
+    ensures { IfTells (F.source_state files.old) (λ s. WritesAnswer
+        (RespondsBy (request_of (map S.text words.now)) s (F.source_state files.new))
+        (W.account writer.old) (W.account writer.new) result) }
 {
     match parse(alloc, words) {
-        Ok(request) => respond_request(alloc, &request, files),
-        Err(WordsError::Usage) => usage_fault(alloc),
-        Err(WordsError::Memory) => Err(AllocError),
+        Ok(request) => answer_request(alloc, &request, files, writer),
+        Err(fault) => refuse(fault, writer),
     }
 }
 
-/// The response where the first line of standard input gives no arguments: it is past its limit, or
+/// The fault where the first line of standard input gives no arguments: it is past its limit, or
 /// cannot be read.
-fn unread_line(alloc: Global, fault: ReadError) -> Result<Response, AllocError>
-    ensures { IfOk result (λ r. IsUsageOf fault (response r)) }
+fn line_fault(fault: ReadError) -> WordsError
+    ensures { result ≡ line_fault fault }
 {
     match fault {
-        ReadError::Memory => Err(AllocError),
-        _ => usage_fault(alloc),
+        ReadError::Memory => WordsError::Memory,
+        _ => WordsError::Usage,
     }
 }
 
-/// The response to the arguments on the first line of standard input. Only spaces separate them: a
-/// CR or a tab belongs to its argument.
-fn respond_line<F: Files>(alloc: Global, files: &mut F) -> Result<Response, AllocError>
-    ensures { IfTells (F.source_state files.old)
-        (λ s. IfOk result (λ r. Responds [] s (F.source_state files.new) (response r))) }
+/// Writes the answer to the arguments on this first line of standard input, and returns the status.
+/// Only spaces separate them: a CR or a tab belongs to its argument.
+fn answer_line<F: Files, W: Sink>(alloc: Global, line: &[u8], files: &mut F, writer: &mut W) -> u8
+    requires { NoneFailed (W.account writer.old) }
+    ensures { IfTells (F.source_state files.old) (λ s. WritesAnswer
+        (RespondsBy (request_of (words_in line.now)) s (F.source_state files.new))
+        (W.account writer.old) (W.account writer.new) result) }
+{
+    match read_words(alloc, line) {
+        Ok(words) => answer_words(alloc, words.as_slice(), files, writer),
+        Err(AllocError) => put_no_memory(writer),
+    }
+}
+
+/// Writes the answer to the arguments on the first line of standard input, and returns the status.
+fn answer_input<F: Files, W: Sink>(alloc: Global, files: &mut F, writer: &mut W) -> u8
+    requires { NoneFailed (W.account writer.old) }
+    ensures { IfTells (F.source_state files.old) (λ s. WritesAnswer
+        (Responds [] s (F.source_state files.new))
+        (W.account writer.old) (W.account writer.new) result) }
 {
     match read_first_line(alloc, files) {
-        Ok(line) => {
-            let words = read_words(alloc, &line)?;
-            respond_words(alloc, words.as_slice(), files)
-        }
-        Err(fault) => unread_line(alloc, fault),
+        Ok(line) => answer_line(alloc, &line, files, writer),
+        Err(fault) => refuse(line_fault(fault), writer),
     }
 }
 
-/// The response to the arguments; if there are none, to those on the first line of standard input.
-pub fn respond<S: AsStr, F: Files>(
-    alloc: Global,
-    words: &[S],
-    files: &mut F,
-) -> Result<Response, AllocError>
-    ensures { IfTells (F.source_state files.old) (λ s.
-        IfOk result
-        (λ r. Responds (map S.text words.now) s (F.source_state files.new) (response r))) }
-{
-    if words.is_empty() {
-        respond_line(alloc, files)
-    } else {
-        respond_words(alloc, words, files)
-    }
-}
-
-/// Writes the answer to the arguments, and returns the status.
+/// Writes the answer to the arguments, and returns the status; if there are none, to those on the
+/// first line of standard input.
 fn answer<S: AsStr, F: Files, W: Sink>(
     alloc: Global,
     words: &[S],
@@ -147,9 +160,10 @@ fn answer<S: AsStr, F: Files, W: Sink>(
     ensures { IfTells (F.source_state files.old) (λ s. (r : Shown) × Answers (map S.text words.now) s (F.source_state files.new) r
         × WritesResponse (W.account writer.old) (W.account writer.new) r result) }
 {
-    match respond(alloc, words, files) {
-        Ok(response) => put_response(writer, &response),
-        Err(AllocError) => put_fault(writer, b"fault A8\n"),
+    if words.is_empty() {
+        answer_input(alloc, files, writer)
+    } else {
+        answer_words(alloc, words, files, writer)
     }
 }
 
@@ -157,7 +171,8 @@ fn answer<S: AsStr, F: Files, W: Sink>(
 /// first line of standard input, which is the file `-`. It writes the answer and returns the
 /// status: 0 for granted or done, 1 for denied or something found, 2 for a fault (also of the
 /// writer), 3 where OpenSSH may let in a key that no line lets in here. After a failed write
-/// nothing more is written.
+/// nothing more is written. `review` writes the text of each file before it reads the next; any
+/// other answer is whole in memory before it is written.
 pub fn run<S: AsStr, F: Files, W: Sink>(
     alloc: Global,
     words: &[S],
@@ -168,7 +183,8 @@ pub fn run<S: AsStr, F: Files, W: Sink>(
     // If the state of the source is known, the writer took the whole text of an answer, and the
     // status is the answer's. Or a write failed after a proper prefix of the text, and the status
     // is 2. The answer is the defined one, or the fault of memory allocation, or the fault of a
-    // read that failed.
+    // read that failed. That of `review` is the texts of the files in their order, then the total;
+    // or the texts of the files at the front, then the fault of memory allocation, with status 2.
     ensures answers { IfTells (F.source_state files.old) (λ s. (r : Shown) × Answers (map S.text words.now) s (F.source_state files.new) r
         × WritesResponse (W.account writer.old) (W.account writer.new) r result) }
     // Status 0 of a login is a grant: a line of the trust file admits the offer, all its conditions

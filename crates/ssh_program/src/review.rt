@@ -1,32 +1,37 @@
-//! The response to `review`: trust files one after the other, then their total.
+//! The answer to `review`: trust files one after the other, then their total.
 
-ghost use Rattle.std.specs.Prelude.{◌≡◌, ◌^◌, Some, option_map, IfOk, map};
+ghost use Rattle.std.specs.Prelude.{◌≡◌, ◌^◌, Some, option_map, IfOk, OnErr, map};
 ghost use Rattle.ssh_findings.specs.Codes.{codes_in, default_codes};
 ghost use Rattle.ssh_files.specs.Values.{number_below};
 ghost use Rattle.ssh_review.specs.declared.end.Form.TheVariants.{Text};
 ghost use Rattle.ssh_program.specs.Spelled.{form_of, review_kind_of, usual_minimum, RespondsToReview, ReviewsInZone};
 ghost use Rattle.ssh_program.specs.Spelling.{value, value_or};
-ghost use Rattle.ssh_program.specs.ArgsView.{Spells, rows_in, IfAnswered};
+ghost use Rattle.ssh_program.specs.ArgsView.{Spells, rows_in};
 ghost use Rattle.ssh_review.specs.Reviews.{review};
 ghost use Rattle.ssh_program.specs.Totals.{fault_count, nothing, total_status, with_counts, with_review};
 ghost use Rattle.ssh_findings.specs.Asking.{asking_of};
 ghost use Rattle.ssh_files.specs.FilesInTurn.{TellsFile, TellsFiles};
 ghost use Rattle.ssh_files.specs.SourceState.{IfTells};
-ghost use Rattle.ssh_print.specs.ResponseView.{response};
-ghost use Rattle.ssh_program.specs.FileReviews.{IsUnreadReview, ReviewsFiles, kind_name, no_lines, review_of, telling_review, lines_seen, with_file};
+ghost use Rattle.ssh_program.specs.Account.{NoneFailed};
+ghost use Rattle.ssh_program.specs.FileReviews.{FailedIfStopped, IsUnreadReview, ReviewsFiles, TextsWritten, kind_name, no_lines, review_of, telling_review, with_file};
+ghost use Rattle.ssh_program.specs.Printing.{WritesAnswer};
+ghost use Rattle.ssh_program.specs.Writing.{IfWritten};
 ghost use Rattle.jiff.specs.Words.{plain_zone};
 ghost use Rattle.ssh_program.specs.declared.args.ArgName.TheVariants as option;
 
 use crate::args::{ArgName, Args};
-use crate::command::CommandError;
+use crate::command::{CommandError, respond_fault};
 use crate::key_seeking::review_for;
+use crate::printing::{put_bytes, put_made, put_no_memory};
 use crate::review_zone::{given_rule, is_zone_given, zone_text};
+use crate::sink::Sink;
+use crate::streaming::{Stop, put_total};
 use jiff::tz::TimeZone;
 use ssh_files::{Files, ReadError, read_bits, read_whole, zone_of};
 use ssh_findings::{Code, ReviewOptions, parse_codes};
-use ssh_print::{DONE, FAULT, Response};
+use ssh_print::{DONE, FAULT};
 use ssh_review::{
-    Counts, FileFault, Form, Reviewed, Total, review_auth, review_fault, review_known, total_line,
+    Counts, FileFault, Form, Reviewed, Total, review_auth, review_fault, review_known,
 };
 use std::alloc::{AllocError, Global};
 
@@ -177,13 +182,6 @@ pub fn total_status(total: &Total) -> u8
     }
 }
 
-/// The output lines of some files, and their total.
-#[derive(Drop)]
-pub struct FileReport {
-    pub total: Total,
-    pub text: Vec<u8>,
-}
-
 /// The review of a file whose bytes could not be had.
 fn review_unread(
     alloc: Global,
@@ -236,33 +234,37 @@ fn review_file<F: Files>(
     }
 }
 
-/// The reviews of the files of these names, in their order. The text of all is stored before any of
-/// it is written, so a failed allocation leaves no part of a list in the output.
-fn tell_files<F: Files>(
+/// Writes the reviews of the files of these names, each when its file was read, and returns their
+/// total. No more than one is in memory, however many files there are.
+fn tell_files<F: Files, W: Sink>(
     alloc: Global,
     kind: ReviewKind,
     form: Form,
     asked: &ReviewOptions<'_>,
     names: &[&str],
     files: &mut F,
-) -> Result<FileReport, AllocError>
-    ensures { IfTells (F.source_state files.old) (λ s. IfOk result (λ told.
-        TellsFiles with_file (telling_review kind form (asking_of asked.entry.now)) no_lines
-        (map (λ name. name.now) names.now) s (F.source_state files.new) (lines_seen told))) }
+    writer: &mut W,
+) -> Result<Total, Stop>
+    requires { NoneFailed (W.account writer.old) }
+    ensures failed { FailedIfStopped result (W.account writer.new) }
+    ensures told { IfTells (F.source_state files.old) (λ s. TextsWritten with_file
+        (telling_review kind form (asking_of asked.entry.now)) no_lines (λ told. told.text)
+        (λ told. told.total) (map (λ name. name.now) names.now) s (F.source_state files.new)
+        (W.account writer.old) (W.account writer.new) result) }
 {
     let mut total = NOTHING;
-    let mut text = Vec::new(alloc);
     for name in names {
         let reviewed = review_file(alloc, kind, form, asked, name, files)?;
+        put_bytes(writer, &reviewed.text)?;
         total = with_review(total, &reviewed);
-        text.extend_from_slice(&reviewed.text)?;
     }
-    Ok(FileReport { total, text })
+    Ok(total)
 }
 
-/// The response: the reviews of the files of these names, and then their total, which says the time
-/// zone by its rule. A file that cannot be reviewed has its fault, and the next is reviewed all the same.
-pub fn review_files<F: Files>(
+/// Writes the reviews of the files of these names, and then their total, which says the time zone by
+/// its rule. Returns the status. A file that cannot be reviewed has its fault, and the next is
+/// reviewed all the same; after a failed write no file is read.
+pub fn review_files<F: Files, W: Sink>(
     alloc: Global,
     kind: ReviewKind,
     form: Form,
@@ -270,31 +272,39 @@ pub fn review_files<F: Files>(
     asked: &ReviewOptions<'_>,
     names: &[&str],
     files: &mut F,
-) -> Result<Response, AllocError>
-    ensures { IfTells (F.source_state files.old) (λ s. IfOk result (λ r.
-        ReviewsFiles kind form rule.now (asking_of asked.entry.now) (map (λ name. name.now) names.now) s
-        (F.source_state files.new) (response r))) }
+    writer: &mut W,
+) -> u8
+    requires { NoneFailed (W.account writer.old) }
+    ensures { IfTells (F.source_state files.old) (λ s. WritesAnswer
+        (ReviewsFiles kind form rule.now (asking_of asked.entry.now)
+        (map (λ name. name.now) names.now) s (F.source_state files.new))
+        (W.account writer.old) (W.account writer.new) result) }
 {
-    let told = tell_files(alloc, kind, form, asked, names, files)?;
-    let line = total_line(alloc, form, kind_name(kind), rule, asked, &told.total)?;
-    let status = total_status(&told.total);
-    let mut text = told.text;
-    text.extend_from_slice(&line)?;
-    Ok(Response::new(status, text))
+    match tell_files(alloc, kind, form, asked, names, files, writer) {
+        Ok(total) => {
+            let status = total_status(&total);
+            put_total(alloc, kind, form, rule, asked, &total, status, writer)
+        }
+        Err(Stop::Memory) => put_no_memory(writer),
+        Err(Stop::Write) => FAULT,
+    }
 }
 
-/// The response to `review`, where the option for the zone has been read; `None` where its text is
-/// no zone.
+/// Writes the answer to `review`, where the option for the zone has been read; `None` where its text
+/// is no zone. After an `Err` nothing was written.
 #[tactic(auto, unfolding(crate::specs::Spelled::review_spelled))]
-fn review_in_zone<F: Files>(
+fn review_in_zone<F: Files, W: Sink>(
     alloc: Global,
     words: &Args<'_>,
     zone: Option<TimeZone<'static>>,
     files: &mut F,
-) -> Result<Response, CommandError>
-    ensures { IfTells (F.source_state files.old) (λ s. IfAnswered result (λ r.
-        ReviewsInZone (rows_in words.now) (option_map plain_zone zone.entry) s
-        (F.source_state files.new) r)) }
+    writer: &mut W,
+) -> Result<u8, CommandError>
+    requires { NoneFailed (W.account writer.old) }
+    ensures untouched { OnErr result (W.account writer.new ≡ W.account writer.old) }
+    ensures told { IfTells (F.source_state files.old) (λ s. IfWritten (W.account writer.old)
+        (W.account writer.new) result (λ r. ReviewsInZone (rows_in words.now)
+        (option_map plain_zone zone.entry) s (F.source_state files.new) r)) }
 {
     let kind = review_kind(words)?;
     let now = words.number(ArgName::Now)?;
@@ -313,19 +323,25 @@ fn review_in_zone<F: Files>(
         told: &told,
     };
     let key = words.given(ArgName::Key);
-    review_for(alloc, kind, form, rule, &asked, names, key, files)
+    Ok(review_for(alloc, kind, form, rule, &asked, names, key, files, writer))
 }
 
-/// The response to `review`. The values of the options are read first, then the file of `--key` if
-/// it names one, then the files in their order.
-pub fn respond_review<F: Files>(
+/// Writes the answer to `review`, and returns the status. The values of the options are read first,
+/// then the file of `--key` if it names one, then the files in their order.
+pub fn answer_review<F: Files, W: Sink>(
     alloc: Global,
     words: &Args<'_>,
     files: &mut F,
-) -> Result<Response, CommandError>
-    ensures { IfTells (F.source_state files.old) (λ s. IfAnswered result (λ r.
-        RespondsToReview (rows_in words.now) s (F.source_state files.new) r)) }
+    writer: &mut W,
+) -> u8
+    requires { NoneFailed (W.account writer.old) }
+    ensures { IfTells (F.source_state files.old) (λ s. WritesAnswer
+        (RespondsToReview (rows_in words.now) s (F.source_state files.new))
+        (W.account writer.old) (W.account writer.new) result) }
 {
     let zone = zone_of(given_rule(words));
-    review_in_zone(alloc, words, zone, files)
+    match review_in_zone(alloc, words, zone, files, writer) {
+        Ok(status) => status,
+        Err(fault) => put_made(writer, respond_fault(alloc, fault)),
+    }
 }

@@ -1,7 +1,10 @@
-use Rattle.ssh_program.proofs.Imports.{drop, map, asking_of, Leads, IfTells, no_lines, telling_review, with_file}
+use Rattle.ssh_program.proofs.Imports.{drop, map, asking_of, IfTells, NoneFailed, no_lines, telling_review, with_file}
+use Rattle.ssh_program.proofs.StreamLemmas.{WrittenSoFar}
 use Rattle.ssh_program.proofs.review.tell_files.Given as goal
 
 abbrev pub invariant-loop-name : goal.invariant-loop-name
 invariant-loop-name g l =
-    IfTells (g.F.Files.source_state l.fn.files) (λ s. Leads with_file (telling_review l.kind l.form (asking_of l.asked)) no_lines (map (λ name. name.now) l.names) s
-    (map (λ name. name.now) (drop l.name-index l.names)) (g.F.Files.source_state l.files) (record { total = l.total; text = l.text.items }))
+    NoneFailed (g.W.Sink.account l.writer)
+    × IfTells (g.F.Files.source_state l.fn.files) (λ s. WrittenSoFar with_file (telling_review l.kind l.form (asking_of l.asked)) no_lines (λ told. told.text) (λ told. told.total)
+    (map (λ name. name.now) l.names) (map (λ name. name.now) (drop l.name-index l.names)) s (g.F.Files.source_state l.files)
+    (g.W.Sink.account l.fn.writer) (g.W.Sink.account l.writer) l.total)

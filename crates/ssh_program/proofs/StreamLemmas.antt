@@ -1,0 +1,241 @@
+-- Texts that are written one after the other, and the answers that were written.
+use Rattle.ssh_program.proofs.Imports.{◌≡◌, ◌<◌, ◌⊎◌, ◌∙◌, ◌++◌, ℕ, most_failures, List, [], ◌∷◌, Option, Some, None, Result, Ok, Err, ap, sym, refl, subst, inl, inr, IfOk, append-nil, append_assoc, IfTells, SourceState, TellsFile, TellsFiles, Alike, Leads, files_same, leads_end, leads_next, Account, Breaks, TakesAll, WritesResponse, CommandError, Usage, Value, IsToldAs, IfAnswered, response}
+use Rattle.ssh_files.proofs.TurnLemmas.{leads_begin}
+use Rattle.ssh_files.specs.FilesInTurn.{Telling}
+use Rattle.ssh_print.specs.declared.response.Response.{Response as Printed}
+use Rattle.ssh_print.specs.Responses.{Response as Shown, out_of_memory}
+use Rattle.ssh_program.specs.declared.command.CommandError.TheVariants.{Memory}
+use Rattle.ssh_program.specs.declared.streaming.Stop.TheVariants as stop
+use Rattle.ssh_program.specs.FileReviews.{EndsEarly, TellsFront, TextsWritten}
+use Rattle.ssh_program.specs.Printing.{WritesAnswer, behind}
+use Rattle.ssh_program.specs.Writing.{IfWritten, IsMade}
+use Rattle.ssh_program.proofs.WrittenText.{both_taken, first_broken, nothing_taken, second_broken}
+
+-- ---- answers that were written
+
+-- an answer of one kind is one of another
+pub writes_as : (P Q : Shown → Type 0) (old new : Option Account) (status : ℕ) → ((r : Shown) → P r → Q r) → WritesAnswer P old new status → WritesAnswer Q old new status
+writes_as P Q old new status f (r, inl is, writes) = (r, inl (f r is), writes)
+writes_as P Q old new status f (r, inr memory, writes) = (r, inr memory, writes)
+
+-- the same where the source states its bytes
+pub writes_in : (P Q : SourceState → Shown → Type 0) (o : Option SourceState) (old new : Option Account) (status : ℕ) → ((s : SourceState) (r : Shown) → P s r → Q s r)
+    → IfTells o (λ s. WritesAnswer (P s) old new status) → IfTells o (λ s. WritesAnswer (Q s) old new status)
+writes_in P Q None old new status f h = tt
+writes_in P Q (Some s) old new status f h = λ counts. writes_as (P s) (Q s) old new status (f s) (h counts)
+
+-- that memory could not be allocated is an answer of each kind
+pub writes_memory : (P : SourceState → Shown → Type 0) (o : Option SourceState) (old new : Option Account) (status : ℕ) → WritesResponse old new out_of_memory status
+    → IfTells o (λ s. WritesAnswer (P s) old new status)
+writes_memory P None old new status writes = tt
+writes_memory P (Some s) old new status writes = λ counts. (out_of_memory, inr refl, writes)
+
+-- a response behind a text that was taken
+pub written_behind : (old mid new : Option Account) (text : List ℕ) (r : Shown) (status : ℕ) → TakesAll old mid text → WritesResponse mid new r status → WritesResponse old new (behind text r) status
+written_behind old mid new text r status taken (inl (all, same)) = inl (both_taken old mid new text r.text taken all, same)
+written_behind old mid new text r status taken (inr (breaks, two)) = inr (second_broken old mid new text r.text taken breaks, two)
+
+-- ---- what was made in memory
+
+made-as : {E : Type 0} (P : Shown → Type 0) (made : Result Printed E) (old new : Option Account) (status : ℕ) → IfOk made (λ r. P (response r))
+    → (r : Shown) × IsMade made r × WritesResponse old new r status → WritesAnswer P old new status
+made-as P (Ok x) old new status h (r, is, writes) = (r, inl (subst P (sym is) h), writes)
+made-as P (Err e) old new status h (r, is, writes) = (r, inr is, writes)
+
+-- what was made is written
+pub writes_made : {E : Type 0} (P : SourceState → Shown → Type 0) (o : Option SourceState) (made : Result Printed E) (old new : Option Account) (status : ℕ)
+    → IfTells o (λ s. IfOk made (λ r. P s (response r))) → (r : Shown) × IsMade made r × WritesResponse old new r status → IfTells o (λ s. WritesAnswer (P s) old new status)
+writes_made P None made old new status h writes = tt
+writes_made P (Some s) made old new status h writes = λ counts. made-as (P s) made old new status (h counts) writes
+
+-- the response to a request is written
+pub writes_response : (P : SourceState → Shown → Type 0) (o : Option SourceState) (r : Printed) (old new : Option Account) (status : ℕ) → IfTells o (λ s. IfAnswered (Ok r) (P s))
+    → WritesResponse old new (response r) status → IfTells o (λ s. WritesAnswer (P s) old new status)
+writes_response P None r old new status h writes = tt
+writes_response P (Some s) r old new status h writes = λ counts. (response r, inl (h counts), writes)
+
+fault-as : {E : Type 0} (P : Shown → Type 0) (fault : CommandError) (made : Result Printed E) (old new : Option Account) (status : ℕ) → IfAnswered (Err fault) P
+    → IfOk made (λ r. IsToldAs fault (response r)) → (r : Shown) × IsMade made r × WritesResponse old new r status → WritesAnswer P old new status
+fault-as P fault (Err e) old new status h told (r, is, writes) = (r, inr is, writes)
+fault-as P Usage (Ok x) old new status h told (r, is, writes) = (r, inl (subst P (sym (is ∙ told)) h), writes)
+fault-as P (Value o) (Ok x) old new status h told (r, is, writes) = (r, inl (subst P (sym (is ∙ told)) h), writes)
+fault-as P Memory (Ok x) old new status h told writes = absurd told
+
+-- the response to an error is written
+pub writes_fault : {E : Type 0} (P : SourceState → Shown → Type 0) (o : Option SourceState) (fault : CommandError) (made : Result Printed E) (old new : Option Account) (status : ℕ)
+    → IfTells o (λ s. IfAnswered (Err fault) (P s)) → IfOk made (λ r. IsToldAs fault (response r)) → (r : Shown) × IsMade made r × WritesResponse old new r status
+    → IfTells o (λ s. WritesAnswer (P s) old new status)
+writes_fault P None fault made old new status h told writes = tt
+writes_fault P (Some s) fault made old new status h told writes = λ counts. fault-as (P s) fault made old new status (h counts) told writes
+
+unwritten : (old new : Option Account) (fault : CommandError) (P : Shown → Type 0) → IfWritten old new (Err fault) P → IfAnswered (Err fault) P
+unwritten old new Usage P h = h
+unwritten old new (Value o) P h = h
+unwritten old new Memory P h = tt
+
+-- the same of options that have an error, where nothing was written before
+pub writes_error : {E : Type 0} (P : SourceState → Shown → Type 0) (o : Option SourceState) (fault : CommandError) (made : Result Printed E) (old mid new : Option Account) (status : ℕ)
+    → IfTells o (λ s. IfWritten old mid (Err fault) (P s)) → mid ≡ old → IfOk made (λ r. IsToldAs fault (response r)) → (r : Shown) × IsMade made r × WritesResponse mid new r status
+    → IfTells o (λ s. WritesAnswer (P s) old new status)
+writes_error P None fault made old mid new status h same told writes = tt
+writes_error {E = E} P (Some s) fault made old mid new status h same told writes = λ counts.
+    fault-as (P s) fault made old new status (unwritten old mid fault (P s) (h counts)) told
+    (subst (λ (a : Option Account). (r : Shown) × IsMade made r × WritesResponse a new r status) same writes)
+
+-- ---- files in turn
+
+-- the files at the front were read, and this is what they tell, whichever files are behind them
+pub record ReadSoFar {A B : Type 0} (with : B → A → B) (tells : Telling A) (start : B) (names left : List (List ℕ)) (s : SourceState) (now : Option SourceState) (sofar : B) : Type 0 where
+  pub front : List (List ℕ)
+  pub parts : names ≡ front ++ left
+  pub leads : (unread : List (List ℕ)) → Leads with tells start (front ++ unread) s unread now sofar
+
+-- at first none was read, and nothing was taken
+pub read_first : {A B : Type 0} (with : B → A → B) (tells : Telling A) (start : B) (names : List (List ℕ)) (o : Option SourceState)
+    → IfTells o (λ s. ReadSoFar with tells start names names s o start)
+read_first with tells start names None = tt
+read_first with tells start names (Some s) = λ counts. record {
+  front = [];
+  parts = refl;
+  leads = λ unread. leads_begin with tells start unread (Some s) counts;
+}
+
+read-more : {A B : Type 0} (with : B → A → B) (tells : Telling A) (start : B) (names : List (List ℕ)) (name : List ℕ) (left rest : List (List ℕ)) (s : SourceState)
+    (now next : Option SourceState) (sofar : B) (told : A) (new : B) → s.failures < most_failures → left ≡ name ∷ rest → new ≡ with sofar told
+    → ReadSoFar with tells start names left s now sofar → IfTells now (λ m. TellsFile tells name m next told) → ReadSoFar with tells start names rest s next new
+read-more with tells start names name left rest s now next sofar told new counts is made w file = record {
+  front = w.front ++ name ∷ [];
+  parts = w.parts ∙ (ap (λ (l : List (List ℕ)). w.front ++ l) is ∙ sym (append_assoc w.front (name ∷ []) rest));
+  leads = λ unread.
+      subst (λ (l : List (List ℕ)). Leads with tells start l s unread next new) (sym (append_assoc w.front (name ∷ []) unread))
+      (leads_next with tells start (w.front ++ name ∷ unread) name (name ∷ unread) unread (Some s) now next sofar told new refl made (λ _. w.leads (name ∷ unread)) file counts);
+}
+
+read-all : {A B : Type 0} (with : B → A → B) (tells : Telling A) (start : B) (names left : List (List ℕ)) (s : SourceState) (now : Option SourceState) (sofar : B) → s.failures < most_failures
+    → (w : ReadSoFar with tells start names left s now sofar) → TellsFiles with tells start w.front s now sofar
+read-all with tells start names left s now sofar counts w =
+    subst (λ (l : List (List ℕ)). TellsFiles with tells start l s now sofar) (append-nil w.front)
+    (leads_end with tells start (w.front ++ []) [] (Some s) now sofar refl (λ _. w.leads []) counts)
+
+front-told : {A B : Type 0} (with : B → A → B) (tells : Telling A) (start : B) (names left : List (List ℕ)) (s : SourceState) (now : Option SourceState) (sofar : B) → s.failures < most_failures
+    → ReadSoFar with tells start names left s now sofar → TellsFront with tells start names s sofar
+front-told with tells start names left s now sofar counts w = record {
+  front = w.front;
+  unread = left;
+  parts = w.parts;
+  left = now;
+  chain = read-all with tells start names left s now sofar counts w;
+}
+
+-- ---- texts that were written while the files were read
+
+-- the files at the front were read, the texts of what they tell were taken, and this is kept of it
+abbrev pub WrittenSoFar : {A B K : Type 0} → (B → A → B) → Telling A → B → (B → List ℕ) → (B → K) → List (List ℕ) → List (List ℕ) → SourceState → Option SourceState → Option Account → Option Account → K → Type 0
+WrittenSoFar with tells start text kept names left s now old new k = (sofar : _) × (k ≡ kept sofar) × ReadSoFar with tells start names left s now sofar × TakesAll old new (text sofar)
+
+pub written_first : {A B K : Type 0} (with : B → A → B) (tells : Telling A) (start : B) (text : B → List ℕ) (kept : B → K) (names : List (List ℕ)) (o : Option SourceState) (a : Option Account) → text start ≡ []
+    → IfTells o (λ s. WrittenSoFar with tells start text kept names names s o a a (kept start))
+written_first with tells start text kept names None a none = tt
+written_first with tells start text kept names (Some s) a none = λ counts.
+    (start, refl, read_first with tells start names (Some s) counts, subst (λ (l : List ℕ). TakesAll a a l) (sym none) (nothing_taken a))
+
+-- the next file was read, and its text was taken
+pub written_next : {A B K : Type 0} (with : B → A → B) (tells : Telling A) (start : B) (text : B → List ℕ) (kept : B → K) (names : List (List ℕ)) (name : List ℕ) (left rest : List (List ℕ)) (o now next : Option SourceState)
+    (old mid new : Option Account) (k after : K) (told : A) (part : List ℕ) → left ≡ name ∷ rest → ((sofar : B) → k ≡ kept sofar → after ≡ kept (with sofar told)) → ((sofar : B) → text (with sofar told) ≡ text sofar ++ part)
+    → IfTells o (λ s. WrittenSoFar with tells start text kept names left s now old mid k) → IfTells now (λ m. TellsFile tells name m next told) → TakesAll mid new part
+    → IfTells o (λ s. WrittenSoFar with tells start text kept names rest s next old new after)
+written_next with tells start text kept names name left rest None now next old mid new k after told part is keeps grown h file taken = tt
+written_next with tells start text kept names name left rest (Some s) now next old mid new k after told part is keeps grown h file taken = λ counts.
+    let (sofar, same, read, all) = h counts in (
+      with sofar told,
+      keeps sofar same,
+      read-more with tells start names name left rest s now next sofar told (with sofar told) counts is refl read file,
+      subst (λ (l : List ℕ). TakesAll old new l) (sym (grown sofar)) (both_taken old mid new (text sofar) part all taken),
+    )
+
+-- all were
+pub written_last : {A B K : Type 0} (with : B → A → B) (tells : Telling A) (start : B) (text : B → List ℕ) (kept : B → K) (names left : List (List ℕ)) (o now : Option SourceState)
+    (old new : Option Account) (k : K) → left ≡ [] → IfTells o (λ s. WrittenSoFar with tells start text kept names left s now old new k)
+    → IfTells o (λ s. TextsWritten with tells start text kept names s now old new (Ok k))
+written_last with tells start text kept names left None now old new k none h = tt
+written_last with tells start text kept names left (Some s) now old new k none h = λ counts.
+    let (sofar, same, read, all) = h counts in
+    let whole : names ≡ read.front = read.parts ∙ (ap (λ (l : List (List ℕ)). read.front ++ l) none ∙ append-nil read.front) in
+    (sofar, subst (λ (l : List (List ℕ)). TellsFiles with tells start l s now sofar) (sym whole) (read-all with tells start names left s now sofar counts read), all, same)
+
+-- memory could not be allocated for the next
+pub written_until : {A B K : Type 0} (with : B → A → B) (tells : Telling A) (start : B) (text : B → List ℕ) (kept : B → K) (names left : List (List ℕ)) (o now t : Option SourceState)
+    (old new : Option Account) (k : K) → IfTells o (λ s. WrittenSoFar with tells start text kept names left s now old new k)
+    → IfTells o (λ s. TextsWritten with tells start text kept names s t old new (Err stop.Memory))
+written_until with tells start text kept names left None now t old new k h = tt
+written_until with tells start text kept names left (Some s) now t old new k h = λ counts.
+    let (sofar, same, read, all) = h counts in
+    (sofar, front-told with tells start names left s now sofar counts read, all)
+
+-- the next file was read, and a write failed in its text
+pub written_into : {A B K : Type 0} (with : B → A → B) (tells : Telling A) (start : B) (text : B → List ℕ) (kept : B → K) (names : List (List ℕ)) (name : List ℕ) (left rest : List (List ℕ))
+    (o now next t : Option SourceState) (old mid new : Option Account) (k : K) (told : A) (part : List ℕ) → left ≡ name ∷ rest → ((sofar : B) → text (with sofar told) ≡ text sofar ++ part)
+    → IfTells o (λ s. WrittenSoFar with tells start text kept names left s now old mid k) → IfTells now (λ m. TellsFile tells name m next told) → Breaks mid new part
+    → IfTells o (λ s. TextsWritten with tells start text kept names s t old new (Err stop.Write))
+written_into with tells start text kept names name left rest None now next t old mid new k told part is grown h file breaks = tt
+written_into with tells start text kept names name left rest (Some s) now next t old mid new k told part is grown h file breaks = λ counts.
+    let (sofar, same, read, all) = h counts in
+    let later = read-more with tells start names name left rest s now next sofar told (with sofar told) counts is refl read file in (
+      with sofar told,
+      front-told with tells start names rest s next (with sofar told) counts later,
+      subst (λ (l : List ℕ). Breaks old new l) (sym (grown sofar)) (second_broken old mid new (text sofar) part all breaks),
+    )
+
+-- ---- the answer
+
+-- all that the files tell is answered, or the answer ends early
+abbrev pub TellsInTurn : {A B : Type 0} → (B → A → B) → Telling A → B → (B → List ℕ) → (B → Shown) → List (List ℕ) → SourceState → Option SourceState → Shown → Type 0
+TellsInTurn with tells start text answer names s t r = ((told : _) × TellsFiles with tells start names s t told × (r ≡ answer told)) ⊎ EndsEarly with tells start text names s r
+
+-- a fault of memory behind the texts
+pub stopped_by_memory : {A B K : Type 0} (with : B → A → B) (tells : Telling A) (start : B) (text : B → List ℕ) (kept : B → K) (answer : B → Shown) (names : List (List ℕ)) (o t : Option SourceState)
+    (old mid new : Option Account) (status : ℕ) → IfTells o (λ s. TextsWritten with tells start text kept names s t old mid (Err stop.Memory)) → WritesResponse mid new out_of_memory status
+    → IfTells o (λ s. WritesAnswer (TellsInTurn with tells start text answer names s t) old new status)
+stopped_by_memory with tells start text kept answer names None t old mid new status h writes = tt
+stopped_by_memory with tells start text kept answer names (Some s) t old mid new status h writes = λ counts.
+    let (told, front, taken) = h counts in
+    (behind (text told) out_of_memory, inl (inr (told, front, refl)), written_behind old mid new (text told) out_of_memory status taken writes)
+
+-- a write that failed in the texts
+pub stopped_by_write : {A B K : Type 0} (with : B → A → B) (tells : Telling A) (start : B) (text : B → List ℕ) (kept : B → K) (answer : B → Shown) (names : List (List ℕ)) (o t : Option SourceState)
+    (old new : Option Account) → IfTells o (λ s. TextsWritten with tells start text kept names s t old new (Err stop.Write))
+    → IfTells o (λ s. WritesAnswer (TellsInTurn with tells start text answer names s t) old new 2)
+stopped_by_write with tells start text kept answer names None t old new h = tt
+stopped_by_write with tells start text kept answer names (Some s) t old new h = λ counts.
+    let (told, front, breaks) = h counts in
+    (behind (text told) out_of_memory, inl (inr (told, front, refl)), inr (first_broken old new (text told) (out_of_memory).text breaks, refl))
+
+all-in-turn : {A B : Type 0} (with : B → A → B) (tells : Telling A) (start : B) (text : B → List ℕ) (answer : B → Shown) (names : List (List ℕ)) (s : SourceState) (t : Option SourceState)
+    (old mid new : Option Account) (told : B) (last : Shown) (status : ℕ) → answer told ≡ behind (text told) last → TellsFiles with tells start names s t told → TakesAll old mid (text told)
+    → WritesAnswer (λ r. r ≡ last) mid new status → WritesAnswer (TellsInTurn with tells start text answer names s t) old new status
+all-in-turn with tells start text answer names s t old mid new told last status made chain taken (r, inl is, writes) =
+    (behind (text told) r, inl (inl (told, chain, ap (behind (text told)) is ∙ sym made)), written_behind old mid new (text told) r status taken writes)
+all-in-turn with tells start text answer names s t old mid new told last status made chain taken (r, inr memory, writes) = (
+  behind (text told) r,
+  inl (inr (told, record { front = names; unread = []; parts = sym (append-nil names); left = t; chain = chain }, ap (behind (text told)) memory)),
+  written_behind old mid new (text told) r status taken writes,
+)
+
+-- the last line behind the texts of all files
+pub all_written : {A B K : Type 0} (with : B → A → B) (tells : Telling A) (start : B) (text : B → List ℕ) (kept : B → K) (answer : B → Shown) (last : K → Shown) (names : List (List ℕ))
+    (o t : Option SourceState) (old mid new : Option Account) (k : K) (status : ℕ) → ((told : B) → answer told ≡ behind (text told) (last (kept told)))
+    → IfTells o (λ s. TextsWritten with tells start text kept names s t old mid (Ok k)) → WritesAnswer (λ r. r ≡ last k) mid new status
+    → IfTells o (λ s. WritesAnswer (TellsInTurn with tells start text answer names s t) old new status)
+all_written with tells start text kept answer last names None t old mid new k status made h writes = tt
+all_written with tells start text kept answer last names (Some s) t old mid new k status made h writes = λ counts.
+    let (told, chain, taken, is) = h counts in
+    all-in-turn with tells start text answer names s t old mid new told (last k) status (made told ∙ ap (λ x. behind (text told) (last x)) (sym is)) chain taken writes
+
+-- sources that are alike have the same answers
+pub ends_same : {A B : Type 0} (with : B → A → B) (tells : Telling A) (start : B) (text : B → List ℕ) (names : List (List ℕ)) (a b : SourceState) (r : Shown) → Alike a b
+    → EndsEarly with tells start text names a r → EndsEarly with tells start text names b r
+ends_same with tells start text names a b r e (told, w, is) = (
+  told,
+  record { front = w.front; unread = w.unread; parts = w.parts; left = w.left; chain = files_same with tells start w.front a b w.left told e w.chain },
+  is,
+)

@@ -1,0 +1,14 @@
+use Rattle.ssh_program.proofs.Imports.{List, ℕ, map, asking_of, RespondsTo}
+use Rattle.ssh_program.specs.KeySeeking.{SeeksKey, spelled_fingerprint}
+use Rattle.ssh_program.proofs.AnsweredLemmas.{unspelled_responds}
+use Rattle.ssh_program.proofs.StreamLemmas.{writes_fault}
+use Rattle.ssh_program.proofs.key_seeking.seek_fingerprint.Goals as goal
+
+pub returns-in-Err : goal.returns-in-Err
+returns-in-Err g c =
+    let state = g.F.Files.source_state c.args.files.now in
+    let seeks = SeeksKey c.args.kind c.args.form c.args.rule.now (asking_of c.args.asked.now) (map (λ name. name.now) c.args.names.now) in
+    writes_fault (λ s. RespondsTo seeks (spelled_fingerprint c.args.text.now) s state) state c.in-Err.fault c.respond_fault.result
+    (g.W.Sink.account c.args.writer.now) (g.W.Sink.account c.put_made.new.writer) c.put_made.result
+    (unspelled_responds seeks (λ (fingerprint : List ℕ). fingerprint) (spelled_fingerprint c.args.text.now) c.in-Err.fault state c.in-Err.ensures)
+    c.respond_fault.ensures c.put_made.ensures
