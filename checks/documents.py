@@ -37,7 +37,7 @@ CODE = TOP / "crates" / "ssh_program" / "src"
 TABLE = re.compile(r"^\| Option of `(\w+)` \|.*\n\|[-|]*\|\n((?:\|.*\n)*)", re.MULTILINE)
 OPTION = re.compile(r"^\| `--([\w-]+)` \| .* \| (.*) \|$", re.MULTILINE)
 # What standard error says beside an answer, which a document does not show.
-BESIDE = re.compile(r"ssh_audit: \w+: a file has a fault: ")
+BESIDE = re.compile(r"ssh_audit: (\w+: a file has a fault: |.*: there is no such file$)")
 # Stands after each command's output, with its status.
 MARK = "\x1e"
 
