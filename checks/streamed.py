@@ -26,6 +26,8 @@ DEFAULT = pathlib.Path(program.CRATE) / "out" / "ssh_audit"
 # The least room of a pipe of Linux: pipe(7).
 PIPE_ROOM = 4096
 MANY, FEW, LINES = 2_000, 20, 40
+# How many KiB the names and the system may take of more files. The text of all is some 12,000.
+ROOM = 4096
 
 
 def starts(audit, words, stdout):
@@ -84,7 +86,7 @@ def memory_rows(audit, tally, names):
         (few, text), _, least = cost_of(audit, meter, review(*names[:FEW], key=key, findings="none"))
         (many, long), _, most = cost_of(audit, meter, review(*names, key=key, findings="none"))
         tally.check(f"{MANY} files", (many, long.count(b"\n") - 1), (few, (text.count(b"\n") - 1) * MANY // FEW))
-        tally.check(f"{FEW} files in {least} KiB, {MANY} in {most} KiB", most <= least + 1024, True)
+        tally.check(f"{FEW} files in {least} KiB, {MANY} in {most} KiB, {len(long)} bytes of text", most <= least + ROOM, True)
 
 
 def broken_rows(audit, tally, names):
