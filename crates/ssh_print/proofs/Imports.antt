@@ -34,7 +34,7 @@ pub use Rattle.ssh_print.specs.Denials.{HoldsAnother}
 pub use Rattle.ssh_print.specs.Details.{first_mismatch}
 pub use Rattle.ssh_print.specs.ExplainSamples.{lines_shown, unknown_shown, rows_are_found}
 pub use Rattle.ssh_print.specs.Explaining.{row_text, is_unknown, code_line}
-pub use Rattle.ssh_print.specs.HostOther.{granting_line, is_out_of_memory, line_of_claim}
+pub use Rattle.ssh_print.specs.HostOther.{granting_line, is_out_of_memory}
 pub use Rattle.ssh_print.specs.KnownPossible.{known_possible_lines}
 pub use Rattle.ssh_print.specs.OtherLines.{possible_line}
 pub use Rattle.ssh_print.specs.PassedLines.{line_from, lines_after, passed_lines}
@@ -58,7 +58,7 @@ pub use Rattle.ssh_rules.specs.Verdict.{login_verdict}
 pub use Rattle.ssh_rules.specs.declared.reason.Reason.{Reason}
 pub use Rattle.ssh_text.specs.Text.{lines_of, numbered}
 pub use Rattle.ssh_trust.proofs.CandidateLemmas.{line-of}
-pub use Rattle.ssh_trust.specs.Answer.{GivesOrMemory, OfClaim, host_answer}
+pub use Rattle.ssh_trust.specs.Answer.{GivesOrMemory, host_answer}
 pub use Rattle.ssh_trust.specs.declared.decision.Cause.{Cause}
 pub use Rattle.ssh_trust.specs.declared.decision.Decision.{Decision}
 pub use Rattle.ssh_trust.specs.declared.decision.Decision.TheVariants.{Denied}

@@ -43,13 +43,9 @@ abbrev pub is_out_of_memory : Result Decision AuditError → Bool
 is_out_of_memory (Err Memory) = true
 is_out_of_memory answer = false
 
-abbrev pub line_of_claim : Result HostClaim AuditError → List ℕ → Option ℕ
-line_of_claim (Err e) file = None
-line_of_claim (Ok claim) file = granting_line (host_answer file claim (host_evidence claim))
-
--- the line by which the file trusts a key that is offered with this claim, if all evidence is vouched for
-unfoldable pub trusting_line : HostCheck → List ℕ → Option ℕ
-trusting_line q file = line_of_claim (host_claim q) file
+-- the line by which the file trusts the key of this claim, if all evidence is vouched for
+unfoldable pub trusting_line : HostClaim → List ℕ → Option ℕ
+trusting_line claim file = granting_line (host_answer file claim (host_evidence claim))
 
 abbrev pub trusted_at : WhyPossible → Option ℕ → OtherLines
 trusted_at w None = nothing_other
@@ -58,18 +54,22 @@ trusted_at w (Some n) = record { may_admit = true; text = possible_line Host fal
 abbrev pub without_port : HostCheck → HostCheck
 without_port q = record q { port = 22 }
 
--- The name with a port was not found: ssh looks for the name alone (sshconnect.c, check_host_key).
-abbrev pub port_by : Bool → HostCheck → List ℕ → OtherLines
-port_by true q file = nothing_other
-port_by false q file = trusted_at why.Port (trusting_line (without_port q) file)
+-- the claim of the same key under the name without a port
+abbrev pub claim_without_port : HostClaim → HostClaim
+claim_without_port claim = record claim { query = without_port claim.query }
 
-unfoldable pub port_other : HostCheck → List ℕ → OtherLines
-port_other q file = port_by (q.port == 22) q file
+-- The name with a port was not found: ssh looks for the name alone (sshconnect.c, check_host_key).
+abbrev pub port_by : Bool → HostClaim → List ℕ → OtherLines
+port_by true claim file = nothing_other
+port_by false claim file = trusted_at why.Port (trusting_line (claim_without_port claim) file)
+
+unfoldable pub port_other : HostClaim → List ℕ → OtherLines
+port_other claim file = port_by (claim.query.port == 22) claim file
 
 -- The key is trusted, except for a revocation. ssh passes over a revocation that it cannot read, and counts one only
 -- for the hosts that it names (hostfile.c, hostkeys_foreach_file).
 unfoldable pub revoked_other : HostClaim → List ℕ → OtherLines
-revoked_other claim file = trusted_at why.Revocation (trusting_line claim.query (claim_counted claim file))
+revoked_other claim file = trusted_at why.Revocation (trusting_line claim (claim_counted claim file))
 
 -- the line that trusts the key except for a revocation, if no line trusts it as it is
 abbrev pub revoked_beside : Option ℕ → HostClaim → List ℕ → OtherLines
@@ -77,12 +77,18 @@ revoked_beside (Some n) claim file = nothing_other
 revoked_beside None claim file = revoked_other claim file
 
 -- by the lines that cannot be read here, and by revocations that ssh may pass over
-abbrev pub claim_beside : Option ℕ → Result HostClaim AuditError → List ℕ → OtherLines
-claim_beside line (Err e) file = nothing_other
-claim_beside line (Ok claim) file = other_both (known_other claim file) (revoked_beside line claim file)
+unfoldable pub claim_beside : Option ℕ → HostClaim → List ℕ → OtherLines
+claim_beside line claim file = other_both (known_other claim file) (revoked_beside line claim file)
 
-unfoldable pub check_beside : Option ℕ → HostCheck → List ℕ → OtherLines
-check_beside line q file = claim_beside line (host_claim q) file
+-- the line that trusts the key, and what is beside it; nothing of a key whose offer is refused
+abbrev pub plain_claimed : Result HostClaim AuditError → List ℕ → OtherLines
+plain_claimed (Err e) file = nothing_other
+plain_claimed (Ok claim) file =
+    let line = trusting_line claim file in
+    other_both (trusted_at why.PlainKey line) (claim_beside line claim file)
+
+unfoldable pub plain_trusted : HostCheck → List ℕ → OtherLines
+plain_trusted q file = plain_claimed (host_claim q) file
 
 abbrev pub plain_check : HostClaim → HostCheck
 plain_check claim = record (claim.query) { offered = key_blob (plain_key claim.offer) }
@@ -90,9 +96,7 @@ plain_check claim = record (claim.query) { offered = key_blob (plain_key claim.o
 -- without an authority for a certificate, ssh looks for the plain key in it (sshconnect.c, check_host_key)
 abbrev pub plain_by : Bool → HostClaim → List ℕ → OtherLines
 plain_by false claim file = nothing_other
-plain_by true claim file =
-    let line = trusting_line (plain_check claim) file in
-    other_both (trusted_at why.PlainKey line) (check_beside line (plain_check claim) file)
+plain_by true claim file = plain_trusted (plain_check claim) file
 
 unfoldable pub plain_other : HostClaim → List ℕ → OtherLines
 plain_other claim file = plain_by (is_certified claim.offer) claim file
@@ -133,7 +137,7 @@ revoked_line_at (Some n) = numbered_line revoked_words n
 unfoldable pub granted_other : HostClaim → List ℕ → ℕ → OtherLines
 granted_other claim file n = record {
   may_admit = false;
-  text = refused_line_at n (trusting_line claim.query (file_firm file))
+  text = refused_line_at n (trusting_line claim (file_firm file))
       ++ revoked_line_at (claim_revoking claim file);
 }
 
@@ -144,9 +148,8 @@ unfoldable pub claim_other : HostClaim → List ℕ → Decision → OtherLines
 claim_other claim file (Granted line rights reasons evidence) = granted_other claim file line
 claim_other claim file (Denied why reasons evidence) =
     other_both (other_both (known_other claim file) (revoked_other claim file))
-    (other_both (port_other claim.query file) (plain_other claim file))
+    (other_both (port_other claim file) (plain_other claim file))
 
--- after the details of the decision; there is none on a refused offer
-abbrev pub other_host : Result HostClaim AuditError → List ℕ → Decision → OtherLines
-other_host (Err e) file decision = nothing_other
-other_host (Ok claim) file decision = other_both (told_other (host_details claim file decision)) (claim_other claim file decision)
+-- after the details of the decision
+abbrev pub other_host : HostClaim → List ℕ → Decision → OtherLines
+other_host claim file decision = other_both (told_other (host_details claim file decision)) (claim_other claim file decision)

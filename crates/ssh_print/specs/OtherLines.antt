@@ -1,6 +1,6 @@
 -- What is printed beside the answer on an authorized_keys file: the lines by which OpenSSH may decide differently (this
 -- project's rule). Each ends with an LF.
-use Rattle.std.specs.Prelude.{ℕ, nat_lt, Bool, true, false, ◌||◌, if◌then◌else◌, List, [], ◌++◌, length, take, codes, is_some, Option, Some, None, Result, Ok, Err}
+use Rattle.std.specs.Prelude.{ℕ, nat_lt, Bool, true, false, ◌||◌, if◌then◌else◌, List, [], ◌++◌, length, take, codes, is_some, Option, Some, None}
 use Rattle.std.specs.List.{flat_map}
 use Rattle.std.specs.Fmt.{decimal}
 use Rattle.ssh_text.specs.Text.{lines_of, numbered}
@@ -10,7 +10,6 @@ use Rattle.ssh_findings.specs.declared.openssh.Ground.{Ground}
 use Rattle.ssh_findings.specs.Ground.{ground_word}
 use Rattle.ssh_findings.specs.EntryFindings.{is_security_key}
 use Rattle.ssh_findings.specs.OpenSsh.{all_grounds, has_ground, has_plain_principals, may_refuse}
-use Rattle.ssh_offers.specs.declared.claim.AuditError.{AuditError}
 use Rattle.ssh_offers.specs.LoginClaim.{LoginClaim}
 use Rattle.ssh_offers.specs.Offer.{plain_key}
 use Rattle.ssh_print.specs.DecisionText.{rights_lines}
@@ -171,7 +170,6 @@ login_other claim file (Denied why reasons evidence) =
 abbrev pub told_other : List ℕ → OtherLines
 told_other text = record { may_admit = false; text = text }
 
--- after the details of the decision; there is none on a refused offer
-abbrev pub other_login : Result LoginClaim AuditError → List ℕ → Decision → OtherLines
-other_login (Err e) file decision = nothing_other
-other_login (Ok claim) file decision = other_both (told_other (login_details claim file decision)) (login_other claim file decision)
+-- after the details of the decision
+abbrev pub other_login : LoginClaim → List ℕ → Decision → OtherLines
+other_login claim file decision = other_both (told_other (login_details claim file decision)) (login_other claim file decision)

@@ -1,7 +1,7 @@
 //! Laws of the definitions, and worked examples. The check proves what each function ensures; no
 //! code calls them.
 
-ghost use Rattle.std.specs.Prelude.{◌≡◌, ◌++◌, ℕ, List, None, Some, false, slice_get};
+ghost use Rattle.std.specs.Prelude.{◌≡◌, ◌++◌, ℕ, List, None, Ok, Some, false, slice_get};
 ghost use Rattle.sha2.specs.Sha256.{sha256};
 ghost use Rattle.ssh_print.specs.Strings.{json_text, read_string};
 ghost use Rattle.ssh_print.specs.Texts.{escaped_text};
@@ -12,8 +12,10 @@ ghost use Rattle.ssh_entries.specs.AuthEntry.{AuthEntry};
 ghost use Rattle.ssh_entries.specs.AuthGrammar.{auth_line};
 ghost use Rattle.ssh_entries.specs.declared.auth_line.AuthLine.TheVariants.{Unreadable};
 ghost use Rattle.ssh_keys.specs.PublicKey.{PublicKey, key_blob};
+ghost use Rattle.ssh_offers.specs.HostClaim.{HostClaim, host_claim};
 ghost use Rattle.ssh_offers.specs.LoginClaim.{LoginClaim};
 ghost use Rattle.ssh_offers.specs.Offer.{plain};
+ghost use Rattle.ssh_offers.specs.Query.{HostCheck};
 ghost use Rattle.ssh_offers.specs.declared.claim.Signed.{Signed};
 ghost use Rattle.ssh_options.specs.declared.option_text.LineCause.{LineCause};
 ghost use Rattle.ssh_rules.specs.declared.reason.Reason.{Reason};
@@ -24,6 +26,7 @@ ghost use Rattle.ssh_trust.specs.declared.decision.Decision.TheVariants.{Denied}
 ghost use Rattle.ssh_trust.specs.LoginDecision.{IsCandidate};
 ghost use Rattle.ssh_print.specs.Denials.{HoldsAnother};
 ghost use Rattle.ssh_print.specs.FingerprintKeys.{IsFirstHeld, found_key};
+ghost use Rattle.ssh_print.specs.HostOther.{claim_without_port, without_port};
 ghost use Rattle.ssh_print.specs.OtherLines.{login_other};
 ghost use Rattle.ssh_print.specs.PassedLines.{ComeInOrder, Compared, line_from, passed_line, passed_lines};
 ghost use Rattle.ssh_print.specs.PossibleLines.{sought_blob};
@@ -55,6 +58,14 @@ fn unread_rule()
         → slice_get (lines_of file) i ≡ Some line
         → auth_line line ≡ Unreadable cause
         → HoldsAnother line (sought_blob claim) }
+{}
+
+/// A host's key that is looked for under the name without its port makes the claim that was read, but
+/// for the port: no test of an offer looks at it.
+fn port_rule()
+    ensures { (q : HostCheck) (claim : HostClaim)
+        → host_claim q ≡ Ok claim
+        → host_claim (without_port q) ≡ Ok (claim_without_port claim) }
 {}
 
 /// Reasons that come in the order of their lines are each printed with the line of their number.

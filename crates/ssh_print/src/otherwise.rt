@@ -1,13 +1,12 @@
 //! What is printed beside the answer on an authorized_keys file: the lines by which OpenSSH may
 //! decide differently.
 
-ghost use Rattle.std.specs.Prelude.{◌≡◌, ◌++◌, ◌<◌, ◌^◌, IfOk, OnOk, length, take};
+ghost use Rattle.std.specs.Prelude.{◌≡◌, ◌++◌, IfOk, OnOk, take};
 ghost use Rattle.std.specs.List.{flat_map};
 ghost use Rattle.ssh_keys.specs.KeyOf.{key_of};
 ghost use Rattle.ssh_keys.specs.PublicKey.{kind_of};
 ghost use Rattle.ssh_findings.specs.OpenSsh.{has_plain_principals};
-ghost use Rattle.ssh_offers.specs.LoginClaim.{login_claim};
-ghost use Rattle.ssh_offers.specs.Query.{login_of};
+ghost use Rattle.ssh_offers.specs.ClaimViews.{claim_of};
 ghost use Rattle.ssh_print.specs.OtherLines.{ground_text, decides_line, decides_lines, decides_words, deeper_rights, grounds_text, ignored_at, ignored_other, login_other, line_word, may_words, more_line, nothing_other, order_word, other_both, other_cause, other_login, otherwise_seen, told_other, possible_line, possible_other, possible_text, principals_word, refused_lines, refused_other, then_lines, untold_other};
 
 use crate::admission_text::Subject;
@@ -18,7 +17,7 @@ use crate::possible::{WhyPossible, possible_lines, untold_lines};
 use crate::shown_needs::is_security_key;
 use crate::text::push_number;
 use ssh_findings::{Facts, Ground, has_ground, may_refuse};
-use ssh_offers::{LoginClaimView, LoginQuery};
+use ssh_offers::LoginClaimView;
 use ssh_rights::Rights;
 use ssh_rules::LoginMatcher;
 use ssh_trust::{Cause, Decision};
@@ -430,25 +429,18 @@ fn other_of(
 /// also has the line that decides in that case.
 pub fn other_login(
     alloc: Global,
-    query: &LoginQuery<'_>,
+    claim: &LoginClaimView<'_>,
     file: &[u8],
     decision: &Decision,
 ) -> Result<Otherwise, AllocError>
-    requires session { length query.now.session.now < 2 ^ 32 }
-    requires user { length query.now.user.now < 2 ^ 32 }
     ensures { IfOk result (λ other. otherwise_seen other
-        ≡ other_login (login_claim (login_of query.entry.now)) file.now decision.now) }
+        ≡ other_login (claim_of claim.entry.now) file.now decision.now) }
 {
-    match LoginClaimView::read(query) {
-        Err(_) => Ok(nothing_other(alloc)),
-        Ok(claim) => {
-            let matcher = LoginMatcher::new(alloc, &claim)?;
-            let details = login_details(alloc, &matcher, file, decision)?;
-            let more = other_of(alloc, &matcher, file, decision)?;
-            let other = other_both(told_other(details), &more)?;
-            Ok(other)
-        }
-    }
+    let matcher = LoginMatcher::new(alloc, claim)?;
+    let details = login_details(alloc, &matcher, file, decision)?;
+    let more = other_of(alloc, &matcher, file, decision)?;
+    let other = other_both(told_other(details), &more)?;
+    Ok(other)
 }
 
 /// What is printed after a denial of a key that no line of an authorized_keys file holds: the first

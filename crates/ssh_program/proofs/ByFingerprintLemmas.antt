@@ -1,8 +1,9 @@
 -- From the key that is found in a trust file to what a list of files tells of its fingerprint, and from that to the response.
-use Rattle.ssh_program.proofs.Imports.{◌≡◌, ◌∙◌, cond, ℕ, Bool, true, false, List, length, nat_lt, Option, Some, None, option_map, Result, Ok, Err, ok_or, refl, sym, ap, subst, inl, inr, IfOk, lt-ltb, IfTells, SourceState, bytes_at, after_whole, FailsLoad, IsLeft, IsTooLong, KeepsOthers, within_limit, ReadError, TellsFile, TellsFiles, Alike, files_same, left-end, left-none, no-end, none-failed, over_limit, read-all, file_limit, Address, FileTooLong, refused_response, Login, login_claim, login_by, login_rests, other_login, Offered, found_key, offered_key, ToldLines, told_both, nothing_told, told_response, Row, TimeZone, RespondsTo, CommandError, IfAnswered, AsksBy, AsksFiles, AsksKey, AdmitsAt, key_place, AsksFingerprint, AsksFound, ClientOptions, IsUnreadFile, client_asks, client_form, client_login, fingerprint_telling, fingerprint_told, told_alone, told_alone_by, told_fault, told_found}
+use Rattle.ssh_program.proofs.Imports.{◌≡◌, ◌∙◌, cond, ℕ, Bool, true, false, List, length, nat_lt, Option, Some, None, option_map, Result, Ok, Err, ok_or, refl, sym, ap, subst, inl, inr, IfOk, lt-ltb, IfTells, SourceState, bytes_at, after_whole, FailsLoad, IsLeft, IsTooLong, KeepsOthers, within_limit, ReadError, TellsFile, TellsFiles, Alike, files_same, left-end, left-none, no-end, none-failed, over_limit, read-all, file_limit, Address, FileTooLong, refused_response, AuditError, LoginClaim, login_claim, login_evidence, decided_by, evidence_by, login_by, login_rests, beside_by, other_login, Offered, found_key, offered_key, ToldLines, told_both, nothing_told, told_response, Row, TimeZone, RespondsTo, CommandError, IfAnswered, AsksBy, AsksFiles, AsksKey, AdmitsAt, key_place, AsksFingerprint, AsksFound, ClientOptions, IsUnreadFile, client_asks, client_form, client_login, fingerprint_telling, fingerprint_told, told_alone, told_alone_by, told_fault, told_found}
 use Rattle.ssh_files.specs.declared.read.ReadError.TheVariants as fault
 use Rattle.ssh_patterns.specs.declared.address.Address.{Address as AddressValue}
 use Rattle.ssh_patterns.specs.AddressReading.{address_of}
+use Rattle.ssh_trust.specs.LoginDecision.{login_decision}
 use Rattle.ssh_print.specs.declared.response.Response.{Response as Printed}
 use Rattle.ssh_print.specs.Responses.{Response as Shown}
 use Rattle.ssh_program.specs.declared.admission.AnswerForm.{AnswerForm}
@@ -16,25 +17,25 @@ use Rattle.ssh_program.proofs.AnsweredLemmas.{spelled_same}
 
 -- ---- the question about an offer
 
--- the files were asked about the login that offers it
-pub client_asked : {R E : Type 0} (view : R → Shown) (c : ClientOptions) (offer : Offered) (who : AnswerForm) (at : Asked) (q : Login) (names : List (List ℕ)) (o t : Option SourceState) (res : Result R E)
-    → who ≡ client_form c.form → at ≡ client_moment c → q ≡ client_login c offer
-    → IfTells o (λ s. IfOk res (λ r. AsksBy who at (login_by q) (other_login (login_claim q)) (login_rests q) names s t (view r)))
+-- the files were asked about the claim of the login that offers it
+pub client_asked : {R E : Type 0} (view : R → Shown) (c : ClientOptions) (offer : Offered) (who : AnswerForm) (at : Asked) (claimed : Result LoginClaim AuditError) (names : List (List ℕ)) (o t : Option SourceState) (res : Result R E)
+    → who ≡ client_form c.form → at ≡ client_moment c → claimed ≡ login_claim (client_login c offer)
+    → IfTells o (λ s. IfOk res (λ r. AsksBy who at (decided_by login_decision claimed) (beside_by other_login claimed) (evidence_by login_evidence claimed) names s t (view r)))
     → IfTells o (λ s. IfOk res (λ r. AsksFiles (client_asks c offer) names s t (view r)))
-client_asked view c offer who at q names o t res is when same h =
-    let of_login = subst (λ (x : Login). IfTells o (λ s. IfOk res (λ r. AsksBy who at (login_by x) (other_login (login_claim x)) (login_rests x) names s t (view r)))) same h in
-    let asked = client_login c offer in
-    let of_moment = subst (λ (a : Asked). IfTells o (λ s. IfOk res (λ r. AsksBy who a (login_by asked) (other_login (login_claim asked)) (login_rests asked) names s t (view r)))) when of_login in
-    subst (λ (w : AnswerForm). IfTells o (λ s. IfOk res (λ r. AsksBy w (client_moment c) (login_by asked) (other_login (login_claim asked)) (login_rests asked) names s t (view r)))) is of_moment
+client_asked view c offer who at claimed names o t res is when same h =
+    let q = client_login c offer in
+    let of_claim = subst (λ (x : Result LoginClaim AuditError). IfTells o (λ s. IfOk res (λ r. AsksBy who at (decided_by login_decision x) (beside_by other_login x) (evidence_by login_evidence x) names s t (view r)))) same h in
+    let of_moment = subst (λ (a : Asked). IfTells o (λ s. IfOk res (λ r. AsksBy who a (login_by q) (beside_by other_login (login_claim q)) (login_rests q) names s t (view r)))) when of_claim in
+    subst (λ (w : AnswerForm). IfTells o (λ s. IfOk res (λ r. AsksBy w (client_moment c) (login_by q) (beside_by other_login (login_claim q)) (login_rests q) names s t (view r)))) is of_moment
 
 -- a file told of it
-pub offered_told : (c : ClientOptions) (offer : Offered) (who : AnswerForm) (q : Login) (name file : List ℕ) (told : ToldLines)
-    → who ≡ client_form c.form → q ≡ client_login c offer
-    → told ≡ told_alone_by who (login_by q) (other_login (login_claim q)) (login_rests q) name file → told ≡ told_alone (client_asks c offer) name file
-offered_told c offer who q name file told is same h =
+pub offered_told : (c : ClientOptions) (offer : Offered) (who : AnswerForm) (claimed : Result LoginClaim AuditError) (name file : List ℕ) (told : ToldLines)
+    → who ≡ client_form c.form → claimed ≡ login_claim (client_login c offer)
+    → told ≡ told_alone_by who (decided_by login_decision claimed) (beside_by other_login claimed) (evidence_by login_evidence claimed) name file → told ≡ told_alone (client_asks c offer) name file
+offered_told c offer who claimed name file told is same h =
     h
-    ∙ (ap (λ (w : AnswerForm). told_alone_by w (login_by q) (other_login (login_claim q)) (login_rests q) name file) is
-    ∙ ap (λ (x : Login). told_alone_by (client_form c.form) (login_by x) (other_login (login_claim x)) (login_rests x) name file) same)
+    ∙ (ap (λ (w : AnswerForm). told_alone_by w (decided_by login_decision claimed) (beside_by other_login claimed) (evidence_by login_evidence claimed) name file) is
+    ∙ ap (λ (x : Result LoginClaim AuditError). told_alone_by (client_form c.form) (decided_by login_decision x) (beside_by other_login x) (evidence_by login_evidence x) name file) same)
 
 -- ---- one file
 

@@ -1,5 +1,5 @@
 -- A run of `admits --fingerprint` that ends with status 0 has a line that lets in the key that its file holds; one that ends with status 1 has none.
-use Rattle.ssh_program.proofs.Imports.{◌≡◌, ◌<◌, ◌+◌, ◌∙◌, cond, ℕ, Bool, true, false, List, length, nat_lt, Option, Some, None, option_map, Result, Ok, Err, refl, sym, subst, inl, inr, arith, IfTells, SourceState, most_failures, zone_text, ReadsZone, Row, TimeZone, Response, Account, source_of, RespondsTo, given, names_needed, value, AuditError, FileTooLong, Login, LoginClaim, login_claim, login_evidence, file_limit, other_login, TellsFiles, ToldLines, told_both, nothing_told, status_of, decided_by, evidence_by, Admits, FingerprintAsked, AsksFingerprint, AsksFound, ClientOptions, client_form, client_login, client_spelled, fingerprint_telling, fingerprint_told, found_key, offered_key, told_alone_by, told_fault, told_found}
+use Rattle.ssh_program.proofs.Imports.{◌≡◌, ◌<◌, ◌+◌, ◌∙◌, cond, ℕ, Bool, true, false, List, length, nat_lt, Option, Some, None, option_map, Result, Ok, Err, refl, sym, subst, inl, inr, arith, IfTells, SourceState, most_failures, zone_text, ReadsZone, Row, TimeZone, Response, Account, source_of, RespondsTo, given, names_needed, value, AuditError, FileTooLong, Login, LoginClaim, login_claim, login_evidence, file_limit, beside_by, other_login, TellsFiles, ToldLines, told_both, nothing_told, status_of, decided_by, evidence_by, Admits, FingerprintAsked, AsksFingerprint, AsksFound, ClientOptions, client_form, client_login, client_spelled, fingerprint_telling, fingerprint_told, found_key, offered_key, told_alone_by, told_fault, told_found}
 use Rattle.ssh_keys.specs.PublicKey.{PublicKey}
 use Rattle.ssh_patterns.specs.declared.address.Address.{Address as AddressValue}
 use Rattle.ssh_patterns.specs.AddressReading.{address_of}
@@ -19,16 +19,16 @@ use Rattle.ssh_program.proofs.SpelledBytes.{ok-same, step-any, step-gives}
 -- ---- what a file decides
 
 alone-grants : (client : ClientOptions) (q : Login) (name file : List ℕ) (x : Result LoginClaim AuditError) → login_claim q ≡ x
-    → (told_alone_by (client_form client.form) (decided_by login_decision x) (other_login x) (evidence_by login_evidence x) name file).outcome ≡ Grants
+    → (told_alone_by (client_form client.form) (decided_by login_decision x) (beside_by other_login x) (evidence_by login_evidence x) name file).outcome ≡ Grants
     → (claim : LoginClaim) × (login_claim q ≡ Ok claim) × LetsIn claim file
 alone-grants client q name file (Err e) is h = cc
-alone-grants client q name file (Ok claim) is h = (claim, is, (tells-grants (client_form client.form) (other_login (Ok claim)) claim).some name file h)
+alone-grants client q name file (Ok claim) is h = (claim, is, (tells-grants (client_form client.form) (other_login claim) claim).some name file h)
 
 alone-denies : (client : ClientOptions) (q : Login) (name file : List ℕ) (x : Result LoginClaim AuditError) → login_claim q ≡ x
-    → (told_alone_by (client_form client.form) (decided_by login_decision x) (other_login x) (evidence_by login_evidence x) name file).outcome ≡ Denies
+    → (told_alone_by (client_form client.form) (decided_by login_decision x) (beside_by other_login x) (evidence_by login_evidence x) name file).outcome ≡ Denies
     → (claim : LoginClaim) × (login_claim q ≡ Ok claim) × KeepsOut claim file
 alone-denies client q name file (Err e) is h = cc
-alone-denies client q name file (Ok claim) is h = (claim, is, (tells-denies (client_form client.form) (other_login (Ok claim)) claim).some name file h)
+alone-denies client q name file (Ok claim) is h = (claim, is, (tells-denies (client_form client.form) (other_login claim) claim).some name file h)
 
 found-grants : (client : ClientOptions) (digest name file : List ℕ) (o : Option PublicKey) → found_key digest file ≡ o
     → (told_found client name file (option_map offered_key o)).outcome ≡ Grants → LetsInHeld client digest file

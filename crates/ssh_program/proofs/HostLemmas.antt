@@ -1,5 +1,6 @@
 -- From the values of the options of `host` and the answer of the files, to the response.
-use Rattle.ssh_program.proofs.Imports.{◌≡◌, ℕ, List, Option, Some, None, Result, Ok, Err, refl, subst, ◌^◌, IfOk, standard, decoded_of, Row, EmptyPrincipals, Any, HostCheck, IfTells, SourceState, empty_principals_of, hex_bytes, number_below, AuditFiles, Audits, host_by, RespondsToHostKey, RespondsTo, audit_files, needed, value, value_or, spelled_by, OptionTexts}
+use Rattle.ssh_program.proofs.Imports.{◌≡◌, ◌∙◌, ℕ, List, Option, Some, None, Result, Ok, Err, ap, refl, subst, ◌^◌, IfOk, standard, decoded_of, Row, EmptyPrincipals, Any, AuditError, HostCheck, HostClaim, host_claim, IfTells, SourceState, empty_principals_of, hex_bytes, number_below, AuditFiles, Audits, decided_by, host_by, RespondsToHostKey, RespondsTo, audit_files, needed, value, value_or, spelled_by, OptionTexts}
+use Rattle.ssh_trust.specs.HostDecision.{host_decision}
 use Rattle.ssh_print.specs.Responses.{Response as Shown}
 use Rattle.ssh_program.specs.declared.args.ArgName.TheVariants as option
 use Rattle.ssh_program.specs.Hosts.{host_spelled}
@@ -32,17 +33,19 @@ host_is_spelled rows texts offered signature exchange_hash port now empty bits h
 
 -- ---- answers
 
-host-by : (rows : List Row) (texts : OptionTexts) (f : AuditFiles) (p q : HostCheck) (s : SourceState) (t : Option SourceState) (r : Shown) → audit_files rows ≡ Ok f
-    → host_spelled rows texts ≡ Ok q → p ≡ q → Audits (host_by p) f s t r → RespondsToHostKey rows texts s t r
-host-by rows texts f p q s t r files spelled same h =
+host-by : (rows : List Row) (texts : OptionTexts) (f : AuditFiles) (claimed : Result HostClaim AuditError) (p q : HostCheck) (s : SourceState) (t : Option SourceState) (r : Shown)
+    → audit_files rows ≡ Ok f → host_spelled rows texts ≡ Ok q → claimed ≡ host_claim p → p ≡ q
+    → Audits (decided_by host_decision claimed) f s t r → RespondsToHostKey rows texts s t r
+host-by rows texts f claimed p q s t r files spelled read same h =
     spelled_so (λ names. RespondsTo (λ check. Audits (host_by check) names) (host_spelled rows texts)) (audit_files rows) f s t r files
-    (spelled_so (λ check. Audits (host_by check) f) (host_spelled rows texts) q s t r spelled (subst (λ (x : HostCheck). Audits (host_by x) f s t r) same h))
+    (spelled_so (λ check. Audits (host_by check) f) (host_spelled rows texts) q s t r spelled
+    (subst (λ (x : Result HostClaim AuditError). Audits (decided_by host_decision x) f s t r) (read ∙ ap host_claim same) h))
 
--- the response to the host's key of the options is the response to the options
-pub host_responds : {R E : Type 0} (view : R → Shown) (rows : List Row) (texts : OptionTexts) (f : AuditFiles) (p q : HostCheck) (o t : Option SourceState) (res : Result R E)
-    → audit_files rows ≡ Ok f → host_spelled rows texts ≡ Ok q → p ≡ q
-    → IfTells o (λ s. IfOk res (λ r. Audits (host_by p) f s t (view r)))
+-- the response to the claim of the host's key of the options is the response to the options
+pub host_responds : {R E : Type 0} (view : R → Shown) (rows : List Row) (texts : OptionTexts) (f : AuditFiles) (claimed : Result HostClaim AuditError) (p q : HostCheck) (o t : Option SourceState) (res : Result R E)
+    → audit_files rows ≡ Ok f → host_spelled rows texts ≡ Ok q → claimed ≡ host_claim p → p ≡ q
+    → IfTells o (λ s. IfOk res (λ r. Audits (decided_by host_decision claimed) f s t (view r)))
     → IfTells o (λ s. IfOk res (λ r. RespondsToHostKey rows texts s t (view r)))
-host_responds view rows texts f p q None t res files spelled same h = tt
-host_responds view rows texts f p q (Some s) t (Err x) files spelled same h = λ counts. tt
-host_responds view rows texts f p q (Some s) t (Ok r) files spelled same h = λ counts. host-by rows texts f p q s t (view r) files spelled same (h counts)
+host_responds view rows texts f claimed p q None t res files spelled read same h = tt
+host_responds view rows texts f claimed p q (Some s) t (Err x) files spelled read same h = λ counts. tt
+host_responds view rows texts f claimed p q (Some s) t (Ok r) files spelled read same h = λ counts. host-by rows texts f claimed p q s t (view r) files spelled read same (h counts)

@@ -72,7 +72,7 @@ pub use Rattle.ssh_print.specs.declared.showing.ShowError.{ShowError}
 pub use Rattle.ssh_print.specs.declared.showing.ShowKind.{ShowKind}
 pub use Rattle.ssh_print.specs.declared.text.Part.{Part}
 pub use Rattle.ssh_program.specs.Account.{NoneFailed, Account, failing, takes_nothing, taking, where_told}
-pub use Rattle.ssh_program.specs.Admissions.{AsksKey, told_both, nothing_told, telling, KeyAsking, beside_answer, Otherness, IsToldUnread, told_by, told_over, unread_fault, AsksBy, AsksFiles, AsksOffer, ToldLines, offer_or_fault, or_shown_fault, told_of, told_response, denied_outcome, outcome_of, status_by, status_of}
+pub use Rattle.ssh_program.specs.Admissions.{AsksKey, told_both, nothing_told, telling, KeyAsking, beside_answer, beside_by, Otherness, IsToldUnread, told_by, told_over, unread_fault, AsksBy, AsksFiles, AsksOffer, ToldLines, offer_or_fault, or_shown_fault, told_of, told_response, denied_outcome, outcome_of, status_by, status_of}
 pub use Rattle.ssh_program.specs.AdmissionsView.{told_seen}
 pub use Rattle.ssh_program.specs.AnswerSamples.{outcomes_summed, statuses_told}
 pub use Rattle.ssh_program.specs.FileNames.{AuditFiles, SshsigQuestion}

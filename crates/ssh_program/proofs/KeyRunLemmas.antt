@@ -26,7 +26,7 @@ use Rattle.ssh_program.specs.declared.args.ArgName.TheVariants as option
 use Rattle.ssh_program.specs.declared.args.KeyPlace.TheVariants as place
 use Rattle.ssh_program.specs.declared.subcommand.Subcommand.TheVariants.{Admits, Trusts}
 use Rattle.ssh_files.specs.FilesInTurn.{Telling}
-use Rattle.ssh_program.specs.Admissions.{Otherness, and_then, beside_answer}
+use Rattle.ssh_program.specs.Admissions.{Otherness, and_then, beside_answer, beside_by}
 use Rattle.ssh_program.specs.Audits.{decided_by, evidence_by}
 use Rattle.ssh_review.specs.Asked.{Asked as AskedTime}
 use Rattle.ssh_program.specs.KeyRuns.{AsksByKey, AsksOfFiles, ClientAdmitted, ClientAsked, ClientKeptOut, DistrustsKey, EachFile, HostAsked, HostDistrusted, HostTrusted, KeepsOut, LetsIn, SomeFile, TrustsKey}
@@ -354,7 +354,7 @@ client-of rows names zone s t r named read (Ok a) spelled h few =
     let asks = admits-asks rows zone a spelled in
     let (form, rule, q, blob, is) = asks.1 o.offer in
     let files = subst (λ (k : KeyAsking). AsksFiles k a.names o.left t r) is o.asked in
-    let by = asked-by (login_claim q) (record { subject = Client; form = form }) (record { now = q.now; zone = Some rule }) login_decision login_evidence (other_login (login_claim q)) a.names o.left t r files few in
+    let by = asked-by (login_claim q) (record { subject = Client; form = form }) (record { now = q.now; zone = Some rule }) login_decision login_evidence (beside_by other_login (login_claim q)) a.names o.left t r files few in
     record {
       client = record {
         zone = zone;
@@ -375,7 +375,7 @@ client-of rows names zone s t r named read (Ok a) spelled h few =
       };
       same = ok-same {A = List (List ℕ)} {B = Response} a.names names (sym asks.0 ∙ named);
       unfailed = o.unfailed;
-      beside = other_login (login_claim q);
+      beside = beside_by other_login (login_claim q);
       who = record { subject = Client; form = form };
       told = by.told;
       chain = by.chain;
@@ -425,7 +425,7 @@ host-of rows names s t r named (Ok a) spelled h few =
     let asks = trusts-asks rows a spelled in
     let (form, q, blob, is) = asks.1 o.offer in
     let files = subst (λ (k : KeyAsking). AsksFiles k a.names o.left t r) is o.asked in
-    let by = asked-by (host_claim q) (record { subject = Host; form = form }) (record { now = q.now; zone = None }) host_decision host_evidence (other_host (host_claim q)) a.names o.left t r files few in
+    let by = asked-by (host_claim q) (record { subject = Host; form = form }) (record { now = q.now; zone = None }) host_decision host_evidence (beside_by other_host (host_claim q)) a.names o.left t r files few in
     record {
       host = record {
         asked = a;
@@ -443,7 +443,7 @@ host-of rows names s t r named (Ok a) spelled h few =
       };
       same = ok-same {A = List (List ℕ)} {B = Response} a.names names (sym asks.0 ∙ named);
       unfailed = o.unfailed;
-      beside = other_host (host_claim q);
+      beside = beside_by other_host (host_claim q);
       who = record { subject = Host; form = form };
       told = by.told;
       chain = by.chain;

@@ -1,5 +1,6 @@
 -- From the values of the options of `login` and the answer of the files, to the response.
-use Rattle.ssh_program.proofs.Imports.{◌≡◌, ℕ, List, Option, Some, None, Result, Ok, Err, refl, subst, ◌^◌, IfOk, standard, decoded_of, Row, TimeZone, EmptyPrincipals, Any, Login, IfTells, SourceState, empty_principals_of, hex_bytes, number_below, short_bytes, short_hex, AuditFiles, Audits, login_by, RespondsInZone, RespondsTo, audit_files, given, needed, or_fault, value, value_or, spelled_by, OptionTexts}
+use Rattle.ssh_program.proofs.Imports.{◌≡◌, ◌∙◌, ℕ, List, Option, Some, None, Result, Ok, Err, ap, refl, subst, ◌^◌, IfOk, standard, decoded_of, Row, TimeZone, EmptyPrincipals, Any, AuditError, Login, LoginClaim, login_claim, IfTells, SourceState, empty_principals_of, hex_bytes, number_below, short_bytes, short_hex, AuditFiles, Audits, decided_by, login_by, RespondsInZone, RespondsTo, audit_files, given, needed, or_fault, value, value_or, spelled_by, OptionTexts}
+use Rattle.ssh_trust.specs.LoginDecision.{login_decision}
 use Rattle.ssh_print.specs.Responses.{Response as Shown}
 use Rattle.ssh_program.specs.declared.args.ArgName.TheVariants as option
 use Rattle.ssh_program.specs.Logins.{login_spelled}
@@ -37,17 +38,19 @@ login_is_spelled rows told texts offered signature session user now zone empty b
 
 -- ---- answers
 
-login-by : (rows : List Row) (told : Option TimeZone) (texts : OptionTexts) (f : AuditFiles) (p q : Login) (s : SourceState) (t : Option SourceState) (r : Shown) → audit_files rows ≡ Ok f
-    → login_spelled rows told texts ≡ Ok q → p ≡ q → Audits (login_by p) f s t r → RespondsInZone rows told texts s t r
-login-by rows told texts f p q s t r files spelled same h =
+login-by : (rows : List Row) (told : Option TimeZone) (texts : OptionTexts) (f : AuditFiles) (claimed : Result LoginClaim AuditError) (p q : Login) (s : SourceState) (t : Option SourceState) (r : Shown)
+    → audit_files rows ≡ Ok f → login_spelled rows told texts ≡ Ok q → claimed ≡ login_claim p → p ≡ q
+    → Audits (decided_by login_decision claimed) f s t r → RespondsInZone rows told texts s t r
+login-by rows told texts f claimed p q s t r files spelled read same h =
     spelled_so (λ names. RespondsTo (λ login. Audits (login_by login) names) (login_spelled rows told texts)) (audit_files rows) f s t r files
-    (spelled_so (λ login. Audits (login_by login) f) (login_spelled rows told texts) q s t r spelled (subst (λ (x : Login). Audits (login_by x) f s t r) same h))
+    (spelled_so (λ login. Audits (login_by login) f) (login_spelled rows told texts) q s t r spelled
+    (subst (λ (x : Result LoginClaim AuditError). Audits (decided_by login_decision x) f s t r) (read ∙ ap login_claim same) h))
 
--- the response to the login of the options is the response to the options
-pub login_responds : {R E : Type 0} (view : R → Shown) (rows : List Row) (told : Option TimeZone) (texts : OptionTexts) (f : AuditFiles) (p q : Login) (o t : Option SourceState) (res : Result R E)
-    → audit_files rows ≡ Ok f → login_spelled rows told texts ≡ Ok q → p ≡ q
-    → IfTells o (λ s. IfOk res (λ r. Audits (login_by p) f s t (view r)))
+-- the response to the claim of the login of the options is the response to the options
+pub login_responds : {R E : Type 0} (view : R → Shown) (rows : List Row) (told : Option TimeZone) (texts : OptionTexts) (f : AuditFiles) (claimed : Result LoginClaim AuditError) (p q : Login) (o t : Option SourceState) (res : Result R E)
+    → audit_files rows ≡ Ok f → login_spelled rows told texts ≡ Ok q → claimed ≡ login_claim p → p ≡ q
+    → IfTells o (λ s. IfOk res (λ r. Audits (decided_by login_decision claimed) f s t (view r)))
     → IfTells o (λ s. IfOk res (λ r. RespondsInZone rows told texts s t (view r)))
-login_responds view rows told texts f p q None t res files spelled same h = tt
-login_responds view rows told texts f p q (Some s) t (Err x) files spelled same h = λ counts. tt
-login_responds view rows told texts f p q (Some s) t (Ok r) files spelled same h = λ counts. login-by rows told texts f p q s t (view r) files spelled same (h counts)
+login_responds view rows told texts f claimed p q None t res files spelled read same h = tt
+login_responds view rows told texts f claimed p q (Some s) t (Err x) files spelled read same h = λ counts. tt
+login_responds view rows told texts f claimed p q (Some s) t (Ok r) files spelled read same h = λ counts. login-by rows told texts f claimed p q s t (view r) files spelled read same (h counts)

@@ -1,5 +1,5 @@
 -- Of the vouched signatures a decision depends only on which of its evidence is among them.
-use Rattle.ssh_program.proofs.Imports.{◌≡◌, ◌+◌, ◌≤◌, not, cond, ltb, ℕ, List, [], ◌∷◌, length, Option, Some, None, Result, Ok, Err, refl, ap, arith, position_or_len, AuditError, Signed, host_evidence, login_evidence, signer_evidence, HostClaim, host_claim, LoginClaim, login_claim, plain, certified, HostCheck, Login, first_unvouched, is_vouched, decision_by, decision_of, cause_by, Candidate, host_decision_by, revocation_cause, host_scan_of, decided_by, evidence_by, host_by, host_rests, login_by, login_rests, RestsOn, VouchAlike}
+use Rattle.ssh_program.proofs.Imports.{◌≡◌, ◌+◌, ◌≤◌, not, cond, ltb, ℕ, List, [], ◌∷◌, length, Option, Some, None, Result, Ok, Err, refl, ap, arith, position_or_len, AuditError, Signed, host_evidence, login_evidence, signer_evidence, HostClaim, LoginClaim, plain, certified, first_unvouched, is_vouched, decision_by, decision_of, cause_by, Candidate, host_decision_by, revocation_cause, host_scan_of, decided_by, evidence_by, RestsOn, VouchAlike}
 use Rattle.ssh_offers.specs.Offer.{Offer}
 use Rattle.ssh_trust.specs.LoginDecision.{login_decision}
 use Rattle.ssh_trust.specs.HostDecision.{host_decision}
@@ -27,12 +27,9 @@ few : (offer : Offer) → length (signer_evidence offer) ≤ 1
 few (plain key) = omega arith
 few (certified c) = omega arith
 
-login-by : (claimed : Result LoginClaim AuditError) → RestsOn (decided_by login_decision claimed) (evidence_by login_evidence claimed)
-login-by (Err e) = tt
-login-by (Ok claim) = (let one = few claim.offer in omega (arith, one), λ file a b alike. login-same file claim a b alike)
-
-pub login_rests_on : (q : Login) → RestsOn (login_by q) (login_rests q)
-login_rests_on q = login-by (login_claim q)
+pub login_rests_on : (claimed : Result LoginClaim AuditError) → RestsOn (decided_by login_decision claimed) (evidence_by login_evidence claimed)
+login_rests_on (Err e) = tt
+login_rests_on (Ok claim) = (let one = few claim.offer in omega (arith, one), λ file a b alike. login-same file claim a b alike)
 
 -- ---- hosts' keys
 
@@ -43,9 +40,6 @@ host-same file claim a b alike =
     ap (λ (u : Option ℕ). host_decision_by (revocation_cause scan.revoked scan.unreadable_revocation) scan.admission.candidate u scan.admission.reasons (host_evidence claim))
     (unvouched-same a b (host_evidence claim) alike)
 
-host-by : (claimed : Result HostClaim AuditError) → RestsOn (decided_by host_decision claimed) (evidence_by host_evidence claimed)
-host-by (Err e) = tt
-host-by (Ok claim) = (let one = few claim.offer in omega (arith, one), λ file a b alike. host-same file claim a b alike)
-
-pub host_rests_on : (q : HostCheck) → RestsOn (host_by q) (host_rests q)
-host_rests_on q = host-by (host_claim q)
+pub host_rests_on : (claimed : Result HostClaim AuditError) → RestsOn (decided_by host_decision claimed) (evidence_by host_evidence claimed)
+host_rests_on (Err e) = tt
+host_rests_on (Ok claim) = (let one = few claim.offer in omega (arith, one), λ file a b alike. host-same file claim a b alike)

@@ -92,6 +92,11 @@ told_response who at files told = record {
 abbrev pub Otherness : Type 0
 Otherness = List ℕ → Decision → OtherLines
 
+-- of the claim of an offer that was read; there is none on a refused one
+abbrev pub beside_by : {C : Type 0} → (C → Otherness) → Result C AuditError → Otherness
+beside_by beside (Err e) = λ file decision. nothing_other
+beside_by beside (Ok claim) = beside claim
+
 -- the question to each file: whose key it is and how the answer is printed, when it is asked, how a file decides, what the decision rests on, and what
 -- is printed after it
 pub record KeyAsking : Type 0 where

@@ -25,6 +25,11 @@ use Rattle.ssh_print.specs.Responses.{Response, decision_response, no_file_respo
 abbrev pub Deciding : Type 0
 Deciding = Result (List ℕ → List Signed → Decision) AuditError
 
+-- what came of reading an offer: its claim, as the value that it is seen as, or its refusal
+abbrev pub claim_seen : {X C : Type 0} → (X → C) → Result X AuditError → Result C AuditError
+claim_seen view (Err e) = Err e
+claim_seen view (Ok claim) = Ok (view claim)
+
 -- the decision on an offer that was read, or its refusal
 abbrev pub decided_by : {C : Type 0} → (List ℕ → C → List Signed → Decision) → Result C AuditError → Deciding
 decided_by decision (Err e) = Err e

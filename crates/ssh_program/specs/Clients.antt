@@ -18,7 +18,7 @@ use Rattle.ssh_review.specs.declared.end.Form.{Form}
 use Rattle.ssh_review.specs.declared.end.Form.TheVariants.{Text}
 use Rattle.ssh_program.specs.declared.args.ArgName.TheVariants as option
 use Rattle.ssh_program.specs.declared.admission.AnswerForm.{AnswerForm}
-use Rattle.ssh_program.specs.Admissions.{KeyAsking}
+use Rattle.ssh_program.specs.Admissions.{KeyAsking, beside_by}
 use Rattle.ssh_program.specs.Audits.{login_by, login_rests}
 use Rattle.ssh_program.specs.Spelled.{form_of}
 use Rattle.ssh_program.specs.Spelling.{given, needed, or_fault, value, value_or}
@@ -61,7 +61,7 @@ client_form form = record { subject = Client; form = form }
 
 -- the question of a login, in the time zone of this rule
 abbrev pub login_asking : Form → List ℕ → Login → KeyAsking
-login_asking form rule q = record { who = client_form form; at = record { now = q.now; zone = Some rule }; by = login_by q; rests_on = login_rests q; beside = other_login (login_claim q) }
+login_asking form rule q = record { who = client_form form; at = record { now = q.now; zone = Some rule }; by = login_by q; rests_on = login_rests q; beside = beside_by other_login (login_claim q) }
 
 -- the question to each trust file about this offer
 abbrev pub client_asks : ClientOptions → Offered → KeyAsking

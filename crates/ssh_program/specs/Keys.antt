@@ -20,7 +20,7 @@ use Rattle.ssh_program.specs.declared.args.KeyPlace.{KeyPlace}
 use Rattle.ssh_program.specs.declared.args.KeyPlace.TheVariants as place
 use Rattle.ssh_program.specs.Spelled.{form_of}
 use Rattle.ssh_program.specs.Spelling.{RespondsTo, given, names_needed, needed, usual_port, value, value_or}
-use Rattle.ssh_program.specs.Admissions.{KeyAsking, AsksKey}
+use Rattle.ssh_program.specs.Admissions.{KeyAsking, AsksKey, beside_by}
 use Rattle.ssh_program.specs.Audits.{host_by, host_rests}
 use Rattle.ssh_program.specs.Clients.{ClientOptions, client_asks, client_spelled}
 use Rattle.ssh_program.specs.FingerprintValues.{fingerprint_bytes}
@@ -34,7 +34,7 @@ pub record KeyAsked : Type 0 where
   pub asks : Offered → KeyAsking
 
 abbrev pub host_asking : Form → HostCheck → KeyAsking
-host_asking form q = record { who = record { subject = Host; form = form }; at = record { now = q.now; zone = None }; by = host_by q; rests_on = host_rests q; beside = other_host (host_claim q) }
+host_asking form q = record { who = record { subject = Host; form = form }; at = record { now = q.now; zone = None }; by = host_by q; rests_on = host_rests q; beside = beside_by other_host (host_claim q) }
 
 -- ---- a client's key
 

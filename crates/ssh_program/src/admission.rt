@@ -191,7 +191,7 @@ fn tell_bytes<Q: FileQuestion>(
     ensures { IfOk result (λ told. told_seen told ≡ told_by who (Q.decides question.entry.now)
         (Q.beside question.entry.now) evidence.now name.now file.now) }
 {
-    let answer = question.decide(alloc, file, evidence);
+    let answer = question.decide_bytes(alloc, file, evidence);
     if is_memory(&answer) {
         return Err(AllocError);
     }

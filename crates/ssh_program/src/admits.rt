@@ -20,6 +20,7 @@ use crate::audit::unread;
 use crate::by_fingerprint::admits_by_fingerprint;
 use crate::client::Client;
 use crate::command::CommandError;
+use crate::question::HostQuestion;
 use crate::review::form;
 use jiff::tz::TimeZone;
 use ssh_files::{Files, read_top_line, zone_of};
@@ -219,7 +220,8 @@ impl KeyQuestion for Host<'_> {
             now: self.now,
             zone: None,
         };
-        let response = ask_files(alloc, who, &at, &query, names, files)?;
+        let question = HostQuestion::read(&query);
+        let response = ask_files(alloc, who, &at, &question, names, files)?;
         Ok(response)
     }
 }

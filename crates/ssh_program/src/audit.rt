@@ -1,15 +1,17 @@
 //! The decision of a trust file on a login or on a host's key, and the response with it, by the
 //! signatures that a vouch file lists.
 
-ghost use Rattle.std.specs.Prelude.{◌≡◌, option_map, refl, ◌<◌, ◌^◌, Err, List, Ok, OnErr, Result, length, IfOk, Some, ℕ};
+ghost use Rattle.std.specs.Prelude.{◌≡◌, option_map, refl, Err, List, Ok, OnErr, Result, IfOk, Some, ℕ};
 ghost use Rattle.ssh_program.specs.ChosenReads.{FailsOn, ReadsOn, reads_on};
 ghost use Rattle.ssh_files.specs.SourceState.{left_of, IfTells, bytes_at};
 ghost use Rattle.ssh_offers.specs.declared.claim.AuditError.{AuditError as Refusal};
 ghost use Rattle.ssh_offers.specs.declared.claim.AuditError.TheVariants.{Read};
 ghost use Rattle.ssh_offers.specs.declared.claim.Signed.{Signed as SignedValue};
-ghost use Rattle.ssh_offers.specs.Query.{host_check_of, login_of};
+ghost use Rattle.ssh_offers.specs.Evidence.{host_evidence, login_evidence};
 ghost use Rattle.ssh_trust.specs.Answer.{GivesOrMemory, OfClaim, RefusesAs};
-ghost use Rattle.ssh_program.specs.Audits.{Deciding, DecidesReader, host_by, host_rests, login_by, login_rests, refusal_of, Audits, or_vouch_fault};
+ghost use Rattle.ssh_trust.specs.HostDecision.{host_decision};
+ghost use Rattle.ssh_trust.specs.LoginDecision.{login_decision};
+ghost use Rattle.ssh_program.specs.Audits.{Deciding, DecidesReader, decided_by, evidence_by, refusal_of, Audits, or_vouch_fault};
 ghost use Rattle.ssh_program.specs.NeededVouches.{RestsOn, first_resting, second_resting, sought_in};
 ghost use Rattle.ssh_program.specs.FileAnswers.{AnswersFile, AuditsFile, AuditsVouched, IsFaultOf, is_memory};
 ghost use Rattle.ssh_program.specs.FileNamesView.{files_seen};
@@ -19,13 +21,12 @@ ghost use Rattle.ssh_files.specs.Loading.{KeepsFiles};
 ghost use Rattle.ssh_files.specs.VouchFile.{vouched_of};
 
 use crate::admits::AuditFiles;
+use crate::question::{HostQuestion, LoginQuestion};
 use crate::texts::{first_two, kept, sought};
 use ssh_files::{Files, Found, ReadError, seek_vouched};
-use ssh_offers::{AuditError, HostClaimView, HostQuery, Items, LoginClaimView, LoginQuery, Signed};
+use ssh_offers::{AuditError, Items, Signed, host_evidence, login_evidence};
 use ssh_print::{Response, decision_response, file_fault, vouch_fault};
-use ssh_trust::{
-    Decision, READ_SIZE, Source, evidence_of_host, evidence_of_login, host_from, login_from,
-};
+use ssh_trust::{Decision, READ_SIZE, Source, host_by_claim_from, login_by_claim_from};
 use std::alloc::{AllocError, Global};
 use std::io;
 
@@ -98,27 +99,27 @@ pub trait Question {
             (S.left file.new) result };
 }
 
-/// A login whose session identifier and user name have fewer than 2^32 bytes, as strings of the
-/// signed bytes must (RFC 4252 section 7).
-#[derive(Clone, Copy)]
-pub struct LoginQuestion<'a> {
-    pub query: LoginQuery<'a>,
-    ghost session: { length query.session.now < 2 ^ 32 },
-    ghost user: { length query.user.now < 2 ^ 32 },
-}
-
 impl Question for LoginQuestion<'_> {
-    ghost decides = { λ x. login_by (login_of x.query) };
+    ghost decides = { λ x. decided_by login_decision x };
 
-    ghost rests_on = { λ x. login_rests (login_of x.query) };
+    ghost rests_on = { λ x. evidence_by login_evidence x };
 
     fn refusal(&self) -> Option<AuditError> {
-        LoginClaimView::read(&self.query).err()
+        match &self.claimed {
+            Ok(_) => None,
+            Err(error) => Some(*error),
+        }
     }
 
-    #[tactic(auto, using(crate::proofs::QuestionLemmas::rests_refused, crate::proofs::QuestionLemmas::rests_given, crate::proofs::NeededLemmas::login_rests_on))]
+    #[tactic(auto, using(crate::proofs::NeededLemmas::login_rests_on))]
     fn evidence(&self, alloc: Global) -> Result<Items<Signed>, AuditError> {
-        evidence_of_login(alloc, &self.query)
+        match &self.claimed {
+            Ok(claim) => {
+                let evidence = login_evidence(alloc, claim)?;
+                Ok(evidence)
+            }
+            Err(error) => Err(*error),
+        }
     }
 
     fn decide<S: Source>(
@@ -127,22 +128,34 @@ impl Question for LoginQuestion<'_> {
         file: &mut S,
         vouched: &[Signed],
     ) -> Result<Decision, AuditError> {
-        login_from(alloc, file, &self.query, vouched)
+        match &self.claimed {
+            Ok(claim) => login_by_claim_from(alloc, file, claim, vouched),
+            Err(error) => Err(*error),
+        }
     }
 }
 
-impl Question for HostQuery<'_> {
-    ghost decides = { λ x. host_by (host_check_of x) };
+impl Question for HostQuestion<'_> {
+    ghost decides = { λ x. decided_by host_decision x };
 
-    ghost rests_on = { λ x. host_rests (host_check_of x) };
+    ghost rests_on = { λ x. evidence_by host_evidence x };
 
     fn refusal(&self) -> Option<AuditError> {
-        HostClaimView::read(self).err()
+        match &self.claimed {
+            Ok(_) => None,
+            Err(error) => Some(*error),
+        }
     }
 
-    #[tactic(auto, using(crate::proofs::QuestionLemmas::rests_refused, crate::proofs::QuestionLemmas::rests_given, crate::proofs::NeededLemmas::host_rests_on))]
+    #[tactic(auto, using(crate::proofs::NeededLemmas::host_rests_on))]
     fn evidence(&self, alloc: Global) -> Result<Items<Signed>, AuditError> {
-        evidence_of_host(alloc, self)
+        match &self.claimed {
+            Ok(claim) => {
+                let evidence = host_evidence(alloc, claim)?;
+                Ok(evidence)
+            }
+            Err(error) => Err(*error),
+        }
     }
 
     fn decide<S: Source>(
@@ -151,7 +164,10 @@ impl Question for HostQuery<'_> {
         file: &mut S,
         vouched: &[Signed],
     ) -> Result<Decision, AuditError> {
-        host_from(alloc, file, self, vouched)
+        match &self.claimed {
+            Ok(claim) => host_by_claim_from(alloc, file, claim, vouched),
+            Err(error) => Err(*error),
+        }
     }
 }
 

@@ -4,8 +4,8 @@ ghost use Rattle.std.specs.Prelude.{◌<◌, ◌^◌, length};
 
 use crate::admission::AnswerForm;
 use crate::args::{ArgName, Args};
-use crate::audit::LoginQuestion;
 use crate::command::CommandError;
+use crate::question::LoginQuestion;
 use crate::review::form;
 use crate::review_zone::zone_text;
 use jiff::tz::TimeZone;
@@ -32,7 +32,7 @@ pub struct Client<'a> {
 impl<'a> Client<'a> {
     ghost use Rattle.std.specs.Prelude.{◌≡◌, option_map};
     ghost use Rattle.jiff.specs.Words.{plain_zone};
-    ghost use Rattle.ssh_offers.specs.Query.{login_of};
+    ghost use Rattle.ssh_offers.specs.LoginClaim.{login_claim};
     ghost use Rattle.ssh_print.specs.Offering.{offer_seen};
     ghost use Rattle.ssh_program.specs.ArgsView.{Spells, rows_in};
     ghost use Rattle.ssh_program.specs.Clients.{client_form, client_moment, client_spelled, login_with};
@@ -73,8 +73,8 @@ impl<'a> Client<'a> {
     /// The login of this offer with this signature. The session identifier is empty, since no rule
     /// looks into it.
     pub fn question<'b>(&'b self, offer: &'b OfferedKey, signature: &'b [u8]) -> LoginQuestion<'b>
-        ensures { login_of result.query
-            ≡ login_with (client_seen self.now) (offer_seen offer.now) signature.now }
+        ensures { result
+            ≡ login_claim (login_with (client_seen self.now) (offer_seen offer.now) signature.now) }
     {
         let query = LoginQuery {
             offered: offer.blob.as_slice(),
@@ -89,7 +89,7 @@ impl<'a> Client<'a> {
             empty_principals: self.empty_principals,
             rsa_minimum: self.rsa_minimum,
         };
-        LoginQuestion { query }
+        LoginQuestion::read(&query)
     }
 
     /// When the question is asked.

@@ -10,8 +10,9 @@ ghost use Rattle.ssh_files.specs.SourceState.{IfTells};
 ghost use Rattle.ssh_program.specs.Hosts.{RespondsToHost, RespondsToHostKey};
 
 use crate::args::{ArgName, Args};
-use crate::audit::{LoginQuestion, respond_question};
+use crate::audit::respond_question;
 use crate::command::CommandError;
+use crate::question::{HostQuestion, LoginQuestion};
 use crate::texts::{NoText, TakenTexts, take_texts};
 use jiff::tz::TimeZone;
 use ssh_files::{Files, zone_of};
@@ -57,7 +58,8 @@ fn respond_in_zone<F: Files>(
         empty_principals,
         rsa_minimum,
     };
-    let response = respond_question(alloc, &names, &LoginQuestion { query }, files)?;
+    let question = LoginQuestion::read(&query);
+    let response = respond_question(alloc, &names, &question, files)?;
     Ok(response)
 }
 
@@ -111,7 +113,8 @@ fn respond_by_texts<F: Files>(
         empty_principals,
         rsa_minimum,
     };
-    let response = respond_question(alloc, &names, &query, files)?;
+    let question = HostQuestion::read(&query);
+    let response = respond_question(alloc, &names, &question, files)?;
     Ok(response)
 }
 

@@ -4,13 +4,13 @@ use Rattle.ssh_program.proofs.admission.tell_file.Goals as goal
 
 pub returns-in-Ok : goal.returns-in-Ok
 returns-in-Ok g c =
-    file_told told_seen c.args.who (g.Q.FileQuestion.decides c.args.question.now) (g.Q.FileQuestion.beside c.args.question.now) c.args.evidence.now
+    file_told told_seen c.args.who (g.Q.Question.decides c.args.question.now) (g.Q.FileQuestion.beside c.args.question.now) c.args.evidence.now
     c.args.name.now c.in-Ok.file.items c.deref.result.now
     (g.F.Files.source_state c.args.files.now) (g.F.Files.source_state c.read_whole.new.files) c.tell_bytes.result
     (search rules) c.in-Ok.ensures.bytes c.in-Ok.ensures.others (search rules)
 
 pub returns-in-Err : goal.returns-in-Err
 returns-in-Err g c =
-    file_unread told_seen c.args.who (g.Q.FileQuestion.decides c.args.question.now) (g.Q.FileQuestion.beside c.args.question.now) c.args.evidence.now c.args.name.now
+    file_unread told_seen c.args.who (g.Q.Question.decides c.args.question.now) (g.Q.FileQuestion.beside c.args.question.now) c.args.evidence.now c.args.name.now
     (g.F.Files.source_state c.args.files.now) (g.F.Files.source_state c.read_whole.new.files) c.in-Err.fault c.tell_unread.result
     c.in-Err.ensures.bytes c.in-Err.ensures.others (search rules)

@@ -3,7 +3,7 @@ use Rattle.ssh_program.proofs.admission.tell_files.Goals as goal
 
 pub loop-name-preserved : goal.loop-name-preserved
 loop-name-preserved g c =
-    leads_next told_both (telling c.args.who (g.Q.FileQuestion.decides c.args.question.now) (g.Q.FileQuestion.beside c.args.question.now) c.args.evidence.now) nothing_told (map (λ name. name.now) c.args.names.now) _
+    leads_next told_both (telling c.args.who (g.Q.Question.decides c.args.question.now) (g.Q.FileQuestion.beside c.args.question.now) c.args.evidence.now) nothing_told (map (λ name. name.now) c.args.names.now) _
     (map (λ name. name.now) (drop c.loop-name.name-index c.args.names.now)) (map (λ name. name.now) (drop (c.loop-name.name-index + 1) c.args.names.now))
     (g.F.Files.source_state c.args.files.now) (g.F.Files.source_state c.loop-name.files) (g.F.Files.source_state c.tell_file.new.files)
     (record { outcome = c.loop-name.outcome; text = c.loop-name.text.items }) (told_seen c.in_ok-told.told)
@@ -12,7 +12,7 @@ loop-name-preserved g c =
 
 pub returns : goal.returns
 returns g c =
-    leads_end told_both (telling c.args.who (g.Q.FileQuestion.decides c.args.question.now) (g.Q.FileQuestion.beside c.args.question.now) c.args.evidence.now) nothing_told (map (λ name. name.now) c.args.names.now)
+    leads_end told_both (telling c.args.who (g.Q.Question.decides c.args.question.now) (g.Q.FileQuestion.beside c.args.question.now) c.args.evidence.now) nothing_told (map (λ name. name.now) c.args.names.now)
     (map (λ name. name.now) (drop c.loop-name.name-index c.args.names.now))
     (g.F.Files.source_state c.args.files.now) (g.F.Files.source_state c.loop-name.files) (record { outcome = c.loop-name.outcome; text = c.loop-name.text.items })
     (ap (map (λ name. name.now)) (drop_all c.loop-name.name-index c.args.names.now c.loop-name-test.false)) c.loop-name.invariant

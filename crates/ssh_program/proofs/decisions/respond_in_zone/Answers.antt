@@ -12,6 +12,6 @@ returns g c =
     c.in_ok-empty_principals.empty_principals c.in_ok-rsa_minimum.rsa_minimum c.in_ok-algorithm.algorithm.now c.in_ok-address.address.now
     c.in_ok-offered.ensures c.in_ok-signature.ensures c.in_ok-session.ensures.value c.in_ok-user.ensures.value c.in_ok-now.ensures
     (given_value plain_zone Zone c.args.zone c.in_ok-zone.zone c.in_ok-zone.ensures) c.in_ok-empty_principals.ensures c.in_ok-rsa_minimum.ensures c.in_ok-algorithm.ensures c.in_ok-address.ensures in
-    login_responds {E = ℕ} response rows told texts (files_seen c.in_ok-names.names) _ _
+    login_responds {E = ℕ} response rows told texts (files_seen c.in_ok-names.names) c.read-question.result _ _
     (g.F.Files.source_state c.args.files.now) (g.F.Files.source_state c.respond_question.new.files) (Ok c.in_ok-response.response)
-    c.in_ok-names.ensures spelled (search rules) c.in_ok-response.ensures
+    c.in_ok-names.ensures spelled c.read-question.ensures (search rules) c.in_ok-response.ensures
