@@ -126,7 +126,6 @@ fn push_sought_line(
 }
 
 fn push_granted_line(
-    alloc: Global,
     out: &mut Vec<u8>,
     who: Subject,
     line: u64,
@@ -136,7 +135,7 @@ fn push_granted_line(
 {
     out.extend_from_slice(grants(who))?;
     out.extend_from_slice(b" by line ")?;
-    push_number(alloc, out, line)?;
+    push_number(out, line)?;
     out.extend_from_slice(b", if the ")?;
     out.extend_from_slice(owner_word(who))?;
     out.extend_from_slice(good_signatures(evidence))?;
@@ -177,7 +176,7 @@ fn push_decision_lines(
             evidence,
             ..
         } => {
-            push_granted_line(alloc, out, who, *line, evidence.as_slice())?;
+            push_granted_line(out, who, *line, evidence.as_slice())?;
             let lines = rights_lines(alloc, INDENT, rights)?;
             out.extend_from_slice(&lines)?;
         }

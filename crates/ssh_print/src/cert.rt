@@ -76,14 +76,14 @@ fn push_keys(alloc: Global, out: &mut Vec<u8>, cert: &CertView<'_>) -> Result<()
 
 /// The line of the kind: 1 is a user's certificate, 2 a host's (PROTOCOL.certkeys). Any other
 /// number is printed as it is.
-fn push_kind(alloc: Global, out: &mut Vec<u8>, kind_number: u32) -> Result<(), AllocError>
+fn push_kind(out: &mut Vec<u8>, kind_number: u32) -> Result<(), AllocError>
     ensures { OnOk result
         (out.new.items ≡ out.old.items ++ word_line (codes "kind ") (kind_word kind_number)) }
 {
     match kind_number {
         1 => push_word_line(out, b"kind ", b"user"),
         2 => push_word_line(out, b"kind ", b"host"),
-        _ => push_number_line(alloc, out, b"kind ", kind_number as u64),
+        _ => push_number_line(out, b"kind ", kind_number as u64),
     }
 }
 
@@ -99,17 +99,11 @@ fn push_principals(out: &mut Vec<u8>, principals: Principals<'_>) -> Result<(), 
 
 /// A time, in seconds as in the certificate and as a date.
 #[tactic(auto, unfolding(crate::specs::Texts::word_line))]
-fn push_moment(
-    alloc: Global,
-    out: &mut Vec<u8>,
-    word: &[u8],
-    moment: u64,
-    date: &[u8],
-) -> Result<(), AllocError>
+fn push_moment(out: &mut Vec<u8>, word: &[u8], moment: u64, date: &[u8]) -> Result<(), AllocError>
     ensures { OnOk result (out.new.items ≡ out.old.items ++ moment_line word.now moment date.now) }
 {
     out.extend_from_slice(word)?;
-    push_number(alloc, out, moment)?;
+    push_number(out, moment)?;
     out.push(b' ')?;
     out.extend_from_slice(date)?;
     out.push(b'\n')?;
@@ -118,12 +112,12 @@ fn push_moment(
 
 /// The lines for whom the certificate is: kind, serial number, key id and principals.
 #[tactic(auto, unfolding(crate::specs::ShownTexts::cert_holder_lines))]
-fn push_holder(alloc: Global, out: &mut Vec<u8>, cert: &CertView<'_>) -> Result<(), AllocError>
+fn push_holder(out: &mut Vec<u8>, cert: &CertView<'_>) -> Result<(), AllocError>
     ensures { OnOk result
         (out.new.items ≡ out.old.items ++ cert_holder_lines (certificate_of cert.now)) }
 {
-    push_kind(alloc, out, cert.kind_number())?;
-    push_number_line(alloc, out, b"serial ", cert.serial())?;
+    push_kind(out, cert.kind_number())?;
+    push_number_line(out, b"serial ", cert.serial())?;
     push_text_line(out, b"id ", cert.key_id())?;
     push_principals(out, cert.principals())?;
     Ok(())
@@ -132,7 +126,6 @@ fn push_holder(alloc: Global, out: &mut Vec<u8>, cert: &CertView<'_>) -> Result<
 /// The lines of the period of validity, given the dates of its start and its end.
 #[tactic(auto, unfolding(crate::specs::ShownTexts::cert_time_lines))]
 fn push_time(
-    alloc: Global,
     out: &mut Vec<u8>,
     cert: &CertView<'_>,
     after: &[u8],
@@ -141,8 +134,8 @@ fn push_time(
     ensures { OnOk result (out.new.items ≡ out.old.items ++ cert_time_lines
         (certificate_of cert.now) after.now before.now) }
 {
-    push_moment(alloc, out, b"valid-after ", cert.after(), after)?;
-    push_moment(alloc, out, b"valid-before ", cert.before(), before)?;
+    push_moment(out, b"valid-after ", cert.after(), after)?;
+    push_moment(out, b"valid-before ", cert.before(), before)?;
     Ok(())
 }
 
@@ -193,8 +186,8 @@ fn push_cert(
         after.now before.now) }
 {
     push_keys(alloc, out, cert)?;
-    push_holder(alloc, out, cert)?;
-    push_time(alloc, out, cert, after, before)?;
+    push_holder(out, cert)?;
+    push_time(out, cert, after, before)?;
     push_cert_options(out, cert)?;
     Ok(())
 }

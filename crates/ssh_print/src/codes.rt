@@ -30,12 +30,12 @@ fn wire_code(cause: WireCause) -> &'static [u8]
 }
 
 /// The code of a wire fault, `V1` to `V5`, and its place in bytes, each after a space.
-fn push_wire_codes(alloc: Global, out: &mut Vec<u8>, error: WireError) -> Result<(), AllocError>
+fn push_wire_codes(out: &mut Vec<u8>, error: WireError) -> Result<(), AllocError>
     ensures { OnOk result (out.new.items ≡ out.old.items ++ wire_codes error) }
 {
     out.extend_from_slice(wire_code(error.cause))?;
     out.push(b' ')?;
-    push_number(alloc, out, error.place as u64)?;
+    push_number(out, error.place as u64)?;
     Ok(())
 }
 
@@ -55,12 +55,12 @@ fn key_code(error: KeyError) -> &'static [u8]
 }
 
 /// The codes of a key fault, `K1` to `K8`, followed by those of the wire fault for `K1`.
-fn push_key_codes(alloc: Global, out: &mut Vec<u8>, error: KeyError) -> Result<(), AllocError>
+fn push_key_codes(out: &mut Vec<u8>, error: KeyError) -> Result<(), AllocError>
     ensures { OnOk result (out.new.items ≡ out.old.items ++ key_codes error) }
 {
     out.extend_from_slice(key_code(error))?;
     match error {
-        KeyError::Wire(e) => push_wire_codes(alloc, out, e),
+        KeyError::Wire(e) => push_wire_codes(out, e),
         _ => Ok(()),
     }
 }
@@ -90,22 +90,22 @@ pub fn line_code(cause: LineCause) -> &'static str
 }
 
 /// The codes of a fault on a line, followed by those of the key fault for `L11`.
-fn push_line_codes(alloc: Global, out: &mut Vec<u8>, cause: LineCause) -> Result<(), AllocError>
+fn push_line_codes(out: &mut Vec<u8>, cause: LineCause) -> Result<(), AllocError>
     ensures { OnOk result (out.new.items ≡ out.old.items ++ line_codes cause) }
 {
     out.push(b' ')?;
     out.extend_from_slice(line_code(cause).as_bytes())?;
     match cause {
-        LineCause::KeyBlob(e) => push_key_codes(alloc, out, e),
+        LineCause::KeyBlob(e) => push_key_codes(out, e),
         _ => Ok(()),
     }
 }
 
-fn push_place(alloc: Global, out: &mut Vec<u8>, place: usize) -> Result<(), AllocError>
+fn push_place(out: &mut Vec<u8>, place: usize) -> Result<(), AllocError>
     ensures { OnOk result (out.new.items ≡ out.old.items ++ spaced (decimal place)) }
 {
     out.push(b' ')?;
-    push_number(alloc, out, place as u64)?;
+    push_number(out, place as u64)?;
     Ok(())
 }
 
@@ -127,14 +127,14 @@ fn cert_code(error: CertError) -> &'static [u8]
 
 /// The codes of a certificate's fault, `C1` to `C9`, in some cases followed by those of an inner
 /// fault or by a place.
-fn push_cert_codes(alloc: Global, out: &mut Vec<u8>, error: CertError) -> Result<(), AllocError>
+fn push_cert_codes(out: &mut Vec<u8>, error: CertError) -> Result<(), AllocError>
     ensures { OnOk result (out.new.items ≡ out.old.items ++ cert_codes error) }
 {
     out.extend_from_slice(cert_code(error))?;
     match error {
-        CertError::Wire(e) | CertError::Signature(e) => push_wire_codes(alloc, out, e),
-        CertError::Key(e) | CertError::Signer(e) => push_key_codes(alloc, out, e),
-        CertError::Principals(place) | CertError::Options(place) => push_place(alloc, out, place),
+        CertError::Wire(e) | CertError::Signature(e) => push_wire_codes(out, e),
+        CertError::Key(e) | CertError::Signer(e) => push_key_codes(out, e),
+        CertError::Principals(place) | CertError::Options(place) => push_place(out, place),
         _ => Ok(()),
     }
 }
@@ -162,13 +162,13 @@ fn body_code(error: BodyError) -> &'static [u8]
 
 /// The codes of a body's fault, `B1` to `B14`, followed by those of the inner fault for `B11` and
 /// `B12`.
-fn push_body_codes(alloc: Global, out: &mut Vec<u8>, error: BodyError) -> Result<(), AllocError>
+fn push_body_codes(out: &mut Vec<u8>, error: BodyError) -> Result<(), AllocError>
     ensures { OnOk result (out.new.items ≡ out.old.items ++ body_codes error) }
 {
     out.extend_from_slice(body_code(error))?;
     match error {
-        BodyError::Key(e) => push_key_codes(alloc, out, e),
-        BodyError::Wire(e) => push_wire_codes(alloc, out, e),
+        BodyError::Key(e) => push_key_codes(out, e),
+        BodyError::Wire(e) => push_wire_codes(out, e),
         _ => Ok(()),
     }
 }
@@ -178,7 +178,7 @@ pub fn line_codes(alloc: Global, cause: LineCause) -> Result<Vec<u8>, AllocError
     ensures { IfOk result (λ v. v.items ≡ line_codes cause) }
 {
     let mut codes = Vec::new(alloc);
-    push_line_codes(alloc, &mut codes, cause)?;
+    push_line_codes(&mut codes, cause)?;
     Ok(codes)
 }
 
@@ -187,7 +187,7 @@ pub fn cert_codes(alloc: Global, error: CertError) -> Result<Vec<u8>, AllocError
     ensures { IfOk result (λ v. v.items ≡ cert_codes error) }
 {
     let mut codes = Vec::new(alloc);
-    push_cert_codes(alloc, &mut codes, error)?;
+    push_cert_codes(&mut codes, error)?;
     Ok(codes)
 }
 
@@ -196,17 +196,17 @@ pub fn body_codes(alloc: Global, error: BodyError) -> Result<Vec<u8>, AllocError
     ensures { IfOk result (λ v. v.items ≡ body_codes error) }
 {
     let mut codes = Vec::new(alloc);
-    push_body_codes(alloc, &mut codes, error)?;
+    push_body_codes(&mut codes, error)?;
     Ok(codes)
 }
 
 /// The codes of the fault for which an offered blob is refused.
-fn push_offer_codes(alloc: Global, out: &mut Vec<u8>, error: OfferError) -> Result<(), AllocError>
+fn push_offer_codes(out: &mut Vec<u8>, error: OfferError) -> Result<(), AllocError>
     ensures { OnOk result (out.new.items ≡ out.old.items ++ offer_codes error) }
 {
     match error {
-        OfferError::Key(e) => push_key_codes(alloc, out, e),
-        OfferError::Certificate(e) => push_cert_codes(alloc, out, e),
+        OfferError::Key(e) => push_key_codes(out, e),
+        OfferError::Certificate(e) => push_cert_codes(out, e),
     }
 }
 
@@ -230,18 +230,14 @@ fn audit_code(error: AuditError) -> &'static [u8]
 }
 
 /// The codes of an audit's fault, `A1` to `A12` and inner ones, each after a space.
-pub(crate) fn push_fault_codes(
-    alloc: Global,
-    out: &mut Vec<u8>,
-    error: AuditError,
-) -> Result<(), AllocError>
+pub(crate) fn push_fault_codes(out: &mut Vec<u8>, error: AuditError) -> Result<(), AllocError>
     ensures { OnOk result (out.new.items ≡ out.old.items ++ fault_codes error) }
 {
     out.extend_from_slice(audit_code(error))?;
     match error {
-        AuditError::Offer(e) => push_offer_codes(alloc, out, e),
-        AuditError::Signature(e) => push_wire_codes(alloc, out, e),
-        AuditError::Body(e) => push_body_codes(alloc, out, e),
+        AuditError::Offer(e) => push_offer_codes(out, e),
+        AuditError::Signature(e) => push_wire_codes(out, e),
+        AuditError::Body(e) => push_body_codes(out, e),
         _ => Ok(()),
     }
 }
@@ -251,7 +247,7 @@ pub fn fault_codes(alloc: Global, error: AuditError) -> Result<Vec<u8>, AllocErr
     ensures { IfOk result (λ v. v.items ≡ fault_codes error) }
 {
     let mut codes = Vec::new(alloc);
-    push_fault_codes(alloc, &mut codes, error)?;
+    push_fault_codes(&mut codes, error)?;
     Ok(codes)
 }
 
@@ -292,16 +288,12 @@ pub(crate) fn push_reason_code(out: &mut Vec<u8>, reason: &Reason) -> Result<(),
 
 /// The codes of a reason, followed by those of the line's fault for `G1` and by the option's name
 /// for `G13`.
-pub(crate) fn push_reason_codes(
-    alloc: Global,
-    out: &mut Vec<u8>,
-    reason: &Reason,
-) -> Result<(), AllocError>
+pub(crate) fn push_reason_codes(out: &mut Vec<u8>, reason: &Reason) -> Result<(), AllocError>
     ensures { OnOk result (out.new.items ≡ out.old.items ++ reason_codes reason.now) }
 {
     push_reason_code(out, reason)?;
     match reason {
-        Reason::Unreadable(cause) => push_line_codes(alloc, out, *cause),
+        Reason::Unreadable(cause) => push_line_codes(out, *cause),
         Reason::CriticalUnknown(name) => {
             out.push(b' ')?;
             push_escaped(out, name.as_slice())
@@ -315,7 +307,7 @@ pub fn reason_codes(alloc: Global, reason: &Reason) -> Result<Vec<u8>, AllocErro
     ensures { IfOk result (λ v. v.items ≡ reason_codes reason.now) }
 {
     let mut codes = Vec::new(alloc);
-    push_reason_codes(alloc, &mut codes, reason)?;
+    push_reason_codes(&mut codes, reason)?;
     Ok(codes)
 }
 
@@ -335,11 +327,7 @@ pub fn cause_code(cause: Cause) -> &'static str
 
 /// The codes of why an offer is denied. They are followed by the line number for `N1` and `N2`, and
 /// by the index of the evidence that is not vouched for, for `N6`.
-pub(crate) fn push_cause_codes(
-    alloc: Global,
-    out: &mut Vec<u8>,
-    cause: Cause,
-) -> Result<(), AllocError>
+pub(crate) fn push_cause_codes(out: &mut Vec<u8>, cause: Cause) -> Result<(), AllocError>
     ensures { OnOk result (out.new.items ≡ out.old.items ++ cause_codes cause) }
 {
     out.push(b' ')?;
@@ -348,7 +336,7 @@ pub(crate) fn push_cause_codes(
         Cause::Revoked(number) | Cause::RevocationUnreadable(number) | Cause::NotVouched(number) =>
             {
                 out.push(b' ')?;
-                push_number(alloc, out, number)
+                push_number(out, number)
             }
         _ => Ok(()),
     }
@@ -359,6 +347,6 @@ pub fn cause_codes(alloc: Global, cause: Cause) -> Result<Vec<u8>, AllocError>
     ensures { IfOk result (λ v. v.items ≡ cause_codes cause) }
 {
     let mut codes = Vec::new(alloc);
-    push_cause_codes(alloc, &mut codes, cause)?;
+    push_cause_codes(&mut codes, cause)?;
     Ok(codes)
 }

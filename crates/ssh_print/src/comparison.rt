@@ -49,33 +49,23 @@ fn cut_mark(text: &[u8]) -> &'static [u8]
 
 /// Appends a word and any bytes, between quotes.
 #[tactic(auto, unfolding(crate::specs::Comparisons::value_text))]
-pub(crate) fn push_value(
-    alloc: Global,
-    out: &mut Vec<u8>,
-    word: &[u8],
-    text: &[u8],
-) -> Result<(), AllocError>
+pub(crate) fn push_value(out: &mut Vec<u8>, word: &[u8], text: &[u8]) -> Result<(), AllocError>
     ensures { OnOk result (out.new.items ≡ out.old.items ++ value_text word.now text.now) }
 {
     out.extend_from_slice(b"; ")?;
     out.extend_from_slice(word)?;
     out.push(b' ')?;
-    push_json_text(alloc, out, shown(text))?;
+    push_json_text(out, shown(text))?;
     out.extend_from_slice(cut_mark(text))?;
     Ok(())
 }
 
-fn push_value_or_dash(
-    alloc: Global,
-    out: &mut Vec<u8>,
-    word: &[u8],
-    text: Option<&[u8]>,
-) -> Result<(), AllocError>
+fn push_value_or_dash(out: &mut Vec<u8>, word: &[u8], text: Option<&[u8]>) -> Result<(), AllocError>
     ensures { OnOk result (out.new.items
         ≡ out.old.items ++ value_or_dash word.now (option_copied text.entry)) }
 {
     match text {
-        Some(text) => push_value(alloc, out, word, text),
+        Some(text) => push_value(out, word, text),
         None => {
             out.extend_from_slice(b"; ")?;
             out.extend_from_slice(word)?;
@@ -175,11 +165,7 @@ fn push_held(
 }
 
 /// Appends the first principals, and a mark if there are more.
-fn push_first_principals(
-    alloc: Global,
-    out: &mut Vec<u8>,
-    principals: Principals<'_>,
-) -> Result<(), AllocError>
+fn push_first_principals(out: &mut Vec<u8>, principals: Principals<'_>) -> Result<(), AllocError>
     ensures { OnOk result (out.new.items
         ≡ out.old.items ++ first_principals 16 (principals_left principals.entry)) }
 {
@@ -189,21 +175,19 @@ fn push_first_principals(
             out.extend_from_slice(b"; ..")?;
             return Ok(());
         }
-        push_value(alloc, out, b"principal", name)?;
+        push_value(out, b"principal", name)?;
         left -= 1;
     }
     Ok(())
 }
 
-fn push_principals(alloc: Global, out: &mut Vec<u8>, offer: &Offer<'_>) -> Result<(), AllocError>
+fn push_principals(out: &mut Vec<u8>, offer: &Offer<'_>) -> Result<(), AllocError>
     ensures { OnOk result (out.new.items
         ≡ out.old.items ++ offered_principals (offer_of offer.now)) }
 {
     match offer {
         Offer::Plain(_) => Ok(()),
-        Offer::Certified(certificate) => {
-            push_first_principals(alloc, out, certificate.principals())
-        }
+        Offer::Certified(certificate) => { push_first_principals(out, certificate.principals()) }
     }
 }
 
@@ -253,24 +237,18 @@ fn push_end(alloc: Global, out: &mut Vec<u8>, now: u64, offer: &Offer<'_>) -> Re
 }
 
 /// Appends a list of sources, and the client's address.
-fn push_address_of(
-    alloc: Global,
-    out: &mut Vec<u8>,
-    list: Option<&[u8]>,
-    address: &[u8],
-) -> Result<(), AllocError>
+fn push_address_of(out: &mut Vec<u8>, list: Option<&[u8]>, address: &[u8]) -> Result<(), AllocError>
     ensures { OnOk result (out.new.items ≡ out.old.items
         ++ (value_or_dash (codes "source-address") (option_copied list.entry)
         ++ value_text (codes "address") address.now)) }
 {
-    push_value_or_dash(alloc, out, b"source-address", list)?;
-    push_value(alloc, out, b"address", address)?;
+    push_value_or_dash(out, b"source-address", list)?;
+    push_value(out, b"address", address)?;
     Ok(())
 }
 
 /// Appends a certificate's list of sources, and the client's address.
 fn push_certificate_source(
-    alloc: Global,
     out: &mut Vec<u8>,
     address: &[u8],
     offer: &Offer<'_>,
@@ -282,36 +260,35 @@ fn push_certificate_source(
         Offer::Plain(_) => Ok(()),
         Offer::Certified(certificate) => {
             let list = certificate.text_of(CertificateOption::SourceAddress);
-            push_address_of(alloc, out, list, address)
+            push_address_of(out, list, address)
         }
     }
 }
 
 /// Appends the command that a certificate forces.
-fn push_command(alloc: Global, out: &mut Vec<u8>, offer: &Offer<'_>) -> Result<(), AllocError>
+fn push_command(out: &mut Vec<u8>, offer: &Offer<'_>) -> Result<(), AllocError>
     ensures { OnOk result (out.new.items ≡ out.old.items ++ offered_command (offer_of offer.now)) }
 {
     match offer {
         Offer::Plain(_) => Ok(()),
         Offer::Certified(certificate) => {
             let command = certificate.text_of(CertificateOption::ForceCommand);
-            push_value_or_dash(alloc, out, b"force-command", command)
+            push_value_or_dash(out, b"force-command", command)
         }
     }
 }
 
-fn push_minimum(alloc: Global, out: &mut Vec<u8>, bits: u32) -> Result<(), AllocError>
+fn push_minimum(out: &mut Vec<u8>, bits: u32) -> Result<(), AllocError>
     ensures { OnOk result (out.new.items ≡ out.old.items ++ minimum_value bits) }
 {
     out.extend_from_slice(b"; at least ")?;
-    push_number(alloc, out, bits as u64)?;
+    push_number(out, bits as u64)?;
     out.extend_from_slice(b" bits")?;
     Ok(())
 }
 
 /// Appends a line's list of sources, and the client.
 fn push_source(
-    alloc: Global,
     out: &mut Vec<u8>,
     list: Option<&[u8]>,
     query: &LoginQuery<'_>,
@@ -319,24 +296,19 @@ fn push_source(
     ensures { OnOk result (out.new.items ≡ out.old.items
         ++ source_compared (option_copied list.entry) (login_of query.entry.now)) }
 {
-    push_value_or_dash(alloc, out, b"from", list)?;
-    push_value(alloc, out, b"address", query.address)?;
-    push_value_or_dash(alloc, out, b"host", query.host)
+    push_value_or_dash(out, b"from", list)?;
+    push_value(out, b"address", query.address)?;
+    push_value_or_dash(out, b"host", query.host)
 }
 
 /// Appends the principals that a line asks for, or the user where it lists none.
-fn push_wanted(
-    alloc: Global,
-    out: &mut Vec<u8>,
-    list: Option<&[u8]>,
-    user: &[u8],
-) -> Result<(), AllocError>
+fn push_wanted(out: &mut Vec<u8>, list: Option<&[u8]>, user: &[u8]) -> Result<(), AllocError>
     ensures { OnOk result (out.new.items
         ≡ out.old.items ++ wanted_principals (option_copied list.entry) user.now) }
 {
     match list {
-        Some(list) => push_value(alloc, out, b"principals", list),
-        None => push_value(alloc, out, b"user", user),
+        Some(list) => push_value(out, b"principals", list),
+        None => push_value(out, b"user", user),
     }
 }
 
@@ -358,15 +330,15 @@ fn push_facts(
             push_moment_value(alloc, out, b"now", claim.query.now)
         }
         Reason::SourceBad | Reason::SourceRefused => {
-            push_source(alloc, out, bytes_of(&facts.from), &claim.query)
+            push_source(out, bytes_of(&facts.from), &claim.query)
         }
         Reason::PrincipalRefused => {
-            push_wanted(alloc, out, bytes_of(&facts.principals), claim.query.user)?;
-            push_principals(alloc, out, &claim.offer)
+            push_wanted(out, bytes_of(&facts.principals), claim.query.user)?;
+            push_principals(out, &claim.offer)
         }
         Reason::CommandConflict => {
-            push_value_or_dash(alloc, out, b"command", bytes_of(&facts.rights.command))?;
-            push_command(alloc, out, &claim.offer)
+            push_value_or_dash(out, b"command", bytes_of(&facts.rights.command))?;
+            push_command(out, &claim.offer)
         }
         _ => Ok(()),
     }
@@ -430,9 +402,9 @@ impl Comparing for LoginMatcher<'_> {
             Reason::NotYetValid => push_start(alloc, out, claim.query.now, &claim.offer),
             Reason::NoLongerValid => push_end(alloc, out, claim.query.now, &claim.offer),
             Reason::CertSourceBad | Reason::CertSourceRefused => {
-                push_certificate_source(alloc, out, claim.query.address, &claim.offer)
+                push_certificate_source(out, claim.query.address, &claim.offer)
             }
-            Reason::RsaTooSmall => push_minimum(alloc, out, claim.query.rsa_minimum),
+            Reason::RsaTooSmall => push_minimum(out, claim.query.rsa_minimum),
             Reason::Expired
             | Reason::SourceBad
             | Reason::SourceRefused
@@ -462,10 +434,10 @@ impl Comparing for HostClaimView<'_> {
             Reason::NotYetValid => push_start(alloc, out, self.query.now, &self.offer),
             Reason::NoLongerValid => push_end(alloc, out, self.query.now, &self.offer),
             Reason::PrincipalRefused => {
-                push_value(alloc, out, b"host", self.query.host)?;
-                push_principals(alloc, out, &self.offer)
+                push_value(out, b"host", self.query.host)?;
+                push_principals(out, &self.offer)
             }
-            Reason::RsaTooSmall => push_minimum(alloc, out, self.query.rsa_minimum),
+            Reason::RsaTooSmall => push_minimum(out, self.query.rsa_minimum),
             _ => Ok(()),
         }
     }

@@ -44,7 +44,7 @@ pub fn push_moment(alloc: Global, out: &mut Vec<u8>, moment: u64) -> Result<(), 
     ensures { OnOk result (out.new.items ≡ out.old.items ++ moment_text (pos moment)) }
 {
     let date = date_text(alloc, moment)?;
-    push_number(alloc, out, moment)?;
+    push_number(out, moment)?;
     out.push(b' ')?;
     out.extend_from_slice(&date)?;
     Ok(())

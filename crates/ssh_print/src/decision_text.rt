@@ -135,21 +135,17 @@ pub fn rights_lines(
 }
 
 /// The first line of a denial.
-pub(crate) fn push_cause_line(
-    alloc: Global,
-    out: &mut Vec<u8>,
-    cause: Cause,
-) -> Result<(), AllocError>
+pub(crate) fn push_cause_line(out: &mut Vec<u8>, cause: Cause) -> Result<(), AllocError>
     ensures { OnOk result (out.new.items ≡ out.old.items ++ cause_line cause) }
 {
     out.extend_from_slice(b"denied")?;
-    push_cause_codes(alloc, out, cause)?;
+    push_cause_codes(out, cause)?;
     out.push(b'\n')?;
     Ok(())
 }
 
 /// The codes of a reason. The option's name in it is shared, not copied, since it may be long.
-fn push_reason(alloc: Global, text: &mut Text, reason: &Reason) -> Result<(), AllocError>
+fn push_reason(text: &mut Text, reason: &Reason) -> Result<(), AllocError>
     ensures { OnOk result (text_bytes text.new ≡ text_bytes text.old ++ reason_codes reason.now) }
 {
     match reason {
@@ -158,45 +154,35 @@ fn push_reason(alloc: Global, text: &mut Text, reason: &Reason) -> Result<(), Al
             text.rest.push(b' ')?;
             text.push_name(name)?;
         }
-        _ => push_reason_codes(alloc, &mut text.rest, reason)?,
+        _ => push_reason_codes(&mut text.rest, reason)?,
     }
     Ok(())
 }
 
-fn push_reason_line(
-    alloc: Global,
-    text: &mut Text,
-    number: u64,
-    reason: &Reason,
-) -> Result<(), AllocError>
+fn push_reason_line(text: &mut Text, number: u64, reason: &Reason) -> Result<(), AllocError>
     ensures { OnOk result (text_bytes text.new
         ≡ text_bytes text.old ++ reason_line (number, reason.now)) }
 {
     text.rest.extend_from_slice(b"reason ")?;
-    push_number(alloc, &mut text.rest, number)?;
-    push_reason(alloc, text, reason)?;
+    push_number(&mut text.rest, number)?;
+    push_reason(text, reason)?;
     text.rest.push(b'\n')?;
     Ok(())
 }
 
 /// The lines of the reasons. The option names in them are shared, not copied.
-pub(crate) fn push_reasons(
-    alloc: Global,
-    text: &mut Text,
-    reasons: &[(u64, Reason)],
-) -> Result<(), AllocError>
+pub(crate) fn push_reasons(text: &mut Text, reasons: &[(u64, Reason)]) -> Result<(), AllocError>
     ensures { OnOk result (text_bytes text.new
         ≡ text_bytes text.old ++ flat_map reason_line reasons.now) }
 {
     for reason in reasons {
-        push_reason_line(alloc, text, reason.0, &reason.1)?;
+        push_reason_line(text, reason.0, &reason.1)?;
     }
     Ok(())
 }
 
 /// The lines of a grant: the number of the line that admits, and the rights.
 pub(crate) fn push_granted(
-    alloc: Global,
     out: &mut Vec<u8>,
     line: u64,
     rights: &Option<Rights>,
@@ -204,7 +190,7 @@ pub(crate) fn push_granted(
     ensures { OnOk result (out.new.items ≡ out.old.items ++ granted_lines line rights.now) }
 {
     out.extend_from_slice(b"granted line ")?;
-    push_number(alloc, out, line)?;
+    push_number(out, line)?;
     out.push(b'\n')?;
     push_rights(out, b"", rights)?;
     Ok(())
@@ -233,7 +219,7 @@ pub fn sshsig_response(
             Ok(Response::new(DENIED, text))
         }
         Ok(SshsigAnswer::NotVouched { evidence }) => {
-            push_cause_line(alloc, &mut text, Cause::NotVouched(0))?;
+            push_cause_line(&mut text, Cause::NotVouched(0))?;
             Ok(Response {
                 status: DENIED,
                 text: Text::from(text),

@@ -124,7 +124,7 @@ fn push_mismatch_value(
             let digest = digest_text(alloc, &digest)?;
             out.extend_from_slice(&digest)
         }
-        Mismatch::OtherNames => push_value(alloc, out, b"names", text),
+        Mismatch::OtherNames => push_value(out, b"names", text),
     }
 }
 
@@ -155,7 +155,7 @@ fn push_mismatch(
 {
     out.extend_from_slice(INDENT)?;
     out.extend_from_slice(b"line ")?;
-    push_number(alloc, out, number)?;
+    push_number(out, number)?;
     push_mismatch_words(alloc, out, which, text)?;
     out.push(b'\n')?;
     Ok(())

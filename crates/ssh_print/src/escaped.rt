@@ -7,7 +7,7 @@ ghost use Rattle.ssh_print.specs.Strings.{is_verbatim, json_text, quoted_byte};
 ghost use Rattle.ssh_wire.specs.Fronts.{Keeps};
 
 use crate::text::{all_or_nothing, hex_digit, push_escaped};
-use std::alloc::{AllocError, Global};
+use std::alloc::AllocError;
 use std::marker::Model;
 
 /// Whether a byte is printed as itself: printable ASCII other than the backslash.
@@ -149,7 +149,7 @@ fn are_verbatim(text: &[u8]) -> bool
 /// Appends what is between the quotes of a JSON string. Bytes that need no backslash go in one
 /// piece, and only bytes that need escapes take a buffer of their own.
 #[tactic(auto, using(crate::proofs::PlainLemmas::plain_shown, crate::proofs::PlainLemmas::verbatim_shown))]
-fn push_string_bytes(alloc: Global, out: &mut Vec<u8>, text: &[u8]) -> Result<(), AllocError>
+fn push_string_bytes(out: &mut Vec<u8>, text: &[u8]) -> Result<(), AllocError>
     ensures ok { OnOk result (out.new.items
         ≡ out.old.items ++ flat_map quoted_byte (escaped_text text.now)) }
     ensures err { OnErr result (Keeps out.old.items out.new.items) }
@@ -160,30 +160,30 @@ fn push_string_bytes(alloc: Global, out: &mut Vec<u8>, text: &[u8]) -> Result<()
     if are_plain(text) {
         return push_quoted_bytes(out, text);
     }
-    let mut printed = Vec::new(alloc);
+    let mut printed = Vec::new(*out.allocator());
     push_escaped(&mut printed, text)?;
     push_quoted_bytes(out, &printed)
 }
 
 /// On `Err` a part of it may have been written.
 #[tactic(auto, unfolding(crate::specs::Strings::json_text))]
-fn push_quoted_text(alloc: Global, out: &mut Vec<u8>, text: &[u8]) -> Result<(), AllocError>
+fn push_quoted_text(out: &mut Vec<u8>, text: &[u8]) -> Result<(), AllocError>
     ensures ok { OnOk result (out.new.items ≡ out.old.items ++ json_text text.now) }
     ensures err { OnErr result (Keeps out.old.items out.new.items) }
 {
     out.push(b'"')?;
-    push_string_bytes(alloc, out, text)?;
+    push_string_bytes(out, text)?;
     out.push(b'"')?;
     Ok(())
 }
 
 /// Appends a JSON string of some bytes: their escaped text between quotes, with a backslash before
 /// each quote and each backslash. On `Err` nothing is changed.
-pub fn push_json_text(alloc: Global, out: &mut Vec<u8>, text: &[u8]) -> Result<(), AllocError>
+pub fn push_json_text(out: &mut Vec<u8>, text: &[u8]) -> Result<(), AllocError>
     ensures ok { OnOk result (out.new.items ≡ out.old.items ++ json_text text.now) }
     ensures err { OnErr result (out.new.items ≡ out.old.items) }
 {
     let len = out.len();
-    let outcome = push_quoted_text(alloc, out, text);
+    let outcome = push_quoted_text(out, text);
     all_or_nothing(out, len, outcome)
 }

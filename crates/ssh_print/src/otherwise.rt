@@ -90,7 +90,6 @@ fn may_words(who: Subject) -> &'static [u8]
 }
 
 pub(crate) fn push_possible_line(
-    alloc: Global,
     out: &mut Vec<u8>,
     who: Subject,
     first: bool,
@@ -101,7 +100,7 @@ pub(crate) fn push_possible_line(
 {
     out.extend_from_slice(INDENT)?;
     out.extend_from_slice(may_words(who))?;
-    push_number(alloc, out, number)?;
+    push_number(out, number)?;
     out.extend_from_slice(order_word(first))?;
     out.extend_from_slice(why.words())?;
     out.push(b'\n')?;
@@ -109,7 +108,6 @@ pub(crate) fn push_possible_line(
 }
 
 fn push_possible_lines(
-    alloc: Global,
     out: &mut Vec<u8>,
     who: Subject,
     first: bool,
@@ -118,7 +116,7 @@ fn push_possible_lines(
     ensures { OnOk result (out.new.items ≡ out.old.items ++ flat_map (possible_line who first) lines.now) }
 {
     for line in lines {
-        push_possible_line(alloc, out, who, first, line.0, line.1)?;
+        push_possible_line(out, who, first, line.0, line.1)?;
     }
     Ok(())
 }
@@ -142,7 +140,6 @@ fn listed(lines: &[(u64, WhyPossible)]) -> &[(u64, WhyPossible)]
 }
 
 pub(crate) fn push_possible_text(
-    alloc: Global,
     out: &mut Vec<u8>,
     who: Subject,
     first: bool,
@@ -150,7 +147,7 @@ pub(crate) fn push_possible_text(
 ) -> Result<(), AllocError>
     ensures { OnOk result (out.new.items ≡ out.old.items ++ possible_text who first lines.now) }
 {
-    push_possible_lines(alloc, out, who, first, listed(lines))?;
+    push_possible_lines(out, who, first, listed(lines))?;
     out.extend_from_slice(more_line(lines.len() > LISTED))?;
     Ok(())
 }
@@ -168,7 +165,7 @@ fn possible_other(
 {
     let lines = possible_lines(alloc, matcher, before, file)?;
     let mut text = Vec::new(alloc);
-    push_possible_text(alloc, &mut text, Subject::Client, before.is_some(), &lines)?;
+    push_possible_text(&mut text, Subject::Client, before.is_some(), &lines)?;
     Ok(Otherwise {
         may_admit: lines.len() > 0,
         text,
@@ -229,16 +226,12 @@ fn decides_words() -> &'static [u8]
 }
 
 /// The line that decides if OpenSSH refuses those that it may refuse.
-pub(crate) fn push_decides_line(
-    alloc: Global,
-    out: &mut Vec<u8>,
-    number: u64,
-) -> Result<(), AllocError>
+pub(crate) fn push_decides_line(out: &mut Vec<u8>, number: u64) -> Result<(), AllocError>
     ensures { OnOk result (out.new.items ≡ out.old.items ++ decides_line number) }
 {
     out.extend_from_slice(INDENT)?;
     out.extend_from_slice(line_word())?;
-    push_number(alloc, out, number)?;
+    push_number(out, number)?;
     out.extend_from_slice(decides_words())?;
     out.push(b'\n')?;
     Ok(())
@@ -266,7 +259,7 @@ fn push_decides_lines(
 ) -> Result<(), AllocError>
     ensures { OnOk result (out.new.items ≡ out.old.items ++ decides_lines number rights.now) }
 {
-    push_decides_line(alloc, out, number)?;
+    push_decides_line(out, number)?;
     push_deeper_rights(alloc, out, rights)?;
     Ok(())
 }
@@ -299,7 +292,7 @@ fn refused_lines(
     let mut out = Vec::new(alloc);
     out.extend_from_slice(INDENT)?;
     out.extend_from_slice(b"OpenSSH may refuse line ")?;
-    push_number(alloc, &mut out, number)?;
+    push_number(&mut out, number)?;
     out.push(b':')?;
     push_grounds(&mut out, facts)?;
     out.push(b'\n')?;
@@ -336,7 +329,6 @@ fn ignored_at(alloc: Global, first: Option<(u64, Admitting)>) -> Result<Otherwis
         Some((number, _)) => {
             let mut text = Vec::new(alloc);
             push_possible_line(
-                alloc,
                 &mut text,
                 Subject::Client,
                 false,
@@ -452,7 +444,7 @@ pub fn other_untold(alloc: Global, file: &[u8]) -> Result<Otherwise, AllocError>
 {
     let lines = untold_lines(alloc, file)?;
     let mut text = Vec::new(alloc);
-    push_possible_text(alloc, &mut text, Subject::Client, false, &lines)?;
+    push_possible_text(&mut text, Subject::Client, false, &lines)?;
     Ok(Otherwise {
         may_admit: lines.len() > 0,
         text,

@@ -53,8 +53,8 @@ fn push_passed_line<C: Comparing>(
         ++ passed_line (C.compared comparing.entry.now) (number, reason.now) line.now) }
 {
     out.extend_from_slice(INDENT)?;
-    push_number(alloc, out, number)?;
-    push_reason_codes(alloc, out, reason)?;
+    push_number(out, number)?;
+    push_reason_codes(out, reason)?;
     out.extend_from_slice(b": ")?;
     out.extend_from_slice(reason_sentence(reason).as_bytes())?;
     comparing.push_compared(alloc, out, reason, line)?;

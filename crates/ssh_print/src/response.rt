@@ -141,7 +141,7 @@ pub fn vouch_fault(alloc: Global, line: u64) -> Result<Response, AllocError>
 {
     let mut codes = Vec::new(alloc);
     codes.extend_from_slice(b" vouch ")?;
-    push_number(alloc, &mut codes, line)?;
+    push_number(&mut codes, line)?;
     fault_response(alloc, &codes)
 }
 
@@ -166,7 +166,7 @@ fn granted_response(
     }) }
 {
     let mut text = Vec::new(alloc);
-    push_granted(alloc, &mut text, line, rights)?;
+    push_granted(&mut text, line, rights)?;
     Ok(Response {
         status: DONE,
         text: Text::from(text),
@@ -187,8 +187,8 @@ fn denied_response(
     }) }
 {
     let mut text = Text::from(Vec::new(alloc));
-    push_cause_line(alloc, &mut text.rest, why)?;
-    push_reasons(alloc, &mut text, reasons)?;
+    push_cause_line(&mut text.rest, why)?;
+    push_reasons(&mut text, reasons)?;
     Ok(Response {
         status: DENIED,
         text,

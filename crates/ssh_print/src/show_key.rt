@@ -87,11 +87,11 @@ pub(crate) fn read_typed_key<'a>(type_name: &[u8], blob: &'a [u8]) -> Result<Key
 }
 
 /// The line of the size of an RSA key; none for other keys.
-fn push_bits(alloc: Global, out: &mut Vec<u8>, bits: Option<u32>) -> Result<(), AllocError>
+fn push_bits(out: &mut Vec<u8>, bits: Option<u32>) -> Result<(), AllocError>
     ensures { OnOk result (out.new.items ≡ out.old.items ++ bits_line bits) }
 {
     match bits {
-        Some(bits) => push_number_line(alloc, out, b"bits ", bits as u64),
+        Some(bits) => push_number_line(out, b"bits ", bits as u64),
         None => Ok(()),
     }
 }
@@ -120,7 +120,7 @@ fn push_key(
         (out.new.items ≡ out.old.items ++ key_lines (key_of key.now) bits comment.now) }
 {
     push_word_line(out, b"type ", key.kind().name())?;
-    push_bits(alloc, out, bits)?;
+    push_bits(out, bits)?;
     push_fingerprint_line(alloc, out, key)?;
     push_comment(out, comment)?;
     Ok(())
@@ -159,7 +159,7 @@ fn push_half(alloc: Global, out: &mut Vec<u8>, view: &PrivateView<'_>) -> Result
         (out.new.items ≡ out.old.items ++ half_lines (public_half (private_body view.now))) }
 {
     push_key_head(alloc, out, &view.public)?;
-    push_number_line(alloc, out, b"check ", view.check as u64)?;
+    push_number_line(out, b"check ", view.check as u64)?;
     push_comment(out, view.comment)?;
     Ok(())
 }

@@ -7,8 +7,9 @@ ghost use Rattle.ssh_print.specs.Texts.{text_line, word_line, hex_digit, hex_tex
 ghost use Rattle.std.specs.List.{flat_map};
 
 use crate::escaped::is_plain;
+use itoa::Buffer;
 use ssh_rules::SharedName;
-use std::alloc::{AllocError, Global};
+use std::alloc::AllocError;
 use std::mem::replace;
 
 /// On `Err` a part of it may have been written.
@@ -59,17 +60,12 @@ pub fn push_text_line(out: &mut Vec<u8>, word: &[u8], text: &[u8]) -> Result<(),
 
 /// Appends a line: a word, which ends with a space, and a decimal number. On `Err` nothing is
 /// changed.
-pub fn push_number_line(
-    alloc: Global,
-    out: &mut Vec<u8>,
-    word: &[u8],
-    number: u64,
-) -> Result<(), AllocError>
+pub fn push_number_line(out: &mut Vec<u8>, word: &[u8], number: u64) -> Result<(), AllocError>
     ensures ok { OnOk result (out.new.items ≡ out.old.items ++ word_line word.now (decimal number)) }
     ensures err { OnErr result (out.new.items ≡ out.old.items) }
 {
-    let digits = number.to_string(alloc)?;
-    push_word_line(out, word, digits.as_bytes())
+    let mut digits = Buffer::new();
+    push_word_line(out, word, digits.format(number).as_bytes())
 }
 
 /// Passes on the outcome of an append after the first `len` bytes. If it failed, the bytes after
@@ -151,12 +147,12 @@ pub fn push_escaped(out: &mut Vec<u8>, text: &[u8]) -> Result<(), AllocError>
 }
 
 /// Appends a number in decimal digits, without leading zeros. On `Err` nothing is changed.
-pub fn push_number(alloc: Global, out: &mut Vec<u8>, number: u64) -> Result<(), AllocError>
+pub fn push_number(out: &mut Vec<u8>, number: u64) -> Result<(), AllocError>
     ensures ok { OnOk result (out.new.items ≡ out.old.items ++ decimal number) }
     ensures err { OnErr result (out.new.items ≡ out.old.items) }
 {
-    let text = number.to_string(alloc)?;
-    out.extend_from_slice(text.as_bytes())?;
+    let mut digits = Buffer::new();
+    out.extend_from_slice(digits.format(number).as_bytes())?;
     Ok(())
 }
 

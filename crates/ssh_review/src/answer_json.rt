@@ -50,20 +50,14 @@ fn asked_word(who: Subject) -> &'static [u8]
 }
 
 #[tactic(auto, unfolding(crate::specs::AnswerObjects::answer_head))]
-fn push_head(
-    alloc: Global,
-    out: &mut Vec<u8>,
-    who: Subject,
-    name: &[u8],
-    word: &[u8],
-) -> Result<(), AllocError>
+fn push_head(out: &mut Vec<u8>, who: Subject, name: &[u8], word: &[u8]) -> Result<(), AllocError>
     ensures { OnOk result (out.new.items ≡ out.old.items ++ answer_head who name.now word.now) }
 {
     out.extend_from_slice(b"{\"file\":")?;
-    push_json_text(alloc, out, name)?;
-    push_text_field(alloc, out, b"what", b"answer")?;
-    push_text_field(alloc, out, b"asked", asked_word(who))?;
-    push_text_field(alloc, out, b"answer", word)?;
+    push_json_text(out, name)?;
+    push_text_field(out, b"what", b"answer")?;
+    push_text_field(out, b"asked", asked_word(who))?;
+    push_text_field(out, b"answer", word)?;
     Ok(())
 }
 
@@ -79,7 +73,7 @@ fn push_carried_element(
     text.push(b' ')?;
     text.extend_from_slice(carried.text.as_slice())?;
     out.push(b',')?;
-    push_json_text(alloc, out, &text)?;
+    push_json_text(out, &text)?;
     Ok(())
 }
 
@@ -127,7 +121,7 @@ fn push_rights(alloc: Global, out: &mut Vec<u8>, rights: &Option<Rights>) -> Res
             let mut carried = Vec::new(alloc);
             push_carried_elements(alloc, &mut carried, rights.carried.as_slice())?;
             push_rights_field(alloc, out, rights)?;
-            push_text_or_null(alloc, out, b"command", &rights.command)?;
+            push_text_or_null(out, b"command", &rights.command)?;
             push_array(out, b"carry", &carried)
         }
     }
@@ -144,7 +138,7 @@ fn cause_number(why: Cause) -> Option<u64>
 }
 
 #[tactic(auto, unfolding(crate::specs::AnswerObjects::answer_cause))]
-fn push_cause(alloc: Global, out: &mut Vec<u8>, why: Option<Cause>) -> Result<(), AllocError>
+fn push_cause(out: &mut Vec<u8>, why: Option<Cause>) -> Result<(), AllocError>
     ensures { OnOk result (out.new.items ≡ out.old.items ++ answer_cause why) }
 {
     match why {
@@ -153,8 +147,8 @@ fn push_cause(alloc: Global, out: &mut Vec<u8>, why: Option<Cause>) -> Result<()
             push_null_field(out, b"number")
         }
         Some(why) => {
-            push_text_field(alloc, out, b"cause", cause_code(why).as_bytes())?;
-            push_number_or_null(alloc, out, b"number", cause_number(why))
+            push_text_field(out, b"cause", cause_code(why).as_bytes())?;
+            push_number_or_null(out, b"number", cause_number(why))
         }
     }
 }
@@ -165,7 +159,7 @@ fn push_fingerprint(alloc: Global, out: &mut Vec<u8>, key: &Signed) -> Result<()
 {
     let digest = print_of(alloc, key.key.as_slice())?;
     let text = fingerprint_text(alloc, &digest)?;
-    push_text_field(alloc, out, b"key", &text)
+    push_text_field(out, b"key", &text)
 }
 
 /// Appends the fingerprint of the key that a line must hold, and whether it is the signer's.
@@ -196,10 +190,10 @@ fn push_detail(alloc: Global, out: &mut Vec<u8>, reason: &Reason) -> Result<(), 
     match reason {
         Reason::Unreadable(cause) => {
             let codes = line_codes(alloc, *cause)?;
-            push_text_field(alloc, out, b"detail", without_first(&codes))
+            push_text_field(out, b"detail", without_first(&codes))
         }
-        Reason::CriticalUnknown(name) => push_text_field(alloc, out, b"detail", name.as_slice()),
-        _ => push_text_field(alloc, out, b"detail", b""),
+        Reason::CriticalUnknown(name) => push_text_field(out, b"detail", name.as_slice()),
+        _ => push_text_field(out, b"detail", b""),
     }
 }
 
@@ -213,8 +207,8 @@ fn push_reason(
     ensures { OnOk result (out.new.items ≡ out.old.items ++ reason_element (number, reason.now)) }
 {
     out.extend_from_slice(b",{\"line\":")?;
-    push_number(alloc, out, number)?;
-    push_text_field(alloc, out, b"code", reason_code(reason).as_bytes())?;
+    push_number(out, number)?;
+    push_text_field(out, b"code", reason_code(reason).as_bytes())?;
     push_detail(alloc, out, reason)?;
     out.push(b'}')?;
     Ok(())
@@ -258,13 +252,13 @@ fn without_indent(line: &[u8]) -> &[u8]
     }
 }
 
-fn push_note_elements(alloc: Global, out: &mut Vec<u8>, text: &[u8]) -> Result<(), AllocError>
+fn push_note_elements(out: &mut Vec<u8>, text: &[u8]) -> Result<(), AllocError>
     ensures { OnOk result (out.new.items
         ≡ out.old.items ++ flat_map note_element (numbered 1 (lines_of text.now))) }
 {
     for (_, line) in Lines::new(text) {
         out.push(b',')?;
-        push_json_text(alloc, out, without_indent(line))?;
+        push_json_text(out, without_indent(line))?;
     }
     Ok(())
 }
@@ -275,16 +269,16 @@ fn push_notes(alloc: Global, out: &mut Vec<u8>, text: &[u8]) -> Result<(), Alloc
     ensures { OnOk result (out.new.items ≡ out.old.items ++ answer_notes text.now) }
 {
     let mut elements = Vec::new(alloc);
-    push_note_elements(alloc, &mut elements, text)?;
+    push_note_elements(&mut elements, text)?;
     push_array(out, b"notes", &elements)
 }
 
 /// Appends the line that lets the key in.
 #[tactic(auto, unfolding(crate::specs::AnswerObjects::answer_line))]
-fn push_line(alloc: Global, out: &mut Vec<u8>, line: Option<u64>) -> Result<(), AllocError>
+fn push_line(out: &mut Vec<u8>, line: Option<u64>) -> Result<(), AllocError>
     ensures { OnOk result (out.new.items ≡ out.old.items ++ answer_line line) }
 {
-    push_number_or_null(alloc, out, b"line", line)
+    push_number_or_null(out, b"line", line)
 }
 
 fn push_decision(alloc: Global, out: &mut Vec<u8>, decision: &Decision) -> Result<(), AllocError>
@@ -297,9 +291,9 @@ fn push_decision(alloc: Global, out: &mut Vec<u8>, decision: &Decision) -> Resul
             reasons,
             evidence,
         } => {
-            push_line(alloc, out, Some(*line))?;
+            push_line(out, Some(*line))?;
             push_rights(alloc, out, rights)?;
-            push_cause(alloc, out, None)?;
+            push_cause(out, None)?;
             push_key(alloc, out, evidence.as_slice())?;
             push_reasons(alloc, out, reasons.as_slice())?;
             Ok(())
@@ -309,9 +303,9 @@ fn push_decision(alloc: Global, out: &mut Vec<u8>, decision: &Decision) -> Resul
             reasons,
             evidence,
         } => {
-            push_line(alloc, out, None)?;
+            push_line(out, None)?;
             push_rights(alloc, out, &None)?;
-            push_cause(alloc, out, Some(*why))?;
+            push_cause(out, Some(*why))?;
             push_key(alloc, out, evidence.as_slice())?;
             push_reasons(alloc, out, reasons.as_slice())?;
             Ok(())
@@ -329,9 +323,9 @@ fn push_answer(
     match answer {
         Ok(decision) => push_decision(alloc, out, decision),
         Err(_) => {
-            push_line(alloc, out, None)?;
+            push_line(out, None)?;
             push_rights(alloc, out, &None)?;
-            push_cause(alloc, out, None)?;
+            push_cause(out, None)?;
             push_key(alloc, out, &[])?;
             push_reasons(alloc, out, &[])?;
             Ok(())
@@ -350,7 +344,7 @@ fn push_fault(
         Ok(_) => push_null_field(out, b"fault"),
         Err(error) => {
             let codes = fault_codes(alloc, *error)?;
-            push_text_field(alloc, out, b"fault", without_first(&codes))
+            push_text_field(out, b"fault", without_first(&codes))
         }
     }
 }
@@ -369,13 +363,7 @@ pub fn answer_object(
         (λ text. text.items ≡ answer_object who name.now (otherwise_seen other.now) answer.now) }
 {
     let mut out = Vec::new(alloc);
-    push_head(
-        alloc,
-        &mut out,
-        who,
-        name,
-        answer_word(other.may_admit, answer),
-    )?;
+    push_head(&mut out, who, name, answer_word(other.may_admit, answer))?;
     push_answer(alloc, &mut out, answer)?;
     push_notes(alloc, &mut out, &other.text)?;
     push_fault(alloc, &mut out, answer)?;
@@ -397,11 +385,11 @@ pub fn answer_total(
         (λ text. text.items ≡ answer_total who (asked_of at.entry.now) files status) }
 {
     let mut out = Vec::new(alloc);
-    push_total_head(alloc, &mut out)?;
-    push_text_field(alloc, &mut out, b"asked", asked_word(who))?;
+    push_total_head(&mut out)?;
+    push_text_field(&mut out, b"asked", asked_word(who))?;
     push_asked_fields(alloc, &mut out, at)?;
-    push_number_field(alloc, &mut out, b"files", files)?;
-    push_number_field(alloc, &mut out, b"status", status as u64)?;
+    push_number_field(&mut out, b"files", files)?;
+    push_number_field(&mut out, b"status", status as u64)?;
     out.extend_from_slice(b"}\n")?;
     Ok(out)
 }

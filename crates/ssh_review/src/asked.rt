@@ -62,16 +62,16 @@ fn push_date(alloc: Global, out: &mut Vec<u8>, moment: u64) -> Result<(), AllocE
     ensures { OnOk result (out.new.items ≡ out.old.items ++ text_field (codes "at") (date_of moment)) }
 {
     let date = date_text(alloc, moment)?;
-    push_text_field(alloc, out, b"at", &date)
+    push_text_field(out, b"at", &date)
 }
 
-fn push_zone(alloc: Global, out: &mut Vec<u8>, zone: Option<&[u8]>) -> Result<(), AllocError>
+fn push_zone(out: &mut Vec<u8>, zone: Option<&[u8]>) -> Result<(), AllocError>
     ensures { OnOk result (out.new.items
         ≡ out.old.items ++ text_or_null (codes "zone") (option_copied zone.entry)) }
 {
     match zone {
         None => push_null_field(out, b"zone"),
-        Some(rule) => push_text_field(alloc, out, b"zone", rule),
+        Some(rule) => push_text_field(out, b"zone", rule),
     }
 }
 
@@ -84,27 +84,27 @@ pub(crate) fn push_asked_fields(
 ) -> Result<(), AllocError>
     ensures { OnOk result (out.new.items ≡ out.old.items ++ asked_fields (asked_of at.entry.now)) }
 {
-    push_number_field(alloc, out, b"now", at.now)?;
+    push_number_field(out, b"now", at.now)?;
     push_date(alloc, out, at.now)?;
-    push_zone(alloc, out, at.zone)?;
+    push_zone(out, at.zone)?;
     Ok(())
 }
 
 /// Appends the program and its version.
 #[tactic(auto, unfolding(crate::specs::Asked::program_field))]
-fn push_program(alloc: Global, out: &mut Vec<u8>) -> Result<(), AllocError>
+fn push_program(out: &mut Vec<u8>) -> Result<(), AllocError>
     ensures { OnOk result (out.new.items ≡ out.old.items ++ program_field) }
 {
-    push_text_field(alloc, out, b"program", sentence("version").as_bytes())
+    push_text_field(out, b"program", sentence("version").as_bytes())
 }
 
 /// Appends the first fields of a total: the number of the JSON format, which rises when a field is
 /// added or changes, and the program with its version.
-pub(crate) fn push_total_head(alloc: Global, out: &mut Vec<u8>) -> Result<(), AllocError>
+pub(crate) fn push_total_head(out: &mut Vec<u8>) -> Result<(), AllocError>
     ensures { OnOk result (out.new.items ≡ out.old.items ++ total_head) }
 {
     out.extend_from_slice(b"{\"what\":\"total\"")?;
-    push_number_field(alloc, out, b"format", 2)?;
-    push_program(alloc, out)?;
+    push_number_field(out, b"format", 2)?;
+    push_program(out)?;
     Ok(())
 }

@@ -206,7 +206,7 @@ pub(crate) fn push_end(
         (out.new.items ≡ out.old.items ++ end_line form name.now counts digest.now) }
 {
     match form {
-        Form::Text => push_end_text(alloc, out, name, counts, digest),
+        Form::Text => push_end_text(out, name, counts, digest),
         Form::Json => push_end_object(alloc, out, name, counts, digest),
     }
 }
@@ -238,7 +238,6 @@ fn whole_review(
 
 /// Appends the end of a file with a fault.
 fn push_fault(
-    alloc: Global,
     form: Form,
     out: &mut Vec<u8>,
     name: &[u8],
@@ -248,7 +247,7 @@ fn push_fault(
 {
     match form {
         Form::Text => push_fault_text(out, name, fault),
-        Form::Json => push_fault_object(alloc, out, name, fault),
+        Form::Json => push_fault_object(out, name, fault),
     }
 }
 
@@ -263,7 +262,7 @@ pub fn review_fault(
     ensures { IfOk result (λ r. review r ≡ fault_review form name.now fault) }
 {
     let mut text = Vec::new(alloc);
-    push_fault(alloc, form, &mut text, name, fault)?;
+    push_fault(form, &mut text, name, fault)?;
     Ok(Reviewed {
         text,
         counts: Counts::NONE,

@@ -88,27 +88,26 @@ pub struct Total {
     pub counts: Counts,
 }
 
-fn push_count(alloc: Global, out: &mut Vec<u8>, number: u64, what: &[u8]) -> Result<(), AllocError>
+fn push_count(out: &mut Vec<u8>, number: u64, what: &[u8]) -> Result<(), AllocError>
     ensures { OnOk result (out.new.items ≡ out.old.items ++ count_text number what.now) }
 {
-    push_number(alloc, out, number)?;
+    push_number(out, number)?;
     out.extend_from_slice(what)?;
     Ok(())
 }
 
-fn push_counts(alloc: Global, out: &mut Vec<u8>, counts: Counts) -> Result<(), AllocError>
+fn push_counts(out: &mut Vec<u8>, counts: Counts) -> Result<(), AllocError>
     ensures { OnOk result (out.new.items ≡ out.old.items ++ counts_text counts) }
 {
-    push_count(alloc, out, counts.lines, b" lines, ")?;
-    push_count(alloc, out, counts.keys, b" key lines, ")?;
-    push_count(alloc, out, counts.unreadable, b" unreadable, ")?;
-    push_count(alloc, out, counts.findings, b" findings")?;
+    push_count(out, counts.lines, b" lines, ")?;
+    push_count(out, counts.keys, b" key lines, ")?;
+    push_count(out, counts.unreadable, b" unreadable, ")?;
+    push_count(out, counts.findings, b" findings")?;
     Ok(())
 }
 
 /// Appends the end of a file that was reviewed, as text.
 pub(crate) fn push_end_text(
-    alloc: Global,
     out: &mut Vec<u8>,
     name: &[u8],
     counts: Counts,
@@ -119,7 +118,7 @@ pub(crate) fn push_end_text(
 {
     push_escaped(out, name)?;
     out.extend_from_slice(b": ")?;
-    push_counts(alloc, out, counts)?;
+    push_counts(out, counts)?;
     out.extend_from_slice(b", sha256 ")?;
     push_hex(out, digest)?;
     out.push(b'\n')?;
@@ -173,9 +172,9 @@ pub(crate) fn push_total_text(
         ≡ out.old.items ++ total_text zone.now (asking_of asked.entry.now) total.now) }
 {
     out.extend_from_slice(b"total: ")?;
-    push_count(alloc, out, total.files, b" files, ")?;
-    push_count(alloc, out, total.faults, b" faults, ")?;
-    push_counts(alloc, out, total.counts)?;
+    push_count(out, total.files, b" files, ")?;
+    push_count(out, total.faults, b" faults, ")?;
+    push_counts(out, total.counts)?;
     out.extend_from_slice(b", ")?;
     push_asked_words(alloc, out, &asked_by(zone, asked))?;
     out.push(b'\n')?;
@@ -184,23 +183,23 @@ pub(crate) fn push_total_text(
 
 /// Appends the first fields of a file's end: the file's name, and that it is an end.
 #[tactic(auto, unfolding(crate::specs::EndObjects::end_head))]
-fn push_end_head(alloc: Global, out: &mut Vec<u8>, name: &[u8]) -> Result<(), AllocError>
+fn push_end_head(out: &mut Vec<u8>, name: &[u8]) -> Result<(), AllocError>
     ensures { OnOk result (out.new.items ≡ out.old.items ++ end_head name.now) }
 {
     out.extend_from_slice(b"{\"file\":")?;
-    push_json_text(alloc, out, name)?;
-    push_text_field(alloc, out, b"what", b"end")?;
+    push_json_text(out, name)?;
+    push_text_field(out, b"what", b"end")?;
     Ok(())
 }
 
 #[tactic(auto, unfolding(crate::specs::EndObjects::counts_fields))]
-fn push_counts_fields(alloc: Global, out: &mut Vec<u8>, counts: Counts) -> Result<(), AllocError>
+fn push_counts_fields(out: &mut Vec<u8>, counts: Counts) -> Result<(), AllocError>
     ensures { OnOk result (out.new.items ≡ out.old.items ++ counts_fields counts) }
 {
-    push_number_field(alloc, out, b"lines", counts.lines)?;
-    push_number_field(alloc, out, b"key_lines", counts.keys)?;
-    push_number_field(alloc, out, b"unreadable", counts.unreadable)?;
-    push_number_field(alloc, out, b"findings", counts.findings)?;
+    push_number_field(out, b"lines", counts.lines)?;
+    push_number_field(out, b"key_lines", counts.keys)?;
+    push_number_field(out, b"unreadable", counts.unreadable)?;
+    push_number_field(out, b"findings", counts.findings)?;
     Ok(())
 }
 
@@ -218,9 +217,9 @@ pub(crate) fn push_end_object(
 {
     let mut hex = Vec::new(alloc);
     push_hex(&mut hex, digest)?;
-    push_end_head(alloc, out, name)?;
-    push_counts_fields(alloc, out, counts)?;
-    push_text_field(alloc, out, b"sha256", &hex)?;
+    push_end_head(out, name)?;
+    push_counts_fields(out, counts)?;
+    push_text_field(out, b"sha256", &hex)?;
     push_null_field(out, b"fault")?;
     out.extend_from_slice(b"}\n")?;
     Ok(())
@@ -230,34 +229,33 @@ pub(crate) fn push_end_object(
 /// `null`.
 #[tactic(auto, unfolding(crate::specs::EndObjects::fault_object))]
 pub(crate) fn push_fault_object(
-    alloc: Global,
     out: &mut Vec<u8>,
     name: &[u8],
     fault: FileFault,
 ) -> Result<(), AllocError>
     ensures { OnOk result (out.new.items ≡ out.old.items ++ fault_object name.now fault) }
 {
-    push_end_head(alloc, out, name)?;
-    push_counts_fields(alloc, out, Counts::NONE)?;
+    push_end_head(out, name)?;
+    push_counts_fields(out, Counts::NONE)?;
     push_null_field(out, b"sha256")?;
-    push_text_field(alloc, out, b"fault", fault_code(fault))?;
+    push_text_field(out, b"fault", fault_code(fault))?;
     out.extend_from_slice(b"}\n")?;
     Ok(())
 }
 
-fn push_code_element(alloc: Global, out: &mut Vec<u8>, code: Code) -> Result<(), AllocError>
+fn push_code_element(out: &mut Vec<u8>, code: Code) -> Result<(), AllocError>
     ensures { OnOk result (out.new.items ≡ out.old.items ++ code_element code) }
 {
     out.push(b',')?;
-    push_json_text(alloc, out, code.text())?;
+    push_json_text(out, code.text())?;
     Ok(())
 }
 
-fn push_code_elements(alloc: Global, out: &mut Vec<u8>, told: &[Code]) -> Result<(), AllocError>
+fn push_code_elements(out: &mut Vec<u8>, told: &[Code]) -> Result<(), AllocError>
     ensures { OnOk result (out.new.items ≡ out.old.items ++ flat_map code_element told.now) }
 {
     for code in told {
-        push_code_element(alloc, out, *code)?;
+        push_code_element(out, *code)?;
     }
     Ok(())
 }
@@ -274,20 +272,20 @@ fn push_review_fields(
         ≡ out.old.items ++ review_fields kind.now (asking_of asked.entry.now)) }
 {
     let mut told = Vec::new(alloc);
-    push_code_elements(alloc, &mut told, asked.told)?;
-    push_text_field(alloc, out, b"kind", kind)?;
-    push_number_field(alloc, out, b"rsa_minimum", asked.rsa_minimum as u64)?;
+    push_code_elements(&mut told, asked.told)?;
+    push_text_field(out, b"kind", kind)?;
+    push_number_field(out, b"rsa_minimum", asked.rsa_minimum as u64)?;
     push_array(out, b"told", &told)?;
     Ok(())
 }
 
 #[tactic(auto, unfolding(crate::specs::EndObjects::total_counts))]
-fn push_total_counts(alloc: Global, out: &mut Vec<u8>, total: &Total) -> Result<(), AllocError>
+fn push_total_counts(out: &mut Vec<u8>, total: &Total) -> Result<(), AllocError>
     ensures { OnOk result (out.new.items ≡ out.old.items ++ total_counts total.now) }
 {
-    push_number_field(alloc, out, b"files", total.files)?;
-    push_number_field(alloc, out, b"faults", total.faults)?;
-    push_counts_fields(alloc, out, total.counts)?;
+    push_number_field(out, b"files", total.files)?;
+    push_number_field(out, b"faults", total.faults)?;
+    push_counts_fields(out, total.counts)?;
     Ok(())
 }
 
@@ -304,10 +302,10 @@ pub(crate) fn push_total_object(
     ensures { OnOk result (out.new.items ≡ out.old.items
         ++ total_object kind.now zone.now (asking_of asked.entry.now) total.now) }
 {
-    push_total_head(alloc, out)?;
+    push_total_head(out)?;
     push_review_fields(alloc, out, kind, asked)?;
     push_asked_fields(alloc, out, &asked_by(zone, asked))?;
-    push_total_counts(alloc, out, total)?;
+    push_total_counts(out, total)?;
     out.extend_from_slice(b"}\n")?;
     Ok(())
 }

@@ -39,21 +39,15 @@ pub(crate) fn push_null_field(out: &mut Vec<u8>, name: &[u8]) -> Result<(), Allo
 }
 
 /// Appends a field with these bytes as a JSON string.
-pub(crate) fn push_text_field(
-    alloc: Global,
-    out: &mut Vec<u8>,
-    name: &[u8],
-    text: &[u8],
-) -> Result<(), AllocError>
+pub(crate) fn push_text_field(out: &mut Vec<u8>, name: &[u8], text: &[u8]) -> Result<(), AllocError>
     ensures { OnOk result (out.new.items ≡ out.old.items ++ text_field name.now text.now) }
 {
     push_field_name(out, name)?;
-    push_json_text(alloc, out, text)?;
+    push_json_text(out, text)?;
     Ok(())
 }
 
 pub(crate) fn push_text_or_null(
-    alloc: Global,
     out: &mut Vec<u8>,
     name: &[u8],
     text: &Option<Bytes>,
@@ -61,14 +55,13 @@ pub(crate) fn push_text_or_null(
     ensures { OnOk result (out.new.items ≡ out.old.items ++ text_or_null name.now text.now) }
 {
     match text {
-        Some(text) => push_text_field(alloc, out, name, text.as_slice()),
+        Some(text) => push_text_field(out, name, text.as_slice()),
         None => push_null_field(out, name),
     }
 }
 
 /// Appends a field with a number.
 pub(crate) fn push_number_field(
-    alloc: Global,
     out: &mut Vec<u8>,
     name: &[u8],
     number: u64,
@@ -76,12 +69,11 @@ pub(crate) fn push_number_field(
     ensures { OnOk result (out.new.items ≡ out.old.items ++ number_field name.now number) }
 {
     push_field_name(out, name)?;
-    push_number(alloc, out, number)?;
+    push_number(out, number)?;
     Ok(())
 }
 
 pub(crate) fn push_number_or_null(
-    alloc: Global,
     out: &mut Vec<u8>,
     name: &[u8],
     number: Option<u64>,
@@ -89,21 +81,17 @@ pub(crate) fn push_number_or_null(
     ensures { OnOk result (out.new.items ≡ out.old.items ++ number_or_null name.now number) }
 {
     match number {
-        Some(number) => push_number_field(alloc, out, name, number),
+        Some(number) => push_number_field(out, name, number),
         None => push_null_field(out, name),
     }
 }
 
 /// Appends the number of bits of an RSA key; `null` for other keys.
-pub(crate) fn push_bits_field(
-    alloc: Global,
-    out: &mut Vec<u8>,
-    bits: Option<u32>,
-) -> Result<(), AllocError>
+pub(crate) fn push_bits_field(out: &mut Vec<u8>, bits: Option<u32>) -> Result<(), AllocError>
     ensures { OnOk result (out.new.items ≡ out.old.items ++ number_or_null (codes "bits") bits) }
 {
     match bits {
-        Some(bits) => push_number_field(alloc, out, b"bits", bits as u64),
+        Some(bits) => push_number_field(out, b"bits", bits as u64),
         None => push_null_field(out, b"bits"),
     }
 }

@@ -37,7 +37,7 @@ pub(crate) fn detail(alloc: Global, row: Row) -> Result<Vec<u8>, AllocError>
     let mut text = Vec::from_slice(alloc, row.detail)?;
     match row.value {
         Value::Nothing => {}
-        Value::Number(number) => push_number(alloc, &mut text, number)?,
+        Value::Number(number) => push_number(&mut text, number)?,
         Value::Cause(cause) => push_cause(alloc, &mut text, cause)?,
     }
     Ok(text)
@@ -53,21 +53,21 @@ fn cause_text(cause: LineCause) -> &'static [u8]
     }
 }
 
-fn push_value(alloc: Global, out: &mut Vec<u8>, value: Value) -> Result<(), AllocError>
+fn push_value(out: &mut Vec<u8>, value: Value) -> Result<(), AllocError>
     ensures { OnOk result (out.new.items ≡ out.old.items ++ value_text value) }
 {
     match value {
         Value::Nothing => Ok(()),
-        Value::Number(number) => push_number(alloc, out, number),
+        Value::Number(number) => push_number(out, number),
         Value::Cause(cause) => out.extend_from_slice(cause_text(cause)),
     }
 }
 
-fn push_sentence(alloc: Global, out: &mut Vec<u8>, row: Row) -> Result<(), AllocError>
+fn push_sentence(out: &mut Vec<u8>, row: Row) -> Result<(), AllocError>
     ensures { OnOk result (out.new.items ≡ out.old.items ++ row_sentence (row_seen row)) }
 {
     out.extend_from_slice(row.before)?;
-    push_value(alloc, out, row.value)?;
+    push_value(out, row.value)?;
     out.extend_from_slice(row.after)?;
     Ok(())
 }
@@ -100,7 +100,7 @@ fn push_row(alloc: Global, out: &mut Vec<u8>, row: Row) -> Result<(), AllocError
 {
     let said = detail(alloc, row)?;
     push_finding_head(out, row.code.text(), &said)?;
-    push_sentence(alloc, out, row)?;
+    push_sentence(out, row)?;
     out.push(b'\n')?;
     Ok(())
 }
@@ -127,8 +127,8 @@ fn push_object(alloc: Global, out: &mut Vec<u8>, row: Row) -> Result<(), AllocEr
 {
     let said = detail(alloc, row)?;
     out.extend_from_slice(b"{\"code\":")?;
-    push_json_text(alloc, out, row.code.text())?;
-    push_text_field(alloc, out, b"detail", &said)?;
+    push_json_text(out, row.code.text())?;
+    push_text_field(out, b"detail", &said)?;
     out.push(b'}')?;
     Ok(())
 }

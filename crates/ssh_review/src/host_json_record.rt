@@ -17,8 +17,8 @@ fn push_entry_fields(alloc: Global, out: &mut Vec<u8>, facts: &HostFacts) -> Res
     ensures { OnOk result (out.new.items ≡ out.old.items ++ entry_fields facts.now) }
 {
     push_key_fields(alloc, out, facts.kind, facts.bits, &facts.fingerprint)?;
-    push_text_field(alloc, out, b"comment", facts.comment.as_slice())?;
-    push_text_field(alloc, out, b"names", facts.names.as_slice())?;
+    push_text_field(out, b"comment", facts.comment.as_slice())?;
+    push_text_field(out, b"names", facts.names.as_slice())?;
     Ok(())
 }
 
@@ -34,7 +34,7 @@ pub(crate) fn push_entry_object(
     ensures { OnOk result (out.new.items ≡ out.old.items
         ++ host_entry_object place.entry.now.name.now place.entry.now.number facts.now found.now) }
 {
-    push_object_head(alloc, out, place, is_word(facts.is_authority))?;
+    push_object_head(out, place, is_word(facts.is_authority))?;
     push_entry_fields(alloc, out, facts)?;
     push_findings_end(alloc, out, found)?;
     Ok(())
@@ -60,21 +60,17 @@ fn push_revoked_fields(alloc: Global, out: &mut Vec<u8>, bytes: &[u8]) -> Result
     let text = fingerprint_text(alloc, &print)?;
     push_null_field(out, b"type")?;
     push_null_field(out, b"bits")?;
-    push_text_field(alloc, out, b"key", &text)?;
+    push_text_field(out, b"key", &text)?;
     Ok(())
 }
 
 /// Appends `null` for the comment, and the names of a revocation as they are in the file.
 #[tactic(auto, unfolding(crate::specs::HostObjects::revoked_names_fields))]
-fn push_revoked_names(
-    alloc: Global,
-    out: &mut Vec<u8>,
-    facts: &RevocationFacts,
-) -> Result<(), AllocError>
+fn push_revoked_names(out: &mut Vec<u8>, facts: &RevocationFacts) -> Result<(), AllocError>
     ensures { OnOk result (out.new.items ≡ out.old.items ++ revoked_names_fields facts.now) }
 {
     push_null_field(out, b"comment")?;
-    push_text_field(alloc, out, b"names", facts.names.as_slice())?;
+    push_text_field(out, b"names", facts.names.as_slice())?;
     Ok(())
 }
 
@@ -91,9 +87,9 @@ pub(crate) fn push_revoked_object(
     ensures { OnOk result (out.new.items ≡ out.old.items
         ++ revoked_object place.entry.now.name.now place.entry.now.number bytes.now facts.now found.now) }
 {
-    push_object_head(alloc, out, place, b"revoked")?;
+    push_object_head(out, place, b"revoked")?;
     push_revoked_fields(alloc, out, bytes)?;
-    push_revoked_names(alloc, out, facts)?;
+    push_revoked_names(out, facts)?;
     push_findings_end(alloc, out, found)?;
     Ok(())
 }
@@ -112,7 +108,7 @@ pub(crate) fn push_bare_object(
     ensures { OnOk result (out.new.items ≡ out.old.items
         ++ bare_object place.entry.now.name.now place.entry.now.number is.now held found.now) }
 {
-    push_object_head(alloc, out, place, is)?;
+    push_object_head(out, place, is)?;
     push_held_fields(alloc, out, held)?;
     push_empty_fields(out)?;
     push_findings_end(alloc, out, found)?;

@@ -13,11 +13,11 @@ use std::alloc::{AllocError, Global};
 
 /// Appends the key and the comment of an entry.
 #[tactic(auto, unfolding(crate::specs::HostRecords::host_entry_head))]
-fn push_head(alloc: Global, out: &mut Vec<u8>, facts: &HostFacts) -> Result<(), AllocError>
+fn push_head(out: &mut Vec<u8>, facts: &HostFacts) -> Result<(), AllocError>
     ensures { OnOk result (out.new.items ≡ out.old.items ++ host_entry_head facts.now) }
 {
     out.extend_from_slice(role_word(facts.is_authority))?;
-    push_key(alloc, out, facts.kind, facts.bits, &facts.fingerprint)?;
+    push_key(out, facts.kind, facts.bits, &facts.fingerprint)?;
     push_comment(out, facts.comment.as_slice())?;
     out.push(b'\n')?;
     Ok(())
@@ -35,8 +35,8 @@ pub(crate) fn push_entry_text(
     ensures { OnOk result (out.new.items ≡ out.old.items
         ++ host_entry_text place.entry.now.name.now place.entry.now.number facts.now found.now) }
 {
-    push_place(alloc, out, place)?;
-    push_head(alloc, out, facts)?;
+    push_place(out, place)?;
+    push_head(out, facts)?;
     push_text_line(out, b"    names ", facts.names.as_slice())?;
     push_findings(alloc, out, found)?;
     Ok(())
@@ -67,7 +67,7 @@ pub(crate) fn push_revoked_text(
         ++ revoked_text place.entry.now.name.now place.entry.now.number bytes.now facts.now found.now) }
 {
     let print = print_of(alloc, bytes)?;
-    push_place(alloc, out, place)?;
+    push_place(out, place)?;
     out.extend_from_slice(b"revoked")?;
     push_fingerprint(out, &print)?;
     out.push(b'\n')?;
@@ -90,9 +90,9 @@ pub(crate) fn push_bare_text(
     ensures { OnOk result (out.new.items ≡ out.old.items
         ++ bare_text place.entry.now.name.now place.entry.now.number is.now held found.now) }
 {
-    push_place(alloc, out, place)?;
+    push_place(out, place)?;
     out.extend_from_slice(is)?;
-    push_held(alloc, out, held)?;
+    push_held(out, held)?;
     out.push(b'\n')?;
     push_findings(alloc, out, found)?;
     Ok(())

@@ -29,7 +29,6 @@ pub(crate) struct LineRef<'a> {
 /// Appends the first fields of a record: the file, the line, and what the line is.
 #[tactic(auto, unfolding(crate::specs::Objects::object_head))]
 pub(crate) fn push_object_head(
-    alloc: Global,
     out: &mut Vec<u8>,
     place: &LineRef<'_>,
     what: &[u8],
@@ -38,9 +37,9 @@ pub(crate) fn push_object_head(
         ≡ out.old.items ++ object_head place.entry.now.name.now place.entry.now.number what.now) }
 {
     out.extend_from_slice(b"{\"file\":")?;
-    push_json_text(alloc, out, place.name)?;
-    push_number_field(alloc, out, b"line", place.number)?;
-    push_text_field(alloc, out, b"what", what)?;
+    push_json_text(out, place.name)?;
+    push_number_field(out, b"line", place.number)?;
+    push_text_field(out, b"what", what)?;
     Ok(())
 }
 
@@ -73,9 +72,9 @@ pub(crate) fn push_key_fields(
     ensures { OnOk result (out.new.items ≡ out.old.items ++ key_fields kind bits fingerprint.now) }
 {
     let text = fingerprint_text(alloc, fingerprint)?;
-    push_text_field(alloc, out, b"type", kind.name())?;
-    push_bits_field(alloc, out, bits)?;
-    push_text_field(alloc, out, b"key", &text)?;
+    push_text_field(out, b"type", kind.name())?;
+    push_bits_field(out, bits)?;
+    push_text_field(out, b"key", &text)?;
     Ok(())
 }
 
@@ -85,7 +84,7 @@ fn push_owner_fields(alloc: Global, out: &mut Vec<u8>, facts: &Facts) -> Result<
     ensures { OnOk result (out.new.items ≡ out.old.items ++ owner_fields facts.now) }
 {
     push_key_fields(alloc, out, facts.kind, facts.bits, &facts.fingerprint)?;
-    push_text_field(alloc, out, b"comment", facts.comment.as_slice())?;
+    push_text_field(out, b"comment", facts.comment.as_slice())?;
     Ok(())
 }
 
@@ -98,7 +97,7 @@ fn push_options_field(
 {
     let mut text = Vec::new(alloc);
     push_options(&mut text, options)?;
-    push_text_field(alloc, out, b"options", &text)
+    push_text_field(out, b"options", &text)
 }
 
 /// Appends the rights that are on.
@@ -111,7 +110,7 @@ pub(crate) fn push_rights_field(
 {
     let mut words = Vec::new(alloc);
     push_rights_words(alloc, &mut words, rights)?;
-    push_text_field(alloc, out, b"rights", &words)
+    push_text_field(out, b"rights", &words)
 }
 
 /// Appends the rights that the line gives, and its limits.
@@ -120,9 +119,9 @@ fn push_grant_fields(alloc: Global, out: &mut Vec<u8>, facts: &Facts) -> Result<
     ensures { OnOk result (out.new.items ≡ out.old.items ++ grant_fields facts.now) }
 {
     push_rights_field(alloc, out, &facts.rights)?;
-    push_text_or_null(alloc, out, b"command", &facts.rights.command)?;
-    push_text_or_null(alloc, out, b"source", &facts.from)?;
-    push_text_or_null(alloc, out, b"principals", &facts.principals)?;
+    push_text_or_null(out, b"command", &facts.rights.command)?;
+    push_text_or_null(out, b"source", &facts.from)?;
+    push_text_or_null(out, b"principals", &facts.principals)?;
     push_moment_or_null(alloc, out, b"expires", facts.until)?;
     Ok(())
 }
@@ -143,11 +142,11 @@ pub(crate) fn push_entry_object(
     ensures { OnOk result (out.new.items ≡ out.old.items ++ entry_object place.entry.now.name.now
         place.entry.now.number facts.now options.entry shadowed_by lets_in found.now) }
 {
-    push_object_head(alloc, out, place, is_word(facts.is_authority))?;
+    push_object_head(out, place, is_word(facts.is_authority))?;
     push_owner_fields(alloc, out, facts)?;
     push_options_field(alloc, out, options)?;
     push_grant_fields(alloc, out, facts)?;
-    push_number_or_null(alloc, out, b"shadowed_by", shadowed_by)?;
+    push_number_or_null(out, b"shadowed_by", shadowed_by)?;
     push_truth(out, b"lets_in", lets_in)?;
     push_findings_end(alloc, out, found)?;
     Ok(())
@@ -206,7 +205,7 @@ pub(crate) fn push_unreadable_object(
     ensures { OnOk result (out.new.items ≡ out.old.items ++ unreadable_object
         place.entry.now.name.now place.entry.now.number held found.now) }
 {
-    push_object_head(alloc, out, place, b"unreadable")?;
+    push_object_head(out, place, b"unreadable")?;
     push_held_fields(alloc, out, held)?;
     push_empty_fields(out)?;
     push_findings_end(alloc, out, found)?;

@@ -130,18 +130,12 @@ pub fn readable_auth(alloc: Global, file: &[u8]) -> Result<Vec<u8>, RewriteError
 }
 
 /// Appends the line of a line that is left out, by a code and its detail.
-fn push_left_out(
-    alloc: Global,
-    out: &mut Vec<u8>,
-    number: u64,
-    code: &[u8],
-    said: &[u8],
-) -> Result<(), AllocError>
+fn push_left_out(out: &mut Vec<u8>, number: u64, code: &[u8], said: &[u8]) -> Result<(), AllocError>
     ensures { OnOk result
         (out.new.items ≡ out.old.items ++ left_out_line number code.now said.now) }
 {
     out.extend_from_slice(b"ssh_audit: line ")?;
-    push_number(alloc, out, number)?;
+    push_number(out, number)?;
     out.extend_from_slice(b" left out: ")?;
     out.extend_from_slice(code)?;
     push_detail(out, said)?;
@@ -154,7 +148,7 @@ fn push_row(alloc: Global, out: &mut Vec<u8>, number: u64, row: Row) -> Result<(
         (out.new.items ≡ out.old.items ++ left_out_row number (row_seen row)) }
 {
     let said = detail(alloc, row)?;
-    push_left_out(alloc, out, number, row.code.text(), &said)
+    push_left_out(out, number, row.code.text(), &said)
 }
 
 fn push_findings(
@@ -173,17 +167,12 @@ fn push_findings(
 }
 
 /// Appends the line of a security key whose application has a NUL.
-fn push_key(
-    alloc: Global,
-    out: &mut Vec<u8>,
-    number: u64,
-    key: &KeyView<'_>,
-) -> Result<(), AllocError>
+fn push_key(out: &mut Vec<u8>, number: u64, key: &KeyView<'_>) -> Result<(), AllocError>
     ensures { OnOk result
         (out.new.items ≡ out.old.items ++ left_out_key number (key_of key.now)) }
 {
     if has_nul_application(key) {
-        push_left_out(alloc, out, number, b"application", b"")?;
+        push_left_out(out, number, b"application", b"")?;
     }
     Ok(())
 }
@@ -200,7 +189,7 @@ fn push_left_out_entry(
 {
     let found = doubts(alloc, entry)?;
     push_findings(alloc, out, number, &found)?;
-    push_key(alloc, out, number, &entry.key())?;
+    push_key(out, number, &entry.key())?;
     Ok(())
 }
 

@@ -16,17 +16,13 @@ use ssh_text::Bytes;
 use std::alloc::{AllocError, Global};
 
 /// Appends a file's name and a line's number.
-pub(crate) fn push_place(
-    alloc: Global,
-    out: &mut Vec<u8>,
-    place: &LineRef<'_>,
-) -> Result<(), AllocError>
+pub(crate) fn push_place(out: &mut Vec<u8>, place: &LineRef<'_>) -> Result<(), AllocError>
     ensures { OnOk result (out.new.items
         ≡ out.old.items ++ place_text place.entry.now.name.now place.entry.now.number) }
 {
     push_shown(out, place.name)?;
     out.push(b':')?;
-    push_number(alloc, out, place.number)?;
+    push_number(out, place.number)?;
     out.extend_from_slice(b": ")?;
     Ok(())
 }
@@ -39,12 +35,12 @@ pub(crate) fn role_word(is_authority: bool) -> &'static [u8]
 }
 
 /// Appends the number of bits of an RSA key, after a space.
-fn push_bits(alloc: Global, out: &mut Vec<u8>, bits: Option<u32>) -> Result<(), AllocError>
+fn push_bits(out: &mut Vec<u8>, bits: Option<u32>) -> Result<(), AllocError>
     ensures { OnOk result (out.new.items ≡ out.old.items ++ bits_text bits) }
 {
     if let Some(bits) = bits {
         out.push(b' ')?;
-        push_number(alloc, out, bits as u64)?;
+        push_number(out, bits as u64)?;
     }
     Ok(())
 }
@@ -73,7 +69,6 @@ pub(crate) fn push_fingerprint(out: &mut Vec<u8>, fingerprint: &[u8]) -> Result<
 /// Appends the type of a key, the bits of an RSA key, and the fingerprint.
 #[tactic(auto, unfolding(crate::specs::Records::key_words))]
 pub(crate) fn push_key(
-    alloc: Global,
     out: &mut Vec<u8>,
     kind: KeyKind,
     bits: Option<u32>,
@@ -82,18 +77,18 @@ pub(crate) fn push_key(
     ensures { OnOk result (out.new.items ≡ out.old.items ++ key_words kind bits fingerprint.now) }
 {
     out.extend_from_slice(kind.name())?;
-    push_bits(alloc, out, bits)?;
+    push_bits(out, bits)?;
     push_fingerprint(out, fingerprint)?;
     Ok(())
 }
 
 /// Appends the first line of an entry's record, after its place.
 #[tactic(auto, unfolding(crate::specs::Records::entry_head))]
-fn push_head(alloc: Global, out: &mut Vec<u8>, facts: &Facts) -> Result<(), AllocError>
+fn push_head(out: &mut Vec<u8>, facts: &Facts) -> Result<(), AllocError>
     ensures { OnOk result (out.new.items ≡ out.old.items ++ entry_head facts.now) }
 {
     out.extend_from_slice(role_word(facts.is_authority))?;
-    push_key(alloc, out, facts.kind, facts.bits, &facts.fingerprint)?;
+    push_key(out, facts.kind, facts.bits, &facts.fingerprint)?;
     push_comment(out, facts.comment.as_slice())?;
     out.push(b'\n')?;
     Ok(())
@@ -211,8 +206,8 @@ pub(crate) fn push_entry_text(
     ensures { OnOk result (out.new.items ≡ out.old.items
         ++ entry_text place.entry.now.name.now place.entry.now.number facts.now found.now) }
 {
-    push_place(alloc, out, place)?;
-    push_head(alloc, out, facts)?;
+    push_place(out, place)?;
+    push_head(out, facts)?;
     push_right_lines(alloc, out, &facts.rights)?;
     push_limits(alloc, out, facts)?;
     push_findings(alloc, out, found)?;
@@ -221,16 +216,12 @@ pub(crate) fn push_entry_text(
 
 /// Appends the key that OpenSSH reads on a line which is unreadable here, after a space, if there
 /// is one.
-pub(crate) fn push_held(
-    alloc: Global,
-    out: &mut Vec<u8>,
-    held: Option<HeldKey>,
-) -> Result<(), AllocError>
+pub(crate) fn push_held(out: &mut Vec<u8>, held: Option<HeldKey>) -> Result<(), AllocError>
     ensures { OnOk result (out.new.items ≡ out.old.items ++ held_words held) }
 {
     if let Some(held) = held {
         out.push(b' ')?;
-        push_key(alloc, out, held.kind, held.bits, &held.fingerprint)?;
+        push_key(out, held.kind, held.bits, &held.fingerprint)?;
     }
     Ok(())
 }
@@ -247,9 +238,9 @@ pub(crate) fn push_unreadable_text(
     ensures { OnOk result (out.new.items ≡ out.old.items
         ++ unreadable_text place.entry.now.name.now place.entry.now.number held found.now) }
 {
-    push_place(alloc, out, place)?;
+    push_place(out, place)?;
     out.extend_from_slice(b"unreadable")?;
-    push_held(alloc, out, held)?;
+    push_held(out, held)?;
     out.push(b'\n')?;
     push_findings(alloc, out, found)?;
     Ok(())
