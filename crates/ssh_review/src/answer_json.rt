@@ -120,7 +120,7 @@ fn push_rights(alloc: Global, out: &mut Vec<u8>, rights: &Option<Rights>) -> Res
         Some(rights) => {
             let mut carried = Vec::new(alloc);
             push_carried_elements(alloc, &mut carried, rights.carried.as_slice())?;
-            push_rights_field(alloc, out, rights)?;
+            push_rights_field(out, rights)?;
             push_text_or_null(out, b"command", &rights.command)?;
             push_array(out, b"carry", &carried)
         }
@@ -158,8 +158,8 @@ fn push_fingerprint(alloc: Global, out: &mut Vec<u8>, key: &Signed) -> Result<()
         ≡ out.old.items ++ text_field (codes "key") (fingerprint_text (print_of key.now.key))) }
 {
     let digest = print_of(alloc, key.key.as_slice())?;
-    let text = fingerprint_text(alloc, &digest)?;
-    push_text_field(out, b"key", &text)
+    let text = fingerprint_text(&digest);
+    push_text_field(out, b"key", text.as_slice())
 }
 
 /// Appends the fingerprint of the key that a line must hold, and whether it is the signer's.

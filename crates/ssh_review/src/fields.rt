@@ -3,7 +3,7 @@
 ghost use Rattle.std.specs.Prelude.{◌≡◌, ◌++◌, OnOk, codes, drop, IfOk, ◌==◌, ◌∷◌, []};
 ghost use Rattle.ssh_review.specs.Fields.{array_field, field_name, moment_or_null, null_field, number_field, number_or_null, text_field, text_or_null, truth_field};
 ghost use Rattle.ssh_review.specs.HostRecords.{print_of};
-ghost use Rattle.ssh_print.specs.DecisionText.{right_word, right_words};
+ghost use Rattle.ssh_print.specs.DecisionText.{right_words};
 ghost use Rattle.ssh_review.specs.RightsWords.{rights_words, without_space};
 ghost use Rattle.std.specs.List.{flat_map, list_any};
 ghost use Rattle.ssh_options.specs.OptionText.{escaped};
@@ -11,6 +11,7 @@ ghost use Rattle.ssh_options.specs.OptionsInLine.{option_in_line};
 ghost use Rattle.ssh_rewriting.specs.Canonical.{after_comma, option_text};
 ghost use Rattle.ssh_review.specs.OptionsText.{options_text};
 
+use crate::short_text::ShortText;
 use sha2::{Digest, Sha256};
 use ssh_keys::digest_text;
 use ssh_options::{OptionView, OptionsView, ValueBytes, ValueView};
@@ -159,28 +160,21 @@ pub(crate) fn print_of(alloc: Global, bytes: &[u8]) -> Result<[u8; 43], AllocErr
     digest_text(alloc, &digest)
 }
 
-/// The length of the names of all rights, each after a space.
-const ALL_WORDS: usize = 22;
-
-fn right_word(is_on: bool, word: &'static [u8]) -> &'static [u8]
-    ensures { result.now ≡ right_word is_on word.entry.now }
+/// The names of the rights that are on, each after a space.
+pub(crate) fn right_words(rights: &Rights) -> ShortText
+    ensures { result ≡ right_words rights.now }
 {
-    if is_on { word } else { b"" }
+    let mut words = ShortText::new();
+    words.push_right(rights.port, b" port");
+    words.push_right(rights.agent, b" agent");
+    words.push_right(rights.x11, b" x11");
+    words.push_right(rights.pty, b" pty");
+    words.push_right(rights.user_rc, b" rc");
+    words
 }
 
-/// Appends the names of the rights that are on, each after a space.
-fn push_right_words(out: &mut Vec<u8>, rights: &Rights) -> Result<(), AllocError>
-    ensures { OnOk result (out.new.items ≡ out.old.items ++ right_words rights.now) }
-{
-    out.extend_from_slice(right_word(rights.port, b" port"))?;
-    out.extend_from_slice(right_word(rights.agent, b" agent"))?;
-    out.extend_from_slice(right_word(rights.x11, b" x11"))?;
-    out.extend_from_slice(right_word(rights.pty, b" pty"))?;
-    out.extend_from_slice(right_word(rights.user_rc, b" rc"))?;
-    Ok(())
-}
-
-fn without_space(words: &[u8]) -> &[u8]
+/// The names without the first space; `none` if there are no names.
+pub(crate) fn without_space(words: &[u8]) -> &[u8]
     ensures { result.now ≡ without_space words.now }
 {
     match words {
@@ -191,17 +185,11 @@ fn without_space(words: &[u8]) -> &[u8]
 
 /// Appends the names of the rights that are on, separated by spaces, or `none`.
 #[tactic(auto, unfolding(crate::specs::RightsWords::rights_words))]
-pub(crate) fn push_rights_words(
-    alloc: Global,
-    out: &mut Vec<u8>,
-    rights: &Rights,
-) -> Result<(), AllocError>
+pub(crate) fn push_rights_words(out: &mut Vec<u8>, rights: &Rights) -> Result<(), AllocError>
     ensures { OnOk result (out.new.items ≡ out.old.items ++ rights_words rights.now) }
 {
-    let mut words = Vec::with_capacity(alloc, ALL_WORDS)?;
-    push_right_words(&mut words, rights)?;
-    out.extend_from_slice(without_space(&words))?;
-    Ok(())
+    let words = right_words(rights);
+    out.extend_from_slice(without_space(words.as_slice()))
 }
 
 /// The bytes that are reserved at first for a line's options. Most options fit in, so the text

@@ -13,10 +13,10 @@ use std::alloc::{AllocError, Global};
 
 /// Appends the fields of an entry's key, its comment, and its names as they are in the file.
 #[tactic(auto, unfolding(crate::specs::HostObjects::entry_fields))]
-fn push_entry_fields(alloc: Global, out: &mut Vec<u8>, facts: &HostFacts) -> Result<(), AllocError>
+fn push_entry_fields(out: &mut Vec<u8>, facts: &HostFacts) -> Result<(), AllocError>
     ensures { OnOk result (out.new.items ≡ out.old.items ++ entry_fields facts.now) }
 {
-    push_key_fields(alloc, out, facts.kind, facts.bits, &facts.fingerprint)?;
+    push_key_fields(out, facts.kind, facts.bits, &facts.fingerprint)?;
     push_text_field(out, b"comment", facts.comment.as_slice())?;
     push_text_field(out, b"names", facts.names.as_slice())?;
     Ok(())
@@ -35,7 +35,7 @@ pub(crate) fn push_entry_object(
         ++ host_entry_object place.entry.now.name.now place.entry.now.number facts.now found.now) }
 {
     push_object_head(out, place, is_word(facts.is_authority))?;
-    push_entry_fields(alloc, out, facts)?;
+    push_entry_fields(out, facts)?;
     push_findings_end(alloc, out, found)?;
     Ok(())
 }
@@ -57,10 +57,10 @@ fn push_revoked_fields(alloc: Global, out: &mut Vec<u8>, bytes: &[u8]) -> Result
     ensures { OnOk result (out.new.items ≡ out.old.items ++ revoked_fields bytes.now) }
 {
     let print = print_of(alloc, bytes)?;
-    let text = fingerprint_text(alloc, &print)?;
+    let text = fingerprint_text(&print);
     push_null_field(out, b"type")?;
     push_null_field(out, b"bits")?;
-    push_text_field(out, b"key", &text)?;
+    push_text_field(out, b"key", text.as_slice())?;
     Ok(())
 }
 
@@ -109,7 +109,7 @@ pub(crate) fn push_bare_object(
         ++ bare_object place.entry.now.name.now place.entry.now.number is.now held found.now) }
 {
     push_object_head(out, place, is)?;
-    push_held_fields(alloc, out, held)?;
+    push_held_fields(out, held)?;
     push_empty_fields(out)?;
     push_findings_end(alloc, out, found)?;
     Ok(())

@@ -6,18 +6,16 @@ ghost use Rattle.ssh_review.specs.Objects.{empty_fields, entry_object, fingerpri
 
 use crate::fields::{
     push_bits_field, push_moment_or_null, push_null_field, push_number_field, push_number_or_null,
-    push_options, push_rights_words, push_text_field, push_text_or_null, push_truth,
+    push_options, push_text_field, push_text_or_null, push_truth, right_words, without_space,
 };
 use crate::findings::push_findings_end;
+use crate::short_text::ShortText;
 use ssh_findings::{Facts, Finding, HeldKey};
 use ssh_keys::KeyKind;
 use ssh_options::OptionsView;
 use ssh_print::push_json_text;
 use ssh_rights::Rights;
 use std::alloc::{AllocError, Global};
-
-/// The length of a fingerprint: `SHA256:`, and a digest in base64 without padding.
-const FINGERPRINT_LEN: usize = 50;
 
 /// A line of a file: the name of the file, and the line's number from 1.
 #[derive(Clone, Copy, Debug)]
@@ -51,39 +49,38 @@ pub(crate) fn is_word(is_authority: bool) -> &'static [u8]
 }
 
 /// A fingerprint as `ssh-keygen -l` prints it, from its base64.
-pub(crate) fn fingerprint_text(alloc: Global, fingerprint: &[u8]) -> Result<Vec<u8>, AllocError>
-    ensures { IfOk result (λ text. text.items ≡ fingerprint_text fingerprint.now) }
+pub(crate) fn fingerprint_text(fingerprint: &[u8; 43]) -> ShortText
+    ensures { result ≡ fingerprint_text fingerprint.now }
 {
-    let mut text = Vec::with_capacity(alloc, FINGERPRINT_LEN)?;
-    text.extend_from_slice(b"SHA256:")?;
-    text.extend_from_slice(fingerprint)?;
-    Ok(text)
+    let mut text = ShortText::new();
+    text.push(b"SHA256:");
+    text.push(fingerprint);
+    text
 }
 
 /// Appends the fields of a key: its type, the bits of an RSA key, and the fingerprint.
 #[tactic(auto, unfolding(crate::specs::Objects::key_fields))]
 pub(crate) fn push_key_fields(
-    alloc: Global,
     out: &mut Vec<u8>,
     kind: KeyKind,
     bits: Option<u32>,
-    fingerprint: &[u8],
+    fingerprint: &[u8; 43],
 ) -> Result<(), AllocError>
     ensures { OnOk result (out.new.items ≡ out.old.items ++ key_fields kind bits fingerprint.now) }
 {
-    let text = fingerprint_text(alloc, fingerprint)?;
+    let text = fingerprint_text(fingerprint);
     push_text_field(out, b"type", kind.name())?;
     push_bits_field(out, bits)?;
-    push_text_field(out, b"key", &text)?;
+    push_text_field(out, b"key", text.as_slice())?;
     Ok(())
 }
 
 /// Appends the fields of an entry's key, and its comment.
 #[tactic(auto, unfolding(crate::specs::Objects::owner_fields))]
-fn push_owner_fields(alloc: Global, out: &mut Vec<u8>, facts: &Facts) -> Result<(), AllocError>
+fn push_owner_fields(out: &mut Vec<u8>, facts: &Facts) -> Result<(), AllocError>
     ensures { OnOk result (out.new.items ≡ out.old.items ++ owner_fields facts.now) }
 {
-    push_key_fields(alloc, out, facts.kind, facts.bits, &facts.fingerprint)?;
+    push_key_fields(out, facts.kind, facts.bits, &facts.fingerprint)?;
     push_text_field(out, b"comment", facts.comment.as_slice())?;
     Ok(())
 }
@@ -101,16 +98,12 @@ fn push_options_field(
 }
 
 /// Appends the rights that are on.
-pub(crate) fn push_rights_field(
-    alloc: Global,
-    out: &mut Vec<u8>,
-    rights: &Rights,
-) -> Result<(), AllocError>
+#[tactic(auto, unfolding(crate::specs::RightsWords::rights_words))]
+pub(crate) fn push_rights_field(out: &mut Vec<u8>, rights: &Rights) -> Result<(), AllocError>
     ensures { OnOk result (out.new.items ≡ out.old.items ++ rights_field rights.now) }
 {
-    let mut words = Vec::new(alloc);
-    push_rights_words(alloc, &mut words, rights)?;
-    push_text_field(out, b"rights", &words)
+    let words = right_words(rights);
+    push_text_field(out, b"rights", without_space(words.as_slice()))
 }
 
 /// Appends the rights that the line gives, and its limits.
@@ -118,7 +111,7 @@ pub(crate) fn push_rights_field(
 fn push_grant_fields(alloc: Global, out: &mut Vec<u8>, facts: &Facts) -> Result<(), AllocError>
     ensures { OnOk result (out.new.items ≡ out.old.items ++ grant_fields facts.now) }
 {
-    push_rights_field(alloc, out, &facts.rights)?;
+    push_rights_field(out, &facts.rights)?;
     push_text_or_null(out, b"command", &facts.rights.command)?;
     push_text_or_null(out, b"source", &facts.from)?;
     push_text_or_null(out, b"principals", &facts.principals)?;
@@ -143,7 +136,7 @@ pub(crate) fn push_entry_object(
         place.entry.now.number facts.now options.entry shadowed_by lets_in found.now) }
 {
     push_object_head(out, place, is_word(facts.is_authority))?;
-    push_owner_fields(alloc, out, facts)?;
+    push_owner_fields(out, facts)?;
     push_options_field(alloc, out, options)?;
     push_grant_fields(alloc, out, facts)?;
     push_number_or_null(out, b"shadowed_by", shadowed_by)?;
@@ -163,15 +156,11 @@ fn push_no_key(out: &mut Vec<u8>) -> Result<(), AllocError>
 
 /// Appends the fields of the key that OpenSSH reads on a line which is unreadable here; `null` if
 /// there is no such key.
-pub(crate) fn push_held_fields(
-    alloc: Global,
-    out: &mut Vec<u8>,
-    held: Option<HeldKey>,
-) -> Result<(), AllocError>
+pub(crate) fn push_held_fields(out: &mut Vec<u8>, held: Option<HeldKey>) -> Result<(), AllocError>
     ensures { OnOk result (out.new.items ≡ out.old.items ++ held_fields held) }
 {
     match held {
-        Some(held) => push_key_fields(alloc, out, held.kind, held.bits, &held.fingerprint),
+        Some(held) => push_key_fields(out, held.kind, held.bits, &held.fingerprint),
         None => push_no_key(out),
     }
 }
@@ -206,7 +195,7 @@ pub(crate) fn push_unreadable_object(
         place.entry.now.name.now place.entry.now.number held found.now) }
 {
     push_object_head(out, place, b"unreadable")?;
-    push_held_fields(alloc, out, held)?;
+    push_held_fields(out, held)?;
     push_empty_fields(out)?;
     push_findings_end(alloc, out, found)?;
     Ok(())

@@ -63,6 +63,7 @@ mod key_review;
 mod laws;
 mod readable;
 mod record;
+mod short_text;
 
 pub use answer_json::{answer_object, answer_total};
 pub use asked::{AskedAt, asked_line};

@@ -95,11 +95,11 @@ fn push_head(out: &mut Vec<u8>, facts: &Facts) -> Result<(), AllocError>
 }
 
 #[tactic(auto, unfolding(crate::specs::Records::rights_inset))]
-fn push_rights(alloc: Global, out: &mut Vec<u8>, rights: &Rights) -> Result<(), AllocError>
+fn push_rights(out: &mut Vec<u8>, rights: &Rights) -> Result<(), AllocError>
     ensures { OnOk result (out.new.items ≡ out.old.items ++ rights_inset rights.now) }
 {
     out.extend_from_slice(b"    rights ")?;
-    push_rights_words(alloc, out, rights)?;
+    push_rights_words(out, rights)?;
     out.push(b'\n')?;
     Ok(())
 }
@@ -148,10 +148,10 @@ fn push_each_carried(out: &mut Vec<u8>, carried: &[Carried]) -> Result<(), Alloc
 }
 
 /// Appends the rights that the line gives to the key.
-fn push_right_lines(alloc: Global, out: &mut Vec<u8>, rights: &Rights) -> Result<(), AllocError>
+fn push_right_lines(out: &mut Vec<u8>, rights: &Rights) -> Result<(), AllocError>
     ensures { OnOk result (out.new.items ≡ out.old.items ++ right_lines rights.now) }
 {
-    push_rights(alloc, out, rights)?;
+    push_rights(out, rights)?;
     push_setting(out, b"    command ", &rights.command)?;
     push_each_carried(out, rights.carried.as_slice())?;
     Ok(())
@@ -208,7 +208,7 @@ pub(crate) fn push_entry_text(
 {
     push_place(out, place)?;
     push_head(out, facts)?;
-    push_right_lines(alloc, out, &facts.rights)?;
+    push_right_lines(out, &facts.rights)?;
     push_limits(alloc, out, facts)?;
     push_findings(alloc, out, found)?;
     Ok(())
