@@ -1,6 +1,7 @@
 #!/usr/bin/env python3
 """Runs the built program and compares what goes to standard error: help, which word or value is wrong, and on a terminal what
-a question was asked with that left something out. What goes to standard output is compared too.
+a question was asked with that left something out. What goes to standard output is compared too, and so are questions with a
+list of names and those with the names themselves.
 
 usage: help.py [PROGRAM]
 
@@ -75,6 +76,12 @@ def usage_rows():
     yield "review --kind auth --now 1 --", "ssh_audit: review: no file is named\n" + see("review")
     yield "review --now 1 keys", "ssh_audit: review: --kind is missing\n" + see("review")
     yield "review --kind -- keys", "ssh_audit: --kind has no value\n" + see("review")
+    yield "review --kind auth --now 1 --files-from a --files-from=b keys", "ssh_audit: --files-from is given twice\n" + see("review")
+    yield "review --kind auth --now 1 keys --files-from", "ssh_audit: --files-from has no value\n" + see("review")
+    yield "review --kind auth --files-from --now 1 keys", "ssh_audit: --files-from has no value\n" + see("review")
+    yield "review --kind auth --now 1 --files-from listed --foo 1", "ssh_audit: review: --foo is not an option of review\n" + see("review")
+    yield "review --now 1 --files-from listed", "ssh_audit: review: --kind is missing\n" + see("review")
+    yield "trusts --files-from listed --key keys --host h --now 1", "ssh_audit: trusts: --files-from is not an option of trusts\n" + see("trusts")
     yield "readable", "ssh_audit: readable: --file is missing\n" + see("readable")
     yield "show --kind key", "ssh_audit: show: --file is missing\n" + see("show")
     yield "show --kind key --file f --port 1", "ssh_audit: show: --port is not an option of show\n" + see("show")
@@ -124,9 +131,74 @@ def unread_rows(room):
     check("why: nothing of a file that is read", run(["review", "--kind", "auth", "--now", "1", "--zone", "UTC0", "keys"], room)[2], "")
 
 
+# ---- a list of names
+
+ASKED = ["review", "--kind", "auth", "--now", "1", "--zone", "UTC0"]
+WANTS = "ssh_audit: --files-from wants a file of names, each ended by NUL or by a line end\n"
+
+
+def list_rows():
+    """The bytes of a list, and the names that it has."""
+    yield b"keys\nother\n", ["keys", "other"]
+    yield b"keys\nother", ["keys", "other"]
+    yield b"keys\0other\0", ["keys", "other"]
+    yield b"keys\0other", ["keys", "other"]
+    yield b"a\nb\0keys\0", ["a\nb", "keys"]
+    yield b"-x\n--now=5\n--\n--files-from\nkeys\n", ["-x", "--now=5", "--", "--files-from", "keys"]
+    yield b"keys\nmissing\n.\nkeys\n", ["keys", "missing", ".", "keys"]
+    yield " \u00e9 'q' \\\n./-\n".encode(), [" \u00e9 'q' \\", "./-"]
+    yield b"keys\r\n", ["keys\r"]
+
+
+def list_faults():
+    """The bytes of a list that is none, and what is said of it."""
+    yield b"", "it has no name"
+    yield b"\n", "name 1 is empty"
+    yield b"keys\n\nkeys\n", "name 2 is empty"
+    yield b"keys\n\n", "name 2 is empty"
+    yield b"keys\0\0", "name 2 is empty"
+    yield b"keys\nkeys\tann\nkeys\n", "name 2 has a tab"
+    yield b"keys\0-\0", "name 2 is -, and standard input is no name in a list"
+    yield b"keys\n\xff\n", "it is not UTF-8"
+    yield bytes(67_108_865), "it is longer than 67108864 bytes"
+
+
+def lists(room):
+    """A question with a list of names is answered as the one with these names, and one with a list that is none has a fault."""
+    for name in ("other", "a\nb", "-x", "--now=5", " \u00e9 'q' \\"):
+        (room / name).write_text(KEY)
+    for given, names in list_rows():
+        (room / "listed").write_bytes(given)
+        for words, stdin in ((["--files-from", "listed"], b""), (["--files-from=listed"], b""), (["--files-from", "-"], given)):
+            for form in ("text", "json"):
+                found, wanted = run([*ASKED, *words, "--form", form], room, stdin=stdin), run([*ASKED, "--form", form, "--", *names], room)
+                check(f"{given} by {words} as {form}", found, wanted)
+        wanted = run([*ASKED, "--", "other", "keys", *names], room)
+        check(f"{given} behind names", run([*ASKED, "other", "--files-from", "listed", "keys"], room), wanted)
+        check(f"{given} where options end", run([*ASKED, "--files-from", "listed", "--", "other", "keys"], room), wanted)
+        check(f"{given} for a key", run([*ASKED, "--files-from", "listed", "--key", "keys"], room), run([*ASKED, "--key", "keys", "--", *names], room))
+    for given, said in list_faults():
+        (room / "listed").write_bytes(given)
+        wanted = 2, b"fault value files-from\n", f"{WANTS}ssh_audit: listed: {said}\n"
+        check(f"a list of {given[:40]}", run([*ASKED, "--files-from", "listed", "keys"], room), wanted)
+        check(f"a list of {given[:40]} as input", run([*ASKED, "--files-from", "-", "keys"], room, stdin=given), (*wanted[:2], wanted[2].replace(" listed:", " -:")))
+    for name, said in (("missing", "there is no such file"), (".", "it is a folder"), ("a\\b\nc", "there is no such file")):
+        shown = name.replace("\\", "\\x5c").replace("\n", "\\x0a")
+        check(f"the list {shown!r}", run([*ASKED, f"--files-from={name}", "keys"], room), (2, b"fault value files-from\n", f"{WANTS}ssh_audit: {shown}: {said}\n"))
+    for words in (["-"], ["--", "-"], ["--key", "-", "keys"], ["--key=-", "keys"]):
+        wanted = 2, b"fault value files-from\n", f"{WANTS}ssh_audit: -: standard input can be read once only\n"
+        check(f"two times standard input: {words}", run([*ASKED, "--files-from", "-", *words], room, stdin=b"keys\n"), wanted)
+    (room / "listed").write_bytes(b"keys\n")
+    check("a list and standard input", run([*ASKED, "--files-from", "listed", "-"], room, stdin=KEY.encode()), run([*ASKED, "-", "keys"], room, stdin=KEY.encode()))
+    check("help beside a list", run(["review", "--files-from", "missing", "--help"], room), run(["review", "--help"], room))
+    check("a word of standard input", run([], room, stdin=b"review --kind auth --now 1 --files-from listed keys\n")[:2], (2, USAGE))
+
+
 def options_of(name):
     """The options of a subcommand in the source, and whether each has to be given."""
-    rows = re.search(rf"const {name.upper()}: \[OptionRow; \d+\] = \[(.*?)\];", (SUBCOMMANDS / "subcommand.rt").read_text(), re.DOTALL)
+    source = (SUBCOMMANDS / "subcommand.rt").read_text()
+    places = [re.search(rf"const {place}: \[OptionRow; \d+\] = \[(.*?)\];", source, re.DOTALL) for place in (f"TOLD_{name.upper()}", name.upper())]
+    rows = next((found for found in places if found), None)
     words = dict(re.findall(r'ArgName::(\w+) => "([\w-]+)"', (SUBCOMMANDS / "args.rt").read_text()))
     return [(words[option], needed == "Required") for option, needed in re.findall(r"ArgName::(\w+), (\w+)", rows[1])] if rows else []
 
@@ -182,6 +254,8 @@ def default_rows(home):
     for name in ("known_hosts", "known_hosts2", "ssh_known_hosts", "db.known_hosts"):
         yield f"review {name}", "{now}{zone} --kind known"
     yield "review authorized_keys ./authorized_keys2", "{now}{zone} --kind auth"
+    yield "review --files-from listed", "{now}{zone} --kind auth"
+    yield "review --files-from listed known_hosts --kind known", "{now}{zone}"
     yield "review -- authorized_keys --now", "{now}{zone}"
     yield "review", f"{{now}}{{zone}} --kind auth {home}/.ssh/authorized_keys"
     yield "review --now=1", f"{{zone}} --kind auth {home}/.ssh/authorized_keys"
@@ -233,6 +307,7 @@ def defaults(room):
     for name in ("known_hosts", "known_hosts2", "ssh_known_hosts", "db.known_hosts", ".ssh/known_hosts"):
         (room / name if "/" not in name else home / name).write_text("h " + KEY)
     (room / "--now").write_text(KEY)
+    (room / "listed").write_text("authorized_keys\n./authorized_keys2\n")
     (room / "ports").write_text("[h]:2222,[::1]:2222 " + KEY)
     (room / "dated").write_text('expiry-time="20240229" ' + KEY)
     rule = local_zone()
@@ -262,6 +337,7 @@ def main():
     with tempfile.TemporaryDirectory() as folder:
         room = pathlib.Path(folder)
         (room / "keys").write_text(KEY)
+        (room / "listed").write_text("keys\n")
         for words, wanted in usage_rows():
             check(words, run(words.split(), room), (2, USAGE, wanted))
         check("no UTF-8", run(["review", b"\xff"], room), (2, USAGE, "ssh_audit: an argument is not UTF-8\n"))
@@ -270,6 +346,7 @@ def main():
             told = errors.splitlines(keepends=True)
             check(" ".join(words), (status, found.decode()[: len(printed)], errors[: len(wanted)], told[1:]), (2, printed, wanted, why(words)))
         unread_rows(room)
+        lists(room)
         help_rows(room)
         defaults(room)
     print(f"{passed} passed, {failed} failed")

@@ -203,7 +203,7 @@ def key_rows(key):
 
 def review_rows(key):
     """Reviews in both forms: entries with all that a record may tell, one shadowed, unreadable lines, a missing file; a long
-    file; one key's records; findings that are all, none and no list."""
+    file; one key's records; findings that are all, none and no list; a list of names."""
     line = b'from="10.0.0.0/8",restrict,command="a \\"b\\"",permitopen="h:1",expiry-time="20240229" ' + key + b"\xff"
     authority = b'cert-authority,principals="ann," ' + SIGNER
     lines = b"\n".join([b"# c", line, key, b"no-touch-required,verify-required " + key, authority, b"no-ptty " + key, b"ssh-dss AAAA"])
@@ -219,6 +219,8 @@ def review_rows(key):
         yield f"review for {value}", [*words, "--key", value, "-"], lines
     yield "review of hosts for a key", ["review", "--kind", "known", "--now", "1", "--key", mark, "-"], b"h " + key + b"\n@revoked h " + key + b"\nh,, " + key
     yield "review with no list", [*words, "--findings", "F1,,F2", "-"], lines
+    yield "review of a list of names", [*words, "missing", "--files-from", "-"], b"/dev/null\nnone\n"
+    yield "review of a list that is none", [*words, "--files-from", "-"], b"missing\nno\tname"
     yield "review of hosts", ["review", "--kind", "known", "--now", "1", "-"], b"H,*.x " + key + b"\n@revoked h " + key + b"\n@revoked x\n" + HASHED + b" " + key
 
 

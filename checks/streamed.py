@@ -5,7 +5,8 @@ usage: streamed.py [PROGRAM]
 
 The last of three names is a pipe that is opened only when the records of the first file were read: whole, for one key, as
 text and as JSON. 2,000 files take little more memory than 20. Where a write fails, of a full device or of a pipe whose reader
-went away, the status is 2, what was read is the front of the list, and no later file is opened.
+went away, the status is 2, what was read is the front of the list, and no later file is opened. A list of more names than a
+command line may have takes the memory of its names.
 
 Needs gcc, /dev/full and the built program. The last line is 'N passed, M failed'; the status is 0 where nothing failed."""
 import argparse
@@ -28,6 +29,8 @@ PIPE_ROOM = 4096
 MANY, FEW, LINES = 2_000, 20, 40
 # How many KiB the names and the system may take of more files. The text of all is some 12,000.
 ROOM = 4096
+# How many names no command line may have, and how many bytes each may take.
+LISTED, NAME_ROOM = 200_000, 512
 
 
 def starts(audit, words, stdout):
@@ -89,6 +92,21 @@ def memory_rows(audit, tally, names):
         tally.check(f"{FEW} files in {least} KiB, {MANY} in {most} KiB, {len(long)} bytes of text", most <= least + ROOM, True)
 
 
+def list_rows(audit, tally, names):
+    """A list of names takes no other memory than they do, and as many as no command line may have take some bytes for each."""
+    meter = audit.room / "meter"
+    (audit.room / "listed").write_text("".join(f"{name}\0" for name in names))
+    given, _, least = cost_of(audit, meter, review(*names, findings="none"))
+    listed, _, most = cost_of(audit, meter, review(findings="none", files_from="listed"))
+    tally.check(f"a list of {MANY} names", listed, given)
+    tally.check(f"{MANY} names in {least} KiB, as a list in {most} KiB", most <= least + ROOM, True)
+    (audit.room / "listed").write_text("".join(f"/no/such/folder/{number:040}/authorized_keys\n" for number in range(LISTED)))
+    (status, text), took, most = cost_of(audit, meter, review(findings="none", files_from="listed"))
+    total = f"total: {LISTED} files, {LISTED} faults, 0 lines, ".encode()
+    tally.check(f"a list of {LISTED} names", (status, text.count(b": fault A9\n"), text.rpartition(b"\n")[0].rpartition(b"\n")[2].startswith(total)), (2, LISTED, True))
+    tally.check(f"a list of {LISTED} names in {most} KiB", most <= LISTED * NAME_ROOM // 1024, True)
+
+
 def broken_rows(audit, tally, names):
     """Writes that fail: the status is 2, and no file is read after it."""
     for key in (None, f"SHA256:{MARK}"):
@@ -123,7 +141,7 @@ def main():
         (audit.room / "key.pub").write_text(FILES["key.pub"])
         turn_rows(audit, tally)
         names = many_files(audit)
-        for row in (memory_rows, broken_rows):
+        for row in (memory_rows, list_rows, broken_rows):
             row(audit, tally, names)
     print(f"{tally.passed} passed, {tally.failed} failed")
     return 1 if tally.failed else 0

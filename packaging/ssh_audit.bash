@@ -30,7 +30,7 @@ _ssh_audit() {
     hash) options='--file --salts' ;;
     admits) options='--key --fingerprint --user --address --now --host --zone --empty-principals --rsa-minimum --form' operands=files ;;
     trusts) options='--key --host --now --port --empty-principals --rsa-minimum --form' operands=files ;;
-    review) options='--kind --now --key --zone --rsa-minimum --findings --form' operands=files ;;
+    review) options='--kind --now --key --zone --rsa-minimum --findings --form --files-from' operands=files ;;
     explain) operands=codes ;;
     esac
     [[ $given != -- ]] || option=
@@ -40,7 +40,7 @@ _ssh_audit() {
         case "$command $option" in
         'show --kind') words='key cert private sshsig' ;;
         'rewrite --kind' | 'review --kind') words='auth known' ;;
-        *' --file' | *' --offer-file' | *' --signature-file' | *' --vouch' | *' --body' | *' --message' | *' --salts' | *' --key') words='files' ;;
+        *' --file' | *' --offer-file' | *' --signature-file' | *' --vouch' | *' --body' | *' --message' | *' --salts' | *' --key' | *' --files-from') words='files' ;;
         *' --user') words='users' ;;
         *' --host') words='hosts' ;;
         *' --empty-principals') words='any never' ;;

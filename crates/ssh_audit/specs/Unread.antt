@@ -1,5 +1,5 @@
 -- What standard error says of a file that could not be read (this project's rule).
-use Rattle.std.specs.Prelude.{◌≡◌, ◌++◌, ◌⊎◌, ℕ, List, codes}
+use Rattle.std.specs.Prelude.{◌++◌, ◌&&◌, ℕ, List, codes, if◌then◌else◌, length, nat_lt}
 use Rattle.std.specs.declared.io.ErrorKind.{ErrorKind}
 use Rattle.std.specs.declared.io.ErrorKind.TheVariants.{NotFound, PermissionDenied, IsADirectory}
 use Rattle.ssh_print.specs.Texts.{escaped_text}
@@ -14,6 +14,11 @@ why _ = codes "it could not be read"
 abbrev pub unread_line : List ℕ → ErrorKind → List ℕ
 unread_line name kind = codes "ssh_audit: " ++ escaped_text name ++ codes ": " ++ why kind ++ codes "\n"
 
--- the line of the file comes after what was told before, or nothing does
-abbrev pub TellsUnread : List ℕ → ErrorKind → List ℕ → List ℕ → Type 0
-TellsUnread name kind old new = (new ≡ old ++ unread_line name kind) ⊎ (new ≡ old)
+-- the most bytes that are told before the last line
+abbrev pub room : ℕ
+room = 65536
+
+-- What is told with one more file that could not be read: its line comes after what was told before. Without a name, since
+-- it was told, nothing does; nor where there is no room for more.
+abbrev pub told_with : List ℕ → ErrorKind → List ℕ → List ℕ
+told_with name kind told = if nat_lt 0 (length name) && nat_lt (length told) room then told ++ unread_line name kind else told

@@ -16,10 +16,11 @@ mod writers;
 
 use colour::{Coloured, Printed, printed_by};
 use kept::KeptFiles;
-use ssh_files::read_front;
+use ssh_files::{read_front, read_whole};
 use ssh_program::{
-    WordsError, asks_readable, asks_surroundings, defaults_line, fault_guidance, key_file_form,
-    refuse, run, usage_guidance, with_defaults,
+    ListError, WordsError, asks_readable, asks_surroundings, defaults_line, fault_guidance,
+    key_file_form, list_guidance, list_name, refuse, refuse_list, run, usage_guidance,
+    with_defaults, with_list,
 };
 use ssh_review::left_out;
 use std::alloc::{AllocError, Global};
@@ -230,6 +231,65 @@ fn answer_question(
     }
 }
 
+/// The answer where there is no list of names, and what standard error says of it.
+fn answer_no_list(rt: &HostRuntime, name: &str, error: ListError, writer: &mut Output<'_>) -> u8 {
+    let status = refuse_list(error, writer);
+    if error != ListError::Memory && !writer.is_broken() {
+        if let Ok(text) = list_guidance(rt.alloc(), name, error) {
+            tell(rt, &text);
+        }
+    }
+    status
+}
+
+/// The answer to a question with a list of names of these bytes: it is asked with its names.
+fn answer_names<'a>(
+    rt: &HostRuntime,
+    words: &'a [String<Global>],
+    name: &str,
+    list: &'a [u8],
+    files: &mut Source<'_>,
+    writer: &mut Output<'_>,
+) -> u8 {
+    let texts = match as_texts(rt, words) {
+        Ok(texts) => texts,
+        Err(AllocError) => return refuse(WordsError::Memory, writer),
+    };
+    match with_list(rt.alloc(), texts.as_slice(), list) {
+        Ok(told) => answer_question(rt, told.as_slice(), files, writer),
+        Err(error) => answer_no_list(rt, name, error, writer),
+    }
+}
+
+/// The answer to a question with the list of names of this name.
+fn answer_list(
+    rt: &HostRuntime,
+    words: &[String<Global>],
+    name: &str,
+    files: &mut Source<'_>,
+    writer: &mut Output<'_>,
+) -> u8 {
+    match read_whole(rt.alloc(), files, name) {
+        Ok(list) => answer_names(rt, words, name, &list, files, writer),
+        Err(error) => answer_no_list(rt, name, ListError::from(error), writer),
+    }
+}
+
+/// The answer to a question that may leave something out, and may name a list of names.
+fn answer_asked(
+    rt: &HostRuntime,
+    words: &[String<Global>],
+    texts: &[&str],
+    files: &mut Source<'_>,
+    writer: &mut Output<'_>,
+) -> u8 {
+    match list_name(rt.alloc(), texts) {
+        Ok(Some(name)) => answer_list(rt, words, name, files, writer),
+        Ok(None) => answer_question(rt, texts, files, writer),
+        Err(AllocError) => refuse(WordsError::Memory, writer),
+    }
+}
+
 /// The answer to the words, with what a question leaves out.
 fn answer_words(
     rt: &HostRuntime,
@@ -239,7 +299,7 @@ fn answer_words(
 ) -> u8 {
     match as_texts(rt, words) {
         Ok(texts) if asks_surroundings(texts.as_slice()) => {
-            answer_question(rt, texts.as_slice(), files, writer)
+            answer_asked(rt, words, texts.as_slice(), files, writer)
         }
         Ok(texts) if asks_readable(texts.as_slice()) => answer_readable(rt, words, files, writer),
         Ok(_) => answer(rt, words, files, writer),

@@ -1,7 +1,7 @@
 //! Why files could not be read, as standard error tells it.
 
-ghost use Rattle.std.specs.Prelude.{◌≡◌, ◌++◌, [], OnOk, IfOk};
-ghost use Rattle.ssh_audit.specs.Unread.{TellsUnread, unread_line, why};
+ghost use Rattle.std.specs.Prelude.{◌≡◌, ◌++◌, [], OnErr, OnOk, IfOk};
+ghost use Rattle.ssh_audit.specs.Unread.{told_with, unread_line, why};
 
 use ssh_print::push_escaped;
 use std::alloc::{AllocError, Global};
@@ -63,27 +63,39 @@ impl Unread {
         &self.text
     }
 
-    /// Remembers which file is read from now on.
-    pub fn begin(&mut self, name: &str)
+    /// Remembers which file is read from now on. On an error none is remembered.
+    pub fn begin(&mut self, name: &str) -> Result<(), AllocError>
         ensures text { self.new.text ≡ self.old.text }
+        ensures name { OnOk result (self.new.name.items ≡ name.now) }
+        ensures err { OnErr result (self.new.name.items ≡ []) }
     {
         self.name.clear();
-        if self.name.extend_from_slice(name.as_bytes()).is_err() {
-            self.name.clear();
-        }
+        self.name.extend_from_slice(name.as_bytes())
     }
 
-    /// Tells that the file could not be read, once. Nothing is told where memory is refused, or where
-    /// there is no room for more.
-    pub fn tell(&mut self, kind: ErrorKind)
-        ensures { TellsUnread self.old.name.items kind self.old.text.items self.new.text.items }
+    /// Appends the line of the file, if it was not told and there is room.
+    fn push_line(&mut self, kind: ErrorKind) -> Result<(), AllocError>
+        ensures told { OnOk result (self.new.text.items
+            ≡ told_with self.old.name.items kind self.old.text.items) }
+        ensures err { OnErr result (self.new.text.items ≡ self.old.text.items) }
     {
         if self.name.is_empty() || self.text.len() >= ROOM {
-            return;
+            return Ok(());
         }
-        if let Ok(line) = unread_line(self.alloc, &self.name, kind) {
-            let _told = self.text.extend_from_slice(&line);
-        }
+        let line = unread_line(self.alloc, &self.name, kind)?;
+        self.text.extend_from_slice(&line)
+    }
+
+    /// Tells that the file could not be read, once. Nothing is told where there is no room for more,
+    /// and on an error.
+    pub fn tell(&mut self, kind: ErrorKind) -> Result<(), AllocError>
+        ensures told { OnOk result (self.new.text.items
+            ≡ told_with self.old.name.items kind self.old.text.items) }
+        ensures err { OnErr result (self.new.text.items ≡ self.old.text.items) }
+        ensures once { self.new.name.items ≡ [] }
+    {
+        let told = self.push_line(kind);
         self.name.clear();
+        told
     }
 }

@@ -44,6 +44,8 @@ mod FileRunLemmas
 mod WordLemmas
 mod ComplaintLemmas
 mod HostPortLemmas
+mod NameListLemmas
+mod FilesFromLemmas
 mod GuidanceLemmas
 mod FingerprintLemmas
 mod KeyStandingLemmas

@@ -140,7 +140,7 @@ pub key_places_asked : KeyPlacesAsked
 unfolding subcommand_app clap_on_literals
 key_places_asked = (refl, refl, refl, refl)
 
--- `review` needs at least one file
+-- `review` needs at least one file; behind `--` each word is a name; a list of names is no option of these words
 abbrev pub ReviewsAsked : Type 0
 ReviewsAsked = (asked (codes "review" ∷ codes "--kind" ∷ codes "auth" ∷ codes "a" ∷ codes "--now" ∷ codes "n" ∷ codes "--form" ∷ codes "json" ∷ [])
     ≡ Some (Review, Some (codes "auth") ∷ Some (codes "n") ∷ None ∷ None ∷ None ∷ None ∷ Some (codes "json") ∷ []))
@@ -149,10 +149,13 @@ ReviewsAsked = (asked (codes "review" ∷ codes "--kind" ∷ codes "auth" ∷ co
     × (names_asked (codes "review" ∷ codes "--kind" ∷ codes "auth" ∷ codes "--now" ∷ codes "n" ∷ codes "a" ∷ codes "--findings" ∷ codes "F1" ∷ codes "b" ∷ [])
     ≡ Some (codes "a" ∷ codes "b" ∷ []))
     × (request_of (codes "review" ∷ codes "--kind" ∷ codes "auth" ∷ codes "--now" ∷ codes "n" ∷ []) ≡ None)
+    × (names_asked (codes "review" ∷ codes "--kind" ∷ codes "auth" ∷ codes "--now" ∷ codes "n" ∷ codes "a" ∷ codes "--" ∷ codes "-x" ∷ codes "--now=5" ∷ [])
+    ≡ Some (codes "a" ∷ codes "-x" ∷ codes "--now=5" ∷ []))
+    × (request_of (codes "review" ∷ codes "--kind" ∷ codes "auth" ∷ codes "--now" ∷ codes "n" ∷ codes "--files-from" ∷ codes "l" ∷ codes "a" ∷ []) ≡ None)
 
 pub reviews_asked : ReviewsAsked
 unfolding subcommand_app clap_on_literals
-reviews_asked = (refl, refl, refl, refl)
+reviews_asked = (refl, refl, refl, refl, refl, refl)
 
 -- no command, an unknown one, a missing option, an option without a value, an option or an operand of another command
 abbrev pub WordsRefused : Type 0
@@ -177,7 +180,7 @@ UsageTold = (usage_line Show ≡ codes "ssh_audit show --kind KIND --file FILE\n
     × (usage_line Host
     ≡ codes "ssh_audit host --file FILE (--offer BASE64 | --offer-file FILE) (--signature HEX | --signature-file FILE) --hash HEX --host NAME --port PORT --now SECONDS [--vouch FILE] [--empty-principals WHOM] [--rsa-minimum BITS]\n")
     × (usage_line Review
-    ≡ codes "ssh_audit review --kind KIND --now SECONDS [--key FILE] [--zone RULE] [--rsa-minimum BITS] [--findings CODES] [--form FORM] NAME..\n")
+    ≡ codes "ssh_audit review --kind KIND --now SECONDS [--key FILE] [--zone RULE] [--rsa-minimum BITS] [--findings CODES] [--form FORM] [--files-from FILE] NAME..\n")
     × (usage_line Explain ≡ codes "ssh_audit explain [CODE..]\n")
     × (asks_usage (codes "G8" ∷ codes "usage" ∷ []) ≡ true)
     × (asks_usage (codes "usages" ∷ codes "USAGE" ∷ []) ≡ false)

@@ -10,7 +10,7 @@ use Rattle.ssh_program.specs.declared.subcommand.Subcommand.{Subcommand}
 use Rattle.ssh_program.specs.declared.word.Place.{Place}
 use Rattle.ssh_program.specs.declared.word.Place.TheVariants.{Open, AfterOption, Behind}
 use Rattle.ssh_program.specs.Help.{other_place}
-use Rattle.ssh_program.specs.Options.{is_required, option_word, subcommand_name, subcommand_operands, subcommand_options}
+use Rattle.ssh_program.specs.Options.{is_required, option_word, subcommand_name, subcommand_operands, told_options}
 use Rattle.ssh_program.specs.WordPlaces.{Word, has_operand, is_bare, is_dashes, is_flag, is_given, is_given_twice, names_option}
 
 -- what is wrong with the words after the name of a command
@@ -34,7 +34,7 @@ first_wrong f (x ∷ xs) = option_or (f x) (first_wrong f xs)
 
 -- the row of the option of a command that a word names
 abbrev pub row_named : Subcommand → Text → Option (ArgName × Needed)
-row_named c word = find (λ row. names_option row.0 word) (subcommand_options c)
+row_named c word = find (λ row. names_option row.0 word) (told_options c)
 
 abbrev pub option_in : Subcommand → Text → Option ArgName
 option_in c word = option_map (λ row. row.0) (row_named c word)
@@ -113,7 +113,7 @@ names_wrong c words = names_by (subcommand_operands c) (has_operand words)
 abbrev pub whole_wrong : Subcommand → List Word → Wrong
 whole_wrong c words =
     unwrap_or (option_map Wrong.no_value (waiting c words))
-    (unwrap_or (first_wrong (option_wrong c words) (subcommand_options c)) (names_wrong c words))
+    (unwrap_or (first_wrong (option_wrong c words) (told_options c)) (names_wrong c words))
 
 -- the first wrong word comes before all of these
 abbrev pub complaint_of : Subcommand → List Word → Wrong

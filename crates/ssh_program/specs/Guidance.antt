@@ -14,7 +14,7 @@ use Rattle.ssh_program.specs.declared.word.Place.{Place}
 use Rattle.ssh_program.specs.declared.word.Place.TheVariants.{Open, AfterOption, Behind}
 use Rattle.ssh_program.specs.Complaints.{Wrong, complaint_of, complaint_text}
 use Rattle.ssh_program.specs.Help.{commands_help, options_help, wants_text}
-use Rattle.ssh_program.specs.Options.{option_word, subcommand_in, subcommand_name, subcommand_named, subcommand_options, subcommands}
+use Rattle.ssh_program.specs.Options.{option_word, subcommand_in, subcommand_name, subcommand_named, told_options, subcommands}
 use Rattle.ssh_program.specs.WordPlaces.{Word, in_turn}
 
 -- ---- words that ask for nothing
@@ -84,7 +84,7 @@ is_end b = b == 10
 
 -- the option of a command by its name
 abbrev pub option_of : Subcommand → Text → Option (ArgName × Needed)
-option_of c name = find (λ row. bytes_eq (option_word row.0) name) (subcommand_options c)
+option_of c name = find (λ row. bytes_eq (option_word row.0) name) (told_options c)
 
 -- the one value of `explain` is no option's
 abbrev pub value_by : Subcommand → Option (ArgName × Needed) → Text

@@ -9,7 +9,7 @@ use Rattle.ssh_program.specs.declared.args.ArgName.{ArgName}
 use Rattle.ssh_program.specs.declared.args.ArgName.TheVariants as option
 use Rattle.ssh_program.specs.declared.subcommand.Subcommand.{Subcommand}
 use Rattle.ssh_program.specs.declared.subcommand.Subcommand.TheVariants.{Show, Login, Host, Sshsig, Rewrite, Readable, Hash, Admits, Trusts, Review, Explain}
-use Rattle.ssh_program.specs.Options.{option_word, subcommand_options, subcommand_name}
+use Rattle.ssh_program.specs.Options.{option_word, told_options, subcommand_name}
 
 -- ---- the sentences
 
@@ -55,6 +55,7 @@ value_word option.Key = codes "FILE"
 value_word option.Fingerprint = codes "FINGERPRINT"
 value_word option.Findings = codes "CODES"
 value_word option.Form = codes "FORM"
+value_word option.FilesFrom = codes "FILE"
 
 -- what `--kind` gives to a command
 abbrev pub kind_sentence : Subcommand → Text
@@ -119,6 +120,7 @@ option_sentence c option.Key = key_sentence c
 option_sentence c option.Fingerprint = codes "the fingerprint of the key, as sshd logs it"
 option_sentence c option.Findings = codes "the findings that are reported: all, none, or codes joined by commas"
 option_sentence c option.Form = codes "text (so without it), or json for one object on each line"
+option_sentence c option.FilesFrom = codes "a file of more names, each ended by NUL or by a line end; - is standard input"
 
 -- what the value of an option has to be
 abbrev pub wanted_value : ArgName → Text
@@ -148,6 +150,7 @@ wanted_value option.Key = codes "the name of a file, or a fingerprint as ssh-key
 wanted_value option.Fingerprint = codes "SHA256: and 43 characters of base64, as in sshd's log"
 wanted_value option.Findings = codes "all, none, or codes from F1 to F22 joined by commas"
 wanted_value option.Form = codes "text or json"
+wanted_value option.FilesFrom = codes "a file of names, each ended by NUL or by a line end"
 
 -- what the operands of a command are
 abbrev pub help_names : Subcommand → Text
@@ -229,7 +232,7 @@ help_option c row =
 -- the options of a command
 unfoldable pub options_help : Subcommand → Text
 options_help c = codes "ssh_audit " ++ subcommand_name c ++ codes ": " ++ command_sentence c ++ codes "\n"
-    ++ flat_map (help_option c) (subcommand_options c) ++ help_names c ++ codes "see also the manual page ssh_audit(1)\n"
+    ++ flat_map (help_option c) (told_options c) ++ help_names c ++ codes "see also the manual page ssh_audit(1)\n"
 
 -- the line of a command in the list of the commands
 abbrev pub command_line : Subcommand → Text

@@ -21,6 +21,9 @@ pub mod Complaints
 pub mod ComplaintsView
 pub mod Guidance
 pub mod Dates
+pub mod NameLists
+pub mod FilesFrom
+pub mod NameListSamples
 pub mod Defaults
 pub mod DefaultsLine
 pub mod DefaultsView

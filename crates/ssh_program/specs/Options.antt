@@ -38,6 +38,7 @@ option_word option.Key = codes "key"
 option_word option.Fingerprint = codes "fingerprint"
 option_word option.Findings = codes "findings"
 option_word option.Form = codes "form"
+option_word option.FilesFrom = codes "files-from"
 
 abbrev pub is_required : Needed → Bool
 is_required Required = true
@@ -93,6 +94,13 @@ subcommand_options Trusts = (option.Key, Required) ∷ (option.Host, Required) �
 subcommand_options Review = (option.Kind, Required) ∷ (option.Now, Required) ∷ (option.Key, Optional) ∷ (option.Zone, Optional) ∷ (option.RsaMinimum, Optional)
     ∷ (option.Findings, Optional) ∷ (option.Form, Optional) ∷ []
 subcommand_options Explain = []
+
+-- The options of a subcommand as people are told of them: those, and of `review` a list of names. That is read before the
+-- words are: the question is asked with its names.
+abbrev pub told_options : Subcommand → List (ArgName × Needed)
+told_options Review = (option.Kind, Required) ∷ (option.Now, Required) ∷ (option.Key, Optional) ∷ (option.Zone, Optional) ∷ (option.RsaMinimum, Optional)
+    ∷ (option.Findings, Optional) ∷ (option.Form, Optional) ∷ (option.FilesFrom, Optional) ∷ []
+told_options c = subcommand_options c
 
 -- whether a subcommand takes operands (files or codes), and whether at least one has to be given
 abbrev pub subcommand_operands : Subcommand → Option Needed

@@ -56,6 +56,7 @@ pub enum ArgName {
     Fingerprint,
     Findings,
     Form,
+    FilesFrom,
 }
 
 impl ArgName {
@@ -90,6 +91,7 @@ impl ArgName {
             ArgName::Fingerprint => "fingerprint",
             ArgName::Findings => "findings",
             ArgName::Form => "form",
+            ArgName::FilesFrom => "files-from",
         }
     }
 

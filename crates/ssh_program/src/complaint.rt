@@ -3,7 +3,7 @@
 ghost use Rattle.std.specs.Prelude.{◌≡◌, ◌++◌, OnOk, map, option_map};
 ghost use Rattle.ssh_program.specs.Complaints.{both_text, complaint_of, complaint_text, first_wrong, flag_wrong, names_wrong, neither_text, open_wrong, operand_wrong, option_in, option_text, option_wrong, pair_by, pair_wrong, row_named, told_word, value_wrong, waiting, waiting_at, whole_wrong, word_wrong};
 ghost use Rattle.ssh_program.specs.ComplaintsView.{complaint_seen};
-ghost use Rattle.ssh_program.specs.Options.{subcommand_options};
+ghost use Rattle.ssh_program.specs.Options.{told_options};
 ghost use Rattle.ssh_program.specs.WordPlacesView.{word_seen};
 
 use crate::args::{ArgName, Needed};
@@ -38,7 +38,7 @@ pub enum Complaint<'a> {
 fn row_named(command: Subcommand, word: &[u8]) -> Option<OptionRow>
     ensures { result ≡ row_named command word.now }
 {
-    for row in command.options() {
+    for row in command.told_options() {
         if names_option(row.0, word) {
             return Some(*row);
         }
@@ -199,9 +199,9 @@ fn option_complaint<'a>(
 /// What is wrong with the first option with which something is.
 fn options_complaint<'a>(command: Subcommand, words: &[Word<'_>]) -> Option<Complaint<'a>>
     ensures { option_map complaint_seen result
-        ≡ first_wrong (option_wrong command (map word_seen words.now)) (subcommand_options command) }
+        ≡ first_wrong (option_wrong command (map word_seen words.now)) (told_options command) }
 {
-    for row in command.options() {
+    for row in command.told_options() {
         if let Some(complaint) = option_complaint(command, words, *row) {
             return Some(complaint);
         }

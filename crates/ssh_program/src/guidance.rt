@@ -41,7 +41,7 @@ fn asks_help(word: &Word<'_>) -> bool
     }
 }
 
-fn any_asks_help(words: &[Word<'_>]) -> bool
+pub fn any_asks_help(words: &[Word<'_>]) -> bool
     ensures { result ≡ list_any asks_help (map word_seen words.now) }
 {
     words.iter().any(|word| asks_help(word))
@@ -163,7 +163,7 @@ fn push_named_usage(
 }
 
 /// What the value of an option has to be.
-fn push_wanted(out: &mut Vec<u8>, option: ArgName) -> Result<(), AllocError>
+pub fn push_wanted(out: &mut Vec<u8>, option: ArgName) -> Result<(), AllocError>
     ensures { OnOk result (out.new.items ≡ out.old.items ++ wants_text option) }
 {
     out.extend_from_slice(b"ssh_audit: --")?;
@@ -178,7 +178,7 @@ fn push_wanted(out: &mut Vec<u8>, option: ArgName) -> Result<(), AllocError>
 fn option_of(command: Subcommand, name: &[u8]) -> Option<OptionRow>
     ensures { result ≡ option_of command name.now }
 {
-    for row in command.options() {
+    for row in command.told_options() {
         if row.0.name().as_bytes() == name {
             return Some(*row);
         }
@@ -235,7 +235,7 @@ fn before_end(text: &[u8]) -> &[u8]
 }
 
 /// The bytes as a text, if they are one.
-fn text_of(bytes: &[u8]) -> Option<&str>
+pub fn text_of(bytes: &[u8]) -> Option<&str>
     ensures { option_map (λ text. text.now) result ≡ text_of bytes.now }
 {
     match str::from_utf8(bytes) {

@@ -70,6 +70,7 @@ fn value_word(option: ArgName) -> &'static [u8]
         ArgName::Fingerprint => b"FINGERPRINT",
         ArgName::Findings => b"CODES",
         ArgName::Form => b"FORM",
+        ArgName::FilesFrom => b"FILE",
     }
 }
 
@@ -179,6 +180,8 @@ fn option_sentence(command: Subcommand, option: ArgName) -> &'static [u8]
         ArgName::Findings =>
             b"the findings that are reported: all, none, or codes joined by commas",
         ArgName::Form => b"text (so without it), or json for one object on each line",
+        ArgName::FilesFrom =>
+            b"a file of more names, each ended by NUL or by a line end; - is standard input",
     }
 }
 
@@ -215,6 +218,7 @@ pub fn wanted_value(option: ArgName) -> &'static [u8]
         ArgName::Fingerprint => b"SHA256: and 43 characters of base64, as in sshd's log",
         ArgName::Findings => b"all, none, or codes from F1 to F22 joined by commas",
         ArgName::Form => b"text or json",
+        ArgName::FilesFrom => b"a file of names, each ended by NUL or by a line end",
     }
 }
 
@@ -422,7 +426,7 @@ pub fn push_command_help(out: &mut Vec<u8>, command: Subcommand) -> Result<(), A
     out.extend_from_slice(b": ")?;
     out.extend_from_slice(command_sentence(command))?;
     out.extend_from_slice(b"\n")?;
-    push_options_help(out, command, command.options())?;
+    push_options_help(out, command, command.told_options())?;
     out.extend_from_slice(names_sentence(command))?;
     out.extend_from_slice(b"see also the manual page ssh_audit(1)\n")?;
     Ok(())

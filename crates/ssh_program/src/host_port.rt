@@ -15,7 +15,7 @@ use std::alloc::{AllocError, Global};
 type Parts<'a> = (&'a str, &'a str);
 
 /// What stands before and behind the first of these marks.
-fn cut(text: &str, mark: char) -> Option<Parts<'_>>
+pub fn cut(text: &str, mark: char) -> Option<Parts<'_>>
     requires { mark < 128 }
     ensures { option_map pair_seen result ≡ cut mark text.now }
 {

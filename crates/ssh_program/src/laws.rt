@@ -13,6 +13,7 @@ ghost use Rattle.ssh_print.specs.DecisionText.{evidence_line};
 ghost use Rattle.ssh_files.specs.SourceState.{SourceState};
 ghost use Rattle.ssh_files.specs.VouchFile.{vouched_of};
 ghost use Rattle.ssh_program.specs.FileNames.{AuditFiles};
+ghost use Rattle.ssh_program.specs.FilesFrom.{NamesBehind, OperandsBehind};
 ghost use Rattle.ssh_program.specs.Audits.{audit_response, host_by, login_by};
 ghost use Rattle.ssh_program.specs.Granting.{HostBytes, HostDenied, HostGranted, LoginBytes, LoginDenied, LoginGranted, TrustsBytes};
 ghost use Rattle.ssh_program.specs.VouchLines.{HasBytes, vouch_file, vouch_line};
@@ -34,6 +35,7 @@ ghost use Rattle.ssh_program.specs.FingerprintValues.{fingerprint_bytes};
 ghost use Rattle.ssh_program.specs.FileSamples.{FaultsInOrder, HashFaultsInOrder, RewriteKinds, SignatureFaultsInOrder, TrustFilesLeft, VouchFilesTold, VouchFilesWritten};
 ghost use Rattle.jiff.specs.Types.{TimeZone as Zone};
 ghost use Rattle.ssh_program.specs.DefaultSamples.{HostsTold, OthersTold, ReviewZonesRead, ReviewsTold};
+ghost use Rattle.ssh_program.specs.NameListSamples.{ListsNamed, NamesTold, WordsListed};
 ghost use Rattle.ssh_program.specs.Samples.{HostValuesInOrder, LoginAsksMore, LoginSpelled, LoginValuesInOrder, ShowKinds, TextsOfFiles};
 ghost use Rattle.ssh_program.specs.ArgsSamples.{HostsAsked, KeyPlacesAsked, KeysAsked, LoginsAsked, OthersAsked, ReviewsAsked, TextsAsked, UsageTold, WordsRefused};
 ghost use Rattle.ssh_program.specs.AnswerSamples.{AdmitsSpelled, FingerprintsRefused, OutcomesSummed, StatusesTold, TrustsSpelled};
@@ -137,6 +139,20 @@ fn defaults_as_told()
     ensures zones { ReviewZonesRead }
     ensures others { OthersTold }
     ensures hosts { HostsTold }
+{}
+
+/// The words that are asked in place of those that name a list: all others in their order, and the
+/// names, each of them an operand.
+fn list_rule()
+    ensures asked { NamesBehind }
+    ensures operands { OperandsBehind }
+{}
+
+/// What a list of names has, and which words are asked with it.
+fn lists_as_told()
+    ensures names { NamesTold }
+    ensures words { WordsListed }
+    ensures lists { ListsNamed }
 {}
 
 /// Which digest the text of a fingerprint gives: the text that `ssh-keygen -l` prints of a digest

@@ -13,8 +13,8 @@
 //! answers about a file signature.
 //!
 //! `with_defaults` adds to the words of a question what it leaves out, by the surroundings; `run`
-//! sees no other words. `usage_guidance` and `fault_guidance` say for standard error which word or
-//! which value is wrong.
+//! sees no other words. `with_list` takes the names of a list into the words in the same way.
+//! `usage_guidance` and `fault_guidance` say for standard error which word or which value is wrong.
 #![tactic(auto)]
 
 mod admission;
@@ -30,6 +30,7 @@ mod date;
 mod decisions;
 mod defaults;
 mod file_question;
+mod files_from;
 mod fingerprint_value;
 mod guidance;
 mod help;
@@ -38,6 +39,7 @@ mod key_file;
 mod key_seeking;
 mod kinds;
 mod laws;
+mod name_list;
 mod offer_fingerprint;
 mod printing;
 mod program;
@@ -63,8 +65,10 @@ pub use command::{CommandError, Request, WordsError, parse, respond_fault};
 pub use date::date_seconds;
 pub use decisions::{respond_host, respond_login};
 pub use defaults::{Surroundings, asks_surroundings, with_defaults};
+pub use files_from::{list_name, with_list};
 pub use guidance::{asks_readable, fault_guidance, usage_guidance};
 pub use key_file::{KeyFileForm, key_file_form};
+pub use name_list::{ListError, NameFault, list_guidance, refuse_list};
 pub use program::{refuse, run};
 pub use question::{HostQuestion, LoginQuestion};
 pub use review::answer_review;
