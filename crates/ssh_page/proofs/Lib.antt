@@ -1,0 +1,11 @@
+pub mod Appended
+pub mod TableLemmas
+pub mod EachLemmas
+pub mod PieceLemmas
+pub mod PageLemmas
+pub mod ReadingLemmas
+pub mod PlaceLemmas
+pub mod RowLemmas
+pub mod FileLemmas
+pub mod ShapeLemmas
+pub mod TextLemmas

@@ -1,0 +1,116 @@
+-- The pieces of a row hang on no text.
+use Rattle.std.proofs.Common.{◌≡◌, ◌∙◌, ℕ, ◌==◌, Bool, true, ◌&&◌, List, [], ◌∷◌, ◌++◌, length, map, refl, ap, sym}
+use Rattle.std.specs.Prelude.{Option, Some, None, codes, is_none, option_map}
+use Rattle.std.proofs.lemmas.List.{length-map}
+use Rattle.ssh_findings.specs.declared.facts.Facts.{Facts}
+use Rattle.ssh_findings.specs.declared.finding.Finding.{Finding}
+use Rattle.ssh_findings.specs.declared.host_facts.HostFacts.{HostFacts}
+use Rattle.ssh_findings.specs.declared.host_finding.HostFinding.{HostFinding}
+use Rattle.ssh_findings.specs.Findings.{auth_row}
+use Rattle.ssh_findings.specs.HostFindingsFindings.{host_row}
+use Rattle.ssh_rights.specs.declared.rights.Carried.{Carried}
+use Rattle.ssh_rights.specs.declared.rights.Rights.{Rights}
+use Rattle.ssh_page.specs.declared.piece.Piece.TheVariants as piece
+use Rattle.ssh_page.specs.declared.record.RowPlace.{RowPlace}
+use Rattle.ssh_page.specs.Documents.{Document, put, say, each, pieces_of, ◌&◌}
+use Rattle.ssh_page.specs.HostRecords.{host_cells, host_entry_row, revoked_cells, revoked_row, role}
+use Rattle.ssh_page.specs.Records.{all_limits, carried_part, command_part, comment_part, entry_cells, entry_row, flag_part, is_free, is_free_of_flags, key_part, limits_part, put_if, right_marks, rights_part, row_classes, row_findings, row_numbers, setting_part, until_part}
+use Rattle.ssh_page.specs.StandIns.{carried_stand_in, facts_stand_in, host_stand_in, rights_stand_in, stand_in}
+
+-- Two parts have the same pieces. As a record, so that a proof finds the parts.
+pub record SameShape (d e : Document) : Type 0 where
+  pub by : pieces_of d ≡ pieces_of e
+
+like : (d : Document) → SameShape d d
+like d = record { by = refl }
+
+join : {a b d e : Document} → SameShape a d → SameShape b e → SameShape (a & b) (d & e)
+join {a} {b} {d} {e} h k = record { by = ap (λ ps. ps ++ pieces_of b) h.by ∙ ap (λ ps. pieces_of d ++ ps) k.by }
+
+-- ---- parts
+
+comment_shape : (text : List ℕ) → SameShape (comment_part text) (comment_part (stand_in text))
+comment_shape [] = record { by = refl }
+comment_shape (c ∷ cs) = record { by = refl }
+
+setting_shape : (word : List ℕ) (value : Option (List ℕ)) → SameShape (setting_part word value) (setting_part word (option_map stand_in value))
+setting_shape word None = record { by = refl }
+setting_shape word (Some text) = record { by = refl }
+
+rights_shape : (r : Rights) → SameShape (rights_part r) (rights_part (rights_stand_in r))
+unfolding right_marks
+rights_shape r = record { by = refl }
+
+carried-shape : (carried : List Carried) → pieces_of (each carried_part carried) ≡ pieces_of (each carried_part (map carried_stand_in carried))
+unfolding carried_part
+carried-shape [] = refl
+carried-shape (c ∷ cs) = ap (λ ps. pieces_of (carried_part c) ++ ps) (carried-shape cs)
+
+command_shape : (r : Rights) → SameShape (command_part r) (command_part (rights_stand_in r))
+unfolding command_part
+command_shape r = join (setting_shape (codes "command ") r.command) (record { by = carried-shape r.carried })
+
+limits_shape : (f : Facts) → SameShape (limits_part f) (limits_part (facts_stand_in f))
+unfolding limits_part
+limits_shape f =
+    join (join (join (join (like (flag_part f.no_touch_required (codes "no-touch-required"))) (like (flag_part f.verify_required (codes "verify-required")))) (setting_shape (codes "from ") f.from)) (setting_shape (codes "principals ") f.principals)) (like (until_part f.until))
+
+none-mapped : (o : Option (List ℕ)) → is_none o ≡ is_none (option_map stand_in o)
+none-mapped None = refl
+none-mapped (Some text) = refl
+
+-- the test of an entry without a limit, by its parts
+abbrev free_by : Bool → Bool → ℕ → Bool → Bool → Bool → Bool
+free_by flags command carried from principals until = flags && ((command && carried == 0) && (from && (principals && until)))
+
+free-same : (f : Facts) → is_free f ≡ is_free (facts_stand_in f)
+free-same f =
+    let flags = is_free_of_flags f in
+    let until = is_none f.until in
+    let first = none-mapped f.rights.command in
+    let second = sym (length-map f.rights.carried carried_stand_in) in
+    let third = none-mapped f.from in
+    let fourth = none-mapped f.principals in
+    ap (λ b. free_by flags b (length f.rights.carried) (is_none f.from) (is_none f.principals) until) first
+    ∙ ap (λ n. free_by flags (is_none (option_map stand_in f.rights.command)) n (is_none f.from) (is_none f.principals) until) second
+    ∙ ap (λ b. free_by flags (is_none (option_map stand_in f.rights.command)) (length (map carried_stand_in f.rights.carried)) b (is_none f.principals) until) third
+    ∙ ap (λ b. free_by flags (is_none (option_map stand_in f.rights.command)) (length (map carried_stand_in f.rights.carried)) (is_none (option_map stand_in f.from)) b until) fourth
+
+free_shape : (f : Facts) → SameShape (put_if (is_free f) piece.NoLimit) (put_if (is_free (facts_stand_in f)) piece.NoLimit)
+free_shape f = record { by = ap (λ b. pieces_of (put_if b piece.NoLimit)) (free-same f) }
+
+all_limits_shape : (f : Facts) → SameShape (all_limits f) (all_limits (facts_stand_in f))
+unfolding all_limits
+all_limits_shape f =
+    join (join (join (like (flag_part f.is_authority (codes "authority: whoever it certifies"))) (command_shape f.rights)) (limits_shape f)) (free_shape f)
+
+entry_cells_shape : (f : Facts) → SameShape (entry_cells f) (entry_cells (facts_stand_in f))
+unfolding entry_cells
+entry_cells_shape f =
+    join (join (join (comment_shape f.comment) (like (key_part f.kind f.bits f.fingerprint))) (like (put piece.RightsCell))) (rights_shape f.rights)
+
+-- ---- rows
+
+pub entry_shape : (place : RowPlace) (f : Facts) (found : List Finding)
+    → SameShape (entry_row place f found) (entry_row place (facts_stand_in f) found)
+unfolding entry_row
+entry_shape place f found =
+    join (join (join (join (join (join (join (join (like (put piece.Row)) (like (row_classes auth_row found))) (like (put_if f.is_authority piece.AuthorityClass))) (like (row_numbers place))) (entry_cells_shape f)) (like (put piece.LimitsCell))) (all_limits_shape f)) (like (row_findings place auth_row found))) (like (put piece.RowEnd))
+
+host_cells_shape : (f : HostFacts) → SameShape (host_cells f) (host_cells (host_stand_in f))
+unfolding host_cells
+host_cells_shape f =
+    join (join (join (comment_shape f.comment) (like (key_part f.kind f.bits f.fingerprint))) (like (put piece.RightsCell))) (like (say (role f.is_authority)))
+
+pub host_entry_shape : (place : RowPlace) (f : HostFacts) (found : List HostFinding)
+    → SameShape (host_entry_row place f found) (host_entry_row place (host_stand_in f) found)
+unfolding host_entry_row
+host_entry_shape place f found =
+    join (join (join (join (join (join (join (join (like (put piece.Row)) (like (row_classes host_row found))) (like (put_if f.is_authority piece.AuthorityClass))) (like (row_numbers place))) (host_cells_shape f)) (like (put piece.LimitsCell))) (setting_shape (codes "names ") (Some f.names))) (like (row_findings place host_row found))) (like (put piece.RowEnd))
+
+pub revoked_shape : (place : RowPlace) (fingerprint names : List ℕ) (found : List HostFinding)
+    → SameShape (revoked_row place fingerprint names found) (revoked_row place fingerprint [] found)
+unfolding revoked_row
+revoked_shape place fingerprint names found =
+    let names_shape : SameShape (setting_part (codes "names ") (Some names)) (setting_part (codes "names ") (Some [])) = record { by = refl } in
+    join (join (join (join (join (join (join (like (put piece.Row)) (like (row_classes host_row found))) (like (row_numbers place))) (like (revoked_cells fingerprint))) names_shape) (like (flag_part true (codes "in ssh it counts for these names alone")))) (like (row_findings place host_row found))) (like (put piece.RowEnd))

@@ -1,0 +1,23 @@
+use Rattle.ssh_findings.specs.Findings.{auth_row}
+use Rattle.std.specs.Prelude.{codes}
+use Rattle.ssh_page.specs.declared.piece.Piece.TheVariants as piece
+use Rattle.ssh_page.specs.Documents.{marks, put, say, ◌&◌}
+use Rattle.ssh_page.specs.Records.{held_part, row_classes, row_findings, row_numbers}
+use Rattle.ssh_page.specs.Records.{unreadable_row}
+use Rattle.ssh_page.proofs.Appended.{both}
+use Rattle.ssh_page.proofs.record.push_unreadable_row.Goals as goal
+
+pub returns : goal.returns
+unfolding unreadable_row
+returns c =
+    let to2 = both c.args.out.now.items (marks (put piece.Row)) (marks (row_classes auth_row c.args.found.now)) c.push_piece.new.out.items c.push_classes.new.out.items c.in_ok-push_piece.ensures c.in_ok-push_classes.ensures in
+    let to3 = both c.args.out.now.items (marks (put piece.Row & row_classes auth_row c.args.found.now)) (marks (put piece.UnreadableClass)) c.push_classes.new.out.items c.push_piece-2.new.out.items to2 c.in_ok-push_piece-2.ensures in
+    let to4 = both c.args.out.now.items (marks (put piece.Row & row_classes auth_row c.args.found.now & put piece.UnreadableClass)) (marks (row_numbers c.args.place)) c.push_piece-2.new.out.items c.push_numbers.new.out.items to3 c.in_ok-push_numbers.ensures in
+    let to5 = both c.args.out.now.items (marks (put piece.Row & row_classes auth_row c.args.found.now & put piece.UnreadableClass & row_numbers c.args.place)) (marks (say (codes "unreadable"))) c.push_numbers.new.out.items c.push_shown.new.out.items to4 c.in_ok-push_shown.ensures.ok in
+    let to6 = both c.args.out.now.items (marks (put piece.Row & row_classes auth_row c.args.found.now & put piece.UnreadableClass & row_numbers c.args.place & say (codes "unreadable"))) (marks (held_part c.args.held)) c.push_shown.new.out.items c.push_held.new.out.items to5 c.in_ok-push_held.ensures in
+    let to7 = both c.args.out.now.items (marks (put piece.Row & row_classes auth_row c.args.found.now & put piece.UnreadableClass & row_numbers c.args.place & say (codes "unreadable") & held_part c.args.held)) (marks (put piece.RightsCell)) c.push_held.new.out.items c.push_piece-3.new.out.items to6 c.in_ok-push_piece-3.ensures in
+    let to8 = both c.args.out.now.items (marks (put piece.Row & row_classes auth_row c.args.found.now & put piece.UnreadableClass & row_numbers c.args.place & say (codes "unreadable") & held_part c.args.held & put piece.RightsCell)) (marks (put piece.RightsUnknown)) c.push_piece-3.new.out.items c.push_piece-4.new.out.items to7 c.in_ok-push_piece-4.ensures in
+    let to9 = both c.args.out.now.items (marks (put piece.Row & row_classes auth_row c.args.found.now & put piece.UnreadableClass & row_numbers c.args.place & say (codes "unreadable") & held_part c.args.held & put piece.RightsCell & put piece.RightsUnknown)) (marks (put piece.LimitsCell)) c.push_piece-4.new.out.items c.push_piece-5.new.out.items to8 c.in_ok-push_piece-5.ensures in
+    let to10 = both c.args.out.now.items (marks (put piece.Row & row_classes auth_row c.args.found.now & put piece.UnreadableClass & row_numbers c.args.place & say (codes "unreadable") & held_part c.args.held & put piece.RightsCell & put piece.RightsUnknown & put piece.LimitsCell)) (marks (row_findings c.args.place auth_row c.args.found.now)) c.push_piece-5.new.out.items c.push_findings.new.out.items to9 c.in_ok-push_findings.ensures in
+    let to11 = both c.args.out.now.items (marks (put piece.Row & row_classes auth_row c.args.found.now & put piece.UnreadableClass & row_numbers c.args.place & say (codes "unreadable") & held_part c.args.held & put piece.RightsCell & put piece.RightsUnknown & put piece.LimitsCell & row_findings c.args.place auth_row c.args.found.now)) (marks (put piece.RowEnd)) c.push_findings.new.out.items c.push_piece-6.new.out.items to10 c.in_ok-push_piece-6.ensures in
+    to11

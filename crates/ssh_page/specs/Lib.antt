@@ -1,0 +1,12 @@
+pub mod Tags
+pub mod Pieces
+pub mod Documents
+pub mod Expanding
+pub mod Reading
+pub mod Classes
+pub mod Findings
+pub mod Records
+pub mod HostRecords
+pub mod Files
+pub mod Pages
+pub mod StandIns

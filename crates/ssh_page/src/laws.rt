@@ -1,0 +1,117 @@
+//! Laws of the page, proved of functions without a body: no text of a file can become markup.
+
+ghost use Rattle.std.specs.Prelude.{◌≡◌, ◌++◌, ◌∷◌, [], ℕ, true, codes, List, Option};
+ghost use Rattle.std.specs.Fmt.{decimal};
+ghost use Rattle.std.specs.List.{list_all};
+ghost use Rattle.ssh_findings.specs.Codes.{code_text};
+ghost use Rattle.ssh_findings.specs.declared.code.Code.{Code};
+ghost use Rattle.ssh_findings.specs.declared.facts.Facts.{Facts};
+ghost use Rattle.ssh_findings.specs.declared.finding.Finding.{Finding};
+ghost use Rattle.ssh_findings.specs.declared.host_facts.HostFacts.{HostFacts};
+ghost use Rattle.ssh_findings.specs.declared.host_finding.HostFinding.{HostFinding};
+ghost use Rattle.ssh_findings.specs.declared.recovered_key.HeldKey.{HeldKey};
+ghost use Rattle.ssh_page.specs.declared.file.FileKind.{FileKind};
+ghost use Rattle.ssh_page.specs.declared.piece.Piece.{Piece};
+ghost use Rattle.ssh_page.specs.declared.record.RowPlace.{RowPlace};
+ghost use Rattle.ssh_page.specs.Documents.{Document, IsOfBytes, after, html, marks, pieces_of, texts_of};
+ghost use Rattle.ssh_page.specs.Expanding.{delimiters, page, text_html, without_text};
+ghost use Rattle.ssh_page.specs.Files.{ClassesSeen, FileSeen, empty_section, fault_row, fault_section, file_row, register, section};
+ghost use Rattle.ssh_page.specs.HostRecords.{bare_row, host_entry_row, revoked_row};
+ghost use Rattle.ssh_page.specs.Pages.{whole_page};
+ghost use Rattle.ssh_page.specs.Pieces.{tags};
+ghost use Rattle.ssh_page.specs.Reading.{read_text};
+ghost use Rattle.ssh_page.specs.Records.{entry_row, unreadable_row};
+ghost use Rattle.ssh_page.specs.StandIns.{entry_texts, facts_stand_in, host_stand_in, if_bytes};
+ghost use Rattle.ssh_page.specs.Tags.{is_sound, within};
+ghost use Rattle.ssh_page.specs.Classes.{code_number};
+
+/// Each `<`, each `>` and each quote of a page is a piece's, for every marked text: the page without
+/// its texts has the same. A reader of HTML reads each text back as it is.
+fn text_rule()
+    ensures markup { (m : List ℕ)
+        → delimiters (page m) ≡ delimiters (page (without_text m)) }
+    ensures read { (text : List ℕ) → read_text (text_html text) ≡ text }
+{}
+
+/// The page of a marked text is the HTML of its pieces and texts: no text is taken for a piece, and
+/// each piece is its own. In a piece no attribute has an angle bracket, and its quotes are those
+/// that its place in a tag needs.
+fn page_rule()
+    ensures expanded { (d : Document) → IsOfBytes d → page (marks d) ≡ html d }
+    ensures sound { (p : Piece) → list_all is_sound (tags p) ≡ true }
+    ensures class { (c : Code) → code_text c ≡ codes "F" ++ decimal (code_number c) }
+{}
+
+/// Each row closes what it opens, whatever its texts; no text stands within a tag, and in the values
+/// of attributes digits alone. (`after` is nowhere where one of these does not hold.)
+fn rows_close_rule()
+    ensures entry { (opened : List (List ℕ)) (place : RowPlace) (f : Facts) (found : List Finding)
+        → after (within opened) (entry_row place f found) ≡ within opened }
+    ensures unreadable { (opened : List (List ℕ)) (place : RowPlace) (held : Option HeldKey)
+        (found : List Finding)
+        → after (within opened) (unreadable_row place held found) ≡ within opened }
+    ensures host_entry { (opened : List (List ℕ)) (place : RowPlace) (f : HostFacts)
+        (found : List HostFinding)
+        → after (within opened) (host_entry_row place f found) ≡ within opened }
+    ensures revoked { (opened : List (List ℕ)) (place : RowPlace) (fingerprint names : List ℕ)
+        (found : List HostFinding)
+        → after (within opened) (revoked_row place fingerprint names found) ≡ within opened }
+    ensures bare { (opened : List (List ℕ)) (place : RowPlace) (is : List ℕ) (held : Option HeldKey)
+        (found : List HostFinding)
+        → after (within opened) (bare_row place is held found) ≡ within opened }
+{}
+
+/// Each section of a file and the register close what they open, if their rows do.
+fn sections_close_rule()
+    ensures whole { (opened : List (List ℕ)) (file : ℕ) (kind : FileKind) (f : FileSeen)
+        (classes : ClassesSeen) (rows : Document)
+        → ((inner : List (List ℕ)) → after (within inner) rows ≡ within inner)
+        → after (within opened) (section file kind f classes rows) ≡ within opened }
+    ensures empty { (opened : List (List ℕ)) (file : ℕ) (f : FileSeen)
+        → after (within opened) (empty_section file f) ≡ within opened }
+    ensures fault { (opened : List (List ℕ)) (file : ℕ) (name code means : List ℕ)
+        → after (within opened) (fault_section file name code means) ≡ within opened }
+    ensures whole_register { (opened : List (List ℕ)) (rows : Document) (total : List ℕ)
+        → ((inner : List (List ℕ)) → after (within inner) rows ≡ within inner)
+        → after (within opened) (register rows total) ≡ within opened }
+    ensures row_of_file { (opened : List (List ℕ)) (file : ℕ) (f : FileSeen)
+        → after (within opened) (file_row file f) ≡ within opened }
+    ensures row_of_fault { (opened : List (List ℕ)) (file : ℕ) (name code means : List ℕ)
+        → after (within opened) (fault_row file name code means) ≡ within opened }
+{}
+
+/// The whole page closes what it opens, if its sections and rows do.
+fn page_closes_rule()
+    ensures { (title : List ℕ) (sections rows : Document) (total : List ℕ)
+        → ((inner : List (List ℕ)) → after (within inner) sections ≡ within inner)
+        → ((inner : List (List ℕ)) → after (within inner) rows ≡ within inner)
+        → after (within []) (whole_page title sections rows total) ≡ within [] }
+{}
+
+/// Whoever writes the texts of a file cannot choose a tag: with one letter in place of each text, a
+/// row has the same pieces in the same order. Only whether a comment has bytes is seen.
+fn shape_rule()
+    ensures entry { (place : RowPlace) (f : Facts) (found : List Finding)
+        → pieces_of (entry_row place f found) ≡ pieces_of (entry_row place (facts_stand_in f) found) }
+    ensures host_entry { (place : RowPlace) (f : HostFacts) (found : List HostFinding)
+        → pieces_of (host_entry_row place f found)
+        ≡ pieces_of (host_entry_row place (host_stand_in f) found) }
+    ensures revoked { (place : RowPlace) (fingerprint names : List ℕ) (found : List HostFinding)
+        → pieces_of (revoked_row place fingerprint names found)
+        ≡ pieces_of (revoked_row place fingerprint [] found) }
+{}
+
+/// Each text of a line stands in its row once, between `<code>` and `</code>`, in the order of the
+/// text format, and nothing else stands so.
+fn texts_rule()
+    ensures entry { (place : RowPlace) (f : Facts) (found : List Finding)
+        → texts_of (entry_row place f found) ≡ entry_texts f }
+    ensures unreadable { (place : RowPlace) (held : Option HeldKey) (found : List Finding)
+        → texts_of (unreadable_row place held found) ≡ [] }
+    ensures host_entry { (place : RowPlace) (f : HostFacts) (found : List HostFinding)
+        → texts_of (host_entry_row place f found) ≡ if_bytes f.comment ++ f.names ∷ [] }
+    ensures revoked { (place : RowPlace) (fingerprint names : List ℕ) (found : List HostFinding)
+        → texts_of (revoked_row place fingerprint names found) ≡ names ∷ [] }
+    ensures bare { (place : RowPlace) (is : List ℕ) (held : Option HeldKey) (found : List HostFinding)
+        → texts_of (bare_row place is held found) ≡ [] }
+{}

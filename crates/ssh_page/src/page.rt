@@ -1,0 +1,54 @@
+//! What stands around the sections of the files and the register: the head of the page, and its end.
+//!
+//! A page is `push_page_start`, `push_lines_start`, the section of each file, `push_lines_end`, the
+//! register, and `push_page_end`.
+
+ghost use Rattle.std.specs.Prelude.{◌≡◌, ◌++◌, OnOk};
+ghost use Rattle.ssh_page.specs.Documents.{marks, put};
+ghost use Rattle.ssh_page.specs.Pages.{page_end, page_start};
+ghost use Rattle.ssh_page.specs.declared.piece.Piece.TheVariants.{Lines, LinesEnd};
+
+use crate::marks::push_piece;
+use crate::piece::Piece;
+use ssh_print::push_shown;
+use std::alloc::AllocError;
+
+/// Appends what comes before the first section: the head, with the policy and the style, and the
+/// heading.
+#[tactic(auto, unfolding(crate::specs::Pages::page_start))]
+pub fn push_page_start(out: &mut Vec<u8>, title: &[u8]) -> Result<(), AllocError>
+    ensures { OnOk result (out.new.items ≡ out.old.items ++ marks (page_start title.now)) }
+{
+    push_piece(out, Piece::Front)?;
+    push_shown(out, title)?;
+    push_piece(out, Piece::StyleStart)?;
+    push_piece(out, Piece::Style)?;
+    push_piece(out, Piece::StyleEnd)?;
+    push_shown(out, title)?;
+    push_piece(out, Piece::HeadingEnd)?;
+    Ok(())
+}
+
+/// Appends what comes before the sections of the files.
+pub fn push_lines_start(out: &mut Vec<u8>) -> Result<(), AllocError>
+    ensures { OnOk result (out.new.items ≡ out.old.items ++ marks (put Lines)) }
+{
+    push_piece(out, Piece::Lines)
+}
+
+/// Appends what comes after the sections of the files.
+pub fn push_lines_end(out: &mut Vec<u8>) -> Result<(), AllocError>
+    ensures { OnOk result (out.new.items ≡ out.old.items ++ marks (put LinesEnd)) }
+{
+    push_piece(out, Piece::LinesEnd)
+}
+
+/// Appends what comes after the register: the table to sign, and the end of the page.
+#[tactic(auto, unfolding(crate::specs::Pages::page_end))]
+pub fn push_page_end(out: &mut Vec<u8>) -> Result<(), AllocError>
+    ensures { OnOk result (out.new.items ≡ out.old.items ++ marks page_end) }
+{
+    push_piece(out, Piece::Sign)?;
+    push_piece(out, Piece::PageEnd)?;
+    Ok(())
+}

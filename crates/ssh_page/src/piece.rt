@@ -1,0 +1,190 @@
+//! The pieces of constant markup, and the byte that stands for each in a marked text.
+
+ghost use Rattle.std.specs.Prelude.{◌≡◌, map};
+ghost use Rattle.ssh_page.specs.Pieces.{all_markup, mark, markup_at};
+
+use crate::style::STYLE;
+
+/// A piece of constant markup. Its HTML is in `MARKUP`, in the same order.
+#[derive(Clone, Copy, Debug, PartialEq, Eq)]
+pub(crate) enum Piece {
+    // A text of a file.
+    Code,
+    CodeEnd,
+    // The row of a line: its classes, the numbers of its file and of itself, its cells.
+    Row,
+    FileId,
+    LineId,
+    RowNumber,
+    KeyCell,
+    RightsCell,
+    LimitsCell,
+    RowEnd,
+    // Classes: how soon to mend what a code says, before its number; what a line is.
+    TodayClass,
+    SoonClass,
+    TidyClass,
+    PolicyClass,
+    UnreadableClass,
+    AuthorityClass,
+    // The key of a line, and whose it is.
+    NoComment,
+    KeyType,
+    KeyTypeEnd,
+    Fingerprint,
+    FingerprintEnd,
+    // Its rights, those that are on and those that are off.
+    Port,
+    Agent,
+    X11,
+    Pty,
+    UserRc,
+    RightOff,
+    NoRights,
+    RightsUnknown,
+    // Its limits, each a paragraph.
+    Limit,
+    LimitEnd,
+    NoLimit,
+    // A finding, and the link to another line that it names.
+    Finding,
+    FindingCode,
+    FindingSays,
+    SeeFile,
+    SeeLine,
+    LinkEnd,
+    // The section of a file: its classes, its name, its counts, its table or its fault.
+    Section,
+    SectionName,
+    SectionSays,
+    KeysTable,
+    HostsTable,
+    TableEnd,
+    SectionEnd,
+    Fault,
+    FaultEnd,
+    // The register of the files: a row for each, with a link to its section.
+    Register,
+    FileRow,
+    FileName,
+    FirstCount,
+    NextCount,
+    Digest,
+    DigestEnd,
+    FaultCell,
+    FaultCellEnd,
+    RegisterTotal,
+    // The table to sign.
+    Sign,
+    // The head of the page, up to its title, and between the places of the title.
+    Front,
+    StyleStart,
+    Style,
+    StyleEnd,
+    HeadingEnd,
+    // The lines of all files, around their sections.
+    Lines,
+    LinesEnd,
+    // The end of the page.
+    PageEnd,
+}
+
+/// The HTML of each piece.
+static MARKUP: [&str; 66] = [
+    "<code>",
+    "</code>",
+    "<tr class=\"ln",
+    "\" id=\"f",
+    "l",
+    "\"><th scope=\"row\">",
+    "</th><td class=\"k\">",
+    "</td><td class=\"r\">",
+    "</td><td class=\"w\">",
+    "</td></tr>\n",
+    " a F",
+    " b F",
+    " c F",
+    " p F",
+    " u",
+    " ca",
+    "<i>no comment</i>",
+    " <span class=\"ty\">",
+    "</span>",
+    "<br><samp>SHA256:",
+    "</samp>",
+    "<b>port</b>",
+    "<b>agent</b>",
+    "<b>x11</b>",
+    "<b>pty</b>",
+    "<b>rc</b>",
+    "<i></i>",
+    "<b class=\"no\">none</b>",
+    "<i>cannot be read</i>",
+    "<p>",
+    "</p>",
+    "<p class=\"nl\">any command, from anywhere, for ever</p>",
+    "<p class=\"f",
+    "\"><b>",
+    "</b>: ",
+    " <a href=\"#f",
+    "\">see line ",
+    "</a>",
+    "<section class=\"fl",
+    "\">\n<h3>",
+    "</h3>\n<p>",
+    "</p>\n<div class=\"t\">\n<table>\n<thead><tr><th scope=\"col\">Line</th><th scope=\"col\">Key and comment</th><th scope=\"col\">Rights</th><th scope=\"col\">Limits, and what was found</th></tr></thead>\n<tbody>\n",
+    "</p>\n<div class=\"t\">\n<table>\n<thead><tr><th scope=\"col\">Line</th><th scope=\"col\">Key and comment</th><th scope=\"col\">Is</th><th scope=\"col\">Names, and what was found</th></tr></thead>\n<tbody>\n",
+    "</tbody>\n</table>\n</div>\n</section>\n",
+    "</p>\n</section>\n",
+    "<strong class=\"a\">",
+    "</strong>: ",
+    "<section id=\"files\">\n<h2>Files that were read</h2>\n<p class=\"says\">SHA-256 is that of the bytes that were read, as sha256sum prints it: it ties this page to them.</p>\n<table class=\"reg\">\n<thead><tr><th scope=\"col\">File</th><th scope=\"col\">Lines</th><th scope=\"col\">Keys</th><th scope=\"col\">Unreadable</th><th scope=\"col\">Findings</th><th scope=\"col\">SHA-256</th></tr></thead>\n<tbody>\n",
+    "<tr><th scope=\"row\"><a href=\"#f",
+    "\">",
+    "</a></th><td class=\"n\">",
+    "</td><td class=\"n\">",
+    "</td><td><samp>",
+    "</samp></td></tr>\n",
+    "</a></th><td colspan=\"5\">",
+    "</td></tr>\n",
+    "</tbody>\n</table>\n<p>",
+    "<section id=\"sign\">\n<h2>Sign</h2>\n<p>The review says what the lines of these files give. It does not read sshd_config, file permissions or key revocation lists, and it does not know who holds a key. Count a line that cannot be read (F1) as access. \"Keep\" is a decision of the people who sign.</p>\n<table class=\"sg\">\n<thead><tr><td></td><th scope=\"col\">Reviewed by</th><th scope=\"col\">Approved by</th></tr></thead>\n<tbody>\n<tr><th scope=\"row\">Name, role</th><td></td><td></td></tr>\n<tr><th scope=\"row\">Date</th><td></td><td></td></tr>\n<tr><th scope=\"row\">Compared with the review of</th><td></td><td></td></tr>\n<tr><th scope=\"row\">To be removed or mended, by when, by whom</th><td></td><td></td></tr>\n<tr><th scope=\"row\">Signature</th><td></td><td></td></tr>\n</tbody>\n</table>\n<p>To sign the file itself: <kbd>ssh-keygen -Y sign -n access-review -f KEY PAGE</kbd>. To see whether a file of the list is still the same: <kbd>sha256sum FILE</kbd>. What changed since the last review is a difference of two JSON lists: docs/RECIPES.md.</p>\n</section>\n",
+    "<!DOCTYPE html>\n<html lang=\"en\">\n<head>\n<meta charset=\"utf-8\">\n<meta http-equiv=\"Content-Security-Policy\" content=\"default-src 'none'; style-src 'sha256-ihuWkP69MtF0fK2gpRYuLMJVk2eAQ3EP4ZHE/M7l4zU='; base-uri 'none'; form-action 'none'\">\n<meta name=\"viewport\" content=\"width=device-width, initial-scale=1\">\n<meta name=\"color-scheme\" content=\"light dark\">\n<meta name=\"format-detection\" content=\"telephone=no, date=no, address=no, email=no\">\n<meta name=\"robots\" content=\"noindex\">\n<title>",
+    "</title>\n<style>\n",
+    STYLE,
+    "</style>\n</head>\n<body>\n<a class=\"skip\" href=\"#lines\">To every line</a>\n<header>\n<p class=\"org\">ssh_audit review</p>\n<h1>",
+    "</h1>\n<p class=\"says\">Text on a tinted ground, <code>like this</code>, comes from the files: whoever can write there wrote it. It is printable ASCII; every other byte, and the backslash, is shown as \\x and two digits.</p>\n<nav aria-label=\"Parts of this page\"><a href=\"#lines\">Every line</a> <a href=\"#files\">Files</a> <a href=\"#sign\">Sign</a></nav>\n</header>\n<main>\n",
+    "<section id=\"lines\">\n<h2>Every line, by file</h2>\n<div class=\"all\">\n",
+    "</div>\n</section>\n",
+    "</main>\n<footer><p>Written by ssh_audit review --form html. No script, nothing from outside, no link out.</p></footer>\n</body>\n</html>\n",
+];
+
+/// The least byte that stands for a piece. All bytes below it are text.
+pub(crate) const FIRST_MARK: u8 = 128;
+
+impl Piece {
+    /// The byte that stands for the piece in a marked text.
+    #[tactic(auto, unfolding(crate::specs::Pieces::mark))]
+    pub(crate) fn mark(self) -> u8
+        ensures { result ≡ mark self }
+    {
+        FIRST_MARK + self as u8
+    }
+}
+
+#[tactic(auto, unfolding(crate::specs::Pieces::all_markup))]
+fn all_markup() -> &'static [&'static str]
+    ensures { map (λ html. html.now) result.now ≡ all_markup }
+{
+    &MARKUP
+}
+
+/// The HTML of the piece with this number, counted from 0; nothing if there is none.
+pub(crate) fn markup(number: usize) -> &'static [u8]
+    ensures { result.now ≡ markup_at number }
+{
+    match all_markup().get(number) {
+        Some(html) => html.as_bytes(),
+        None => b"",
+    }
+}
