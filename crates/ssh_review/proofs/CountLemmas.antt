@@ -1,12 +1,12 @@
 -- How much a known_hosts file counts at most.
-use Rattle.ssh_review.proofs.Imports.{◌≡◌, ◌∙◌, ℕ, ◌+◌, ◌≤◌, Bool, true, List, [], ◌∷◌, ◌++◌, length, sym, ap, length-append, arith, Option, option_map, key_blob, KnownLine, Revoked, RevokedUnreadable, known_line, file_limit, lines_of, numbered, Asking, told_some, HostFacts, RevocationFacts, HostFinding, other_line, revoking_line, same_line, spelled_line, spelling_line, trusting_line, host_code_of, unreadable_revocation_findings, host_reading_findings, other_line_findings, name_findings, passing_findings, refusal_findings, revoking_findings, trusting_findings, HostLine, Counts, plus, host_counts_of, host_kept_of, host_line_counts}
+use Rattle.ssh_review.proofs.Imports.{ℕ, ◌+◌, ◌≤◌, Bool, true, List, [], ◌∷◌, ◌++◌, length, length-append, arith, Option, option_map, key_blob, KnownLine, Revoked, RevokedUnreadable, known_line, numbered, Asking, told_some, HostFacts, RevocationFacts, HostFinding, other_line, revoking_line, same_line, spelled_line, spelling_line, trusting_line, host_code_of, unreadable_revocation_findings, host_reading_findings, other_line_findings, name_findings, passing_findings, refusal_findings, revoking_findings, trusting_findings, HostLine, host_counts_of, host_kept_of, host_line_counts}
 use Rattle.ssh_entries.specs.declared.known_line.KnownLine.TheVariants.{Blank, Comment, Entry, Unreadable}
 use Rattle.ssh_findings.specs.Telling.{told_if}
 use Rattle.ssh_findings.specs.declared.host_finding.HostFinding.TheVariants as finding
 use Rattle.ssh_findings.specs.HostFacts.{host_facts_of}
 use Rattle.ssh_findings.specs.RevocationFacts.{revocation_facts_of}
 use Rattle.ssh_findings.specs.HostFindings.{findings_by, host_entry_findings, revocation_findings}
-use Rattle.ssh_review.proofs.LineLemmas.{Fits, Within, both-within, fit, lines-few, some-short, told-short}
+use Rattle.ssh_review.proofs.LineLemmas.{Within, both-within, some-short, told-short}
 
 -- ---- findings of a line
 
@@ -74,18 +74,9 @@ line-within asking earlier line RevokedUnreadable =
 line-within asking earlier line (Unreadable cause) =
     record { lines = omega arith; keys = omega arith; unreadable = omega arith; findings = omega (arith, if-short asking true (finding.Unreadable cause)) }
 
-all-within : (asking : Asking) (earlier : List HostLine) (n : ℕ) (lines : List (List ℕ)) → Within (host_counts_of asking earlier (numbered n lines)) (length lines)
+pub all-within : (asking : Asking) (earlier : List HostLine) (n : ℕ) (lines : List (List ℕ)) → Within (host_counts_of asking earlier (numbered n lines)) (length lines)
 all-within asking earlier n [] = record { lines = omega arith; keys = omega arith; unreadable = omega arith; findings = omega arith }
 all-within asking earlier n (line ∷ lines) =
     let after = earlier ++ host_kept_of n line (known_line line) in
     both-within (host_line_counts asking earlier line (known_line line)) (host_counts_of asking after (numbered (n + 1) lines)) (length lines)
     (line-within asking earlier line (known_line line)) (all-within asking after (n + 1) lines)
-
-pub told_fits : (asking : Asking) (earlier : List HostLine) (file : List ℕ) (before told : Counts) (n : ℕ) (line : List ℕ) (said : KnownLine) (now next : List (ℕ × List ℕ))
-    → length file ≤ file_limit → now ≡ (n, line) ∷ next → said ≡ known_line line → told ≡ host_line_counts asking earlier line said
-    → plus before (host_counts_of asking earlier now) ≡ host_counts_of asking [] (numbered 1 (lines_of file)) → Fits before told
-told_fits asking earlier file before told n line said now next h e k f g =
-    let after = earlier ++ host_kept_of n line (known_line line) in
-    fit before told (host_counts_of asking after next) (host_counts_of asking [] (numbered 1 (lines_of file))) (length (lines_of file))
-    (all-within asking [] 1 (lines_of file)) (omega (arith, lines-few file, h))
-    (ap (λ c. plus before (plus c (host_counts_of asking after next))) (f ∙ ap (host_line_counts asking earlier line) k) ∙ ap (λ left. plus before (host_counts_of asking earlier left)) (sym e) ∙ g)

@@ -1,10 +1,14 @@
 -- How much is counted at most of the lines that hold one key.
-use Rattle.ssh_review.proofs.Imports.{◌≤◌, ◌+◌, ◌++◌, ℕ, List, [], ◌∷◌, length, arith, auth_line, known_line, numbered, lines_of, file_limit, Asking, Held, HostLine, held_by_line, host_kept_of, host_line_counts, line_counts}
+use Rattle.ssh_review.proofs.Imports.{◌≤◌, ◌+◌, Bool, true, false, Counts, ◌++◌, ℕ, List, [], ◌∷◌, length, arith, auth_line, known_line, numbered, lines_of, file_limit, Asking, Held, HostLine, held_by_line, host_kept_of, host_line_counts, line_counts}
 use Rattle.ssh_review.specs.HostKeyRecords.{host_holds_key, host_key_counts, host_key_counts_of}
-use Rattle.ssh_review.specs.KeyRecords.{holds_key, key_counts, key_counts_of}
+use Rattle.ssh_review.specs.KeyRecords.{holds_key, key_counts, key_counts_of, unlisted_counts}
 use Rattle.ssh_review.proofs.CountLemmas as hosts
-use Rattle.ssh_review.proofs.KeyStepLemmas.{one-within}
+use Rattle.std.specs.Prelude.{if◌then◌else◌}
 use Rattle.ssh_review.proofs.LineLemmas.{Within, both-within, line-within, lines-few}
+
+one-within : (b : Bool) (counts : Counts) → Within counts 1 → Within (if b then counts else unlisted_counts) 1
+one-within true counts h = h
+one-within false counts h = record { lines = omega arith; keys = omega arith; unreadable = omega arith; findings = omega arith }
 
 pub key-within : (sought : List ℕ) (asking : Asking) (earlier : List Held) (n : ℕ) (lines : List (List ℕ)) → Within (key_counts_of sought asking earlier (numbered n lines)).counts (length lines)
 key-within sought asking earlier n [] = record { lines = omega arith; keys = omega arith; unreadable = omega arith; findings = omega arith }

@@ -22,7 +22,7 @@ pub mod HostByteLemmas
 pub mod HostTextLemmas
 pub mod HostObjectLemmas
 pub mod HostReviewLemmas
-pub mod LoopLemmas
+pub mod HostStepLemmas
 pub mod HostMemoryLemmas
 pub mod ListLemmas
 pub mod HashedFactsLemmas
@@ -36,6 +36,7 @@ pub mod HostSpelledLemmas
 pub mod HostListingLemmas
 pub mod ReadableLemmas
 pub mod ReadableDecisionLemmas
-pub mod KeyStepLemmas
+pub mod LineEndLemmas
+pub mod MakingLemmas
 pub mod KeyReviewLemmas
 pub mod KeyListingLemmas

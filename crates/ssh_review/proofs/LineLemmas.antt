@@ -1,5 +1,5 @@
--- The loop over the lines of a file: what is written and counted so far, and what is left.
-use Rattle.ssh_review.proofs.Imports.{◌≡◌, ◌∙◌, ℕ, suc, ◌+◌, ◌*◌, ◌<◌, ◌≤◌, ◌^◌, ◌==◌, Bool, true, false, not, ◌&&◌, cond, List, [], ◌∷◌, ◌++◌, length, sym, ap, length-append, arith, flat_map, onto_first, Option, Some, None, AuthLine, Blank, Comment, Entry, Unreadable, auth_line, file_limit, lines_of, numbered, Counts, Code, Facts, Finding, Asking, is_told, plus, Ground, condition_findings, forces_but_forwards, ground_finding, ground_findings, policy_findings, reading_findings, all_grounds, has_ground, told_some, key_blob, Held, repeat_after, code_of, counts_of, held_by_line, line_counts}
+-- How much an authorized_keys file counts at most.
+use Rattle.ssh_review.proofs.Imports.{ℕ, suc, ◌+◌, ◌*◌, ◌≤◌, ◌==◌, Bool, true, false, not, ◌&&◌, cond, List, [], ◌∷◌, ◌++◌, length, length-append, arith, flat_map, onto_first, Option, Some, None, AuthLine, Blank, Comment, Entry, Unreadable, auth_line, lines_of, numbered, Counts, Code, Facts, Finding, Asking, is_told, plus, Ground, condition_findings, forces_but_forwards, ground_finding, ground_findings, policy_findings, reading_findings, all_grounds, has_ground, told_some, key_blob, Held, repeat_after, code_of, counts_of, held_by_line, line_counts}
 use Rattle.ssh_findings.specs.declared.finding.Finding.TheVariants as finding
 use Rattle.ssh_findings.specs.EntryFindings.{entry_findings}
 use Rattle.ssh_findings.specs.Telling.{told_if}
@@ -96,7 +96,7 @@ both-within a b n v w = record {
   findings = omega (arith, v.findings, w.findings);
 }
 
-all-within : (asking : Asking) (earlier : List Held) (n : ℕ) (lines : List (List ℕ)) → Within (counts_of asking earlier (numbered n lines)) (length lines)
+pub all-within : (asking : Asking) (earlier : List Held) (n : ℕ) (lines : List (List ℕ)) → Within (counts_of asking earlier (numbered n lines)) (length lines)
 all-within asking earlier n [] = record { lines = omega arith; keys = omega arith; unreadable = omega arith; findings = omega arith }
 all-within asking earlier n (line ∷ lines) =
     let after = earlier ++ held_by_line asking (n, auth_line line) in
@@ -114,38 +114,3 @@ lines-few (c ∷ cs) = go (c == 10) (lines-few cs)
     go : (b : Bool) → length (lines_of cs) ≤ length cs → length (cond b ([] ∷ lines_of cs) (onto_first c (lines_of cs))) ≤ length (c ∷ cs)
     go true few = omega arith
     go false few = omega (arith, onto-long c (lines_of cs) (length cs) few)
-
--- a sum that is a part of what a file within the limit counts
-pub record Fits (a b : Counts) : Type 0 where
-  pub lines : a.lines + b.lines < 2 ^ 64
-  pub keys : a.keys + b.keys < 2 ^ 64
-  pub unreadable : a.unreadable + b.unreadable < 2 ^ 64
-  pub findings : a.findings + b.findings < 2 ^ 64
-
-pub fit : (before told rest all : Counts) (n : ℕ) → Within all n → n ≤ file_limit → plus before (plus told rest) ≡ all → Fits before told
-fit before told rest all n w h e =
-    let lines : before.lines + (told.lines + rest.lines) ≡ all.lines = ap (λ (c : Counts). c.lines) e in
-    let keys : before.keys + (told.keys + rest.keys) ≡ all.keys = ap (λ (c : Counts). c.keys) e in
-    let unreadable : before.unreadable + (told.unreadable + rest.unreadable) ≡ all.unreadable = ap (λ (c : Counts). c.unreadable) e in
-    let findings : before.findings + (told.findings + rest.findings) ≡ all.findings = ap (λ (c : Counts). c.findings) e in
-    record {
-      lines = omega (arith, lines, w.lines);
-      keys = omega (arith, keys, w.keys);
-      unreadable = omega (arith, unreadable, w.unreadable);
-      findings = omega (arith, findings, w.findings);
-    }
-
-pub keys-fit : (asking : Asking) (file : List ℕ) (before rest : Counts) → plus before rest ≡ counts_of asking [] (numbered 1 (lines_of file))
-    → before.keys ≤ length file
-keys-fit asking file before rest e =
-    let keys : before.keys + rest.keys ≡ (counts_of asking [] (numbered 1 (lines_of file))).keys = ap (λ (c : Counts). c.keys) e in
-    omega (arith, keys, (all-within asking [] 1 (lines_of file)).keys, lines-few file)
-
-pub told_fits : (asking : Asking) (earlier : List Held) (file : List ℕ) (before told : Counts) (n : ℕ) (line : List ℕ) (said : AuthLine) (now next : List (ℕ × List ℕ))
-    → length file ≤ file_limit → now ≡ (n, line) ∷ next → said ≡ auth_line line → told ≡ line_counts asking earlier said
-    → plus before (counts_of asking earlier now) ≡ counts_of asking [] (numbered 1 (lines_of file)) → Fits before told
-told_fits asking earlier file before told n line said now next h e k f g =
-    let after = earlier ++ held_by_line asking (n, auth_line line) in
-    fit before told (counts_of asking after next) (counts_of asking [] (numbered 1 (lines_of file))) (length (lines_of file))
-    (all-within asking [] 1 (lines_of file)) (omega (arith, lines-few file, h))
-    (ap (λ c. plus before (plus c (counts_of asking after next))) (f ∙ ap (line_counts asking earlier) k) ∙ ap (λ left. plus before (counts_of asking earlier left)) (sym e) ∙ g)

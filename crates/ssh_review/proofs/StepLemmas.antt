@@ -1,43 +1,112 @@
--- One more line of a file: what is written, counted and stored then.
-use Rattle.ssh_review.proofs.Imports.{◌≡◌, ◌∙◌, ℕ, ◌+◌, ◌≤◌, List, ◌∷◌, ◌++◌, refl, sym, ap, append_assoc, arith, add_assoc, AuthLine, auth_line, Asking, Held, Counts, Form, plus, counts_of, held_by_line, held_lines, line_counts, line_record, records_of, line_bytes, lines_bytes}
+-- One more line of an authorized_keys file: what is left to be told then, and what is stored.
+use Rattle.ssh_review.proofs.Imports.{◌≡◌, ◌∙◌, ℕ, ◌+◌, ◌≤◌, Bool, List, [], ◌∷◌, ◌++◌, length, refl, sym, ap, subst, append_assoc, arith, TooLong, auth_review, fault_review, AuthLine, auth_line, Asking, Held, Counts, Form, plus, AreBytes, lines_of, numbered, file_limit, RemembersEntries, bytes_kept, keys_kept, counts_of, held_by_line, held_lines, line_counts, line_record, records_of, line_bytes, lines_bytes}
+use Rattle.ssh_findings.specs.declared.earlier.Earlier.{Earlier}
+use Rattle.ssh_review.specs.KeyRecords.{holds_key, key_counts, key_counts_of, key_record, key_records_of, plus_key}
+use Rattle.std.specs.Prelude.{if◌then◌else◌}
+use Rattle.ssh_review.specs.KeyReviews.{KeyReview, auth_key_review, key_fault_review, reviewed_by, whole_key_review}
+use Rattle.ssh_review.specs.Reviews.{Review, whole_review}
+use Rattle.ssh_review.specs.Making.{AreCounts, AreWholeLines, AuthKeyTells, AuthTells, of_all}
+use Rattle.ssh_review.specs.declared.key_review.KeyCounts.{KeyCounts}
+use Rattle.ssh_review.specs.declared.records.ForKey.{ForKey}
+use Rattle.ssh_review.proofs.KeyReviewLemmas.{few-lines, key-within}
+use Rattle.ssh_review.proofs.LineLemmas.{all-within, lines-few}
+use Rattle.ssh_review.proofs.LineEndLemmas.{record-lines, if-lines, lines-on}
+use Rattle.ssh_review.proofs.MakingLemmas.{few-counts, text-more, within-false}
+use Rattle.ssh_review.proofs.MemoryLemmas.{file-long}
 
-pub plus-assoc : (a b c : Counts) → plus (plus a b) c ≡ plus a (plus b c)
-plus-assoc a b c =
-    rw (
-      add_assoc a.lines b.lines c.lines,
-      add_assoc a.keys b.keys c.keys,
-      add_assoc a.unreadable b.unreadable c.unreadable,
-      add_assoc a.findings b.findings c.findings,
-    ) refl
+-- ---- all keys
 
-pub step-text : (form : Form) (asking : Asking) (name : List ℕ) (held : List Held) (number : ℕ) (line : List ℕ) (said : AuthLine) (now next : List (ℕ × List ℕ)) (out new whole : List ℕ)
-    → now ≡ (number, line) ∷ next → said ≡ auth_line line → new ≡ out ++ line_record form asking name held (number, line) said
-    → out ++ records_of form asking name held now ≡ whole
-    → new ++ records_of form asking name (held ++ held_by_line asking (number, auth_line line)) next ≡ whole
-step-text form asking name held number line said now next out new whole steps says written all =
-    let rest : List ℕ = records_of form asking name (held ++ held_by_line asking (number, auth_line line)) next in
-    let record_of : AuthLine → List ℕ = λ s. line_record form asking name held (number, line) s in
-    ap (λ t. t ++ rest) (written ∙ ap (λ s. out ++ record_of s) says) ∙ append_assoc out (record_of (auth_line line)) rest
-    ∙ sym (ap (λ l. out ++ records_of form asking name held l) steps) ∙ all
-
-pub step-counts : (asking : Asking) (held : List Held) (number : ℕ) (line : List ℕ) (said : AuthLine) (now next : List (ℕ × List ℕ)) (counts told new whole : Counts)
-    → now ≡ (number, line) ∷ next → said ≡ auth_line line → told ≡ line_counts asking held said → new ≡ plus counts told
-    → plus counts (counts_of asking held now) ≡ whole
-    → plus new (counts_of asking (held ++ held_by_line asking (number, auth_line line)) next) ≡ whole
-step-counts asking held number line said now next counts told new whole steps says counted sum all =
-    let rest : Counts = counts_of asking (held ++ held_by_line asking (number, auth_line line)) next in
-    ap (λ c. plus c rest) (sum ∙ ap (λ t. plus counts t) (counted ∙ ap (λ s. line_counts asking held s) says))
-    ∙ plus-assoc counts (line_counts asking held (auth_line line)) rest
-    ∙ sym (ap (λ l. plus counts (counts_of asking held l)) steps) ∙ all
-
-pub step-held : (asking : Asking) (held whole : List Held) (number : ℕ) (line : List ℕ) (now next : List (ℕ × List ℕ)) → now ≡ (number, line) ∷ next
-    → held ++ held_lines asking now ≡ whole → (held ++ held_by_line asking (number, auth_line line)) ++ held_lines asking next ≡ whole
-step-held asking held whole number line now next steps all =
-    append_assoc held (held_by_line asking (number, auth_line line)) (held_lines asking next) ∙ sym (ap (λ l. held ++ held_lines asking l) steps) ∙ all
-
-pub step-bytes : (asking : Asking) (number : ℕ) (line : List ℕ) (said : AuthLine) (now next : List (ℕ × List ℕ)) (kept new most : ℕ) → now ≡ (number, line) ∷ next
-    → said ≡ auth_line line → new ≤ kept + line_bytes asking said → kept + lines_bytes asking now ≤ most → new + lines_bytes asking next ≤ most
-step-bytes asking number line said now next kept new most steps says more all =
-    let left : lines_bytes asking now ≡ line_bytes asking (auth_line line) + lines_bytes asking next = ap (lines_bytes asking) steps in
+pub auth-next : (form : Form) (asking : Asking) (name file : List ℕ) (number : ℕ) (line : List ℕ) (lines : List (ℕ × List ℕ)) (said : AuthLine) (old new : Earlier) (before after text : List ℕ) (counts : KeyCounts) (told : Counts)
+    → said ≡ auth_line line → AuthTells old form asking name file ((number, line) ∷ lines) text counts
+    → ((held : List Held) → RemembersEntries old held → after ≡ before ++ line_record form asking name held (number, line) said)
+    → ((held : List Held) → RemembersEntries old held → told ≡ line_counts asking held said)
+    → ((held : List Held) → RemembersEntries old held → RemembersEntries new (held ++ held_by_line asking (number, said)))
+    → bytes_kept new ≤ bytes_kept old + line_bytes asking said → keys_kept new ≤ keys_kept old + told.keys
+    → (rest : List ℕ) × (more : KeyCounts) × AuthTells new form asking name file lines rest more × (after ++ rest ≡ before ++ text) × (counts ≡ plus_key (of_all told) more) × (AreWholeLines before → AreWholeLines after)
+auth-next form asking name file number line lines said old new before after text counts told says h written counted stores bytes keys =
+    let left = h.held ++ held_by_line asking (number, auth_line line) in
+    let rest = records_of form asking name left lines in
+    let more = counts_of asking left lines in
     let own : line_bytes asking said ≡ line_bytes asking (auth_line line) = ap (line_bytes asking) says in
-    omega (arith, left, own)
+    let is : told ≡ line_counts asking h.held (auth_line line) = counted h.held h.stored ∙ ap (line_counts asking h.held) says in
+    let own_keys : told.keys ≡ (line_counts asking h.held (auth_line line)).keys = ap (λ (c : Counts). c.keys) is in
+    let all_bytes : bytes_kept old + (line_bytes asking (auth_line line) + lines_bytes asking lines) ≤ lines_bytes asking (numbered 1 (lines_of file)) = h.bytes in
+    let file_bytes : bytes_kept old + (line_bytes asking (auth_line line) + lines_bytes asking lines) ≤ length file = h.file_bytes in
+    let file_keys : keys_kept old + ((line_counts asking h.held (auth_line line)).keys + more.keys) ≤ length file = h.file_keys in (
+      rest,
+      of_all more,
+      record {
+        held = left;
+        stored = subst (λ (s : AuthLine). RemembersEntries new (h.held ++ held_by_line asking (number, s))) says (stores h.held h.stored);
+        are_records = refl;
+        are_counts = refl;
+        kept = append_assoc h.held (held_by_line asking (number, auth_line line)) (held_lines asking lines) ∙ h.kept;
+        bytes = omega (arith, bytes, own, all_bytes);
+        file_bytes = omega (arith, bytes, own, file_bytes);
+        file_keys = omega (arith, keys, own_keys, file_keys);
+      },
+      text-more (line_record form asking name h.held (number, line)) said (auth_line line) before after rest text (before ++ text) says (written h.held h.stored) h.are_records refl,
+      h.are_counts ∙ ap (λ (c : Counts). of_all (plus c more)) (sym is),
+      lines-on before (line_record form asking name h.held (number, line) said) after (written h.held h.stored) (record-lines form asking name h.held number line said),
+    )
+
+-- before the first line
+pub auth-first : (form : Form) (asking : Asking) (name file : List ℕ) (earlier : Earlier) → AreBytes file → RemembersEntries earlier [] → bytes_kept earlier ≡ 0 → keys_kept earlier ≡ 0
+    → AuthTells earlier form asking name file (numbered 1 (lines_of file)) (records_of form asking name [] (numbered 1 (lines_of file))) (of_all (counts_of asking [] (numbered 1 (lines_of file))))
+auth-first form asking name file earlier are stands none no_keys = record {
+  held = [];
+  stored = stands;
+  are_records = refl;
+  are_counts = refl;
+  kept = refl;
+  bytes = omega (arith, none);
+  file_bytes = omega (arith, none, file-long asking file are);
+  file_keys = omega (arith, no_keys, (all-within asking [] 1 (lines_of file)).keys, lines-few file);
+}
+
+pub auth-fits : (asking : Asking) (file : List ℕ) → length file ≤ file_limit → AreCounts (counts_of asking [] (numbered 1 (lines_of file)))
+auth-fits asking file h = few-counts _ (length (lines_of file)) (all-within asking [] 1 (lines_of file)) (few-lines file h)
+
+-- the whole text is that of the review
+pub auth-whole : (form : Form) (asking : Asking) (name file : List ℕ) (r : Review) → length file ≤ file_limit
+    → r ≡ (reviewed_by form name file (records_of form asking name [] (numbered 1 (lines_of file))) (of_all (counts_of asking [] (numbered 1 (lines_of file))))).file
+    → r ≡ auth_review form asking name file
+unfolding whole_review
+auth-whole form asking name file r few is = is ∙ ap (λ (b : Bool). if b then fault_review form name TooLong else whole_review form asking name file) (sym (within-false (length file) few))
+
+-- ---- one key
+
+pub auth-key-next : (form : Form) (asking : Asking) (name file : List ℕ) (number : ℕ) (line : List ℕ) (lines : List (ℕ × List ℕ)) (said : AuthLine) (old new : ForKey Earlier) (before after text : List ℕ) (counts told : KeyCounts)
+    → new.sought.now ≡ old.sought.now → said ≡ auth_line line → AuthKeyTells old form asking name file ((number, line) ∷ lines) text counts
+    → ((held : List Held) → RemembersEntries old.earlier held → after ≡ before ++ key_record old.sought.now form asking name held (number, line) said)
+    → ((held : List Held) → RemembersEntries old.earlier held → told ≡ key_counts old.sought.now asking held line said)
+    → ((held : List Held) → RemembersEntries old.earlier held → RemembersEntries new.earlier (held ++ held_by_line asking (number, said)))
+    → (rest : List ℕ) × (more : KeyCounts) × AuthKeyTells new form asking name file lines rest more × (after ++ rest ≡ before ++ text) × (counts ≡ plus_key told more) × (AreWholeLines before → AreWholeLines after)
+auth-key-next form asking name file number line lines said old new before after text counts told same says h written counted stores =
+    let sought = old.sought.now in
+    let left = h.held ++ held_by_line asking (number, auth_line line) in
+    let rest = key_records_of sought form asking name left lines in
+    let more = key_counts_of sought asking left lines in
+    let is : told ≡ key_counts sought asking h.held line (auth_line line) = counted h.held h.stored ∙ ap (key_counts sought asking h.held line) says in (
+      rest,
+      more,
+      record {
+        held = left;
+        stored = subst (λ (s : AuthLine). RemembersEntries new.earlier (h.held ++ held_by_line asking (number, s))) says (stores h.held h.stored);
+        are_records = ap (λ (k : List ℕ). key_records_of k form asking name left lines) (sym same);
+        are_counts = ap (λ (k : List ℕ). key_counts_of k asking left lines) (sym same);
+      },
+      text-more (key_record sought form asking name h.held (number, line)) said (auth_line line) before after rest text (before ++ text) says (written h.held h.stored) h.are_records refl,
+      h.are_counts ∙ ap (λ (c : KeyCounts). plus_key c more) (sym is),
+      lines-on before (key_record old.sought.now form asking name h.held (number, line) said) after (written h.held h.stored) (if-lines (holds_key old.sought.now line said) (line_record form asking name h.held (number, line) said) (record-lines form asking name h.held number line said)),
+    )
+
+pub auth-key-fits : (sought : List ℕ) (asking : Asking) (file : List ℕ) → length file ≤ file_limit → AreCounts (key_counts_of sought asking [] (numbered 1 (lines_of file))).counts
+auth-key-fits sought asking file h = few-counts _ (length (lines_of file)) (key-within sought asking [] 1 (lines_of file)) (few-lines file h)
+
+pub auth-key-whole : (sought : List ℕ) (form : Form) (asking : Asking) (name file : List ℕ) (r : KeyReview) → length file ≤ file_limit
+    → r ≡ reviewed_by form name file (key_records_of sought form asking name [] (numbered 1 (lines_of file))) (key_counts_of sought asking [] (numbered 1 (lines_of file)))
+    → r ≡ auth_key_review sought form asking name file
+unfolding whole_key_review
+auth-key-whole sought form asking name file r few is =
+    is ∙ ap (λ (b : Bool). if b then key_fault_review form name TooLong else whole_key_review sought form asking name file) (sym (within-false (length file) few))

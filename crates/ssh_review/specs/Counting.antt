@@ -1,5 +1,5 @@
 -- The counts of the lines of an authorized_keys file (this project's rule).
-use Rattle.std.specs.Prelude.{ℕ, ◌+◌}
+use Rattle.std.specs.Prelude.{ℕ, ◌+◌, ◌-◌, ◌^◌, min}
 use Rattle.ssh_entries.specs.declared.auth_line.AuthLine.{AuthLine}
 use Rattle.ssh_entries.specs.declared.auth_line.AuthLine.TheVariants.{Blank, Comment, Entry, Unreadable}
 use Rattle.ssh_review.specs.declared.end.Counts.{Counts}
@@ -13,6 +13,15 @@ plus a b = record {
   keys = a.keys + b.keys;
   unreadable = a.unreadable + b.unreadable;
   findings = a.findings + b.findings;
+}
+
+-- the same, where each sum stops at 2^64 - 1
+abbrev pub plus_within : Counts → Counts → Counts
+plus_within a b = record {
+  lines = min (a.lines + b.lines) (2 ^ 64 - 1);
+  keys = min (a.keys + b.keys) (2 ^ 64 - 1);
+  unreadable = min (a.unreadable + b.unreadable) (2 ^ 64 - 1);
+  findings = min (a.findings + b.findings) (2 ^ 64 - 1);
 }
 
 -- the counts of a line with this number of findings: an entry counts as a key, a certificate authority too

@@ -13,7 +13,7 @@ use Rattle.ssh_findings.specs.KeyRead.{key_read}
 use Rattle.ssh_review.specs.declared.end.Counts.{Counts}
 use Rattle.ssh_review.specs.declared.end.Form.{Form}
 use Rattle.ssh_review.specs.declared.key_review.KeyCounts.{KeyCounts}
-use Rattle.ssh_review.specs.Counting.{no_counts, plus}
+use Rattle.ssh_review.specs.Counting.{no_counts, plus, plus_within}
 use Rattle.ssh_review.specs.Lines.{held_by_line, key_told, line_counts, line_record}
 
 -- ---- the key of a line
@@ -67,6 +67,10 @@ no_key_counts = record { counts = no_counts; stands = false }
 -- the sums of both, and whether the key stands in either part
 abbrev pub plus_key : KeyCounts → KeyCounts → KeyCounts
 plus_key a b = record { counts = plus a.counts b.counts; stands = a.stands || b.stands }
+
+-- the same, where each sum stops at 2^64 - 1
+abbrev pub plus_key_within : KeyCounts → KeyCounts → KeyCounts
+plus_key_within a b = record { counts = plus_within a.counts b.counts; stands = a.stands || b.stands }
 
 -- the sums of the counts of lines, and whether one of them holds the key
 abbrev pub key_counts_of : List ℕ → Asking → List Held → List (ℕ × List ℕ) → KeyCounts

@@ -32,3 +32,4 @@ pub mod KeyRecords
 pub mod HostKeyRecords
 pub mod KeyReviews
 pub mod KeyListing
+pub mod Making

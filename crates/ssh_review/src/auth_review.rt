@@ -1,32 +1,35 @@
 //! The review of an `authorized_keys` file: a record for each entry and each unreadable line, and
 //! the end of the file.
 
-ghost use Rattle.std.specs.Prelude.{◌≡◌, ◌+◌, ◌++◌, [], ◌≤◌, List, IfOk, OnOk, length};
+ghost use Rattle.std.specs.Prelude.{◌≡◌, ◌+◌, ◌++◌, [], ◌≤◌, ℕ, List, IfOk, OnOk, length};
 ghost use Rattle.ssh_entries.specs.declared.auth_line.AuthLine.{AuthLine};
 ghost use Rattle.ssh_entries.specs.LineView.{line_seen};
 ghost use Rattle.ssh_text.specs.Text.{file_limit, lines_of, numbered};
-ghost use Rattle.ssh_findings.specs.Asking.{asking_of};
+ghost use Rattle.ssh_findings.specs.Asking.{Asking, asking_of};
 ghost use Rattle.ssh_findings.specs.Earlier.{Held};
 ghost use Rattle.ssh_findings.specs.Keeping.{RemembersEntries};
 ghost use Rattle.ssh_findings.specs.Memory.{bytes_kept, keys_kept};
-ghost use Rattle.ssh_review.specs.Lines.{counts_of, held_lines, held_by_line, line_counts, line_findings, line_record, records_of};
-ghost use Rattle.ssh_review.specs.Memory.{line_bytes, lines_bytes};
+ghost use Rattle.ssh_review.specs.declared.end.Form.{Form as FormValue};
+ghost use Rattle.ssh_review.specs.Lines.{counts_of, held_by_line, line_counts, line_findings, line_record, records_of};
+ghost use Rattle.ssh_review.specs.Making.{AuthTells, HasLeft, of_all};
+ghost use Rattle.ssh_review.specs.Memory.{line_bytes};
 ghost use Rattle.ssh_review.specs.Forms.{end_line, file_fault_line, total_line};
-ghost use Rattle.ssh_review.specs.Reviews.{auth_review, fault_review, review, whole_review};
+ghost use Rattle.ssh_review.specs.Reviews.{auth_review, fault_review, review};
 
 use crate::end::{
     Counts, FileFault, Form, Reviewed, Total, push_end_object, push_end_text, push_fault_object,
     push_fault_text, push_total_object, push_total_text,
 };
 use crate::json_record::{LineRef, push_entry_object, push_unreadable_object};
+use crate::key_review::KeyCounts;
 use crate::record::{push_entry_text, push_unreadable_text};
-use sha2::{Digest, Sha256};
+use crate::records::{LineRecords, Records, whole_review};
 use ssh_entries::{AuthEntryView, AuthLineView, KeyBuffer, read_auth_view};
 use ssh_findings::{
     Earlier, Facts, ReviewOptions, entry_findings, held_key, may_let_in, unreadable_findings,
 };
 use ssh_options::LineCause;
-use ssh_text::{FILE_LIMIT, Lines};
+use ssh_text::FILE_LIMIT;
 use std::alloc::{AllocError, Global};
 
 /// Appends the record of an entry, and stores what later lines need of the entry.
@@ -151,50 +154,46 @@ fn push_line(
     }
 }
 
-/// Appends the records of a file's lines, and returns the counts of the lines. `earlier` has to be
-/// empty; then it stores what later lines need of the file's entries. That is no more bytes than
-/// the file has and no more keys than entries, however often keys repeat.
-fn push_records(
-    alloc: Global,
-    form: Form,
-    asked: &ReviewOptions<'_>,
-    name: &[u8],
-    file: &[u8],
-    earlier: &mut Earlier,
-    out: &mut Vec<u8>,
-) -> Result<Counts, AllocError>
-    requires limit { length file.now ≤ file_limit }
-    requires none { RemembersEntries earlier.old [] }
-    ensures text { OnOk result (out.new.items ≡ out.old.items
-        ++ records_of form (asking_of asked.entry.now) name.now [] (numbered 1 (lines_of file.now))) }
-    ensures counts { IfOk result (λ counts. counts
-        ≡ counts_of (asking_of asked.entry.now) [] (numbered 1 (lines_of file.now))) }
-    ensures kept { OnOk result (RemembersEntries earlier.new
-        (held_lines (asking_of asked.entry.now) (numbered 1 (lines_of file.now)))) }
-    // Of an entry at most its key blob and its forced command are stored.
-    ensures bytes { OnOk result (bytes_kept earlier.new ≤ bytes_kept earlier.old
-        + lines_bytes (asking_of asked.entry.now) (numbered 1 (lines_of file.now))) }
-    ensures keys { IfOk result
-        (λ counts. keys_kept earlier.new ≤ keys_kept earlier.old + counts.keys) }
-    // So no more bytes are stored than the file has.
-    ensures file_bytes { OnOk result
-        (bytes_kept earlier.new ≤ bytes_kept earlier.old + length file.now) }
-    ensures file_keys { OnOk result
-        (keys_kept earlier.new ≤ keys_kept earlier.old + length file.now) }
-{
-    let mut buffer = KeyBuffer::new(alloc)?;
-    let mut counts = Counts::NONE;
-    for (number, line) in Lines::new(file) {
-        let place = LineRef { name, number };
-        let view = read_auth_view(line, &mut buffer);
-        let told = push_line(alloc, form, asked, &place, line, &view, earlier, out)?;
-        counts = counts.plus(told);
+impl LineRecords for Earlier {
+    ghost tells = { AuthTells };
+
+    fn push_record(
+        &mut self,
+        alloc: Global,
+        form: Form,
+        asked: &ReviewOptions<'_>,
+        place: &LineRef<'_>,
+        line: &[u8],
+        buffer: &mut KeyBuffer,
+        out: &mut Vec<u8>,
+    ) -> Result<KeyCounts, AllocError> {
+        let view = read_auth_view(line, buffer);
+        let counts = push_line(alloc, form, asked, place, line, &view, self, out)?;
+        Ok(KeyCounts {
+            counts,
+            stands: false,
+        })
     }
-    Ok(counts)
+
+    ghost ends = { λ x form asking name file text counts h. (h.are_records, h.are_counts) };
 }
 
-/// Appends the end of a file that was reviewed.
-pub(crate) fn push_end(
+/// The review of an `authorized_keys` file of these bytes, before its first record is made: a record
+/// for each entry and each line that cannot be read.
+pub fn auth_records(alloc: Global, file: &[u8]) -> Result<Records<'_, Earlier>, AllocError>
+    requires { length file.now ≤ file_limit }
+    ensures { IfOk result (λ r. (form : FormValue) (asking : Asking) (name : List ℕ)
+        → HasLeft AuthTells form asking name file.now
+        (records_of form asking name [] (numbered 1 (lines_of file.now)))
+        (of_all (counts_of asking [] (numbered 1 (lines_of file.now)))) r) }
+{
+    let earlier = Earlier::new(alloc);
+    let records = Records::new(alloc, file, earlier)?;
+    Ok(records)
+}
+
+/// Appends the end of a file that was reviewed: its counts, and the SHA-256 of its bytes.
+pub fn push_end(
     alloc: Global,
     form: Form,
     out: &mut Vec<u8>,
@@ -209,31 +208,6 @@ pub(crate) fn push_end(
         Form::Text => push_end_text(out, name, counts, digest),
         Form::Json => push_end_object(alloc, out, name, counts, digest),
     }
-}
-
-/// The review of a file within the limit.
-#[tactic(auto, unfolding(crate::specs::Reviews::whole_review))]
-fn whole_review(
-    alloc: Global,
-    form: Form,
-    asked: &ReviewOptions<'_>,
-    name: &[u8],
-    file: &[u8],
-) -> Result<Reviewed, AllocError>
-    requires { length file.now ≤ file_limit }
-    ensures { IfOk result
-        (λ r. review r ≡ whole_review form (asking_of asked.entry.now) name.now file.now) }
-{
-    let mut text = Vec::new(alloc);
-    let mut earlier = Earlier::new(alloc);
-    let counts = push_records(alloc, form, asked, name, file, &mut earlier, &mut text)?;
-    let digest = Sha256::digest(file);
-    push_end(alloc, form, &mut text, name, counts, &digest)?;
-    Ok(Reviewed {
-        text,
-        counts,
-        fault: None,
-    })
 }
 
 /// Appends the end of a file with a fault.
@@ -272,8 +246,8 @@ pub fn review_fault(
 
 /// The review of an `authorized_keys` file of this name and these bytes: a record for each entry
 /// and each line that cannot be read, in their order, and an end with counts and the SHA-256. A
-/// file of more than 67,108,864 bytes has the fault A7. During the review at most as many bytes of
-/// its entries are stored as the file has (see `push_records`).
+/// file of more than 67,108,864 bytes has the fault A7. The text is made as a whole; `auth_records`
+/// makes it a few records at a time.
 pub fn review_auth(
     alloc: Global,
     form: Form,
@@ -287,7 +261,9 @@ pub fn review_auth(
     if file.len() > FILE_LIMIT {
         review_fault(alloc, form, name, FileFault::TooLong)
     } else {
-        whole_review(alloc, form, asked, name, file)
+        let begun = auth_records(alloc, file)?;
+        let whole = whole_review(alloc, form, asked, name, file, begun)?;
+        Ok(whole.review)
     }
 }
 

@@ -1,7 +1,7 @@
 //! The counts of a review, and the end of a file and of the whole review, as text and as JSON.
 
-ghost use Rattle.std.specs.Prelude.{◌≡◌, ◌+◌, ◌<◌, ◌^◌, ◌++◌, OnOk};
-ghost use Rattle.ssh_review.specs.Counting.{no_counts, plus};
+ghost use Rattle.std.specs.Prelude.{◌≡◌, ◌++◌, OnOk};
+ghost use Rattle.ssh_review.specs.Counting.{no_counts, plus_within};
 ghost use Rattle.std.specs.List.{flat_map};
 ghost use Rattle.ssh_findings.specs.Asking.{asking_of};
 ghost use Rattle.ssh_review.specs.Asked.{asked_of};
@@ -44,19 +44,15 @@ impl Counts {
         findings: 0,
     };
 
-    /// The sum of both.
+    /// The sums of both. A sum stops at 2^64 - 1, since a count that wraps around would be wrong.
     pub fn plus(self, other: Counts) -> Counts
-        requires lines { self.lines + other.lines < 2 ^ 64 }
-        requires keys { self.keys + other.keys < 2 ^ 64 }
-        requires unreadable { self.unreadable + other.unreadable < 2 ^ 64 }
-        requires findings { self.findings + other.findings < 2 ^ 64 }
-        ensures { result ≡ plus self other }
+        ensures { result ≡ plus_within self other }
     {
         Counts {
-            lines: self.lines + other.lines,
-            keys: self.keys + other.keys,
-            unreadable: self.unreadable + other.unreadable,
-            findings: self.findings + other.findings,
+            lines: self.lines.saturating_add(other.lines),
+            keys: self.keys.saturating_add(other.keys),
+            unreadable: self.unreadable.saturating_add(other.unreadable),
+            findings: self.findings.saturating_add(other.findings),
         }
     }
 }

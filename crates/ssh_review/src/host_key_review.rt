@@ -1,18 +1,20 @@
 //! The review of a `known_hosts` file for one key: the records of the lines that hold it, and the
 //! end of the file.
 
-ghost use Rattle.std.specs.Prelude.{◌≡◌, ◌++◌, [], ◌≤◌, List, IfOk, OnOk, length};
+ghost use Rattle.std.specs.Prelude.{◌≡◌, ◌++◌, [], ◌≤◌, ℕ, List, IfOk, OnOk, length};
 ghost use Rattle.ssh_entries.specs.declared.known_line.KnownLine.{KnownLine};
 ghost use Rattle.ssh_entries.specs.KnownSeen.{known_seen};
 ghost use Rattle.ssh_text.specs.Text.{file_limit, lines_of, numbered};
-ghost use Rattle.ssh_findings.specs.Asking.{asking_of};
+ghost use Rattle.ssh_findings.specs.Asking.{Asking, asking_of};
 ghost use Rattle.ssh_findings.specs.HostFacts.{host_facts_of};
 ghost use Rattle.ssh_findings.specs.HostLines.{HostLine};
 ghost use Rattle.ssh_findings.specs.StandsFor.{RemembersLines};
+ghost use Rattle.ssh_review.specs.declared.end.Form.{Form as FormValue};
 ghost use Rattle.ssh_review.specs.HostKeyRecords.{host_key_counts, host_key_counts_of, host_key_record, host_key_records_of};
 ghost use Rattle.ssh_review.specs.HostLines.{host_kept_of};
 ghost use Rattle.ssh_review.specs.KeyRecords.{lists_key};
-ghost use Rattle.ssh_review.specs.KeyReviews.{host_whole_key_review, key_review, known_key_review};
+ghost use Rattle.ssh_review.specs.KeyReviews.{key_review, known_key_review};
+ghost use Rattle.ssh_review.specs.Making.{HasLeft, KnownKeyTells};
 
 use crate::end::{FileFault, Form};
 use crate::fields::print_of;
@@ -20,11 +22,12 @@ use crate::host_review::{
     push_blind_line, push_entry_line, push_revoked_line, push_unreadable_line,
 };
 use crate::json_record::LineRef;
-use crate::key_review::{KeyCounts, KeyReviewed, recovers_key, review_key_fault, with_end};
+use crate::key_review::{KeyCounts, KeyReviewed, recovers_key, review_key_fault};
+use crate::records::{ForKey, LineRecords, Records, whole_review};
 use ssh_entries::{KeyBuffer, KnownEntryView, KnownLineView, read_known_view};
 use ssh_findings::{EarlierHosts, HostFacts, ReviewOptions, RevocationFacts, known_held_key};
 use ssh_options::LineCause;
-use ssh_text::{FILE_LIMIT, Lines};
+use ssh_text::FILE_LIMIT;
 use std::alloc::{AllocError, Global};
 
 /// The facts of an entry, and whether its record lists this fingerprint.
@@ -206,69 +209,61 @@ fn push_key_line(
     }
 }
 
-/// Appends the records of the lines of a file that hold the key, and returns their counts.
-fn push_key_records(
-    alloc: Global,
-    form: Form,
-    asked: &ReviewOptions<'_>,
-    name: &[u8],
-    file: &[u8],
-    sought: &[u8; 43],
-    out: &mut Vec<u8>,
-) -> Result<KeyCounts, AllocError>
-    requires limit { length file.now ≤ file_limit }
-    ensures text { OnOk result (out.new.items ≡ out.old.items
-        ++ host_key_records_of sought.now form (asking_of asked.entry.now) name.now []
-        (numbered 1 (lines_of file.now))) }
-    ensures counts { IfOk result (λ told. told ≡ host_key_counts_of sought.now
-        (asking_of asked.entry.now) [] (numbered 1 (lines_of file.now))) }
-{
-    let mut earlier = EarlierHosts::new(alloc);
-    let mut buffer = KeyBuffer::new(alloc)?;
-    let mut sum = KeyCounts::NONE;
-    for (number, line) in Lines::new(file) {
-        let place = LineRef { name, number };
-        let view = read_known_view(line, &mut buffer);
+impl<'a> LineRecords for ForKey<'a, EarlierHosts> {
+    ghost tells = { KnownKeyTells };
+
+    fn push_record(
+        &mut self,
+        alloc: Global,
+        form: Form,
+        asked: &ReviewOptions<'_>,
+        place: &LineRef<'_>,
+        line: &[u8],
+        buffer: &mut KeyBuffer,
+        out: &mut Vec<u8>,
+    ) -> Result<KeyCounts, AllocError> {
+        let view = read_known_view(line, buffer);
+        let sought = self.sought;
         let told = push_key_line(
             alloc,
             form,
             asked,
-            &place,
+            place,
             line,
             &view,
             sought,
-            &mut earlier,
+            &mut self.earlier,
             out,
         )?;
-        sum = sum.plus(told);
+        Ok(told)
     }
-    Ok(sum)
+
+    ghost ends = { λ x form asking name file text counts h. (h.are_records, h.are_counts) };
 }
 
-/// The review of a file within the limit.
-#[tactic(auto, unfolding(crate::specs::KeyReviews::host_whole_key_review))]
-fn whole_key_review(
+/// The review of a `known_hosts` file of these bytes for the key with this fingerprint, before its
+/// first record is made.
+pub fn known_key_records<'a>(
     alloc: Global,
-    form: Form,
-    asked: &ReviewOptions<'_>,
-    name: &[u8],
-    file: &[u8],
-    sought: &[u8; 43],
-) -> Result<KeyReviewed, AllocError>
+    file: &'a [u8],
+    sought: &'a [u8; 43],
+) -> Result<Records<'a, ForKey<'a, EarlierHosts>>, AllocError>
     requires { length file.now ≤ file_limit }
-    ensures { IfOk result (λ r. key_review r
-        ≡ host_whole_key_review sought.now form (asking_of asked.entry.now) name.now file.now) }
+    ensures { IfOk result (λ r. (form : FormValue) (asking : Asking) (name : List ℕ)
+        → HasLeft KnownKeyTells form asking name file.now
+        (host_key_records_of sought.now form asking name [] (numbered 1 (lines_of file.now)))
+        (host_key_counts_of sought.now asking [] (numbered 1 (lines_of file.now))) r) }
 {
-    let mut records = Vec::new(alloc);
-    let told = push_key_records(alloc, form, asked, name, file, sought, &mut records)?;
-    let reviewed = with_end(alloc, form, name, file, told, records)?;
-    Ok(reviewed)
+    let earlier = EarlierHosts::new(alloc);
+    let records = Records::new(alloc, file, ForKey { sought, earlier })?;
+    Ok(records)
 }
 
 /// The review of a `known_hosts` file for the key with this fingerprint, which is the base64 after
 /// `SHA256:`. It has the records that `review_known` prints of the lines that hold the key, also of
 /// those that revoke it or cannot be read, and the end of the file. A file of more than 67,108,864
-/// bytes has the fault A7.
+/// bytes has the fault A7. The text is made as a whole; `known_key_records` makes it a few records at
+/// a time.
 pub fn review_known_key(
     alloc: Global,
     form: Form,
@@ -283,6 +278,8 @@ pub fn review_known_key(
     if file.len() > FILE_LIMIT {
         review_key_fault(alloc, form, name, FileFault::TooLong)
     } else {
-        whole_key_review(alloc, form, asked, name, file, sought)
+        let begun = known_key_records(alloc, file, sought)?;
+        let whole = whole_review(alloc, form, asked, name, file, begun)?;
+        Ok(whole)
     }
 }

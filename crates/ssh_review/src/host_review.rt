@@ -1,27 +1,30 @@
 //! The review of a `known_hosts` file: a record for each entry, revocation and unreadable line, and
 //! the end of the file.
 
-ghost use Rattle.std.specs.Prelude.{◌≡◌, ◌+◌, ◌*◌, ◌++◌, [], ◌≤◌, ℕ, List, IfOk, OnOk, length};
+ghost use Rattle.std.specs.Prelude.{◌≡◌, ◌+◌, ◌++◌, [], ◌≤◌, ℕ, List, IfOk, OnOk, length};
 ghost use Rattle.ssh_entries.specs.declared.known_line.KnownLine.{KnownLine};
 ghost use Rattle.ssh_entries.specs.KnownSeen.{known_seen};
-ghost use Rattle.ssh_text.specs.Text.{file_limit, line_limit, lines_of, numbered};
-ghost use Rattle.ssh_findings.specs.Asking.{asking_of};
+ghost use Rattle.ssh_text.specs.Text.{file_limit, lines_of, numbered};
+ghost use Rattle.ssh_findings.specs.Asking.{Asking, asking_of};
 ghost use Rattle.ssh_findings.specs.HostLines.{HostLine};
-ghost use Rattle.ssh_findings.specs.HostFindingsMemory.{host_bytes_kept, kept_sum, text_bytes_kept, texts_kept};
+ghost use Rattle.ssh_findings.specs.HostFindingsMemory.{host_bytes_kept, kept_sum};
 ghost use Rattle.ssh_findings.specs.StandsFor.{RemembersLines};
+ghost use Rattle.ssh_review.specs.declared.end.Form.{Form as FormValue};
 ghost use Rattle.ssh_review.specs.HostCounting.{host_counts_with};
 ghost use Rattle.ssh_review.specs.HostForms.{bare_record};
-ghost use Rattle.ssh_review.specs.HostLines.{host_counts_of, host_kept_lines, host_kept_of, host_line_counts, host_line_findings, host_line_record, host_records_of};
-ghost use Rattle.ssh_review.specs.HostMemory.{host_line_bytes, host_line_spelling, host_line_sum, over_lines};
+ghost use Rattle.ssh_review.specs.HostLines.{host_counts_of, host_kept_of, host_line_counts, host_line_findings, host_line_record, host_records_of};
+ghost use Rattle.ssh_review.specs.HostMemory.{host_line_bytes, host_line_sum};
+ghost use Rattle.ssh_review.specs.Making.{HasLeft, KnownTells, of_all};
 ghost use Rattle.ssh_review.specs.Reviews.{review};
-ghost use Rattle.ssh_review.specs.HostReviews.{known_review, host_whole_review};
+ghost use Rattle.ssh_review.specs.HostReviews.{known_review};
 
-use crate::auth_review::{push_end, review_fault};
+use crate::auth_review::review_fault;
 use crate::end::{Counts, FileFault, Form, Reviewed};
 use crate::host_json_record::{push_bare_object, push_entry_object, push_revoked_object};
 use crate::host_record::{push_bare_text, push_entry_text, push_revoked_text};
 use crate::json_record::LineRef;
-use sha2::{Digest, Sha256};
+use crate::key_review::KeyCounts;
+use crate::records::{LineRecords, Records, whole_review};
 use ssh_entries::{KeyBuffer, KnownEntryView, KnownLineView, read_known_view};
 use ssh_findings::{
     EarlierHosts, HeldKey, HostFacts, HostFinding, ReviewOptions, RevocationFacts,
@@ -29,7 +32,7 @@ use ssh_findings::{
     unreadable_revocation_findings,
 };
 use ssh_options::LineCause;
-use ssh_text::{FILE_LIMIT, Lines};
+use ssh_text::FILE_LIMIT;
 use std::alloc::{AllocError, Global};
 
 /// Appends the record of an entry, and stores what later lines need of the entry.
@@ -230,83 +233,51 @@ fn push_line(
     }
 }
 
-/// Appends the records of a file's lines, and returns the counts of the lines. `earlier` has to be
-/// empty; then it stores what later lines need of the file's entries and revocations. That is the
-/// blob of each key and each plain name, no more bytes than the file has; the names of a line share
-/// one more copy of its blob.
-fn push_known_records(
-    alloc: Global,
-    form: Form,
-    asked: &ReviewOptions<'_>,
-    name: &[u8],
-    file: &[u8],
-    earlier: &mut EarlierHosts,
-    out: &mut Vec<u8>,
-) -> Result<Counts, AllocError>
-    requires limit { length file.now ≤ file_limit }
-    requires none { RemembersLines earlier.old [] }
-    ensures text { OnOk result (out.new.items ≡ out.old.items
-        ++ host_records_of form (asking_of asked.entry.now) name.now [] (numbered 1 (lines_of file.now))) }
-    ensures counts { IfOk result (λ counts. counts
-        ≡ host_counts_of (asking_of asked.entry.now) [] (numbered 1 (lines_of file.now))) }
-    ensures kept { OnOk result
-        (RemembersLines earlier.new (host_kept_lines (numbered 1 (lines_of file.now)))) }
-    // Of an entry at most its blob and its plain names are stored. Here the blob is counted for
-    // each name too.
-    ensures bytes { OnOk result (host_bytes_kept earlier.new
-        ≤ host_bytes_kept earlier.old + over_lines host_line_bytes (numbered 1 (lines_of file.now))) }
-    // So the blobs and names that are stored as keys of a map are no more bytes than the file has.
-    // Only of a revocation with another encoding of its key, the key's own blob is stored too.
-    ensures file_texts { OnOk result (text_bytes_kept earlier.new
-        ≤ text_bytes_kept earlier.old + (length file.now
-        + over_lines host_line_spelling (numbered 1 (lines_of file.now)))) }
-    ensures file_keys { OnOk result
-        (texts_kept earlier.new ≤ texts_kept earlier.old + length file.now) }
-    // The same with the blob that the names of a line share, counted as if each name had its own.
-    ensures file_bytes { OnOk result (host_bytes_kept earlier.new
-        ≤ host_bytes_kept earlier.old + (line_limit * length file.now
-        + over_lines host_line_spelling (numbered 1 (lines_of file.now)))) }
-{
-    let mut buffer = KeyBuffer::new(alloc)?;
-    let mut counts = Counts::NONE;
-    for (number, line) in Lines::new(file) {
-        let place = LineRef { name, number };
-        let view = read_known_view(line, &mut buffer);
-        let told = push_line(alloc, form, asked, &place, line, &view, earlier, out)?;
-        counts = counts.plus(told);
+impl LineRecords for EarlierHosts {
+    ghost tells = { KnownTells };
+
+    fn push_record(
+        &mut self,
+        alloc: Global,
+        form: Form,
+        asked: &ReviewOptions<'_>,
+        place: &LineRef<'_>,
+        line: &[u8],
+        buffer: &mut KeyBuffer,
+        out: &mut Vec<u8>,
+    ) -> Result<KeyCounts, AllocError> {
+        let view = read_known_view(line, buffer);
+        let counts = push_line(alloc, form, asked, place, line, &view, self, out)?;
+        Ok(KeyCounts {
+            counts,
+            stands: false,
+        })
     }
-    Ok(counts)
+
+    ghost ends = { λ x form asking name file text counts h. (h.are_records, h.are_counts) };
 }
 
-/// The review of a file within the limit.
-#[tactic(auto, unfolding(crate::specs::HostReviews::host_whole_review))]
-fn whole_review(
-    alloc: Global,
-    form: Form,
-    asked: &ReviewOptions<'_>,
-    name: &[u8],
-    file: &[u8],
-) -> Result<Reviewed, AllocError>
+/// The review of a `known_hosts` file of these bytes, before its first record is made: a record for
+/// each entry, each revocation and each line that cannot be read. The blob of each key and each plain
+/// name are stored, no more bytes than the file has; the names of a line share one more copy of its
+/// blob.
+pub fn known_records(alloc: Global, file: &[u8]) -> Result<Records<'_, EarlierHosts>, AllocError>
     requires { length file.now ≤ file_limit }
-    ensures { IfOk result
-        (λ r. review r ≡ host_whole_review form (asking_of asked.entry.now) name.now file.now) }
+    ensures { IfOk result (λ r. (form : FormValue) (asking : Asking) (name : List ℕ)
+        → HasLeft KnownTells form asking name file.now
+        (host_records_of form asking name [] (numbered 1 (lines_of file.now)))
+        (of_all (host_counts_of asking [] (numbered 1 (lines_of file.now)))) r) }
 {
-    let mut text = Vec::new(alloc);
-    let mut earlier = EarlierHosts::new(alloc);
-    let counts = push_known_records(alloc, form, asked, name, file, &mut earlier, &mut text)?;
-    let digest = Sha256::digest(file);
-    push_end(alloc, form, &mut text, name, counts, &digest)?;
-    Ok(Reviewed {
-        text,
-        counts,
-        fault: None,
-    })
+    let earlier = EarlierHosts::new(alloc);
+    let records = Records::new(alloc, file, earlier)?;
+    Ok(records)
 }
 
 /// The review of a `known_hosts` file of this name and these bytes: a record for each entry, each
 /// revocation and each line that cannot be read, in their order, and an end with counts and the
 /// SHA-256. A file of more than 67,108,864 bytes has the fault A7. During the review the first line
-/// of each key, and of each name with a type of key, is stored (see `push_known_records`).
+/// of each key, and of each name with a type of key, is stored. The text is made as a whole;
+/// `known_records` makes it a few records at a time.
 pub fn review_known(
     alloc: Global,
     form: Form,
@@ -320,6 +291,8 @@ pub fn review_known(
     if file.len() > FILE_LIMIT {
         review_fault(alloc, form, name, FileFault::TooLong)
     } else {
-        whole_review(alloc, form, asked, name, file)
+        let begun = known_records(alloc, file)?;
+        let whole = whole_review(alloc, form, asked, name, file, begun)?;
+        Ok(whole.review)
     }
 }

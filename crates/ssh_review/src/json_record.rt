@@ -19,9 +19,9 @@ use std::alloc::{AllocError, Global};
 
 /// A line of a file: the name of the file, and the line's number from 1.
 #[derive(Clone, Copy, Debug)]
-pub(crate) struct LineRef<'a> {
-    pub(crate) name: &'a [u8],
-    pub(crate) number: u64,
+pub struct LineRef<'a> {
+    pub name: &'a [u8],
+    pub number: u64,
 }
 
 /// Appends the first fields of a record: the file, the line, and what the line is.

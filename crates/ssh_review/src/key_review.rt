@@ -1,34 +1,37 @@
 //! The review of an `authorized_keys` file for one key: the records of the lines that hold it, and
 //! the end of the file.
 
-ghost use Rattle.std.specs.Prelude.{◌≡◌, ◌+◌, ◌<◌, ◌^◌, ◌++◌, [], ◌≤◌, List, IfOk, OnOk, length};
+ghost use Rattle.std.specs.Prelude.{◌≡◌, ◌++◌, [], ◌≤◌, ℕ, List, IfOk, OnOk, length};
 ghost use Rattle.ssh_entries.specs.declared.auth_line.AuthLine.{AuthLine};
 ghost use Rattle.ssh_entries.specs.LineView.{line_seen};
 ghost use Rattle.ssh_text.specs.Text.{file_limit, lines_of, numbered};
-ghost use Rattle.ssh_findings.specs.Asking.{asking_of};
+ghost use Rattle.ssh_findings.specs.Asking.{Asking, asking_of};
 ghost use Rattle.ssh_findings.specs.Earlier.{Held};
 ghost use Rattle.ssh_findings.specs.Facts.{facts_of};
 ghost use Rattle.ssh_findings.specs.Keeping.{RemembersEntries};
-ghost use Rattle.ssh_review.specs.KeyRecords.{key_counts, key_counts_of, key_record, key_records_of, lists_key, plus_key, recovers_key};
-ghost use Rattle.ssh_review.specs.KeyReviews.{auth_key_review, key_fault_review, key_review, reviewed_by, whole_key_review};
+ghost use Rattle.ssh_review.specs.declared.end.Form.{Form as FormValue};
+ghost use Rattle.ssh_review.specs.KeyRecords.{key_counts, key_counts_of, key_record, key_records_of, lists_key, plus_key_within, recovers_key};
+ghost use Rattle.ssh_review.specs.KeyReviews.{auth_key_review, key_fault_review, key_review, reviewed_by};
 ghost use Rattle.ssh_review.specs.Lines.{held_by_line};
+ghost use Rattle.ssh_review.specs.Making.{AuthKeyTells, HasLeft};
 
 use crate::auth_review::{push_end, push_entry_line, push_unreadable_line, review_fault};
 use crate::end::{Counts, FileFault, Form, Reviewed};
 use crate::json_record::LineRef;
+use crate::records::{ForKey, LineRecords, Records, whole_review};
 use sha2::{Digest, Sha256};
 use ssh_entries::{AuthEntryView, AuthLineView, KeyBuffer, read_auth_view};
 use ssh_findings::{Earlier, Facts, HeldKey, ReviewOptions, held_key};
 use ssh_options::LineCause;
-use ssh_text::{FILE_LIMIT, Lines};
+use ssh_text::FILE_LIMIT;
 use std::alloc::{AllocError, Global};
 
-/// The counts of the records that are printed, with those of all lines, and whether some line holds
-/// the key.
+/// The counts of the records that are made, with the number of all lines, and whether some line holds
+/// the key, where one is sought.
 #[derive(Clone, Copy, Debug)]
-pub(crate) struct KeyCounts {
-    pub(crate) counts: Counts,
-    pub(crate) stands: bool,
+pub struct KeyCounts {
+    pub counts: Counts,
+    pub stands: bool,
 }
 
 impl KeyCounts {
@@ -48,13 +51,9 @@ impl KeyCounts {
         stands: false,
     };
 
-    /// The sums of both, and whether the key stands in either part.
+    /// The sums of both, and whether the key stands in either part. A sum stops at 2^64 - 1.
     pub(crate) fn plus(self, other: KeyCounts) -> KeyCounts
-        requires lines { self.counts.lines + other.counts.lines < 2 ^ 64 }
-        requires keys { self.counts.keys + other.counts.keys < 2 ^ 64 }
-        requires unreadable { self.counts.unreadable + other.counts.unreadable < 2 ^ 64 }
-        requires findings { self.counts.findings + other.counts.findings < 2 ^ 64 }
-        ensures { result ≡ plus_key self other }
+        ensures { result ≡ plus_key_within self other }
     {
         KeyCounts {
             counts: self.counts.plus(other.counts),
@@ -192,43 +191,54 @@ fn push_key_line(
     }
 }
 
-/// Appends the records of the lines of a file that hold the key, and returns their counts.
-fn push_key_records(
-    alloc: Global,
-    form: Form,
-    asked: &ReviewOptions<'_>,
-    name: &[u8],
-    file: &[u8],
-    sought: &[u8; 43],
-    out: &mut Vec<u8>,
-) -> Result<KeyCounts, AllocError>
-    requires limit { length file.now ≤ file_limit }
-    ensures text { OnOk result (out.new.items ≡ out.old.items
-        ++ key_records_of sought.now form (asking_of asked.entry.now) name.now []
-        (numbered 1 (lines_of file.now))) }
-    ensures counts { IfOk result (λ told. told ≡ key_counts_of sought.now
-        (asking_of asked.entry.now) [] (numbered 1 (lines_of file.now))) }
-{
-    let mut earlier = Earlier::new(alloc);
-    let mut buffer = KeyBuffer::new(alloc)?;
-    let mut sum = KeyCounts::NONE;
-    for (number, line) in Lines::new(file) {
-        let place = LineRef { name, number };
-        let view = read_auth_view(line, &mut buffer);
+impl<'a> LineRecords for ForKey<'a, Earlier> {
+    ghost tells = { AuthKeyTells };
+
+    fn push_record(
+        &mut self,
+        alloc: Global,
+        form: Form,
+        asked: &ReviewOptions<'_>,
+        place: &LineRef<'_>,
+        line: &[u8],
+        buffer: &mut KeyBuffer,
+        out: &mut Vec<u8>,
+    ) -> Result<KeyCounts, AllocError> {
+        let view = read_auth_view(line, buffer);
+        let sought = self.sought;
         let told = push_key_line(
             alloc,
             form,
             asked,
-            &place,
+            place,
             line,
             &view,
             sought,
-            &mut earlier,
+            &mut self.earlier,
             out,
         )?;
-        sum = sum.plus(told);
+        Ok(told)
     }
-    Ok(sum)
+
+    ghost ends = { λ x form asking name file text counts h. (h.are_records, h.are_counts) };
+}
+
+/// The review of an `authorized_keys` file of these bytes for the key with this fingerprint, before
+/// its first record is made.
+pub fn auth_key_records<'a>(
+    alloc: Global,
+    file: &'a [u8],
+    sought: &'a [u8; 43],
+) -> Result<Records<'a, ForKey<'a, Earlier>>, AllocError>
+    requires { length file.now ≤ file_limit }
+    ensures { IfOk result (λ r. (form : FormValue) (asking : Asking) (name : List ℕ)
+        → HasLeft AuthKeyTells form asking name file.now
+        (key_records_of sought.now form asking name [] (numbered 1 (lines_of file.now)))
+        (key_counts_of sought.now asking [] (numbered 1 (lines_of file.now))) r) }
+{
+    let earlier = Earlier::new(alloc);
+    let records = Records::new(alloc, file, ForKey { sought, earlier })?;
+    Ok(records)
 }
 
 /// The review of a file with these records, of which these are the counts: they are followed by the
@@ -257,26 +267,6 @@ pub(crate) fn with_end(
     })
 }
 
-/// The review of a file within the limit.
-#[tactic(auto, unfolding(crate::specs::KeyReviews::whole_key_review))]
-fn whole_key_review(
-    alloc: Global,
-    form: Form,
-    asked: &ReviewOptions<'_>,
-    name: &[u8],
-    file: &[u8],
-    sought: &[u8; 43],
-) -> Result<KeyReviewed, AllocError>
-    requires { length file.now ≤ file_limit }
-    ensures { IfOk result (λ r. key_review r
-        ≡ whole_key_review sought.now form (asking_of asked.entry.now) name.now file.now) }
-{
-    let mut records = Vec::new(alloc);
-    let told = push_key_records(alloc, form, asked, name, file, sought, &mut records)?;
-    let reviewed = with_end(alloc, form, name, file, told, records)?;
-    Ok(reviewed)
-}
-
 /// The review of a file with a fault, for whichever key: only its end.
 pub fn review_key_fault(
     alloc: Global,
@@ -296,7 +286,7 @@ pub fn review_key_fault(
 /// The review of an `authorized_keys` file for the key with this fingerprint, which is the base64
 /// after `SHA256:`. It has the records that `review_auth` prints of the lines that hold the key, also
 /// of those that cannot be read, and the end of the file. A file of more than 67,108,864 bytes has
-/// the fault A7.
+/// the fault A7. The text is made as a whole; `auth_key_records` makes it a few records at a time.
 pub fn review_auth_key(
     alloc: Global,
     form: Form,
@@ -311,6 +301,8 @@ pub fn review_auth_key(
     if file.len() > FILE_LIMIT {
         review_key_fault(alloc, form, name, FileFault::TooLong)
     } else {
-        whole_key_review(alloc, form, asked, name, file, sought)
+        let begun = auth_key_records(alloc, file, sought)?;
+        let whole = whole_review(alloc, form, asked, name, file, begun)?;
+        Ok(whole)
     }
 }

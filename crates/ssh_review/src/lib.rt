@@ -3,7 +3,7 @@
 //!
 //! The review of an `authorized_keys` file has a record for each entry and each line that cannot be
 //! read, and an end with counts and the SHA-256 of the bytes, as text or as JSON lines. It needs no
-//! clock, no network, no signature and no other file. Each call makes a new text, and returns all
+//! clock, no network, no signature and no other file. `review_auth` makes a new text, and returns all
 //! of it or `AllocError`. A caller that reviews a file and returns whether something was found:
 //!
 //! ```
@@ -12,6 +12,21 @@
 //! let reviewed = review_auth(alloc, Form::Text, &asked, name, file)?;
 //! out.extend_from_slice(&reviewed.text)?;
 //! Ok(reviewed.counts.findings > 0)
+//! ```
+//!
+//! The records of a large file are many times its size. So they can be made a few at a time, by
+//! `auth_records`, `known_records`, `auth_key_records` and `known_key_records`. A caller that writes
+//! them as they are made, and then the end of the file:
+//!
+//! ```
+//! let mut records = auth_records(alloc, file)?;
+//! while records.push_some(alloc, Form::Text, &asked, name, &mut out)? {
+//!     writer.write_all(&out)?;
+//!     out.clear();
+//! }
+//! let told = records.told();
+//! push_end(alloc, Form::Text, &mut out, name, told.counts, &Sha256::digest(file))?;
+//! writer.write_all(&out)?;
 //! ```
 //!
 //! In JSON a record is an object on one line. All of its fields are always there, in the same
@@ -63,13 +78,16 @@ mod key_review;
 mod laws;
 mod readable;
 mod record;
+mod records;
 mod short_text;
 
 pub use answer_json::{answer_object, answer_total};
 pub use asked::{AskedAt, asked_line};
-pub use auth_review::{review_auth, review_fault, total_line};
+pub use auth_review::{auth_records, push_end, review_auth, review_fault, total_line};
 pub use end::{Counts, FileFault, Form, Reviewed, Total};
-pub use host_key_review::review_known_key;
-pub use host_review::review_known;
-pub use key_review::{KeyReviewed, review_auth_key, review_key_fault};
+pub use host_key_review::{known_key_records, review_known_key};
+pub use host_review::{known_records, review_known};
+pub use json_record::LineRef;
+pub use key_review::{KeyCounts, KeyReviewed, auth_key_records, review_auth_key, review_key_fault};
 pub use readable::{left_out, readable_auth};
+pub use records::{ForKey, LineRecords, Records};

@@ -1,0 +1,16 @@
+use Rattle.ssh_review.proofs.Imports.{[], ap, lines_of, numbered, refl}
+use Rattle.ssh_review.specs.HostKeyRecords.{host_key_counts_of, host_key_records_of}
+use Rattle.ssh_review.specs.Making.{KnownKeyTells}
+use Rattle.ssh_review.proofs.HostStepLemmas.{known-key-fits}
+use Rattle.ssh_review.proofs.MakingLemmas.{first-left}
+use Rattle.ssh_review.proofs.host_key_review.known_key_records.Goals as goal
+
+pub returns : goal.returns
+returns c =
+    λ form asking name.
+    let file = c.args.file.now in
+    let sought = c.args.sought.now in
+    let lines = numbered 1 (lines_of file) in
+    first-left KnownKeyTells form asking name file (host_key_records_of sought form asking name [] lines) (host_key_counts_of sought asking [] lines) _ lines c.in_ok-records.records
+    c.in_ok-records.ensures.earlier (ap (λ s. numbered s.0 (lines_of s.1)) c.in_ok-records.ensures.lines) c.in_ok-records.ensures.told (known-key-fits sought asking file c.requires)
+    (record { before = []; stored = c.new-earlier.ensures.stands; are_records = refl; are_counts = refl })

@@ -1,0 +1,16 @@
+use Rattle.ssh_review.proofs.Imports.{[], ap, lines_of, numbered, refl}
+use Rattle.ssh_review.specs.KeyRecords.{key_counts_of, key_records_of}
+use Rattle.ssh_review.specs.Making.{AuthKeyTells}
+use Rattle.ssh_review.proofs.MakingLemmas.{first-left}
+use Rattle.ssh_review.proofs.StepLemmas.{auth-key-fits}
+use Rattle.ssh_review.proofs.key_review.auth_key_records.Goals as goal
+
+pub returns : goal.returns
+returns c =
+    λ form asking name.
+    let file = c.args.file.now in
+    let sought = c.args.sought.now in
+    let lines = numbered 1 (lines_of file) in
+    first-left AuthKeyTells form asking name file (key_records_of sought form asking name [] lines) (key_counts_of sought asking [] lines) _ lines c.in_ok-records.records
+    c.in_ok-records.ensures.earlier (ap (λ s. numbered s.0 (lines_of s.1)) c.in_ok-records.ensures.lines) c.in_ok-records.ensures.told (auth-key-fits sought asking file c.requires)
+    (record { held = []; stored = c.new-earlier.ensures.stands; are_records = refl; are_counts = refl })

@@ -1,0 +1,108 @@
+-- A review whose records are made a few at a time (this project's rule): what is left of it, and what is stored meanwhile.
+use Rattle.std.specs.Prelude.{◌≡◌, ◌≤◌, ◌<◌, ◌+◌, ◌*◌, ◌^◌, ◌⊎◌, ◌++◌, ◌∷◌, [], ℕ, false, List, length}
+use Rattle.ssh_text.specs.Text.{line_limit, lines_of, numbered}
+use Rattle.ssh_findings.specs.Asking.{Asking}
+use Rattle.ssh_findings.specs.Earlier.{Held}
+use Rattle.ssh_findings.specs.HostFindingsMemory.{host_bytes_kept, text_bytes_kept, texts_kept}
+use Rattle.ssh_findings.specs.HostLines.{HostLine}
+use Rattle.ssh_findings.specs.Keeping.{RemembersEntries}
+use Rattle.ssh_findings.specs.Memory.{bytes_kept, keys_kept}
+use Rattle.ssh_findings.specs.StandsFor.{RemembersLines}
+use Rattle.ssh_findings.specs.declared.earlier.Earlier.{Earlier}
+use Rattle.ssh_findings.specs.declared.host_earlier.EarlierHosts.{EarlierHosts}
+use Rattle.ssh_review.specs.declared.end.Counts.{Counts}
+use Rattle.ssh_review.specs.declared.end.Form.{Form}
+use Rattle.ssh_review.specs.declared.key_review.KeyCounts.{KeyCounts}
+use Rattle.ssh_review.specs.declared.records.ForKey.{ForKey}
+use Rattle.ssh_review.specs.declared.records.Records.{Records}
+use Rattle.ssh_review.specs.HostKeyRecords.{host_key_counts_of, host_key_records_of}
+use Rattle.ssh_review.specs.HostLines.{host_counts_of, host_kept_lines, host_records_of}
+use Rattle.ssh_review.specs.HostMemory.{host_line_bytes, host_line_spelling, host_line_sum, over_lines}
+use Rattle.ssh_review.specs.KeyRecords.{key_counts_of, key_records_of, plus_key}
+use Rattle.ssh_review.specs.Lines.{counts_of, held_lines, records_of}
+use Rattle.ssh_review.specs.Memory.{lines_bytes}
+
+-- the counts of a review of all keys, which seeks none
+abbrev pub of_all : Counts → KeyCounts
+of_all counts = record { counts = counts; stands = false }
+
+-- each count fits into 64 bits
+pub record AreCounts (counts : Counts) : Type 0 where
+  pub lines : counts.lines < 2 ^ 64
+  pub keys : counts.keys < 2 ^ 64
+  pub unreadable : counts.unreadable < 2 ^ 64
+  pub findings : counts.findings < 2 ^ 64
+
+-- the last byte is an LF
+abbrev pub EndsLine : List ℕ → Type 0
+EndsLine text = (before : List ℕ) × (text ≡ before ++ 10 ∷ [])
+
+-- no line is cut off
+abbrev pub AreWholeLines : List ℕ → Type 0
+AreWholeLines text = (text ≡ []) ⊎ EndsLine text
+
+-- ---- what the lines that are left tell, each with its number, after those of the same file whose records were made
+
+-- Of an authorized_keys file: their records and counts. What is stored then, with what these lines add, is no more than the
+-- file.
+pub record AuthTells (earlier : Earlier) (form : Form) (asking : Asking) (name file : List ℕ) (lines : List (ℕ × List ℕ)) (text : List ℕ) (counts : KeyCounts) : Type 0 where
+  -- the entries before
+  pub held : List Held
+  pub stored : RemembersEntries earlier held
+  pub are_records : text ≡ records_of form asking name held lines
+  pub are_counts : counts ≡ of_all (counts_of asking held lines)
+  -- with those of these lines they are the entries of the file
+  pub kept : held ++ held_lines asking lines ≡ held_lines asking (numbered 1 (lines_of file))
+  -- of an entry at most its key blob and its forced command are stored
+  pub bytes : bytes_kept earlier + lines_bytes asking lines ≤ lines_bytes asking (numbered 1 (lines_of file))
+  pub file_bytes : bytes_kept earlier + lines_bytes asking lines ≤ length file
+  pub file_keys : keys_kept earlier + (counts_of asking held lines).keys ≤ length file
+
+-- The same of a known_hosts file. Only of a revocation with another encoding of its key, the key's own blob is stored too.
+pub record KnownTells (earlier : EarlierHosts) (form : Form) (asking : Asking) (name file : List ℕ) (lines : List (ℕ × List ℕ)) (text : List ℕ) (counts : KeyCounts) : Type 0 where
+  pub before : List HostLine
+  pub stored : RemembersLines earlier before
+  pub are_records : text ≡ host_records_of form asking name before lines
+  pub are_counts : counts ≡ of_all (host_counts_of asking before lines)
+  pub kept : before ++ host_kept_lines lines ≡ host_kept_lines (numbered 1 (lines_of file))
+  -- of an entry at most its blob and its plain names are stored; here the blob is counted for each name too
+  pub bytes : host_bytes_kept earlier + over_lines host_line_bytes lines ≤ over_lines host_line_bytes (numbered 1 (lines_of file))
+  pub file_texts : text_bytes_kept earlier + over_lines (host_line_sum (λ text. length text)) lines ≤ length file + over_lines host_line_spelling (numbered 1 (lines_of file))
+  pub file_keys : texts_kept earlier + over_lines (host_line_sum (λ text. 1)) lines ≤ length file
+  pub file_bytes : host_bytes_kept earlier + over_lines host_line_bytes lines ≤ line_limit * length file + over_lines host_line_spelling (numbered 1 (lines_of file))
+
+-- the records of those that hold one key, and their counts
+pub record AuthKeyTells (x : ForKey Earlier) (form : Form) (asking : Asking) (name file : List ℕ) (lines : List (ℕ × List ℕ)) (text : List ℕ) (counts : KeyCounts) : Type 0 where
+  pub held : List Held
+  pub stored : RemembersEntries x.earlier held
+  pub are_records : text ≡ key_records_of x.sought.now form asking name held lines
+  pub are_counts : counts ≡ key_counts_of x.sought.now asking held lines
+
+pub record KnownKeyTells (x : ForKey EarlierHosts) (form : Form) (asking : Asking) (name file : List ℕ) (lines : List (ℕ × List ℕ)) (text : List ℕ) (counts : KeyCounts) : Type 0 where
+  pub before : List HostLine
+  pub stored : RemembersLines x.earlier before
+  pub are_records : text ≡ host_key_records_of x.sought.now form asking name before lines
+  pub are_counts : counts ≡ host_key_counts_of x.sought.now asking before lines
+
+-- ---- the review
+
+-- the lines that are left, each with its number
+abbrev pub lines_left : {S : Type 0} → Records S → List (ℕ × List ℕ)
+lines_left r = numbered (r.lines).0 (lines_of (r.lines).1)
+
+-- This text is left of the review of a file, by what its lines tell, and these are the counts of the whole file.
+pub record HasLeft {S : Type 0} (tells : S → Form → Asking → List ℕ → List ℕ → List (ℕ × List ℕ) → List ℕ → KeyCounts → Type 0) (form : Form) (asking : Asking) (name file text : List ℕ) (all : KeyCounts) (r : Records S) : Type 0 where
+  pub more : KeyCounts
+  pub left : tells r.earlier form asking name file (lines_left r) text more
+  pub sum : all ≡ plus_key r.told more
+  pub fits : AreCounts all.counts
+
+-- From one state of a review to a later one: whatever text was left, what was appended to this is its front, in whole lines,
+-- and the rest of it is left.
+abbrev pub MakesFront : {S : Type 0} → (S → Form → Asking → List ℕ → List ℕ → List (ℕ × List ℕ) → List ℕ → KeyCounts → Type 0) → Form → Asking → List ℕ → Records S → Records S → List ℕ → List ℕ → Type 0
+MakesFront tells form asking name old new before after = (file text : List ℕ) (all : KeyCounts) → HasLeft tells form asking name file text all old
+    → (rest : List ℕ) × HasLeft tells form asking name file rest all new × (after ++ rest ≡ before ++ text) × (AreWholeLines before → AreWholeLines after)
+
+-- nothing is left, and the counts are those of the whole file
+abbrev pub IsAllMade : {S : Type 0} → (S → Form → Asking → List ℕ → List ℕ → List (ℕ × List ℕ) → List ℕ → KeyCounts → Type 0) → Form → Asking → List ℕ → Records S → Type 0
+IsAllMade tells form asking name r = (file text : List ℕ) (all : KeyCounts) → HasLeft tells form asking name file text all r → (text ≡ []) × (r.told ≡ all)
