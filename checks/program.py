@@ -7,7 +7,7 @@ PROGRAM is crates/ssh_audit/out/ssh_audit where it is left out. After its own ro
 help.py (what goes to standard error), colour.py (colours on a terminal), worked.py (worked rows of the whole command),
 examples.py (keys, certificates and signatures of ssh-keygen and openssl through examples/), documents.py (the commands of
 README.md and docs/MANUAL.md as they stand), packaging.py (packages: made, installed into a folder, used and removed), review.py (reviews
-of random files), streamed.py (whether a review is written file by file), openssh.py (what docs/OPENSSH_DIFFERENCES.md
+of random files), streamed.py (whether a review is written while it is made), openssh.py (what docs/OPENSSH_DIFFERENCES.md
 says, asked of a real sshd and ssh, and whether whoever they
 let in is shown), recipes.py (the commands of docs/RECIPES.md), codes.py (whether each printed code is in a row),
 explained.py (whether docs/CODES.md says what the source's table says), manual_page.py and completion.py (whether

@@ -1,18 +1,22 @@
 #!/usr/bin/env python3
-"""Tries from outside whether `review` writes the records of a file before it reads the next.
+"""Tries from outside whether `review` writes the records of a file while they are made.
 
 usage: streamed.py [PROGRAM]
 
 The last of three names is a pipe that is opened only when the records of the first file were read: whole, for one key, as
-text and as JSON. 2,000 files take little more memory than 20. Where a write fails, of a full device or of a pipe whose reader
-went away, the status is 2, what was read is the front of the list, and no later file is opened. A list of more names than a
-command line may have takes the memory of its names.
+text and as JSON. 2,000 files take little more memory than 20, and a file of 64 MiB of lines `x` little more than its bytes.
+Each write ends where a line ends, and has at most 4,096 bytes if its line is no longer; a short review is one write. Where
+memory is refused within a file, `fault A8` stands behind a front of its records. Where a write fails, of a full device or of
+a pipe whose reader went away, the status is 2, what was read is the front of the list, and no later file is opened. A list of
+more names than a command line may have takes the memory of its names.
 
 Needs gcc, /dev/full and the built program. The last line is 'N passed, M failed'; the status is 0 where nothing failed."""
 import argparse
 import fcntl
 import os
 import pathlib
+import resource
+import socket
 import subprocess
 import sys
 import tempfile
@@ -20,7 +24,7 @@ import threading
 
 sys.dont_write_bytecode = True
 import program
-from program import FILES, KEY, MARK, SECONDS, Program, Tally, cost_of, review
+from program import FILE_LIMIT, FILES, KEY, MARK, SECONDS, Program, Tally, cost_of, review
 
 HERE = pathlib.Path(__file__).resolve().parent
 DEFAULT = pathlib.Path(program.CRATE) / "out" / "ssh_audit"
@@ -31,6 +35,10 @@ MANY, FEW, LINES = 2_000, 20, 40
 ROOM = 4096
 # How many names no command line may have, and how many bytes each may take.
 LISTED, NAME_ROOM = 200_000, 512
+# How many KiB a file of 64 MiB may take, whatever stands in it but keys.
+MOST = 160 * 1024
+# How many bytes of memory are too few for what is kept of so many keys, and enough for their file.
+FEW_BYTES, KEYS = 96 << 20, 400_000
 
 
 def starts(audit, words, stdout):
@@ -107,6 +115,68 @@ def list_rows(audit, tally, names):
     tally.check(f"a list of {LISTED} names in {most} KiB", most <= LISTED * NAME_ROOM // 1024, True)
 
 
+def large_rows(audit, tally):
+    """A file of the largest size, whose lines have a record each and nothing that is kept."""
+    meter = audit.room / "meter"
+    (audit.room / "large").write_bytes(b"x\n" * (FILE_LIMIT // 2))
+    words = [meter, "/dev/null", audit.path, *review("large", findings="none")]
+    ran = subprocess.run(words, cwd=audit.room, stdout=subprocess.PIPE, timeout=SECONDS, check=True)
+    _, peak, status = map(int, ran.stdout.split())
+    tally.check(f"64 MiB of lines in {peak} KiB", (status, peak <= MOST), (0, True))
+    (audit.room / "large").unlink()
+
+
+def refused_rows(audit, tally):
+    """Memory that is refused within a file: what was written are whole lines, and the end is missing."""
+    front, last = KEY[:-7], len(KEY[-7:])
+    with open(audit.room / "keys", "w", encoding="ascii") as keys:
+        keys.writelines(f"ssh-ed25519 {front}{number:0{last - 1}}A\n" for number in range(KEYS))
+    for key in (None, f"SHA256:{MARK}"):
+        words = review("keys", key=key, findings="none")
+        whole = audit.run(words)[1]
+        few = lambda: resource.setrlimit(resource.RLIMIT_AS, (FEW_BYTES, FEW_BYTES))
+        ran = audit.start(words, stdin=subprocess.DEVNULL, stdout=subprocess.PIPE, preexec_fn=few)
+        text = ran.communicate(timeout=SECONDS)[0]
+        made = text.removesuffix(b"fault A8\n")
+        is_front = whole.startswith(made) and made.endswith(b"\n") if key is None else made == b""
+        tally.check(f"memory that is refused behind {len(made)} of {len(whole)} bytes, {key}", (ran.returncode, is_front, made == text), (2, True, False))
+    (audit.room / "keys").unlink()
+
+
+def writes_of(audit, words):
+    """The status, and each write to standard output: a socket of packets keeps them apart."""
+    ours, theirs = socket.socketpair(socket.AF_UNIX, socket.SOCK_SEQPACKET)
+    ran = starts(audit, words, theirs)
+    theirs.close()
+    writes = []
+    while written := ours.recv(1 << 20):
+        writes.append(written)
+    ours.close()
+    return ended(ran), writes
+
+
+def is_piece(written):
+    """It ends where a line ends, and is no longer than a pipe keeps together, or one line."""
+    return written.endswith(b"\n") and (len(written) <= PIPE_ROOM or written.count(b"\n") == 1)
+
+
+def piece_rows(audit, tally):
+    """Each write of reviews."""
+    lines = [f"ssh-ed25519 {KEY} {number} {number % 70 * 'a'}\n" for number in range(2_000)]
+    (audit.room / "short").write_text("".join(lines[:5]))
+    (audit.room / "mixed").write_text("".join([*lines[:500], f"ssh-ed25519 {KEY} {20_000 * 'b'}\n", "x\n", *lines[500:]]))
+    for form in ("text", "json"):
+        for key in (None, f"SHA256:{MARK}"):
+            words = review("mixed", "missing", "short", form=form, key=key)
+            status, whole, _ = audit.run(words)
+            found, writes = writes_of(audit, words)
+            tally.check(f"the writes of a review as {form}, {key}", (found, b"".join(writes)), (status, whole))
+            tally.check(f"each ends a line, as {form}, {key}", [written[:80] for written in writes if not is_piece(written)], [])
+            tally.check(f"{len(writes)} writes as {form}, {key}", len(writes) <= len(whole) // 3_500 + 8, True)
+            short = writes_of(audit, review("short", form=form, key=key))[1]
+            tally.check(f"a short file and the total, as {form}, {key}", len(short), 2)
+
+
 def broken_rows(audit, tally, names):
     """Writes that fail: the status is 2, and no file is read after it."""
     for key in (None, f"SHA256:{MARK}"):
@@ -140,9 +210,12 @@ def main():
         audit = Program(path, pathlib.Path(folder))
         (audit.room / "key.pub").write_text(FILES["key.pub"])
         turn_rows(audit, tally)
+        piece_rows(audit, tally)
         names = many_files(audit)
         for row in (memory_rows, list_rows, broken_rows):
             row(audit, tally, names)
+        for row in (large_rows, refused_rows):
+            row(audit, tally)
     print(f"{tally.passed} passed, {tally.failed} failed")
     return 1 if tally.failed else 0
 

@@ -76,7 +76,7 @@ fn guidance(
     writer: &Output<'_>,
 ) -> Outcome<Vec<u8>> {
     let texts = as_texts(rt, words)?;
-    if writer.is_usage() {
+    if status == FAULT && writer.is_usage() {
         usage_guidance(rt.alloc(), texts.as_slice())
     } else if status == FAULT && !writer.is_broken() {
         fault_guidance(rt.alloc(), texts.as_slice(), writer.front())
@@ -222,7 +222,7 @@ fn answer_question(
     match read_question(rt, words) {
         Ok((told, line)) => {
             let status = answer(rt, told.as_slice(), files, writer);
-            if !writer.is_usage() && has_terminal(rt) {
+            if !(status == FAULT && writer.is_usage()) && has_terminal(rt) {
                 tell(rt, &line);
             }
             status

@@ -1,55 +1,111 @@
--- From what a file gives to its review for one key, from the key's file to the fingerprint, and from both to the response.
-use Rattle.ssh_program.proofs.Imports.{◌≡◌, ◌∙◌, ◌<◌, ℕ, Bool, true, false, List, length, Option, Some, None, Result, Ok, Err, refl, sym, ap, subst, inl, inr, IfOk, lt-ltb, Asking, TellsFile, IfTells, SourceState, bytes_at, most_failures, after_whole, top_line, FailsLoad, IsLeft, IsTooLong, KeepsOthers, NoReadFailed, ReadToEnd, within_limit, ReadError, left-none, read-all, left-end, no-end, over_limit, TooLong, Form, ReviewKind, Auth, Known, file_limit, ShowError, IsFaultOf, Offered, line-offered, shown_offer_in, Account, Alike, files_same, end-same, file-alike, keeps-same, none-failed, one-failed, RespondsTo}
+-- From what a file gives to its review for one key, whose text is written, from the key's file to the fingerprint, and from both to the response.
+use Rattle.ssh_program.proofs.Imports.{◌≡◌, ◌∙◌, ◌<◌, ◌≤◌, ◌++◌, [], ℕ, Bool, true, false, List, length, Option, Some, None, Result, Ok, Err, refl, sym, ap, subst, inl, inr, IfOk, lt-ltb, Asking, TellsFile, IfTells, SourceState, bytes_at, most_failures, after_whole, top_line, FailsLoad, IsLeft, IsTooLong, KeepsOthers, NoReadFailed, ReadToEnd, within_limit, ReadError, left-none, read-all, left-end, no-end, over_limit, TooLong, Form, ReviewKind, Auth, Known, file_limit, ShowError, IsFaultOf, Offered, line-offered, shown_offer_in, Account, Alike, files_same, end-same, file-alike, keeps-same, none-failed, one-failed, RespondsTo}
 use Rattle.ssh_files.specs.declared.read.ReadError.TheVariants as fault
 use Rattle.ssh_print.specs.Responses.{Response as Shown}
-use Rattle.ssh_review.specs.KeyReviews.{KeyReview, key_fault_review}
-use Rattle.ssh_program.specs.FileReviews.{no_lines, telling_review, with_file}
+use Rattle.ssh_review.specs.KeyReviews.{host_whole_key_review, key_fault_review, whole_key_review}
+use Rattle.std.specs.Prelude.{if◌then◌else◌}
+use Rattle.sha2.specs.Sha256.{sha256}
+use Rattle.ssh_text.specs.Text.{lines_of, numbered}
+use Rattle.ssh_review.specs.Forms.{end_line}
+use Rattle.ssh_review.specs.HostKeyRecords.{host_key_counts_of, host_key_records_of}
+use Rattle.ssh_review.specs.KeyRecords.{key_counts_of, key_records_of}
+use Rattle.ssh_review.specs.declared.end.FileFault.TheVariants.{Unread}
+use Rattle.ssh_program.specs.declared.streaming.FileTold.{FileTold}
+use Rattle.ssh_program.specs.declared.streaming.Stop.{Stop}
+use Rattle.ssh_program.specs.declared.streaming.Stop.TheVariants as stop
+use Rattle.ssh_program.specs.FileReviews.{TextPut, TextWritten, UnreadPut, no_lines, telling_review, with_file}
 use Rattle.ssh_program.specs.FingerprintValues.{is_fingerprint}
-use Rattle.ssh_program.specs.KeySeeking.{IsUnreadKeyReview, ReviewsFor, SeeksBy, SeeksKey, SeeksKeyOfFile, fingerprint_or_fault, key_review_of, key_review_over, no_key_lines, or_key_fault, spelled_fingerprint, telling_key_review, with_key_file}
+use Rattle.ssh_program.specs.KeySeeking.{ReviewsFor, SeeksBy, SeeksKey, SeeksKeyOfFile, fingerprint_or_fault, key_review_kept, key_review_of, key_review_over, no_key_lines, or_key_fault, spelled_fingerprint, telling_key_review, with_key_file}
 use Rattle.ssh_program.specs.Printing.{WritesAnswer}
 use Rattle.ssh_program.proofs.AnsweredLemmas.{spelled_same}
+use Rattle.ssh_program.proofs.FileLemmas.{both_in, within-false}
+use Rattle.ssh_program.proofs.PutLemmas.{end-some, nothing-told, put-nothing, text-told}
 use Rattle.ssh_program.proofs.StreamLemmas.{ends_same, writes_as}
+use Rattle.ssh_program.proofs.WrittenText.{nothing_taken}
 
--- ---- one file
+-- ---- a file within the limit
 
--- a file that was read
-pub key_file_reviewed : {R E : Type 0} (view : R → KeyReview) (sought : List ℕ) (kind : ReviewKind) (form : Form) (asking : Asking) (name file bytes : List ℕ) (o t : Option SourceState) (res : Result R E) → bytes ≡ file
+pub auth-key-put : (sought : List ℕ) (form : Form) (asking : Asking) (name file : List ℕ) (old new : Option Account) (r : Result FileTold Stop) → length file ≤ file_limit
+    → TextPut (key_records_of sought form asking name [] (numbered 1 (lines_of file)) ++ end_line form name (key_counts_of sought asking [] (numbered 1 (lines_of file))).counts (sha256 file))
+    (record { counts = (key_counts_of sought asking [] (numbered 1 (lines_of file))).counts; stands = (key_counts_of sought asking [] (numbered 1 (lines_of file))).stands; fault = None }) old new r
+    → TextPut (key_review_of sought Auth form asking name file).file.text (key_review_kept (key_review_of sought Auth form asking name file)) old new r
+unfolding whole_key_review
+auth-key-put sought form asking name file old new r few h =
+    subst (λ (b : Bool). TextPut (if b then key_fault_review form name TooLong else whole_key_review sought form asking name file).file.text (key_review_kept (if b then key_fault_review form name TooLong else whole_key_review sought form asking name file)) old new r)
+    (sym (within-false (length file) few)) h
+
+pub known-key-put : (sought : List ℕ) (form : Form) (asking : Asking) (name file : List ℕ) (old new : Option Account) (r : Result FileTold Stop) → length file ≤ file_limit
+    → TextPut (host_key_records_of sought form asking name [] (numbered 1 (lines_of file)) ++ end_line form name (host_key_counts_of sought asking [] (numbered 1 (lines_of file))).counts (sha256 file))
+    (record { counts = (host_key_counts_of sought asking [] (numbered 1 (lines_of file))).counts; stands = (host_key_counts_of sought asking [] (numbered 1 (lines_of file))).stands; fault = None }) old new r
+    → TextPut (key_review_of sought Known form asking name file).file.text (key_review_kept (key_review_of sought Known form asking name file)) old new r
+unfolding host_whole_key_review
+known-key-put sought form asking name file old new r few h =
+    subst (λ (b : Bool). TextPut (if b then key_fault_review form name TooLong else host_whole_key_review sought form asking name file).file.text (key_review_kept (if b then key_fault_review form name TooLong else host_whole_key_review sought form asking name file)) old new r)
+    (sym (within-false (length file) few)) h
+
+-- memory could not be allocated for its first record
+pub auth-key-refused : (sought : List ℕ) (form : Form) (asking : Asking) (name file : List ℕ) (a : Option Account) → length file ≤ file_limit
+    → TextPut (key_review_of sought Auth form asking name file).file.text (key_review_kept (key_review_of sought Auth form asking name file)) a a (Err stop.Memory)
+auth-key-refused sought form asking name file a few =
+    let told = key_counts_of sought asking [] (numbered 1 (lines_of file)) in
+    auth-key-put sought form asking name file a a (Err stop.Memory) few
+    (put-nothing (key_records_of sought form asking name [] (numbered 1 (lines_of file))) (end_line form name told.counts (sha256 file)) (record { counts = told.counts; stands = told.stands; fault = None }) a
+    (end-some form name told.counts (sha256 file)))
+
+pub known-key-refused : (sought : List ℕ) (form : Form) (asking : Asking) (name file : List ℕ) (a : Option Account) → length file ≤ file_limit
+    → TextPut (key_review_of sought Known form asking name file).file.text (key_review_kept (key_review_of sought Known form asking name file)) a a (Err stop.Memory)
+known-key-refused sought form asking name file a few =
+    let told = host_key_counts_of sought asking [] (numbered 1 (lines_of file)) in
+    known-key-put sought form asking name file a a (Err stop.Memory) few
+    (put-nothing (host_key_records_of sought form asking name [] (numbered 1 (lines_of file))) (end_line form name told.counts (sha256 file)) (record { counts = told.counts; stands = told.stands; fault = None }) a
+    (end-some form name told.counts (sha256 file)))
+
+-- ---- a file that was read
+
+key-file-told : (sought : List ℕ) (kind : ReviewKind) (form : Form) (asking : Asking) (name file bytes : List ℕ) (o t : Option SourceState) → bytes ≡ file
     → IfTells o (λ s. (within_limit (bytes_at s name) ≡ Some file) × IsLeft s (after_whole s name) t) → IfTells o (λ s. KeepsOthers name s t)
-    → IfOk res (λ r. view r ≡ key_review_of sought kind form asking name bytes)
-    → IfTells o (λ s. IfOk res (λ r. TellsFile (telling_key_review sought kind form asking) name s t (view r)))
-key_file_reviewed view sought kind form asking name file bytes None t res is loads keeps h = tt
-key_file_reviewed view sought kind form asking name file bytes (Some s) t (Err e) is loads keeps h = λ counts. tt
-key_file_reviewed view sought kind form asking name file bytes (Some s) t (Ok r) is loads keeps h = λ counts.
+    → IfTells o (λ s. TellsFile (telling_key_review sought kind form asking) name s t (key_review_of sought kind form asking name bytes))
+key-file-told sought kind form asking name file bytes None t is loads keeps = tt
+key-file-told sought kind form asking name file bytes (Some s) t is loads keeps = λ counts.
     let load = loads counts in (
       keeps counts,
       inr (
         left-none s (after_whole s name) t load.1,
         left-end name s t load.1,
-        h ∙ (ap (key_review_of sought kind form asking name) is ∙ ap (key_review_over sought kind form asking name) (sym (read-all (bytes_at s name) file load.0))),
+        ap (key_review_of sought kind form asking name) is ∙ ap (key_review_over sought kind form asking name) (sym (read-all (bytes_at s name) file load.0)),
       ),
     )
+
+pub key_file_reviewed : (sought : List ℕ) (kind : ReviewKind) (form : Form) (asking : Asking) (name file bytes : List ℕ) (o t : Option SourceState) (old new : Option Account) (r : Result FileTold Stop) → bytes ≡ file
+    → IfTells o (λ s. (within_limit (bytes_at s name) ≡ Some file) × IsLeft s (after_whole s name) t) → IfTells o (λ s. KeepsOthers name s t)
+    → TextPut (key_review_of sought kind form asking name bytes).file.text (key_review_kept (key_review_of sought kind form asking name bytes)) old new r
+    → TextWritten (telling_key_review sought kind form asking) (λ x. x.file.text) key_review_kept name o t old new r
+key_file_reviewed sought kind form asking name file bytes o t old new r is loads keeps put =
+    text-told (telling_key_review sought kind form asking) (λ x. x.file.text) key_review_kept name o t old new r (key_review_of sought kind form asking name bytes)
+    (key-file-told sought kind form asking name file bytes o t is loads keeps) put
+
+-- ---- one that gives no bytes
 
 too-long : (sought : List ℕ) (kind : ReviewKind) (form : Form) (asking : Asking) (name : List ℕ) (bytes : Option (List ℕ)) → IsTooLong bytes → key_review_over sought kind form asking name bytes ≡ key_fault_review form name TooLong
 too-long sought kind form asking name None h = absurd h
 too-long sought Auth form asking name (Some bytes) h = rw (lt-ltb file_limit (length bytes) h) refl
 too-long sought Known form asking name (Some bytes) h = rw (lt-ltb file_limit (length bytes) h) refl
 
-unread-by : (sought : List ℕ) (kind : ReviewKind) (form : Form) (asking : Asking) (name : List ℕ) (s : SourceState) (t : Option SourceState) (e : ReadError) (r : KeyReview) → FailsLoad name (bytes_at s name) s t e
-    → KeepsOthers name s t → IsUnreadKeyReview form name e r → TellsFile (telling_key_review sought kind form asking) name s t r
-unread-by sought kind form asking name s t fault.Missing r fails keeps is =
-    (keeps, inr (fails.1, no-end name s t keeps (ap within_limit fails.0), is ∙ sym (ap (key_review_over sought kind form asking name) fails.0)))
-unread-by sought kind form asking name s t fault.TooLong r fails keeps is =
-    (keeps, inr (fails.1, no-end name s t keeps (over_limit (bytes_at s name) fails.0), is ∙ sym (too-long sought kind form asking name (bytes_at s name) fails.0)))
-unread-by sought kind form asking name s t fault.Failed r fails keeps is = (keeps, inl (fails, is))
-unread-by sought kind form asking name s t fault.Memory r fails keeps is = absurd is
-
--- one that gives no bytes
-pub key_file_unread : {R E : Type 0} (view : R → KeyReview) (sought : List ℕ) (kind : ReviewKind) (form : Form) (asking : Asking) (name : List ℕ) (o t : Option SourceState) (e : ReadError) (res : Result R E)
-    → IfTells o (λ s. FailsLoad name (bytes_at s name) s t e) → IfTells o (λ s. KeepsOthers name s t) → IfOk res (λ r. IsUnreadKeyReview form name e (view r))
-    → IfTells o (λ s. IfOk res (λ r. TellsFile (telling_key_review sought kind form asking) name s t (view r)))
-key_file_unread view sought kind form asking name None t e res fails keeps is = tt
-key_file_unread view sought kind form asking name (Some s) t e (Err x) fails keeps is = λ counts. tt
-key_file_unread view sought kind form asking name (Some s) t e (Ok r) fails keeps is = λ counts. unread-by sought kind form asking name s t e (view r) (fails counts) (keeps counts) is
+pub key_file_unread : (sought : List ℕ) (kind : ReviewKind) (form : Form) (asking : Asking) (name : List ℕ) (o t : Option SourceState) (e : ReadError) (old new : Option Account) (r : Result FileTold Stop)
+    → IfTells o (λ s. FailsLoad name (bytes_at s name) s t e) → IfTells o (λ s. KeepsOthers name s t) → UnreadPut form name e old new r
+    → TextWritten (telling_key_review sought kind form asking) (λ x. x.file.text) key_review_kept name o t old new r
+key_file_unread sought kind form asking name o t fault.Memory old new r fails keeps (is, same) =
+    subst (λ (x : Result FileTold Stop). TextWritten (telling_key_review sought kind form asking) (λ x. x.file.text) key_review_kept name o t old new x) (sym is)
+    (nothing-told (telling_key_review sought kind form asking) (λ x. x.file.text) key_review_kept name o t old new (same ∙ nothing_taken old))
+key_file_unread sought kind form asking name o t fault.TooLong old new r fails keeps put =
+    text-told (telling_key_review sought kind form asking) (λ x. x.file.text) key_review_kept name o t old new r (key_fault_review form name TooLong)
+    (both_in _ _ _ o (λ s f k. (k, inr (f.1, no-end name s t k (over_limit (bytes_at s name) f.0), sym (too-long sought kind form asking name (bytes_at s name) f.0)))) fails keeps) put
+key_file_unread sought kind form asking name o t fault.Missing old new r fails keeps put =
+    text-told (telling_key_review sought kind form asking) (λ x. x.file.text) key_review_kept name o t old new r (key_fault_review form name Unread)
+    (both_in _ _ _ o (λ s f k. (k, inr (f.1, no-end name s t k (ap within_limit f.0), sym (ap (key_review_over sought kind form asking name) f.0)))) fails keeps) put
+key_file_unread sought kind form asking name o t fault.Failed old new r fails keeps put =
+    text-told (telling_key_review sought kind form asking) (λ x. x.file.text) key_review_kept name o t old new r (key_fault_review form name Unread)
+    (both_in _ _ _ o (λ s f k. (k, inl (f, refl))) fails keeps) put
 
 -- ---- the key's file
 
@@ -102,7 +158,7 @@ key_file_unsought view kind form rule asking names key (Some s) t e (Ok r) fails
 seeks-same : (kind : ReviewKind) (form : Form) (rule : List ℕ) (asking : Asking) (names : List (List ℕ)) (sought : List ℕ) (a b : SourceState) (u : Option SourceState) (r : Shown) → Alike a b
     → SeeksKey kind form rule asking names sought a u r → SeeksKey kind form rule asking names sought b u r
 seeks-same kind form rule asking names sought a b u r e (inl (told, h, is)) = inl (told, files_same with_key_file (telling_key_review sought kind form asking) no_key_lines names a b u told e h, is)
-seeks-same kind form rule asking names sought a b u r e (inr early) = inr (ends_same with_key_file (telling_key_review sought kind form asking) no_key_lines (λ told. told.lines.text) names a b r e early)
+seeks-same kind form rule asking names sought a b u r e (inr early) = inr (ends_same with_key_file (telling_key_review sought kind form asking) no_key_lines (λ told. told.lines.text) (λ x. x.file.text) names a b r e early)
 
 file-same : (kind : ReviewKind) (form : Form) (rule : List ℕ) (asking : Asking) (names : List (List ℕ)) (key : List ℕ) (a b : SourceState) (u : Option SourceState) (r : Shown) → Alike a b
     → SeeksKeyOfFile kind form rule asking names key a u r → SeeksKeyOfFile kind form rule asking names key b u r
@@ -124,5 +180,5 @@ by-same false kind form rule asking names key a b u r e h = file-same kind form 
 pub reviews_for_same : (key : Option (List ℕ)) (kind : ReviewKind) (form : Form) (rule : List ℕ) (asking : Asking) (names : List (List ℕ)) (a b : SourceState) (u : Option SourceState) (r : Shown) → Alike a b
     → ReviewsFor key kind form rule asking names a u r → ReviewsFor key kind form rule asking names b u r
 reviews_for_same None kind form rule asking names a b u r e (inl (told, h, is)) = inl (told, files_same with_file (telling_review kind form asking) no_lines names a b u told e h, is)
-reviews_for_same None kind form rule asking names a b u r e (inr early) = inr (ends_same with_file (telling_review kind form asking) no_lines (λ told. told.text) names a b r e early)
+reviews_for_same None kind form rule asking names a b u r e (inr early) = inr (ends_same with_file (telling_review kind form asking) no_lines (λ told. told.text) (λ x. x.text) names a b r e early)
 reviews_for_same (Some key) kind form rule asking names a b u r e h = by-same (is_fingerprint key) kind form rule asking names key a b u r e h

@@ -3,6 +3,8 @@ mod PartLemmas
 mod DigestLemmas
 mod WrittenText
 mod StreamLemmas
+mod PutLemmas
+mod PieceLemmas
 mod EvidenceText
 mod VouchingLemmas
 mod SshsigLemmas

@@ -5,8 +5,9 @@ use Rattle.ssh_files.specs.FilesInTurn.{Telling}
 use Rattle.ssh_print.specs.declared.response.Response.{Response as Printed}
 use Rattle.ssh_print.specs.Responses.{Response as Shown, out_of_memory}
 use Rattle.ssh_program.specs.declared.command.CommandError.TheVariants.{Memory}
+use Rattle.ssh_program.specs.declared.streaming.Stop.{Stop}
 use Rattle.ssh_program.specs.declared.streaming.Stop.TheVariants as stop
-use Rattle.ssh_program.specs.FileReviews.{EndsEarly, TellsFront, TextsWritten}
+use Rattle.ssh_program.specs.FileReviews.{EndsEarly, FailedIfStopped, IsCutAt, IsFrontOf, IsFrontOfNext, TellsFront, TextWritten, TextsWritten, WritesFront}
 use Rattle.ssh_program.specs.Printing.{WritesAnswer, behind}
 use Rattle.ssh_program.specs.Writing.{IfWritten, IsMade}
 use Rattle.ssh_program.proofs.WrittenText.{both_taken, first_broken, nothing_taken, second_broken}
@@ -154,31 +155,56 @@ written_next with tells start text kept names name left rest (Some s) now next o
     )
 
 -- all were
-pub written_last : {A B K : Type 0} (with : B → A → B) (tells : Telling A) (start : B) (text : B → List ℕ) (kept : B → K) (names left : List (List ℕ)) (o now : Option SourceState)
+pub written_last : {A B K : Type 0} (with : B → A → B) (tells : Telling A) (start : B) (text : B → List ℕ) (text_of : A → List ℕ) (kept : B → K) (names left : List (List ℕ)) (o now : Option SourceState)
     (old new : Option Account) (k : K) → left ≡ [] → IfTells o (λ s. WrittenSoFar with tells start text kept names left s now old new k)
-    → IfTells o (λ s. TextsWritten with tells start text kept names s now old new (Ok k))
-written_last with tells start text kept names left None now old new k none h = tt
-written_last with tells start text kept names left (Some s) now old new k none h = λ counts.
+    → IfTells o (λ s. TextsWritten with tells start text text_of kept names s now old new (Ok k))
+written_last with tells start text text_of kept names left None now old new k none h = tt
+written_last with tells start text text_of kept names left (Some s) now old new k none h = λ counts.
     let (sofar, same, read, all) = h counts in
     let whole : names ≡ read.front = read.parts ∙ (ap (λ (l : List (List ℕ)). read.front ++ l) none ∙ append-nil read.front) in
     (sofar, subst (λ (l : List (List ℕ)). TellsFiles with tells start l s now sofar) (sym whole) (read-all with tells start names left s now sofar counts read), all, same)
 
--- memory could not be allocated for the next
-pub written_until : {A B K : Type 0} (with : B → A → B) (tells : Telling A) (start : B) (text : B → List ℕ) (kept : B → K) (names left : List (List ℕ)) (o now t : Option SourceState)
-    (old new : Option Account) (k : K) → IfTells o (λ s. WrittenSoFar with tells start text kept names left s now old new k)
-    → IfTells o (λ s. TextsWritten with tells start text kept names s t old new (Err stop.Memory))
-written_until with tells start text kept names left None now t old new k h = tt
-written_until with tells start text kept names left (Some s) now t old new k h = λ counts.
-    let (sofar, same, read, all) = h counts in
-    (sofar, front-told with tells start names left s now sofar counts read, all)
+-- a front of the text of the next file, or nothing
+abbrev pub Within : {A : Type 0} → Telling A → (A → List ℕ) → List ℕ → Option SourceState → Option SourceState → List ℕ → Type 0
+Within tells text_of name now next part = (part ≡ []) ⊎ ((told : _) × IfTells now (λ m. TellsFile tells name m next told) × IsCutAt part (text_of told))
+
+front-told-of : {A : Type 0} (tells : Telling A) (text_of : A → List ℕ) (name : List ℕ) (now next : Option SourceState) (part : List ℕ) (told : A) → IsCutAt part (text_of told)
+    → IfTells now (λ m. TellsFile tells name m next told) → IfTells now (λ m. IsFrontOf tells text_of name m part)
+front-told-of tells text_of name None next part told cut file = tt
+front-told-of tells text_of name (Some m) next part told cut file = λ counts. (next, told, file counts, cut)
+
+next-within : {A : Type 0} (tells : Telling A) (text_of : A → List ℕ) (name : List ℕ) (left rest : List (List ℕ)) (now next : Option SourceState) (part : List ℕ) → left ≡ name ∷ rest
+    → Within tells text_of name now next part → (part ≡ []) ⊎ IsFrontOfNext tells text_of left now part
+next-within tells text_of name left rest now next part is (inl none) = inl none
+next-within tells text_of name left rest now next part is (inr (told, file, cut)) =
+    inr (subst (λ (l : List (List ℕ)). IsFrontOfNext tells text_of l now part) (sym is) (front-told-of tells text_of name now next part told cut file))
+
+-- memory could not be allocated for the next, or for all of its text
+pub written_until : {A B K : Type 0} (with : B → A → B) (tells : Telling A) (start : B) (text : B → List ℕ) (text_of : A → List ℕ) (kept : B → K) (names : List (List ℕ)) (name : List ℕ) (left rest : List (List ℕ)) (o now next t : Option SourceState)
+    (old mid new : Option Account) (k : K) (part : List ℕ) → left ≡ name ∷ rest → IfTells o (λ s. WrittenSoFar with tells start text kept names left s now old mid k) → TakesAll mid new part → Within tells text_of name now next part
+    → IfTells o (λ s. TextsWritten with tells start text text_of kept names s t old new (Err stop.Memory))
+unfolding front-told
+written_until with tells start text text_of kept names name left rest None now next t old mid new k part is h taken within = tt
+written_until with tells start text text_of kept names name left rest (Some s) now next t old mid new k part is h taken within = λ counts.
+    let (sofar, same, read, all) = h counts in (
+      text sofar ++ part,
+      record {
+        told = sofar;
+        files = front-told with tells start names left s now sofar counts read;
+        part = part;
+        next = next-within tells text_of name left rest now next part is within;
+        parts = refl;
+      },
+      both_taken old mid new (text sofar) part all taken,
+    )
 
 -- the next file was read, and a write failed in its text
-pub written_into : {A B K : Type 0} (with : B → A → B) (tells : Telling A) (start : B) (text : B → List ℕ) (kept : B → K) (names : List (List ℕ)) (name : List ℕ) (left rest : List (List ℕ))
+pub written_into : {A B K : Type 0} (with : B → A → B) (tells : Telling A) (start : B) (text : B → List ℕ) (text_of : A → List ℕ) (kept : B → K) (names : List (List ℕ)) (name : List ℕ) (left rest : List (List ℕ))
     (o now next t : Option SourceState) (old mid new : Option Account) (k : K) (told : A) (part : List ℕ) → left ≡ name ∷ rest → ((sofar : B) → text (with sofar told) ≡ text sofar ++ part)
     → IfTells o (λ s. WrittenSoFar with tells start text kept names left s now old mid k) → IfTells now (λ m. TellsFile tells name m next told) → Breaks mid new part
-    → IfTells o (λ s. TextsWritten with tells start text kept names s t old new (Err stop.Write))
-written_into with tells start text kept names name left rest None now next t old mid new k told part is grown h file breaks = tt
-written_into with tells start text kept names name left rest (Some s) now next t old mid new k told part is grown h file breaks = λ counts.
+    → IfTells o (λ s. TextsWritten with tells start text text_of kept names s t old new (Err stop.Write))
+written_into with tells start text text_of kept names name left rest None now next t old mid new k told part is grown h file breaks = tt
+written_into with tells start text text_of kept names name left rest (Some s) now next t old mid new k told part is grown h file breaks = λ counts.
     let (sofar, same, read, all) = h counts in
     let later = read-more with tells start names name left rest s now next sofar told (with sofar told) counts is refl read file in (
       with sofar told,
@@ -186,56 +212,90 @@ written_into with tells start text kept names name left rest (Some s) now next t
       subst (λ (l : List ℕ). Breaks old new l) (sym (grown sofar)) (second_broken old mid new (text sofar) part all breaks),
     )
 
+-- what came of writing the text of the next
+pub written_stopped : {A B K L : Type 0} (with : B → A → B) (tells : Telling A) (start : B) (text : B → List ℕ) (text_of : A → List ℕ) (kept : B → K) (of : A → L) (names : List (List ℕ)) (name : List ℕ) (left rest : List (List ℕ))
+    (o now next : Option SourceState) (old mid new : Option Account) (k : K) (e : Stop) → left ≡ name ∷ rest → ((sofar : B) (told : A) → text (with sofar told) ≡ text sofar ++ text_of told)
+    → IfTells o (λ s. WrittenSoFar with tells start text kept names left s now old mid k) → TextWritten tells text_of of name now next mid new (Err e)
+    → IfTells o (λ s. TextsWritten with tells start text text_of kept names s next old new (Err e))
+written_stopped with tells start text text_of kept of names name left rest o now next old mid new k stop.Memory is grown h (part, taken, within) =
+    written_until with tells start text text_of kept names name left rest o now next next old mid new k part is h taken within
+written_stopped with tells start text text_of kept of names name left rest o now next old mid new k stop.Write is grown h (told, file, breaks) =
+    written_into with tells start text text_of kept names name left rest o now next next old mid new k told (text_of told) is (λ sofar. grown sofar told) h file breaks
+
+pub written_told : {A B K L : Type 0} (with : B → A → B) (tells : Telling A) (start : B) (text : B → List ℕ) (text_of : A → List ℕ) (kept : B → K) (of : A → L) (names : List (List ℕ)) (name : List ℕ) (left rest : List (List ℕ))
+    (o now next : Option SourceState) (old mid new : Option Account) (k after : K) (x : L) → left ≡ name ∷ rest → ((sofar : B) (told : A) → text (with sofar told) ≡ text sofar ++ text_of told)
+    → ((sofar : B) (told : A) → k ≡ kept sofar → x ≡ of told → after ≡ kept (with sofar told))
+    → IfTells o (λ s. WrittenSoFar with tells start text kept names left s now old mid k) → TextWritten tells text_of of name now next mid new (Ok x)
+    → IfTells o (λ s. WrittenSoFar with tells start text kept names rest s next old new after)
+written_told with tells start text text_of kept of names name left rest o now next old mid new k after x is grown keeps h (told, file, taken, same) =
+    written_next with tells start text kept names name left rest o now next old mid new k after told (text_of told) is (λ sofar s. keeps sofar told s same) (λ sofar. grown sofar told) h file taken
+
+-- no write has failed, but where one did
+pub failed_stop : (K L : Type 0) (e : Stop) (new : Option Account) → FailedIfStopped {K = K} (Err e) new → FailedIfStopped {K = L} (Err e) new
+failed_stop K L stop.Memory new h = h
+failed_stop K L stop.Write new h = h
+
 -- ---- the answer
 
 -- all that the files tell is answered, or the answer ends early
-abbrev pub TellsInTurn : {A B : Type 0} → (B → A → B) → Telling A → B → (B → List ℕ) → (B → Shown) → List (List ℕ) → SourceState → Option SourceState → Shown → Type 0
-TellsInTurn with tells start text answer names s t r = ((told : _) × TellsFiles with tells start names s t told × (r ≡ answer told)) ⊎ EndsEarly with tells start text names s r
+abbrev pub TellsInTurn : {A B : Type 0} → (B → A → B) → Telling A → B → (B → List ℕ) → (A → List ℕ) → (B → Shown) → List (List ℕ) → SourceState → Option SourceState → Shown → Type 0
+TellsInTurn with tells start text text_of answer names s t r = ((told : _) × TellsFiles with tells start names s t told × (r ≡ answer told)) ⊎ EndsEarly with tells start text text_of names s r
+
+-- the texts of files at the front are written, and nothing of the next
+front-written : {A B : Type 0} (with : B → A → B) (tells : Telling A) (start : B) (text : B → List ℕ) (text_of : A → List ℕ) (names : List (List ℕ)) (s : SourceState) (told : B) → TellsFront with tells start names s told
+    → WritesFront with tells start text text_of names s (text told)
+front-written with tells start text text_of names s told front = record { told = told; files = front; part = []; next = inl refl; parts = sym (append-nil (text told)) }
 
 -- a fault of memory behind the texts
-pub stopped_by_memory : {A B K : Type 0} (with : B → A → B) (tells : Telling A) (start : B) (text : B → List ℕ) (kept : B → K) (answer : B → Shown) (names : List (List ℕ)) (o t : Option SourceState)
-    (old mid new : Option Account) (status : ℕ) → IfTells o (λ s. TextsWritten with tells start text kept names s t old mid (Err stop.Memory)) → WritesResponse mid new out_of_memory status
-    → IfTells o (λ s. WritesAnswer (TellsInTurn with tells start text answer names s t) old new status)
-stopped_by_memory with tells start text kept answer names None t old mid new status h writes = tt
-stopped_by_memory with tells start text kept answer names (Some s) t old mid new status h writes = λ counts.
-    let (told, front, taken) = h counts in
-    (behind (text told) out_of_memory, inl (inr (told, front, refl)), written_behind old mid new (text told) out_of_memory status taken writes)
+pub stopped_by_memory : {A B K : Type 0} (with : B → A → B) (tells : Telling A) (start : B) (text : B → List ℕ) (text_of : A → List ℕ) (kept : B → K) (answer : B → Shown) (names : List (List ℕ)) (o t : Option SourceState)
+    (old mid new : Option Account) (status : ℕ) → IfTells o (λ s. TextsWritten with tells start text text_of kept names s t old mid (Err stop.Memory)) → WritesResponse mid new out_of_memory status
+    → IfTells o (λ s. WritesAnswer (TellsInTurn with tells start text text_of answer names s t) old new status)
+stopped_by_memory with tells start text text_of kept answer names None t old mid new status h writes = tt
+stopped_by_memory with tells start text text_of kept answer names (Some s) t old mid new status h writes = λ counts.
+    let (written, front, taken) = h counts in
+    (behind written out_of_memory, inl (inr (written, front, refl)), written_behind old mid new written out_of_memory status taken writes)
 
 -- a write that failed in the texts
-pub stopped_by_write : {A B K : Type 0} (with : B → A → B) (tells : Telling A) (start : B) (text : B → List ℕ) (kept : B → K) (answer : B → Shown) (names : List (List ℕ)) (o t : Option SourceState)
-    (old new : Option Account) → IfTells o (λ s. TextsWritten with tells start text kept names s t old new (Err stop.Write))
-    → IfTells o (λ s. WritesAnswer (TellsInTurn with tells start text answer names s t) old new 2)
-stopped_by_write with tells start text kept answer names None t old new h = tt
-stopped_by_write with tells start text kept answer names (Some s) t old new h = λ counts.
+pub stopped_by_write : {A B K : Type 0} (with : B → A → B) (tells : Telling A) (start : B) (text : B → List ℕ) (text_of : A → List ℕ) (kept : B → K) (answer : B → Shown) (names : List (List ℕ)) (o t : Option SourceState)
+    (old new : Option Account) → IfTells o (λ s. TextsWritten with tells start text text_of kept names s t old new (Err stop.Write))
+    → IfTells o (λ s. WritesAnswer (TellsInTurn with tells start text text_of answer names s t) old new 2)
+stopped_by_write with tells start text text_of kept answer names None t old new h = tt
+stopped_by_write with tells start text text_of kept answer names (Some s) t old new h = λ counts.
     let (told, front, breaks) = h counts in
-    (behind (text told) out_of_memory, inl (inr (told, front, refl)), inr (first_broken old new (text told) (out_of_memory).text breaks, refl))
+    (behind (text told) out_of_memory, inl (inr (text told, front-written with tells start text text_of names s told front, refl)), inr (first_broken old new (text told) (out_of_memory).text breaks, refl))
 
-all-in-turn : {A B : Type 0} (with : B → A → B) (tells : Telling A) (start : B) (text : B → List ℕ) (answer : B → Shown) (names : List (List ℕ)) (s : SourceState) (t : Option SourceState)
+all-in-turn : {A B : Type 0} (with : B → A → B) (tells : Telling A) (start : B) (text : B → List ℕ) (text_of : A → List ℕ) (answer : B → Shown) (names : List (List ℕ)) (s : SourceState) (t : Option SourceState)
     (old mid new : Option Account) (told : B) (last : Shown) (status : ℕ) → answer told ≡ behind (text told) last → TellsFiles with tells start names s t told → TakesAll old mid (text told)
-    → WritesAnswer (λ r. r ≡ last) mid new status → WritesAnswer (TellsInTurn with tells start text answer names s t) old new status
-all-in-turn with tells start text answer names s t old mid new told last status made chain taken (r, inl is, writes) =
+    → WritesAnswer (λ r. r ≡ last) mid new status → WritesAnswer (TellsInTurn with tells start text text_of answer names s t) old new status
+all-in-turn with tells start text text_of answer names s t old mid new told last status made chain taken (r, inl is, writes) =
     (behind (text told) r, inl (inl (told, chain, ap (behind (text told)) is ∙ sym made)), written_behind old mid new (text told) r status taken writes)
-all-in-turn with tells start text answer names s t old mid new told last status made chain taken (r, inr memory, writes) = (
+all-in-turn with tells start text text_of answer names s t old mid new told last status made chain taken (r, inr memory, writes) = (
   behind (text told) r,
-  inl (inr (told, record { front = names; unread = []; parts = sym (append-nil names); left = t; chain = chain }, ap (behind (text told)) memory)),
+  inl (inr (text told, front-written with tells start text text_of names s told (record { front = names; unread = []; parts = sym (append-nil names); left = t; chain = chain }), ap (behind (text told)) memory)),
   written_behind old mid new (text told) r status taken writes,
 )
 
 -- the last line behind the texts of all files
-pub all_written : {A B K : Type 0} (with : B → A → B) (tells : Telling A) (start : B) (text : B → List ℕ) (kept : B → K) (answer : B → Shown) (last : K → Shown) (names : List (List ℕ))
+pub all_written : {A B K : Type 0} (with : B → A → B) (tells : Telling A) (start : B) (text : B → List ℕ) (text_of : A → List ℕ) (kept : B → K) (answer : B → Shown) (last : K → Shown) (names : List (List ℕ))
     (o t : Option SourceState) (old mid new : Option Account) (k : K) (status : ℕ) → ((told : B) → answer told ≡ behind (text told) (last (kept told)))
-    → IfTells o (λ s. TextsWritten with tells start text kept names s t old mid (Ok k)) → WritesAnswer (λ r. r ≡ last k) mid new status
-    → IfTells o (λ s. WritesAnswer (TellsInTurn with tells start text answer names s t) old new status)
-all_written with tells start text kept answer last names None t old mid new k status made h writes = tt
-all_written with tells start text kept answer last names (Some s) t old mid new k status made h writes = λ counts.
+    → IfTells o (λ s. TextsWritten with tells start text text_of kept names s t old mid (Ok k)) → WritesAnswer (λ r. r ≡ last k) mid new status
+    → IfTells o (λ s. WritesAnswer (TellsInTurn with tells start text text_of answer names s t) old new status)
+all_written with tells start text text_of kept answer last names None t old mid new k status made h writes = tt
+all_written with tells start text text_of kept answer last names (Some s) t old mid new k status made h writes = λ counts.
     let (told, chain, taken, is) = h counts in
-    all-in-turn with tells start text answer names s t old mid new told (last k) status (made told ∙ ap (λ x. behind (text told) (last x)) (sym is)) chain taken writes
+    all-in-turn with tells start text text_of answer names s t old mid new told (last k) status (made told ∙ ap (λ x. behind (text told) (last x)) (sym is)) chain taken writes
 
 -- sources that are alike have the same answers
-pub ends_same : {A B : Type 0} (with : B → A → B) (tells : Telling A) (start : B) (text : B → List ℕ) (names : List (List ℕ)) (a b : SourceState) (r : Shown) → Alike a b
-    → EndsEarly with tells start text names a r → EndsEarly with tells start text names b r
-ends_same with tells start text names a b r e (told, w, is) = (
-  told,
-  record { front = w.front; unread = w.unread; parts = w.parts; left = w.left; chain = files_same with tells start w.front a b w.left told e w.chain },
+pub ends_same : {A B : Type 0} (with : B → A → B) (tells : Telling A) (start : B) (text : B → List ℕ) (text_of : A → List ℕ) (names : List (List ℕ)) (a b : SourceState) (r : Shown) → Alike a b
+    → EndsEarly with tells start text text_of names a r → EndsEarly with tells start text text_of names b r
+ends_same with tells start text text_of names a b r e (written, w, is) = (
+  written,
+  record {
+    told = w.told;
+    files = record { front = w.files.front; unread = w.files.unread; parts = w.files.parts; left = w.files.left; chain = files_same with tells start w.files.front a b w.files.left w.told e w.files.chain };
+    part = w.part;
+    next = w.next;
+    parts = w.parts;
+  },
   is,
 )

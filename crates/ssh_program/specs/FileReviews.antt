@@ -1,8 +1,8 @@
 -- The reviews of files, one after the other (this project's rule).
-use Rattle.std.specs.Prelude.{◌≡◌, ◌⊎◌, ◌++◌, ℕ, List, [], Option, Some, None, Result, Ok, Err, codes, ⊤}
+use Rattle.std.specs.Prelude.{◌≡◌, ◌<◌, ◌⊎◌, ◌++◌, ℕ, List, [], ◌∷◌, false, length, Option, Some, None, Result, Ok, Err, codes, ⊤}
 use Rattle.ssh_findings.specs.Asking.{Asking}
-use Rattle.ssh_files.specs.FilesInTurn.{Telling, TellsFiles}
-use Rattle.ssh_files.specs.SourceState.{SourceState}
+use Rattle.ssh_files.specs.FilesInTurn.{Telling, TellsFile, TellsFiles}
+use Rattle.ssh_files.specs.SourceState.{IfTells, SourceState}
 use Rattle.ssh_files.specs.declared.read.ReadError.{ReadError}
 use Rattle.ssh_files.specs.declared.read.ReadError.TheVariants as read
 use Rattle.ssh_print.specs.Responses.{Response, out_of_memory}
@@ -10,10 +10,12 @@ use Rattle.ssh_review.specs.declared.end.FileFault.TheVariants.{TooLong, Unread}
 use Rattle.ssh_review.specs.declared.end.Total.{Total}
 use Rattle.ssh_review.specs.declared.end.Form.{Form}
 use Rattle.ssh_review.specs.Forms.{total_line}
+use Rattle.ssh_review.specs.Making.{AreWholeLines}
 use Rattle.ssh_review.specs.Reviews.{Review, auth_review, fault_review}
 use Rattle.ssh_review.specs.HostReviews.{known_review}
 use Rattle.ssh_program.specs.declared.review.ReviewKind.{ReviewKind}
 use Rattle.ssh_program.specs.declared.review.ReviewKind.TheVariants.{Auth, Known}
+use Rattle.ssh_program.specs.declared.streaming.FileTold.{FileTold}
 use Rattle.ssh_program.specs.declared.streaming.Stop.{Stop}
 use Rattle.ssh_program.specs.declared.streaming.Stop.TheVariants.{Memory, Write}
 use Rattle.ssh_program.specs.Account.{Account, NoneFailed}
@@ -42,13 +44,6 @@ abbrev pub review_over : ReviewKind → Form → Asking → List ℕ → Option 
 review_over kind form asking name None = fault_review form name Unread
 review_over kind form asking name (Some file) = review_of kind form asking name file
 
--- the review of a file whose bytes could not be had, where memory could be allocated
-abbrev pub IsUnreadReview : Form → List ℕ → ReadError → Review → Type 0
-IsUnreadReview form name read.Memory r = ⊥
-IsUnreadReview form name read.TooLong r = r ≡ fault_review form name TooLong
-IsUnreadReview form name read.Missing r = r ≡ fault_review form name Unread
-IsUnreadReview form name read.Failed r = r ≡ fault_review form name Unread
-
 -- a file of which a read fails has the fault A9 too
 abbrev pub telling_review : ReviewKind → Form → Asking → Telling Review
 telling_review kind form asking = record { of_bytes = review_over kind form asking; of_fault = λ name. fault_review form name Unread }
@@ -68,17 +63,70 @@ pub record TellsFront {A B : Type 0} (with : B → A → B) (tells : Telling A) 
   pub left : Option SourceState
   pub chain : TellsFiles with tells start front s left told
 
--- The answer goes no further than the texts of some files at the front, and the fault of want of memory behind them. It is
--- printed so where memory could not be allocated; where a write failed, a proper prefix of it was printed.
-abbrev pub EndsEarly : {A B : Type 0} → (B → A → B) → Telling A → B → (B → List ℕ) → List (List ℕ) → SourceState → Response → Type 0
-EndsEarly with tells start text names s r = (told : _) × TellsFront with tells start names s told × (r ≡ behind (text told) out_of_memory)
+-- whole lines at the front of a text, and not all of it
+pub record IsCutAt (part text : List ℕ) : Type 0 where
+  pub rest : List ℕ
+  pub parts : text ≡ part ++ rest
+  pub proper : 0 < length rest
+  pub lines : AreWholeLines part
+
+-- lines at the front of the text of the file of this name, as it tells it, and not the whole text
+abbrev pub IsFrontOf : {A : Type 0} → Telling A → (A → List ℕ) → List ℕ → SourceState → List ℕ → Type 0
+IsFrontOf tells text name s part = (t : Option SourceState) × (told : _) × TellsFile tells name s t told × IsCutAt part (text told)
+
+-- the same of the first of these files, which is read next
+abbrev pub IsFrontOfNext : {A : Type 0} → Telling A → (A → List ℕ) → List (List ℕ) → Option SourceState → List ℕ → Type 0
+IsFrontOfNext tells text [] o part = ⊥
+IsFrontOfNext tells text (name ∷ names) o part = IfTells o (λ s. IsFrontOf tells text name s part)
+
+-- What is written where memory could not be allocated: the texts of some files at the front, whole, and behind them nothing or
+-- lines at the front of the text of the next file.
+pub record WritesFront {A B : Type 0} (with : B → A → B) (tells : Telling A) (start : B) (text : B → List ℕ) (text_of : A → List ℕ) (names : List (List ℕ)) (s : SourceState) (written : List ℕ) : Type 0 where
+  pub told : B
+  pub files : TellsFront with tells start names s told
+  pub part : List ℕ
+  pub next : (part ≡ []) ⊎ IsFrontOfNext tells text_of files.unread files.left part
+  pub parts : written ≡ text told ++ part
+
+-- The answer goes no further than that, and the fault of want of memory behind it. It is printed so where memory could not be
+-- allocated; where a write failed, a proper prefix of it was printed.
+abbrev pub EndsEarly : {A B : Type 0} → (B → A → B) → Telling A → B → (B → List ℕ) → (A → List ℕ) → List (List ℕ) → SourceState → Response → Type 0
+EndsEarly with tells start text text_of names s r = (written : List ℕ) × WritesFront with tells start text text_of names s written × (r ≡ behind written out_of_memory)
 
 -- What came of writing the text of each file when it was read: all were taken, and this is what is kept of what the files tell;
--- or memory could not be allocated, and the texts of the files at the front were taken; or a write failed in these texts.
-abbrev pub TextsWritten : {A B K : Type 0} → (B → A → B) → Telling A → B → (B → List ℕ) → (B → K) → List (List ℕ) → SourceState → Option SourceState → Option Account → Option Account → Result K Stop → Type 0
-TextsWritten with tells start text kept names s t old new (Ok k) = (told : _) × TellsFiles with tells start names s t told × TakesAll old new (text told) × (k ≡ kept told)
-TextsWritten with tells start text kept names s t old new (Err Memory) = (told : _) × TellsFront with tells start names s told × TakesAll old new (text told)
-TextsWritten with tells start text kept names s t old new (Err Write) = (told : _) × TellsFront with tells start names s told × Breaks old new (text told)
+-- or memory could not be allocated, and what goes before was taken; or a write failed in the texts of files at the front.
+abbrev pub TextsWritten : {A B K : Type 0} → (B → A → B) → Telling A → B → (B → List ℕ) → (A → List ℕ) → (B → K) → List (List ℕ) → SourceState → Option SourceState → Option Account → Option Account → Result K Stop → Type 0
+TextsWritten with tells start text text_of kept names s t old new (Ok k) = (told : _) × TellsFiles with tells start names s t told × TakesAll old new (text told) × (k ≡ kept told)
+TextsWritten with tells start text text_of kept names s t old new (Err Memory) = (written : List ℕ) × WritesFront with tells start text text_of names s written × TakesAll old new written
+TextsWritten with tells start text text_of kept names s t old new (Err Write) = (told : _) × TellsFront with tells start names s told × Breaks old new (text told)
+
+-- ---- one file, whose text is written as it is made
+
+-- What came of writing a text: all was taken, and this is kept; or memory could not be allocated, and lines at its front were
+-- taken; or a write failed in it.
+abbrev pub TextPut : {K : Type 0} → List ℕ → K → Option Account → Option Account → Result K Stop → Type 0
+TextPut text kept old new (Ok k) = TakesAll old new text × (k ≡ kept)
+TextPut text kept old new (Err Memory) = (part : List ℕ) × IsCutAt part text × TakesAll old new part
+TextPut text kept old new (Err Write) = Breaks old new text
+
+-- What came of writing the text of the file of this name: the same, of what the file tells; nothing of it is taken where memory
+-- could not be allocated to read the file.
+abbrev pub TextWritten : {A K : Type 0} → Telling A → (A → List ℕ) → (A → K) → List ℕ → Option SourceState → Option SourceState → Option Account → Option Account → Result K Stop → Type 0
+TextWritten tells text kept name o t old new (Ok k) = (told : _) × IfTells o (λ s. TellsFile tells name s t told) × TakesAll old new (text told) × (k ≡ kept told)
+TextWritten tells text kept name o t old new (Err Memory) = (part : List ℕ) × TakesAll old new part
+    × ((part ≡ []) ⊎ ((told : _) × IfTells o (λ s. TellsFile tells name s t told) × IsCutAt part (text told)))
+TextWritten tells text kept name o t old new (Err Write) = (told : _) × IfTells o (λ s. TellsFile tells name s t told) × Breaks old new (text told)
+
+-- what is kept of a review whose text is written
+abbrev pub review_kept : Review → FileTold
+review_kept r = record { counts = r.counts; stands = false; fault = r.fault }
+
+-- what came of writing the end of a file whose bytes could not be had
+abbrev pub UnreadPut : Form → List ℕ → ReadError → Option Account → Option Account → Result FileTold Stop → Type 0
+UnreadPut form name read.Memory old new r = (r ≡ Err Memory) × (new ≡ old)
+UnreadPut form name read.TooLong old new r = TextPut (fault_review form name TooLong).text (review_kept (fault_review form name TooLong)) old new r
+UnreadPut form name read.Missing old new r = TextPut (fault_review form name Unread).text (review_kept (fault_review form name Unread)) old new r
+UnreadPut form name read.Failed old new r = TextPut (fault_review form name Unread).text (review_kept (fault_review form name Unread)) old new r
 
 -- no write has failed, but where one did that stopped the texts
 abbrev pub FailedIfStopped : {K : Type 0} → Result K Stop → Option Account → Type 0
@@ -99,4 +147,4 @@ review_response kind form rule asking told = record {
 abbrev pub ReviewsFiles : ReviewKind → Form → List ℕ → Asking → List (List ℕ) → SourceState → Option SourceState → Response → Type 0
 ReviewsFiles kind form rule asking names s t r =
     ((told : Lines) × TellsFiles with_file (telling_review kind form asking) no_lines names s t told × (r ≡ review_response kind form rule asking told))
-    ⊎ EndsEarly with_file (telling_review kind form asking) no_lines (λ told. told.text) names s r
+    ⊎ EndsEarly with_file (telling_review kind form asking) no_lines (λ told. told.text) (λ r. r.text) names s r

@@ -5,19 +5,18 @@ use Rattle.ssh_findings.specs.Asking.{Asking}
 use Rattle.ssh_files.specs.FilesInTurn.{Telling, TellsFiles}
 use Rattle.ssh_files.specs.Loading.{KeepsOthers, NoReadFailed, ReadToEnd, within_limit}
 use Rattle.ssh_files.specs.SourceState.{SourceState, bytes_at}
-use Rattle.ssh_files.specs.declared.read.ReadError.{ReadError}
-use Rattle.ssh_files.specs.declared.read.ReadError.TheVariants as read
 use Rattle.ssh_print.specs.Responses.{Response, no_file_response}
 use Rattle.ssh_print.specs.Offering.{Offered, shown_offer_in}
 use Rattle.ssh_print.specs.Showing.{show_fault_response}
 use Rattle.ssh_print.specs.declared.showing.ShowError.{ShowError}
-use Rattle.ssh_review.specs.declared.end.FileFault.TheVariants.{TooLong, Unread}
+use Rattle.ssh_review.specs.declared.end.FileFault.TheVariants.{Unread}
 use Rattle.ssh_review.specs.declared.end.Form.{Form}
 use Rattle.ssh_review.specs.declared.end.Total.{Total}
 use Rattle.ssh_review.specs.Forms.{total_line}
 use Rattle.ssh_review.specs.KeyReviews.{KeyReview, auth_key_review, key_fault_review, known_key_review}
 use Rattle.ssh_program.specs.declared.args.ArgName.TheVariants as option
 use Rattle.ssh_program.specs.declared.key_seeking.KeyTotal.{KeyTotal}
+use Rattle.ssh_program.specs.declared.streaming.FileTold.{FileTold}
 use Rattle.ssh_program.specs.declared.review.ReviewKind.{ReviewKind}
 use Rattle.ssh_program.specs.declared.review.ReviewKind.TheVariants.{Auth, Known}
 use Rattle.ssh_program.specs.Audits.{IsFileFault}
@@ -44,6 +43,10 @@ no_key_lines = record { lines = no_lines; stands = false }
 abbrev pub with_key_file : KeyLines → KeyReview → KeyLines
 with_key_file sofar r = record { lines = with_file sofar.lines r.file; stands = sofar.stands || r.stands }
 
+-- what is kept of a review whose text is written
+abbrev pub key_review_kept : KeyReview → FileTold
+key_review_kept r = record { counts = r.file.counts; stands = r.stands; fault = r.file.fault }
+
 -- the review for the key with this fingerprint, of a file of this format, name and bytes
 abbrev pub key_review_of : List ℕ → ReviewKind → Form → Asking → List ℕ → List ℕ → KeyReview
 key_review_of fingerprint Auth form asking name file = auth_key_review fingerprint form asking name file
@@ -53,13 +56,6 @@ key_review_of fingerprint Known form asking name file = known_key_review fingerp
 abbrev pub key_review_over : List ℕ → ReviewKind → Form → Asking → List ℕ → Option (List ℕ) → KeyReview
 key_review_over fingerprint kind form asking name None = key_fault_review form name Unread
 key_review_over fingerprint kind form asking name (Some file) = key_review_of fingerprint kind form asking name file
-
--- the review of a file whose bytes could not be had, where memory could be allocated
-abbrev pub IsUnreadKeyReview : Form → List ℕ → ReadError → KeyReview → Type 0
-IsUnreadKeyReview form name read.Memory r = ⊥
-IsUnreadKeyReview form name read.TooLong r = r ≡ key_fault_review form name TooLong
-IsUnreadKeyReview form name read.Missing r = r ≡ key_fault_review form name Unread
-IsUnreadKeyReview form name read.Failed r = r ≡ key_fault_review form name Unread
 
 -- a file of which a read fails has the fault A9 too
 abbrev pub telling_key_review : List ℕ → ReviewKind → Form → Asking → Telling KeyReview
@@ -82,7 +78,7 @@ key_review_response kind form rule asking told = record {
 abbrev pub SeeksKey : ReviewKind → Form → List ℕ → Asking → List (List ℕ) → List ℕ → SourceState → Option SourceState → Response → Type 0
 SeeksKey kind form rule asking names fingerprint s t r =
     ((told : KeyLines) × TellsFiles with_key_file (telling_key_review fingerprint kind form asking) no_key_lines names s t told × (r ≡ key_review_response kind form rule asking told))
-    ⊎ EndsEarly with_key_file (telling_key_review fingerprint kind form asking) no_key_lines (λ told. told.lines.text) names s r
+    ⊎ EndsEarly with_key_file (telling_key_review fingerprint kind form asking) no_key_lines (λ told. told.lines.text) (λ r. r.file.text) names s r
 
 -- ---- the key
 

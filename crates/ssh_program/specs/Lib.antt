@@ -11,6 +11,7 @@ pub mod VouchLines
 pub mod Granting
 pub mod Account
 pub mod Printing
+pub mod Pieces
 pub mod Writing
 pub mod GrantedRuns
 pub mod FileSamples

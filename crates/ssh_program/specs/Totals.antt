@@ -3,20 +3,12 @@ use Rattle.std.specs.Prelude.{◌+◌, ◌-◌, ◌^◌, ℕ, min, nat_lt, if◌
 use Rattle.ssh_review.specs.declared.end.Counts.{Counts}
 use Rattle.ssh_review.specs.declared.end.FileFault.{FileFault}
 use Rattle.ssh_review.specs.declared.end.Total.{Total}
-use Rattle.ssh_review.specs.Counting.{no_counts}
+use Rattle.ssh_review.specs.Counting.{no_counts, plus_within}
 use Rattle.ssh_review.specs.Reviews.{Review}
 
 -- a sum of counts stops at 2^64 - 1
 abbrev pub counted : ℕ → ℕ → ℕ
 counted a b = min (a + b) (2 ^ 64 - 1)
-
-abbrev pub with_counts : Counts → Counts → Counts
-with_counts a b = record {
-  lines = counted a.lines b.lines;
-  keys = counted a.keys b.keys;
-  unreadable = counted a.unreadable b.unreadable;
-  findings = counted a.findings b.findings;
-}
 
 abbrev pub fault_count : Option FileFault → ℕ
 fault_count None = 0
@@ -26,13 +18,16 @@ fault_count (Some fault) = 1
 abbrev pub nothing : Total
 nothing = record { files = 0; faults = 0; counts = no_counts }
 
--- the total with one more file
-abbrev pub with_review : Total → Review → Total
-with_review total r = record {
+-- the total with one more file, of these counts or with this fault
+abbrev pub with_counted : Total → Counts → Option FileFault → Total
+with_counted total counts fault = record {
   files = counted total.files 1;
-  faults = counted total.faults (fault_count r.fault);
-  counts = with_counts total.counts r.counts;
+  faults = counted total.faults (fault_count fault);
+  counts = plus_within total.counts counts;
 }
+
+abbrev pub with_review : Total → Review → Total
+with_review total r = with_counted total r.counts r.fault
 
 -- 2 if a file could not be reviewed, else 1 if something was found
 abbrev pub total_status : Total → ℕ

@@ -1,16 +1,15 @@
 //! The answer to `review` with `--key`: where one key stands in trust files.
 
-ghost use Rattle.std.specs.Prelude.{◌≡◌, ◌||◌, IfOk, map, option_map};
+ghost use Rattle.std.specs.Prelude.{◌≡◌, ◌||◌, ◌≤◌, length, map, option_map};
 ghost use Rattle.ssh_findings.specs.Asking.{asking_of};
-ghost use Rattle.ssh_files.specs.FilesInTurn.{TellsFile};
 ghost use Rattle.ssh_files.specs.SourceState.{IfTells};
 ghost use Rattle.ssh_print.specs.Offering.{offer_seen, shown_offer_in};
-ghost use Rattle.ssh_review.specs.KeyReviews.{key_review};
+ghost use Rattle.ssh_text.specs.Text.{file_limit};
 ghost use Rattle.ssh_program.specs.Account.{NoneFailed};
 ghost use Rattle.ssh_program.specs.ArgsView.{Spells};
-ghost use Rattle.ssh_program.specs.FileReviews.{FailedIfStopped, TextsWritten};
+ghost use Rattle.ssh_program.specs.FileReviews.{FailedIfStopped, TextPut, TextWritten, TextsWritten};
 ghost use Rattle.ssh_program.specs.FingerprintValues.{is_fingerprint};
-ghost use Rattle.ssh_program.specs.KeySeeking.{IsUnreadKeyReview, ReviewsFor, SeeksBy, SeeksKey, SeeksKeyOfFile, key_review_of, key_status, key_total, no_key_lines, or_key_fault, spelled_fingerprint, telling_key_review, with_key_file};
+ghost use Rattle.ssh_program.specs.KeySeeking.{ReviewsFor, SeeksBy, SeeksKey, SeeksKeyOfFile, key_review_kept, key_review_of, key_status, key_total, no_key_lines, or_key_fault, spelled_fingerprint, telling_key_review, with_key_file};
 ghost use Rattle.ssh_program.specs.OfferPrints.{offer_print};
 ghost use Rattle.ssh_program.specs.Printing.{WritesAnswer};
 ghost use Rattle.ssh_program.specs.Spelling.{RespondsTo};
@@ -20,17 +19,15 @@ use crate::audit::unread;
 use crate::command::{CommandError, respond_fault};
 use crate::fingerprint_value::{is_fingerprint, read_fingerprint};
 use crate::offer_fingerprint::offer_print;
-use crate::printing::{put_bytes, put_made, put_no_memory};
-use crate::review::{FOUND, NOTHING, ReviewKind, review_files, with_review};
+use crate::printing::{put_made, put_no_memory};
+use crate::review::{FOUND, NOTHING, ReviewKind, review_files, with_counted};
 use crate::sink::Sink;
-use crate::streaming::{Stop, put_total};
-use ssh_files::{Files, ReadError, read_top_line, read_whole};
+use crate::streaming::{FileTold, Stop, put_review, put_total, put_unread};
+use ssh_files::{Files, read_top_line, read_whole};
 use ssh_findings::ReviewOptions;
 use ssh_keys::digest_text;
 use ssh_print::{DONE, FAULT, OfferedKey, read_offer, show_fault};
-use ssh_review::{
-    FileFault, Form, KeyReviewed, Total, review_auth_key, review_key_fault, review_known_key,
-};
+use ssh_review::{Form, Total, auth_key_records, known_key_records};
 use std::alloc::{AllocError, Global};
 
 /// The status: 2 if a file could not be reviewed, else 1 if the key stands in one of them.
@@ -60,24 +57,8 @@ fn either(one: bool, other: bool) -> bool
     one || other
 }
 
-/// The review of a file whose bytes could not be had.
-fn review_unread(
-    alloc: Global,
-    form: Form,
-    name: &[u8],
-    fault: ReadError,
-) -> Result<KeyReviewed, AllocError>
-    ensures { IfOk result (λ r. IsUnreadKeyReview form name.now fault (key_review r)) }
-{
-    match fault {
-        ReadError::Memory => Err(AllocError),
-        ReadError::TooLong => review_key_fault(alloc, form, name, FileFault::TooLong),
-        _ => review_key_fault(alloc, form, name, FileFault::Unread),
-    }
-}
-
-/// The review for the key with this fingerprint, of a file with this name and these bytes.
-fn review_bytes(
+/// Writes the review for the key with this fingerprint, of a file with this name and these bytes.
+fn put_bytes_review<W: Sink>(
     alloc: Global,
     kind: ReviewKind,
     form: Form,
@@ -85,17 +66,29 @@ fn review_bytes(
     sought: &[u8; 43],
     name: &[u8],
     file: &[u8],
-) -> Result<KeyReviewed, AllocError>
-    ensures { IfOk result (λ r. key_review r
-        ≡ key_review_of sought.now kind form (asking_of asked.entry.now) name.now file.now) }
+    writer: &mut W,
+) -> Result<FileTold, Stop>
+    requires none { NoneFailed (W.account writer.old) }
+    requires limit { length file.now ≤ file_limit }
+    ensures failed { FailedIfStopped result (W.account writer.new) }
+    ensures put { TextPut (key_review_of sought.now kind form (asking_of asked.entry.now) name.now file.now).file.text
+        (key_review_kept (key_review_of sought.now kind form (asking_of asked.entry.now) name.now file.now))
+        (W.account writer.old) (W.account writer.new) result }
 {
     match kind {
-        ReviewKind::Auth => review_auth_key(alloc, form, asked, name, file, sought),
-        ReviewKind::Known => review_known_key(alloc, form, asked, name, file, sought),
+        ReviewKind::Auth => {
+            let records = auth_key_records(alloc, file, sought)?;
+            put_review(alloc, form, asked, name, file, records, writer)
+        }
+        ReviewKind::Known => {
+            let records = known_key_records(alloc, file, sought)?;
+            put_review(alloc, form, asked, name, file, records, writer)
+        }
     }
 }
 
-fn review_file<F: Files>(
+/// Writes the review of the file of this name.
+fn put_file<F: Files, W: Sink>(
     alloc: Global,
     kind: ReviewKind,
     form: Form,
@@ -103,19 +96,30 @@ fn review_file<F: Files>(
     sought: &[u8; 43],
     name: &str,
     files: &mut F,
-) -> Result<KeyReviewed, AllocError>
-    ensures { IfTells (F.source_state files.old) (λ s. IfOk result (λ r.
-        TellsFile (telling_key_review sought.now kind form (asking_of asked.entry.now)) name.now s
-        (F.source_state files.new) (key_review r))) }
+    writer: &mut W,
+) -> Result<FileTold, Stop>
+    requires { NoneFailed (W.account writer.old) }
+    ensures failed { FailedIfStopped result (W.account writer.new) }
+    ensures told { TextWritten (telling_key_review sought.now kind form (asking_of asked.entry.now))
+        (λ r. r.file.text) key_review_kept name.now (F.source_state files.old)
+        (F.source_state files.new) (W.account writer.old) (W.account writer.new) result }
 {
     match read_whole(alloc, files, name) {
-        Ok(file) => review_bytes(alloc, kind, form, asked, sought, name.as_bytes(), &file),
-        Err(fault) => review_unread(alloc, form, name.as_bytes(), fault),
+        Ok(file) => put_bytes_review(
+            alloc,
+            kind,
+            form,
+            asked,
+            sought,
+            name.as_bytes(),
+            &file,
+            writer,
+        ),
+        Err(fault) => put_unread(alloc, form, name.as_bytes(), fault, writer),
     }
 }
 
-/// Writes the reviews of the files of these names, each when its file was read, and returns their
-/// total. No more than one is in memory, however many files there are.
+/// Writes the reviews of the files of these names, one after the other, and returns their total.
 fn tell_files<F: Files, W: Sink>(
     alloc: Global,
     kind: ReviewKind,
@@ -130,15 +134,14 @@ fn tell_files<F: Files, W: Sink>(
     ensures failed { FailedIfStopped result (W.account writer.new) }
     ensures told { IfTells (F.source_state files.old) (λ s. TextsWritten with_key_file
         (telling_key_review sought.now kind form (asking_of asked.entry.now)) no_key_lines
-        (λ told. told.lines.text) key_total (map (λ name. name.now) names.now) s
+        (λ told. told.lines.text) (λ r. r.file.text) key_total (map (λ name. name.now) names.now) s
         (F.source_state files.new) (W.account writer.old) (W.account writer.new) result) }
 {
     let mut total = NOTHING;
     let mut stands = false;
     for name in names {
-        let told = review_file(alloc, kind, form, asked, sought, name, files)?;
-        put_bytes(writer, &told.review.text)?;
-        total = with_review(total, &told.review);
+        let told = put_file(alloc, kind, form, asked, sought, name, files, writer)?;
+        total = with_counted(total, told.counts, told.fault);
         stands = either(stands, told.stands);
     }
     Ok(KeyTotal { total, stands })

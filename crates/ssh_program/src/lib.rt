@@ -41,6 +41,7 @@ mod kinds;
 mod laws;
 mod name_list;
 mod offer_fingerprint;
+mod pieces;
 mod printing;
 mod program;
 mod question;

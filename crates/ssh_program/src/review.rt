@@ -1,19 +1,18 @@
 //! The answer to `review`: trust files one after the other, then their total.
 
-ghost use Rattle.std.specs.Prelude.{◌≡◌, ◌^◌, Some, option_map, IfOk, OnErr, map};
+ghost use Rattle.std.specs.Prelude.{◌≡◌, ◌^◌, ◌≤◌, Some, option_map, OnErr, length, map};
 ghost use Rattle.ssh_findings.specs.Codes.{codes_in, default_codes};
 ghost use Rattle.ssh_files.specs.Values.{number_below};
 ghost use Rattle.ssh_review.specs.declared.end.Form.TheVariants.{Text};
 ghost use Rattle.ssh_program.specs.Spelled.{form_of, review_kind_of, usual_minimum, RespondsToReview, ReviewsInZone};
 ghost use Rattle.ssh_program.specs.Spelling.{value, value_or};
 ghost use Rattle.ssh_program.specs.ArgsView.{Spells, rows_in};
-ghost use Rattle.ssh_review.specs.Reviews.{review};
-ghost use Rattle.ssh_program.specs.Totals.{fault_count, nothing, total_status, with_counts, with_review};
+ghost use Rattle.ssh_text.specs.Text.{file_limit};
+ghost use Rattle.ssh_program.specs.Totals.{fault_count, nothing, total_status, with_counted};
 ghost use Rattle.ssh_findings.specs.Asking.{asking_of};
-ghost use Rattle.ssh_files.specs.FilesInTurn.{TellsFile, TellsFiles};
 ghost use Rattle.ssh_files.specs.SourceState.{IfTells};
 ghost use Rattle.ssh_program.specs.Account.{NoneFailed};
-ghost use Rattle.ssh_program.specs.FileReviews.{FailedIfStopped, IsUnreadReview, ReviewsFiles, TextsWritten, kind_name, no_lines, review_of, telling_review, with_file};
+ghost use Rattle.ssh_program.specs.FileReviews.{FailedIfStopped, ReviewsFiles, TextPut, TextWritten, TextsWritten, review_kept, kind_name, no_lines, review_of, telling_review, with_file};
 ghost use Rattle.ssh_program.specs.Printing.{WritesAnswer};
 ghost use Rattle.ssh_program.specs.Writing.{IfWritten};
 ghost use Rattle.jiff.specs.Words.{plain_zone};
@@ -22,18 +21,16 @@ ghost use Rattle.ssh_program.specs.declared.args.ArgName.TheVariants as option;
 use crate::args::{ArgName, Args};
 use crate::command::{CommandError, respond_fault};
 use crate::key_seeking::review_for;
-use crate::printing::{put_bytes, put_made, put_no_memory};
+use crate::printing::{put_made, put_no_memory};
 use crate::review_zone::{given_rule, is_zone_given, zone_text};
 use crate::sink::Sink;
-use crate::streaming::{Stop, put_total};
+use crate::streaming::{FileTold, Stop, put_review, put_total, put_unread};
 use jiff::tz::TimeZone;
-use ssh_files::{Files, ReadError, read_bits, read_whole, zone_of};
+use ssh_files::{Files, read_bits, read_whole, zone_of};
 use ssh_findings::{Code, ReviewOptions, parse_codes};
 use ssh_print::{DONE, FAULT};
-use ssh_review::{
-    Counts, FileFault, Form, Reviewed, Total, review_auth, review_fault, review_known,
-};
-use std::alloc::{AllocError, Global};
+use ssh_review::{Counts, FileFault, Form, Total, auth_records, known_records};
+use std::alloc::Global;
 
 /// The format of the files under review.
 #[derive(Clone, Copy, Debug, PartialEq, Eq)]
@@ -137,18 +134,6 @@ pub const NOTHING: Total = Total {
     counts: Counts::NONE,
 };
 
-/// The sums of the counts. A sum stops at 2^64 - 1, since a count that wraps around would be wrong.
-fn with_counts(counts: Counts, more: Counts) -> Counts
-    ensures { result ≡ with_counts counts more }
-{
-    Counts {
-        lines: counts.lines.saturating_add(more.lines),
-        keys: counts.keys.saturating_add(more.keys),
-        unreadable: counts.unreadable.saturating_add(more.unreadable),
-        findings: counts.findings.saturating_add(more.findings),
-    }
-}
-
 fn fault_count(fault: Option<FileFault>) -> u64
     ensures { result ≡ fault_count fault }
 {
@@ -158,14 +143,14 @@ fn fault_count(fault: Option<FileFault>) -> u64
     }
 }
 
-/// The total with one more file.
-pub fn with_review(total: Total, reviewed: &Reviewed) -> Total
-    ensures { result ≡ with_review total (review reviewed.now) }
+/// The total with one more file, of these counts or with this fault.
+pub fn with_counted(total: Total, counts: Counts, fault: Option<FileFault>) -> Total
+    ensures { result ≡ with_counted total counts fault }
 {
     Total {
         files: total.files.saturating_add(1),
-        faults: total.faults.saturating_add(fault_count(reviewed.fault)),
-        counts: with_counts(total.counts, reviewed.counts),
+        faults: total.faults.saturating_add(fault_count(fault)),
+        counts: total.counts.plus(counts),
     }
 }
 
@@ -182,60 +167,59 @@ pub fn total_status(total: &Total) -> u8
     }
 }
 
-/// The review of a file whose bytes could not be had.
-fn review_unread(
-    alloc: Global,
-    form: Form,
-    name: &[u8],
-    fault: ReadError,
-) -> Result<Reviewed, AllocError>
-    ensures { IfOk result (λ r. IsUnreadReview form name.now fault (review r)) }
-{
-    match fault {
-        ReadError::Memory => Err(AllocError),
-        ReadError::TooLong => review_fault(alloc, form, name, FileFault::TooLong),
-        _ => review_fault(alloc, form, name, FileFault::Unread),
-    }
-}
-
-/// The review of a file with this name and these bytes.
-fn review_bytes(
+/// Writes the review of a file with this name and these bytes.
+fn put_bytes_review<W: Sink>(
     alloc: Global,
     kind: ReviewKind,
     form: Form,
     asked: &ReviewOptions<'_>,
     name: &[u8],
     file: &[u8],
-) -> Result<Reviewed, AllocError>
-    ensures { IfOk result
-        (λ r. review r ≡ review_of kind form (asking_of asked.entry.now) name.now file.now) }
+    writer: &mut W,
+) -> Result<FileTold, Stop>
+    requires none { NoneFailed (W.account writer.old) }
+    requires limit { length file.now ≤ file_limit }
+    ensures failed { FailedIfStopped result (W.account writer.new) }
+    ensures put { TextPut (review_of kind form (asking_of asked.entry.now) name.now file.now).text
+        (review_kept (review_of kind form (asking_of asked.entry.now) name.now file.now))
+        (W.account writer.old) (W.account writer.new) result }
 {
     match kind {
-        ReviewKind::Auth => review_auth(alloc, form, asked, name, file),
-        ReviewKind::Known => review_known(alloc, form, asked, name, file),
+        ReviewKind::Auth => {
+            let records = auth_records(alloc, file)?;
+            put_review(alloc, form, asked, name, file, records, writer)
+        }
+        ReviewKind::Known => {
+            let records = known_records(alloc, file)?;
+            put_review(alloc, form, asked, name, file, records, writer)
+        }
     }
 }
 
-fn review_file<F: Files>(
+/// Writes the review of the file of this name.
+fn put_file<F: Files, W: Sink>(
     alloc: Global,
     kind: ReviewKind,
     form: Form,
     asked: &ReviewOptions<'_>,
     name: &str,
     files: &mut F,
-) -> Result<Reviewed, AllocError>
-    ensures { IfTells (F.source_state files.old) (λ s. IfOk result (λ r.
-        TellsFile (telling_review kind form (asking_of asked.entry.now)) name.now s (F.source_state files.new)
-        (review r))) }
+    writer: &mut W,
+) -> Result<FileTold, Stop>
+    requires { NoneFailed (W.account writer.old) }
+    ensures failed { FailedIfStopped result (W.account writer.new) }
+    ensures told { TextWritten (telling_review kind form (asking_of asked.entry.now)) (λ r. r.text)
+        review_kept name.now (F.source_state files.old) (F.source_state files.new)
+        (W.account writer.old) (W.account writer.new) result }
 {
     match read_whole(alloc, files, name) {
-        Ok(file) => review_bytes(alloc, kind, form, asked, name.as_bytes(), &file),
-        Err(fault) => review_unread(alloc, form, name.as_bytes(), fault),
+        Ok(file) => put_bytes_review(alloc, kind, form, asked, name.as_bytes(), &file, writer),
+        Err(fault) => put_unread(alloc, form, name.as_bytes(), fault, writer),
     }
 }
 
-/// Writes the reviews of the files of these names, each when its file was read, and returns their
-/// total. No more than one is in memory, however many files there are.
+/// Writes the reviews of the files of these names, one after the other, and returns their total. In
+/// memory are one file, what is stored of its lines, and the records that are written next.
 fn tell_files<F: Files, W: Sink>(
     alloc: Global,
     kind: ReviewKind,
@@ -249,14 +233,13 @@ fn tell_files<F: Files, W: Sink>(
     ensures failed { FailedIfStopped result (W.account writer.new) }
     ensures told { IfTells (F.source_state files.old) (λ s. TextsWritten with_file
         (telling_review kind form (asking_of asked.entry.now)) no_lines (λ told. told.text)
-        (λ told. told.total) (map (λ name. name.now) names.now) s (F.source_state files.new)
+        (λ r. r.text) (λ told. told.total) (map (λ name. name.now) names.now) s (F.source_state files.new)
         (W.account writer.old) (W.account writer.new) result) }
 {
     let mut total = NOTHING;
     for name in names {
-        let reviewed = review_file(alloc, kind, form, asked, name, files)?;
-        put_bytes(writer, &reviewed.text)?;
-        total = with_review(total, &reviewed);
+        let told = put_file(alloc, kind, form, asked, name, files, writer)?;
+        total = with_counted(total, told.counts, told.fault);
     }
     Ok(total)
 }

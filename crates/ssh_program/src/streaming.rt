@@ -1,18 +1,28 @@
-//! Texts that are written while the files are read, and the line of their total behind them.
+//! Texts that are written while the files are read, each as it is made, and the line of their total
+//! behind them.
 
-ghost use Rattle.std.specs.Prelude.{◌≡◌};
+ghost use Rattle.std.specs.Prelude.{◌≡◌, ◌++◌, List, ℕ};
+ghost use Rattle.sha2.specs.Sha256.{sha256};
 ghost use Rattle.ssh_findings.specs.Asking.{asking_of};
-ghost use Rattle.ssh_review.specs.Forms.{total_line};
+ghost use Rattle.ssh_review.specs.declared.key_review.KeyCounts.{KeyCounts as KeyCountsValue};
+ghost use Rattle.ssh_review.specs.Forms.{end_line, total_line};
+ghost use Rattle.ssh_review.specs.Making.{HasLeft};
+ghost use Rattle.ssh_review.specs.Reviews.{fault_review};
 ghost use Rattle.ssh_program.specs.declared.streaming.Stop.TheVariants.{Memory, Write};
 ghost use Rattle.ssh_program.specs.Account.{NoneFailed};
-ghost use Rattle.ssh_program.specs.FileReviews.{kind_name};
+ghost use Rattle.ssh_program.specs.FileReviews.{FailedIfStopped, TextPut, UnreadPut, review_kept, kind_name};
 ghost use Rattle.ssh_program.specs.Printing.{WritesAnswer};
 
+use crate::pieces::put_lines;
 use crate::printing::{put_no_memory, put_whole};
 use crate::review::{ReviewKind, kind_name};
 use crate::sink::Sink;
+use sha2::{Digest, Sha256};
+use ssh_files::ReadError;
 use ssh_findings::ReviewOptions;
-use ssh_review::{Form, Total, total_line};
+use ssh_review::{
+    Counts, FileFault, Form, LineRecords, Records, Total, push_end, review_fault, total_line,
+};
 use std::alloc::{AllocError, Global};
 use std::io::Error;
 
@@ -38,6 +48,93 @@ impl From<Error> for Stop {
 
     fn from(_: Error) -> Stop {
         Stop::Write
+    }
+}
+
+/// What is kept of the review of a file, whose text is written: its counts, whether the key that is
+/// sought stands in it, if one is, and why there is no review.
+#[derive(Clone, Copy, Debug)]
+pub struct FileTold {
+    pub counts: Counts,
+    pub stands: bool,
+    pub fault: Option<FileFault>,
+}
+
+/// Writes the review of a file: its records, as they are made, and its end. Where memory is refused,
+/// what was written are whole records, and the end is missing.
+pub(crate) fn put_review<L: LineRecords + Drop, W: Sink>(
+    alloc: Global,
+    form: Form,
+    asked: &ReviewOptions<'_>,
+    name: &[u8],
+    file: &[u8],
+    begun: Records<'_, L>,
+    writer: &mut W,
+) -> Result<FileTold, Stop>
+    requires { NoneFailed (W.account writer.old) }
+    ensures failed { FailedIfStopped result (W.account writer.new) }
+    ensures put { (text : List ℕ) (all : KeyCountsValue)
+        → HasLeft L.tells form (asking_of asked.entry.now) name.now file.now text all begun.entry
+        → TextPut (text ++ end_line form name.now all.counts (sha256 file.now))
+        (record { counts = all.counts; stands = all.stands; fault = None })
+        (W.account writer.old) (W.account writer.new) result }
+{
+    let mut records = begun;
+    let mut out = Vec::new(alloc);
+    while records.push_some(alloc, form, asked, name, &mut out)? {
+        put_lines(writer, &out)?;
+        out.clear();
+    }
+    let told = records.told();
+    let digest = Sha256::digest(file);
+    push_end(alloc, form, &mut out, name, told.counts, &digest)?;
+    put_lines(writer, &out)?;
+    Ok(FileTold {
+        counts: told.counts,
+        stands: told.stands,
+        fault: None,
+    })
+}
+
+/// Writes the end of a file with a fault.
+fn put_fault_end<W: Sink>(
+    alloc: Global,
+    form: Form,
+    name: &[u8],
+    fault: FileFault,
+    writer: &mut W,
+) -> Result<FileTold, Stop>
+    requires { NoneFailed (W.account writer.old) }
+    ensures failed { FailedIfStopped result (W.account writer.new) }
+    ensures put { TextPut (fault_review form name.now fault).text
+        (review_kept (fault_review form name.now fault)) (W.account writer.old) (W.account writer.new)
+        result }
+{
+    let reviewed = review_fault(alloc, form, name, fault)?;
+    put_lines(writer, &reviewed.text)?;
+    Ok(FileTold {
+        counts: Counts::NONE,
+        stands: false,
+        fault: Some(fault),
+    })
+}
+
+/// Writes the end of a file whose bytes could not be had.
+pub(crate) fn put_unread<W: Sink>(
+    alloc: Global,
+    form: Form,
+    name: &[u8],
+    fault: ReadError,
+    writer: &mut W,
+) -> Result<FileTold, Stop>
+    requires { NoneFailed (W.account writer.old) }
+    ensures failed { FailedIfStopped result (W.account writer.new) }
+    ensures put { UnreadPut form name.now fault (W.account writer.old) (W.account writer.new) result }
+{
+    match fault {
+        ReadError::Memory => Err(Stop::Memory),
+        ReadError::TooLong => put_fault_end(alloc, form, name, FileFault::TooLong, writer),
+        _ => put_fault_end(alloc, form, name, FileFault::Unread, writer),
     }
 }
 

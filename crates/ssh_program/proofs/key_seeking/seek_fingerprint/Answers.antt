@@ -1,8 +1,16 @@
-use Rattle.ssh_program.proofs.Imports.{List, ℕ, map, asking_of, RespondsTo}
+use Rattle.ssh_program.proofs.Imports.{List, ℕ, Result, map, asking_of, subst, sym, IfTells, RespondsTo}
+use Rattle.ssh_print.specs.Responses.{Response}
 use Rattle.ssh_program.specs.KeySeeking.{SeeksKey, spelled_fingerprint}
+use Rattle.ssh_program.specs.Printing.{WritesAnswer}
 use Rattle.ssh_program.proofs.AnsweredLemmas.{unspelled_responds}
 use Rattle.ssh_program.proofs.StreamLemmas.{writes_fault}
 use Rattle.ssh_program.proofs.key_seeking.seek_fingerprint.Goals as goal
+
+pub returns-in-Ok : goal.returns-in-Ok
+returns-in-Ok g c =
+    subst (λ (spelled : Result (List ℕ) Response). IfTells (g.F.Files.source_state c.args.files.now) (λ s. WritesAnswer (RespondsTo (SeeksKey c.args.kind c.args.form c.args.rule.now (asking_of c.args.asked.now)
+    (map (λ name. name.now) c.args.names.now)) spelled s (g.F.Files.source_state c.seek_key.new.files)) (g.W.Sink.account c.args.writer.now) (g.W.Sink.account c.seek_key.new.writer) c.seek_key.result))
+    (sym c.in-Ok.ensures) c.seek_key.ensures
 
 pub returns-in-Err : goal.returns-in-Err
 returns-in-Err g c =

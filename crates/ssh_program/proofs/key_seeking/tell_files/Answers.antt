@@ -1,11 +1,10 @@
-use Rattle.ssh_program.proofs.Imports.{◌+◌, List, ℕ, drop, map, ap, refl, subst, at_drop_more, drop_all, asking_of, err_from_is_err_and, Breaks, TakesAll}
-use Rattle.ssh_review.specs.KeyReviews.{key_review}
-use Rattle.ssh_program.specs.KeySeeking.{key_total, no_key_lines, telling_key_review, with_key_file}
-use Rattle.ssh_program.specs.Totals.{with_review}
+use Rattle.ssh_program.proofs.Imports.{◌+◌, ◌∙◌, drop, map, ap, refl, at_drop_more, drop_all, asking_of, err_from_is_err_and}
 use Rattle.std.specs.Prelude.{◌||◌}
+use Rattle.ssh_program.specs.KeySeeking.{key_review_kept, key_total, no_key_lines, telling_key_review, with_key_file}
+use Rattle.ssh_program.specs.Totals.{with_counted}
 use Rattle.ssh_program.specs.declared.key_seeking.KeyTotal.{KeyTotal}
-use Rattle.ssh_program.proofs.StreamLemmas.{written_first, written_into, written_last, written_next, written_until}
-use Rattle.ssh_program.proofs.WrittenText.{none_failed}
+use Rattle.ssh_program.specs.declared.streaming.FileTold.{FileTold}
+use Rattle.ssh_program.proofs.StreamLemmas.{failed_stop, written_first, written_last, written_stopped, written_told}
 use Rattle.ssh_program.proofs.key_seeking.tell_files.Goals as goal
 
 pub loop-name-init : goal.loop-name-init
@@ -17,42 +16,39 @@ loop-name-init g c = (
 
 pub loop-name-preserved : goal.loop-name-preserved
 loop-name-preserved g c =
-    let mid = g.W.Sink.account c.loop-name.writer in
-    let new = g.W.Sink.account c.put_bytes.new.writer in (
-      none_failed mid new c.deref.result.now c.in_ok-put_bytes.ensures.ok c.loop-name.invariant.0,
-      written_next with_key_file (telling_key_review c.args.sought.now c.args.kind c.args.form (asking_of c.args.asked.now)) no_key_lines (λ told. told.lines.text) key_total (map (λ name. name.now) c.args.names.now) _
+    let x : FileTold = c.in_ok-told.told in (
+      c.in_ok-told.ensures.failed,
+      written_told with_key_file (telling_key_review c.args.sought.now c.args.kind c.args.form (asking_of c.args.asked.now)) no_key_lines (λ told. told.lines.text) (λ r. r.file.text) key_total key_review_kept (map (λ name. name.now) c.args.names.now) _
           (map (λ name. name.now) (drop c.loop-name.name-index c.args.names.now)) (map (λ name. name.now) (drop (c.loop-name.name-index + 1) c.args.names.now))
-          (g.F.Files.source_state c.args.files.now) (g.F.Files.source_state c.loop-name.files) (g.F.Files.source_state c.review_file.new.files)
-          (g.W.Sink.account c.args.writer.now) mid new (record { total = c.loop-name.total; stands = c.loop-name.stands }) (record { total = c.with_review-total.result; stands = c.either-stands.result }) (key_review c.in_ok-told.told) c.in_ok-told.told.review.text.items
+          (g.F.Files.source_state c.args.files.now) (g.F.Files.source_state c.loop-name.files) (g.F.Files.source_state c.put_file.new.files)
+          (g.W.Sink.account c.args.writer.now) (g.W.Sink.account c.loop-name.writer) (g.W.Sink.account c.put_file.new.writer)
+          (record { total = c.loop-name.total; stands = c.loop-name.stands }) (record { total = c.with_counted-total.result; stands = c.either-stands.result }) x
           (at_drop_more (map (λ name. name.now)) c.args.names.now c.loop-name.name-index _ c.loop-name-test.true)
-          (λ sofar is. rw (c.with_review-total.ensures, c.either-stands.ensures) (ap (λ (k : KeyTotal). record { total = with_review k.total (key_review c.in_ok-told.told).file; stands = k.stands || c.in_ok-told.told.stands }) is)) (λ sofar. refl)
-          c.loop-name.invariant.1 c.in_ok-told.ensures (subst (λ (l : List ℕ). TakesAll mid new l) c.deref.ensures.value c.in_ok-put_bytes.ensures.ok),
+          (λ sofar told. refl)
+          (λ sofar told is same. rw (c.with_counted-total.ensures, c.either-stands.ensures)
+          (ap (λ (k : KeyTotal). record { total = with_counted k.total x.counts x.fault; stands = k.stands || x.stands }) is
+          ∙ ap (λ (y : FileTold). record { total = with_counted sofar.lines.total y.counts y.fault; stands = sofar.stands || y.stands }) same))
+          c.loop-name.invariant.1 c.in_ok-told.ensures.told,
     )
 
 pub returns-in_err-told-clause-told : goal.returns-in_err-told-clause-told
 returns-in_err-told-clause-told g c =
     let p = err_from_is_err_and c.from_residual.result c.from_residual.ensures.1 in
-    rw (p.1, p.2) (
-    written_until with_key_file (telling_key_review c.args.sought.now c.args.kind c.args.form (asking_of c.args.asked.now)) no_key_lines (λ told. told.lines.text) key_total (map (λ name. name.now) c.args.names.now)
-    (map (λ name. name.now) (drop c.loop-name.name-index c.args.names.now))
-    (g.F.Files.source_state c.args.files.now) (g.F.Files.source_state c.loop-name.files) (g.F.Files.source_state c.review_file.new.files)
-    (g.W.Sink.account c.args.writer.now) (g.W.Sink.account c.loop-name.writer) (record { total = c.loop-name.total; stands = c.loop-name.stands }) c.loop-name.invariant.1)
-
-pub returns-in_err-put_bytes-clause-told : goal.returns-in_err-put_bytes-clause-told
-returns-in_err-put_bytes-clause-told g c =
-    let mid = g.W.Sink.account c.loop-name.writer in
-    let new = g.W.Sink.account c.put_bytes.new.writer in
-    let p = err_from_is_err_and c.from_residual-in_err-put_bytes.result c.from_residual-in_err-put_bytes.ensures.1 in
-    rw (p.1, p.2) (written_into with_key_file (telling_key_review c.args.sought.now c.args.kind c.args.form (asking_of c.args.asked.now)) no_key_lines (λ told. told.lines.text) key_total (map (λ name. name.now) c.args.names.now) _
+    rw (p.1, p.2) (written_stopped with_key_file (telling_key_review c.args.sought.now c.args.kind c.args.form (asking_of c.args.asked.now)) no_key_lines (λ told. told.lines.text) (λ r. r.file.text) key_total key_review_kept (map (λ name. name.now) c.args.names.now) _
     (map (λ name. name.now) (drop c.loop-name.name-index c.args.names.now)) (map (λ name. name.now) (drop (c.loop-name.name-index + 1) c.args.names.now))
-    (g.F.Files.source_state c.args.files.now) (g.F.Files.source_state c.loop-name.files) (g.F.Files.source_state c.review_file.new.files) (g.F.Files.source_state c.review_file.new.files)
-    (g.W.Sink.account c.args.writer.now) mid new (record { total = c.loop-name.total; stands = c.loop-name.stands }) (key_review c.in_ok-told.told) c.in_ok-told.told.review.text.items
-    (at_drop_more (map (λ name. name.now)) c.args.names.now c.loop-name.name-index _ c.loop-name-test.true) (λ sofar. refl)
-    c.loop-name.invariant.1 c.in_ok-told.ensures (subst (λ (l : List ℕ). Breaks mid new l) c.deref.ensures.value c.in_err-put_bytes.ensures.err))
+    (g.F.Files.source_state c.args.files.now) (g.F.Files.source_state c.loop-name.files) (g.F.Files.source_state c.put_file.new.files)
+    (g.W.Sink.account c.args.writer.now) (g.W.Sink.account c.loop-name.writer) (g.W.Sink.account c.put_file.new.writer)
+    (record { total = c.loop-name.total; stands = c.loop-name.stands }) _ (at_drop_more (map (λ name. name.now)) c.args.names.now c.loop-name.name-index _ c.loop-name-test.true)
+    (λ sofar told. refl) c.loop-name.invariant.1 c.in_err-told.ensures.told)
+
+pub returns-in_err-told-clause-failed : goal.returns-in_err-told-clause-failed
+returns-in_err-told-clause-failed g c =
+    let p = err_from_is_err_and c.from_residual.result c.from_residual.ensures.1 in
+    rw (p.1, p.2) (failed_stop FileTold KeyTotal _ (g.W.Sink.account c.put_file.new.writer) c.in_err-told.ensures.failed)
 
 pub returns-clause-told : goal.returns-clause-told
 returns-clause-told g c =
-    written_last with_key_file (telling_key_review c.args.sought.now c.args.kind c.args.form (asking_of c.args.asked.now)) no_key_lines (λ told. told.lines.text) key_total (map (λ name. name.now) c.args.names.now)
+    written_last with_key_file (telling_key_review c.args.sought.now c.args.kind c.args.form (asking_of c.args.asked.now)) no_key_lines (λ told. told.lines.text) (λ r. r.file.text) key_total (map (λ name. name.now) c.args.names.now)
     (map (λ name. name.now) (drop c.loop-name.name-index c.args.names.now))
     (g.F.Files.source_state c.args.files.now) (g.F.Files.source_state c.loop-name.files) (g.W.Sink.account c.args.writer.now) (g.W.Sink.account c.loop-name.writer) (record { total = c.loop-name.total; stands = c.loop-name.stands })
     (ap (map (λ name. name.now)) (drop_all c.loop-name.name-index c.args.names.now c.loop-name-test.false)) c.loop-name.invariant.1
