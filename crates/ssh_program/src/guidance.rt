@@ -41,6 +41,7 @@ fn asks_help(word: &Word<'_>) -> bool
     }
 }
 
+/// Whether some word asks for help.
 pub fn any_asks_help(words: &[Word<'_>]) -> bool
     ensures { result ≡ list_any asks_help (map word_seen words.now) }
 {
