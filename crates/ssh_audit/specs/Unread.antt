@@ -14,11 +14,11 @@ why _ = codes "it could not be read"
 abbrev pub unread_line : List ℕ → ErrorKind → List ℕ
 unread_line name kind = codes "ssh_audit: " ++ escaped_text name ++ codes ": " ++ why kind ++ codes "\n"
 
--- the most bytes that are told before the last line
+-- the most bytes that are reported before the last line
 abbrev pub room : ℕ
 room = 65536
 
--- What is told with one more file that could not be read: its line comes after what was told before. Without a name, since
--- it was told, nothing does; nor where there is no room for more.
-abbrev pub told_with : List ℕ → ErrorKind → List ℕ → List ℕ
-told_with name kind told = if nat_lt 0 (length name) && nat_lt (length told) room then told ++ unread_line name kind else told
+-- What is reported with one more file that could not be read: its line comes after what was reported before. Without a name, since
+-- it was reported, nothing does; nor where there is no room for more.
+abbrev pub reported_with : List ℕ → ErrorKind → List ℕ → List ℕ
+reported_with name kind reported = if nat_lt 0 (length name) && nat_lt (length reported) room then reported ++ unread_line name kind else reported

@@ -21,7 +21,7 @@ fn colour_rule()
 {}
 
 /// Which lines have a colour, and how they are written.
-fn colours_as_told()
+fn colours_as_reported()
     ensures coloured { LinesColoured }
     ensures uncoloured { LinesPlain }
     ensures commands { CommandsColoured }

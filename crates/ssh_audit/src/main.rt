@@ -88,11 +88,11 @@ fn guidance(
 /// Prints a text to standard error. The exit status is the same if that write fails.
 fn tell(rt: &HostRuntime, text: &[u8]) {
     if let Ok(text) = str::from_utf8(text) {
-        let _told = eprint!(rt; "{text}");
+        let _reported = eprint!(rt; "{text}");
     }
 }
 
-/// Whether the environment names a terminal. A job of cron has none: it is told on standard error
+/// Whether the environment names a terminal. A job of cron has none: it is reported on standard error
 /// only where something is wrong, so that no mail comes of it.
 fn has_terminal(rt: &HostRuntime) -> bool {
     match env::var(rt, "TERM") {
@@ -144,7 +144,7 @@ fn key_name<'a>(words: &[&'a str]) -> Option<&'a str> {
     None
 }
 
-/// Prints what a file is that holds no public key line, where it can be told by its first bytes.
+/// Prints what a file is that holds no public key line, where it can be reported by its first bytes.
 fn tell_key_file(rt: &HostRuntime, name: &str, files: &mut Source<'_>) {
     if let Ok(front) = read_front(rt.alloc(), files, name, KEY_FRONT) {
         if let Some(form) = key_file_form(&front) {
@@ -208,8 +208,8 @@ fn read_question(rt: &HostRuntime, words: &[&str]) -> Outcome<(Vec<String<Global
     let known = Known::read(rt, words)?;
     let around = known.as_surroundings();
     let line = defaults_line(rt.alloc(), words, &around)?;
-    let told = with_defaults(rt.alloc(), words, &around)?;
-    Ok((told, line))
+    let reported = with_defaults(rt.alloc(), words, &around)?;
+    Ok((reported, line))
 }
 
 /// The answer to a question that may leave something out.
@@ -220,8 +220,8 @@ fn answer_question(
     writer: &mut Output<'_>,
 ) -> u8 {
     match read_question(rt, words) {
-        Ok((told, line)) => {
-            let status = answer(rt, told.as_slice(), files, writer);
+        Ok((reported, line)) => {
+            let status = answer(rt, reported.as_slice(), files, writer);
             if !(status == FAULT && writer.is_usage()) && has_terminal(rt) {
                 tell(rt, &line);
             }
@@ -256,7 +256,7 @@ fn answer_names<'a>(
         Err(AllocError) => return refuse(WordsError::Memory, writer),
     };
     match with_list(rt.alloc(), texts.as_slice(), list) {
-        Ok(told) => answer_question(rt, told.as_slice(), files, writer),
+        Ok(reported) => answer_question(rt, reported.as_slice(), files, writer),
         Err(error) => answer_no_list(rt, name, error, writer),
     }
 }

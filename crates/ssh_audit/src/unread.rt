@@ -1,13 +1,13 @@
 //! Why files could not be read, as standard error tells it.
 
 ghost use Rattle.std.specs.Prelude.{◌≡◌, ◌++◌, [], OnErr, OnOk, IfOk};
-ghost use Rattle.ssh_audit.specs.Unread.{told_with, unread_line, why};
+ghost use Rattle.ssh_audit.specs.Unread.{reported_with, unread_line, why};
 
 use ssh_print::push_escaped;
 use std::alloc::{AllocError, Global};
 use std::io::ErrorKind;
 
-/// How many bytes are told at most, but for the last line.
+/// How many bytes are reported at most, but for the last line.
 const ROOM: usize = 65_536;
 
 /// Why a file could not be opened or read.
@@ -38,7 +38,7 @@ fn unread_line(alloc: Global, name: &[u8], kind: ErrorKind) -> Result<Vec<u8>, A
 #[derive(Drop)]
 pub struct Unread {
     alloc: Global,
-    /// The file that was chosen last; empty once it was told, or where memory for it was refused.
+    /// The file that was chosen last; empty once it was reported, or where memory for it was refused.
     name: Vec<u8>,
     text: Vec<u8>,
 }
@@ -73,10 +73,10 @@ impl Unread {
         self.name.extend_from_slice(name.as_bytes())
     }
 
-    /// Appends the line of the file, if it was not told and there is room.
+    /// Appends the line of the file, if it was not reported and there is room.
     fn push_line(&mut self, kind: ErrorKind) -> Result<(), AllocError>
-        ensures told { OnOk result (self.new.text.items
-            ≡ told_with self.old.name.items kind self.old.text.items) }
+        ensures reported { OnOk result (self.new.text.items
+            ≡ reported_with self.old.name.items kind self.old.text.items) }
         ensures err { OnErr result (self.new.text.items ≡ self.old.text.items) }
     {
         if self.name.is_empty() || self.text.len() >= ROOM {
@@ -86,16 +86,16 @@ impl Unread {
         self.text.extend_from_slice(&line)
     }
 
-    /// Tells that the file could not be read, once. Nothing is told where there is no room for more,
+    /// Tells that the file could not be read, once. Nothing is reported where there is no room for more,
     /// and on an error.
     pub fn tell(&mut self, kind: ErrorKind) -> Result<(), AllocError>
-        ensures told { OnOk result (self.new.text.items
-            ≡ told_with self.old.name.items kind self.old.text.items) }
+        ensures reported { OnOk result (self.new.text.items
+            ≡ reported_with self.old.name.items kind self.old.text.items) }
         ensures err { OnErr result (self.new.text.items ≡ self.old.text.items) }
         ensures once { self.new.name.items ≡ [] }
     {
-        let told = self.push_line(kind);
+        let reported = self.push_line(kind);
         self.name.clear();
-        told
+        reported
     }
 }

@@ -4,7 +4,7 @@
 ghost use Rattle.std.specs.Prelude.{◌≢◌, IfErr, ◌≡◌, None, ◌||◌, ◌++◌, [], codes, false, take};
 ghost use Rattle.std.specs.Io.{ReadsAtMost, WritesAtMost};
 ghost use Rattle.std.specs.IoError.{error_kind};
-ghost use Rattle.ssh_program.specs.Account.{NoneFailed, after_write, where_told};
+ghost use Rattle.ssh_program.specs.Account.{NoneFailed, after_write, where_reported};
 ghost use Rattle.std.specs.Str.{bytes_eq};
 
 use crate::front::Front;
@@ -77,7 +77,7 @@ impl<W: Write> Sink for Retried<W> {
     fn put(&mut self, buf: &[u8]) -> Result<usize>
         requires { NoneFailed None }
         ensures bound { WritesAtMost result buf.now }
-        ensures told { None ≡ where_told (after_write result buf.now) None }
+        ensures reported { None ≡ where_reported (after_write result buf.now) None }
         // A write that a signal interrupted (EINTR) wrote no byte, so it is tried again.
         ensures retried { IfErr result (λ e. error_kind e ≢ ErrorKind.Interrupted) }
     {
@@ -163,7 +163,7 @@ impl<W: Sink> Sink for Watched<W> {
     fn put(&mut self, buf: &[u8]) -> Result<usize>
         requires { NoneFailed (W.account self.old.writer) }
         ensures bound { WritesAtMost result buf.now }
-        ensures told { W.account self.new.writer ≡ where_told (after_write result buf.now)
+        ensures reported { W.account self.new.writer ≡ where_reported (after_write result buf.now)
             (W.account self.old.writer) }
         ensures usage { self.new.is_usage
             ≡ (self.old.is_usage || bytes_eq buf.now (codes "fault usage\n")) }

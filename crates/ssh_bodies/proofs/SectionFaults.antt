@@ -282,7 +282,7 @@ no_padding rest unlike count few same =
 pub section_fault : (public : PublicKey) (at : Position) (e : BodyError) → IsBytes at.rest → is_in_range public ≡ true → length at.rest ≤ longest → section_at public at ≡ Err e → IsSectionFault public at.place at.rest e
 unfolding section_at
 section_fault public at e fits public_range short h =
-    let told = λ (x : BodyError). IsSectionFault public at.place at.rest x in
+    let reported = λ (x : BodyError). IsSectionFault public at.place at.rest x in
     let some = some_private public public_range in
     let v : ℕ → PrivateBody = λ n. record { check = n; key = some.0; comment = [] } in
     let of : (n : ℕ) → n < 2 ^ 32 → IsBodyOf public (v n) = λ n lt. record { check = lt; half = some.1; in_range = some.2 } in
@@ -299,7 +299,7 @@ section_fault public at e fits public_range short h =
     let t = run_took row at check.1 fits (check.1, t_check.0, refl) in
     let s1 : SectionStands public 1 at.rest (length (concat row)) (uint32 again.0 ++ (again.1).rest) = record { value = v check.0; fits = of check.0 t_check.1; begins = joins (concat row) t.parts t_again.0.parts; at = refl } in
     let other : check.0 ≢ again.0 = eqb-false check.0 again.0 f.0 in
-    subst told f.1 (length (concat row), again.0, (again.1).rest, s1, t_again.1, λ same. other (sym same))) (λ ok1 is_same h3.
+    subst reported f.1 (length (concat row), again.0, (again.1).rest, s1, t_again.1, λ same. other (sym same))) (λ ok1 is_same h3.
     let same : again.0 ≡ check.0 = sym (eqb-true check.0 again.0 (wants_ok (eqb check.0 again.0) errors.CheckMismatch ok1 is_same)) in
     let t_same : Took check.1 (uint32 check.0) again.1 = subst (λ (n : ℕ). Took check.1 (uint32 n) again.1) same t_again.0 in
     let u2 = up public 2 (v check.0) (of check.0 t_check.1) at again.1 fits (check.1, t_check.0, (again.1, t_same, refl)) in
@@ -307,7 +307,7 @@ section_fault public at e fits public_range short h =
     let t_name = text_took again.1 name t_same.rest_fits read_name in
     step_err (body_wants (bytes_eq name.0 (key_name_of (kind_of public))) errors.PublicMismatch) _ e h4 (λ bad.
     let f = wants_err (bytes_eq name.0 (key_name_of (kind_of public))) errors.PublicMismatch e bad in
-    subst told f.1 (inl (u2.place, name.0, (name.1).rest, subst (λ (r : List ℕ). SectionStands public 2 at.rest u2.place r) t_name.0.parts u2.stands, other_name name.0 (key_name_of (kind_of public)) f.0))) (λ ok2 is_named h5.
+    subst reported f.1 (inl (u2.place, name.0, (name.1).rest, subst (λ (r : List ℕ). SectionStands public 2 at.rest u2.place r) t_name.0.parts u2.stands, other_name name.0 (key_name_of (kind_of public)) f.0))) (λ ok2 is_named h5.
     let named : name.0 ≡ key_name_of (kind_of public) = (bytes_eq-Decides name.0 (key_name_of (kind_of public))).0 (wants_ok (bytes_eq name.0 (key_name_of (kind_of public))) errors.PublicMismatch ok2 is_named) in
     let name_for : (key : PrivateKey) → public_of key ≡ public → Took again.1 (string (key_name_of (kind_of (public_of key)))) name.1 =
     λ key half. subst (λ (n : List ℕ). Took again.1 (string n) name.1) (named ∙ ap (λ (k : PublicKey). key_name_of (kind_of k)) (sym half)) t_name.0 in
@@ -316,12 +316,12 @@ section_fault public at e fits public_range short h =
     step_err (private_at public name.1) _ e h5 (λ bad.
     let f = walk.fails e bad in
     let far : (name.1).place + f.place ≡ at.place + (u3.place + f.place) = omega (arith, u3.far) in
-    subst told f.is (u3.place + f.place, far, inr (record { first = u3.place; fields = (name.1).rest; stands = u3.stands; inner = f.place; at = refl; stops = f.stops }))) (λ key read_key h6.
+    subst reported f.is (u3.place + f.place, far, inr (record { first = u3.place; fields = (name.1).rest; stands = u3.stands; inner = f.place; at = refl; stops = f.stops }))) (λ key read_key h6.
     step_err (body_wants key.0.1 errors.PublicMismatch) _ e h6 (λ bad.
     let f = wants_err key.0.1 errors.PublicMismatch e bad in
     let s = walk.stood key read_key in
     let inner_short : length (name.1).rest ≤ longest = omega (arith, short, ap length (u3.stands).begins, length-append (concat (take 3 (section_row (u3.stands).value))) (name.1).rest) in
-    subst told f.1 (inr (record {
+    subst reported f.1 (inr (record {
       place = u3.place;
       fields = s.fields;
       rest = (key.1).rest;
@@ -338,5 +338,5 @@ section_fault public at e fits public_range short h =
     let u5 = up public 5 (w comment.0) (of_key comment.0) at comment.1 fits (check.1, t_check.0, (again.1, t_same, (name.1, name_for key.0.0 t_key.half, (key.1, t_key.took, (comment.1, t_comment.0, refl))))) in
     step_err (body_wants (is_padding (comment.1).rest) errors.Padding) _ e h8 (λ bad.
     let f = wants_err (is_padding (comment.1).rest) errors.Padding e bad in
-    subst told f.1 (u5.place, (comment.1).rest, u5.stands, no_padding (comment.1).rest f.0))
+    subst reported f.1 (u5.place, (comment.1).rest, u5.stands, no_padding (comment.1).rest f.0))
     (λ ok4 padded h9. absurd (let none : fine {A = PrivateBody} {E = BodyError} (record { check = check.0; key = key.0.0; comment = comment.0 }) ≡ Err e = h9 in cc))))))))))

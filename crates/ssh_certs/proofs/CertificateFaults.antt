@@ -31,9 +31,9 @@ no_string at w h = λ b. refused_none string (λ t. length t < 2 ^ 32) string_at
 
 -- the error of a cut field is at its place
 cut : (sort : CertificateFieldSort) (at : Position) (w : WireError) (e : CertError) → w ≡ record { place = at.place; cause = Short } → errors.Wire w ≡ e → IsCut sort at.rest → IsWrongField e sort at.rest at.place
-cut sort at w e is told none =
+cut sort at w e is reported none =
     let here : IsWrongField (errors.Wire (record { place = at.place; cause = Short })) sort at.rest at.place = (refl, refl, none) in
-    subst (λ (x : CertError). IsWrongField x sort at.rest at.place) (ap (λ (x : WireError). errors.Wire x) (sym is) ∙ told) here
+    subst (λ (x : CertError). IsWrongField x sort at.rest at.place) (ap (λ (x : WireError). errors.Wire x) (sym is) ∙ reported) here
 
 text_wrong : (at : Position) (e : CertError) → as_cert_error (string_at at) ≡ Err e → IsWrongField e text at.rest at.place
 text_wrong at e h = let w = as_fault_err errors.Wire (string_at at) e h in cut text at w.0 e (string_is_short at w.0 w.1) w.2 (no_string at w.0 w.1)
@@ -152,15 +152,15 @@ options_wrong at e fits h =
 -- ---- the signature key and the signature
 
 -- a key that is refused as a signature key
-told_signer : (rest : List ℕ) (place : ℕ) (d : KeyError) → BeginsString (λ blob. IsFirstFault blob d) rest → IsWrongField (signer_fault d) signer rest place
-told_signer rest place key_errors.IsCertificate is = is
-told_signer rest place (key_errors.Wire w) is = ((λ same. absurd cc), is)
-told_signer rest place key_errors.UnknownType is = ((λ same. absurd cc), is)
-told_signer rest place key_errors.RetiredType is = ((λ same. absurd cc), is)
-told_signer rest place key_errors.Curve is = ((λ same. absurd cc), is)
-told_signer rest place key_errors.Point is = ((λ same. absurd cc), is)
-told_signer rest place key_errors.Length is = ((λ same. absurd cc), is)
-told_signer rest place key_errors.TooLong is = ((λ same. absurd cc), is)
+reported_signer : (rest : List ℕ) (place : ℕ) (d : KeyError) → BeginsString (λ blob. IsFirstFault blob d) rest → IsWrongField (signer_fault d) signer rest place
+reported_signer rest place key_errors.IsCertificate is = is
+reported_signer rest place (key_errors.Wire w) is = ((λ same. absurd cc), is)
+reported_signer rest place key_errors.UnknownType is = ((λ same. absurd cc), is)
+reported_signer rest place key_errors.RetiredType is = ((λ same. absurd cc), is)
+reported_signer rest place key_errors.Curve is = ((λ same. absurd cc), is)
+reported_signer rest place key_errors.Point is = ((λ same. absurd cc), is)
+reported_signer rest place key_errors.Length is = ((λ same. absurd cc), is)
+reported_signer rest place key_errors.TooLong is = ((λ same. absurd cc), is)
 
 signer_wrong : (at : Position) (e : CertError) → IsBytes at.rest → signer_at at ≡ Err e → IsWrongField e signer at.rest at.place
 unfolding signer_at
@@ -172,7 +172,7 @@ signer_wrong at e fits h =
     (λ refused.
     let d = as_fault_err signer_fault (key_in t.0) e refused in
     let is = inside (λ blob. IsFirstFault blob d.0) at t.1 t.0 fits read (λ inner. key_fault t.0 d.0 inner d.1) in
-    subst (λ (x : CertError). IsWrongField x signer at.rest at.place) d.2 (told_signer at.rest at.place d.0 is))
+    subst (λ (x : CertError). IsWrongField x signer at.rest at.place) d.2 (reported_signer at.rest at.place d.0 is))
     (λ key read_key no. absurd (let none : fine {E = CertError} (key, t.1) ≡ Err e = no in cc)))
 
 signature_wrong : (at : Position) (e : CertError) → IsBytes at.rest → cert_signature_at at ≡ Err e → IsWrongField e signature at.rest at.place
@@ -394,13 +394,13 @@ tail_fault bytes nonce key p e in_range front fits h =
 
 -- a type name that is not a certificate's
 unknown : (name : List ℕ) (e : CertError) → certified_kind_from (class_of name) ≡ Err e → (errors.UnknownType ≡ e) × IsOtherName name
-unknown name e h = (told (class_of name) h, λ kind same. let found : certified_kind_from (class_of name) ≡ Ok kind = ap (λ (n : List ℕ). certified_kind_from (class_of n)) same ∙ named_kind kind in let both : fine {E = CertError} kind ≡ Err e = sym found ∙ h in cc)
+unknown name e h = (reported (class_of name) h, λ kind same. let found : certified_kind_from (class_of name) ≡ Ok kind = ap (λ (n : List ℕ). certified_kind_from (class_of n)) same ∙ named_kind kind in let both : fine {E = CertError} kind ≡ Err e = sym found ∙ h in cc)
   where
-    told : (class : NameClass) → certified_kind_from class ≡ Err e → errors.UnknownType ≡ e
-    told (CertificateOf kind) g = absurd cc
-    told (Plain kind) g = err_is {A = KeyKind} errors.UnknownType e g
-    told Retired g = err_is {A = KeyKind} errors.UnknownType e g
-    told Other g = err_is {A = KeyKind} errors.UnknownType e g
+    reported : (class : NameClass) → certified_kind_from class ≡ Err e → errors.UnknownType ≡ e
+    reported (CertificateOf kind) g = absurd cc
+    reported (Plain kind) g = err_is {A = KeyKind} errors.UnknownType e g
+    reported Retired g = err_is {A = KeyKind} errors.UnknownType e g
+    reported Other g = err_is {A = KeyKind} errors.UnknownType e g
 
 blob_fault : (bytes : List ℕ) (e : CertError) → IsBytes bytes → certificate_at (start bytes) ≡ Err e → IsCertificateFaultWithin bytes e
 unfolding certificate_at

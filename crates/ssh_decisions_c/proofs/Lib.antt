@@ -1,2 +1,2 @@
 mod TellingLemmas
-mod ToldLemmas
+mod ReportedLemmas

@@ -22,7 +22,7 @@ use Rattle.ssh_decisions_c.specs.declared.decided.CarriedText.{CarriedText}
 use Rattle.ssh_decisions_c.specs.declared.decided.Decided.{Decided}
 use Rattle.ssh_decisions_c.specs.declared.decided.LineReason.{LineReason}
 use Rattle.ssh_decisions_c.specs.declared.decided.LoginDecided.{LoginDecided}
-use Rattle.ssh_decisions_c.specs.Decided.{carried_in, carried_row, cause_code, cause_number, reason_row, reasons_in, rights_in, rights_told, texts_in, told_of}
+use Rattle.ssh_decisions_c.specs.Decided.{carried_in, carried_row, cause_code, cause_number, reason_row, reasons_in, rights_in, rights_reported, texts_in, reported_of}
 
 -- ---- the answer
 
@@ -46,7 +46,7 @@ AnswersHost file asked vouched answer =
     IsAnswer HostClaim (host_claim asked) (IsHostClaim asked) (λ c. host_answer file c vouched) (λ c. HostMeans file c vouched)
     (λ c. HostTells file c vouched) answer
 
--- ---- how it is told
+-- ---- how it is reported
 
 -- the reasons of an answer are in the buffer that was lent for them, if they fit
 abbrev pub LendsReasons : Result Decision AuditError → List LineReason → List LineReason → Type 0
@@ -54,8 +54,8 @@ LendsReasons answer old new = new ≡ filled (map reason_row (reasons_in answer)
 
 -- the answer to a login in numbers, and in three buffers, each if it is long enough
 pub record TellsLogin (answer : Result Decision AuditError) (d : LoginDecided) (reasons_old reasons_new : List LineReason) (carried_old carried_new : List CarriedText) (texts_old texts_new : List ℕ) : Type 0 where
-  pub decision : d.decision ≡ told_of answer
-  pub rights : d.rights ≡ rights_told (rights_in answer)
+  pub decision : d.decision ≡ reported_of answer
+  pub rights : d.rights ≡ rights_reported (rights_in answer)
   pub reasons : LendsReasons answer reasons_old reasons_new
   pub carried : carried_new ≡ filled (map carried_row (carried_in (rights_in answer))) carried_old
   pub texts : texts_new ≡ filled (texts_in (rights_in answer)) texts_old
@@ -68,7 +68,7 @@ pub record TellsGrant (file : List ℕ) (claim : LoginClaim) (vouched : List Sig
   pub grant : IsGrant file claim vouched d.decision.number entry
   pub given : Rights
   pub rights : AreRights entry claim.offer given
-  pub told : d.rights ≡ rights_told (Some given)
+  pub reported : d.rights ≡ rights_reported (Some given)
   pub carried : carried_new ≡ filled (map carried_row given.carried) carried_old
   pub texts : texts_new ≡ filled (texts_in (Some given)) texts_old
 

@@ -119,14 +119,14 @@ texts_in (Some r) = command_bytes r.command ++ flat_map (λ c. c.text) r.carried
 -- ---- numbers
 
 -- the kind 0 for a grant, 1 for a denial, 2 for a fault; its code; the line of a grant or what a cause names
-abbrev pub told_of : Result Decision AuditError → Decided
-told_of (Ok (Granted line rights reasons evidence)) = record { kind = 0; code = 0; number = line; reasons_length = length reasons }
-told_of (Ok (Denied why reasons evidence)) = record { kind = 1; code = cause_code why; number = cause_number why; reasons_length = length reasons }
-told_of (Err e) = record { kind = 2; code = fault_code e; number = 0; reasons_length = 0 }
+abbrev pub reported_of : Result Decision AuditError → Decided
+reported_of (Ok (Granted line rights reasons evidence)) = record { kind = 0; code = 0; number = line; reasons_length = length reasons }
+reported_of (Ok (Denied why reasons evidence)) = record { kind = 1; code = cause_code why; number = cause_number why; reasons_length = length reasons }
+reported_of (Err e) = record { kind = 2; code = fault_code e; number = 0; reasons_length = 0 }
 
 -- what an admitted login may do
-abbrev pub rights_told : Option Rights → LoginRights
-rights_told None = record {
+abbrev pub rights_reported : Option Rights → LoginRights
+rights_reported None = record {
   port = false;
   agent = false;
   x11 = false;
@@ -137,7 +137,7 @@ rights_told None = record {
   carried_length = 0;
   texts_length = 0;
 }
-rights_told (Some r) = record {
+rights_reported (Some r) = record {
   port = r.port;
   agent = r.agent;
   x11 = r.x11;

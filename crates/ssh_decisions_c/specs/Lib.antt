@@ -2,4 +2,4 @@ pub mod Answered
 pub mod Asked
 pub mod Decided
 pub mod Samples
-pub mod Told
+pub mod Reported

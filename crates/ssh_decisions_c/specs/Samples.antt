@@ -6,19 +6,19 @@ use Rattle.ssh_rights.specs.declared.rights.Rights.{Rights}
 use Rattle.ssh_rules.specs.declared.reason.Reason.TheVariants.{EmptyPrincipals, SourceRefused}
 use Rattle.ssh_trust.specs.declared.decision.Cause.TheVariants.{NotVouched}
 use Rattle.ssh_trust.specs.declared.decision.Decision.TheVariants.{Denied, Granted}
-use Rattle.ssh_decisions_c.specs.Decided.{carried_in, carried_row, reason_row, reasons_in, rights_told, texts_in, told_of}
+use Rattle.ssh_decisions_c.specs.Decided.{carried_in, carried_row, reason_row, reasons_in, rights_reported, texts_in, reported_of}
 
 -- a denial after two lines that were passed over, a grant and a fault
-abbrev pub AnswerSamplesTold : Type 0
-AnswerSamplesTold =
-    (told_of (Ok (Denied (NotVouched 1) ((2, SourceRefused) ∷ (5, EmptyPrincipals) ∷ []) [])) ≡ record { kind = 1; code = 6; number = 1; reasons_length = 2 })
+abbrev pub AnswerSamplesReported : Type 0
+AnswerSamplesReported =
+    (reported_of (Ok (Denied (NotVouched 1) ((2, SourceRefused) ∷ (5, EmptyPrincipals) ∷ []) [])) ≡ record { kind = 1; code = 6; number = 1; reasons_length = 2 })
     × (map reason_row (reasons_in (Ok (Denied (NotVouched 1) ((2, SourceRefused) ∷ (5, EmptyPrincipals) ∷ []) [])))
     ≡ record { line = 2; code = 8 } ∷ record { line = 5; code = 19 } ∷ [])
-    × (told_of (Ok (Granted 7 None [] [])) ≡ record { kind = 0; code = 0; number = 7; reasons_length = 0 })
-    × (told_of (Err Address) ≡ record { kind = 2; code = 6; number = 0; reasons_length = 0 })
+    × (reported_of (Ok (Granted 7 None [] [])) ≡ record { kind = 0; code = 0; number = 7; reasons_length = 0 })
+    × (reported_of (Err Address) ≡ record { kind = 2; code = 6; number = 0; reasons_length = 0 })
 
-pub answer_samples_told : AnswerSamplesTold
-answer_samples_told = (refl, refl, refl, refl)
+pub answer_samples_reported : AnswerSamplesReported
+answer_samples_reported = (refl, refl, refl, refl)
 
 -- a login with a terminal, a command and two options that are passed on
 abbrev pub worked_rights : Rights
@@ -32,9 +32,9 @@ worked_rights = record {
   carried = record { name = Tunnel; text = codes "0" } ∷ record { name = PermitOpen; text = codes "h:22" } ∷ [];
 }
 
-abbrev pub RightsSamplesTold : Type 0
-RightsSamplesTold =
-    (rights_told (Some worked_rights) ≡ record {
+abbrev pub RightsSamplesReported : Type 0
+RightsSamplesReported =
+    (rights_reported (Some worked_rights) ≡ record {
       port = false;
       agent = false;
       x11 = false;
@@ -48,5 +48,5 @@ RightsSamplesTold =
     × (texts_in (Some worked_rights) ≡ codes "ls0h:22")
     × (map carried_row (carried_in (Some worked_rights)) ≡ record { name = 4; length = 1 } ∷ record { name = 3; length = 4 } ∷ [])
 
-pub rights_samples_told : RightsSamplesTold
-rights_samples_told = (refl, refl, refl)
+pub rights_samples_reported : RightsSamplesReported
+rights_samples_reported = (refl, refl, refl)

@@ -1,7 +1,7 @@
 //! What a caller in C is answered: numbers, and rows for the buffers that it lends.
 
 ghost use Rattle.std.specs.Prelude.{◌≡◌, length};
-ghost use Rattle.ssh_decisions_c.specs.Decided.{carried_code, carried_row, cause_code, cause_number, command_bytes, fault_code, reason_code, reason_row, rights_told, texts_in};
+ghost use Rattle.ssh_decisions_c.specs.Decided.{carried_code, carried_row, cause_code, cause_number, command_bytes, fault_code, reason_code, reason_row, rights_reported, texts_in};
 
 use ssh_offers::AuditError;
 use ssh_text::Bytes;
@@ -184,9 +184,9 @@ fn command_length(command: &Option<Bytes>) -> usize
 }
 
 /// The rights in numbers, where these are their texts.
-pub(crate) fn rights_told(rights: &Option<Rights>, texts: &[u8]) -> LoginRights
+pub(crate) fn rights_reported(rights: &Option<Rights>, texts: &[u8]) -> LoginRights
     requires { texts.now ≡ texts_in rights.now }
-    ensures { result ≡ rights_told rights.now }
+    ensures { result ≡ rights_reported rights.now }
 {
     match rights {
         None => LoginRights {

@@ -10,7 +10,7 @@ ghost use Rattle.ssh_trust.specs.Telling.{HostCause};
 ghost use Rattle.ssh_trust.specs.declared.decision.Decision.{Decision as DecisionValue};
 ghost use Rattle.ssh_decisions_c.specs.Answered.{AnswersHost, AreHostReasons, LendsReasons, TellsDenial, TellsReasons};
 ghost use Rattle.ssh_decisions_c.specs.Asked.{host_asked, signed_of};
-ghost use Rattle.ssh_decisions_c.specs.Decided.{told_of};
+ghost use Rattle.ssh_decisions_c.specs.Decided.{reported_of};
 
 use crate::asked::{HostAsked, SignedBytes, copy_all, empty_principals};
 use crate::decided::{Decided, LineReason};
@@ -60,7 +60,7 @@ pub extern "C" fn ssh_audit_host(
     // The defined answer, or the fault of memory, with all its reasons.
     ensures answer { (answer : Result DecisionValue Fault)
         × AnswersHost file.now (host_asked asked.entry.now) (map signed_of vouched.entry.now) answer
-        × (result ≡ told_of answer) × LendsReasons answer reasons.old reasons.new }
+        × (result ≡ reported_of answer) × LendsReasons answer reasons.old reasons.new }
     // Granted names the first line that admits the key; no line of the file revokes it, or may.
     ensures granted { (claim : HostClaim) → IsHostClaim (host_asked asked.entry.now) claim
         → result.kind ≡ 0

@@ -1,4 +1,4 @@
-//! What is told of an answer: its numbers, and what goes into the buffers that a caller lends.
+//! What is reported of an answer: its numbers, and what goes into the buffers that a caller lends.
 
 ghost use Rattle.std.specs.Prelude.{◌≡◌, ◌++◌, ◌⊎◌, [], Err, IfOk, List, None, Ok, OnOk, Result, Some, map};
 ghost use Rattle.std.specs.List.{flat_map};
@@ -7,12 +7,12 @@ ghost use Rattle.ssh_offers.specs.declared.claim.AuditError.TheVariants.{Memory}
 ghost use Rattle.ssh_offers.specs.declared.claim.Signed.{Signed as SignedValue};
 ghost use Rattle.ssh_trust.specs.declared.decision.Decision.{Decision as DecisionValue};
 ghost use Rattle.ssh_trust.specs.declared.decision.Decision.TheVariants.{Denied, Granted};
-ghost use Rattle.ssh_decisions_c.specs.Decided.{carried_in, carried_row, command_bytes, reason_row, texts_in, told_of};
-ghost use Rattle.ssh_decisions_c.specs.Told.{IsRightsTelling, IsTelling};
+ghost use Rattle.ssh_decisions_c.specs.Decided.{carried_in, carried_row, command_bytes, reason_row, texts_in, reported_of};
+ghost use Rattle.ssh_decisions_c.specs.Reported.{IsRightsTelling, IsTelling};
 
 use crate::decided::{
     CarriedText, Decided, LineReason, LoginRights, carried_row, cause_code, cause_number,
-    fault_code, reason_row, rights_told,
+    fault_code, reason_row, rights_reported,
 };
 use ssh_offers::AuditError;
 use ssh_text::Bytes;
@@ -114,7 +114,7 @@ fn tell_rights(alloc: Global, rights: &Option<Rights>) -> Result<RightsTelling, 
     let carried = carried_of(alloc, rights)?;
     let texts = texts_of(alloc, rights)?;
     Ok(RightsTelling {
-        numbers: rights_told(rights, texts.as_slice()),
+        numbers: rights_reported(rights, texts.as_slice()),
         carried,
         texts,
     })
@@ -125,14 +125,14 @@ fn no_rights(alloc: Global) -> RightsTelling
     ensures { IsRightsTelling None result }
 {
     RightsTelling {
-        numbers: rights_told(&None, &[]),
+        numbers: rights_reported(&None, &[]),
         carried: Vec::new(alloc),
         texts: Vec::new(alloc),
     }
 }
 
 fn tell_fault(alloc: Global, error: AuditError) -> Telling
-    ensures decision { result.decision ≡ told_of (Err error) }
+    ensures decision { result.decision ≡ reported_of (Err error) }
     ensures reasons { result.reasons.items ≡ [] }
     ensures rights { IsRightsTelling None result.rights }
 {
@@ -150,7 +150,7 @@ fn tell_fault(alloc: Global, error: AuditError) -> Telling
 
 fn tell_denial(alloc: Global, why: Cause, reasons: &[(u64, Reason)]) -> Result<Telling, AllocError>
     ensures decision { IfOk result (λ t. (evidence : List SignedValue)
-        → t.decision ≡ told_of (Ok (Denied why reasons.now evidence))) }
+        → t.decision ≡ reported_of (Ok (Denied why reasons.now evidence))) }
     ensures reasons { IfOk result (λ t. t.reasons.items ≡ map reason_row reasons.now) }
     ensures rights { IfOk result (λ t. IsRightsTelling None t.rights) }
 {
@@ -174,7 +174,7 @@ fn tell_grant(
     reasons: &[(u64, Reason)],
 ) -> Result<Telling, AllocError>
     ensures decision { IfOk result (λ t. (evidence : List SignedValue)
-        → t.decision ≡ told_of (Ok (Granted line rights.now reasons.now evidence))) }
+        → t.decision ≡ reported_of (Ok (Granted line rights.now reasons.now evidence))) }
     ensures reasons { IfOk result (λ t. t.reasons.items ≡ map reason_row reasons.now) }
     ensures rights { IfOk result (λ t. IsRightsTelling rights.now t.rights) }
 {
@@ -213,8 +213,8 @@ fn tell_decision(alloc: Global, decision: &Decision) -> Result<Telling, AllocErr
 }
 
 fn tell_or_memory(alloc: Global, decision: &Decision) -> Telling
-    ensures { (told : Result DecisionValue Fault)
-        × ((told ≡ Ok decision.now) ⊎ (told ≡ Err Memory)) × IsTelling told result }
+    ensures { (reported : Result DecisionValue Fault)
+        × ((reported ≡ Ok decision.now) ⊎ (reported ≡ Err Memory)) × IsTelling reported result }
 {
     match tell_decision(alloc, decision) {
         Ok(telling) => telling,
@@ -222,10 +222,10 @@ fn tell_or_memory(alloc: Global, decision: &Decision) -> Telling
     }
 }
 
-/// What is told of an answer, or of the fault of memory where there is too little to tell it.
+/// What is reported of an answer, or of the fault of memory where there is too little to tell it.
 pub(crate) fn tell(alloc: Global, answer: Result<Decision, AuditError>) -> Telling
-    ensures { (told : Result DecisionValue Fault) × ((told ≡ answer) ⊎ (told ≡ Err Memory))
-        × IsTelling told result }
+    ensures { (reported : Result DecisionValue Fault) × ((reported ≡ answer) ⊎ (reported ≡ Err Memory))
+        × IsTelling reported result }
 {
     match answer {
         Ok(decision) => tell_or_memory(alloc, &decision),

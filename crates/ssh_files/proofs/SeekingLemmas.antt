@@ -86,21 +86,21 @@ within (Some bytes) file h = within-by (nat_lt file_limit (length bytes)) bytes 
 abbrev Takes : (List ℕ → Result Bool ℕ) → (List ℕ → Result Bool ℕ) → List ℕ → Type 0
 Takes old new file = (rest : List ℕ) → old (file ++ rest) ≡ new rest
 
-takes-whole : (old new : List ℕ → Result Bool ℕ) (file : List ℕ) (told : Result Bool ℕ) → old file ≡ told → Takes old new file → new [] ≡ told
-takes-whole old new file told begun took = sym (took []) ∙ (ap old (append-nil file) ∙ begun)
+takes-whole : (old new : List ℕ → Result Bool ℕ) (file : List ℕ) (reported : Result Bool ℕ) → old file ≡ reported → Takes old new file → new [] ≡ reported
+takes-whole old new file reported begun took = sym (took []) ∙ (ap old (append-nil file) ∙ begun)
 
 -- a vouch file that was read for two signatures
-pub both_told : {V : Type 0} (first second : Option Signed) (a b c d : List ℕ → Result Bool ℕ) (name : List ℕ) (bytes : SourceState → Option (List ℕ)) (left : SourceState → SourceState)
-    (o t : Option SourceState) (v : V) (told : Result Found ℕ)
-    → ((l : List ℕ) → a l ≡ lines_rest first 1 (lines_of l)) → ((l : List ℕ) → c l ≡ second_lines second l) → told ≡ both (b []) (d [])
+pub both_reported : {V : Type 0} (first second : Option Signed) (a b c d : List ℕ → Result Bool ℕ) (name : List ℕ) (bytes : SourceState → Option (List ℕ)) (left : SourceState → SourceState)
+    (o t : Option SourceState) (v : V) (reported : Result Found ℕ)
+    → ((l : List ℕ) → a l ≡ lines_rest first 1 (lines_of l)) → ((l : List ℕ) → c l ≡ second_lines second l) → reported ≡ both (b []) (d [])
     → IfTells o (λ s. LoadsPart {V = V} (λ file w. Takes a b file × Takes c d file) name (bytes s) (left s) s t (Ok v))
-    → IfTells o (λ s. LoadsPart (TellsOf first second) name (bytes s) (left s) s t (Ok told))
-both_told first second a b c d name bytes left None t v told begun also is loads = tt
-both_told first second a b c d name bytes left (Some s) t v told begun also is loads = λ counts.
+    → IfTells o (λ s. LoadsPart (TellsOf first second) name (bytes s) (left s) s t (Ok reported))
+both_reported first second a b c d name bytes left None t v reported begun also is loads = tt
+both_reported first second a b c d name bytes left (Some s) t v reported begun also is loads = λ counts.
     let ((file, whole, (one, two)), rest) = loads counts in
     let short = within (bytes s) file whole in
     let tells = both-tell first second file (vouched_of file) refl in
-    let same : told ≡ both (seek first (vouched_of file)) (seek_second second (vouched_of file)) =
+    let same : reported ≡ both (seek first (vouched_of file)) (seek_second second (vouched_of file)) =
     is
     ∙ rw (
       takes-whole a b file (seek first (vouched_of file)) (begun file ∙ file-seek first file short) one,

@@ -1,32 +1,32 @@
--- Files in turn: what is told so far leads to what all of them tell.
+-- Files in turn: what is reported so far leads to what all of them tell.
 use Rattle.ssh_files.proofs.Imports.{◌≡◌, ◌∙◌, ℕ, List, [], ◌∷◌, Option, Some, None, refl, sym, ap, subst, inl, inr, IfTells, SourceState, Telling, TellsFile, TellsFiles}
 use Rattle.ssh_files.proofs.SourceLemmas.{Alike, end-same, file-alike, keeps-same, none-failed, one-failed}
 
 -- what the rest of the files comes to from now on, all of them come to
 abbrev pub Leads : {A B : Type 0} → (B → A → B) → Telling A → B → List (List ℕ) → SourceState → List (List ℕ) → Option SourceState → B → Type 0
 Leads with tells start names s rest now sofar =
-    (t : Option SourceState) (told : _) → IfTells now (λ m. TellsFiles with tells sofar rest m t told) → TellsFiles with tells start names s t told
+    (t : Option SourceState) (reported : _) → IfTells now (λ m. TellsFiles with tells sofar rest m t reported) → TellsFiles with tells start names s t reported
 
 pub leads_begin : {A B : Type 0} (with : B → A → B) (tells : Telling A) (start : B) (names : List (List ℕ)) (o : Option SourceState)
     → IfTells o (λ s. Leads with tells start names s names o start)
 leads_begin with tells start names None = tt
-leads_begin with tells start names (Some s) = λ counts t told h. h counts
+leads_begin with tells start names (Some s) = λ counts t reported h. h counts
 
 pub leads_next : {A B : Type 0} (with : B → A → B) (tells : Telling A) (start : B) (names : List (List ℕ)) (name : List ℕ) (left rest : List (List ℕ))
-    (o now next : Option SourceState) (sofar : B) (told : A) (new : B) → left ≡ name ∷ rest → new ≡ with sofar told
-    → IfTells o (λ s. Leads with tells start names s left now sofar) → IfTells now (λ m. TellsFile tells name m next told)
+    (o now next : Option SourceState) (sofar : B) (reported : A) (new : B) → left ≡ name ∷ rest → new ≡ with sofar reported
+    → IfTells o (λ s. Leads with tells start names s left now sofar) → IfTells now (λ m. TellsFile tells name m next reported)
     → IfTells o (λ s. Leads with tells start names s rest next new)
-leads_next with tells start names name left rest None now next sofar told new is made lead h = tt
-leads_next with tells start names name left rest (Some s) now next sofar told new is made lead h = λ counts t all more.
+leads_next with tells start names name left rest None now next sofar reported new is made lead h = tt
+leads_next with tells start names name left rest (Some s) now next sofar reported new is made lead h = λ counts t all more.
     lead counts t all
     (subst (λ (l : List (List ℕ)). IfTells now (λ m. TellsFiles with tells sofar l m t all)) (sym is)
     (inner now next t all h (subst (λ b. IfTells next (λ n. TellsFiles with tells b rest n t all)) made more)))
   where
-    inner : (now next t : Option SourceState) (all : _) → IfTells now (λ m. TellsFile tells name m next told)
-        → IfTells next (λ n. TellsFiles with tells (with sofar told) rest n t all) → IfTells now (λ m. TellsFiles with tells sofar (name ∷ rest) m t all)
+    inner : (now next t : Option SourceState) (all : _) → IfTells now (λ m. TellsFile tells name m next reported)
+        → IfTells next (λ n. TellsFiles with tells (with sofar reported) rest n t all) → IfTells now (λ m. TellsFiles with tells sofar (name ∷ rest) m t all)
     inner None next t all one more = tt
     inner (Some m) None t all one more = λ c. absurd ((one c).0)
-    inner (Some m) (Some n) t all one more = λ c. (n, told, one c, more)
+    inner (Some m) (Some n) t all one more = λ c. (n, reported, one c, more)
 
 ends : {A B : Type 0} (with : B → A → B) (tells : Telling A) (sofar : B) (now : Option SourceState) → IfTells now (λ m. TellsFiles with tells sofar [] m now sofar)
 ends with tells sofar None = tt
@@ -41,13 +41,13 @@ leads_end with tells start names left (Some s) now sofar is lead = λ counts.
 
 -- ---- sources that are alike tell the same
 
-pub file_same : {A : Type 0} (tells : Telling A) (name : List ℕ) (a b : SourceState) (t : Option SourceState) (told : A) → Alike a b
-    → TellsFile tells name a t told → TellsFile tells name b t told
-file_same tells name a b t told e (keeps, inl (failed, is)) = (keeps-same name a b t e keeps, inl (one-failed a b t name e failed, is))
-file_same tells name a b t told e (keeps, inr (none, end, is)) =
+pub file_same : {A : Type 0} (tells : Telling A) (name : List ℕ) (a b : SourceState) (t : Option SourceState) (reported : A) → Alike a b
+    → TellsFile tells name a t reported → TellsFile tells name b t reported
+file_same tells name a b t reported e (keeps, inl (failed, is)) = (keeps-same name a b t e keeps, inl (one-failed a b t name e failed, is))
+file_same tells name a b t reported e (keeps, inr (none, end, is)) =
     (keeps-same name a b t e keeps, inr (none-failed b a t e.failures none, end-same name a b t e end, is ∙ ap (tells.of_bytes name) (file-alike a b name e)))
 
-pub files_same : {A B : Type 0} (with : B → A → B) (tells : Telling A) (sofar : B) (names : List (List ℕ)) (a b : SourceState) (t : Option SourceState) (told : B) → Alike a b
-    → TellsFiles with tells sofar names a t told → TellsFiles with tells sofar names b t told
-files_same with tells sofar [] a b t told e h = (none-failed b a t e.failures h.0, h.1)
-files_same with tells sofar (name ∷ names) a b t told e (m, first, one, more) = (m, first, file_same tells name a b (Some m) first e one, more)
+pub files_same : {A B : Type 0} (with : B → A → B) (tells : Telling A) (sofar : B) (names : List (List ℕ)) (a b : SourceState) (t : Option SourceState) (reported : B) → Alike a b
+    → TellsFiles with tells sofar names a t reported → TellsFiles with tells sofar names b t reported
+files_same with tells sofar [] a b t reported e h = (none-failed b a t e.failures h.0, h.1)
+files_same with tells sofar (name ∷ names) a b t reported e (m, first, one, more) = (m, first, file_same tells name a b (Some m) first e one, more)

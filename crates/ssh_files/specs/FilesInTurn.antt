@@ -10,12 +10,12 @@ pub record Telling (A : Type 0) : Type 0 where
 
 -- The file of this name tells what its bytes say, and is read to its end; or that a read of it failed. No other file is read.
 abbrev pub TellsFile : {A : Type 0} → Telling A → List ℕ → SourceState → Option SourceState → A → Type 0
-TellsFile tells name s t told = KeepsOthers name s t
-    × ((OneReadFailed s t name × (told ≡ tells.of_fault name)) ⊎ (NoReadFailed s t × ReadToEnd name s t × (told ≡ tells.of_bytes name (bytes_at s name))))
+TellsFile tells name s t reported = KeepsOthers name s t
+    × ((OneReadFailed s t name × (reported ≡ tells.of_fault name)) ⊎ (NoReadFailed s t × ReadToEnd name s t × (reported ≡ tells.of_bytes name (bytes_at s name))))
 
--- One after the other, each whatever came of those before it; what each tells is added to what is told so far.
+-- One after the other, each whatever came of those before it; what each tells is added to what is reported so far.
 abbrev pub TellsFiles : {A B : Type 0} → (B → A → B) → Telling A → B → List (List ℕ) → SourceState → Option SourceState → B → Type 0
-TellsFiles with tells sofar [] s t told = NoReadFailed s t × (told ≡ sofar)
-TellsFiles with tells sofar (name ∷ names) s t told =
+TellsFiles with tells sofar [] s t reported = NoReadFailed s t × (reported ≡ sofar)
+TellsFiles with tells sofar (name ∷ names) s t reported =
     (m : SourceState) × (first : _) × TellsFile tells name s (Some m) first
-    × (m.failures < most_failures → TellsFiles with tells (with sofar first) names m t told)
+    × (m.failures < most_failures → TellsFiles with tells (with sofar first) names m t reported)

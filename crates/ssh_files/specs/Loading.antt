@@ -45,7 +45,7 @@ abbrev pub IsTooLong : Option (List ℕ) → Type 0
 IsTooLong None = ⊥
 IsTooLong (Some bytes) = file_limit < length bytes
 
--- why a reading of these bytes of the file of this name gives none; a file that is missing or empty is told whatever memory
+-- why a reading of these bytes of the file of this name gives none; a file that is missing or empty is reported whatever memory
 -- does
 abbrev pub FailsLoad : List ℕ → Option (List ℕ) → SourceState → Option SourceState → ReadError → Type 0
 FailsLoad name bytes s t fault.Missing = (bytes ≡ None) × NoReadFailed s t
@@ -85,7 +85,7 @@ ReadToEnd name s (Some t) = is_some (within_limit (bytes_at s name)) ≡ true �
 
 -- ---- the first line of standard input
 
--- why the first line of standard input was not read; an empty one is told whatever memory does
+-- why the first line of standard input was not read; an empty one is reported whatever memory does
 abbrev pub FailsLine : SourceState → Option SourceState → ReadError → Type 0
 FailsLine s t fault.Missing = ⊥
 FailsLine s t fault.TooLong = (line_limit < length (first_line s)) × NoReadFailed s t

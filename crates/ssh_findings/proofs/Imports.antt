@@ -13,7 +13,7 @@ pub use Rattle.ssh_findings.specs.Entries.{IsPlace, other_of, IsUnchanged, weigh
 pub use Rattle.ssh_findings.specs.EntryFindings.{has_name_in, lets_nobody_in, names_nobody, permits_bad, refuses_all_in}
 pub use Rattle.ssh_findings.specs.Facts.{bit_count, rsa_size}
 pub use Rattle.ssh_findings.specs.HeldKey.{after_options, is_first, key_after_blanks, read_part, toggled}
-pub use Rattle.ssh_findings.specs.HeldKeysSamples.{applications_read, certified_read, decoys_told, hosts_told, spellings_read}
+pub use Rattle.ssh_findings.specs.HeldKeysSamples.{applications_read, certified_read, decoys_reported, hosts_reported, spellings_read}
 pub use Rattle.ssh_findings.specs.HostFacts.{lower_list}
 pub use Rattle.ssh_findings.specs.HostFindingsEarlier.{same_kind, revokes_blob, is_blob, other_line, revoking, same_line, says_shared, spells_blob, trusting, trusting_line, trusts_blob, trusts_other, revoking_line, says_revoked}
 pub use Rattle.ssh_findings.specs.HostFindingsMemory.{items_bytes, items_sum, kinds_bytes, kinds_sum, entry_sum, host_entry_bytes}

@@ -154,10 +154,10 @@ named-first (Some first) (Some d) f n h = go (is_narrower f d.facts) h
     go false (inl k) = (d, refl, ap line-of k)
     go false (inr k) = cc
 
-pub told : (earlier : List Held) (blob : List ℕ) (f : Facts) (n : ℕ) → NamesFirst (repeat_after earlier blob f) n
+pub reported : (earlier : List Held) (blob : List ℕ) (f : Facts) (n : ℕ) → NamesFirst (repeat_after earlier blob f) n
     → (d : Held) × (shadow earlier blob f ≡ Some d) × (d.line ≡ n)
 unfolding repeat_after
-told earlier blob f n h = named-first (find (λ d. is_of_key blob f.is_authority d) earlier) (shadow earlier blob f) f n h
+reported earlier blob f n h = named-first (find (λ d. is_of_key blob f.is_authority d) earlier) (shadow earlier blob f) f n h
 
 -- ---- a bad list lets nobody in
 

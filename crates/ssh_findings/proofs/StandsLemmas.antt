@@ -127,6 +127,6 @@ authorized text key h = go (is_first 35 text) (key_at text) refl h
     go false None e k = later (after_options false false text) refl k
     go false (Some found) e k = at-front text key (e ∙ k)
 
-pub told-outside : (line : List ℕ) (key : PublicKey) → held_key line ≡ Some key → StandsOutside (read_part line) key
+pub reported-outside : (line : List ℕ) (key : PublicKey) → held_key line ≡ Some key → StandsOutside (read_part line) key
 unfolding held_key
-told-outside line key h = authorized (read_part line) key h
+reported-outside line key h = authorized (read_part line) key h

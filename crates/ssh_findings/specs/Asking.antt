@@ -17,7 +17,7 @@ pub record Asking : Type 0 where
   -- the minimum size of an RSA key, in bits
   pub rsa_minimum : ℕ
   -- the codes of the findings to report
-  pub told : List Code
+  pub reported : List Code
 
 abbrev pub asking_of : ReviewOptions → Asking
 asking_of a = record {
@@ -25,12 +25,12 @@ asking_of a = record {
   zone = plain_zone a.zone.now;
   is_zone_given = a.is_zone_given;
   rsa_minimum = a.rsa_minimum;
-  told = a.told.now;
+  reported = a.reported.now;
 }
 
 -- whether findings with this code are reported
-abbrev pub is_told : Asking → Code → Bool
-is_told asking code = list_any (λ c. same_code c code) asking.told
+abbrev pub is_reported : Asking → Code → Bool
+is_reported asking code = list_any (λ c. same_code c code) asking.reported
 
 -- the size of an RSA key, if it is below the minimum
 abbrev pub short_size : Asking → Option ℕ → Option ℕ

@@ -15,7 +15,7 @@ use Rattle.ssh_findings.specs.Findings.{code_of}
 use Rattle.ssh_findings.specs.Lists.{has_empty_name, has_name, is_bad_list, is_for_any_address}
 use Rattle.ssh_findings.specs.Moments.{is_known_past}
 use Rattle.ssh_findings.specs.OpenSsh.{all_grounds, has_ground, has_short_address, refuses_all}
-use Rattle.ssh_findings.specs.Telling.{told_if, told_some}
+use Rattle.ssh_findings.specs.Telling.{reported_if, reported_some}
 
 -- a `from` list that permits nobody
 abbrev pub permits_bad : Option (List ℕ) → Bool
@@ -66,11 +66,11 @@ may_let_in asking f = not (is_known_past (moment_asked asking.now f) f.until) &&
 -- F5 to F7: a short key; an expiry time that is past in OpenSSH too; a list that permits nobody
 abbrev pub condition_findings : Asking → Facts → List Finding
 condition_findings asking f =
-    told_some code_of asking (option_map finding.ShortKey (short_size asking f.bits))
-    ++ told_if code_of asking (is_known_past (moment_asked asking.now f) f.until) finding.Expired
-    ++ told_if code_of asking (lets_nobody_in f) finding.BadSources
-    ++ told_if code_of asking (lets_nobody_in_here f) finding.SourcesHere
-    ++ told_if code_of asking (names_nobody f) finding.NoPrincipal
+    reported_some code_of asking (option_map finding.ShortKey (short_size asking f.bits))
+    ++ reported_if code_of asking (is_known_past (moment_asked asking.now f) f.until) finding.Expired
+    ++ reported_if code_of asking (lets_nobody_in f) finding.BadSources
+    ++ reported_if code_of asking (lets_nobody_in_here f) finding.SourcesHere
+    ++ reported_if code_of asking (names_nobody f) finding.NoPrincipal
 
 abbrev pub is_security_key : KeyKind → Bool
 is_security_key kind.Rsa = false
@@ -85,11 +85,11 @@ is_security_key kind.SkEd25519 = true
 -- `Z`, where its zone was not given; an address for OpenSSH alone
 abbrev pub reading_findings : Asking → Facts → List Finding
 reading_findings asking f =
-    told_if code_of asking (not f.is_authority && is_some f.principals) finding.PlainPrincipals
-    ++ told_if code_of asking (f.is_authority && has_empty_in f.principals && has_name_in f.principals) finding.EmptyPrincipal
-    ++ told_if code_of asking (not f.is_authority && f.verify_required && not (is_security_key f.kind)) finding.VerifyIgnored
-    ++ told_if code_of asking (f.has_local_time && not asking.is_zone_given) finding.LocalTime
-    ++ told_if code_of asking (has_other_address f) finding.ShortAddress
+    reported_if code_of asking (not f.is_authority && is_some f.principals) finding.PlainPrincipals
+    ++ reported_if code_of asking (f.is_authority && has_empty_in f.principals && has_name_in f.principals) finding.EmptyPrincipal
+    ++ reported_if code_of asking (not f.is_authority && f.verify_required && not (is_security_key f.kind)) finding.VerifyIgnored
+    ++ reported_if code_of asking (f.has_local_time && not asking.is_zone_given) finding.LocalTime
+    ++ reported_if code_of asking (has_other_address f) finding.ShortAddress
 
 -- F9: a command is forced, and TCP ports, the agent or X11 may be forwarded
 abbrev pub forces_but_forwards : Rights → Bool
@@ -103,15 +103,15 @@ permits_any (Some list) = is_for_any_address list
 -- F15 to F19: from any address; any command; never expires; for any principal; no comment
 abbrev pub policy_findings : Asking → Facts → List Finding
 policy_findings asking f =
-    told_if code_of asking (not f.is_authority && permits_any f.from) finding.AnyAddress
-    ++ told_if code_of asking (not f.is_authority && not (is_some f.rights.command)) finding.AnyCommand
-    ++ told_if code_of asking (not f.is_authority && not f.has_expiry) finding.NoExpiry
-    ++ told_if code_of asking (f.is_authority && not (is_some f.principals)) finding.AnyPrincipal
-    ++ told_if code_of asking (length f.comment == 0) finding.NoComment
+    reported_if code_of asking (not f.is_authority && permits_any f.from) finding.AnyAddress
+    ++ reported_if code_of asking (not f.is_authority && not (is_some f.rights.command)) finding.AnyCommand
+    ++ reported_if code_of asking (not f.is_authority && not f.has_expiry) finding.NoExpiry
+    ++ reported_if code_of asking (f.is_authority && not (is_some f.principals)) finding.AnyPrincipal
+    ++ reported_if code_of asking (length f.comment == 0) finding.NoComment
 
 -- F22: each reason for which OpenSSH may refuse the entry
 abbrev pub ground_finding : Asking → Facts → Ground → List Finding
-ground_finding asking f g = told_if code_of asking (has_ground f g) (finding.MayRefuse g)
+ground_finding asking f g = reported_if code_of asking (has_ground f g) (finding.MayRefuse g)
 
 abbrev pub ground_findings : Asking → Facts → List Finding
 ground_findings asking f = flat_map (λ g. ground_finding asking f g) all_grounds
@@ -119,13 +119,13 @@ ground_findings asking f = flat_map (λ g. ground_finding asking f g) all_ground
 -- the findings to report for an entry with this blob, given the earlier entries
 unfoldable pub entry_findings : Asking → List Held → List ℕ → Facts → List Finding
 entry_findings asking earlier blob f =
-    told_some code_of asking (repeat_after earlier blob f)
+    reported_some code_of asking (repeat_after earlier blob f)
     ++ condition_findings asking f
     ++ reading_findings asking f
-    ++ told_if code_of asking (not f.is_authority && forces_but_forwards f.rights) finding.ForcedButForwards
+    ++ reported_if code_of asking (not f.is_authority && forces_but_forwards f.rights) finding.ForcedButForwards
     ++ policy_findings asking f
     ++ ground_findings asking f
 
 -- the findings to report for a line that cannot be read: F1
 abbrev pub unreadable_findings : Asking → LineCause → List Finding
-unreadable_findings asking cause = told_if code_of asking true (finding.Unreadable cause)
+unreadable_findings asking cause = reported_if code_of asking true (finding.Unreadable cause)

@@ -26,25 +26,25 @@ abbrev ed25519_of : List ℕ → Option PublicKey
 ed25519_of base64 = key_of_words (codes "ssh-ed25519") base64
 
 -- a key between quotes is skipped, and `\"` does not end a quote
-abbrev pub DecoysTold : Type 0
-DecoysTold =
+abbrev pub DecoysReported : Type 0
+DecoysReported =
     (held_key (codes "environment=\"A= ssh-ed25519 " ++ other ++ codes " \",touch-required ssh-ed25519 " ++ kept) ≡ ed25519_of kept)
     × (held_key (codes "command=\"a\\\" ssh-ed25519 " ++ other ++ codes " \",x ssh-ed25519 " ++ kept) ≡ ed25519_of kept)
     × (held_key (codes "command=\"ssh-ed25519 " ++ other) ≡ None)
 
-pub decoys_told : DecoysTold
+pub decoys_reported : DecoysReported
 unfolding held_key read_part authorized_key key_at key_of_words word_kind algorithm_kind plain_kind certificate_kind
-decoys_told = (refl, refl, refl)
+decoys_reported = (refl, refl, refl)
 
 -- in known_hosts the key is after the names, and nowhere else
-abbrev pub HostsTold : Type 0
-HostsTold =
+abbrev pub HostsReported : Type 0
+HostsReported =
     (known_held_key (codes "@x h ssh-ed25519 " ++ kept) ≡ ed25519_of kept)
     × (known_held_key (codes "ssh-ed25519 " ++ other ++ codes " ssh-ed25519 " ++ kept) ≡ None)
 
-pub hosts_told : HostsTold
+pub hosts_reported : HostsReported
 unfolding known_held_key read_part host_key key_at key_of_words word_kind algorithm_kind plain_kind certificate_kind
-hosts_told = (refl, refl)
+hosts_reported = (refl, refl)
 
 -- another encoding of the first key's blob: its type is `Ed25519` and a NUL, and its base64 has a CR inside
 abbrev spelled : List ℕ

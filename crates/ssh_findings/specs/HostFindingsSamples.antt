@@ -8,7 +8,7 @@ use Rattle.ssh_options.specs.declared.option_text.LineCause.TheVariants as cause
 use Rattle.ssh_findings.specs.declared.code.Code.{Code}
 use Rattle.ssh_findings.specs.Asking.{Asking}
 use Rattle.ssh_findings.specs.Codes.{all_codes, default_codes}
-use Rattle.ssh_findings.specs.Telling.{told_if}
+use Rattle.ssh_findings.specs.Telling.{reported_if}
 use Rattle.ssh_findings.specs.declared.openssh.Ground.TheVariants as grounds
 use Rattle.ssh_findings.specs.OpenSsh.{has_long_item}
 use Rattle.ssh_findings.specs.declared.host_facts.HostFacts.{HostFacts}
@@ -22,7 +22,7 @@ use Rattle.ssh_findings.specs.Least.{least_line}
 
 -- a review that reports these codes
 abbrev asking : List Code → Asking
-asking told = record { now = 0; zone = UTC; is_zone_given = false; rsa_minimum = 2048; told = told }
+asking reported = record { now = 0; zone = UTC; is_zone_given = false; rsa_minimum = 2048; reported = reported }
 
 -- the facts of an entry: its kind and size, whether it is an authority, and its list of names, or none if they are
 -- hashed
@@ -113,7 +113,7 @@ abbrev rsa_of : ℕ → HostFacts
 rsa_of bits = said Rsa (Some bits) false (codes "h") (Some (codes "h"))
 
 abbrev Found : List Code → List ℕ → HostFacts → List HostFinding → Type 0
-Found told blob f findings = host_entry_findings (asking told) earlier blob f ≡ findings
+Found reported blob f findings = host_entry_findings (asking reported) earlier blob f ≡ findings
 
 -- the findings of entries after them
 abbrev pub EntriesFound : Type 0
@@ -149,7 +149,7 @@ EntriesFound =
     × Found [] two (host Rsa (codes "*")) []
 
 pub entries_found : EntriesFound
-unfolding host_entry_findings findings_by told_if least_line has_long_item
+unfolding host_entry_findings findings_by reported_if least_line has_long_item
 entries_found =
     (refl, refl, refl, refl, refl, refl, refl, refl, refl, refl, refl, refl, refl, refl, refl, refl, refl, refl, refl, refl, refl, refl, refl, refl, refl, refl, refl, refl, refl)
 
@@ -170,5 +170,5 @@ RevocationsFound =
     × (unreadable_host_findings (asking default_codes) causes.Names ≡ finding.Unreadable causes.Names ∷ [])
 
 pub revocations_found : RevocationsFound
-unfolding revocation_findings told_if least_line
+unfolding revocation_findings reported_if least_line
 revocations_found = (refl, refl, refl, refl, refl, refl, refl, refl, refl, refl, refl)

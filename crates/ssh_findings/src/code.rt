@@ -4,7 +4,7 @@ ghost use Rattle.std.specs.Prelude.{◌≡◌, [], false, IfOk, IsOk, OnOk, ◌+
 ghost use Rattle.ssh_findings.specs.Codes.{code_named, code_text, default_codes, named_in, codes_in, listed_codes};
 ghost use Rattle.ssh_patterns.specs.Lists.{pieces};
 ghost use Rattle.ssh_findings.specs.Spare.{is_code_first, takes_codes};
-ghost use Rattle.ssh_findings.specs.Asking.{asking_of, is_told, short_size};
+ghost use Rattle.ssh_findings.specs.Asking.{asking_of, is_reported, short_size};
 
 use jiff::tz::TimeZone;
 use ssh_patterns::first_piece;
@@ -223,15 +223,15 @@ pub struct ReviewOptions<'a> {
     /// The minimum size of an RSA key, in bits.
     pub rsa_minimum: u32,
     /// The codes of the findings to report.
-    pub told: &'a [Code],
+    pub reported: &'a [Code],
 }
 
 impl ReviewOptions<'_> {
     /// Whether findings with this code are reported.
     pub fn tells(&self, code: Code) -> bool
-        ensures { result ≡ is_told (asking_of self.entry.now) code }
+        ensures { result ≡ is_reported (asking_of self.entry.now) code }
     {
-        self.told.contains(&code)
+        self.reported.contains(&code)
     }
 
     /// The size of an RSA key in bits, if it is below the minimum. Does not allocate.

@@ -5,7 +5,7 @@ ghost use Rattle.ssh_findings.specs.Findings.{auth_row, code_of};
 ghost use Rattle.std.specs.Prelude.{◌≡◌, ◌++◌, [], IsOk, OnErr, OnOk};
 ghost use Rattle.ssh_findings.specs.declared.code.Code.{Code as CodeValue};
 ghost use Rattle.ssh_findings.specs.Asking.{asking_of};
-ghost use Rattle.ssh_findings.specs.Telling.{told_if, told_some};
+ghost use Rattle.ssh_findings.specs.Telling.{reported_if, reported_some};
 
 use crate::code::{Code, ReviewOptions};
 use crate::openssh::Ground;
@@ -248,7 +248,7 @@ pub trait Coded: Copy {
 }
 
 /// Adds a finding if it holds and its code is selected. On `Err` nothing is added.
-#[tactic(auto, unfolding(crate::specs::Telling::told_if))]
+#[tactic(auto, unfolding(crate::specs::Telling::reported_if))]
 pub(crate) fn tell<F: Coded>(
     found: &mut Vec<F>,
     asked: &ReviewOptions<'_>,
@@ -256,11 +256,11 @@ pub(crate) fn tell<F: Coded>(
     finding: F,
 ) -> Result<(), AllocError>
     ensures value { OnOk result (found.new.items
-        ≡ found.old.items ++ told_if F.code (asking_of asked.entry.now) holds finding) }
+        ≡ found.old.items ++ reported_if F.code (asking_of asked.entry.now) holds finding) }
     ensures err { OnErr result (found.new.items ≡ found.old.items) }
     // Only a finding that is reported allocates: otherwise the call succeeds even when allocation
     // fails.
-    ensures spare { told_if F.code (asking_of asked.entry.now) holds finding ≡ [] → IsOk result }
+    ensures spare { reported_if F.code (asking_of asked.entry.now) holds finding ≡ [] → IsOk result }
 {
     if holds && asked.tells(finding.code()) {
         found.push(finding)?;
@@ -275,10 +275,10 @@ pub(crate) fn tell_some<F: Coded>(
     finding: Option<F>,
 ) -> Result<(), AllocError>
     ensures value { OnOk result (found.new.items
-        ≡ found.old.items ++ told_some F.code (asking_of asked.entry.now) finding) }
+        ≡ found.old.items ++ reported_some F.code (asking_of asked.entry.now) finding) }
     ensures err { OnErr result (found.new.items ≡ found.old.items) }
     // If nothing is reported, the call succeeds even when allocation fails.
-    ensures spare { told_some F.code (asking_of asked.entry.now) finding ≡ [] → IsOk result }
+    ensures spare { reported_some F.code (asking_of asked.entry.now) finding ≡ [] → IsOk result }
 {
     match finding {
         Some(finding) => tell(found, asked, true, finding),

@@ -28,7 +28,7 @@ ghost use Rattle.ssh_findings.specs.Least.{least_line};
 ghost use Rattle.ssh_findings.specs.HostFindingsEarlier.{revoking_line};
 ghost use Rattle.ssh_findings.specs.Revoked.{revokes};
 ghost use Rattle.ssh_findings.specs.Samples.{FormsSeen, ListsSeen};
-ghost use Rattle.ssh_findings.specs.HeldKeysSamples.{ApplicationsRead, CertifiedRead, DecoysTold, HostsTold, SpellingsRead};
+ghost use Rattle.ssh_findings.specs.HeldKeysSamples.{ApplicationsRead, CertifiedRead, DecoysReported, HostsReported, SpellingsRead};
 ghost use Rattle.ssh_findings.specs.HostFindingsSamples.{EntriesFound, RevocationsFound};
 
 /// A line that an earlier one with the same key shadows never decides a login: the earlier one
@@ -56,7 +56,7 @@ fn shadowed_rule()
         → shadow earlier blob f ≡ Some d
         → may_refuse d.facts ≡ false }
     // F3 and F4 name no other line.
-    ensures told { (earlier : List Held) (blob : List ℕ) (f : FactsValue) (n : ℕ)
+    ensures reported { (earlier : List Held) (blob : List ℕ) (f : FactsValue) (n : ℕ)
         → NamesFirst (repeat_after earlier blob f) n
         → (d : Held) × (shadow earlier blob f ≡ Some d) × (d.line ≡ n) }
 {}
@@ -84,7 +84,7 @@ fn size_rule()
 
 /// A key that is recovered from an authorized_keys line is outside quotes, at its front or after
 /// its options: text between quotes is never reported as a key.
-fn told_rule()
+fn reported_rule()
     ensures { (line : List ℕ) (key : PublicKey)
         → held_key line ≡ Some key
         → StandsOutside (read_part line) key }
@@ -134,9 +134,9 @@ fn lists_as_seen()
 {}
 
 /// The keys that are recovered from worked lines.
-fn lines_as_told()
-    ensures decoys { DecoysTold }
-    ensures hosts { HostsTold }
+fn lines_as_reported()
+    ensures decoys { DecoysReported }
+    ensures hosts { HostsReported }
     ensures spellings { SpellingsRead }
     ensures applications { ApplicationsRead }
     ensures certified { CertifiedRead }

@@ -10,8 +10,8 @@
 //! let AuthLineView::Entry(entry) = read_auth_view(line, &mut buffer) else {
 //!     return Ok(None);
 //! };
-//! let told = Code::by_default();
-//! let asked = ReviewOptions { now, zone, is_zone_given: true, rsa_minimum: 2048, told };
+//! let reported = Code::by_default();
+//! let asked = ReviewOptions { now, zone, is_zone_given: true, rsa_minimum: 2048, reported };
 //! let facts = Facts::read(alloc, zone, &entry)?;
 //! let earlier = Earlier::new(alloc);
 //! Ok(Some(entry_findings(alloc, &asked, &earlier, entry.blob(), &facts)?))

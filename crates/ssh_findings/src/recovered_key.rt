@@ -279,7 +279,7 @@ fn held_of(alloc: Global, key: &KeyView<'_>) -> Result<HeldKey, AllocError>
 }
 
 /// What is reported of a recovered key, if there is one.
-fn told(alloc: Global, key: Option<Key>) -> Result<Option<HeldKey>, AllocError>
+fn reported(alloc: Global, key: Option<Key>) -> Result<Option<HeldKey>, AllocError>
     ensures { IfOk result (λ held. held ≡ option_map held_of key) }
 {
     match key {
@@ -308,7 +308,7 @@ pub fn held_key(alloc: Global, line: &[u8]) -> Result<Option<HeldKey>, AllocErro
     ensures { IfOk result (λ held. held ≡ option_map held_of (held_key line.now)) }
 {
     let key = key_on_line(alloc, line)?;
-    let held = told(alloc, key)?;
+    let held = reported(alloc, key)?;
     Ok(held)
 }
 
@@ -328,6 +328,6 @@ pub fn known_held_key(alloc: Global, line: &[u8]) -> Result<Option<HeldKey>, All
     ensures { IfOk result (λ held. held ≡ option_map held_of (known_held_key line.now)) }
 {
     let key = key_on_known_line(alloc, line)?;
-    let held = told(alloc, key)?;
+    let held = reported(alloc, key)?;
     Ok(held)
 }

@@ -10,8 +10,8 @@ pub one_blob : (a b : PublicKey) → IsKey a → IsKey b → key_blob a ≡ key_
 one_blob a b a_is b_is e = ok_is {E = KeyError} a b (sym (key_again a a_is) ∙ ap key_in e ∙ key_again b b_is)
 
 -- a test of two blobs decides whether their keys are equal
-pub told_blobs : (a b : PublicKey) (s t : List ℕ) → IsKeyBlob a s → IsKeyBlob b t → Decides (bytes_eq s t) (a ≡ b)
-told_blobs a b s t a_is b_is = (
+pub reported_blobs : (a b : PublicKey) (s t : List ℕ) → IsKeyBlob a s → IsKeyBlob b t → Decides (bytes_eq s t) (a ≡ b)
+reported_blobs a b s t a_is b_is = (
   λ yes. one_blob a b a_is.is_key b_is.is_key (sym a_is.spelled ∙ same_text s t (sym yes) ∙ b_is.spelled),
   λ same. (bytes_decides s t).1 (a_is.spelled ∙ ap key_blob same ∙ sym b_is.spelled),
 )

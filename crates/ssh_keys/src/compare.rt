@@ -25,7 +25,7 @@ pub fn rsa_bits(key: &KeyView<'_>) -> Option<u32>
 /// Whether an RSA key has at least so many bits, by `rsa_bits`. True for every other key.
 pub fn rsa_at_least(key: &KeyView<'_>, bits: u32) -> bool
     ensures exact { result ≡ not (is_rsa_below bits (key_of key.now)) }
-    ensures told { IsTrue result ↔ IsRsaAtLeast bits (key_of key.now) }
+    ensures reported { IsTrue result ↔ IsRsaAtLeast bits (key_of key.now) }
 {
     match rsa_bits(key) {
         Some(size) => bits <= size,

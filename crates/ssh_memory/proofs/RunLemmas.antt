@@ -24,7 +24,7 @@ written : (taken : List ℕ) (failures : ℕ) (r : Response) (status : ℕ)
 unfolding failed_in taken_in
 written taken failures r status unfailed (inl (all, same)) = (ap taken_in all, same)
 written taken failures r status unfailed (inr (breaks, same)) =
-    let one : failures ≡ 0 + 1 = ap failed_in breaks.told in absurd (omega (arith, unfailed, one))
+    let one : failures ≡ 0 + 1 = ap failed_in breaks.reported in absurd (omega (arith, unfailed, one))
 
 -- the same of a writer to which nothing was written before
 pub given_by_writer : (first : List ℕ) (before : ℕ) (taken : List ℕ) (failures : ℕ) (r : Response) (status : ℕ)

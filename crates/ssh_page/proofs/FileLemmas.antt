@@ -34,7 +34,7 @@ counts_stay opened f = record { by = refl }
 classes_stay : (opened : Open) (c : ClassesSeen) → Leads (valued opened) (section_classes c) (valued opened)
 unfolding section_classes
 classes_stay opened c =
-    next (next (all_stay (valued opened) class_of (class_stays opened) c.told) (may_stay (valued opened) piece.UnreadableClass c.has_unreadable (record { by = refl }))) (may_stay (valued opened) piece.AuthorityClass c.has_authority (record { by = refl }))
+    next (next (all_stay (valued opened) class_of (class_stays opened) c.reported) (may_stay (valued opened) piece.UnreadableClass c.has_unreadable (record { by = refl }))) (may_stay (valued opened) piece.AuthorityClass c.has_authority (record { by = refl }))
 
 table_leads : (opened : Open) (kind : FileKind) → Leads (within (codes "p" ∷ codes "section" ∷ opened)) (put (table_piece kind)) (within (rows_of_file opened))
 table_leads opened AuthorizedKeys = record { by = refl }

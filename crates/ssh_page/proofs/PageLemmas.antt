@@ -85,9 +85,9 @@ text-page (c ∷ text) h =
 
 -- ---- the page of a document
 
-told-page : (text : List ℕ) → are_low text ≡ true → page (marks (put CodeEnd)) ≡ codes "</code>"
+reported-page : (text : List ℕ) → are_low text ≡ true → page (marks (put CodeEnd)) ≡ codes "</code>"
     → page (text ++ mark CodeEnd ∷ []) ≡ text_html text ++ codes "</code>"
-told-page text h e =
+reported-page text h e =
     flat_map-append mark_html text (mark CodeEnd ∷ []) ∙ ap (λ bytes. bytes ++ page (mark CodeEnd ∷ [])) (text-page text h)
     ∙ ap (λ bytes. text_html text ++ bytes) e
 
@@ -95,15 +95,15 @@ code-ends : page (marks (put CodeEnd)) ≡ codes "</code>"
 unfolding mark markup_at all_markup
 code-ends = refl
 
-told-html : (text : List ℕ) → are_low (escaped_text text) ≡ true → page (marks (tell text)) ≡ html (tell text)
+reported-html : (text : List ℕ) → are_low (escaped_text text) ≡ true → page (marks (tell text)) ≡ html (tell text)
 unfolding mark markup_at all_markup
-told-html text h = ap (λ bytes. codes "<code>" ++ bytes) (told-page (escaped_text text) h code-ends)
+reported-html text h = ap (λ bytes. codes "<code>" ++ bytes) (reported-page (escaped_text text) h code-ends)
 
 pub page-html : (d : Document) → IsOfBytes d → page (marks d) ≡ html d
 page-html nothing h = refl
 page-html (put p) h = append-nil (mark_html (mark p)) ∙ piece-shown p
 page-html (say text) h = text-page (escaped_text text) (escaped-low text h)
-page-html (tell text) h = told-html text (escaped-low text h)
+page-html (tell text) h = reported-html text (escaped-low text h)
 page-html (count n) h = text-page (decimal n) (decimal-low n)
 page-html (a & b) h =
     flat_map-append mark_html (marks a) (marks b) ∙ ap (λ bytes. bytes ++ page (marks b)) (page-html a h.0)

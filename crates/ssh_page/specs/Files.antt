@@ -33,15 +33,15 @@ seen r = record {
   digest = r.digest.now;
 }
 
--- What is told in a file: the codes of its findings, and whether it has an unreadable line, or an authority.
+-- What is reported in a file: the codes of its findings, and whether it has an unreadable line, or an authority.
 pub record ClassesSeen : Type 0 where
-  pub told : List Code
+  pub reported : List Code
   pub has_unreadable : Bool
   pub has_authority : Bool
 
 -- the same of what is in memory
 abbrev pub classes_seen : FileClasses → ClassesSeen
-classes_seen c = record { told = c.told.now; has_unreadable = c.has_unreadable; has_authority = c.has_authority }
+classes_seen c = record { reported = c.reported.now; has_unreadable = c.has_unreadable; has_authority = c.has_authority }
 
 -- ---- the section of a file
 
@@ -57,7 +57,7 @@ counts_part f =
 -- the classes of a section, which a choice on the page looks for
 unfoldable pub section_classes : ClassesSeen → Document
 section_classes c =
-    each class_of c.told & put_if c.has_unreadable piece.UnreadableClass & put_if c.has_authority piece.AuthorityClass
+    each class_of c.reported & put_if c.has_unreadable piece.UnreadableClass & put_if c.has_authority piece.AuthorityClass
 
 abbrev pub table_piece : FileKind → Piece
 table_piece AuthorizedKeys = piece.KeysTable

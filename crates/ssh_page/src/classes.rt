@@ -19,7 +19,7 @@ pub enum Urgency {
     Soon,
     /// Lines that let nobody in, or never decide.
     TidyUp,
-    /// Told because it was asked for: a policy may want it otherwise.
+    /// Reported because it was asked for: a policy may want it otherwise.
     Policy,
 }
 

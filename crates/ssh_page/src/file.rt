@@ -12,7 +12,7 @@ ghost use Rattle.ssh_page.specs.Classes.{class_of};
 ghost use Rattle.ssh_page.specs.declared.piece.Piece.TheVariants.{Register, TableEnd};
 
 use crate::classes::push_class;
-use crate::marks::{push_piece, push_told};
+use crate::marks::{push_piece, push_reported};
 use crate::piece::Piece;
 use crate::record::push_if;
 use ssh_findings::Code;
@@ -39,11 +39,11 @@ pub struct FileRow<'a> {
     pub digest: &'a [u8],
 }
 
-/// What is told in a file: the codes of its findings, and whether a line of it cannot be read, or
+/// What is reported in a file: the codes of its findings, and whether a line of it cannot be read, or
 /// has a certificate authority.
 #[derive(Clone, Copy, Debug)]
 pub struct FileClasses<'a> {
-    pub told: &'a [Code],
+    pub reported: &'a [Code],
     pub has_unreadable: bool,
     pub has_authority: bool,
 }
@@ -56,7 +56,7 @@ fn push_name(out: &mut Vec<u8>, file: u64, name: &[u8]) -> Result<(), AllocError
     push_piece(out, Piece::FileId)?;
     push_number(out, file)?;
     push_piece(out, Piece::SectionName)?;
-    push_told(out, name)?;
+    push_reported(out, name)?;
     push_piece(out, Piece::SectionSays)?;
     Ok(())
 }
@@ -77,10 +77,10 @@ fn push_counts(out: &mut Vec<u8>, row: &FileRow<'_>) -> Result<(), AllocError>
     Ok(())
 }
 
-fn push_each_class(out: &mut Vec<u8>, told: &[Code]) -> Result<(), AllocError>
-    ensures { OnOk result (out.new.items ≡ out.old.items ++ marks (each class_of told.now)) }
+fn push_each_class(out: &mut Vec<u8>, reported: &[Code]) -> Result<(), AllocError>
+    ensures { OnOk result (out.new.items ≡ out.old.items ++ marks (each class_of reported.now)) }
 {
-    for code in told {
+    for code in reported {
         push_class(out, *code)?;
     }
     Ok(())
@@ -91,7 +91,7 @@ fn push_section_classes(out: &mut Vec<u8>, classes: &FileClasses<'_>) -> Result<
     ensures { OnOk result (out.new.items
         ≡ out.old.items ++ marks (section_classes (classes_seen classes.entry.now))) }
 {
-    push_each_class(out, classes.told)?;
+    push_each_class(out, classes.reported)?;
     push_if(out, classes.has_unreadable, Piece::UnreadableClass)?;
     push_if(out, classes.has_authority, Piece::AuthorityClass)?;
     Ok(())
@@ -187,7 +187,7 @@ fn push_file_link(out: &mut Vec<u8>, file: u64, name: &[u8]) -> Result<(), Alloc
     push_piece(out, Piece::FileRow)?;
     push_number(out, file)?;
     push_piece(out, Piece::FileName)?;
-    push_told(out, name)?;
+    push_reported(out, name)?;
     Ok(())
 }
 

@@ -17,7 +17,7 @@ pub(crate) fn push_piece(out: &mut Vec<u8>, piece: Piece) -> Result<(), AllocErr
 }
 
 /// Appends a text of a file.
-pub(crate) fn push_told(out: &mut Vec<u8>, text: &[u8]) -> Result<(), AllocError>
+pub(crate) fn push_reported(out: &mut Vec<u8>, text: &[u8]) -> Result<(), AllocError>
     ensures { OnOk result (out.new.items ≡ out.old.items ++ marks (tell text.now)) }
 {
     push_piece(out, Piece::Code)?;

@@ -7,7 +7,7 @@ ghost use Rattle.ssh_page.specs.Documents.{each, marks, put};
 ghost use Rattle.ssh_page.specs.Records.{all_limits, bits_part, carried_part, put_if, command_part, comment_part, entry_cells, entry_row, fingerprint_part, flag_part, held_part, is_free, is_free_of_flags, is_free_of_lists, is_free_to_run, key_part, limits_part, right_marks, right_piece, rights_part, row_numbers, setting_part, unreadable_row, until_part, words_part};
 
 use crate::finding::{push_classes, push_findings};
-use crate::marks::{push_piece, push_told};
+use crate::marks::{push_piece, push_reported};
 use crate::piece::Piece;
 use ssh_findings::{Facts, Finding, HeldKey};
 use ssh_keys::KeyKind;
@@ -56,7 +56,7 @@ pub(crate) fn push_comment(out: &mut Vec<u8>, comment: &[u8]) -> Result<(), Allo
     if comment.is_empty() {
         push_piece(out, Piece::NoComment)
     } else {
-        push_told(out, comment)
+        push_reported(out, comment)
     }
 }
 
@@ -119,7 +119,7 @@ pub(crate) fn push_value(out: &mut Vec<u8>, word: &[u8], text: &[u8]) -> Result<
 {
     push_piece(out, Piece::Limit)?;
     push_shown(out, word)?;
-    push_told(out, text)?;
+    push_reported(out, text)?;
     push_piece(out, Piece::LimitEnd)?;
     Ok(())
 }
@@ -193,7 +193,7 @@ fn push_carried(out: &mut Vec<u8>, carried: &Carried) -> Result<(), AllocError>
     push_shown(out, b"carry ")?;
     push_shown(out, carried_word(carried.name))?;
     push_shown(out, b" ")?;
-    push_told(out, carried.text.as_slice())?;
+    push_reported(out, carried.text.as_slice())?;
     push_piece(out, Piece::LimitEnd)?;
     Ok(())
 }

@@ -29,8 +29,8 @@ pub line_given : (claim : HostClaim) (file : List ℕ) (vouched : List Signed) (
     → vouched ≡ host_evidence claim → is_out_of_memory answer ≡ false
     → GivesOrMemory (host_answer file claim vouched) answer → line ≡ granting_line answer → line ≡ trusting_line claim file
 unfolding trusting_line
-line_given claim file vouched answer line is spared given told =
-    told ∙ (ap granting_line (sym (answer-given (host_answer file claim vouched) answer spared given)) ∙ ap (λ (v : List Signed). granting_line (host_answer file claim v)) is)
+line_given claim file vouched answer line is spared given reported =
+    reported ∙ (ap granting_line (sym (answer-given (host_answer file claim vouched) answer spared given)) ∙ ap (λ (v : List Signed). granting_line (host_answer file claim v)) is)
 
 -- ---- the claim of a query with another port
 

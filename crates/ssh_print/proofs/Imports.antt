@@ -48,7 +48,7 @@ pub use Rattle.ssh_print.specs.ShownBodies.{IsHalfText, IsSignatureText}
 pub use Rattle.ssh_print.specs.ShownTexts.{IsDateText, IsCertText, IsShownKey, cert_lines, clock_text, key_lines, option_line}
 pub use Rattle.ssh_print.specs.StandIn.{stand_in_signature}
 pub use Rattle.ssh_print.specs.Strings.{quoted_byte, is_verbatim, read_rest, read_string, with_byte}
-pub use Rattle.ssh_print.specs.Table.{told, is_of, CodeRow, sections}
+pub use Rattle.ssh_print.specs.Table.{reported, is_of, CodeRow, sections}
 pub use Rattle.ssh_print.specs.TextParts.{part_bytes, text_bytes}
 pub use Rattle.ssh_print.specs.Texts.{escaped_text, hex_digit, hex_digits, hex_text, hex_pair, is_plain_byte, text_line, escaped_byte}
 pub use Rattle.ssh_print.specs.declared.possible.WhyPossible.{WhyPossible}

@@ -1,5 +1,5 @@
 -- Rows and sections of the table, in memory and as values.
-use Rattle.ssh_print.proofs.Imports.{◌≡◌, ℕ, ◌+◌, ◌<◌, Bool, cond, not, inl, inr, List, [], ◌∷◌, ◌++◌, map, length, drop, get_or, Option, Some, None, option_map, find, Bor, refl, sym, ap, subst, ◌∙◌, flat_map, position, position_or_len, option_or, cases_Bool, at_drop_more, length-map, flat_map-cons, find-append, flat_map-map, flat_map-append, CodeRow, told, is_of, sections}
+use Rattle.ssh_print.proofs.Imports.{◌≡◌, ℕ, ◌+◌, ◌<◌, Bool, cond, not, inl, inr, List, [], ◌∷◌, ◌++◌, map, length, drop, get_or, Option, Some, None, option_map, find, Bor, refl, sym, ap, subst, ◌∙◌, flat_map, position, position_or_len, option_or, cases_Bool, at_drop_more, length-map, flat_map-cons, find-append, flat_map-map, flat_map-append, CodeRow, reported, is_of, sections}
 use Rattle.ssh_print.specs.Table.{row_of, table}
 
 abbrev Texts : Type 0
@@ -8,16 +8,16 @@ Texts = Bor (List ℕ) × Bor (List ℕ) × Bor (List ℕ)
 -- ---- rows
 
 found-row : (test : CodeRow → Bool) (rows : List Texts)
-    → option_map told (find (λ row. test (told row)) rows) ≡ find test (map told rows)
+    → option_map reported (find (λ row. test (reported row)) rows) ≡ find test (map reported rows)
 found-row test [] = refl
 found-row test (row ∷ rows) =
-    elim (cases_Bool (test (told row))) [ inl e ↦ rw e refl | inr e ↦ rw e (found-row test rows) ]
+    elim (cases_Bool (test (reported row))) [ inl e ↦ rw e refl | inr e ↦ rw e (found-row test rows) ]
 
 -- what is found among rows in memory is what is found among their values
 pub row_found : (test : CodeRow → Bool) (rows : List Texts) (row : Option Texts)
-    → option_map (λ r. r) row ≡ find (λ r. test (told r)) rows → option_map told row ≡ find test (map told rows)
-row_found test rows None h = ap (option_map told) h ∙ found-row test rows
-row_found test rows (Some row) h = ap (option_map told) h ∙ found-row test rows
+    → option_map (λ r. r) row ≡ find (λ r. test (reported r)) rows → option_map reported row ≡ find test (map reported rows)
+row_found test rows None h = ap (option_map reported) h ∙ found-row test rows
+row_found test rows (Some row) h = ap (option_map reported) h ∙ found-row test rows
 
 -- ---- sections
 
@@ -25,7 +25,7 @@ abbrev Section : Type 0
 Section = Bor (List Texts)
 
 abbrev view : Section → List CodeRow
-view section = map told section.now
+view section = map reported section.now
 
 -- the sections in memory have the rows of the table
 pub all_rows : (found : List Section) → map view found ≡ sections → flat_map view (drop 0 found) ≡ table

@@ -20,7 +20,7 @@ use Rattle.ssh_print.specs.KnownPossible.{known_possible_lines}
 use Rattle.ssh_print.specs.AnswerText.{indent}
 use Rattle.ssh_print.specs.PassedOver.{claim_counted, claim_revoking, file_firm}
 use Rattle.ssh_print.specs.Details.{host_details}
-use Rattle.ssh_print.specs.OtherLines.{OtherLines, decides_line, nothing_other, other_both, possible_line, possible_text, told_other}
+use Rattle.ssh_print.specs.OtherLines.{OtherLines, decides_line, nothing_other, other_both, possible_line, possible_text, reported_other}
 
 -- ---- lines that cannot be read
 
@@ -152,4 +152,4 @@ claim_other claim file (Denied why reasons evidence) =
 
 -- after the details of the decision
 abbrev pub other_host : HostClaim → List ℕ → Decision → OtherLines
-other_host claim file decision = other_both (told_other (host_details claim file decision)) (claim_other claim file decision)
+other_host claim file decision = other_both (reported_other (host_details claim file decision)) (claim_other claim file decision)

@@ -27,7 +27,7 @@ use Rattle.ssh_print.specs.declared.possible.WhyPossible.TheVariants as why
 use Rattle.ssh_print.specs.Admitting.{first_line}
 use Rattle.ssh_print.specs.AnswerText.{indent}
 use Rattle.ssh_print.specs.Details.{login_details}
-use Rattle.ssh_print.specs.PossibleLines.{possible_lines, possible_words, untold_lines}
+use Rattle.ssh_print.specs.PossibleLines.{possible_lines, possible_words, unreported_lines}
 
 -- lines, and whether OpenSSH may admit, by one of them, what is not admitted here
 pub record OtherLines : Type 0 where
@@ -74,9 +74,9 @@ possible_other claim before file =
     record { may_admit = nat_lt 0 (length lines); text = possible_text Client (is_some before) lines }
 
 -- the lines of a file by which OpenSSH may admit any key
-unfoldable pub untold_other : List ℕ → OtherLines
-untold_other file =
-    let lines = take 101 (untold_lines (numbered 1 (lines_of file))) in
+unfoldable pub unreported_other : List ℕ → OtherLines
+unreported_other file =
+    let lines = take 101 (unreported_lines (numbered 1 (lines_of file))) in
     record { may_admit = nat_lt 0 (length lines); text = possible_text Client false lines }
 
 -- ---- a line that OpenSSH may refuse
@@ -167,9 +167,9 @@ login_other claim file (Denied why reasons evidence) =
     other_both (possible_other claim None file) (other_cause claim file why)
 
 -- lines by which nobody is let in
-abbrev pub told_other : List ℕ → OtherLines
-told_other text = record { may_admit = false; text = text }
+abbrev pub reported_other : List ℕ → OtherLines
+reported_other text = record { may_admit = false; text = text }
 
 -- after the details of the decision
 abbrev pub other_login : LoginClaim → List ℕ → Decision → OtherLines
-other_login claim file decision = other_both (told_other (login_details claim file decision)) (login_other claim file decision)
+other_login claim file decision = other_both (reported_other (login_details claim file decision)) (login_other claim file decision)

@@ -16,8 +16,8 @@ abbrev pub code_row : Row → CodeRow
 code_row row = record { code = row.code.now; sentence = row.sentence.now; remedy = row.remedy.now }
 
 -- the same of three texts in memory
-abbrev pub told : Bor (List ℕ) × Bor (List ℕ) × Bor (List ℕ) → CodeRow
-told row = record { code = row.0.now; sentence = row.1.now; remedy = row.2.now }
+abbrev pub reported : Bor (List ℕ) × Bor (List ℕ) × Bor (List ℕ) → CodeRow
+reported row = record { code = row.0.now; sentence = row.1.now; remedy = row.2.now }
 
 -- ---- the table: its texts are in the source, and nowhere else
 

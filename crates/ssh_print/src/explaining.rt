@@ -1,7 +1,7 @@
 //! The rows of the table of codes, and the lines that `explain` prints for codes.
 
 ghost use Rattle.std.specs.Prelude.{◌≡◌, find, map, option_map, ◌++◌, ◌↔◌, ℕ, length, IfOk, IsOk, OnOk};
-ghost use Rattle.ssh_print.specs.Table.{is_of, row_of, code_row, told, sections, table};
+ghost use Rattle.ssh_print.specs.Table.{is_of, row_of, code_row, reported, sections, table};
 ghost use Rattle.std.specs.List.{flat_map};
 ghost use Rattle.ssh_print.specs.declared.explaining.ExplainError.TheVariants.{Memory};
 ghost use Rattle.ssh_print.specs.Explaining.{code_line, first_unknown_code, is_unknown, row_text};
@@ -25,7 +25,7 @@ pub struct Row {
 
 /// A row from its three texts in the source.
 pub(crate) fn row_from(texts: Texts) -> Row
-    ensures { code_row result ≡ told texts.entry }
+    ensures { code_row result ≡ reported texts.entry }
 {
     Row {
         code: texts.0,
@@ -35,7 +35,7 @@ pub(crate) fn row_from(texts: Texts) -> Row
 }
 
 fn texts_in(section: &[Texts], code: &str) -> Option<Texts>
-    ensures { option_map told result ≡ find (is_of code.now) (map told section.now) }
+    ensures { option_map reported result ≡ find (is_of code.now) (map reported section.now) }
 {
     section.iter().copied().find(|row| row.0 == code)
 }
@@ -54,70 +54,70 @@ pub fn row_of(code: &str) -> Option<Row>
 
 #[tactic(auto, unfolding(crate::specs::Table::answers))]
 fn answers() -> &'static [Texts]
-    ensures { map told result.now ≡ table.answers }
+    ensures { map reported result.now ≡ table.answers }
 {
     &ANSWERS
 }
 
 #[tactic(auto, unfolding(crate::specs::Table::reasons))]
 fn reasons() -> &'static [Texts]
-    ensures { map told result.now ≡ table.reasons }
+    ensures { map reported result.now ≡ table.reasons }
 {
     &REASONS
 }
 
 #[tactic(auto, unfolding(crate::specs::Table::lines))]
 fn lines() -> &'static [Texts]
-    ensures { map told result.now ≡ table.lines }
+    ensures { map reported result.now ≡ table.lines }
 {
     &LINES
 }
 
 #[tactic(auto, unfolding(crate::specs::Table::findings))]
 fn findings() -> &'static [Texts]
-    ensures { map told result.now ≡ table.findings }
+    ensures { map reported result.now ≡ table.findings }
 {
     &FINDINGS
 }
 
 #[tactic(auto, unfolding(crate::specs::Table::faults))]
 fn faults() -> &'static [Texts]
-    ensures { map told result.now ≡ table.faults }
+    ensures { map reported result.now ≡ table.faults }
 {
     &FAULTS
 }
 
 #[tactic(auto, unfolding(crate::specs::Table::keys))]
 fn keys() -> &'static [Texts]
-    ensures { map told result.now ≡ table.keys }
+    ensures { map reported result.now ≡ table.keys }
 {
     &KEYS
 }
 
 #[tactic(auto, unfolding(crate::specs::Table::certificates))]
 fn certificates() -> &'static [Texts]
-    ensures { map told result.now ≡ table.certificates }
+    ensures { map reported result.now ≡ table.certificates }
 {
     &CERTIFICATES
 }
 
 #[tactic(auto, unfolding(crate::specs::Table::fields))]
 fn fields() -> &'static [Texts]
-    ensures { map told result.now ≡ table.fields }
+    ensures { map reported result.now ≡ table.fields }
 {
     &FIELDS
 }
 
 #[tactic(auto, unfolding(crate::specs::Table::bodies))]
 fn bodies() -> &'static [Texts]
-    ensures { map told result.now ≡ table.bodies }
+    ensures { map reported result.now ≡ table.bodies }
 {
     &BODIES
 }
 
 /// The sections of the table, in the order of docs/CODES.md.
 pub(crate) fn sections() -> [&'static [Texts]; 9]
-    ensures { map (λ section. map told section.now) result ≡ sections }
+    ensures { map (λ section. map reported section.now) result ≡ sections }
 {
     [
         answers(),
@@ -163,7 +163,7 @@ fn push_row(out: &mut Vec<u8>, row: Row) -> Result<(), AllocError>
 }
 
 fn push_section(out: &mut Vec<u8>, section: &[Texts]) -> Result<(), AllocError>
-    ensures { OnOk result (out.new.items ≡ out.old.items ++ flat_map row_text (map told section.now)) }
+    ensures { OnOk result (out.new.items ≡ out.old.items ++ flat_map row_text (map reported section.now)) }
 {
     for texts in section {
         push_row(out, row_from(*texts))?;

@@ -55,7 +55,7 @@ pub use escaped::{EscapedPiece, PIECE_LIMIT, push_json_text, push_shown};
 pub use explaining::{ExplainError, Row, explain, explain_all, row_of};
 pub use fingerprint_key::{absent_text, find_key};
 pub use host_otherwise::other_host;
-pub use otherwise::{Otherwise, nothing_other, other_login, other_untold};
+pub use otherwise::{Otherwise, nothing_other, other_login, other_unreported};
 pub use response::{
     DONE, FAULT, HexPiece, Response, audit_fault, decision_response, fault_response, file_fault,
     usage_fault, value_fault, vouch_fault,

@@ -7,13 +7,13 @@ ghost use Rattle.ssh_keys.specs.KeyOf.{key_of};
 ghost use Rattle.ssh_keys.specs.PublicKey.{kind_of};
 ghost use Rattle.ssh_findings.specs.OpenSsh.{has_plain_principals};
 ghost use Rattle.ssh_offers.specs.ClaimViews.{claim_of};
-ghost use Rattle.ssh_print.specs.OtherLines.{ground_text, decides_line, decides_lines, decides_words, deeper_rights, grounds_text, ignored_at, ignored_other, login_other, line_word, may_words, more_line, nothing_other, order_word, other_both, other_cause, other_login, otherwise_seen, told_other, possible_line, possible_other, possible_text, principals_word, refused_lines, refused_other, then_lines, untold_other};
+ghost use Rattle.ssh_print.specs.OtherLines.{ground_text, decides_line, decides_lines, decides_words, deeper_rights, grounds_text, ignored_at, ignored_other, login_other, line_word, may_words, more_line, nothing_other, order_word, other_both, other_cause, other_login, otherwise_seen, reported_other, possible_line, possible_other, possible_text, principals_word, refused_lines, refused_other, then_lines, unreported_other};
 
 use crate::admission_text::Subject;
 use crate::asked_key::{Admitting, first_line};
 use crate::decision_text::rights_lines;
 use crate::details::login_details;
-use crate::possible::{WhyPossible, possible_lines, untold_lines};
+use crate::possible::{WhyPossible, possible_lines, unreported_lines};
 use crate::shown_needs::is_security_key;
 use crate::text::push_number;
 use ssh_findings::{Facts, Ground, has_ground, may_refuse};
@@ -52,8 +52,8 @@ pub fn nothing_other(alloc: Global) -> Otherwise
 }
 
 /// Lines by which nobody is let in.
-pub(crate) fn told_other(text: Vec<u8>) -> Otherwise
-    ensures { otherwise_seen result ≡ told_other text.items }
+pub(crate) fn reported_other(text: Vec<u8>) -> Otherwise
+    ensures { otherwise_seen result ≡ reported_other text.items }
 {
     Otherwise {
         may_admit: false,
@@ -431,18 +431,18 @@ pub fn other_login(
     let matcher = LoginMatcher::new(alloc, claim)?;
     let details = login_details(alloc, &matcher, file, decision)?;
     let more = other_of(alloc, &matcher, file, decision)?;
-    let other = other_both(told_other(details), &more)?;
+    let other = other_both(reported_other(details), &more)?;
     Ok(other)
 }
 
 /// What is printed after a denial of a key that no line of an authorized_keys file holds: the first
 /// 100 lines by which OpenSSH may admit any key, since they cannot be read here and no key was
 /// recovered from them.
-#[tactic(auto, unfolding(crate::specs::OtherLines::untold_other))]
-pub fn other_untold(alloc: Global, file: &[u8]) -> Result<Otherwise, AllocError>
-    ensures { IfOk result (λ other. otherwise_seen other ≡ untold_other file.now) }
+#[tactic(auto, unfolding(crate::specs::OtherLines::unreported_other))]
+pub fn other_unreported(alloc: Global, file: &[u8]) -> Result<Otherwise, AllocError>
+    ensures { IfOk result (λ other. otherwise_seen other ≡ unreported_other file.now) }
 {
-    let lines = untold_lines(alloc, file)?;
+    let lines = unreported_lines(alloc, file)?;
     let mut text = Vec::new(alloc);
     push_possible_text(&mut text, Subject::Client, false, &lines)?;
     Ok(Otherwise {

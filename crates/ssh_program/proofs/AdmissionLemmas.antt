@@ -1,5 +1,5 @@
 -- From what a trust file decides to what a list of them tells, and from that to what is answered about a key.
-use Rattle.ssh_program.proofs.Imports.{ReadToEnd, end-same, left-end, no-end, ◌≡◌, ◌∙◌, ◌<◌, ℕ, false, List, length, Option, Some, None, Result, Ok, Err, refl, sym, ap, subst, inl, inr, IfOk, lt-ltb, IfTells, SourceState, bytes_at, most_failures, after_whole, top_line, FailsLoad, IsLeft, IsTooLong, KeepsOthers, NoReadFailed, within_limit, ReadError, AuditError, Offer, Signature, WrongAlgorithm, WeakSignature, CertSignature, Address, FileTooLong, Memory, Read, Failed, Body, Salts, Signed, GivesOrMemory, OfClaim, RefusesAs, Decision, refused_response, ShowError, Offered, shown_offer_in, IsFaultOfShow, show_fault_response, Finds, line-offered, TellsFile, TellsFiles, KeyAsking, Otherness, IsToldUnread, beside_answer, told_by, told_over, unread_fault, AsksBy, AsksFiles, AsksKey, AsksOffer, ToldLines, told_both, nothing_told, offer_or_fault, or_shown_fault, telling, told_of, told_response, Deciding, answer_by, IsFaultOf, is_memory, Alike, file-alike, keeps-same, left-none, none-failed, one-failed, over_limit, read-all, file_limit, nothing_other, told_alone_by}
+use Rattle.ssh_program.proofs.Imports.{ReadToEnd, end-same, left-end, no-end, ◌≡◌, ◌∙◌, ◌<◌, ℕ, false, List, length, Option, Some, None, Result, Ok, Err, refl, sym, ap, subst, inl, inr, IfOk, lt-ltb, IfTells, SourceState, bytes_at, most_failures, after_whole, top_line, FailsLoad, IsLeft, IsTooLong, KeepsOthers, NoReadFailed, within_limit, ReadError, AuditError, Offer, Signature, WrongAlgorithm, WeakSignature, CertSignature, Address, FileTooLong, Memory, Read, Failed, Body, Salts, Signed, GivesOrMemory, OfClaim, RefusesAs, Decision, refused_response, ShowError, Offered, shown_offer_in, IsFaultOfShow, show_fault_response, Finds, line-offered, TellsFile, TellsFiles, KeyAsking, Otherness, IsReportedUnread, beside_answer, reported_by, reported_over, unread_fault, AsksBy, AsksFiles, AsksKey, AsksOffer, ReportedLines, reported_both, nothing_reported, offer_or_fault, or_shown_fault, telling, reported_of, reported_response, Deciding, answer_by, IsFaultOf, is_memory, Alike, file-alike, keeps-same, left-none, none-failed, one-failed, over_limit, read-all, file_limit, nothing_other, reported_alone_by}
 use Rattle.ssh_review.specs.Asked.{Asked}
 use Rattle.ssh_program.specs.declared.admission.AnswerForm.{AnswerForm}
 use Rattle.ssh_files.specs.declared.read.ReadError.TheVariants as fault
@@ -23,51 +23,51 @@ answer-given given (Err Failed) spared h = h
 answer-given given (Err (Body x)) spared h = h
 answer-given given (Err Salts) spared h = h
 
--- what is told by an answer that is given
-pub bytes_told : (who : AnswerForm) (by : Deciding) (beside : Otherness) (evidence : List Signed) (name file : List ℕ) (answer : Result Decision AuditError) (told : ToldLines)
-    → is_memory answer ≡ false → GivesOrMemory (answer_by by file evidence) answer → told ≡ told_of who name (beside_answer beside file answer) answer
-    → told ≡ told_by who by beside evidence name file
-bytes_told who by beside evidence name file answer told spared given is =
-    is ∙ ap (λ (a : Result Decision AuditError). told_of who name (beside_answer beside file a) a) (sym (answer-given (answer_by by file evidence) answer spared given))
+-- what is reported by an answer that is given
+pub bytes_reported : (who : AnswerForm) (by : Deciding) (beside : Otherness) (evidence : List Signed) (name file : List ℕ) (answer : Result Decision AuditError) (reported : ReportedLines)
+    → is_memory answer ≡ false → GivesOrMemory (answer_by by file evidence) answer → reported ≡ reported_of who name (beside_answer beside file answer) answer
+    → reported ≡ reported_by who by beside evidence name file
+bytes_reported who by beside evidence name file answer reported spared given is =
+    is ∙ ap (λ (a : Result Decision AuditError). reported_of who name (beside_answer beside file a) a) (sym (answer-given (answer_by by file evidence) answer spared given))
 
 -- a file that was read
-pub file_told : {R E : Type 0} (view : R → ToldLines) (who : AnswerForm) (by : Deciding) (beside : Otherness) (evidence : List Signed) (name file bytes : List ℕ) (o t : Option SourceState) (res : Result R E) → bytes ≡ file
+pub file_reported : {R E : Type 0} (view : R → ReportedLines) (who : AnswerForm) (by : Deciding) (beside : Otherness) (evidence : List Signed) (name file bytes : List ℕ) (o t : Option SourceState) (res : Result R E) → bytes ≡ file
     → IfTells o (λ s. (within_limit (bytes_at s name) ≡ Some file) × IsLeft s (after_whole s name) t) → IfTells o (λ s. KeepsOthers name s t)
-    → IfOk res (λ r. view r ≡ told_by who by beside evidence name bytes)
+    → IfOk res (λ r. view r ≡ reported_by who by beside evidence name bytes)
     → IfTells o (λ s. IfOk res (λ r. TellsFile (telling who by beside evidence) name s t (view r)))
-file_told view who by beside evidence name file bytes None t res is loads keeps h = tt
-file_told view who by beside evidence name file bytes (Some s) t (Err e) is loads keeps h = λ counts. tt
-file_told view who by beside evidence name file bytes (Some s) t (Ok r) is loads keeps h = λ counts.
+file_reported view who by beside evidence name file bytes None t res is loads keeps h = tt
+file_reported view who by beside evidence name file bytes (Some s) t (Err e) is loads keeps h = λ counts. tt
+file_reported view who by beside evidence name file bytes (Some s) t (Ok r) is loads keeps h = λ counts.
     let load = loads counts in (
       keeps counts,
       inr (
         left-none s (after_whole s name) t load.1,
         left-end name s t load.1,
-        h ∙ (ap (told_by who by beside evidence name) is ∙ ap (told_over who by beside evidence name) (sym (read-all (bytes_at s name) file load.0))),
+        h ∙ (ap (reported_by who by beside evidence name) is ∙ ap (reported_over who by beside evidence name) (sym (read-all (bytes_at s name) file load.0))),
       ),
     )
 
-told-missing : (who : AnswerForm) (by : Deciding) (beside : Otherness) (evidence : List Signed) (name : List ℕ) → told_over who by beside evidence name None ≡ told_of who name nothing_other (Err (unread_fault by fault.Missing))
-told-missing who (Ok decision) beside evidence name = refl
-told-missing who (Err e) beside evidence name = refl
+reported-missing : (who : AnswerForm) (by : Deciding) (beside : Otherness) (evidence : List Signed) (name : List ℕ) → reported_over who by beside evidence name None ≡ reported_of who name nothing_other (Err (unread_fault by fault.Missing))
+reported-missing who (Ok decision) beside evidence name = refl
+reported-missing who (Err e) beside evidence name = refl
 
-told-long : (who : AnswerForm) (by : Deciding) (beside : Otherness) (evidence : List Signed) (name : List ℕ) (bytes : Option (List ℕ)) → IsTooLong bytes
-    → told_over who by beside evidence name bytes ≡ told_of who name nothing_other (Err (unread_fault by fault.TooLong))
-told-long who by beside evidence name None h = absurd h
-told-long who (Ok decision) beside evidence name (Some bytes) h = rw (lt-ltb file_limit (length bytes) h) refl
-told-long who (Err e) beside evidence name (Some bytes) h = refl
+reported-long : (who : AnswerForm) (by : Deciding) (beside : Otherness) (evidence : List Signed) (name : List ℕ) (bytes : Option (List ℕ)) → IsTooLong bytes
+    → reported_over who by beside evidence name bytes ≡ reported_of who name nothing_other (Err (unread_fault by fault.TooLong))
+reported-long who by beside evidence name None h = absurd h
+reported-long who (Ok decision) beside evidence name (Some bytes) h = rw (lt-ltb file_limit (length bytes) h) refl
+reported-long who (Err e) beside evidence name (Some bytes) h = refl
 
-unread-by : (who : AnswerForm) (by : Deciding) (beside : Otherness) (evidence : List Signed) (name : List ℕ) (s : SourceState) (t : Option SourceState) (e : ReadError) (told : ToldLines) → FailsLoad name (bytes_at s name) s t e
-    → KeepsOthers name s t → IsToldUnread who by name e told → TellsFile (telling who by beside evidence) name s t told
-unread-by who by beside evidence name s t fault.Missing told fails keeps is =
-    (keeps, inr (fails.1, no-end name s t keeps (ap within_limit fails.0), is ∙ (sym (told-missing who by beside evidence name) ∙ sym (ap (told_over who by beside evidence name) fails.0))))
-unread-by who by beside evidence name s t fault.TooLong told fails keeps is = (keeps, inr (fails.1, no-end name s t keeps (over_limit (bytes_at s name) fails.0), is ∙ sym (told-long who by beside evidence name (bytes_at s name) fails.0)))
-unread-by who by beside evidence name s t fault.Failed told fails keeps is = (keeps, inl (fails, is))
-unread-by who by beside evidence name s t fault.Memory told fails keeps is = absurd is
+unread-by : (who : AnswerForm) (by : Deciding) (beside : Otherness) (evidence : List Signed) (name : List ℕ) (s : SourceState) (t : Option SourceState) (e : ReadError) (reported : ReportedLines) → FailsLoad name (bytes_at s name) s t e
+    → KeepsOthers name s t → IsReportedUnread who by name e reported → TellsFile (telling who by beside evidence) name s t reported
+unread-by who by beside evidence name s t fault.Missing reported fails keeps is =
+    (keeps, inr (fails.1, no-end name s t keeps (ap within_limit fails.0), is ∙ (sym (reported-missing who by beside evidence name) ∙ sym (ap (reported_over who by beside evidence name) fails.0))))
+unread-by who by beside evidence name s t fault.TooLong reported fails keeps is = (keeps, inr (fails.1, no-end name s t keeps (over_limit (bytes_at s name) fails.0), is ∙ sym (reported-long who by beside evidence name (bytes_at s name) fails.0)))
+unread-by who by beside evidence name s t fault.Failed reported fails keeps is = (keeps, inl (fails, is))
+unread-by who by beside evidence name s t fault.Memory reported fails keeps is = absurd is
 
 -- one whose bytes could not be had
-pub file_unread : {R E : Type 0} (view : R → ToldLines) (who : AnswerForm) (by : Deciding) (beside : Otherness) (evidence : List Signed) (name : List ℕ) (o t : Option SourceState) (e : ReadError) (res : Result R E)
-    → IfTells o (λ s. FailsLoad name (bytes_at s name) s t e) → IfTells o (λ s. KeepsOthers name s t) → IfOk res (λ r. IsToldUnread who by name e (view r))
+pub file_unread : {R E : Type 0} (view : R → ReportedLines) (who : AnswerForm) (by : Deciding) (beside : Otherness) (evidence : List Signed) (name : List ℕ) (o t : Option SourceState) (e : ReadError) (res : Result R E)
+    → IfTells o (λ s. FailsLoad name (bytes_at s name) s t e) → IfTells o (λ s. KeepsOthers name s t) → IfOk res (λ r. IsReportedUnread who by name e (view r))
     → IfTells o (λ s. IfOk res (λ r. TellsFile (telling who by beside evidence) name s t (view r)))
 file_unread view who by beside evidence name None t e res fails keeps is = tt
 file_unread view who by beside evidence name (Some s) t e (Err x) fails keeps is = λ counts. tt
@@ -78,18 +78,18 @@ file_unread view who by beside evidence name (Some s) t e (Ok r) fails keeps is 
 given-same : (e given : List Signed) → GivesOrMemory (Ok e) (Ok given) → given ≡ e
 given-same e given h = (let same : Ok e ≡ Ok given = h in cc)
 
-asks-told : (who : AnswerForm) (at : Asked) (by : Deciding) (beside : Otherness) (rests : Result (List Signed) AuditError) (evidence : List Signed) (names : List (List ℕ)) (s : SourceState) (t : Option SourceState) (told : ToldLines) (r : Shown)
-    → RefusesAs rests (Ok evidence) → OfClaim rests (λ e. GivesOrMemory (Ok e) (Ok evidence)) → r ≡ told_response who at (length names) told
-    → TellsFiles told_both (telling who by beside evidence) nothing_told names s t told → AsksBy who at by beside rests names s t r
-asks-told who at by beside (Err e) evidence names s t told r refused given is h = cc
-asks-told who at by beside (Ok e) evidence names s t told r refused given is h =
-    (told, subst (λ (x : List Signed). TellsFiles told_both (telling who by beside x) nothing_told names s t told) (given-same e evidence given) h, is)
+asks-reported : (who : AnswerForm) (at : Asked) (by : Deciding) (beside : Otherness) (rests : Result (List Signed) AuditError) (evidence : List Signed) (names : List (List ℕ)) (s : SourceState) (t : Option SourceState) (reported : ReportedLines) (r : Shown)
+    → RefusesAs rests (Ok evidence) → OfClaim rests (λ e. GivesOrMemory (Ok e) (Ok evidence)) → r ≡ reported_response who at (length names) reported
+    → TellsFiles reported_both (telling who by beside evidence) nothing_reported names s t reported → AsksBy who at by beside rests names s t r
+asks-reported who at by beside (Err e) evidence names s t reported r refused given is h = cc
+asks-reported who at by beside (Ok e) evidence names s t reported r refused given is h =
+    (reported, subst (λ (x : List Signed). TellsFiles reported_both (telling who by beside x) nothing_reported names s t reported) (given-same e evidence given) h, is)
 
-pub asks_told : {R : Type 0} (view : R → Shown) (who : AnswerForm) (at : Asked) (by : Deciding) (beside : Otherness) (rests : Result (List Signed) AuditError) (evidence : List Signed) (names : List (List ℕ)) (o t : Option SourceState)
-    (told : ToldLines) (r : R) → RefusesAs rests (Ok evidence) → OfClaim rests (λ e. GivesOrMemory (Ok e) (Ok evidence)) → view r ≡ told_response who at (length names) told
-    → IfTells o (λ s. TellsFiles told_both (telling who by beside evidence) nothing_told names s t told) → IfTells o (λ s. AsksBy who at by beside rests names s t (view r))
-asks_told view who at by beside rests evidence names None t told r refused given is h = tt
-asks_told view who at by beside rests evidence names (Some s) t told r refused given is h = λ counts. asks-told who at by beside rests evidence names s t told (view r) refused given is (h counts)
+pub asks_reported : {R : Type 0} (view : R → Shown) (who : AnswerForm) (at : Asked) (by : Deciding) (beside : Otherness) (rests : Result (List Signed) AuditError) (evidence : List Signed) (names : List (List ℕ)) (o t : Option SourceState)
+    (reported : ReportedLines) (r : R) → RefusesAs rests (Ok evidence) → OfClaim rests (λ e. GivesOrMemory (Ok e) (Ok evidence)) → view r ≡ reported_response who at (length names) reported
+    → IfTells o (λ s. TellsFiles reported_both (telling who by beside evidence) nothing_reported names s t reported) → IfTells o (λ s. AsksBy who at by beside rests names s t (view r))
+asks_reported view who at by beside rests evidence names None t reported r refused given is h = tt
+asks_reported view who at by beside rests evidence names (Some s) t reported r refused given is h = λ counts. asks-reported who at by beside rests evidence names s t reported (view r) refused given is (h counts)
 
 err-same : {A B : Type 0} (a b : B) → ◌≡◌ {A = Result A B} (Err a) (Err b) → a ≡ b
 err-same a b h = cc
@@ -122,17 +122,17 @@ asks_refused view who at by beside rests error names (Some s) (Err x) refused gi
 asks_refused view who at by beside rests error names (Some s) (Ok r) refused given spared is = λ counts. asks-refused who at by beside rests error names s (view r) refused given spared is
 
 -- the answer of a file about an offer by itself
-pub alone_told : (who : AnswerForm) (by : Deciding) (beside : Otherness) (rests : Result (List Signed) AuditError) (evidence : List Signed) (name file : List ℕ) (told : ToldLines)
-    → RefusesAs rests (Ok evidence) → OfClaim rests (λ e. GivesOrMemory (Ok e) (Ok evidence)) → told ≡ told_by who by beside evidence name file → told ≡ told_alone_by who by beside rests name file
-alone_told who by beside (Err e) evidence name file told refused given is = cc
-alone_told who by beside (Ok e) evidence name file told refused given is = is ∙ ap (λ (x : List Signed). told_by who by beside x name file) (given-same e evidence given)
+pub alone_reported : (who : AnswerForm) (by : Deciding) (beside : Otherness) (rests : Result (List Signed) AuditError) (evidence : List Signed) (name file : List ℕ) (reported : ReportedLines)
+    → RefusesAs rests (Ok evidence) → OfClaim rests (λ e. GivesOrMemory (Ok e) (Ok evidence)) → reported ≡ reported_by who by beside evidence name file → reported ≡ reported_alone_by who by beside rests name file
+alone_reported who by beside (Err e) evidence name file reported refused given is = cc
+alone_reported who by beside (Ok e) evidence name file reported refused given is = is ∙ ap (λ (x : List Signed). reported_by who by beside x name file) (given-same e evidence given)
 
 -- or the refusal of the offer
-pub alone_refused : (who : AnswerForm) (by : Deciding) (beside : Otherness) (rests : Result (List Signed) AuditError) (error : AuditError) (name file : List ℕ) (told : ToldLines)
+pub alone_refused : (who : AnswerForm) (by : Deciding) (beside : Otherness) (rests : Result (List Signed) AuditError) (error : AuditError) (name file : List ℕ) (reported : ReportedLines)
     → RefusesAs {A = List Signed} rests (Err error) → OfClaim rests (λ e. GivesOrMemory (Ok e) (Err error)) → is_memory {A = List Signed} (Err error) ≡ false
-    → told ≡ told_of who name nothing_other (Err error) → told ≡ told_alone_by who by beside rests name file
-alone_refused who by beside (Err e) error name file told refused given spared is = is ∙ ap (λ (x : AuditError). told_of who name nothing_other (Err x)) (err-same error e refused)
-alone_refused who by beside (Ok e) error name file told refused given spared is = absurd (never-refused e error spared given)
+    → reported ≡ reported_of who name nothing_other (Err error) → reported ≡ reported_alone_by who by beside rests name file
+alone_refused who by beside (Err e) error name file reported refused given spared is = is ∙ ap (λ (x : AuditError). reported_of who name nothing_other (Err x)) (err-same error e refused)
+alone_refused who by beside (Ok e) error name file reported refused given spared is = absurd (never-refused e error spared given)
 
 -- ---- the key's file
 

@@ -24,15 +24,15 @@ spelled_responds {Q = Q} responds view spelled q o t res is h =
     subst (λ (x : Result Q Shown). IfTells o (λ s. IfOk res (λ r. RespondsTo responds x s t (view r)))) (sym is) h
 
 -- and where the zone is that of a text
-pub zone_responds : (responds : Option TimeZone → SourceState → Option SourceState → Shown → Type 0) (text : List ℕ) (told : Option TimeZone) (o t : Option SourceState)
-    (res : Result Printed CommandError) → ReadsZone text told
-    → IfTells o (λ s. IfAnswered res (λ r. responds told s t r))
+pub zone_responds : (responds : Option TimeZone → SourceState → Option SourceState → Shown → Type 0) (text : List ℕ) (reported : Option TimeZone) (o t : Option SourceState)
+    (res : Result Printed CommandError) → ReadsZone text reported
+    → IfTells o (λ s. IfAnswered res (λ r. responds reported s t r))
     → IfTells o (λ s. IfAnswered res (λ r. (zone : Option TimeZone) × ReadsZone text zone × responds zone s t r))
-zone_responds responds text told None t res read h = tt
-zone_responds responds text told (Some s) t (Ok r) read h = λ counts. (told, read, h counts)
-zone_responds responds text told (Some s) t (Err Usage) read h = λ counts. (told, read, h counts)
-zone_responds responds text told (Some s) t (Err (Value x)) read h = λ counts. (told, read, h counts)
-zone_responds responds text told (Some s) t (Err Memory) read h = λ counts. tt
+zone_responds responds text reported None t res read h = tt
+zone_responds responds text reported (Some s) t (Ok r) read h = λ counts. (reported, read, h counts)
+zone_responds responds text reported (Some s) t (Err Usage) read h = λ counts. (reported, read, h counts)
+zone_responds responds text reported (Some s) t (Err (Value x)) read h = λ counts. (reported, read, h counts)
+zone_responds responds text reported (Some s) t (Err Memory) read h = λ counts. tt
 
 -- the fault of a value that an option does not spell is the response to the options, and no file was read
 pub unspelled_responds : {Q V : Type 0} (responds : Q → SourceState → Option SourceState → Shown → Type 0) (view : V → Q) (spelled : Result Q Shown) (fault : CommandError) (o : Option SourceState)

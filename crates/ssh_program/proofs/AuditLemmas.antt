@@ -25,9 +25,9 @@ vouch_fault-same (Some name) a b u r e h = (one-failed a b u name e h.0, h.1)
 
 audit_fault-same : (by : Deciding) (f : AuditFiles) (a b : SourceState) (u : Option SourceState) (r : Shown) → Alike a b → IsAuditFault by f a u r → IsAuditFault by f b u r
 audit_fault-same by f a b u r e (inl h) = inl (vouch_fault-same f.vouch a b u r e h)
-audit_fault-same by f a b u r e (inr (vouched, told, fault)) = inr (
+audit_fault-same by f a b u r e (inr (vouched, reported, fault)) = inr (
   vouched,
-  sym (vouched-same f.vouch a b e) ∙ told,
+  sym (vouched-same f.vouch a b e) ∙ reported,
   trust_fault-same by f.trust (after_vouching f.vouch a) (after_vouching f.vouch b) u r (vouching-alike f.vouch a b e) fault,
 )
 
@@ -37,8 +37,8 @@ audits-same by f a b u r e (inr h) = inr (audit_fault-same by f a b u r e h)
 
 -- ---- vouch files
 
-not_told : (by : Deciding) (f : AuditFiles) (s : SourceState) (name : List ℕ) → f.vouch ≡ Some name → within_limit (part_at s name) ≡ None → audit_response by f s ≡ no_file_response name
-not_told by f s name v h =
+not_reported : (by : Deciding) (f : AuditFiles) (s : SourceState) (name : List ℕ) → f.vouch ≡ Some name → within_limit (part_at s name) ≡ None → audit_response by f s ≡ no_file_response name
+not_reported by f s name v h =
     let none : vouched_in f.vouch s ≡ Err (no_file_response name) = ap (λ z. vouched_in z s) v ∙ ap (vouched_or_fault name) h in
     ap (vouched_response by f.trust (after_vouching f.vouch s)) none
 
@@ -48,8 +48,8 @@ vouch_read_failed vouch name s u r v h = subst (λ (z : Option (List ℕ)). IsVo
 
 vouch_fault : (f : AuditFiles) (by : Deciding) (name : List ℕ) (s : SourceState) (u : Option SourceState) (e : ReadError) (r : Shown) → f.vouch ≡ Some name
     → FailsLoad name (part_at s name) s u e → IsFaultOf name e r → Audits by f s u r
-vouch_fault f by name s u fault.Missing r v fails is = inl (fails.1, is ∙ sym (not_told by f s name v (ap within_limit fails.0)))
-vouch_fault f by name s u fault.TooLong r v fails is = inl (fails.1, is ∙ sym (not_told by f s name v (over_limit (part_at s name) fails.0)))
+vouch_fault f by name s u fault.Missing r v fails is = inl (fails.1, is ∙ sym (not_reported by f s name v (ap within_limit fails.0)))
+vouch_fault f by name s u fault.TooLong r v fails is = inl (fails.1, is ∙ sym (not_reported by f s name v (over_limit (part_at s name) fails.0)))
 vouch_fault f by name s u fault.Failed r v fails is = inr (inl (vouch_read_failed f.vouch name s u r v (fails, is)))
 vouch_fault f by name s u fault.Memory r v fails is = absurd is
 
@@ -62,8 +62,8 @@ vouch_unread view f by name (Some s) u e (Err x) v fails is = λ counts. tt
 vouch_unread view f by name (Some s) u e (Ok r) v fails is = λ counts. vouch_fault f by name s u e (view r) v (fails counts) is
 
 -- the answer by the trust file, after the vouch file was read
-after-vouch : (by : Deciding) (f : AuditFiles) (told : Result (List Signed) Shown) (s t : SourceState) (u : Option SourceState) (r : Shown) → vouched_in f.vouch s ≡ told
-    → t.failures ≡ s.failures → Alike t (after_vouching f.vouch s) → AuditsVouched by f.trust told t u r → Audits by f s u r
+after-vouch : (by : Deciding) (f : AuditFiles) (reported : Result (List Signed) Shown) (s t : SourceState) (u : Option SourceState) (r : Shown) → vouched_in f.vouch s ≡ reported
+    → t.failures ≡ s.failures → Alike t (after_vouching f.vouch s) → AuditsVouched by f.trust reported t u r → Audits by f s u r
 after-vouch by f (Err v) s t u r e same left h =
     inl (none-failed s t u same h.0, h.1 ∙ sym (ap (vouched_response by f.trust (after_vouching f.vouch s)) e))
 after-vouch by f (Ok vouched) s t u r e same left (inl h) =
@@ -73,9 +73,9 @@ after-vouch by f (Ok vouched) s t u r e same left (inr h) =
     inr (inr (vouched, e, trust_fault-same by f.trust t (after_vouching f.vouch s) u r left h))
 
 -- the result of a vouch file of these bytes
-pub told_by : (vouch : Option (List ℕ)) (name bytes read : List ℕ) (s : SourceState) → vouch ≡ Some name → read ≡ bytes → within_limit (part_at s name) ≡ Some bytes
+pub reported_by : (vouch : Option (List ℕ)) (name bytes read : List ℕ) (s : SourceState) → vouch ≡ Some name → read ≡ bytes → within_limit (part_at s name) ≡ Some bytes
     → vouched_in vouch s ≡ or_vouch_fault (vouched_of read)
-told_by vouch name bytes read s v is h =
+reported_by vouch name bytes read s v is h =
     ap (λ z. vouched_in z s) v ∙ (ap (vouched_or_fault name) h ∙ ap (λ b. or_vouch_fault (vouched_of b)) (sym is))
 
 -- the source after it was read
@@ -93,7 +93,7 @@ vouch_responds view f by name Tells (Some s) (Some t) u (Err e) v loads h = λ c
 vouch_responds view f by name Tells (Some s) (Some t) u (Ok r) v loads h = λ counts.
     let ((file, whole, tells), left) = loads counts in
     let same : t.failures ≡ s.failures = left.2 in
-    after-vouch by f (or_vouch_fault (vouched_of file)) s t u (view r) (told_by f.vouch name file file s v refl whole) same
+    after-vouch by f (or_vouch_fault (vouched_of file)) s t u (view r) (reported_by f.vouch name file file s v refl whole) same
     (left_by f.vouch name s t v left) (h file tells (omega (arith, counts, same)))
 
 -- no vouch file

@@ -52,20 +52,20 @@ short : (given left : List ℕ) (x y : Decision) (e : AuditError) → if_short g
 short given left x y e h = short-by (nat_lt file_limit (length given)) given left x y e refl h
 
 -- the result is the answer, or memory could not be allocated
-pub told : {A : Type 0} (answer result : Result A AuditError) → GivesOrMemory answer result → (result ≡ Err Memory) ⊎ (result ≡ answer)
-told answer (Ok x) h = inr (sym h)
-told answer (Err (Offer x)) h = inr (sym h)
-told answer (Err (Signature x)) h = inr (sym h)
-told answer (Err WrongAlgorithm) h = inr (sym h)
-told answer (Err WeakSignature) h = inr (sym h)
-told answer (Err CertSignature) h = inr (sym h)
-told answer (Err Address) h = inr (sym h)
-told answer (Err FileTooLong) h = inr (sym h)
-told answer (Err Memory) h = inl refl
-told answer (Err Read) h = inr (sym h)
-told answer (Err Failed) h = inr (sym h)
-told answer (Err (Body x)) h = inr (sym h)
-told answer (Err Salts) h = inr (sym h)
+pub reported : {A : Type 0} (answer result : Result A AuditError) → GivesOrMemory answer result → (result ≡ Err Memory) ⊎ (result ≡ answer)
+reported answer (Ok x) h = inr (sym h)
+reported answer (Err (Offer x)) h = inr (sym h)
+reported answer (Err (Signature x)) h = inr (sym h)
+reported answer (Err WrongAlgorithm) h = inr (sym h)
+reported answer (Err WeakSignature) h = inr (sym h)
+reported answer (Err CertSignature) h = inr (sym h)
+reported answer (Err Address) h = inr (sym h)
+reported answer (Err FileTooLong) h = inr (sym h)
+reported answer (Err Memory) h = inl refl
+reported answer (Err Read) h = inr (sym h)
+reported answer (Err Failed) h = inr (sym h)
+reported answer (Err (Body x)) h = inr (sym h)
+reported answer (Err Salts) h = inr (sym h)
 
 whole : (decision : List ℕ → Decision) (given left : List ℕ) (result : Result Decision AuditError) → OnOk result (left ≡ []) → result ≡ if_short given (decision given)
     → result ≡ if_short (given ++ left) (decision (given ++ left))
@@ -75,7 +75,7 @@ whole decision given left (Err e) end h = sym (short given left (decision given)
 read_on : (decision : List ℕ → Decision) (bytes left : List ℕ) (result : Result Decision AuditError) → (result ≡ Err Read → ⊥)
     → AnswersReader (Some bytes) (Some left) (λ file. if_short file (decision file)) result
     → (result ≡ Err Memory) ⊎ (result ≡ if_short bytes (decision bytes))
-read_on decision bytes left result other h = rw h.consumed (by (told (if_short h.given (decision h.given)) result (h.answer other))) where
+read_on decision bytes left result other h = rw h.consumed (by (reported (if_short h.given (decision h.given)) result (h.answer other))) where
   by : (result ≡ Err Memory) ⊎ (result ≡ if_short h.given (decision h.given)) → (result ≡ Err Memory) ⊎ (result ≡ if_short (h.given ++ left) (decision (h.given ++ left)))
   by (inl e) = inl e
   by (inr e) = inr (whole decision h.given left result h.to_end e)

@@ -10,11 +10,11 @@ use Rattle.ssh_review.specs.HostReviews.{host_whole_review}
 use Rattle.ssh_review.specs.Lines.{counts_of, records_of}
 use Rattle.ssh_review.specs.Reviews.{whole_review}
 use Rattle.ssh_review.specs.declared.end.FileFault.TheVariants.{Unread}
-use Rattle.ssh_program.specs.declared.streaming.FileTold.{FileTold}
+use Rattle.ssh_program.specs.declared.streaming.FileReported.{FileReported}
 use Rattle.ssh_program.specs.declared.streaming.Stop.{Stop}
 use Rattle.ssh_program.specs.declared.streaming.Stop.TheVariants as stop
 use Rattle.ssh_program.specs.FileReviews.{TextPut, TextWritten, UnreadPut, review_kept}
-use Rattle.ssh_program.proofs.PutLemmas.{end-some, nothing-told, put-nothing, text-told}
+use Rattle.ssh_program.proofs.PutLemmas.{end-some, nothing-reported, put-nothing, text-reported}
 use Rattle.ssh_program.proofs.WrittenText.{nothing_taken}
 
 -- ---- a file within the limit
@@ -26,7 +26,7 @@ within-false n h = go (nat_lt file_limit n) refl
     go true e = absurd (omega (arith, ltb-true file_limit n e, h))
     go false e = e
 
-pub auth-put : (form : Form) (asking : Asking) (name file : List ℕ) (old new : Option Account) (r : Result FileTold Stop) → length file ≤ file_limit
+pub auth-put : (form : Form) (asking : Asking) (name file : List ℕ) (old new : Option Account) (r : Result FileReported Stop) → length file ≤ file_limit
     → TextPut (records_of form asking name [] (numbered 1 (lines_of file)) ++ end_line form name (counts_of asking [] (numbered 1 (lines_of file))) (sha256 file))
     (record { counts = counts_of asking [] (numbered 1 (lines_of file)); stands = false; fault = None }) old new r
     → TextPut (review_of Auth form asking name file).text (review_kept (review_of Auth form asking name file)) old new r
@@ -35,7 +35,7 @@ auth-put form asking name file old new r few h =
     subst (λ (b : Bool). TextPut (if b then fault_review form name TooLong else whole_review form asking name file).text (review_kept (if b then fault_review form name TooLong else whole_review form asking name file)) old new r)
     (sym (within-false (length file) few)) h
 
-pub known-put : (form : Form) (asking : Asking) (name file : List ℕ) (old new : Option Account) (r : Result FileTold Stop) → length file ≤ file_limit
+pub known-put : (form : Form) (asking : Asking) (name file : List ℕ) (old new : Option Account) (r : Result FileReported Stop) → length file ≤ file_limit
     → TextPut (host_records_of form asking name [] (numbered 1 (lines_of file)) ++ end_line form name (host_counts_of asking [] (numbered 1 (lines_of file))) (sha256 file))
     (record { counts = host_counts_of asking [] (numbered 1 (lines_of file)); stands = false; fault = None }) old new r
     → TextPut (review_of Known form asking name file).text (review_kept (review_of Known form asking name file)) old new r
@@ -63,11 +63,11 @@ known-refused form asking name file a few =
 
 -- ---- a file that was read
 
-file-told : (kind : ReviewKind) (form : Form) (asking : Asking) (name file bytes : List ℕ) (o t : Option SourceState) → bytes ≡ file
+file-reported : (kind : ReviewKind) (form : Form) (asking : Asking) (name file bytes : List ℕ) (o t : Option SourceState) → bytes ≡ file
     → IfTells o (λ s. (within_limit (bytes_at s name) ≡ Some file) × IsLeft s (after_whole s name) t) → IfTells o (λ s. KeepsOthers name s t)
     → IfTells o (λ s. TellsFile (telling_review kind form asking) name s t (review_of kind form asking name bytes))
-file-told kind form asking name file bytes None t is loads keeps = tt
-file-told kind form asking name file bytes (Some s) t is loads keeps = λ counts.
+file-reported kind form asking name file bytes None t is loads keeps = tt
+file-reported kind form asking name file bytes (Some s) t is loads keeps = λ counts.
     let load = loads counts in (
       keeps counts,
       inr (
@@ -77,12 +77,12 @@ file-told kind form asking name file bytes (Some s) t is loads keeps = λ counts
       ),
     )
 
-pub file_reviewed : (kind : ReviewKind) (form : Form) (asking : Asking) (name file bytes : List ℕ) (o t : Option SourceState) (old new : Option Account) (r : Result FileTold Stop) → bytes ≡ file
+pub file_reviewed : (kind : ReviewKind) (form : Form) (asking : Asking) (name file bytes : List ℕ) (o t : Option SourceState) (old new : Option Account) (r : Result FileReported Stop) → bytes ≡ file
     → IfTells o (λ s. (within_limit (bytes_at s name) ≡ Some file) × IsLeft s (after_whole s name) t) → IfTells o (λ s. KeepsOthers name s t)
     → TextPut (review_of kind form asking name bytes).text (review_kept (review_of kind form asking name bytes)) old new r
     → TextWritten (telling_review kind form asking) (λ x. x.text) review_kept name o t old new r
 file_reviewed kind form asking name file bytes o t old new r is loads keeps put =
-    text-told (telling_review kind form asking) (λ x. x.text) review_kept name o t old new r (review_of kind form asking name bytes) (file-told kind form asking name file bytes o t is loads keeps) put
+    text-reported (telling_review kind form asking) (λ x. x.text) review_kept name o t old new r (review_of kind form asking name bytes) (file-reported kind form asking name file bytes o t is loads keeps) put
 
 -- ---- one that gives no bytes
 
@@ -95,18 +95,18 @@ too-long kind form asking name None h = absurd h
 too-long Auth form asking name (Some bytes) h = rw (lt-ltb file_limit (length bytes) h) refl
 too-long Known form asking name (Some bytes) h = rw (lt-ltb file_limit (length bytes) h) refl
 
-pub file_unread : (kind : ReviewKind) (form : Form) (asking : Asking) (name : List ℕ) (o t : Option SourceState) (e : ReadError) (old new : Option Account) (r : Result FileTold Stop)
+pub file_unread : (kind : ReviewKind) (form : Form) (asking : Asking) (name : List ℕ) (o t : Option SourceState) (e : ReadError) (old new : Option Account) (r : Result FileReported Stop)
     → IfTells o (λ s. FailsLoad name (bytes_at s name) s t e) → IfTells o (λ s. KeepsOthers name s t) → UnreadPut form name e old new r
     → TextWritten (telling_review kind form asking) (λ x. x.text) review_kept name o t old new r
 file_unread kind form asking name o t read.Memory old new r fails keeps (is, same) =
-    subst (λ (x : Result FileTold Stop). TextWritten (telling_review kind form asking) (λ x. x.text) review_kept name o t old new x) (sym is)
-    (nothing-told (telling_review kind form asking) (λ x. x.text) review_kept name o t old new (same ∙ nothing_taken old))
+    subst (λ (x : Result FileReported Stop). TextWritten (telling_review kind form asking) (λ x. x.text) review_kept name o t old new x) (sym is)
+    (nothing-reported (telling_review kind form asking) (λ x. x.text) review_kept name o t old new (same ∙ nothing_taken old))
 file_unread kind form asking name o t read.TooLong old new r fails keeps put =
-    text-told (telling_review kind form asking) (λ x. x.text) review_kept name o t old new r (fault_review form name TooLong)
+    text-reported (telling_review kind form asking) (λ x. x.text) review_kept name o t old new r (fault_review form name TooLong)
     (both_in _ _ _ o (λ s f k. (k, inr (f.1, no-end name s t k (over_limit (bytes_at s name) f.0), sym (too-long kind form asking name (bytes_at s name) f.0)))) fails keeps) put
 file_unread kind form asking name o t read.Missing old new r fails keeps put =
-    text-told (telling_review kind form asking) (λ x. x.text) review_kept name o t old new r (fault_review form name Unread)
+    text-reported (telling_review kind form asking) (λ x. x.text) review_kept name o t old new r (fault_review form name Unread)
     (both_in _ _ _ o (λ s f k. (k, inr (f.1, no-end name s t k (ap within_limit f.0), sym (ap (review_over kind form asking name) f.0)))) fails keeps) put
 file_unread kind form asking name o t read.Failed old new r fails keeps put =
-    text-told (telling_review kind form asking) (λ x. x.text) review_kept name o t old new r (fault_review form name Unread)
+    text-reported (telling_review kind form asking) (λ x. x.text) review_kept name o t old new r (fault_review form name Unread)
     (both_in _ _ _ o (λ s f k. (k, inl (f, refl))) fails keeps) put

@@ -111,16 +111,16 @@ rewritten-named : (rows : List Row) (s : SourceState) (t : Option SourceState) (
     → (name : Result (List ℕ) Response) → needed option.File rows ≡ name → RespondsTo (RewritesFile (new_file kind)) name s t r → r.status ≡ 0 → FileRewritten rows s r
 rewritten-named rows s t r kind is (Err fault) named (unfailed, same) done =
     let two = needed-faulty option.File rows fault named in
-    let told = status-of r fault same in
-    absurd (omega (arith, two, told, done))
+    let reported = status-of r fault same in
+    absurd (omega (arith, two, reported, done))
 rewritten-named rows s t r kind is (Ok name) named h done = rewritten-as rows s r kind name is named (made-of (new_file kind) name s t r h done)
 
 rewritten-by : (rows : List Row) (s : SourceState) (t : Option SourceState) (r : Response) (kind : Result NewFile Response) → value rewrite_kind option.Kind rows ≡ kind
     → RespondsTo (λ k. RespondsTo (RewritesFile (new_file k)) (needed option.File rows)) kind s t r → r.status ≡ 0 → FileRewritten rows s r
 rewritten-by rows s t r (Err fault) is (unfailed, same) done =
     let two = value-faulty rewrite_kind option.Kind rows fault is in
-    let told = status-of r fault same in
-    absurd (omega (arith, two, told, done))
+    let reported = status-of r fault same in
+    absurd (omega (arith, two, reported, done))
 rewritten-by rows s t r (Ok kind) is h done = rewritten-named rows s t r kind is (needed option.File rows) refl h done
 
 -- ---- `readable`
@@ -153,8 +153,8 @@ readable-named : (rows : List Row) (s : SourceState) (t : Option SourceState) (r
     → RespondsTo (RewritesFile (new_file ReadableAuth)) name s t r → r.status ≡ 0 → FileReadable rows s r
 readable-named rows s t r (Err fault) named (unfailed, same) done =
     let two = needed-faulty option.File rows fault named in
-    let told = status-of r fault same in
-    absurd (omega (arith, two, told, done))
+    let reported = status-of r fault same in
+    absurd (omega (arith, two, reported, done))
 readable-named rows s t r (Ok name) named h done = readable-as rows s r name named (made-of (new_file ReadableAuth) name s t r h done)
 
 -- ---- `hash`
@@ -233,8 +233,8 @@ hashed-in : (rows : List Row) (s : SourceState) (r : Response) (name salts_name 
     → (salts : Result (List (List ℕ)) Response) → salts_in salts_name s ≡ salts → r ≡ hashed_over name (after_whole s salts_name) salts → r.status ≡ 0 → FileHashed rows s r
 hashed-in rows s r name salts_name named salts_named (Err fault) is same done =
     let two = salts-faulty salts_name (within_limit (bytes_at s salts_name)) fault is in
-    let told = status-of r fault same in
-    absurd (omega (arith, two, told, done))
+    let reported = status-of r fault same in
+    absurd (omega (arith, two, reported, done))
   where
     salts-faulty : (name : List ℕ) (bytes : Option (List ℕ)) → IsFaulty (salts_or_fault name bytes)
     salts-faulty name None = or-faulty None (no_file_response name) refl
@@ -247,22 +247,22 @@ hashed-by : (rows : List Row) (s : SourceState) (t : Option SourceState) (r : Re
     → Hashes name salts_name s t r → r.status ≡ 0 → FileHashed rows s r
 hashed-by rows s t r name salts_name named salts_named (inl (unfailed, is)) done = hashed-in rows s r name salts_name named salts_named (salts_in salts_name s) refl is done
 hashed-by rows s t r name salts_name named salts_named (inr (inl (is, failed))) done = let two = status-of r _ failed in absurd (omega (arith, two, done))
-hashed-by rows s t r name salts_name named salts_named (inr (inr (salts, told, fault))) done = let two = status-of r _ fault.1 in absurd (omega (arith, two, done))
+hashed-by rows s t r name salts_name named salts_named (inr (inr (salts, reported, fault))) done = let two = status-of r _ fault.1 in absurd (omega (arith, two, done))
 
 hashed-salts : (rows : List Row) (s : SourceState) (t : Option SourceState) (r : Response) (name : List ℕ) → needed option.File rows ≡ Ok name
     → (salts : Result (List ℕ) Response) → needed option.Salts rows ≡ salts → RespondsTo (Hashes name) salts s t r → r.status ≡ 0 → FileHashed rows s r
 hashed-salts rows s t r name named (Err fault) is (unfailed, same) done =
     let two = needed-faulty option.Salts rows fault is in
-    let told = status-of r fault same in
-    absurd (omega (arith, two, told, done))
+    let reported = status-of r fault same in
+    absurd (omega (arith, two, reported, done))
 hashed-salts rows s t r name named (Ok salts_name) is h done = hashed-by rows s t r name salts_name named is h done
 
 hashed-file : (rows : List Row) (s : SourceState) (t : Option SourceState) (r : Response) (name : Result (List ℕ) Response) → needed option.File rows ≡ name
     → RespondsTo (λ trust. RespondsTo (Hashes trust) (needed option.Salts rows)) name s t r → r.status ≡ 0 → FileHashed rows s r
 hashed-file rows s t r (Err fault) is (unfailed, same) done =
     let two = needed-faulty option.File rows fault is in
-    let told = status-of r fault same in
-    absurd (omega (arith, two, told, done))
+    let reported = status-of r fault same in
+    absurd (omega (arith, two, reported, done))
 hashed-file rows s t r (Ok name) is h done = hashed-salts rows s t r name is (needed option.Salts rows) refl h done
 
 -- ---- `review`: one file
@@ -335,8 +335,8 @@ few-failures asked name s m first (keeps, inr (unfailed, end, is)) = let same : 
 -- ---- all files
 
 -- the text of these files follows what was printed so far
-record Printed (sofar told : Lines) (rest : List ℕ) : Type 0 where
-  text : told.text ≡ sofar.text ++ rest
+record Printed (sofar reported : Lines) (rest : List ℕ) : Type 0 where
+  text : reported.text ≡ sofar.text ++ rest
   faultless : sofar.total.faults ≡ 0
 
 -- each of the files was reviewed without a fault, and this text is printed of them
@@ -346,15 +346,15 @@ EachReviewed asked (name ∷ names) s rest =
     (first : Review) × ReviewedAs asked name s first × (first.fault ≡ None)
     × ((m : SourceState) × (more : List ℕ) × KeepsOthers name s (Some m) × (rest ≡ first.text ++ more) × EachReviewed asked names m more)
 
-each-reviewed : (asked : ReviewAsked) (sofar : Lines) (names : List (List ℕ)) (s : SourceState) (t : Option SourceState) (told : Lines)
-    → s.failures + length names < most_failures → TellsFiles with_file (telling asked) sofar names s t told → told.total.faults ≡ 0
-    → (rest : List ℕ) × Printed sofar told rest × EachReviewed asked names s rest
-each-reviewed asked sofar [] s t told room (unfailed, is) none =
+each-reviewed : (asked : ReviewAsked) (sofar : Lines) (names : List (List ℕ)) (s : SourceState) (t : Option SourceState) (reported : Lines)
+    → s.failures + length names < most_failures → TellsFiles with_file (telling asked) sofar names s t reported → reported.total.faults ≡ 0
+    → (rest : List ℕ) × Printed sofar reported rest × EachReviewed asked names s rest
+each-reviewed asked sofar [] s t reported room (unfailed, is) none =
     ([], record { text = ap (λ (x : Lines). x.text) is ∙ sym (append-nil sofar.text); faultless = sym (ap (λ (x : Lines). x.total.faults) is) ∙ none }, refl)
-each-reviewed asked sofar (name ∷ names) s t told room (m, first, one, more) none =
+each-reviewed asked sofar (name ∷ names) s t reported room (m, first, one, more) none =
     let few = few-failures asked name s m first one in
     let left : m.failures + length names < most_failures = omega (arith, room, few) in
-    let (rest, printed, each) = each-reviewed asked (with_file sofar first) names m t told left (more (omega (arith, left))) none in
+    let (rest, printed, each) = each-reviewed asked (with_file sofar first) names m t reported left (more (omega (arith, left))) none in
     let (before, here) = none-counted sofar.total.faults (fault_count first.fault) printed.faultless in
     let whole = some-faults first.fault here in (
       first.text ++ rest,
@@ -382,7 +382,7 @@ review-faulty rows zone =
     step-faulty _ _ (value-faulty (number_below (2 ^ 64)) option.Now rows) (λ now.
     step-faulty _ _ (fault-faulty option.Zone zone) (λ zone.
     step-faulty _ _ (optional-faulty usual_minimum (number_below (2 ^ 32)) option.RsaMinimum rows) (λ rsa_minimum.
-    step-faulty _ _ (optional-faulty default_codes codes_in option.Findings rows) (λ told.
+    step-faulty _ _ (optional-faulty default_codes codes_in option.Findings rows) (λ reported.
     step-faulty _ _ (optional-faulty Text form_of option.Form rows) (λ form.
     step-faulty _ _ (or-faulty (names_given rows) _ refl) (λ names. none-faulty _)))))))
 
@@ -396,7 +396,7 @@ review-names rows zone =
     step-any (IsNamed rows) (value (number_below (2 ^ 64)) option.Now rows) _ (λ now.
     step-any (IsNamed rows) (or_fault option.Zone zone) _ (λ zone.
     step-any (IsNamed rows) (value_or usual_minimum (number_below (2 ^ 32)) option.RsaMinimum rows) _ (λ rsa_minimum.
-    step-any (IsNamed rows) (value_or default_codes codes_in option.Findings rows) _ (λ told.
+    step-any (IsNamed rows) (value_or default_codes codes_in option.Findings rows) _ (λ reported.
     step-any (IsNamed rows) (value_or Text form_of option.Form rows) _ (λ form.
     step-gives (λ names. names_needed rows ≡ Ok names) (IsNamed rows) (names_needed rows) _ (λ names h. h) (λ names is.
     λ a h. subst (IsNamed rows) (ok-same {A = ReviewAsked} {B = Response} _ a h) is)))))))
@@ -412,13 +412,13 @@ faultless total few = by (nat_lt 0 total.faults) refl few
 
 review-of : (asked : ReviewAsked) (s : SourceState) (t : Option SourceState) (r : Response) → s.failures + length asked.names < most_failures
     → ReviewsFiles asked.kind asked.form asked.rule asked.asking asked.names s t r → r.status < 2 → PrintsReviews asked r.text asked.names s
-review-of asked s t r room (inr (told, front, is)) few = let two : r.status ≡ 2 = status-of r _ is in absurd (omega (arith, two, few))
-review-of asked s t r room (inl (told, chain, is)) few =
+review-of asked s t r room (inr (reported, front, is)) few = let two : r.status ≡ 2 = status-of r _ is in absurd (omega (arith, two, few))
+review-of asked s t r room (inl (reported, chain, is)) few =
     let status = status-of r _ is in
-    let none = faultless told.total (omega (arith, status, few)) in
-    let (rest, printed, each) = each-reviewed asked no_lines asked.names s t told room chain none in
-    let whole : r.text ≡ [] ++ (rest ++ total_line asked.form (kind_name asked.kind) asked.rule asked.asking told.total) = ap (λ (x : Response). x.text) is ∙ ap (λ (x : List ℕ). x ++ total_line asked.form (kind_name asked.kind) asked.rule asked.asking told.total) printed.text in
-    prints-each asked r.text [] (total_line asked.form (kind_name asked.kind) asked.rule asked.asking told.total) asked.names s rest each whole
+    let none = faultless reported.total (omega (arith, status, few)) in
+    let (rest, printed, each) = each-reviewed asked no_lines asked.names s t reported room chain none in
+    let whole : r.text ≡ [] ++ (rest ++ total_line asked.form (kind_name asked.kind) asked.rule asked.asking reported.total) = ap (λ (x : Response). x.text) is ∙ ap (λ (x : List ℕ). x ++ total_line asked.form (kind_name asked.kind) asked.rule asked.asking reported.total) printed.text in
+    prints-each asked r.text [] (total_line asked.form (kind_name asked.kind) asked.rule asked.asking reported.total) asked.names s rest each whole
 
 reviewed-in : (rows : List Row) (names : List (List ℕ)) (zone : Option TimeZone) (s : SourceState) (t : Option SourceState) (r : Response) → names_needed rows ≡ Ok names
     → s.failures + length names < most_failures → ReadsZone (review_rule rows) zone

@@ -93,6 +93,6 @@ pub asked_failed : (command : Text) (words : List Word) (bytes : Text) (e : List
 asked_failed command words bytes e once (inl memory) = inl memory
 asked_failed command words bytes e once (inr fault) = inr (rw (once, fault) refl)
 
-pub asked_told : (command : Text) (words : List Word) (bytes : Text) (names told : List Text) → reads_twice words ≡ false → list_names bytes ≡ Ok names
-    → told ≡ command ∷ listed_words words names → asked_by command words bytes ≡ Ok told
-asked_told command words bytes names told once read made = rw (once, read) (ap (λ ws. Ok ws) (sym made))
+pub asked_reported : (command : Text) (words : List Word) (bytes : Text) (names reported : List Text) → reads_twice words ≡ false → list_names bytes ≡ Ok names
+    → reported ≡ command ∷ listed_words words names → asked_by command words bytes ≡ Ok reported
+asked_reported command words bytes names reported once read made = rw (once, read) (ap (λ ws. Ok ws) (sym made))

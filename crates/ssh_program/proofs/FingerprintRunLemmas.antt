@@ -1,10 +1,10 @@
 -- A run of `admits --fingerprint` that ends with status 0 has a line that lets in the key that its file holds; one that ends with status 1 has none.
-use Rattle.ssh_program.proofs.Imports.{◌≡◌, ◌<◌, ◌+◌, ◌∙◌, cond, ℕ, Bool, true, false, List, length, nat_lt, Option, Some, None, option_map, Result, Ok, Err, refl, sym, subst, inl, inr, arith, IfTells, SourceState, most_failures, zone_text, ReadsZone, Row, TimeZone, Response, Account, source_of, RespondsTo, given, names_needed, value, AuditError, FileTooLong, Login, LoginClaim, login_claim, login_evidence, file_limit, beside_by, other_login, TellsFiles, ToldLines, told_both, nothing_told, status_of, decided_by, evidence_by, Admits, FingerprintAsked, AsksFingerprint, AsksFound, ClientOptions, client_form, client_login, client_spelled, fingerprint_telling, fingerprint_told, found_key, offered_key, told_alone_by, told_fault, told_found}
+use Rattle.ssh_program.proofs.Imports.{◌≡◌, ◌<◌, ◌+◌, ◌∙◌, cond, ℕ, Bool, true, false, List, length, nat_lt, Option, Some, None, option_map, Result, Ok, Err, refl, sym, subst, inl, inr, arith, IfTells, SourceState, most_failures, zone_text, ReadsZone, Row, TimeZone, Response, Account, source_of, RespondsTo, given, names_needed, value, AuditError, FileTooLong, Login, LoginClaim, login_claim, login_evidence, file_limit, beside_by, other_login, TellsFiles, ReportedLines, reported_both, nothing_reported, status_of, decided_by, evidence_by, Admits, FingerprintAsked, AsksFingerprint, AsksFound, ClientOptions, client_form, client_login, client_spelled, fingerprint_telling, fingerprint_reported, found_key, offered_key, reported_alone_by, reported_fault, reported_found}
 use Rattle.ssh_keys.specs.PublicKey.{PublicKey}
 use Rattle.ssh_patterns.specs.declared.address.Address.{Address as AddressValue}
 use Rattle.ssh_patterns.specs.AddressReading.{address_of}
 use Rattle.ssh_trust.specs.LoginDecision.{login_decision}
-use Rattle.ssh_print.specs.OtherLines.{untold_other}
+use Rattle.ssh_print.specs.OtherLines.{unreported_other}
 use Rattle.ssh_print.proofs.FingerprintLemmas.{first_held, none_admitted, none_held}
 use Rattle.ssh_program.specs.declared.admission.Outcome.TheVariants.{Denies, Grants}
 use Rattle.ssh_program.specs.declared.args.ArgName.TheVariants as option
@@ -19,27 +19,27 @@ use Rattle.ssh_program.proofs.SpelledBytes.{ok-same, step-any, step-gives}
 -- ---- what a file decides
 
 alone-grants : (client : ClientOptions) (q : Login) (name file : List ℕ) (x : Result LoginClaim AuditError) → login_claim q ≡ x
-    → (told_alone_by (client_form client.form) (decided_by login_decision x) (beside_by other_login x) (evidence_by login_evidence x) name file).outcome ≡ Grants
+    → (reported_alone_by (client_form client.form) (decided_by login_decision x) (beside_by other_login x) (evidence_by login_evidence x) name file).outcome ≡ Grants
     → (claim : LoginClaim) × (login_claim q ≡ Ok claim) × LetsIn claim file
 alone-grants client q name file (Err e) is h = cc
 alone-grants client q name file (Ok claim) is h = (claim, is, (tells-grants (client_form client.form) (other_login claim) claim).some name file h)
 
 alone-denies : (client : ClientOptions) (q : Login) (name file : List ℕ) (x : Result LoginClaim AuditError) → login_claim q ≡ x
-    → (told_alone_by (client_form client.form) (decided_by login_decision x) (beside_by other_login x) (evidence_by login_evidence x) name file).outcome ≡ Denies
+    → (reported_alone_by (client_form client.form) (decided_by login_decision x) (beside_by other_login x) (evidence_by login_evidence x) name file).outcome ≡ Denies
     → (claim : LoginClaim) × (login_claim q ≡ Ok claim) × KeepsOut claim file
 alone-denies client q name file (Err e) is h = cc
 alone-denies client q name file (Ok claim) is h = (claim, is, (tells-denies (client_form client.form) (other_login claim) claim).some name file h)
 
 found-grants : (client : ClientOptions) (digest name file : List ℕ) (o : Option PublicKey) → found_key digest file ≡ o
-    → (told_found client name file (option_map offered_key o)).outcome ≡ Grants → LetsInHeld client digest file
-found-grants client digest name file None is h = absurd (not-grants (untold_other file).may_admit h)
+    → (reported_found client name file (option_map offered_key o)).outcome ≡ Grants → LetsInHeld client digest file
+found-grants client digest name file None is h = absurd (not-grants (unreported_other file).may_admit h)
 found-grants client digest name file (Some key) is h =
     let q = client_login client (offered_key key) in
     let (claim, claimed, lets) = alone-grants client q name file (login_claim q) refl h in
     (record { key = key; first = first_held digest file key is; claim = claim; claimed = claimed }, lets)
 
 found-denies : (client : ClientOptions) (digest name file : List ℕ) (o : Option PublicKey) → found_key digest file ≡ o
-    → (told_found client name file (option_map offered_key o)).outcome ≡ Denies → KeepsOutHeld client digest file
+    → (reported_found client name file (option_map offered_key o)).outcome ≡ Denies → KeepsOutHeld client digest file
 found-denies client digest name file None is h =
     inr (
     record {
@@ -52,40 +52,40 @@ found-denies client digest name file (Some key) is h =
     let (claim, claimed, keeps) = alone-denies client q name file (login_claim q) refl h in
     inl (record { key = key; first = first_held digest file key is; claim = claim; claimed = claimed }, keeps)
 
-told-grants : (client : ClientOptions) (digest name file : List ℕ) → (fingerprint_told client digest name (Some file)).outcome ≡ Grants → LetsInHeld client digest file
-told-grants client digest name file h = go (nat_lt file_limit (length file)) h
+reported-grants : (client : ClientOptions) (digest name file : List ℕ) → (fingerprint_reported client digest name (Some file)).outcome ≡ Grants → LetsInHeld client digest file
+reported-grants client digest name file h = go (nat_lt file_limit (length file)) h
   where
-    go : (long : Bool) → (cond long (told_fault client.form name FileTooLong) (told_found client name file (option_map offered_key (found_key digest file)))).outcome ≡ Grants
+    go : (long : Bool) → (cond long (reported_fault client.form name FileTooLong) (reported_found client name file (option_map offered_key (found_key digest file)))).outcome ≡ Grants
         → LetsInHeld client digest file
     go true h = cc
     go false h = found-grants client digest name file (found_key digest file) refl h
 
-told-denies : (client : ClientOptions) (digest name file : List ℕ) → (fingerprint_told client digest name (Some file)).outcome ≡ Denies → KeepsOutHeld client digest file
-told-denies client digest name file h = go (nat_lt file_limit (length file)) h
+reported-denies : (client : ClientOptions) (digest name file : List ℕ) → (fingerprint_reported client digest name (Some file)).outcome ≡ Denies → KeepsOutHeld client digest file
+reported-denies client digest name file h = go (nat_lt file_limit (length file)) h
   where
-    go : (long : Bool) → (cond long (told_fault client.form name FileTooLong) (told_found client name file (option_map offered_key (found_key digest file)))).outcome ≡ Denies
+    go : (long : Bool) → (cond long (reported_fault client.form name FileTooLong) (reported_found client name file (option_map offered_key (found_key digest file)))).outcome ≡ Denies
         → KeepsOutHeld client digest file
     go true h = cc
     go false h = found-denies client digest name file (found_key digest file) refl h
 
 held-grants : (client : ClientOptions) (digest : List ℕ) → Tells (fingerprint_telling client digest) Grants (LetsInHeld client digest)
-held-grants client digest = record { fault = λ name h. cc; none = λ name h. cc; some = λ name file h. told-grants client digest name file h }
+held-grants client digest = record { fault = λ name h. cc; none = λ name h. cc; some = λ name file h. reported-grants client digest name file h }
 
 held-denies : (client : ClientOptions) (digest : List ℕ) → Tells (fingerprint_telling client digest) Denies (KeepsOutHeld client digest)
-held-denies client digest = record { fault = λ name h. cc; none = λ name h. cc; some = λ name file h. told-denies client digest name file h }
+held-denies client digest = record { fault = λ name h. cc; none = λ name h. cc; some = λ name file h. reported-denies client digest name file h }
 
 -- ---- what is asked of the files
 
 -- the files were asked
-record Told (client : ClientOptions) (digest : List ℕ) (names : List (List ℕ)) (s : SourceState) (t : Option SourceState) (r : Response) : Type 0 where
-  told : ToldLines
-  chain : TellsFiles told_both (fingerprint_telling client digest) nothing_told names s t told
-  status : status_of told.outcome ≡ r.status
+record Reported (client : ClientOptions) (digest : List ℕ) (names : List (List ℕ)) (s : SourceState) (t : Option SourceState) (r : Response) : Type 0 where
+  reported : ReportedLines
+  chain : TellsFiles reported_both (fingerprint_telling client digest) nothing_reported names s t reported
+  status : status_of reported.outcome ≡ r.status
 
-told-by : (address : Option AddressValue) (client : ClientOptions) (digest : List ℕ) (names : List (List ℕ)) (s : SourceState) (t : Option SourceState) (r : Response)
-    → AsksFound address client digest names s t r → r.status < 2 → Told client digest names s t r
-told-by None client digest names s t r (unfailed, is) few = let two = status-of r _ is in absurd (omega (arith, two, few))
-told-by (Some address) client digest names s t r (told, chain, is) few = record { told = told; chain = chain; status = sym (status-of r _ is) }
+reported-by : (address : Option AddressValue) (client : ClientOptions) (digest : List ℕ) (names : List (List ℕ)) (s : SourceState) (t : Option SourceState) (r : Response)
+    → AsksFound address client digest names s t r → r.status < 2 → Reported client digest names s t r
+reported-by None client digest names s t r (unfailed, is) few = let two = status-of r _ is in absurd (omega (arith, two, few))
+reported-by (Some address) client digest names s t r (reported, chain, is) few = record { reported = reported; chain = chain; status = sym (status-of r _ is) }
 
 -- ---- what the options spell
 
@@ -113,7 +113,7 @@ asks-names rows zone =
 record AskedOf (rows : List Row) (names : List (List ℕ)) (s : SourceState) (t : Option SourceState) (r : Response) : Type 0 where
   client : FingerprintClient rows
   same : client.asked.names ≡ names
-  told : Told client.asked.client client.asked.digest client.asked.names s t r
+  reported : Reported client.asked.client client.asked.digest client.asked.names s t r
 
 asked-of : (rows : List Row) (names : List (List ℕ)) (zone : Option TimeZone) (s : SourceState) (t : Option SourceState) (r : Response) → names_needed rows ≡ Ok names
     → ReadsZone (zone_text (given option.Zone rows)) zone → (x : Result FingerprintAsked Response) → fingerprint_spelled rows zone ≡ x
@@ -125,15 +125,15 @@ asked-of rows names zone s t r named read (Err fault) spelled (unfailed, is) few
 asked-of rows names zone s t r named read (Ok a) spelled h few = record {
   client = record { zone = zone; read = read; asked = a; spelled = spelled };
   same = ok-same {A = List (List ℕ)} {B = Response} a.names names (sym (asks-names rows zone a spelled) ∙ named);
-  told = told-by (address_of a.client.address) a.client a.digest a.names s t r h few;
+  reported = reported-by (address_of a.client.address) a.client a.digest a.names s t r h few;
 }
 
 admitted : (rows : List Row) (names : List (List ℕ)) (s : SourceState) (t : Option SourceState) (r : Response) → s.failures + length names < most_failures
     → AskedOf rows names s t r → r.status ≡ 0 → FingerprintAdmitted rows s
 admitted rows names s t r room c zero =
     let a = c.client.asked in
-    let grants = status-grants c.told.told.outcome (c.told.status ∙ zero) in
-    elim (some-file _ _ (held-grants a.client a.digest) nothing_told a.names s t c.told.told (room-left s s a.names names refl c.same room) c.told.chain grants) [
+    let grants = status-grants c.reported.reported.outcome (c.reported.status ∙ zero) in
+    elim (some-file _ _ (held-grants a.client a.digest) nothing_reported a.names s t c.reported.reported (room-left s s a.names names refl c.same room) c.reported.chain grants) [
       | inl before ↦ cc
       | inr some ↦ record { client = c.client; admitted = some }
     ]
@@ -142,8 +142,8 @@ kept-out : (rows : List Row) (names : List (List ℕ)) (s : SourceState) (t : Op
     → AskedOf rows names s t r → r.status ≡ 1 → FingerprintKeptOut rows s
 kept-out rows names s t r room c one =
     let a = c.client.asked in
-    let denies = status-denies c.told.told.outcome (c.told.status ∙ one) in
-    let each = each-file _ _ (held-denies a.client a.digest) nothing_told a.names s t c.told.told (room-left s s a.names names refl c.same room) c.told.chain denies in
+    let denies = status-denies c.reported.reported.outcome (c.reported.status ∙ one) in
+    let each = each-file _ _ (held-denies a.client a.digest) nothing_reported a.names s t c.reported.reported (room-left s s a.names names refl c.same room) c.reported.chain denies in
     record { client = c.client; kept_out = each.1 }
 
 -- ---- a run

@@ -94,7 +94,7 @@ vouch-fault (Some name) s t r fault few = let two = status-of r _ fault.1 in abs
 
 no-fault : (by : Deciding) (f : AuditFiles) (s : SourceState) (t : Option SourceState) (r : Response) → IsAuditFault by f s t r → r.status < 2 → ⊥
 no-fault by f s t r (inl fault) few = vouch-fault f.vouch s t r fault few
-no-fault by f s t r (inr (vouched, told, fault)) few = let two = status-of r _ fault.2 in absurd (omega (arith, two, few))
+no-fault by f s t r (inr (vouched, reported, fault)) few = let two = status-of r _ fault.2 in absurd (omega (arith, two, few))
 
 text-fault : (p : TextPlace) (s : SourceState) (t : Option SourceState) (r : Response) → IsTextReadFault p s t r → r.status < 2 → ⊥
 text-fault (TextPlace.in_word x) s t r fault few = fault
@@ -110,8 +110,8 @@ record ByTexts (responds : OptionTexts → SourceState → Option SourceState �
   taken : texts_at p s ≡ Ok texts
   answered : responds texts (after_texts p s) t r
 
-texts-over : (responds : OptionTexts → SourceState → Option SourceState → Response → Type 0) (p : TextPlaces) (s : SourceState) (t : Option SourceState) (r : Response) (told : Result OptionTexts Response)
-    → texts_at p s ≡ told → RespondsTo (λ x s. responds x (after_texts p s)) told s t r → r.status < 2 → ByTexts responds p s t r
+texts-over : (responds : OptionTexts → SourceState → Option SourceState → Response → Type 0) (p : TextPlaces) (s : SourceState) (t : Option SourceState) (r : Response) (reported : Result OptionTexts Response)
+    → texts_at p s ≡ reported → RespondsTo (λ x s. responds x (after_texts p s)) reported s t r → r.status < 2 → ByTexts responds p s t r
 texts-over responds p s t r (Err e) at h few =
     let two = texts-faulty p s e at in
     let same = status-of r e h.1 in
@@ -132,42 +132,42 @@ with-places responds rows p s t r e h = subst (λ (x : Result TextPlaces Respons
 
 -- where the answer over files that are of bytes has this status, it tells this of what is of bytes
 abbrev Tells : {Q : Type 0} → (Q → Type 0) → (Q → Deciding) → ℕ → (Q → AuditFiles → SourceState → Response → Type 0) → Type 0
-Tells {Q = Q} OfBytes by n Told = (q : Q) (f : AuditFiles) (s : SourceState) → OfBytes q → TrustsBytes f s → (audit_response (by q) f s).status ≡ n → Told q f s (audit_response (by q) f s)
+Tells {Q = Q} OfBytes by n Reported = (q : Q) (f : AuditFiles) (s : SourceState) → OfBytes q → TrustsBytes f s → (audit_response (by q) f s).status ≡ n → Reported q f s (audit_response (by q) f s)
 
-login-in : (n : ℕ) → n < 2 → (Told : LoginAsked → AuditFiles → SourceState → Response → Type 0) → Tells LoginBytes login_by n Told
-    → (rows : List Row) (told : Option TimeZone) (p : TextPlaces) (x : OptionTexts) (f : AuditFiles) (s : SourceState) (t : Option SourceState) (r : Response) → TrustsBytes f (after_texts p s)
-    → ReadsZone (zone_text (given option.Zone rows)) told → texts_at p s ≡ Ok x → (q : Result LoginAsked Response) → login_spelled rows told x ≡ q
-    → RespondsTo (λ q. Audits (login_by q) f) q (after_texts p s) t r → r.status ≡ n → TellsLogin Told rows p f s r
-login-in n few Told tells rows told p x f s t r bytes read at (Err e) spelled h is =
-    let two = login-faulty rows told x e spelled in
+login-in : (n : ℕ) → n < 2 → (Reported : LoginAsked → AuditFiles → SourceState → Response → Type 0) → Tells LoginBytes login_by n Reported
+    → (rows : List Row) (reported : Option TimeZone) (p : TextPlaces) (x : OptionTexts) (f : AuditFiles) (s : SourceState) (t : Option SourceState) (r : Response) → TrustsBytes f (after_texts p s)
+    → ReadsZone (zone_text (given option.Zone rows)) reported → texts_at p s ≡ Ok x → (q : Result LoginAsked Response) → login_spelled rows reported x ≡ q
+    → RespondsTo (λ q. Audits (login_by q) f) q (after_texts p s) t r → r.status ≡ n → TellsLogin Reported rows p f s r
+login-in n few Reported tells rows reported p x f s t r bytes read at (Err e) spelled h is =
+    let two = login-faulty rows reported x e spelled in
     let same = status-of r e h.1 in
     absurd (omega (arith, two, same, is, few))
-login-in n few Told tells rows told p x f s t r bytes read at (Ok q) spelled (inr fault) is = absurd (no-fault (login_by q) f (after_texts p s) t r fault (omega (arith, is, few)))
-login-in n few Told tells rows told p x f s t r bytes read at (Ok q) spelled (inl (none, e)) is = record {
-  zone = told;
+login-in n few Reported tells rows reported p x f s t r bytes read at (Ok q) spelled (inr fault) is = absurd (no-fault (login_by q) f (after_texts p s) t r fault (omega (arith, is, few)))
+login-in n few Reported tells rows reported p x f s t r bytes read at (Ok q) spelled (inl (none, e)) is = record {
+  zone = reported;
   read = read;
   texts = x;
   taken = at;
   asked = q;
   spelled = spelled;
-  answered = subst (λ (y : Response). Told q f (after_texts p s) y) (sym e) (tells q f (after_texts p s) (login-bytes rows told x q spelled) bytes (sym (status-of r _ e) ∙ is));
+  answered = subst (λ (y : Response). Reported q f (after_texts p s) y) (sym e) (tells q f (after_texts p s) (login-bytes rows reported x q spelled) bytes (sym (status-of r _ e) ∙ is));
 }
 
-host-in : (n : ℕ) → n < 2 → (Told : HostCheck → AuditFiles → SourceState → Response → Type 0) → Tells HostBytes host_by n Told
+host-in : (n : ℕ) → n < 2 → (Reported : HostCheck → AuditFiles → SourceState → Response → Type 0) → Tells HostBytes host_by n Reported
     → (rows : List Row) (p : TextPlaces) (x : OptionTexts) (f : AuditFiles) (s : SourceState) (t : Option SourceState) (r : Response) → TrustsBytes f (after_texts p s)
     → texts_at p s ≡ Ok x → (q : Result HostCheck Response) → host_spelled rows x ≡ q
-    → RespondsTo (λ q. Audits (host_by q) f) q (after_texts p s) t r → r.status ≡ n → TellsHost Told rows p f s r
-host-in n few Told tells rows p x f s t r bytes at (Err e) spelled h is =
+    → RespondsTo (λ q. Audits (host_by q) f) q (after_texts p s) t r → r.status ≡ n → TellsHost Reported rows p f s r
+host-in n few Reported tells rows p x f s t r bytes at (Err e) spelled h is =
     let two = host-faulty rows x e spelled in
     let same = status-of r e h.1 in
     absurd (omega (arith, two, same, is, few))
-host-in n few Told tells rows p x f s t r bytes at (Ok q) spelled (inr fault) is = absurd (no-fault (host_by q) f (after_texts p s) t r fault (omega (arith, is, few)))
-host-in n few Told tells rows p x f s t r bytes at (Ok q) spelled (inl (none, e)) is = record {
+host-in n few Reported tells rows p x f s t r bytes at (Ok q) spelled (inr fault) is = absurd (no-fault (host_by q) f (after_texts p s) t r fault (omega (arith, is, few)))
+host-in n few Reported tells rows p x f s t r bytes at (Ok q) spelled (inl (none, e)) is = record {
   texts = x;
   taken = at;
   asked = q;
   spelled = spelled;
-  answered = subst (λ (y : Response). Told q f (after_texts p s) y) (sym e) (tells q f (after_texts p s) (host-bytes rows x q spelled) bytes (sym (status-of r _ e) ∙ is));
+  answered = subst (λ (y : Response). Reported q f (after_texts p s) y) (sym e) (tells q f (after_texts p s) (host-bytes rows x q spelled) bytes (sym (status-of r _ e) ∙ is));
 }
 
 -- the files of the command are these
@@ -184,20 +184,20 @@ responds-to words q s t r e (inl (inl responds)) few =
 responds-to words q s t r e (inl (inr (line, none, usage))) few = let two = status-of r _ usage in absurd (omega (arith, two, few))
 responds-to words q s t r e (inr memory) few = let two = status-of r _ memory in absurd (omega (arith, two, few))
 
-login-by : (n : ℕ) → n < 2 → (Told : LoginAsked → AuditFiles → SourceState → Response → Type 0) → Tells LoginBytes login_by n Told
+login-by : (n : ℕ) → n < 2 → (Reported : LoginAsked → AuditFiles → SourceState → Response → Type 0) → Tells LoginBytes login_by n Reported
     → (rows : List Row) (p : TextPlaces) (f : AuditFiles) (s : SourceState) (t : Option SourceState) (r : Response) → text_places rows ≡ Ok p → audit_files rows ≡ Ok f
-    → TrustsBytes f (after_texts p s) → RespondsToLogin rows s t r → r.status ≡ n → TellsLogin Told rows p f s r
-login-by n few Told tells rows p f s t r places e bytes (zone, read, h) is =
+    → TrustsBytes f (after_texts p s) → RespondsToLogin rows s t r → r.status ≡ n → TellsLogin Reported rows p f s r
+login-by n few Reported tells rows p f s t r places e bytes (zone, read, h) is =
     let by = by-texts (RespondsInZone rows zone) p s t r (with-places (RespondsByTexts (RespondsInZone rows zone)) rows p s t r places h) (omega (arith, is, few)) in
-    login-in n few Told tells rows zone p by.texts f s t r bytes read by.taken (login_spelled rows zone by.texts) refl
+    login-in n few Reported tells rows zone p by.texts f s t r bytes read by.taken (login_spelled rows zone by.texts) refl
     (with-files (λ f. RespondsTo (λ q. Audits (login_by q) f) (login_spelled rows zone by.texts)) rows f (after_texts p s) t r e by.answered) is
 
-host-by : (n : ℕ) → n < 2 → (Told : HostCheck → AuditFiles → SourceState → Response → Type 0) → Tells HostBytes host_by n Told
+host-by : (n : ℕ) → n < 2 → (Reported : HostCheck → AuditFiles → SourceState → Response → Type 0) → Tells HostBytes host_by n Reported
     → (rows : List Row) (p : TextPlaces) (f : AuditFiles) (s : SourceState) (t : Option SourceState) (r : Response) → text_places rows ≡ Ok p → audit_files rows ≡ Ok f
-    → TrustsBytes f (after_texts p s) → RespondsToHost rows s t r → r.status ≡ n → TellsHost Told rows p f s r
-host-by n few Told tells rows p f s t r places e bytes h is =
+    → TrustsBytes f (after_texts p s) → RespondsToHost rows s t r → r.status ≡ n → TellsHost Reported rows p f s r
+host-by n few Reported tells rows p f s t r places e bytes h is =
     let by = by-texts (RespondsToHostKey rows) p s t r (with-places (RespondsByTexts (RespondsToHostKey rows)) rows p s t r places h) (omega (arith, is, few)) in
-    host-in n few Told tells rows p by.texts f s t r bytes by.taken (host_spelled rows by.texts) refl
+    host-in n few Reported tells rows p by.texts f s t r bytes by.taken (host_spelled rows by.texts) refl
     (with-files (λ f. RespondsTo (λ q. Audits (host_by q) f) (host_spelled rows by.texts)) rows f (after_texts p s) t r e by.answered) is
 
 abbrev login-request : List Row → Request
@@ -206,18 +206,18 @@ login-request rows = record { subcommand = Login; rows = rows }
 abbrev host-request : List Row → Request
 host-request rows = record { subcommand = Host; rows = rows }
 
-login-run : (n : ℕ) → n < 2 → (Told : LoginAsked → AuditFiles → SourceState → Response → Type 0) → Tells LoginBytes login_by n Told
+login-run : (n : ℕ) → n < 2 → (Reported : LoginAsked → AuditFiles → SourceState → Response → Type 0) → Tells LoginBytes login_by n Reported
     → (words : List (List ℕ)) (rows : List Row) (p : TextPlaces) (f : AuditFiles) (s : SourceState) (t : Option SourceState) (r : Response)
-    → AsksFor Login words s rows p f → Answers words s t r → r.status ≡ n → TellsLogin Told rows p f (source_of words s) r
-login-run n few Told tells words rows p f s t r asks answers is =
-    login-by n few Told tells rows p f (source_of words s) t r asks.texts asks.files asks.bytes
+    → AsksFor Login words s rows p f → Answers words s t r → r.status ≡ n → TellsLogin Reported rows p f (source_of words s) r
+login-run n few Reported tells words rows p f s t r asks answers is =
+    login-by n few Reported tells rows p f (source_of words s) t r asks.texts asks.files asks.bytes
     (responds-to words (Some (login-request rows)) s t r asks.request answers (omega (arith, is, few))) is
 
-host-run : (n : ℕ) → n < 2 → (Told : HostCheck → AuditFiles → SourceState → Response → Type 0) → Tells HostBytes host_by n Told
+host-run : (n : ℕ) → n < 2 → (Reported : HostCheck → AuditFiles → SourceState → Response → Type 0) → Tells HostBytes host_by n Reported
     → (words : List (List ℕ)) (rows : List Row) (p : TextPlaces) (f : AuditFiles) (s : SourceState) (t : Option SourceState) (r : Response)
-    → AsksFor Host words s rows p f → Answers words s t r → r.status ≡ n → TellsHost Told rows p f (source_of words s) r
-host-run n few Told tells words rows p f s t r asks answers is =
-    host-by n few Told tells rows p f (source_of words s) t r asks.texts asks.files asks.bytes
+    → AsksFor Host words s rows p f → Answers words s t r → r.status ≡ n → TellsHost Reported rows p f (source_of words s) r
+host-run n few Reported tells words rows p f s t r asks answers is =
+    host-by n few Reported tells rows p f (source_of words s) t r asks.texts asks.files asks.bytes
     (responds-to words (Some (host-request rows)) s t r asks.request answers (omega (arith, is, few))) is
 
 -- ---- a run
@@ -231,29 +231,29 @@ Answered words t old new status s = (r : Response) × Answers words s t r × Wri
 
 -- where the run was asked for a login and ends with this status, it tells this
 abbrev RunTellsLogin : ℕ → (LoginAsked → AuditFiles → SourceState → Response → Type 0) → List (List ℕ) → Option SourceState → Option Account → Option Account → ℕ → Type 0
-RunTellsLogin n Told words o old new status = IfTells o (λ s. (rows : List Row) (p : TextPlaces) (f : AuditFiles) → AsksFor Login words s rows p f → status ≡ n
-    → (r : Response) × TellsLogin Told rows p f (source_of words s) r × WritesResponse old new r status)
+RunTellsLogin n Reported words o old new status = IfTells o (λ s. (rows : List Row) (p : TextPlaces) (f : AuditFiles) → AsksFor Login words s rows p f → status ≡ n
+    → (r : Response) × TellsLogin Reported rows p f (source_of words s) r × WritesResponse old new r status)
 
 -- the same of a host's key
 abbrev RunTellsHost : ℕ → (HostCheck → AuditFiles → SourceState → Response → Type 0) → List (List ℕ) → Option SourceState → Option Account → Option Account → ℕ → Type 0
-RunTellsHost n Told words o old new status = IfTells o (λ s. (rows : List Row) (p : TextPlaces) (f : AuditFiles) → AsksFor Host words s rows p f → status ≡ n
-    → (r : Response) × TellsHost Told rows p f (source_of words s) r × WritesResponse old new r status)
+RunTellsHost n Reported words o old new status = IfTells o (λ s. (rows : List Row) (p : TextPlaces) (f : AuditFiles) → AsksFor Host words s rows p f → status ≡ n
+    → (r : Response) × TellsHost Reported rows p f (source_of words s) r × WritesResponse old new r status)
 
-run-tells-login : (n : ℕ) → n < 2 → (Told : LoginAsked → AuditFiles → SourceState → Response → Type 0) → Tells LoginBytes login_by n Told
+run-tells-login : (n : ℕ) → n < 2 → (Reported : LoginAsked → AuditFiles → SourceState → Response → Type 0) → Tells LoginBytes login_by n Reported
     → (words : List (List ℕ)) (o t : Option SourceState) (old new : Option Account) (status : ℕ)
-    → IfTells o (Answered words t old new status) → RunTellsLogin n Told words o old new status
-run-tells-login n few Told tells words None t old new status h = tt
-run-tells-login n few Told tells words (Some s) t old new status h = λ room rows p f asks is.
-    let told = h room in
-    (told.0, login-run n few Told tells words rows p f s t told.0 asks told.1 (ends-as n few old new told.0 status told.2 is), told.2)
+    → IfTells o (Answered words t old new status) → RunTellsLogin n Reported words o old new status
+run-tells-login n few Reported tells words None t old new status h = tt
+run-tells-login n few Reported tells words (Some s) t old new status h = λ room rows p f asks is.
+    let reported = h room in
+    (reported.0, login-run n few Reported tells words rows p f s t reported.0 asks reported.1 (ends-as n few old new reported.0 status reported.2 is), reported.2)
 
-run-tells-host : (n : ℕ) → n < 2 → (Told : HostCheck → AuditFiles → SourceState → Response → Type 0) → Tells HostBytes host_by n Told
+run-tells-host : (n : ℕ) → n < 2 → (Reported : HostCheck → AuditFiles → SourceState → Response → Type 0) → Tells HostBytes host_by n Reported
     → (words : List (List ℕ)) (o t : Option SourceState) (old new : Option Account) (status : ℕ)
-    → IfTells o (Answered words t old new status) → RunTellsHost n Told words o old new status
-run-tells-host n few Told tells words None t old new status h = tt
-run-tells-host n few Told tells words (Some s) t old new status h = λ room rows p f asks is.
-    let told = h room in
-    (told.0, host-run n few Told tells words rows p f s t told.0 asks told.1 (ends-as n few old new told.0 status told.2 is), told.2)
+    → IfTells o (Answered words t old new status) → RunTellsHost n Reported words o old new status
+run-tells-host n few Reported tells words None t old new status h = tt
+run-tells-host n few Reported tells words (Some s) t old new status h = λ room rows p f asks is.
+    let reported = h room in
+    (reported.0, host-run n few Reported tells words rows p f s t reported.0 asks reported.1 (ends-as n few old new reported.0 status reported.2 is), reported.2)
 
 pub login_granted_run : (words : List (List ℕ)) (o t : Option SourceState) (old new : Option Account) (status : ℕ)
     → IfTells o (Answered words t old new status) → RunTellsLogin 0 LoginGranted words o old new status

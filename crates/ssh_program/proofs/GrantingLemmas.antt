@@ -1,5 +1,5 @@
 -- An answer with status 0 is a grant, and one with status 1 a denial.
-use Rattle.ssh_program.proofs.Imports.{◌≡◌, ◌<◌, ◌∙◌, cond, ℕ, Bool, true, false, List, length, Option, Some, None, Result, Ok, Err, ap, subst, sym, refl, arith, nat_lt, AuditError, FileTooLong, Signed, host_claim, login_claim, HostCheck, Login, Rights, Reason, Cause, Decision, Granted, Denied, file_limit, LoginMeans, HostMeans, host_means, login_means, host_told, login_told, HostTells, LoginTells, Response, decision_response, decision_status, no_file_response, vouch_response, within_limit, part_at, SourceState, bytes_at, AuditFiles, after_vouching, audit_response, decided_by, decided_response, host_by, login_by, or_vouch_fault, vouched_in, vouched_or_fault, vouched_response, host-found, login-found, HostDenied, HostGranted, HostHeard, LoginDenied, LoginGranted, LoginHeard, TrustsBytes}
+use Rattle.ssh_program.proofs.Imports.{◌≡◌, ◌<◌, ◌∙◌, cond, ℕ, Bool, true, false, List, length, Option, Some, None, Result, Ok, Err, ap, subst, sym, refl, arith, nat_lt, AuditError, FileTooLong, Signed, host_claim, login_claim, HostCheck, Login, Rights, Reason, Cause, Decision, Granted, Denied, file_limit, LoginMeans, HostMeans, host_means, login_means, host_reported, login_reported, HostTells, LoginTells, Response, decision_response, decision_status, no_file_response, vouch_response, within_limit, part_at, SourceState, bytes_at, AuditFiles, after_vouching, audit_response, decided_by, decided_response, host_by, login_by, or_vouch_fault, vouched_in, vouched_or_fault, vouched_response, host-found, login-found, HostDenied, HostGranted, HostHeard, LoginDenied, LoginGranted, LoginHeard, TrustsBytes}
 use Rattle.ssh_program.specs.Granting.{HostBytes, LoginBytes}
 use Rattle.ssh_trust.specs.LoginDecision.{login_decision}
 use Rattle.ssh_trust.specs.HostDecision.{host_decision}
@@ -59,7 +59,7 @@ record Answered {C : Type 0} (claimed : Result C AuditError) (decision : List �
   claim : C
   offered : claimed ≡ Ok claim
   vouched : List Signed
-  told : vouched_in f.vouch s ≡ Ok vouched
+  reported : vouched_in f.vouch s ≡ Ok vouched
   file : List ℕ
   trusted : bytes_at (after_vouching f.vouch s) f.trust ≡ Some file
   printed : r ≡ decision_response (Ok (decision file claim vouched))
@@ -68,14 +68,14 @@ answered-file : {C : Type 0} (claimed : Result C AuditError) (decision : List �
     → vouched_in f.vouch s ≡ Ok vouched → (o : Option (List ℕ)) → bytes_at (after_vouching f.vouch s) f.trust ≡ o
     → (decided_response (decided_by decision claimed) vouched o).status < 2
     → Answered claimed decision f s (decided_response (decided_by decision claimed) vouched o)
-answered-file (Err e) decision f s vouched told None at h = absurd (omega (arith, h))
-answered-file (Ok c) decision f s vouched told None at h = absurd (omega (arith, h))
-answered-file (Err e) decision f s vouched told (Some file) at h = absurd (omega (arith, h))
-answered-file (Ok c) decision f s vouched told (Some file) at h = record {
+answered-file (Err e) decision f s vouched reported None at h = absurd (omega (arith, h))
+answered-file (Ok c) decision f s vouched reported None at h = absurd (omega (arith, h))
+answered-file (Err e) decision f s vouched reported (Some file) at h = absurd (omega (arith, h))
+answered-file (Ok c) decision f s vouched reported (Some file) at h = record {
   claim = c;
   offered = refl;
   vouched = vouched;
-  told = told;
+  reported = reported;
   file = file;
   trusted = at;
   printed = short-printed (nat_lt file_limit (length file)) (decision file c vouched) (short-by (nat_lt file_limit (length file)) (decision file c vouched) h);
@@ -118,7 +118,7 @@ login-heard q f s r fits a = record {
   claim = a.claim;
   claimed = login-found q a.claim fits.0 fits.1 a.offered;
   vouched = a.vouched;
-  told = a.told;
+  reported = a.reported;
   file = a.file;
   trusted = a.trusted;
 }
@@ -144,7 +144,7 @@ login_denied q f s fits bytes h =
     let a = answered (login_claim q) login_decision f s (omega (arith, h)) in
     let denied = denied-by (login_decision a.file a.claim a.vouched) (status-in a ∙ h) in
     let means = subst (λ (d : Decision). LoginMeans a.file a.claim a.vouched d) denied.is (login_means a.file a.claim a.vouched (bytes a.file a.trusted)) in
-    let tells = subst (λ (d : Decision). LoginTells a.file a.claim a.vouched d) denied.is (login_told a.file a.claim a.vouched (bytes a.file a.trusted)) in
+    let tells = subst (λ (d : Decision). LoginTells a.file a.claim a.vouched d) denied.is (login_reported a.file a.claim a.vouched (bytes a.file a.trusted)) in
     record {
       heard = login-heard q f s _ fits a;
       no_grant = means.0;
@@ -159,7 +159,7 @@ host-heard q f s r fits a = record {
   claim = a.claim;
   claimed = host-found q a.claim fits.0 fits.1 a.offered;
   vouched = a.vouched;
-  told = a.told;
+  reported = a.reported;
   file = a.file;
   trusted = a.trusted;
 }
@@ -183,7 +183,7 @@ host_denied q f s fits bytes h =
     let a = answered (host_claim q) host_decision f s (omega (arith, h)) in
     let denied = denied-by (host_decision a.file a.claim a.vouched) (status-in a ∙ h) in
     let means = subst (λ (d : Decision). HostMeans a.file a.claim a.vouched d) denied.is (host_means a.file a.claim a.vouched (bytes a.file a.trusted)) in
-    let tells = subst (λ (d : Decision). HostTells a.file a.claim a.vouched d) denied.is (host_told a.file a.claim a.vouched (bytes a.file a.trusted)) in
+    let tells = subst (λ (d : Decision). HostTells a.file a.claim a.vouched d) denied.is (host_reported a.file a.claim a.vouched (bytes a.file a.trusted)) in
     record {
       heard = host-heard q f s _ fits a;
       no_grant = means.0;

@@ -19,8 +19,8 @@ answer-same trust salts a b h =
 
 fault-same : (trust salts : List ℕ) (a b : SourceState) (u : Option SourceState) (r : Shown) → Alike a b → IsHashFault trust salts a u r → IsHashFault trust salts b u r
 fault-same trust salts a b u r e (inl h) = inl (one-failed a b u salts e h.0, h.1)
-fault-same trust salts a b u r e (inr (told, are, fault)) = inr (
-  told,
+fault-same trust salts a b u r e (inr (reported, are, fault)) = inr (
+  reported,
   sym (salts-same salts a b e) ∙ are,
   (one-failed (after_whole a salts) (after_whole b salts) u trust (whole-alike a b salts e) fault.0, fault.1),
 )
@@ -52,12 +52,12 @@ salts_unread view trust salts (Some s) u e (Ok r) fails is = λ counts. fault-by
 by-salts : (trust salts : List ℕ) (v : Result (List (List ℕ)) Shown) (s t : SourceState) (u : Option SourceState) (r : Shown)
     → salts_in salts s ≡ v → t.failures ≡ s.failures → Alike t (after_whole s salts) → HashesBy trust v t u r → Hashes trust salts s u r
 by-salts trust salts (Err x) s t u r are same left h = inl (none-failed s t u same h.0, h.1 ∙ sym (ap (hashed_over trust (after_whole s salts)) are))
-by-salts trust salts (Ok told) s t u r are same left (inl h) = inl (
+by-salts trust salts (Ok reported) s t u r are same left (inl h) = inl (
   none-failed s t u same h.0,
-  h.1 ∙ (over-same trust t (after_whole s salts) (Ok told) left ∙ sym (ap (hashed_over trust (after_whole s salts)) are)),
+  h.1 ∙ (over-same trust t (after_whole s salts) (Ok reported) left ∙ sym (ap (hashed_over trust (after_whole s salts)) are)),
 )
-by-salts trust salts (Ok told) s t u r are same left (inr h) =
-    inr (inr (told, are, (one-failed t (after_whole s salts) u trust left h.0, h.1)))
+by-salts trust salts (Ok reported) s t u r are same left (inr h) =
+    inr (inr (reported, are, (one-failed t (after_whole s salts) u trust left h.0, h.1)))
 
 pub salts_read : {R E : Type 0} (view : R → Shown) (trust salts file read : List ℕ) (o t u : Option SourceState) (res : Result R E)
     → read ≡ file

@@ -71,10 +71,10 @@ pub use Rattle.ssh_print.specs.declared.explaining.ExplainError.TheVariants.{Unk
 pub use Rattle.ssh_print.specs.declared.showing.ShowError.{ShowError}
 pub use Rattle.ssh_print.specs.declared.showing.ShowKind.{ShowKind}
 pub use Rattle.ssh_print.specs.declared.text.Part.{Part}
-pub use Rattle.ssh_program.specs.Account.{NoneFailed, Account, failing, takes_nothing, taking, where_told}
-pub use Rattle.ssh_program.specs.Admissions.{AsksKey, told_both, nothing_told, telling, KeyAsking, beside_answer, beside_by, Otherness, IsToldUnread, told_by, told_over, unread_fault, AsksBy, AsksFiles, AsksOffer, ToldLines, offer_or_fault, or_shown_fault, told_of, told_response, denied_outcome, outcome_of, status_by, status_of}
-pub use Rattle.ssh_program.specs.AdmissionsView.{told_seen}
-pub use Rattle.ssh_program.specs.AnswerSamples.{outcomes_summed, statuses_told}
+pub use Rattle.ssh_program.specs.Account.{NoneFailed, Account, failing, takes_nothing, taking, where_reported}
+pub use Rattle.ssh_program.specs.Admissions.{AsksKey, reported_both, nothing_reported, telling, KeyAsking, beside_answer, beside_by, Otherness, IsReportedUnread, reported_by, reported_over, unread_fault, AsksBy, AsksFiles, AsksOffer, ReportedLines, offer_or_fault, or_shown_fault, reported_of, reported_response, denied_outcome, outcome_of, status_by, status_of}
+pub use Rattle.ssh_program.specs.AdmissionsView.{reported_seen}
+pub use Rattle.ssh_program.specs.AnswerSamples.{outcomes_summed, statuses_reported}
 pub use Rattle.ssh_program.specs.FileNames.{AuditFiles, SshsigQuestion}
 pub use Rattle.ssh_program.specs.FileNamesView.{question_of, files_seen}
 pub use Rattle.ssh_program.specs.Audits.{host_by, login_by, Deciding, Audits, or_vouch_fault, vouched_in, answer_by, decided_by, after_vouching, vouched_or_fault, evidence_by, audit_response, IsAuditFault, IsVouchReadFault, decided_response, vouched_response, IsTrustReadFault, DecidesReader, refusal_of, answer_over, host_rests, login_rests}
@@ -84,14 +84,14 @@ pub use Rattle.ssh_program.specs.Digests.{answer_where, digest_bytes, IsDigest}
 pub use Rattle.ssh_program.specs.Explanations.{explained_by, usage_after}
 pub use Rattle.ssh_program.specs.FileAnswers.{IsFaultOf, AuditsFile, AuditsVouched, is_memory, AnswersFile}
 pub use Rattle.ssh_program.specs.FileReviews.{telling_review, no_lines, with_file, review_of, review_over, ReviewsFiles}
-pub use Rattle.ssh_program.specs.FileSamples.{faults_in_order, hash_faults_in_order, rewrite_kinds, signature_faults_in_order, trust_files_left, vouch_files_told, vouch_files_written}
+pub use Rattle.ssh_program.specs.FileSamples.{faults_in_order, hash_faults_in_order, rewrite_kinds, signature_faults_in_order, trust_files_left, vouch_files_reported, vouch_files_written}
 pub use Rattle.ssh_program.specs.GrantedRuns.{AsksFor, TellsHost, TellsLogin}
 pub use Rattle.ssh_program.specs.Granting.{HostDenied, HostGranted, LoginDenied, LoginGranted, TrustsBytes, HostHeard, LoginHeard}
 pub use Rattle.ssh_program.specs.Hashings.{Hashes, HashesBy, IsHashFault, hash_response, hashed_over, salts_in, salts_or_fault}
 pub use Rattle.ssh_program.specs.Hosts.{RespondsToHostKey, RespondsToHost}
 pub use Rattle.ssh_program.specs.Clients.{ClientOptions, client_asks, client_form, client_login, client_spelled, login_asking, login_with}
 pub use Rattle.ssh_program.specs.ClientView.{client_seen}
-pub use Rattle.ssh_program.specs.Fingerprints.{AsksFingerprint, AsksFound, IsUnreadFile, fingerprint_telling, fingerprint_told, told_absent, told_alone, told_alone_by, told_fault, told_found}
+pub use Rattle.ssh_program.specs.Fingerprints.{AsksFingerprint, AsksFound, IsUnreadFile, fingerprint_telling, fingerprint_reported, reported_absent, reported_alone, reported_alone_by, reported_fault, reported_found}
 pub use Rattle.ssh_program.specs.KeyPlaces.{key_place, key_place_by}
 pub use Rattle.ssh_program.specs.Keys.{host_asking, AdmitsAt, AdmitsInZone, FingerprintAsked}
 pub use Rattle.ssh_program.specs.Logins.{RespondsInZone, RespondsToLogin}
@@ -106,14 +106,14 @@ pub use Rattle.ssh_program.specs.Rewritings.{new_file, rewrite_over, RewritesFil
 pub use Rattle.ssh_program.specs.Samples.{host_values_in_order, login_asks_more, login_is_spelled, login_values_in_order, show_kinds, texts_of_files}
 pub use Rattle.ssh_program.specs.Shows.{shown_part, ShowsFile, ShowsBytes}
 pub use Rattle.ssh_program.specs.Spelled.{ReviewAsked, RespondsToReview, form_of, review_kind_of, usual_minimum, ReviewsInZone}
-pub use Rattle.ssh_program.specs.Spelling.{RespondsTo, value, given, or_fault, needed, value_or, audit_files, names_needed, sshsig_question, read_or, usual_port, IsToldAs}
+pub use Rattle.ssh_program.specs.Spelling.{RespondsTo, value, given, or_fault, needed, value_or, audit_files, names_needed, sshsig_question, read_or, usual_port, IsReportedAs}
 pub use Rattle.ssh_program.specs.Sshsigs.{Signs, IsContentFault, IsLastFault, IsSecondFault, IsSshsigReadFault, body_over, body_response, claim_answer, claim_over, claim_response, message_response, read_again, signature_response, vouched_over}
 pub use Rattle.ssh_program.specs.Texts.{text_places, spelled_by, OptionText, TextPlace, TextPlaces}
 pub use Rattle.ssh_program.specs.TextsView.{places_seen}
 pub use Rattle.ssh_program.specs.Usage.{usage_line, usage_option}
 pub use Rattle.ssh_program.specs.VouchLines.{HasBytes, vouch_file, vouch_line}
 pub use Rattle.ssh_program.specs.Vouchings.{ByVouching, VouchesFor, again_in}
-pub use Rattle.ssh_program.specs.ArgsSamples.{hosts_asked, key_places_asked, keys_asked, logins_asked, others_asked, reviews_asked, texts_are_asked, usage_told, words_refused}
+pub use Rattle.ssh_program.specs.ArgsSamples.{hosts_asked, key_places_asked, keys_asked, logins_asked, others_asked, reviews_asked, texts_are_asked, usage_reported, words_refused}
 pub use Rattle.ssh_program.specs.ArgsView.{rows_in, request_in_memory, IfAnswered, FaultIs, Parses}
 pub use Rattle.ssh_program.specs.declared.args.ArgName.{ArgName}
 pub use Rattle.ssh_program.specs.declared.args.ArgName.TheVariants.{Zone, Kind}
@@ -130,7 +130,7 @@ pub use Rattle.ssh_program.specs.declared.sshsig.MessageDigest.{MessageDigest}
 pub use Rattle.ssh_program.specs.declared.subcommand.Subcommand.{Subcommand}
 pub use Rattle.ssh_program.specs.declared.subcommand.Subcommand.TheVariants.{Show, Host, Rewrite, Readable, Hash, Admits, Trusts, Review, Explain}
 pub use Rattle.ssh_program.specs.declared.texts.NoText.{NoText}
-pub use Rattle.ssh_program.specs.declared.texts.NoText.TheVariants.{Told}
+pub use Rattle.ssh_program.specs.declared.texts.NoText.TheVariants.{Reported}
 pub use Rattle.ssh_program.specs.declared.texts.TakenText.{TakenText}
 pub use Rattle.ssh_program.specs.declared.texts.TakenTexts.{TakenTexts}
 pub use Rattle.ssh_program.specs.declared.vouching.Vouching.{Vouching}
@@ -146,7 +146,7 @@ pub use Rattle.ssh_text.proofs.LineLemmas.{lines_of-only}
 pub use Rattle.ssh_text.specs.Text.{file_limit, lines_of, AreLines}
 pub use Rattle.ssh_trust.proofs.HostMeaningLemmas.{host_means}
 pub use Rattle.ssh_trust.proofs.MeaningLemmas.{login_means}
-pub use Rattle.ssh_trust.proofs.TellingLemmas.{host_told, login_told}
+pub use Rattle.ssh_trust.proofs.TellingLemmas.{host_reported, login_reported}
 pub use Rattle.ssh_trust.specs.Answer.{GivesOrMemory, OfClaim, RefusesAs, if_short, host_answer, login_answer}
 pub use Rattle.ssh_trust.specs.HostDecision.{HostMeans, host_decision_by, revocation_cause}
 pub use Rattle.ssh_trust.specs.HostScan.{host_scan_of}

@@ -2,7 +2,7 @@
 use Rattle.ssh_program.proofs.Imports.{◌≡◌, ◌∙◌, ◌≤◌, ℕ, Bool, true, false, List, [], ◌∷◌, length, take, drop, Option, Some, None, Result, Ok, Err, refl, ap, subst, arith, inl, inr, IfOk, min, IfTells, SourceState, bytes_at, AreFound, TellsOf, Found, AuditError, Memory, Signed, is_vouched, any-has, has-any, decision_response, GivesOrMemory, OfClaim, RefusesAs, if_short, Deciding, answer_over, or_vouch_fault, AuditsFile, AuditsVouched, RestsOn, VouchAlike, first_resting, kept_by, evidence_found, second_resting, sought_in}
 use Rattle.ssh_files.specs.VouchFile.{vouched_of}
 use Rattle.ssh_print.specs.Responses.{Response as Shown}
-use Rattle.ssh_program.proofs.ChosenLemmas.{told}
+use Rattle.ssh_program.proofs.ChosenLemmas.{reported}
 
 -- ---- what is looked for
 
@@ -13,7 +13,7 @@ sought_given (Err x) evidence refused gives = cc
 
 not-given : (e : List Signed) (x : AuditError) → (x ≡ Memory → ⊥) → GivesOrMemory (Ok e) (Err x) → ⊥
 not-given e x other gives =
-    elim (told (Ok e) (Err x) gives) [
+    elim (reported (Ok e) (Err x) gives) [
       | inl memory ↦ other cc
       | inr same ↦ cc
     ]
@@ -85,10 +85,10 @@ audits-all : (by : Deciding) (name : List ℕ) (a b : List Signed) (s : SourceSt
 audits-all by name a b s u r same (inl h) = inl (h.0, h.1 ∙ ap decision_response same)
 audits-all by name a b s u r same (inr h) = inr h
 
-audits-told : (by : Deciding) (rests : Result (List Signed) AuditError) (found : Found) (name file : List ℕ) (s : SourceState) (u : Option SourceState) (r : Shown) → RestsOn by rests
+audits-reported : (by : Deciding) (rests : Result (List Signed) AuditError) (found : Found) (name file : List ℕ) (s : SourceState) (u : Option SourceState) (r : Shown) → RestsOn by rests
     → TellsOf (first_resting (sought_in rests)) (second_resting (sought_in rests)) file (Ok found)
     → AuditsFile by name (evidence_found (sought_in rests) found) s u r → AuditsVouched by name (or_vouch_fault (vouched_of file)) s u r
-audits-told by rests found name file s u r rest (vouched, read, are) h =
+audits-reported by rests found name file s u r rest (vouched, read, are) h =
     rw read
     (audits-all by name (evidence_found (sought_in rests) found) vouched s u r (answer-same by rests vouched found (bytes_at s name) rest are) h)
 
@@ -101,5 +101,5 @@ pub found_responds : {R E : Type 0} (view : R → Shown) (by : Deciding) (rests 
 found_responds view by rests evidence kept found name file None u res rest is keeps tells h = tt
 found_responds view by rests evidence kept found name file (Some s) u (Err e) rest is keeps tells h = λ counts. tt
 found_responds view by rests evidence kept found name file (Some s) u (Ok r) rest is keeps tells h = λ counts.
-    audits-told by rests found name file s u (view r) rest (subst (λ e. TellsOf (first_resting e) (second_resting e) file (Ok found)) is tells)
+    audits-reported by rests found name file s u (view r) rest (subst (λ e. TellsOf (first_resting e) (second_resting e) file (Ok found)) is tells)
     (subst (λ e. AuditsFile by name (evidence_found e found) s u (view r)) is (subst (λ k. AuditsFile by name k s u (view r)) keeps (h counts)))

@@ -8,31 +8,31 @@ use Rattle.ssh_program.specs.Clients.{client_spelled}
 use Rattle.ssh_program.specs.FingerprintValues.{fingerprint_bytes}
 use Rattle.ssh_program.specs.Keys.{admits_spelled, fingerprint_spelled, trusts_spelled}
 
-pub client_is_spelled : (rows : List Row) (told : Option TimeZone) (user : List ℕ) (now : ℕ) (zone : TimeZone) (empty : EmptyPrincipals) (bits : ℕ) (form : Form) (address : List ℕ) (host : Option (List ℕ)) (rule : List ℕ)
+pub client_is_spelled : (rows : List Row) (reported : Option TimeZone) (user : List ℕ) (now : ℕ) (zone : TimeZone) (empty : EmptyPrincipals) (bits : ℕ) (form : Form) (address : List ℕ) (host : Option (List ℕ)) (rule : List ℕ)
     → value short_bytes option.User rows ≡ Ok user
     → value (number_below (2 ^ 64)) option.Now rows ≡ Ok now
-    → or_fault option.Zone told ≡ Ok zone
+    → or_fault option.Zone reported ≡ Ok zone
     → value_or Any empty_principals_of option.EmptyPrincipals rows ≡ Ok empty
     → value_or 0 (number_below (2 ^ 32)) option.RsaMinimum rows ≡ Ok bits
     → value_or Text form_of option.Form rows ≡ Ok form
     → needed option.Address rows ≡ Ok address
     → host ≡ given option.Host rows
     → rule ≡ zone_text (given option.Zone rows)
-    → client_spelled rows told ≡ Ok (record { user = user; host = host; address = address; now = now; zone = zone; rule = rule; empty_principals = empty; rsa_minimum = bits; form = form })
+    → client_spelled rows reported ≡ Ok (record { user = user; host = host; address = address; now = now; zone = zone; rule = rule; empty_principals = empty; rsa_minimum = bits; form = form })
 unfolding client_spelled
-client_is_spelled rows told user now zone empty bits form address host rule a b c d e f g h i = rw (h, i, a, b, c, d, e, f, g) refl
+client_is_spelled rows reported user now zone empty bits form address host rule a b c d e f g h i = rw (h, i, a, b, c, d, e, f, g) refl
 
-pub admits_is_spelled : (rows : List Row) (told : Option TimeZone) (key : List ℕ) (client : ClientOptions) (names : List (List ℕ))
-    → needed option.Key rows ≡ Ok key → client_spelled rows told ≡ Ok client → names_needed rows ≡ Ok names
-    → admits_spelled rows told ≡ Ok (record { key = key; names = names; asks = client_asks client })
+pub admits_is_spelled : (rows : List Row) (reported : Option TimeZone) (key : List ℕ) (client : ClientOptions) (names : List (List ℕ))
+    → needed option.Key rows ≡ Ok key → client_spelled rows reported ≡ Ok client → names_needed rows ≡ Ok names
+    → admits_spelled rows reported ≡ Ok (record { key = key; names = names; asks = client_asks client })
 unfolding admits_spelled
-admits_is_spelled rows told key client names a b c = rw (a, b, c) refl
+admits_is_spelled rows reported key client names a b c = rw (a, b, c) refl
 
-pub fingerprint_is_spelled : (rows : List Row) (told : Option TimeZone) (digest : List ℕ) (client : ClientOptions) (names : List (List ℕ))
-    → value fingerprint_bytes option.Fingerprint rows ≡ Ok digest → client_spelled rows told ≡ Ok client → names_needed rows ≡ Ok names
-    → fingerprint_spelled rows told ≡ Ok (record { digest = digest; names = names; client = client })
+pub fingerprint_is_spelled : (rows : List Row) (reported : Option TimeZone) (digest : List ℕ) (client : ClientOptions) (names : List (List ℕ))
+    → value fingerprint_bytes option.Fingerprint rows ≡ Ok digest → client_spelled rows reported ≡ Ok client → names_needed rows ≡ Ok names
+    → fingerprint_spelled rows reported ≡ Ok (record { digest = digest; names = names; client = client })
 unfolding fingerprint_spelled
-fingerprint_is_spelled rows told digest client names a b c = rw (a, b, c) refl
+fingerprint_is_spelled rows reported digest client names a b c = rw (a, b, c) refl
 
 abbrev pub host_asks : (host : List ℕ) (port now : ℕ) (empty : EmptyPrincipals) (bits : ℕ) (form : Form) → Offered → KeyAsking
 host_asks host port now empty bits form o = host_asking form (record {

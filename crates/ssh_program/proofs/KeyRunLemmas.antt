@@ -1,5 +1,5 @@
 -- A run of `admits` or `trusts` that ends with status 0 has a line that lets the key in, and one that ends with status 1 has none.
-use Rattle.ssh_program.proofs.Imports.{◌≡◌, ◌⊎◌, ◌<◌, ◌≤◌, ◌+◌, ◌∙◌, ◌^◌, cond, ℕ, Bool, true, false, List, [], ◌∷◌, length, Option, Some, None, Result, Ok, Err, ap, subst, sym, refl, inl, inr, arith, nat_lt, Row, TimeZone, Any, HostCheck, Response, IfTells, SourceState, bytes_at, most_failures, within_limit, empty_principals_of, number_below, zone_text, ReadsZone, Account, source_of, RespondsTo, given, needed, value, value_or, Signed, file_limit, AuditError, FileTooLong, Decision, Granted, Denied, LoginMeans, HostMeans, login_means, host_means, login_claim, host_claim, KeepsOthers, NoReadFailed, TellsFile, TellsFiles, KeyAsking, AsksBy, AsksFiles, AsksOffer, AsksKey, offer_or_fault, or_shown_fault, telling, told_both, nothing_told, ToldLines, status_of, outcome_of, denied_outcome, login_asking, host_asking, AdmitsAt, client_login, key_place_by}
+use Rattle.ssh_program.proofs.Imports.{◌≡◌, ◌⊎◌, ◌<◌, ◌≤◌, ◌+◌, ◌∙◌, ◌^◌, cond, ℕ, Bool, true, false, List, [], ◌∷◌, length, Option, Some, None, Result, Ok, Err, ap, subst, sym, refl, inl, inr, arith, nat_lt, Row, TimeZone, Any, HostCheck, Response, IfTells, SourceState, bytes_at, most_failures, within_limit, empty_principals_of, number_below, zone_text, ReadsZone, Account, source_of, RespondsTo, given, needed, value, value_or, Signed, file_limit, AuditError, FileTooLong, Decision, Granted, Denied, LoginMeans, HostMeans, login_means, host_means, login_claim, host_claim, KeepsOthers, NoReadFailed, TellsFile, TellsFiles, KeyAsking, AsksBy, AsksFiles, AsksOffer, AsksKey, offer_or_fault, or_shown_fault, telling, reported_both, nothing_reported, ReportedLines, status_of, outcome_of, denied_outcome, login_asking, host_asking, AdmitsAt, client_login, key_place_by}
 use Rattle.ssh_offers.specs.Query.{Login as LoginAsked}
 use Rattle.ssh_offers.specs.LoginClaim.{LoginClaim}
 use Rattle.ssh_offers.specs.HostClaim.{HostClaim}
@@ -71,7 +71,7 @@ status-denies Opens h = absurd (omega (arith, h))
 status-denies Faulty h = absurd (omega (arith, h))
 
 -- what a file tells is a fault, if there is none, or if its read failed; and of a file with this outcome this holds
-pub record Tells (tells : Telling ToldLines) (o : Outcome) (P : List ℕ → Type 0) : Type 0 where
+pub record Tells (tells : Telling ReportedLines) (o : Outcome) (P : List ℕ → Type 0) : Type 0 where
   pub fault : (name : List ℕ) → (tells.of_fault name).outcome ≡ o → ⊥
   pub none : (name : List ℕ) → (tells.of_bytes name None).outcome ≡ o → ⊥
   pub some : (name file : List ℕ) → (tells.of_bytes name (Some file)).outcome ≡ o → P file
@@ -79,28 +79,28 @@ pub record Tells (tells : Telling ToldLines) (o : Outcome) (P : List ℕ → Typ
 abbrev HasFile : (List ℕ → Type 0) → List ℕ → SourceState → Type 0
 HasFile P name s = (file : List ℕ) × (bytes_at s name ≡ Some file) × P file
 
-has-bytes : (tells : Telling ToldLines) (o : Outcome) (P : List ℕ → Type 0) (name : List ℕ) (s : SourceState) (first : ToldLines) → Tells tells o P
+has-bytes : (tells : Telling ReportedLines) (o : Outcome) (P : List ℕ → Type 0) (name : List ℕ) (s : SourceState) (first : ReportedLines) → Tells tells o P
     → (bytes : Option (List ℕ)) → bytes_at s name ≡ bytes → (tells.of_bytes name bytes).outcome ≡ o → HasFile P name s
 has-bytes tells o P name s first h None is e = absurd (h.none name e)
 has-bytes tells o P name s first h (Some file) is e = (file, is, h.some name file e)
 
-has-file : (tells : Telling ToldLines) (o : Outcome) (P : List ℕ → Type 0) (name : List ℕ) (s m : SourceState) (first : ToldLines) → Tells tells o P
+has-file : (tells : Telling ReportedLines) (o : Outcome) (P : List ℕ → Type 0) (name : List ℕ) (s m : SourceState) (first : ReportedLines) → Tells tells o P
     → TellsFile tells name s (Some m) first → first.outcome ≡ o → HasFile P name s
-has-file tells o P name s m first h (keeps, inl (failed, is)) e = absurd (h.fault name (sym (ap (λ (x : ToldLines). x.outcome) is) ∙ e))
+has-file tells o P name s m first h (keeps, inl (failed, is)) e = absurd (h.fault name (sym (ap (λ (x : ReportedLines). x.outcome) is) ∙ e))
 has-file tells o P name s m first h (keeps, inr (unfailed, end, is)) e =
-    has-bytes tells o P name s first h (bytes_at s name) refl (sym (ap (λ (x : ToldLines). x.outcome) is) ∙ e)
+    has-bytes tells o P name s first h (bytes_at s name) refl (sym (ap (λ (x : ReportedLines). x.outcome) is) ∙ e)
 
-few-failures : (tells : Telling ToldLines) (name : List ℕ) (s m : SourceState) (first : ToldLines) → TellsFile tells name s (Some m) first → m.failures ≤ s.failures + 1
+few-failures : (tells : Telling ReportedLines) (name : List ℕ) (s m : SourceState) (first : ReportedLines) → TellsFile tells name s (Some m) first → m.failures ≤ s.failures + 1
 few-failures tells name s m first (keeps, inl (failed, is)) = let one : m.failures ≡ s.failures + 1 = failed.0 in omega (arith, one)
 few-failures tells name s m first (keeps, inr (unfailed, end, is)) = let same : m.failures ≡ s.failures = unfailed in omega (arith, same)
 
-pub some-file : (tells : Telling ToldLines) (P : List ℕ → Type 0) → Tells tells Grants P → (sofar : ToldLines) (names : List (List ℕ)) (s : SourceState) (t : Option SourceState) (told : ToldLines)
-    → s.failures + length names < most_failures → TellsFiles told_both tells sofar names s t told → told.outcome ≡ Grants → (sofar.outcome ≡ Grants) ⊎ SomeFile P names s
-some-file tells P h sofar [] s t told room (unfailed, is) e = inl (sym (ap (λ (x : ToldLines). x.outcome) is) ∙ e)
-some-file tells P h sofar (name ∷ names) s t told room (m, first, one, more) e =
+pub some-file : (tells : Telling ReportedLines) (P : List ℕ → Type 0) → Tells tells Grants P → (sofar : ReportedLines) (names : List (List ℕ)) (s : SourceState) (t : Option SourceState) (reported : ReportedLines)
+    → s.failures + length names < most_failures → TellsFiles reported_both tells sofar names s t reported → reported.outcome ≡ Grants → (sofar.outcome ≡ Grants) ⊎ SomeFile P names s
+some-file tells P h sofar [] s t reported room (unfailed, is) e = inl (sym (ap (λ (x : ReportedLines). x.outcome) is) ∙ e)
+some-file tells P h sofar (name ∷ names) s t reported room (m, first, one, more) e =
     let few = few-failures tells name s m first one in
     let left : m.failures + length names < most_failures = omega (arith, room, few) in
-    elim (some-file tells P h (told_both sofar first) names m t told left (more (omega (arith, left))) e) [
+    elim (some-file tells P h (reported_both sofar first) names m t reported left (more (omega (arith, left))) e) [
       | inl both ↦
           elim (after-grants sofar.outcome first.outcome both) [
             | inl before ↦ inl before
@@ -109,13 +109,13 @@ some-file tells P h sofar (name ∷ names) s t told room (m, first, one, more) e
       | inr later ↦ inr (inr (m, one.0, later))
     ]
 
-pub each-file : (tells : Telling ToldLines) (P : List ℕ → Type 0) → Tells tells Denies P → (sofar : ToldLines) (names : List (List ℕ)) (s : SourceState) (t : Option SourceState) (told : ToldLines)
-    → s.failures + length names < most_failures → TellsFiles told_both tells sofar names s t told → told.outcome ≡ Denies → (sofar.outcome ≡ Denies) × EachFile P names s
-each-file tells P h sofar [] s t told room (unfailed, is) e = (sym (ap (λ (x : ToldLines). x.outcome) is) ∙ e, tt)
-each-file tells P h sofar (name ∷ names) s t told room (m, first, one, more) e =
+pub each-file : (tells : Telling ReportedLines) (P : List ℕ → Type 0) → Tells tells Denies P → (sofar : ReportedLines) (names : List (List ℕ)) (s : SourceState) (t : Option SourceState) (reported : ReportedLines)
+    → s.failures + length names < most_failures → TellsFiles reported_both tells sofar names s t reported → reported.outcome ≡ Denies → (sofar.outcome ≡ Denies) × EachFile P names s
+each-file tells P h sofar [] s t reported room (unfailed, is) e = (sym (ap (λ (x : ReportedLines). x.outcome) is) ∙ e, tt)
+each-file tells P h sofar (name ∷ names) s t reported room (m, first, one, more) e =
     let few = few-failures tells name s m first one in
     let left : m.failures + length names < most_failures = omega (arith, room, few) in
-    let (both, rest) = each-file tells P h (told_both sofar first) names m t told left (more (omega (arith, left))) e in
+    let (both, rest) = each-file tells P h (reported_both sofar first) names m t reported left (more (omega (arith, left))) e in
     let (before, here) = after-denies sofar.outcome first.outcome both in
     (before, (has-file tells Denies P name s m first h one here, (m, one.0, rest)))
 
@@ -149,10 +149,10 @@ distrust-key claim file other true d h means = cc
 distrust-key claim file other false (Granted line rights reasons evidence) h means = cc
 distrust-key claim file other false (Denied why reasons evidence) h means = means.0
 
-abbrev pub login-telling : AnswerForm → Otherness → LoginClaim → Telling ToldLines
+abbrev pub login-telling : AnswerForm → Otherness → LoginClaim → Telling ReportedLines
 login-telling who beside claim = telling who (decided_by login_decision (Ok claim)) beside (login_evidence claim)
 
-abbrev host-telling : AnswerForm → Otherness → HostClaim → Telling ToldLines
+abbrev host-telling : AnswerForm → Otherness → HostClaim → Telling ReportedLines
 host-telling who beside claim = telling who (decided_by host_decision (Ok claim)) beside (host_evidence claim)
 
 pub tells-grants : (who : AnswerForm) (beside : Otherness) (claim : LoginClaim) → Tells (login-telling who beside claim) Grants (LetsIn claim)
@@ -206,15 +206,15 @@ record Asked {C : Type 0} (claimed : Result C AuditError) (who : AnswerForm) (de
     (names : List (List ℕ)) (s : SourceState) (t : Option SourceState) (r : Response) : Type 0 where
   claim : C
   is : claimed ≡ Ok claim
-  told : ToldLines
-  chain : TellsFiles told_both (telling who (decided_by decision (Ok claim)) beside (evidence claim)) nothing_told names s t told
-  status : status_of told.outcome ≡ r.status
+  reported : ReportedLines
+  chain : TellsFiles reported_both (telling who (decided_by decision (Ok claim)) beside (evidence claim)) nothing_reported names s t reported
+  status : status_of reported.outcome ≡ r.status
 
 asked-by : {C : Type 0} (claimed : Result C AuditError) (who : AnswerForm) (at : AskedTime) (decision : List ℕ → C → List Signed → Decision) (evidence : C → List Signed) (beside : Otherness)
     (names : List (List ℕ)) (s : SourceState) (t : Option SourceState) (r : Response)
     → AsksBy who at (decided_by decision claimed) beside (evidence_by evidence claimed) names s t r → r.status < 2 → Asked claimed who decision evidence beside names s t r
 asked-by (Err e) who at decision evidence beside names s t r (unfailed, is) few = let two = status-of r _ is in absurd (omega (arith, two, few))
-asked-by (Ok claim) who at decision evidence beside names s t r (told, chain, is) few = record { claim = claim; is = refl; told = told; chain = chain; status = sym (status-of r _ is) }
+asked-by (Ok claim) who at decision evidence beside names s t r (reported, chain, is) few = record { claim = claim; is = refl; reported = reported; chain = chain; status = sym (status-of r _ is) }
 
 offer-faulty : (key : List ℕ) (o : Option (List ℕ)) → IsFaulty (offer_or_fault key o)
 offer-faulty key None f h = sym (status-of _ f (err-same _ f h))
@@ -338,9 +338,9 @@ record ClientOf (rows : List Row) (names : List (List ℕ)) (s : SourceState) (t
   unfailed : NoReadFailed s (Some client.left)
   beside : Otherness
   who : AnswerForm
-  told : ToldLines
-  chain : TellsFiles told_both (login-telling who beside client.claim) nothing_told client.asked.names client.left t told
-  status : status_of told.outcome ≡ r.status
+  reported : ReportedLines
+  chain : TellsFiles reported_both (login-telling who beside client.claim) nothing_reported client.asked.names client.left t reported
+  status : status_of reported.outcome ≡ r.status
 
 client-of : (rows : List Row) (names : List (List ℕ)) (zone : Option TimeZone) (s : SourceState) (t : Option SourceState) (r : Response) → names_needed rows ≡ Ok names
     → ReadsZone (zone_text (given option.Zone rows)) zone → (x : Result KeyAsked Response) → admits_spelled rows zone ≡ x
@@ -377,7 +377,7 @@ client-of rows names zone s t r named read (Ok a) spelled h few =
       unfailed = o.unfailed;
       beside = beside_by other_login (login_claim q);
       who = record { subject = Client; form = form };
-      told = by.told;
+      reported = by.reported;
       chain = by.chain;
       status = by.status;
     }
@@ -388,8 +388,8 @@ room-left s m names others same is room = let len = ap length is in omega (arith
 client-admitted : (rows : List Row) (names : List (List ℕ)) (s : SourceState) (t : Option SourceState) (r : Response) → s.failures + length names < most_failures
     → ClientOf rows names s t r → r.status ≡ 0 → ClientAdmitted rows s
 client-admitted rows names s t r room c zero =
-    let grants = status-grants c.told.outcome (c.status ∙ zero) in
-    elim (some-file _ _ (tells-grants c.who c.beside c.client.claim) nothing_told c.client.asked.names c.client.left t c.told (room-left s c.client.left c.client.asked.names names c.unfailed c.same room) c.chain grants) [
+    let grants = status-grants c.reported.outcome (c.status ∙ zero) in
+    elim (some-file _ _ (tells-grants c.who c.beside c.client.claim) nothing_reported c.client.asked.names c.client.left t c.reported (room-left s c.client.left c.client.asked.names names c.unfailed c.same room) c.chain grants) [
       | inl before ↦ cc
       | inr some ↦ record { client = c.client; admitted = some }
     ]
@@ -397,8 +397,8 @@ client-admitted rows names s t r room c zero =
 client-kept_out : (rows : List Row) (names : List (List ℕ)) (s : SourceState) (t : Option SourceState) (r : Response) → s.failures + length names < most_failures
     → ClientOf rows names s t r → r.status ≡ 1 → ClientKeptOut rows s
 client-kept_out rows names s t r room c one =
-    let denies = status-denies c.told.outcome (c.status ∙ one) in
-    let each = each-file _ _ (tells-denies c.who c.beside c.client.claim) nothing_told c.client.asked.names c.client.left t c.told (room-left s c.client.left c.client.asked.names names c.unfailed c.same room) c.chain denies in
+    let denies = status-denies c.reported.outcome (c.status ∙ one) in
+    let each = each-file _ _ (tells-denies c.who c.beside c.client.claim) nothing_reported c.client.asked.names c.client.left t c.reported (room-left s c.client.left c.client.asked.names names c.unfailed c.same room) c.chain denies in
     record { client = c.client; kept_out = each.1 }
 
 -- ---- a response to a host's key
@@ -409,9 +409,9 @@ record HostOf (rows : List Row) (names : List (List ℕ)) (s : SourceState) (t :
   unfailed : NoReadFailed s (Some host.left)
   beside : Otherness
   who : AnswerForm
-  told : ToldLines
-  chain : TellsFiles told_both (host-telling who beside host.claim) nothing_told host.asked.names host.left t told
-  status : status_of told.outcome ≡ r.status
+  reported : ReportedLines
+  chain : TellsFiles reported_both (host-telling who beside host.claim) nothing_reported host.asked.names host.left t reported
+  status : status_of reported.outcome ≡ r.status
 
 host-of : (rows : List Row) (names : List (List ℕ)) (s : SourceState) (t : Option SourceState) (r : Response) → names_needed rows ≡ Ok names
     → (x : Result KeyAsked Response) → trusts_spelled rows ≡ x
@@ -445,7 +445,7 @@ host-of rows names s t r named (Ok a) spelled h few =
       unfailed = o.unfailed;
       beside = beside_by other_host (host_claim q);
       who = record { subject = Host; form = form };
-      told = by.told;
+      reported = by.reported;
       chain = by.chain;
       status = by.status;
     }
@@ -453,8 +453,8 @@ host-of rows names s t r named (Ok a) spelled h few =
 host-trusted : (rows : List Row) (names : List (List ℕ)) (s : SourceState) (t : Option SourceState) (r : Response) → s.failures + length names < most_failures
     → HostOf rows names s t r → r.status ≡ 0 → HostTrusted rows s
 host-trusted rows names s t r room c zero =
-    let grants = status-grants c.told.outcome (c.status ∙ zero) in
-    elim (some-file _ _ (tells-trusts c.who c.beside c.host.claim) nothing_told c.host.asked.names c.host.left t c.told (room-left s c.host.left c.host.asked.names names c.unfailed c.same room) c.chain grants) [
+    let grants = status-grants c.reported.outcome (c.status ∙ zero) in
+    elim (some-file _ _ (tells-trusts c.who c.beside c.host.claim) nothing_reported c.host.asked.names c.host.left t c.reported (room-left s c.host.left c.host.asked.names names c.unfailed c.same room) c.chain grants) [
       | inl before ↦ cc
       | inr some ↦ record { host = c.host; trusted = some }
     ]
@@ -462,8 +462,8 @@ host-trusted rows names s t r room c zero =
 host-distrusted : (rows : List Row) (names : List (List ℕ)) (s : SourceState) (t : Option SourceState) (r : Response) → s.failures + length names < most_failures
     → HostOf rows names s t r → r.status ≡ 1 → HostDistrusted rows s
 host-distrusted rows names s t r room c one =
-    let denies = status-denies c.told.outcome (c.status ∙ one) in
-    let each = each-file _ _ (tells-distrusts c.who c.beside c.host.claim) nothing_told c.host.asked.names c.host.left t c.told (room-left s c.host.left c.host.asked.names names c.unfailed c.same room) c.chain denies in
+    let denies = status-denies c.reported.outcome (c.status ∙ one) in
+    let each = each-file _ _ (tells-distrusts c.who c.beside c.host.claim) nothing_reported c.host.asked.names c.host.left t c.reported (room-left s c.host.left c.host.asked.names names c.unfailed c.same room) c.chain denies in
     record { host = c.host; distrusted = each.1 }
 
 -- ---- a run

@@ -10,7 +10,7 @@ use Rattle.ssh_review.specs.Forms.{end_line}
 use Rattle.ssh_review.specs.HostKeyRecords.{host_key_counts_of, host_key_records_of}
 use Rattle.ssh_review.specs.KeyRecords.{key_counts_of, key_records_of}
 use Rattle.ssh_review.specs.declared.end.FileFault.TheVariants.{Unread}
-use Rattle.ssh_program.specs.declared.streaming.FileTold.{FileTold}
+use Rattle.ssh_program.specs.declared.streaming.FileReported.{FileReported}
 use Rattle.ssh_program.specs.declared.streaming.Stop.{Stop}
 use Rattle.ssh_program.specs.declared.streaming.Stop.TheVariants as stop
 use Rattle.ssh_program.specs.FileReviews.{TextPut, TextWritten, UnreadPut, no_lines, telling_review, with_file}
@@ -19,13 +19,13 @@ use Rattle.ssh_program.specs.KeySeeking.{ReviewsFor, SeeksBy, SeeksKey, SeeksKey
 use Rattle.ssh_program.specs.Printing.{WritesAnswer}
 use Rattle.ssh_program.proofs.AnsweredLemmas.{spelled_same}
 use Rattle.ssh_program.proofs.FileLemmas.{both_in, within-false}
-use Rattle.ssh_program.proofs.PutLemmas.{end-some, nothing-told, put-nothing, text-told}
+use Rattle.ssh_program.proofs.PutLemmas.{end-some, nothing-reported, put-nothing, text-reported}
 use Rattle.ssh_program.proofs.StreamLemmas.{ends_same, writes_as}
 use Rattle.ssh_program.proofs.WrittenText.{nothing_taken}
 
 -- ---- a file within the limit
 
-pub auth-key-put : (sought : List ℕ) (form : Form) (asking : Asking) (name file : List ℕ) (old new : Option Account) (r : Result FileTold Stop) → length file ≤ file_limit
+pub auth-key-put : (sought : List ℕ) (form : Form) (asking : Asking) (name file : List ℕ) (old new : Option Account) (r : Result FileReported Stop) → length file ≤ file_limit
     → TextPut (key_records_of sought form asking name [] (numbered 1 (lines_of file)) ++ end_line form name (key_counts_of sought asking [] (numbered 1 (lines_of file))).counts (sha256 file))
     (record { counts = (key_counts_of sought asking [] (numbered 1 (lines_of file))).counts; stands = (key_counts_of sought asking [] (numbered 1 (lines_of file))).stands; fault = None }) old new r
     → TextPut (key_review_of sought Auth form asking name file).file.text (key_review_kept (key_review_of sought Auth form asking name file)) old new r
@@ -34,7 +34,7 @@ auth-key-put sought form asking name file old new r few h =
     subst (λ (b : Bool). TextPut (if b then key_fault_review form name TooLong else whole_key_review sought form asking name file).file.text (key_review_kept (if b then key_fault_review form name TooLong else whole_key_review sought form asking name file)) old new r)
     (sym (within-false (length file) few)) h
 
-pub known-key-put : (sought : List ℕ) (form : Form) (asking : Asking) (name file : List ℕ) (old new : Option Account) (r : Result FileTold Stop) → length file ≤ file_limit
+pub known-key-put : (sought : List ℕ) (form : Form) (asking : Asking) (name file : List ℕ) (old new : Option Account) (r : Result FileReported Stop) → length file ≤ file_limit
     → TextPut (host_key_records_of sought form asking name [] (numbered 1 (lines_of file)) ++ end_line form name (host_key_counts_of sought asking [] (numbered 1 (lines_of file))).counts (sha256 file))
     (record { counts = (host_key_counts_of sought asking [] (numbered 1 (lines_of file))).counts; stands = (host_key_counts_of sought asking [] (numbered 1 (lines_of file))).stands; fault = None }) old new r
     → TextPut (key_review_of sought Known form asking name file).file.text (key_review_kept (key_review_of sought Known form asking name file)) old new r
@@ -47,26 +47,26 @@ known-key-put sought form asking name file old new r few h =
 pub auth-key-refused : (sought : List ℕ) (form : Form) (asking : Asking) (name file : List ℕ) (a : Option Account) → length file ≤ file_limit
     → TextPut (key_review_of sought Auth form asking name file).file.text (key_review_kept (key_review_of sought Auth form asking name file)) a a (Err stop.Memory)
 auth-key-refused sought form asking name file a few =
-    let told = key_counts_of sought asking [] (numbered 1 (lines_of file)) in
+    let reported = key_counts_of sought asking [] (numbered 1 (lines_of file)) in
     auth-key-put sought form asking name file a a (Err stop.Memory) few
-    (put-nothing (key_records_of sought form asking name [] (numbered 1 (lines_of file))) (end_line form name told.counts (sha256 file)) (record { counts = told.counts; stands = told.stands; fault = None }) a
-    (end-some form name told.counts (sha256 file)))
+    (put-nothing (key_records_of sought form asking name [] (numbered 1 (lines_of file))) (end_line form name reported.counts (sha256 file)) (record { counts = reported.counts; stands = reported.stands; fault = None }) a
+    (end-some form name reported.counts (sha256 file)))
 
 pub known-key-refused : (sought : List ℕ) (form : Form) (asking : Asking) (name file : List ℕ) (a : Option Account) → length file ≤ file_limit
     → TextPut (key_review_of sought Known form asking name file).file.text (key_review_kept (key_review_of sought Known form asking name file)) a a (Err stop.Memory)
 known-key-refused sought form asking name file a few =
-    let told = host_key_counts_of sought asking [] (numbered 1 (lines_of file)) in
+    let reported = host_key_counts_of sought asking [] (numbered 1 (lines_of file)) in
     known-key-put sought form asking name file a a (Err stop.Memory) few
-    (put-nothing (host_key_records_of sought form asking name [] (numbered 1 (lines_of file))) (end_line form name told.counts (sha256 file)) (record { counts = told.counts; stands = told.stands; fault = None }) a
-    (end-some form name told.counts (sha256 file)))
+    (put-nothing (host_key_records_of sought form asking name [] (numbered 1 (lines_of file))) (end_line form name reported.counts (sha256 file)) (record { counts = reported.counts; stands = reported.stands; fault = None }) a
+    (end-some form name reported.counts (sha256 file)))
 
 -- ---- a file that was read
 
-key-file-told : (sought : List ℕ) (kind : ReviewKind) (form : Form) (asking : Asking) (name file bytes : List ℕ) (o t : Option SourceState) → bytes ≡ file
+key-file-reported : (sought : List ℕ) (kind : ReviewKind) (form : Form) (asking : Asking) (name file bytes : List ℕ) (o t : Option SourceState) → bytes ≡ file
     → IfTells o (λ s. (within_limit (bytes_at s name) ≡ Some file) × IsLeft s (after_whole s name) t) → IfTells o (λ s. KeepsOthers name s t)
     → IfTells o (λ s. TellsFile (telling_key_review sought kind form asking) name s t (key_review_of sought kind form asking name bytes))
-key-file-told sought kind form asking name file bytes None t is loads keeps = tt
-key-file-told sought kind form asking name file bytes (Some s) t is loads keeps = λ counts.
+key-file-reported sought kind form asking name file bytes None t is loads keeps = tt
+key-file-reported sought kind form asking name file bytes (Some s) t is loads keeps = λ counts.
     let load = loads counts in (
       keeps counts,
       inr (
@@ -76,13 +76,13 @@ key-file-told sought kind form asking name file bytes (Some s) t is loads keeps 
       ),
     )
 
-pub key_file_reviewed : (sought : List ℕ) (kind : ReviewKind) (form : Form) (asking : Asking) (name file bytes : List ℕ) (o t : Option SourceState) (old new : Option Account) (r : Result FileTold Stop) → bytes ≡ file
+pub key_file_reviewed : (sought : List ℕ) (kind : ReviewKind) (form : Form) (asking : Asking) (name file bytes : List ℕ) (o t : Option SourceState) (old new : Option Account) (r : Result FileReported Stop) → bytes ≡ file
     → IfTells o (λ s. (within_limit (bytes_at s name) ≡ Some file) × IsLeft s (after_whole s name) t) → IfTells o (λ s. KeepsOthers name s t)
     → TextPut (key_review_of sought kind form asking name bytes).file.text (key_review_kept (key_review_of sought kind form asking name bytes)) old new r
     → TextWritten (telling_key_review sought kind form asking) (λ x. x.file.text) key_review_kept name o t old new r
 key_file_reviewed sought kind form asking name file bytes o t old new r is loads keeps put =
-    text-told (telling_key_review sought kind form asking) (λ x. x.file.text) key_review_kept name o t old new r (key_review_of sought kind form asking name bytes)
-    (key-file-told sought kind form asking name file bytes o t is loads keeps) put
+    text-reported (telling_key_review sought kind form asking) (λ x. x.file.text) key_review_kept name o t old new r (key_review_of sought kind form asking name bytes)
+    (key-file-reported sought kind form asking name file bytes o t is loads keeps) put
 
 -- ---- one that gives no bytes
 
@@ -91,20 +91,20 @@ too-long sought kind form asking name None h = absurd h
 too-long sought Auth form asking name (Some bytes) h = rw (lt-ltb file_limit (length bytes) h) refl
 too-long sought Known form asking name (Some bytes) h = rw (lt-ltb file_limit (length bytes) h) refl
 
-pub key_file_unread : (sought : List ℕ) (kind : ReviewKind) (form : Form) (asking : Asking) (name : List ℕ) (o t : Option SourceState) (e : ReadError) (old new : Option Account) (r : Result FileTold Stop)
+pub key_file_unread : (sought : List ℕ) (kind : ReviewKind) (form : Form) (asking : Asking) (name : List ℕ) (o t : Option SourceState) (e : ReadError) (old new : Option Account) (r : Result FileReported Stop)
     → IfTells o (λ s. FailsLoad name (bytes_at s name) s t e) → IfTells o (λ s. KeepsOthers name s t) → UnreadPut form name e old new r
     → TextWritten (telling_key_review sought kind form asking) (λ x. x.file.text) key_review_kept name o t old new r
 key_file_unread sought kind form asking name o t fault.Memory old new r fails keeps (is, same) =
-    subst (λ (x : Result FileTold Stop). TextWritten (telling_key_review sought kind form asking) (λ x. x.file.text) key_review_kept name o t old new x) (sym is)
-    (nothing-told (telling_key_review sought kind form asking) (λ x. x.file.text) key_review_kept name o t old new (same ∙ nothing_taken old))
+    subst (λ (x : Result FileReported Stop). TextWritten (telling_key_review sought kind form asking) (λ x. x.file.text) key_review_kept name o t old new x) (sym is)
+    (nothing-reported (telling_key_review sought kind form asking) (λ x. x.file.text) key_review_kept name o t old new (same ∙ nothing_taken old))
 key_file_unread sought kind form asking name o t fault.TooLong old new r fails keeps put =
-    text-told (telling_key_review sought kind form asking) (λ x. x.file.text) key_review_kept name o t old new r (key_fault_review form name TooLong)
+    text-reported (telling_key_review sought kind form asking) (λ x. x.file.text) key_review_kept name o t old new r (key_fault_review form name TooLong)
     (both_in _ _ _ o (λ s f k. (k, inr (f.1, no-end name s t k (over_limit (bytes_at s name) f.0), sym (too-long sought kind form asking name (bytes_at s name) f.0)))) fails keeps) put
 key_file_unread sought kind form asking name o t fault.Missing old new r fails keeps put =
-    text-told (telling_key_review sought kind form asking) (λ x. x.file.text) key_review_kept name o t old new r (key_fault_review form name Unread)
+    text-reported (telling_key_review sought kind form asking) (λ x. x.file.text) key_review_kept name o t old new r (key_fault_review form name Unread)
     (both_in _ _ _ o (λ s f k. (k, inr (f.1, no-end name s t k (ap within_limit f.0), sym (ap (key_review_over sought kind form asking name) f.0)))) fails keeps) put
 key_file_unread sought kind form asking name o t fault.Failed old new r fails keeps put =
-    text-told (telling_key_review sought kind form asking) (λ x. x.file.text) key_review_kept name o t old new r (key_fault_review form name Unread)
+    text-reported (telling_key_review sought kind form asking) (λ x. x.file.text) key_review_kept name o t old new r (key_fault_review form name Unread)
     (both_in _ _ _ o (λ s f k. (k, inl (f, refl))) fails keeps) put
 
 -- ---- the key's file
@@ -157,8 +157,8 @@ key_file_unsought view kind form rule asking names key (Some s) t e (Ok r) fails
 
 seeks-same : (kind : ReviewKind) (form : Form) (rule : List ℕ) (asking : Asking) (names : List (List ℕ)) (sought : List ℕ) (a b : SourceState) (u : Option SourceState) (r : Shown) → Alike a b
     → SeeksKey kind form rule asking names sought a u r → SeeksKey kind form rule asking names sought b u r
-seeks-same kind form rule asking names sought a b u r e (inl (told, h, is)) = inl (told, files_same with_key_file (telling_key_review sought kind form asking) no_key_lines names a b u told e h, is)
-seeks-same kind form rule asking names sought a b u r e (inr early) = inr (ends_same with_key_file (telling_key_review sought kind form asking) no_key_lines (λ told. told.lines.text) (λ x. x.file.text) names a b r e early)
+seeks-same kind form rule asking names sought a b u r e (inl (reported, h, is)) = inl (reported, files_same with_key_file (telling_key_review sought kind form asking) no_key_lines names a b u reported e h, is)
+seeks-same kind form rule asking names sought a b u r e (inr early) = inr (ends_same with_key_file (telling_key_review sought kind form asking) no_key_lines (λ reported. reported.lines.text) (λ x. x.file.text) names a b r e early)
 
 file-same : (kind : ReviewKind) (form : Form) (rule : List ℕ) (asking : Asking) (names : List (List ℕ)) (key : List ℕ) (a b : SourceState) (u : Option SourceState) (r : Shown) → Alike a b
     → SeeksKeyOfFile kind form rule asking names key a u r → SeeksKeyOfFile kind form rule asking names key b u r
@@ -179,6 +179,6 @@ by-same false kind form rule asking names key a b u r e h = file-same kind form 
 
 pub reviews_for_same : (key : Option (List ℕ)) (kind : ReviewKind) (form : Form) (rule : List ℕ) (asking : Asking) (names : List (List ℕ)) (a b : SourceState) (u : Option SourceState) (r : Shown) → Alike a b
     → ReviewsFor key kind form rule asking names a u r → ReviewsFor key kind form rule asking names b u r
-reviews_for_same None kind form rule asking names a b u r e (inl (told, h, is)) = inl (told, files_same with_file (telling_review kind form asking) no_lines names a b u told e h, is)
-reviews_for_same None kind form rule asking names a b u r e (inr early) = inr (ends_same with_file (telling_review kind form asking) no_lines (λ told. told.text) (λ x. x.text) names a b r e early)
+reviews_for_same None kind form rule asking names a b u r e (inl (reported, h, is)) = inl (reported, files_same with_file (telling_review kind form asking) no_lines names a b u reported e h, is)
+reviews_for_same None kind form rule asking names a b u r e (inr early) = inr (ends_same with_file (telling_review kind form asking) no_lines (λ reported. reported.text) (λ x. x.text) names a b r e early)
 reviews_for_same (Some key) kind form rule asking names a b u r e h = by-same (is_fingerprint key) kind form rule asking names key a b u r e h

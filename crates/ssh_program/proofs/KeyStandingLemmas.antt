@@ -90,9 +90,9 @@ holds-none Known sought asked name file h = host-key-nowhere sought asked.form a
 -- ---- all files
 
 -- the text of these files follows what was printed so far, and the key stands so far or in one of them
-record Printed (sofar told : KeyLines) (rest : List ℕ) (stands : Bool) : Type 0 where
-  text : told.lines.text ≡ sofar.lines.text ++ rest
-  standing : told.stands ≡ (sofar.stands || stands)
+record Printed (sofar reported : KeyLines) (rest : List ℕ) (stands : Bool) : Type 0 where
+  text : reported.lines.text ≡ sofar.lines.text ++ rest
+  standing : reported.stands ≡ (sofar.stands || stands)
   faultless : sofar.lines.total.faults ≡ 0
 
 -- each of the files was reviewed without a fault, this text is printed of them, and the key stands in one of them or not
@@ -111,10 +111,10 @@ or-assoc : (a b c : Bool) → ((a || b) || c) ≡ (a || (b || c))
 or-assoc true b c = refl
 or-assoc false b c = refl
 
-each-sought : (asked : ReviewAsked) (sought : List ℕ) (sofar : KeyLines) (names : List (List ℕ)) (s : SourceState) (t : Option SourceState) (told : KeyLines)
-    → s.failures + length names < most_failures → TellsFiles with_key_file (telling asked sought) sofar names s t told → told.lines.total.faults ≡ 0
-    → (rest : List ℕ) × (stands : Bool) × Printed sofar told rest stands × EachSought asked sought names s rest stands
-each-sought asked sought sofar [] s t told room (unfailed, is) none = (
+each-sought : (asked : ReviewAsked) (sought : List ℕ) (sofar : KeyLines) (names : List (List ℕ)) (s : SourceState) (t : Option SourceState) (reported : KeyLines)
+    → s.failures + length names < most_failures → TellsFiles with_key_file (telling asked sought) sofar names s t reported → reported.lines.total.faults ≡ 0
+    → (rest : List ℕ) × (stands : Bool) × Printed sofar reported rest stands × EachSought asked sought names s rest stands
+each-sought asked sought sofar [] s t reported room (unfailed, is) none = (
   [],
   false,
   record {
@@ -124,10 +124,10 @@ each-sought asked sought sofar [] s t told room (unfailed, is) none = (
   },
   (refl, refl),
 )
-each-sought asked sought sofar (name ∷ names) s t told room (m, first, one, more) none =
+each-sought asked sought sofar (name ∷ names) s t reported room (m, first, one, more) none =
     let few = few-failures asked sought name s m first one in
     let left : m.failures + length names < most_failures = omega (arith, room, few) in
-    let (rest, others, printed, each) = each-sought asked sought (with_key_file sofar first) names m t told left (more (omega (arith, left))) none in
+    let (rest, others, printed, each) = each-sought asked sought (with_key_file sofar first) names m t reported left (more (omega (arith, left))) none in
     let (before, here) = none-counted sofar.lines.total.faults (fault_count first.file.fault) printed.faultless in
     let whole = some-faults first.file.fault here in (
       first.file.text ++ rest,
@@ -204,17 +204,17 @@ record Found (asked : ReviewAsked) (sought : List ℕ) (s : SourceState) (r : Re
 
 found-of : (asked : ReviewAsked) (sought : List ℕ) (s : SourceState) (t : Option SourceState) (r : Response) → s.failures + length asked.names < most_failures
     → SeeksKey asked.kind asked.form asked.rule asked.asking asked.names sought s t r → r.status < 2 → Found asked sought s r
-found-of asked sought s t r room (inr (told, front, is)) few = let two : r.status ≡ 2 = status-of r _ is in absurd (omega (arith, two, few))
-found-of asked sought s t r room (inl (told, chain, is)) few =
+found-of asked sought s t r room (inr (reported, front, is)) few = let two : r.status ≡ 2 = status-of r _ is in absurd (omega (arith, two, few))
+found-of asked sought s t r room (inl (reported, chain, is)) few =
     let status = status-of r _ is in
-    let none = status-faultless told.lines.total told.stands (omega (arith, status, few)) in
-    let (rest, stands, printed, each) = each-sought asked sought no_key_lines asked.names s t told room chain none in
-    let whole : r.text ≡ [] ++ (rest ++ total_line asked.form (kind_name asked.kind) asked.rule asked.asking told.lines.total) = ap (λ (x : Response). x.text) is ∙ ap (λ (x : List ℕ). x ++ total_line asked.form (kind_name asked.kind) asked.rule asked.asking told.lines.total) printed.text in
-    let standing : told.stands ≡ stands = printed.standing in
+    let none = status-faultless reported.lines.total reported.stands (omega (arith, status, few)) in
+    let (rest, stands, printed, each) = each-sought asked sought no_key_lines asked.names s t reported room chain none in
+    let whole : r.text ≡ [] ++ (rest ++ total_line asked.form (kind_name asked.kind) asked.rule asked.asking reported.lines.total) = ap (λ (x : Response). x.text) is ∙ ap (λ (x : List ℕ). x ++ total_line asked.form (kind_name asked.kind) asked.rule asked.asking reported.lines.total) printed.text in
+    let standing : reported.stands ≡ stands = printed.standing in
     record {
-      reviews = prints-each asked sought r.text [] (total_line asked.form (kind_name asked.kind) asked.rule asked.asking told.lines.total) asked.names s rest stands each whole;
-      nowhere = λ done. nowhere-in asked sought asked.names s rest stands each (sym standing ∙ status-nowhere told.lines.total told.stands (sym status ∙ done));
-      stands = λ done. stands-in asked sought asked.names s rest stands each (sym standing ∙ status-stands told.lines.total told.stands (sym status ∙ done));
+      reviews = prints-each asked sought r.text [] (total_line asked.form (kind_name asked.kind) asked.rule asked.asking reported.lines.total) asked.names s rest stands each whole;
+      nowhere = λ done. nowhere-in asked sought asked.names s rest stands each (sym standing ∙ status-nowhere reported.lines.total reported.stands (sym status ∙ done));
+      stands = λ done. stands-in asked sought asked.names s rest stands each (sym standing ∙ status-stands reported.lines.total reported.stands (sym status ∙ done));
     }
 
 -- ---- the key
@@ -244,8 +244,8 @@ by-spelled : (asked : ReviewAsked) (key : List ℕ) (s : SourceState) (t : Optio
     → (sought : Result (List ℕ) Response) → spelled_fingerprint key ≡ sought → RespondsTo (SeeksKey asked.kind asked.form asked.rule asked.asking asked.names) sought s t r → r.status < 2 → GivenKey asked key s r
 by-spelled asked key s t r is room (Err fault) spelled (unfailed, same) few =
     let two = spelled-faulty key fault spelled in
-    let told = status-of r fault same in
-    absurd (omega (arith, two, told, few))
+    let reported = status-of r fault same in
+    absurd (omega (arith, two, reported, few))
 by-spelled asked key s t r is room (Ok sought) spelled h few = record {
   fingerprint = sought;
   left = s;
@@ -258,8 +258,8 @@ of-file : (asked : ReviewAsked) (key : List ℕ) (s m : SourceState) (t : Option
     → GivenKey asked key s r
 of-file asked key s m t r is room keeps (Err fault) printed (unfailed, same) few =
     let two = file-faulty key (within_limit (bytes_at s key)) fault printed in
-    let told = status-of r fault same in
-    absurd (omega (arith, two, told, few))
+    let reported = status-of r fault same in
+    absurd (omega (arith, two, reported, few))
 of-file asked key s m t r is room keeps (Ok sought) printed h few = record {
   fingerprint = sought;
   left = m;
@@ -306,8 +306,8 @@ sought-in rows names key zone s t r named room read (Ok a) spelled h few =
       given_key = given-by a key s t r (is_fingerprint key) refl (subst (λ (x : List (List ℕ)). s.failures + length x < most_failures) are room) h few;
     }
 
-told-of : (rows : List Row) (key : List ℕ) (s : SourceState) (r : Response) → SoughtRun rows key s r → KeySought rows key s r
-told-of rows key s r h = record {
+reported-of : (rows : List Row) (key : List ℕ) (s : SourceState) (r : Response) → SoughtRun rows key s r → KeySought rows key s r
+reported-of rows key s r h = record {
   zone = h.zone;
   read = h.read;
   asked = h.asked;
@@ -321,7 +321,7 @@ told-of rows key s r h = record {
 pub key_nowhere_run : (words : List (List ℕ)) (o t : Option SourceState) (old new : Option Account) (status : ℕ) → IfTells o (Answered words t old new status)
     → IfTells o (λ s. (rows : List Row) (names : List (List ℕ)) (key : List ℕ) → AsksOfFiles command.Review words s rows names → AsksForKey rows key → status ≡ 0
     → (r : Response) × KeyNowhere rows key (source_of words s) r × WritesResponse old new r status)
-unfolding told-of sought-in
+unfolding reported-of sought-in
 key_nowhere_run words None t old new status h = tt
 key_nowhere_run words (Some s) t old new status h = λ room rows names key asks for_key is.
     let (r, answers, writes) = h room in
@@ -330,12 +330,12 @@ key_nowhere_run words (Some s) t old new status h = λ room rows names key asks 
     let (zone, read, by) = asked-run command.Review words s t r rows asks.request answers few in
     let run = sought-in rows names key zone (source_of words s) t r asks.named asks.room read (review_spelled rows zone) refl
     (subst (λ (k : Option (List ℕ)). RespondsTo (λ q. ReviewsFor k q.kind q.form q.rule q.asking q.names) (review_spelled rows zone) (source_of words s) t r) for_key by) few in
-    (r, record { sought = told-of rows key (source_of words s) r run; nowhere = run.given_key.found.nowhere done }, writes)
+    (r, record { sought = reported-of rows key (source_of words s) r run; nowhere = run.given_key.found.nowhere done }, writes)
 
 pub key_standing_run : (words : List (List ℕ)) (o t : Option SourceState) (old new : Option Account) (status : ℕ) → IfTells o (Answered words t old new status)
     → IfTells o (λ s. (rows : List Row) (names : List (List ℕ)) (key : List ℕ) → AsksOfFiles command.Review words s rows names → AsksForKey rows key → status ≡ 1
     → (r : Response) × KeyStanding rows key (source_of words s) r × WritesResponse old new r status)
-unfolding told-of sought-in
+unfolding reported-of sought-in
 key_standing_run words None t old new status h = tt
 key_standing_run words (Some s) t old new status h = λ room rows names key asks for_key is.
     let (r, answers, writes) = h room in
@@ -344,4 +344,4 @@ key_standing_run words (Some s) t old new status h = λ room rows names key asks
     let (zone, read, by) = asked-run command.Review words s t r rows asks.request answers few in
     let run = sought-in rows names key zone (source_of words s) t r asks.named asks.room read (review_spelled rows zone) refl
     (subst (λ (k : Option (List ℕ)). RespondsTo (λ q. ReviewsFor k q.kind q.form q.rule q.asking q.names) (review_spelled rows zone) (source_of words s) t r) for_key by) few in
-    (r, record { sought = told-of rows key (source_of words s) r run; stands = run.given_key.found.stands done }, writes)
+    (r, record { sought = reported-of rows key (source_of words s) r run; stands = run.given_key.found.stands done }, writes)

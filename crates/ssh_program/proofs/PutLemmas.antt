@@ -9,7 +9,7 @@ use Rattle.ssh_review.specs.declared.end.FileFault.{FileFault}
 use Rattle.ssh_review.specs.declared.end.Form.TheVariants.{Json, Text}
 use Rattle.ssh_review.specs.declared.key_review.KeyCounts.{KeyCounts}
 use Rattle.ssh_review.specs.declared.records.Records.{Records}
-use Rattle.ssh_program.specs.declared.streaming.FileTold.{FileTold}
+use Rattle.ssh_program.specs.declared.streaming.FileReported.{FileReported}
 use Rattle.ssh_program.specs.declared.streaming.Stop.{Stop}
 use Rattle.ssh_program.specs.declared.streaming.Stop.TheVariants as stop
 use Rattle.ssh_program.specs.FileReviews.{TextPut, TextWritten}
@@ -61,7 +61,7 @@ put-more tells form asking name begun now next old p q out so makes taken file t
 
 -- of a text with another behind it
 up-to : (old p : Option Account) (text front rest end : List ℕ) → text ≡ front ++ rest → TakesAll old p front → TakesUpTo old p (text ++ end) (rest ++ end)
-up-to old p text front rest end parts took = record { front = front; parts = ap (λ t. t ++ end) parts ∙ append_assoc front rest end; told = took }
+up-to old p text front rest end parts took = record { front = front; parts = ap (λ t. t ++ end) parts ∙ append_assoc front rest end; reported = took }
 
 -- memory could not be allocated
 pub put-refused : {S K : Type 0} (tells : S → Form → Asking → List ℕ → List ℕ → List (ℕ × List ℕ) → List ℕ → KeyCounts → Type 0) (form : Form) (asking : Asking) (name file text digest : List ℕ) (all : KeyCounts) (kept : K) (begun now : Records S) (old p : Option Account)
@@ -80,7 +80,7 @@ put-refused tells form asking name file text digest all kept begun now old p so 
     )
 
 -- nothing was written of a text that has an end
-pub put-nothing : (text end : List ℕ) (kept : FileTold) (a : Option Account) → 0 < length end → TextPut (text ++ end) kept a a (Err stop.Memory)
+pub put-nothing : (text end : List ℕ) (kept : FileReported) (a : Option Account) → 0 < length end → TextPut (text ++ end) kept a a (Err stop.Memory)
 put-nothing text end kept a some = ([], record { rest = text ++ end; parts = refl; proper = longer text end some; lines = inl refl }, nothing_taken a)
 
 -- a write failed in the records
@@ -93,16 +93,16 @@ put-broken tells form asking name file text end all begun now next old p q out s
 
 -- the last records with the end of the file are what is left
 last-is : {S : Type 0} (tells : S → Form → Asking → List ℕ → List ℕ → List (ℕ × List ℕ) → List ℕ → KeyCounts → Type 0) (form : Form) (asking : Asking) (name file rest digest : List ℕ) (all : KeyCounts) (now next : Records S) (out last : List ℕ)
-    → MakesFront tells form asking name now next [] out → IsAllMade tells form asking name next → last ≡ out ++ end_line form name next.told.counts digest → HasLeft tells form asking name file rest all now
+    → MakesFront tells form asking name now next [] out → IsAllMade tells form asking name next → last ≡ out ++ end_line form name next.reported.counts digest → HasLeft tells form asking name file rest all now
     → last ≡ rest ++ end_line form name all.counts digest
 last-is tells form asking name file rest digest all now next out last makes over is w =
     let k = makes file rest all w in
     let e = over file k.0 all k.1 in
     let same : out ≡ rest = sym (append-nil out) ∙ (ap (λ l. out ++ l) (sym e.0) ∙ k.2) in
-    is ∙ (ap (λ (told : KeyCounts). out ++ end_line form name told.counts digest) e.1 ∙ ap (λ l. l ++ end_line form name all.counts digest) same)
+    is ∙ (ap (λ (reported : KeyCounts). out ++ end_line form name reported.counts digest) e.1 ∙ ap (λ l. l ++ end_line form name all.counts digest) same)
 
 pub put-last-broken : {S : Type 0} (tells : S → Form → Asking → List ℕ → List ℕ → List (ℕ × List ℕ) → List ℕ → KeyCounts → Type 0) (form : Form) (asking : Asking) (name file text digest : List ℕ) (all : KeyCounts) (begun now next : Records S) (old p q : Option Account) (out last : List ℕ)
-    → PutSoFar tells form asking name begun now old p → MakesFront tells form asking name now next [] out → IsAllMade tells form asking name next → last ≡ out ++ end_line form name next.told.counts digest
+    → PutSoFar tells form asking name begun now old p → MakesFront tells form asking name now next [] out → IsAllMade tells form asking name next → last ≡ out ++ end_line form name next.reported.counts digest
     → Breaks p q last → HasLeft tells form asking name file text all begun → Breaks old q (text ++ end_line form name all.counts digest)
 put-last-broken tells form asking name file text digest all begun now next old p q out last so makes over is breaks w =
     let (front, rest, left, parts, lines, took) = so file text all w in
@@ -111,9 +111,9 @@ put-last-broken tells form asking name file text digest all begun now next old p
     (sym (last-is tells form asking name file rest digest all now next out last makes over is left) ∙ sym (append-nil last)) breaks
 
 pub put-all : {S : Type 0} (tells : S → Form → Asking → List ℕ → List ℕ → List (ℕ × List ℕ) → List ℕ → KeyCounts → Type 0) (form : Form) (asking : Asking) (name file text digest : List ℕ) (all : KeyCounts) (begun now next : Records S) (old p q : Option Account) (out last : List ℕ)
-    → PutSoFar tells form asking name begun now old p → MakesFront tells form asking name now next [] out → IsAllMade tells form asking name next → last ≡ out ++ end_line form name next.told.counts digest
+    → PutSoFar tells form asking name begun now old p → MakesFront tells form asking name now next [] out → IsAllMade tells form asking name next → last ≡ out ++ end_line form name next.reported.counts digest
     → TakesAll p q last → HasLeft tells form asking name file text all begun
-    → TextPut {K = FileTold} (text ++ end_line form name all.counts digest) (record { counts = all.counts; stands = all.stands; fault = None }) old q (Ok (record { counts = next.told.counts; stands = next.told.stands; fault = None }))
+    → TextPut {K = FileReported} (text ++ end_line form name all.counts digest) (record { counts = all.counts; stands = all.stands; fault = None }) old q (Ok (record { counts = next.reported.counts; stands = next.reported.stands; fault = None }))
 put-all tells form asking name file text digest all begun now next old p q out last so makes over is taken w =
     let (front, rest, left, parts, lines, took) = so file text all w in
     let k = makes file rest all left in
@@ -121,22 +121,22 @@ put-all tells form asking name file text digest all begun now next old p q out l
     let end = end_line form name all.counts digest in (
       at_last old q (text ++ end) (taken_on old p q (text ++ end) (rest ++ end) last [] (up-to old p text front rest end parts took)
           (sym (last-is tells form asking name file rest digest all now next out last makes over is left) ∙ sym (append-nil last)) taken),
-      ap (λ (told : KeyCounts). record { counts = told.counts; stands = told.stands; fault = None }) e.1,
+      ap (λ (reported : KeyCounts). record { counts = reported.counts; stands = reported.stands; fault = None }) e.1,
     )
 
 -- ---- of a file
 
 -- the text was written that the file tells
-pub text-told : {A K : Type 0} (tells : Telling A) (text_of : A → List ℕ) (of : A → K) (name : List ℕ) (o t : Option SourceState) (old new : Option Account) (r : Result K Stop) (told : A)
-    → IfTells o (λ s. TellsFile tells name s t told) → TextPut (text_of told) (of told) old new r → TextWritten tells text_of of name o t old new r
-text-told tells text_of of name o t old new (Ok k) told file (taken, is) = (told, file, taken, is)
-text-told tells text_of of name o t old new (Err stop.Memory) told file (part, cut, taken) = (part, taken, inr (told, file, cut))
-text-told tells text_of of name o t old new (Err stop.Write) told file breaks = (told, file, breaks)
+pub text-reported : {A K : Type 0} (tells : Telling A) (text_of : A → List ℕ) (of : A → K) (name : List ℕ) (o t : Option SourceState) (old new : Option Account) (r : Result K Stop) (reported : A)
+    → IfTells o (λ s. TellsFile tells name s t reported) → TextPut (text_of reported) (of reported) old new r → TextWritten tells text_of of name o t old new r
+text-reported tells text_of of name o t old new (Ok k) reported file (taken, is) = (reported, file, taken, is)
+text-reported tells text_of of name o t old new (Err stop.Memory) reported file (part, cut, taken) = (part, taken, inr (reported, file, cut))
+text-reported tells text_of of name o t old new (Err stop.Write) reported file breaks = (reported, file, breaks)
 
 -- nothing was
-pub nothing-told : {A K : Type 0} (tells : Telling A) (text_of : A → List ℕ) (of : A → K) (name : List ℕ) (o t : Option SourceState) (old new : Option Account) → TakesAll old new []
+pub nothing-reported : {A K : Type 0} (tells : Telling A) (text_of : A → List ℕ) (of : A → K) (name : List ℕ) (o t : Option SourceState) (old new : Option Account) → TakesAll old new []
     → TextWritten tells text_of of name o t old new (Err stop.Memory)
-nothing-told tells text_of of name o t old new none = ([], none, inl refl)
+nothing-reported tells text_of of name o t old new none = ([], none, inl refl)
 
 -- ---- the end of a file with a fault
 

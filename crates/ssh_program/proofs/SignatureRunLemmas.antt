@@ -63,12 +63,12 @@ answered-claim : (w : SshsigQuestion) (s : SourceState) (vouched : List Signed) 
     → (claim : Result FileSignature AuditError) → sshsig_claim body ≡ claim
     → (sshsig_response (claim_answer (λ v. sshsig_answer v message w.namespace vouched) claim)).status < 2
     → SignatureAnswered w s (sshsig_response (claim_answer (λ v. sshsig_answer v message w.namespace vouched) claim))
-answered-claim w s vouched body message bytes told first second (Err e) is few = absurd (omega (arith, few))
-answered-claim w s vouched body message bytes told first second (Ok v) is few =
+answered-claim w s vouched body message bytes reported first second (Err e) is few = absurd (omega (arith, few))
+answered-claim w s vouched body message bytes reported first second (Ok v) is few =
     let (spelled, serves) = claimed-as body v bytes is in
     record {
       vouched = vouched;
-      told = told;
+      reported = reported;
       body = body;
       body_read = first;
       message = message;
@@ -82,15 +82,15 @@ answered-message : (w : SshsigQuestion) (s : SourceState) (vouched : List Signed
     → within_limit (bytes_at (after_vouching w.vouch s) w.body) ≡ Some body
     → (message : Option (List ℕ)) → within_limit (bytes_at (after_whole (after_vouching w.vouch s) w.body) w.message) ≡ message
     → (claim_over w vouched (sshsig_claim body) message).status < 2 → SignatureAnswered w s (claim_over w vouched (sshsig_claim body) message)
-answered-message w s vouched body bytes told first None is few = absurd (omega (arith, few))
-answered-message w s vouched body bytes told first (Some message) is few = answered-claim w s vouched body message bytes told first is (sshsig_claim body) refl few
+answered-message w s vouched body bytes reported first None is few = absurd (omega (arith, few))
+answered-message w s vouched body bytes reported first (Some message) is few = answered-claim w s vouched body message bytes reported first is (sshsig_claim body) refl few
 
 answered-body : (w : SshsigQuestion) (s : SourceState) (vouched : List Signed) → BodyBytes w s → vouched_in w.vouch s ≡ Ok vouched
     → (body : Option (List ℕ)) → within_limit (bytes_at (after_vouching w.vouch s) w.body) ≡ body
     → (body_over w vouched (after_vouching w.vouch s) body).status < 2 → SignatureAnswered w s (body_over w vouched (after_vouching w.vouch s) body)
-answered-body w s vouched bytes told None is few = absurd (omega (arith, few))
-answered-body w s vouched bytes told (Some body) is few =
-    answered-message w s vouched body (bytes body is) told is (within_limit (bytes_at (after_whole (after_vouching w.vouch s) w.body) w.message)) refl few
+answered-body w s vouched bytes reported None is few = absurd (omega (arith, few))
+answered-body w s vouched bytes reported (Some body) is few =
+    answered-message w s vouched body (bytes body is) reported is (within_limit (bytes_at (after_whole (after_vouching w.vouch s) w.body) w.message)) refl few
 
 answered-vouch : (w : SshsigQuestion) (s : SourceState) → BodyBytes w s → (v : Result (List Signed) Response) → vouched_in w.vouch s ≡ v
     → (vouched_over w (after_vouching w.vouch s) v).status < 2 → SignatureAnswered w s (vouched_over w (after_vouching w.vouch s) v)
@@ -108,8 +108,8 @@ content-fault w s t r (inr (body, read, fault)) few = let two = status-of r _ fa
 
 read-fault : (w : SshsigQuestion) (s : SourceState) (t : Option SourceState) (r : Response) → IsSshsigReadFault w s t r → r.status < 2 → ⊥
 read-fault w s t r (inl fault) few = vouch-fault w.vouch s t r fault few
-read-fault w s t r (inr (vouched, told, inl fault)) few = content-fault w (after_vouching w.vouch s) t r fault few
-read-fault w s t r (inr (vouched, told, inr (body, read, second))) few = vouch-fault (read_again w.vouch) (after_whole (after_whole (after_vouching w.vouch s) w.body) w.message) t r second.2 few
+read-fault w s t r (inr (vouched, reported, inl fault)) few = content-fault w (after_vouching w.vouch s) t r fault few
+read-fault w s t r (inr (vouched, reported, inr (body, read, second))) few = vouch-fault (read_again w.vouch) (after_whole (after_whole (after_vouching w.vouch s) w.body) w.message) t r second.2 few
 
 signed : (w : SshsigQuestion) (s : SourceState) (t : Option SourceState) (r : Response) → BodyBytes w s → Signs w s t r → r.status < 2 → SignatureAnswered w s r
 signed w s t r bytes (inr fault) few = absurd (read-fault w s t r fault few)

@@ -10,19 +10,19 @@ use Rattle.ssh_program.proofs.AnsweredLemmas.{spelled_same}
 use Rattle.ssh_program.proofs.KeySeekingLemmas.{reviews_for_same}
 use Rattle.ssh_program.proofs.StreamLemmas.{writes_in}
 
-pub review_is_spelled : (rows : List Row) (told : Option TimeZone) (kind : ReviewKind) (now : ℕ) (zone : TimeZone) (minimum : ℕ) (codes : List Code) (form : Form) (names : List (List ℕ)) (rule : List ℕ) (is_given : Bool)
+pub review_is_spelled : (rows : List Row) (reported : Option TimeZone) (kind : ReviewKind) (now : ℕ) (zone : TimeZone) (minimum : ℕ) (codes : List Code) (form : Form) (names : List (List ℕ)) (rule : List ℕ) (is_given : Bool)
     → value review_kind_of option.Kind rows ≡ Ok kind
     → value (number_below (2 ^ 64)) option.Now rows ≡ Ok now
-    → or_fault option.Zone told ≡ Ok zone
+    → or_fault option.Zone reported ≡ Ok zone
     → value_or usual_minimum (number_below (2 ^ 32)) option.RsaMinimum rows ≡ Ok minimum
     → value_or default_codes codes_in option.Findings rows ≡ Ok codes
     → value_or Text form_of option.Form rows ≡ Ok form
     → names_needed rows ≡ Ok names
     → rule ≡ review_rule rows
     → is_given ≡ is_zone_given rows
-    → review_spelled rows told ≡ Ok (record { kind = kind; form = form; rule = rule; asking = record { now = now; zone = zone; is_zone_given = is_given; rsa_minimum = minimum; told = codes }; names = names })
+    → review_spelled rows reported ≡ Ok (record { kind = kind; form = form; rule = rule; asking = record { now = now; zone = zone; is_zone_given = is_given; rsa_minimum = minimum; reported = codes }; names = names })
 unfolding review_spelled
-review_is_spelled rows told kind now zone minimum codes form names rule is_given a b c d e f g h i = rw (h, i, a, b, c, d, e, f, g) refl
+review_is_spelled rows reported kind now zone minimum codes form names rule is_given a b c d e f g h i = rw (h, i, a, b, c, d, e, f, g) refl
 
 -- what is answered to the values of the options is answered to the options
 pub review_responds : (rows : List Row) (spelled : Result ReviewAsked Response) (key : Option (List ℕ)) (kind : ReviewKind) (form : Form) (rule : List ℕ) (asked asking : Asking) (names : List (List ℕ)) (o t : Option SourceState)

@@ -10,7 +10,7 @@ use Rattle.ssh_program.specs.Digests.{answer_by_digest}
 use Rattle.ssh_program.proofs.VouchingLemmas.{vouched-kept}
 use Rattle.ssh_program.proofs.DigestLemmas.{digest_answers}
 use Rattle.ssh_program.proofs.PartLemmas.{claim_front}
-use Rattle.ssh_program.proofs.AuditLemmas.{left_by, told_by, vouch_fault-same, vouch_read_failed}
+use Rattle.ssh_program.proofs.AuditLemmas.{left_by, reported_by, vouch_fault-same, vouch_read_failed}
 use Rattle.ssh_program.proofs.SourceLemmas.{vouched-same, vouching-alike}
 
 -- ---- sources that are alike have the same answers
@@ -40,37 +40,37 @@ signature-same w a b h =
 
 content_fault-same : (w : SshsigQuestion) (a b : SourceState) (u : Option SourceState) (r : Shown) → Alike a b → IsContentFault w a u r → IsContentFault w b u r
 content_fault-same w a b u r e (inl h) = inl (one-failed a b u w.body e h.0, h.1)
-content_fault-same w a b u r e (inr (body, told, fault)) = inr (
+content_fault-same w a b u r e (inr (body, reported, fault)) = inr (
   body,
-  sym (ap within_limit (file-alike a b w.body e)) ∙ told,
+  sym (ap within_limit (file-alike a b w.body e)) ∙ reported,
   (one-failed (after_whole a w.body) (after_whole b w.body) u w.message (whole-alike a b w.body e) fault.0, fault.1),
 )
 
 second_fault-same : (w : SshsigQuestion) (again : Option (List ℕ)) (claim : Result Sshsig AuditError) (a b : SourceState) (u : Option SourceState) (r : Shown) → Alike a b
     → IsSecondFault w again claim a u r → IsSecondFault w again claim b u r
-second_fault-same w again claim a b u r e (on, (message, told), fault) = (
+second_fault-same w again claim a b u r e (on, (message, reported), fault) = (
   on,
-  (message, sym (ap within_limit (file-alike a b w.message e)) ∙ told),
+  (message, sym (ap within_limit (file-alike a b w.message e)) ∙ reported),
   vouch_fault-same again (after_whole a w.message) (after_whole b w.message) u r (whole-alike a b w.message e) fault,
 )
 
 last_fault-same : (w : SshsigQuestion) (again : Option (List ℕ)) (a b : SourceState) (u : Option SourceState) (r : Shown) → Alike a b → IsLastFault w again a u r → IsLastFault w again b u r
-last_fault-same w again a b u r e (body, told, fault) = (
+last_fault-same w again a b u r e (body, reported, fault) = (
   body,
-  sym (ap within_limit (file-alike a b w.body e)) ∙ told,
+  sym (ap within_limit (file-alike a b w.body e)) ∙ reported,
   second_fault-same w again (sshsig_claim body) (after_whole a w.body) (after_whole b w.body) u r (whole-alike a b w.body e) fault,
 )
 
 signature_fault-same : (w : SshsigQuestion) (a b : SourceState) (u : Option SourceState) (r : Shown) → Alike a b → IsSshsigReadFault w a u r → IsSshsigReadFault w b u r
 signature_fault-same w a b u r e (inl h) = inl (vouch_fault-same w.vouch a b u r e h)
-signature_fault-same w a b u r e (inr (vouched, told, inl fault)) = inr (
+signature_fault-same w a b u r e (inr (vouched, reported, inl fault)) = inr (
   vouched,
-  sym (vouched-same w.vouch a b e) ∙ told,
+  sym (vouched-same w.vouch a b e) ∙ reported,
   inl (content_fault-same w (after_vouching w.vouch a) (after_vouching w.vouch b) u r (vouching-alike w.vouch a b e) fault),
 )
-signature_fault-same w a b u r e (inr (vouched, told, inr fault)) = inr (
+signature_fault-same w a b u r e (inr (vouched, reported, inr fault)) = inr (
   vouched,
-  sym (vouched-same w.vouch a b e) ∙ told,
+  sym (vouched-same w.vouch a b e) ∙ reported,
   inr (last_fault-same w (read_again w.vouch) (after_vouching w.vouch a) (after_vouching w.vouch b) u r (vouching-alike w.vouch a b e) fault),
 )
 
@@ -108,15 +108,15 @@ body_unread view w v None u e res fails is = tt
 body_unread view w v (Some s) u e (Err x) fails is = λ counts. tt
 body_unread view w v (Some s) u e (Ok r) fails is = λ counts vouched vouches. body-fault w (again_in v) vouched s u e (view r) (fails counts) is
 
-not-told : (w : SshsigQuestion) (s : SourceState) (name : List ℕ) → w.vouch ≡ Some name → within_limit (part_at s name) ≡ None → signature_response w s ≡ no_file_response name
-not-told w s name v h =
+not-reported : (w : SshsigQuestion) (s : SourceState) (name : List ℕ) → w.vouch ≡ Some name → within_limit (part_at s name) ≡ None → signature_response w s ≡ no_file_response name
+not-reported w s name v h =
     let none : vouched_in w.vouch s ≡ Err (no_file_response name) = ap (λ z. vouched_in z s) v ∙ ap (vouched_or_fault name) h in
     ap (vouched_over w (after_vouching w.vouch s)) none
 
 vouch-fault : (w : SshsigQuestion) (name : List ℕ) (s : SourceState) (u : Option SourceState) (e : ReadError) (r : Shown) → w.vouch ≡ Some name
     → FailsLoad name (part_at s name) s u e → IsFaultOf name e r → Signs w s u r
-vouch-fault w name s u fault.Missing r v fails is = inl (fails.1, is ∙ sym (not-told w s name v (ap within_limit fails.0)))
-vouch-fault w name s u fault.TooLong r v fails is = inl (fails.1, is ∙ sym (not-told w s name v (over_limit (part_at s name) fails.0)))
+vouch-fault w name s u fault.Missing r v fails is = inl (fails.1, is ∙ sym (not-reported w s name v (ap within_limit fails.0)))
+vouch-fault w name s u fault.TooLong r v fails is = inl (fails.1, is ∙ sym (not-reported w s name v (over_limit (part_at s name) fails.0)))
 vouch-fault w name s u fault.Failed r v fails is = inr (inl (vouch_read_failed w.vouch name s u r v (fails, is)))
 vouch-fault w name s u fault.Memory r v fails is = absurd is
 
@@ -140,10 +140,10 @@ after-message : (w : SshsigQuestion) (v : Sshsig) (digest message : List ℕ) (a
     → answer_by_digest v digest w.namespace vouched ≡ sshsig_answer v message w.namespace vouched
     → within_limit (bytes_at s w.message) ≡ Some message → t.failures ≡ s.failures → Alike t (after_whole s w.message)
     → SignsDigest w v digest again vouched t u r → SignsClaim w (Ok v) again vouched s u r
-after-message w v digest message again vouched s t u r answer told same left (inl h) =
-    signed w (Ok v) again vouched message s u r told (none-failed s t u same h.0) (h.1 ∙ ap (λ a. sshsig_response (Ok a)) answer)
-after-message w v digest message again vouched s t u r answer told same left (inr h) =
-    inr (inr (h.0, (message, told), vouch_fault-same again t (after_whole s w.message) u r left h.1))
+after-message w v digest message again vouched s t u r answer reported same left (inl h) =
+    signed w (Ok v) again vouched message s u r reported (none-failed s t u same h.0) (h.1 ∙ ap (λ a. sshsig_response (Ok a)) answer)
+after-message w v digest message again vouched s t u r answer reported same left (inr h) =
+    inr (inr (h.0, (message, reported), vouch_fault-same again t (after_whole s w.message) u r left h.1))
 
 -- a message that was hashed
 pub message_responds : {R E : Type 0} (view : R → Shown) (w : SshsigQuestion) (v : Vouching) (claim : Sshsig) (digest : MessageDigest) (o t u : Option SourceState) (res : Result R E)
@@ -154,11 +154,11 @@ message_responds view w v claim digest None t u res loads h = tt
 message_responds view w v claim digest (Some s) None u res loads h = λ counts. absurd ((loads counts).1)
 message_responds view w v claim digest (Some s) (Some t) u (Err e) loads h = λ counts. tt
 message_responds view w v claim digest (Some s) (Some t) u (Ok r) loads h = λ counts vouched vouches.
-    let ((message, told, is), left) = loads counts in
+    let ((message, reported, is), left) = loads counts in
     let same : t.failures ≡ s.failures = left.2 in
     let answer : answer_by_digest claim (digest_bytes digest) w.namespace vouched ≡ sshsig_answer claim message w.namespace vouched =
     ap (λ d. answer_by_digest claim d w.namespace vouched) is ∙ sym (digest_answers claim message w.namespace vouched) in
-    after-message w claim (digest_bytes digest) message (again_in v) vouched s t u (view r) answer told same (left-alike s (after_whole s w.message) t refl left)
+    after-message w claim (digest_bytes digest) message (again_in v) vouched s t u (view r) answer reported same (left-alike s (after_whole s w.message) t refl left)
     (h (omega (arith, counts, same)) vouched (vouched-kept v s t vouched left.0 vouches))
 
 -- a message that was read to its end without being hashed
@@ -169,21 +169,21 @@ pub message_passed : {R E : Type 0} (view : R → Shown) (w : SshsigQuestion) (v
 message_passed view w v e None t res loads h = tt
 message_passed view w v e (Some s) t (Err x) loads h = λ counts. tt
 message_passed view w v e (Some s) t (Ok r) loads h = λ counts vouched vouches.
-    let ((message, told, _), left) = loads counts in
-    signed w (Err e) (again_in v) vouched message s t (view r) told (left-none s (after_whole s w.message) t left) h
+    let ((message, reported, _), left) = loads counts in
+    signed w (Err e) (again_in v) vouched message s t (view r) reported (left-none s (after_whole s w.message) t left) h
 
 after-body : (w : SshsigQuestion) (again : Option (List ℕ)) (vouched : List Signed) (body read : List ℕ) (s t : SourceState) (u : Option SourceState) (r : Shown)
     → sshsig_claim read ≡ sshsig_claim body → within_limit (bytes_at s w.body) ≡ Some body → t.failures ≡ s.failures → Alike t (after_whole s w.body)
     → SignsMessage w read again vouched t u r → SignsBody w again vouched s u r
-after-body w again vouched body read s t u r is told same left (inl h) =
+after-body w again vouched body read s t u r is reported same left (inl h) =
     let whole : body_response w vouched s ≡ message_response w vouched read (after_whole s w.body) =
-    ap (body_over w vouched s) told ∙ ap (λ c. claim_response w vouched c (after_whole s w.body)) (sym is) in
+    ap (body_over w vouched s) reported ∙ ap (λ c. claim_response w vouched c (after_whole s w.body)) (sym is) in
     inl (none-failed s t u same h.0, h.1 ∙ (message-same w vouched read t (after_whole s w.body) left ∙ sym whole))
-after-body w again vouched body read s t u r is told same left (inr (inl h)) =
-    inr (inl (inr (body, told, (one-failed t (after_whole s w.body) u w.message left h.0, h.1))))
-after-body w again vouched body read s t u r is told same left (inr (inr h)) =
+after-body w again vouched body read s t u r is reported same left (inr (inl h)) =
+    inr (inl (inr (body, reported, (one-failed t (after_whole s w.body) u w.message left h.0, h.1))))
+after-body w again vouched body read s t u r is reported same left (inr (inr h)) =
     let moved : IsSecondFault w again (sshsig_claim read) (after_whole s w.body) u r = second_fault-same w again (sshsig_claim read) t (after_whole s w.body) u r left h in
-    inr (inr (body, told, subst (λ c. IsSecondFault w again c (after_whole s w.body) u r) is moved))
+    inr (inr (body, reported, subst (λ c. IsSecondFault w again c (after_whole s w.body) u r) is moved))
 
 -- a body of which the front was read
 pub body_responds : {R E : Type 0} (view : R → Shown) (w : SshsigQuestion) (v : Vouching) (front read : List ℕ) (o t u : Option SourceState) (res : Result R E)
@@ -195,21 +195,21 @@ body_responds view w v front read None t u res is loads h = tt
 body_responds view w v front read (Some s) None u res is loads h = λ counts. absurd ((loads counts).1)
 body_responds view w v front read (Some s) (Some t) u (Err e) is loads h = λ counts. tt
 body_responds view w v front read (Some s) (Some t) u (Ok r) is loads h = λ counts vouched vouches.
-    let ((body, told, kept), left) = loads counts in
+    let ((body, reported, kept), left) = loads counts in
     let same : t.failures ≡ s.failures = left.2 in
     let claim : sshsig_claim read ≡ sshsig_claim body = ap sshsig_claim (is ∙ kept) ∙ claim_front body in
-    after-body w (again_in v) vouched body read s t u (view r) claim told same (left-alike s (after_whole s w.body) t refl left)
+    after-body w (again_in v) vouched body read s t u (view r) claim reported same (left-alike s (after_whole s w.body) t refl left)
     (h (omega (arith, counts, same)) vouched (vouched-kept v s t vouched left.0 vouches))
 
 -- what is not read again cannot fail the second time
 never-again : (w : SshsigQuestion) (again : Option (List ℕ)) (s : SourceState) (u : Option SourceState) (r : Shown) → again ≡ None → IsLastFault w again s u r → ⊥
 never-again w again s u r none h =
-    let (body, told, (on, message, fault)) = subst (λ a. IsLastFault w a s u r) none h in fault
+    let (body, reported, (on, message, fault)) = subst (λ a. IsLastFault w a s u r) none h in fault
 
 -- the answer by the body and the message, after the vouch file was read, which is read again or not
-after-vouch : (w : SshsigQuestion) (again : Option (List ℕ)) (told : Result (List Signed) Shown) (s t : SourceState) (u : Option SourceState) (r : Shown)
-    → (again ≡ None) ⊎ (again ≡ read_again w.vouch) → vouched_in w.vouch s ≡ told → t.failures ≡ s.failures → Alike t (after_vouching w.vouch s)
-    → SignsVouched w again told t u r → Signs w s u r
+after-vouch : (w : SshsigQuestion) (again : Option (List ℕ)) (reported : Result (List Signed) Shown) (s t : SourceState) (u : Option SourceState) (r : Shown)
+    → (again ≡ None) ⊎ (again ≡ read_again w.vouch) → vouched_in w.vouch s ≡ reported → t.failures ≡ s.failures → Alike t (after_vouching w.vouch s)
+    → SignsVouched w again reported t u r → Signs w s u r
 after-vouch w again (Err v) s t u r named e same left h =
     inl (none-failed s t u same h.0, h.1 ∙ sym (ap (vouched_over w (after_vouching w.vouch s)) e))
 after-vouch w again (Ok vouched) s t u r named e same left (inl h) =
@@ -234,7 +234,7 @@ held_responds view w bytes vouched None u res is h = tt
 held_responds view w bytes vouched (Some s) u (Err e) is h = λ counts. tt
 held_responds view w bytes vouched (Some s) u (Ok r) is h = λ counts.
     let answer : SignsVouched w None (or_vouch_fault (Ok vouched)) s u (view r) = h counts vouched refl in
-    subst (λ told. SignsVouched w None (or_vouch_fault told) s u (view r)) (sym is) answer
+    subst (λ reported. SignsVouched w None (or_vouch_fault reported) s u (view r)) (sym is) answer
 
 -- its bytes were read
 pub vouch_file_responds : {R E : Type 0} (view : R → Shown) (w : SshsigQuestion) (name bytes read : List ℕ) (o t u : Option SourceState) (res : Result R E)
@@ -248,7 +248,7 @@ vouch_file_responds view w name bytes read (Some s) (Some t) u (Err e) v is load
 vouch_file_responds view w name bytes read (Some s) (Some t) u (Ok r) v is loads h = λ counts.
     let load = loads counts in
     let same : t.failures ≡ s.failures = load.1.2 in
-    after-vouch w None (or_vouch_fault (vouched_of read)) s t u (view r) (inl refl) (told_by w.vouch name bytes read s v is load.0) same
+    after-vouch w None (or_vouch_fault (vouched_of read)) s t u (view r) (inl refl) (reported_by w.vouch name bytes read s v is load.0) same
     (left_by w.vouch name s t v load.1) (h (omega (arith, counts, same)))
 
 -- ---- a vouch file that has a name
@@ -268,9 +268,9 @@ named_responds view w name found (Some s) (Some t) u (Err e) v other loads h = �
 named_responds view w name found (Some s) (Some t) u (Ok r) v other loads h = λ counts.
     let ((file, whole, (vouched, is, _)), left) = loads counts in
     let same : t.failures ≡ s.failures = left.2 in
-    let told : vouched_or_fault name.now (within_limit (part_at s name.now)) ≡ Ok vouched = ap (vouched_or_fault name.now) whole ∙ ap or_vouch_fault is in
-    let vouches : VouchesFor (Named name) t vouched = vouched-kept (Named name) s t vouched left.0 (other, told) in
-    after-vouch w (Some name.now) (Ok vouched) s t u (view r) (inr (named-again w name.now v other)) (ap (λ z. vouched_in z s) v ∙ told) same
+    let reported : vouched_or_fault name.now (within_limit (part_at s name.now)) ≡ Ok vouched = ap (vouched_or_fault name.now) whole ∙ ap or_vouch_fault is in
+    let vouches : VouchesFor (Named name) t vouched = vouched-kept (Named name) s t vouched left.0 (other, reported) in
+    after-vouch w (Some name.now) (Ok vouched) s t u (view r) (inr (named-again w name.now v other)) (ap (λ z. vouched_in z s) v ∙ reported) same
     (left_by w.vouch name.now s t v left) (h (omega (arith, counts, same)) vouched vouches)
 
 -- it has a line that is not a triple
@@ -283,8 +283,8 @@ named_faulty view w name number None t res v loads h = tt
 named_faulty view w name number (Some s) t (Err e) v loads h = λ counts. tt
 named_faulty view w name number (Some s) t (Ok r) v loads h = λ counts.
     let ((file, whole, is), left) = loads counts in
-    let told : vouched_in w.vouch s ≡ Err (vouch_response number) = ap (λ z. vouched_in z s) v ∙ (ap (vouched_or_fault name) whole ∙ ap or_vouch_fault is) in
-    inl (left-none s (after_part s name) t left, h ∙ sym (ap (vouched_over w (after_vouching w.vouch s)) told))
+    let reported : vouched_in w.vouch s ≡ Err (vouch_response number) = ap (λ z. vouched_in z s) v ∙ (ap (vouched_or_fault name) whole ∙ ap or_vouch_fault is) in
+    inl (left-none s (after_part s name) t left, h ∙ sym (ap (vouched_over w (after_vouching w.vouch s)) reported))
 
 -- ---- no vouch file
 

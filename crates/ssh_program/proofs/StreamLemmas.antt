@@ -1,5 +1,5 @@
 -- Texts that are written one after the other, and the answers that were written.
-use Rattle.ssh_program.proofs.Imports.{◌≡◌, ◌<◌, ◌⊎◌, ◌∙◌, ◌++◌, ℕ, most_failures, List, [], ◌∷◌, Option, Some, None, Result, Ok, Err, ap, sym, refl, subst, inl, inr, IfOk, append-nil, append_assoc, IfTells, SourceState, TellsFile, TellsFiles, Alike, Leads, files_same, leads_end, leads_next, Account, Breaks, TakesAll, WritesResponse, CommandError, Usage, Value, IsToldAs, IfAnswered, response}
+use Rattle.ssh_program.proofs.Imports.{◌≡◌, ◌<◌, ◌⊎◌, ◌∙◌, ◌++◌, ℕ, most_failures, List, [], ◌∷◌, Option, Some, None, Result, Ok, Err, ap, sym, refl, subst, inl, inr, IfOk, append-nil, append_assoc, IfTells, SourceState, TellsFile, TellsFiles, Alike, Leads, files_same, leads_end, leads_next, Account, Breaks, TakesAll, WritesResponse, CommandError, Usage, Value, IsReportedAs, IfAnswered, response}
 use Rattle.ssh_files.proofs.TurnLemmas.{leads_begin}
 use Rattle.ssh_files.specs.FilesInTurn.{Telling}
 use Rattle.ssh_print.specs.declared.response.Response.{Response as Printed}
@@ -56,18 +56,18 @@ writes_response P None r old new status h writes = tt
 writes_response P (Some s) r old new status h writes = λ counts. (response r, inl (h counts), writes)
 
 fault-as : {E : Type 0} (P : Shown → Type 0) (fault : CommandError) (made : Result Printed E) (old new : Option Account) (status : ℕ) → IfAnswered (Err fault) P
-    → IfOk made (λ r. IsToldAs fault (response r)) → (r : Shown) × IsMade made r × WritesResponse old new r status → WritesAnswer P old new status
-fault-as P fault (Err e) old new status h told (r, is, writes) = (r, inr is, writes)
-fault-as P Usage (Ok x) old new status h told (r, is, writes) = (r, inl (subst P (sym (is ∙ told)) h), writes)
-fault-as P (Value o) (Ok x) old new status h told (r, is, writes) = (r, inl (subst P (sym (is ∙ told)) h), writes)
-fault-as P Memory (Ok x) old new status h told writes = absurd told
+    → IfOk made (λ r. IsReportedAs fault (response r)) → (r : Shown) × IsMade made r × WritesResponse old new r status → WritesAnswer P old new status
+fault-as P fault (Err e) old new status h reported (r, is, writes) = (r, inr is, writes)
+fault-as P Usage (Ok x) old new status h reported (r, is, writes) = (r, inl (subst P (sym (is ∙ reported)) h), writes)
+fault-as P (Value o) (Ok x) old new status h reported (r, is, writes) = (r, inl (subst P (sym (is ∙ reported)) h), writes)
+fault-as P Memory (Ok x) old new status h reported writes = absurd reported
 
 -- the response to an error is written
 pub writes_fault : {E : Type 0} (P : SourceState → Shown → Type 0) (o : Option SourceState) (fault : CommandError) (made : Result Printed E) (old new : Option Account) (status : ℕ)
-    → IfTells o (λ s. IfAnswered (Err fault) (P s)) → IfOk made (λ r. IsToldAs fault (response r)) → (r : Shown) × IsMade made r × WritesResponse old new r status
+    → IfTells o (λ s. IfAnswered (Err fault) (P s)) → IfOk made (λ r. IsReportedAs fault (response r)) → (r : Shown) × IsMade made r × WritesResponse old new r status
     → IfTells o (λ s. WritesAnswer (P s) old new status)
-writes_fault P None fault made old new status h told writes = tt
-writes_fault P (Some s) fault made old new status h told writes = λ counts. fault-as (P s) fault made old new status (h counts) told writes
+writes_fault P None fault made old new status h reported writes = tt
+writes_fault P (Some s) fault made old new status h reported writes = λ counts. fault-as (P s) fault made old new status (h counts) reported writes
 
 unwritten : (old new : Option Account) (fault : CommandError) (P : Shown → Type 0) → IfWritten old new (Err fault) P → IfAnswered (Err fault) P
 unwritten old new Usage P h = h
@@ -76,11 +76,11 @@ unwritten old new Memory P h = tt
 
 -- the same of options that have an error, where nothing was written before
 pub writes_error : {E : Type 0} (P : SourceState → Shown → Type 0) (o : Option SourceState) (fault : CommandError) (made : Result Printed E) (old mid new : Option Account) (status : ℕ)
-    → IfTells o (λ s. IfWritten old mid (Err fault) (P s)) → mid ≡ old → IfOk made (λ r. IsToldAs fault (response r)) → (r : Shown) × IsMade made r × WritesResponse mid new r status
+    → IfTells o (λ s. IfWritten old mid (Err fault) (P s)) → mid ≡ old → IfOk made (λ r. IsReportedAs fault (response r)) → (r : Shown) × IsMade made r × WritesResponse mid new r status
     → IfTells o (λ s. WritesAnswer (P s) old new status)
-writes_error P None fault made old mid new status h same told writes = tt
-writes_error {E = E} P (Some s) fault made old mid new status h same told writes = λ counts.
-    fault-as (P s) fault made old new status (unwritten old mid fault (P s) (h counts)) told
+writes_error P None fault made old mid new status h same reported writes = tt
+writes_error {E = E} P (Some s) fault made old mid new status h same reported writes = λ counts.
+    fault-as (P s) fault made old new status (unwritten old mid fault (P s) (h counts)) reported
     (subst (λ (a : Option Account). (r : Shown) × IsMade made r × WritesResponse a new r status) same writes)
 
 -- ---- files in turn
@@ -102,14 +102,14 @@ read_first with tells start names (Some s) = λ counts. record {
 }
 
 read-more : {A B : Type 0} (with : B → A → B) (tells : Telling A) (start : B) (names : List (List ℕ)) (name : List ℕ) (left rest : List (List ℕ)) (s : SourceState)
-    (now next : Option SourceState) (sofar : B) (told : A) (new : B) → s.failures < most_failures → left ≡ name ∷ rest → new ≡ with sofar told
-    → ReadSoFar with tells start names left s now sofar → IfTells now (λ m. TellsFile tells name m next told) → ReadSoFar with tells start names rest s next new
-read-more with tells start names name left rest s now next sofar told new counts is made w file = record {
+    (now next : Option SourceState) (sofar : B) (reported : A) (new : B) → s.failures < most_failures → left ≡ name ∷ rest → new ≡ with sofar reported
+    → ReadSoFar with tells start names left s now sofar → IfTells now (λ m. TellsFile tells name m next reported) → ReadSoFar with tells start names rest s next new
+read-more with tells start names name left rest s now next sofar reported new counts is made w file = record {
   front = w.front ++ name ∷ [];
   parts = w.parts ∙ (ap (λ (l : List (List ℕ)). w.front ++ l) is ∙ sym (append_assoc w.front (name ∷ []) rest));
   leads = λ unread.
       subst (λ (l : List (List ℕ)). Leads with tells start l s unread next new) (sym (append_assoc w.front (name ∷ []) unread))
-      (leads_next with tells start (w.front ++ name ∷ unread) name (name ∷ unread) unread (Some s) now next sofar told new refl made (λ _. w.leads (name ∷ unread)) file counts);
+      (leads_next with tells start (w.front ++ name ∷ unread) name (name ∷ unread) unread (Some s) now next sofar reported new refl made (λ _. w.leads (name ∷ unread)) file counts);
 }
 
 read-all : {A B : Type 0} (with : B → A → B) (tells : Telling A) (start : B) (names left : List (List ℕ)) (s : SourceState) (now : Option SourceState) (sofar : B) → s.failures < most_failures
@@ -118,9 +118,9 @@ read-all with tells start names left s now sofar counts w =
     subst (λ (l : List (List ℕ)). TellsFiles with tells start l s now sofar) (append-nil w.front)
     (leads_end with tells start (w.front ++ []) [] (Some s) now sofar refl (λ _. w.leads []) counts)
 
-front-told : {A B : Type 0} (with : B → A → B) (tells : Telling A) (start : B) (names left : List (List ℕ)) (s : SourceState) (now : Option SourceState) (sofar : B) → s.failures < most_failures
+front-reported : {A B : Type 0} (with : B → A → B) (tells : Telling A) (start : B) (names left : List (List ℕ)) (s : SourceState) (now : Option SourceState) (sofar : B) → s.failures < most_failures
     → ReadSoFar with tells start names left s now sofar → TellsFront with tells start names s sofar
-front-told with tells start names left s now sofar counts w = record {
+front-reported with tells start names left s now sofar counts w = record {
   front = w.front;
   unread = left;
   parts = w.parts;
@@ -142,15 +142,15 @@ written_first with tells start text kept names (Some s) a none = λ counts.
 
 -- the next file was read, and its text was taken
 pub written_next : {A B K : Type 0} (with : B → A → B) (tells : Telling A) (start : B) (text : B → List ℕ) (kept : B → K) (names : List (List ℕ)) (name : List ℕ) (left rest : List (List ℕ)) (o now next : Option SourceState)
-    (old mid new : Option Account) (k after : K) (told : A) (part : List ℕ) → left ≡ name ∷ rest → ((sofar : B) → k ≡ kept sofar → after ≡ kept (with sofar told)) → ((sofar : B) → text (with sofar told) ≡ text sofar ++ part)
-    → IfTells o (λ s. WrittenSoFar with tells start text kept names left s now old mid k) → IfTells now (λ m. TellsFile tells name m next told) → TakesAll mid new part
+    (old mid new : Option Account) (k after : K) (reported : A) (part : List ℕ) → left ≡ name ∷ rest → ((sofar : B) → k ≡ kept sofar → after ≡ kept (with sofar reported)) → ((sofar : B) → text (with sofar reported) ≡ text sofar ++ part)
+    → IfTells o (λ s. WrittenSoFar with tells start text kept names left s now old mid k) → IfTells now (λ m. TellsFile tells name m next reported) → TakesAll mid new part
     → IfTells o (λ s. WrittenSoFar with tells start text kept names rest s next old new after)
-written_next with tells start text kept names name left rest None now next old mid new k after told part is keeps grown h file taken = tt
-written_next with tells start text kept names name left rest (Some s) now next old mid new k after told part is keeps grown h file taken = λ counts.
+written_next with tells start text kept names name left rest None now next old mid new k after reported part is keeps grown h file taken = tt
+written_next with tells start text kept names name left rest (Some s) now next old mid new k after reported part is keeps grown h file taken = λ counts.
     let (sofar, same, read, all) = h counts in (
-      with sofar told,
+      with sofar reported,
       keeps sofar same,
-      read-more with tells start names name left rest s now next sofar told (with sofar told) counts is refl read file,
+      read-more with tells start names name left rest s now next sofar reported (with sofar reported) counts is refl read file,
       subst (λ (l : List ℕ). TakesAll old new l) (sym (grown sofar)) (both_taken old mid new (text sofar) part all taken),
     )
 
@@ -166,31 +166,31 @@ written_last with tells start text text_of kept names left (Some s) now old new 
 
 -- a front of the text of the next file, or nothing
 abbrev pub Within : {A : Type 0} → Telling A → (A → List ℕ) → List ℕ → Option SourceState → Option SourceState → List ℕ → Type 0
-Within tells text_of name now next part = (part ≡ []) ⊎ ((told : _) × IfTells now (λ m. TellsFile tells name m next told) × IsCutAt part (text_of told))
+Within tells text_of name now next part = (part ≡ []) ⊎ ((reported : _) × IfTells now (λ m. TellsFile tells name m next reported) × IsCutAt part (text_of reported))
 
-front-told-of : {A : Type 0} (tells : Telling A) (text_of : A → List ℕ) (name : List ℕ) (now next : Option SourceState) (part : List ℕ) (told : A) → IsCutAt part (text_of told)
-    → IfTells now (λ m. TellsFile tells name m next told) → IfTells now (λ m. IsFrontOf tells text_of name m part)
-front-told-of tells text_of name None next part told cut file = tt
-front-told-of tells text_of name (Some m) next part told cut file = λ counts. (next, told, file counts, cut)
+front-reported-of : {A : Type 0} (tells : Telling A) (text_of : A → List ℕ) (name : List ℕ) (now next : Option SourceState) (part : List ℕ) (reported : A) → IsCutAt part (text_of reported)
+    → IfTells now (λ m. TellsFile tells name m next reported) → IfTells now (λ m. IsFrontOf tells text_of name m part)
+front-reported-of tells text_of name None next part reported cut file = tt
+front-reported-of tells text_of name (Some m) next part reported cut file = λ counts. (next, reported, file counts, cut)
 
 next-within : {A : Type 0} (tells : Telling A) (text_of : A → List ℕ) (name : List ℕ) (left rest : List (List ℕ)) (now next : Option SourceState) (part : List ℕ) → left ≡ name ∷ rest
     → Within tells text_of name now next part → (part ≡ []) ⊎ IsFrontOfNext tells text_of left now part
 next-within tells text_of name left rest now next part is (inl none) = inl none
-next-within tells text_of name left rest now next part is (inr (told, file, cut)) =
-    inr (subst (λ (l : List (List ℕ)). IsFrontOfNext tells text_of l now part) (sym is) (front-told-of tells text_of name now next part told cut file))
+next-within tells text_of name left rest now next part is (inr (reported, file, cut)) =
+    inr (subst (λ (l : List (List ℕ)). IsFrontOfNext tells text_of l now part) (sym is) (front-reported-of tells text_of name now next part reported cut file))
 
 -- memory could not be allocated for the next, or for all of its text
 pub written_until : {A B K : Type 0} (with : B → A → B) (tells : Telling A) (start : B) (text : B → List ℕ) (text_of : A → List ℕ) (kept : B → K) (names : List (List ℕ)) (name : List ℕ) (left rest : List (List ℕ)) (o now next t : Option SourceState)
     (old mid new : Option Account) (k : K) (part : List ℕ) → left ≡ name ∷ rest → IfTells o (λ s. WrittenSoFar with tells start text kept names left s now old mid k) → TakesAll mid new part → Within tells text_of name now next part
     → IfTells o (λ s. TextsWritten with tells start text text_of kept names s t old new (Err stop.Memory))
-unfolding front-told
+unfolding front-reported
 written_until with tells start text text_of kept names name left rest None now next t old mid new k part is h taken within = tt
 written_until with tells start text text_of kept names name left rest (Some s) now next t old mid new k part is h taken within = λ counts.
     let (sofar, same, read, all) = h counts in (
       text sofar ++ part,
       record {
-        told = sofar;
-        files = front-told with tells start names left s now sofar counts read;
+        reported = sofar;
+        files = front-reported with tells start names left s now sofar counts read;
         part = part;
         next = next-within tells text_of name left rest now next part is within;
         parts = refl;
@@ -200,35 +200,35 @@ written_until with tells start text text_of kept names name left rest (Some s) n
 
 -- the next file was read, and a write failed in its text
 pub written_into : {A B K : Type 0} (with : B → A → B) (tells : Telling A) (start : B) (text : B → List ℕ) (text_of : A → List ℕ) (kept : B → K) (names : List (List ℕ)) (name : List ℕ) (left rest : List (List ℕ))
-    (o now next t : Option SourceState) (old mid new : Option Account) (k : K) (told : A) (part : List ℕ) → left ≡ name ∷ rest → ((sofar : B) → text (with sofar told) ≡ text sofar ++ part)
-    → IfTells o (λ s. WrittenSoFar with tells start text kept names left s now old mid k) → IfTells now (λ m. TellsFile tells name m next told) → Breaks mid new part
+    (o now next t : Option SourceState) (old mid new : Option Account) (k : K) (reported : A) (part : List ℕ) → left ≡ name ∷ rest → ((sofar : B) → text (with sofar reported) ≡ text sofar ++ part)
+    → IfTells o (λ s. WrittenSoFar with tells start text kept names left s now old mid k) → IfTells now (λ m. TellsFile tells name m next reported) → Breaks mid new part
     → IfTells o (λ s. TextsWritten with tells start text text_of kept names s t old new (Err stop.Write))
-written_into with tells start text text_of kept names name left rest None now next t old mid new k told part is grown h file breaks = tt
-written_into with tells start text text_of kept names name left rest (Some s) now next t old mid new k told part is grown h file breaks = λ counts.
+written_into with tells start text text_of kept names name left rest None now next t old mid new k reported part is grown h file breaks = tt
+written_into with tells start text text_of kept names name left rest (Some s) now next t old mid new k reported part is grown h file breaks = λ counts.
     let (sofar, same, read, all) = h counts in
-    let later = read-more with tells start names name left rest s now next sofar told (with sofar told) counts is refl read file in (
-      with sofar told,
-      front-told with tells start names rest s next (with sofar told) counts later,
+    let later = read-more with tells start names name left rest s now next sofar reported (with sofar reported) counts is refl read file in (
+      with sofar reported,
+      front-reported with tells start names rest s next (with sofar reported) counts later,
       subst (λ (l : List ℕ). Breaks old new l) (sym (grown sofar)) (second_broken old mid new (text sofar) part all breaks),
     )
 
 -- what came of writing the text of the next
 pub written_stopped : {A B K L : Type 0} (with : B → A → B) (tells : Telling A) (start : B) (text : B → List ℕ) (text_of : A → List ℕ) (kept : B → K) (of : A → L) (names : List (List ℕ)) (name : List ℕ) (left rest : List (List ℕ))
-    (o now next : Option SourceState) (old mid new : Option Account) (k : K) (e : Stop) → left ≡ name ∷ rest → ((sofar : B) (told : A) → text (with sofar told) ≡ text sofar ++ text_of told)
+    (o now next : Option SourceState) (old mid new : Option Account) (k : K) (e : Stop) → left ≡ name ∷ rest → ((sofar : B) (reported : A) → text (with sofar reported) ≡ text sofar ++ text_of reported)
     → IfTells o (λ s. WrittenSoFar with tells start text kept names left s now old mid k) → TextWritten tells text_of of name now next mid new (Err e)
     → IfTells o (λ s. TextsWritten with tells start text text_of kept names s next old new (Err e))
 written_stopped with tells start text text_of kept of names name left rest o now next old mid new k stop.Memory is grown h (part, taken, within) =
     written_until with tells start text text_of kept names name left rest o now next next old mid new k part is h taken within
-written_stopped with tells start text text_of kept of names name left rest o now next old mid new k stop.Write is grown h (told, file, breaks) =
-    written_into with tells start text text_of kept names name left rest o now next next old mid new k told (text_of told) is (λ sofar. grown sofar told) h file breaks
+written_stopped with tells start text text_of kept of names name left rest o now next old mid new k stop.Write is grown h (reported, file, breaks) =
+    written_into with tells start text text_of kept names name left rest o now next next old mid new k reported (text_of reported) is (λ sofar. grown sofar reported) h file breaks
 
-pub written_told : {A B K L : Type 0} (with : B → A → B) (tells : Telling A) (start : B) (text : B → List ℕ) (text_of : A → List ℕ) (kept : B → K) (of : A → L) (names : List (List ℕ)) (name : List ℕ) (left rest : List (List ℕ))
-    (o now next : Option SourceState) (old mid new : Option Account) (k after : K) (x : L) → left ≡ name ∷ rest → ((sofar : B) (told : A) → text (with sofar told) ≡ text sofar ++ text_of told)
-    → ((sofar : B) (told : A) → k ≡ kept sofar → x ≡ of told → after ≡ kept (with sofar told))
+pub written_reported : {A B K L : Type 0} (with : B → A → B) (tells : Telling A) (start : B) (text : B → List ℕ) (text_of : A → List ℕ) (kept : B → K) (of : A → L) (names : List (List ℕ)) (name : List ℕ) (left rest : List (List ℕ))
+    (o now next : Option SourceState) (old mid new : Option Account) (k after : K) (x : L) → left ≡ name ∷ rest → ((sofar : B) (reported : A) → text (with sofar reported) ≡ text sofar ++ text_of reported)
+    → ((sofar : B) (reported : A) → k ≡ kept sofar → x ≡ of reported → after ≡ kept (with sofar reported))
     → IfTells o (λ s. WrittenSoFar with tells start text kept names left s now old mid k) → TextWritten tells text_of of name now next mid new (Ok x)
     → IfTells o (λ s. WrittenSoFar with tells start text kept names rest s next old new after)
-written_told with tells start text text_of kept of names name left rest o now next old mid new k after x is grown keeps h (told, file, taken, same) =
-    written_next with tells start text kept names name left rest o now next old mid new k after told (text_of told) is (λ sofar s. keeps sofar told s same) (λ sofar. grown sofar told) h file taken
+written_reported with tells start text text_of kept of names name left rest o now next old mid new k after x is grown keeps h (reported, file, taken, same) =
+    written_next with tells start text kept names name left rest o now next old mid new k after reported (text_of reported) is (λ sofar s. keeps sofar reported s same) (λ sofar. grown sofar reported) h file taken
 
 -- no write has failed, but where one did
 pub failed_stop : (K L : Type 0) (e : Stop) (new : Option Account) → FailedIfStopped {K = K} (Err e) new → FailedIfStopped {K = L} (Err e) new
@@ -239,12 +239,12 @@ failed_stop K L stop.Write new h = h
 
 -- all that the files tell is answered, or the answer ends early
 abbrev pub TellsInTurn : {A B : Type 0} → (B → A → B) → Telling A → B → (B → List ℕ) → (A → List ℕ) → (B → Shown) → List (List ℕ) → SourceState → Option SourceState → Shown → Type 0
-TellsInTurn with tells start text text_of answer names s t r = ((told : _) × TellsFiles with tells start names s t told × (r ≡ answer told)) ⊎ EndsEarly with tells start text text_of names s r
+TellsInTurn with tells start text text_of answer names s t r = ((reported : _) × TellsFiles with tells start names s t reported × (r ≡ answer reported)) ⊎ EndsEarly with tells start text text_of names s r
 
 -- the texts of files at the front are written, and nothing of the next
-front-written : {A B : Type 0} (with : B → A → B) (tells : Telling A) (start : B) (text : B → List ℕ) (text_of : A → List ℕ) (names : List (List ℕ)) (s : SourceState) (told : B) → TellsFront with tells start names s told
-    → WritesFront with tells start text text_of names s (text told)
-front-written with tells start text text_of names s told front = record { told = told; files = front; part = []; next = inl refl; parts = sym (append-nil (text told)) }
+front-written : {A B : Type 0} (with : B → A → B) (tells : Telling A) (start : B) (text : B → List ℕ) (text_of : A → List ℕ) (names : List (List ℕ)) (s : SourceState) (reported : B) → TellsFront with tells start names s reported
+    → WritesFront with tells start text text_of names s (text reported)
+front-written with tells start text text_of names s reported front = record { reported = reported; files = front; part = []; next = inl refl; parts = sym (append-nil (text reported)) }
 
 -- a fault of memory behind the texts
 pub stopped_by_memory : {A B K : Type 0} (with : B → A → B) (tells : Telling A) (start : B) (text : B → List ℕ) (text_of : A → List ℕ) (kept : B → K) (answer : B → Shown) (names : List (List ℕ)) (o t : Option SourceState)
@@ -261,29 +261,29 @@ pub stopped_by_write : {A B K : Type 0} (with : B → A → B) (tells : Telling 
     → IfTells o (λ s. WritesAnswer (TellsInTurn with tells start text text_of answer names s t) old new 2)
 stopped_by_write with tells start text text_of kept answer names None t old new h = tt
 stopped_by_write with tells start text text_of kept answer names (Some s) t old new h = λ counts.
-    let (told, front, breaks) = h counts in
-    (behind (text told) out_of_memory, inl (inr (text told, front-written with tells start text text_of names s told front, refl)), inr (first_broken old new (text told) (out_of_memory).text breaks, refl))
+    let (reported, front, breaks) = h counts in
+    (behind (text reported) out_of_memory, inl (inr (text reported, front-written with tells start text text_of names s reported front, refl)), inr (first_broken old new (text reported) (out_of_memory).text breaks, refl))
 
 all-in-turn : {A B : Type 0} (with : B → A → B) (tells : Telling A) (start : B) (text : B → List ℕ) (text_of : A → List ℕ) (answer : B → Shown) (names : List (List ℕ)) (s : SourceState) (t : Option SourceState)
-    (old mid new : Option Account) (told : B) (last : Shown) (status : ℕ) → answer told ≡ behind (text told) last → TellsFiles with tells start names s t told → TakesAll old mid (text told)
+    (old mid new : Option Account) (reported : B) (last : Shown) (status : ℕ) → answer reported ≡ behind (text reported) last → TellsFiles with tells start names s t reported → TakesAll old mid (text reported)
     → WritesAnswer (λ r. r ≡ last) mid new status → WritesAnswer (TellsInTurn with tells start text text_of answer names s t) old new status
-all-in-turn with tells start text text_of answer names s t old mid new told last status made chain taken (r, inl is, writes) =
-    (behind (text told) r, inl (inl (told, chain, ap (behind (text told)) is ∙ sym made)), written_behind old mid new (text told) r status taken writes)
-all-in-turn with tells start text text_of answer names s t old mid new told last status made chain taken (r, inr memory, writes) = (
-  behind (text told) r,
-  inl (inr (text told, front-written with tells start text text_of names s told (record { front = names; unread = []; parts = sym (append-nil names); left = t; chain = chain }), ap (behind (text told)) memory)),
-  written_behind old mid new (text told) r status taken writes,
+all-in-turn with tells start text text_of answer names s t old mid new reported last status made chain taken (r, inl is, writes) =
+    (behind (text reported) r, inl (inl (reported, chain, ap (behind (text reported)) is ∙ sym made)), written_behind old mid new (text reported) r status taken writes)
+all-in-turn with tells start text text_of answer names s t old mid new reported last status made chain taken (r, inr memory, writes) = (
+  behind (text reported) r,
+  inl (inr (text reported, front-written with tells start text text_of names s reported (record { front = names; unread = []; parts = sym (append-nil names); left = t; chain = chain }), ap (behind (text reported)) memory)),
+  written_behind old mid new (text reported) r status taken writes,
 )
 
 -- the last line behind the texts of all files
 pub all_written : {A B K : Type 0} (with : B → A → B) (tells : Telling A) (start : B) (text : B → List ℕ) (text_of : A → List ℕ) (kept : B → K) (answer : B → Shown) (last : K → Shown) (names : List (List ℕ))
-    (o t : Option SourceState) (old mid new : Option Account) (k : K) (status : ℕ) → ((told : B) → answer told ≡ behind (text told) (last (kept told)))
+    (o t : Option SourceState) (old mid new : Option Account) (k : K) (status : ℕ) → ((reported : B) → answer reported ≡ behind (text reported) (last (kept reported)))
     → IfTells o (λ s. TextsWritten with tells start text text_of kept names s t old mid (Ok k)) → WritesAnswer (λ r. r ≡ last k) mid new status
     → IfTells o (λ s. WritesAnswer (TellsInTurn with tells start text text_of answer names s t) old new status)
 all_written with tells start text text_of kept answer last names None t old mid new k status made h writes = tt
 all_written with tells start text text_of kept answer last names (Some s) t old mid new k status made h writes = λ counts.
-    let (told, chain, taken, is) = h counts in
-    all-in-turn with tells start text text_of answer names s t old mid new told (last k) status (made told ∙ ap (λ x. behind (text told) (last x)) (sym is)) chain taken writes
+    let (reported, chain, taken, is) = h counts in
+    all-in-turn with tells start text text_of answer names s t old mid new reported (last k) status (made reported ∙ ap (λ x. behind (text reported) (last x)) (sym is)) chain taken writes
 
 -- sources that are alike have the same answers
 pub ends_same : {A B : Type 0} (with : B → A → B) (tells : Telling A) (start : B) (text : B → List ℕ) (text_of : A → List ℕ) (names : List (List ℕ)) (a b : SourceState) (r : Shown) → Alike a b
@@ -291,8 +291,8 @@ pub ends_same : {A B : Type 0} (with : B → A → B) (tells : Telling A) (start
 ends_same with tells start text text_of names a b r e (written, w, is) = (
   written,
   record {
-    told = w.told;
-    files = record { front = w.files.front; unread = w.files.unread; parts = w.files.parts; left = w.files.left; chain = files_same with tells start w.files.front a b w.files.left w.told e w.files.chain };
+    reported = w.reported;
+    files = record { front = w.files.front; unread = w.files.unread; parts = w.files.parts; left = w.files.left; chain = files_same with tells start w.files.front a b w.files.left w.reported e w.files.chain };
     part = w.part;
     next = w.next;
     parts = w.parts;

@@ -1,5 +1,5 @@
 -- From the texts on the command line and in files to the response by them.
-use Rattle.ssh_program.proofs.Imports.{◌≡◌, ◌∙◌, ℕ, List, Option, Some, None, Result, Ok, Err, ap, subst, sym, refl, inl, inr, arith, TimeZone, Row, IfTells, SourceState, bytes_at, after_whole, top_line, FailsLoad, IsLeft, within_limit, ReadError, Alike, file-alike, left-alike, none-failed, one-failed, over_limit, whole-alike, response, CommandError, Usage, Value, ReadsZone, zone_text, RespondsTo, audit_files, given, OptionText, TextPlace, TextPlaces, IfAnswered, NoText, Told, TakenText, TakenTexts, Audits, host_by, login_by, IsFaultOf, RespondsToHostKey, RespondsInZone, IsTextReadFault, IsTextsReadFault, OptionTexts, RespondsByTexts, after_text, after_texts, text_at, text_in, text_on, texts_at, TakesText, TakesTexts, taken_seen, texts_seen}
+use Rattle.ssh_program.proofs.Imports.{◌≡◌, ◌∙◌, ℕ, List, Option, Some, None, Result, Ok, Err, ap, subst, sym, refl, inl, inr, arith, TimeZone, Row, IfTells, SourceState, bytes_at, after_whole, top_line, FailsLoad, IsLeft, within_limit, ReadError, Alike, file-alike, left-alike, none-failed, one-failed, over_limit, whole-alike, response, CommandError, Usage, Value, ReadsZone, zone_text, RespondsTo, audit_files, given, OptionText, TextPlace, TextPlaces, IfAnswered, NoText, Reported, TakenText, TakenTexts, Audits, host_by, login_by, IsFaultOf, RespondsToHostKey, RespondsInZone, IsTextReadFault, IsTextsReadFault, OptionTexts, RespondsByTexts, after_text, after_texts, text_at, text_in, text_on, texts_at, TakesText, TakesTexts, taken_seen, texts_seen}
 use Rattle.ssh_files.specs.declared.read.ReadError.TheVariants as fault
 use Rattle.ssh_print.specs.declared.response.Response.{Response as Printed}
 use Rattle.ssh_print.specs.Responses.{Response as Shown}
@@ -49,7 +49,7 @@ line_taken f x line (Some s) u e loads = λ counts.
     (ap (text_in f) load.0.1 ∙ (ap (λ l. Ok (record { option = f.option; text = text_on l })) (sym load.0.2) ∙ ap (λ y. Ok y) (sym e)), load.1)
 
 untaken : (f : OptionText) (s : SourceState) (u : Option SourceState) (e : ReadError) (r : Printed) → FailsLoad f.text (bytes_at s f.text) s u e → IsFaultOf f.text e (response r)
-    → TakesText (TextPlace.in_file f) s u (Err (Told r))
+    → TakesText (TextPlace.in_file f) s u (Err (Reported r))
 untaken f s u fault.Missing r fails is = inr (ap (λ o. text_in f (within_limit o)) fails.0 ∙ ap (λ y. Err y) (sym is), fails.1)
 untaken f s u fault.TooLong r fails is = inr (ap (text_in f) (over_limit (bytes_at s f.text) fails.0) ∙ ap (λ y. Err y) (sym is), fails.1)
 untaken f s u fault.Failed r fails is = inl (fails, is)
@@ -58,7 +58,7 @@ untaken f s u fault.Memory r fails is = absurd is
 -- a file whose bytes could not be had
 pub file_untaken : (f : OptionText) (o u : Option SourceState) (e : ReadError) (r : Printed)
     → IfTells o (λ s. FailsLoad f.text (bytes_at s f.text) s u e) → IsFaultOf f.text e (response r)
-    → IfTells o (λ s. TakesText (TextPlace.in_file f) s u (Err (Told r)))
+    → IfTells o (λ s. TakesText (TextPlace.in_file f) s u (Err (Reported r)))
 file_untaken f None u e r fails is = tt
 file_untaken f (Some s) u e r fails is = λ counts. untaken f s u e r (fails counts) is
 
@@ -86,8 +86,8 @@ second-taken p s m u x (Ok y) first same e h = (
   both-at p s (taken_seen x) (taken_seen y) first (sym (text-alike p.signature m (after_text p.offer s) e) ∙ h.0),
   left-after s m (after_text p.signature m) (after_texts p s) u same (after-alike p.signature m (after_text p.offer s) e) h.1,
 )
-second-taken p s m u x (Err (Told r)) first same e (inl failed) = inl (inr (taken_seen x, first, fault-alike p.signature m (after_text p.offer s) u (response r) e failed))
-second-taken p s m u x (Err (Told r)) first same e (inr (none, unfailed)) =
+second-taken p s m u x (Err (Reported r)) first same e (inl failed) = inl (inr (taken_seen x, first, fault-alike p.signature m (after_text p.offer s) u (response r) e failed))
+second-taken p s m u x (Err (Reported r)) first same e (inr (none, unfailed)) =
     inr (second-none p s (taken_seen x) (response r) first (sym (text-alike p.signature m (after_text p.offer s) e) ∙ none), none-failed s m u same unfailed)
 second-taken p s m u x (Err Memory) first same e h = tt
 
@@ -104,8 +104,8 @@ both_taken p (Some s) (Some m) u x res first second = λ counts.
     (second (omega (arith, counts, same)))
 
 first-untaken : (p : TextPlaces) (s : SourceState) (u : Option SourceState) (e : NoText) → TakesText p.offer s u (Err e) → TakesTexts p s u (Err e)
-first-untaken p s u (Told r) (inl failed) = inl (inl failed)
-first-untaken p s u (Told r) (inr (none, unfailed)) = inr (first-none p s (response r) none, unfailed)
+first-untaken p s u (Reported r) (inl failed) = inl (inl failed)
+first-untaken p s u (Reported r) (inr (none, unfailed)) = inr (first-none p s (response r) none, unfailed)
 first-untaken p s u Memory h = tt
 
 -- the offer's text was not taken
@@ -157,27 +157,27 @@ pub texts_answered : (responds : OptionTexts → Responds) → ((x : OptionTexts
     → IfTells o (λ s. IfAnswered res (λ r. RespondsTo (RespondsByTexts responds) spelled s t r))
 texts_answered responds same spelled p o m t x res is taken h = placed (RespondsByTexts responds) spelled p o t res is (texts-answered responds same p o m t x res taken h)
 
-told-by : (responds : OptionTexts → Responds) (p : TextPlaces) (s : SourceState) (t : Option SourceState) (r : Printed) → TakesTexts p s t (Err (Told r)) → RespondsByTexts responds p s t (response r)
-told-by responds p s t r (inl failed) = inl failed
-told-by responds p s t r (inr (none, unfailed)) =
+reported-by : (responds : OptionTexts → Responds) (p : TextPlaces) (s : SourceState) (t : Option SourceState) (r : Printed) → TakesTexts p s t (Err (Reported r)) → RespondsByTexts responds p s t (response r)
+reported-by responds p s t r (inl failed) = inl failed
+reported-by responds p s t r (inr (none, unfailed)) =
     inr (subst (λ (x : Result OptionTexts Shown). RespondsTo (λ texts s. responds texts (after_texts p s)) x s t (response r)) (sym none) (unfailed, refl))
 
-told-in : (responds : OptionTexts → Responds) (p : TextPlaces) (o t : Option SourceState) (r : Printed) → IfTells o (λ s. TakesTexts p s t (Err (Told r)))
+reported-in : (responds : OptionTexts → Responds) (p : TextPlaces) (o t : Option SourceState) (r : Printed) → IfTells o (λ s. TakesTexts p s t (Err (Reported r)))
     → IfTells o (λ s. RespondsByTexts responds p s t (response r))
-told-in responds p None t r h = tt
-told-in responds p (Some s) t r h = λ counts. told-by responds p s t r (h counts)
+reported-in responds p None t r h = tt
+reported-in responds p (Some s) t r h = λ counts. reported-by responds p s t r (h counts)
 
 -- a text was not taken, and that is the answer
-pub text_told : (responds : OptionTexts → Responds) (spelled : Result TextPlaces Shown) (p : TextPlaces) (o t : Option SourceState) (r : Printed) → spelled ≡ Ok p
-    → IfTells o (λ s. TakesTexts p s t (Err (Told r))) → IfTells o (λ s. RespondsTo (RespondsByTexts responds) spelled s t (response r))
-text_told responds spelled p o t r is h = placed (RespondsByTexts responds) spelled p o t (Ok r) is (told-in responds p o t r h)
+pub text_reported : (responds : OptionTexts → Responds) (spelled : Result TextPlaces Shown) (p : TextPlaces) (o t : Option SourceState) (r : Printed) → spelled ≡ Ok p
+    → IfTells o (λ s. TakesTexts p s t (Err (Reported r))) → IfTells o (λ s. RespondsTo (RespondsByTexts responds) spelled s t (response r))
+text_reported responds spelled p o t r is h = placed (RespondsByTexts responds) spelled p o t (Ok r) is (reported-in responds p o t r h)
 
 -- the same where a zone was read
-pub zone_told : (responds : Option TimeZone → SourceState → Option SourceState → Shown → Type 0) (rows : List Row) (told : Option TimeZone) (o t : Option SourceState) (r : Printed)
-    → ReadsZone (zone_text (given option.Zone rows)) told → IfTells o (λ s. responds told s t (response r))
+pub zone_reported : (responds : Option TimeZone → SourceState → Option SourceState → Shown → Type 0) (rows : List Row) (reported : Option TimeZone) (o t : Option SourceState) (r : Printed)
+    → ReadsZone (zone_text (given option.Zone rows)) reported → IfTells o (λ s. responds reported s t (response r))
     → IfTells o (λ s. (zone : Option TimeZone) × ReadsZone (zone_text (given option.Zone rows)) zone × responds zone s t (response r))
-zone_told responds rows told None t r read h = tt
-zone_told responds rows told (Some s) t r read h = λ counts. (told, read, h counts)
+zone_reported responds rows reported None t r read h = tt
+zone_reported responds rows reported (Some s) t r read h = λ counts. (reported, read, h counts)
 
 -- ---- sources that are alike have the same answers
 
@@ -202,10 +202,10 @@ texts-alike : (p : TextPlaces) (a b : SourceState) → Alike a b → texts_at p 
 texts-alike p a b e = rw (text-alike p.offer a b e, text-alike p.signature (after_text p.offer a) (after_text p.offer b) (after-alike p.offer a b e)) refl
 
 by-same : (responds : OptionTexts → Responds) → ((x : OptionTexts) (a b : SourceState) (t : Option SourceState) (r : Shown) → Alike a b → responds x a t r → responds x b t r)
-    → (p : TextPlaces) (a b : SourceState) (u : Option SourceState) (r : Shown) (told : Result OptionTexts Shown) → Alike a b
-    → RespondsTo (λ texts s. responds texts (after_texts p s)) told a u r → RespondsTo (λ texts s. responds texts (after_texts p s)) told b u r
-by-same responds same p a b u r told e h =
-    spelled_same (λ texts s. responds texts (after_texts p s)) told a b u r e
+    → (p : TextPlaces) (a b : SourceState) (u : Option SourceState) (r : Shown) (reported : Result OptionTexts Shown) → Alike a b
+    → RespondsTo (λ texts s. responds texts (after_texts p s)) reported a u r → RespondsTo (λ texts s. responds texts (after_texts p s)) reported b u r
+by-same responds same p a b u r reported e h =
+    spelled_same (λ texts s. responds texts (after_texts p s)) reported a b u r e
     (λ texts. same texts (after_texts p a) (after_texts p b) u r (after-alike p.signature (after_text p.offer a) (after_text p.offer b) (after-alike p.offer a b e))) h
 
 pub texts-same : (responds : OptionTexts → Responds) → ((x : OptionTexts) (a b : SourceState) (t : Option SourceState) (r : Shown) → Alike a b → responds x a t r → responds x b t r)

@@ -56,9 +56,9 @@ held_signed view v signed held found o res is has h =
 -- ---- the file that is read for it
 
 -- what a file is read to give is what it was known to give
-same-told : (name : List ℕ) (file : List ℕ) (vouched : List Signed) (told : Result (List Signed) ℕ) (s : SourceState)
-    → within_limit (part_at s name) ≡ Some file → vouched_of file ≡ told → vouched_in (Some name) s ≡ Ok vouched → or_vouch_fault told ≡ Ok vouched
-same-told name file vouched told s whole is known = sym (ap (vouched_or_fault name) whole ∙ ap or_vouch_fault is) ∙ known
+same-reported : (name : List ℕ) (file : List ℕ) (vouched : List Signed) (reported : Result (List Signed) ℕ) (s : SourceState)
+    → within_limit (part_at s name) ≡ Some file → vouched_of file ≡ reported → vouched_in (Some name) s ≡ Ok vouched → or_vouch_fault reported ≡ Ok vouched
+same-reported name file vouched reported s whole is known = sym (ap (vouched_or_fault name) whole ∙ ap or_vouch_fault is) ∙ known
 
 same-vouched : (a b : List Signed) → or_vouch_fault (Ok a) ≡ Ok b → a ≡ b
 same-vouched a b h = cc
@@ -70,8 +70,8 @@ pub sought_responds : {R E : Type 0} (view : R → Shown) (name : List ℕ) (sig
 sought_responds view name signed found None t res loads h = tt
 sought_responds view name signed found (Some s) t (Err e) loads h = λ counts. tt
 sought_responds view name signed found (Some s) t (Ok r) loads h = λ counts vouched known.
-    let ((file, whole, (told, is, are)), left) = loads counts in
-    let same : told ≡ vouched = same-vouched told vouched (same-told name file vouched (Ok told) s whole is known) in
+    let ((file, whole, (reported, is, are)), left) = loads counts in
+    let same : reported ≡ vouched = same-vouched reported vouched (same-reported name file vouched (Ok reported) s whole is known) in
     answered signed found.first (Some name) vouched s t (view r) (left-none s (after_part s name) t left) (are.0 ∙ ap (λ l. is_vouched l signed) same) h
 
 -- no line has a fault: the file was known to give signatures
@@ -82,7 +82,7 @@ faulty_responds view name signed number None t res loads = tt
 faulty_responds view name signed number (Some s) t (Err e) loads = λ counts. tt
 faulty_responds view name signed number (Some s) t (Ok r) loads = λ counts vouched known.
     let ((file, whole, is), left) = loads counts in
-    absurd (let bad : or_vouch_fault (Err number) ≡ Ok vouched = same-told name file vouched (Err number) s whole is known in cc)
+    absurd (let bad : or_vouch_fault (Err number) ≡ Ok vouched = same-reported name file vouched (Err number) s whole is known in cc)
 
 again-fault : (name : List ℕ) (signed : Signed) (vouched : List Signed) (s : SourceState) (t : Option SourceState) (e : ReadError) (r : Shown)
     → vouched_in (Some name) s ≡ Ok vouched → FailsLoad name (part_at s name) s t e → IsFaultOf name e r → SignsOne signed (Some name) vouched s t r

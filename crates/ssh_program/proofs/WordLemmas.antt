@@ -19,12 +19,12 @@ turn_more seen more all before place text left rest cut pushed whole =
     ∙ (append_assoc seen (record { before = before; place = place; text = text } ∷ []) (words_from text (place_after place text) rest)
     ∙ (sym (ap (λ l. seen ++ words_from before place l) cut) ∙ whole))
 
--- the same, where what was read last and its place are told by other terms
-pub turn_told : (seen more all : List Word) (before : Text) (place : Place) (text : Text) (left rest : List Text) (last : Text) (next : Place)
+-- the same, where what was read last and its place are reported by other terms
+pub turn_reported : (seen more all : List Word) (before : Text) (place : Place) (text : Text) (left rest : List Text) (last : Text) (next : Place)
     → last ≡ text → next ≡ place_after place text → left ≡ text ∷ rest
     → more ≡ seen ++ record { before = before; place = place; text = text } ∷ [] → seen ++ words_from before place left ≡ all
     → more ++ words_from last next rest ≡ all
-turn_told seen more all before place text left rest last next is stands cut pushed whole =
+turn_reported seen more all before place text left rest last next is stands cut pushed whole =
     ap (λ x. more ++ words_from x next rest) is
     ∙ (ap (λ y. more ++ words_from text y rest) stands ∙ turn_more seen more all before place text left rest cut pushed whole)
 

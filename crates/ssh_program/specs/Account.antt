@@ -25,9 +25,9 @@ after_write (Ok n) buf a = if takes_nothing n buf then failing a else taking a (
 after_write (Err e) buf a = failing a
 
 -- a change of the account, if the writer keeps one
-abbrev pub where_told : (Account → Account) → Option Account → Option Account
-where_told change None = None
-where_told change (Some a) = Some (change a)
+abbrev pub where_reported : (Account → Account) → Option Account → Option Account
+where_reported change None = None
+where_reported change (Some a) = Some (change a)
 
 -- no write has failed, or the writer keeps no account
 abbrev pub NoneFailed : Option Account → Type 0

@@ -56,34 +56,34 @@ status_of Faulty = 2
 status_of Opens = 3
 
 -- the output lines of some files, and their combined result
-pub record ToldLines : Type 0 where
+pub record ReportedLines : Type 0 where
   pub outcome : Outcome
   pub text : List ℕ
 
-abbrev pub nothing_told : ToldLines
-nothing_told = record { outcome = Denies; text = [] }
+abbrev pub nothing_reported : ReportedLines
+nothing_reported = record { outcome = Denies; text = [] }
 
 -- the lines so far, followed by those of one more file
-abbrev pub told_both : ToldLines → ToldLines → ToldLines
-told_both a b = record { outcome = and_then a.outcome b.outcome; text = a.text ++ b.text }
+abbrev pub reported_both : ReportedLines → ReportedLines → ReportedLines
+reported_both a b = record { outcome = and_then a.outcome b.outcome; text = a.text ++ b.text }
 
 -- the first lines of a decision, followed by the others; as JSON, one object
 abbrev pub text_of : Form → Subject → List ℕ → OtherLines → Result Decision AuditError → List ℕ
 text_of Text who name other answer = answer_text who name answer ++ other.text
 text_of Json who name other answer = answer_object who name other answer
 
-abbrev pub told_of : AnswerForm → List ℕ → OtherLines → Result Decision AuditError → ToldLines
-told_of who name other answer = record { outcome = outcome_of other answer; text = text_of who.form who.subject name other answer }
+abbrev pub reported_of : AnswerForm → List ℕ → OtherLines → Result Decision AuditError → ReportedLines
+reported_of who name other answer = record { outcome = outcome_of other answer; text = text_of who.form who.subject name other answer }
 
 -- when the files were asked comes last; in JSON in the total
 abbrev pub total_of : Form → Subject → Asked → ℕ → ℕ → List ℕ
 total_of Text who at files status = asked_line at
 total_of Json who at files status = answer_total who at files status
 
-abbrev pub told_response : AnswerForm → Asked → ℕ → ToldLines → Response
-told_response who at files told = record {
-  status = status_of told.outcome;
-  text = told.text ++ total_of who.form who.subject at files (status_of told.outcome);
+abbrev pub reported_response : AnswerForm → Asked → ℕ → ReportedLines → Response
+reported_response who at files reported = record {
+  status = status_of reported.outcome;
+  text = reported.text ++ total_of who.form who.subject at files (status_of reported.outcome);
 }
 
 -- ---- files
@@ -112,20 +112,20 @@ beside_answer beside file (Ok decision) = beside file decision
 beside_answer beside file (Err e) = nothing_other
 
 -- the answer of a trust file with these bytes, where all evidence is vouched for
-abbrev pub told_by : AnswerForm → Deciding → Otherness → List Signed → List ℕ → List ℕ → ToldLines
-told_by who by beside evidence name file =
-    told_of who name (beside_answer beside file (answer_by by file evidence)) (answer_by by file evidence)
+abbrev pub reported_by : AnswerForm → Deciding → Otherness → List Signed → List ℕ → List ℕ → ReportedLines
+reported_by who by beside evidence name file =
+    reported_of who name (beside_answer beside file (answer_by by file evidence)) (answer_by by file evidence)
 
 -- the same of the file of this name, which may be missing
-abbrev pub told_over : AnswerForm → Deciding → Otherness → List Signed → List ℕ → Option (List ℕ) → ToldLines
-told_over who by beside evidence name None = told_of who name nothing_other (answer_over by evidence None)
-told_over who by beside evidence name (Some file) = told_by who by beside evidence name file
+abbrev pub reported_over : AnswerForm → Deciding → Otherness → List Signed → List ℕ → Option (List ℕ) → ReportedLines
+reported_over who by beside evidence name None = reported_of who name nothing_other (answer_over by evidence None)
+reported_over who by beside evidence name (Some file) = reported_by who by beside evidence name file
 
 -- a failed read of a file is reported as A9
-abbrev pub telling : AnswerForm → Deciding → Otherness → List Signed → Telling ToldLines
+abbrev pub telling : AnswerForm → Deciding → Otherness → List Signed → Telling ReportedLines
 telling who by beside evidence = record {
-  of_bytes = told_over who by beside evidence;
-  of_fault = λ name. told_of who name nothing_other (Err Read);
+  of_bytes = reported_over who by beside evidence;
+  of_fault = λ name. reported_of who name nothing_other (Err Read);
 }
 
 -- the fault of a file whose bytes could not be had; a refused offer comes before a file that is missing or too long
@@ -140,21 +140,21 @@ unread_fault by read.Failed = Read
 unread_fault by read.Memory = Memory
 
 -- the answer of such a file, where memory could be allocated
-abbrev pub IsToldUnread : AnswerForm → Deciding → List ℕ → ReadError → ToldLines → Type 0
-IsToldUnread who by name read.Memory told = ⊥
-IsToldUnread who by name read.Missing told = told ≡ told_of who name nothing_other (Err (unread_fault by read.Missing))
-IsToldUnread who by name read.TooLong told = told ≡ told_of who name nothing_other (Err (unread_fault by read.TooLong))
-IsToldUnread who by name read.Failed told = told ≡ told_of who name nothing_other (Err (unread_fault by read.Failed))
+abbrev pub IsReportedUnread : AnswerForm → Deciding → List ℕ → ReadError → ReportedLines → Type 0
+IsReportedUnread who by name read.Memory reported = ⊥
+IsReportedUnread who by name read.Missing reported = reported ≡ reported_of who name nothing_other (Err (unread_fault by read.Missing))
+IsReportedUnread who by name read.TooLong reported = reported ≡ reported_of who name nothing_other (Err (unread_fault by read.TooLong))
+IsReportedUnread who by name read.Failed reported = reported ≡ reported_of who name nothing_other (Err (unread_fault by read.Failed))
 
 -- a refused offer is reported before any file is read
 abbrev pub AsksBy : AnswerForm → Asked → Deciding → Otherness → Result (List Signed) AuditError → List (List ℕ) → SourceState → Option SourceState → Response → Type 0
 AsksBy who at by beside (Err e) names s t r = NoReadFailed s t × (r ≡ refused_response e)
 AsksBy who at by beside (Ok evidence) names s t r =
-    (told : ToldLines) × TellsFiles told_both (telling who by beside evidence) nothing_told names s t told × (r ≡ told_response who at (length names) told)
+    (reported : ReportedLines) × TellsFiles reported_both (telling who by beside evidence) nothing_reported names s t reported × (r ≡ reported_response who at (length names) reported)
 
 -- the status of one file with these bytes
 abbrev pub status_by : KeyAsking → List Signed → List ℕ → List ℕ → ℕ
-status_by a evidence name file = status_of (told_by a.who a.by a.beside evidence name file).outcome
+status_by a evidence name file = status_of (reported_by a.who a.by a.beside evidence name file).outcome
 
 abbrev pub AsksFiles : KeyAsking → List (List ℕ) → SourceState → Option SourceState → Response → Type 0
 AsksFiles a names s t r = AsksBy a.who a.at a.by a.beside a.rests_on names s t r

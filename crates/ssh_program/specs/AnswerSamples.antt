@@ -44,11 +44,11 @@ pub outcomes_summed : OutcomesSummed
 outcomes_summed = (refl, refl, refl, refl, refl, refl, refl, refl, refl, refl, refl, refl, refl, refl, refl, refl)
 
 -- the statuses of grep(1), and 3 for an open result
-abbrev pub StatusesTold : Type 0
-StatusesTold = (status_of Grants ≡ 0) × (status_of Denies ≡ 1) × (status_of Faulty ≡ 2) × (status_of Opens ≡ 3)
+abbrev pub StatusesReported : Type 0
+StatusesReported = (status_of Grants ≡ 0) × (status_of Denies ≡ 1) × (status_of Faulty ≡ 2) × (status_of Opens ≡ 3)
 
-pub statuses_told : StatusesTold
-statuses_told = (refl, refl, refl, refl)
+pub statuses_reported : StatusesReported
+statuses_reported = (refl, refl, refl, refl)
 
 -- ---- options
 

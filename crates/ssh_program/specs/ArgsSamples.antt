@@ -171,8 +171,8 @@ unfolding subcommand_app clap_on_literals
 words_refused = (refl, refl, refl, refl, refl, refl)
 
 -- lines of the synopsis: required options, options that may be left out, pairs of options, and operands of both kinds
-abbrev pub UsageTold : Type 0
-UsageTold = (usage_line Show ≡ codes "ssh_audit show --kind KIND --file FILE\n")
+abbrev pub UsageReported : Type 0
+UsageReported = (usage_line Show ≡ codes "ssh_audit show --kind KIND --file FILE\n")
     × (usage_line Trusts
     ≡ codes "ssh_audit trusts --key FILE --host NAME --now SECONDS [--port PORT] [--empty-principals WHOM] [--rsa-minimum BITS] [--form FORM] NAME..\n")
     × (usage_line Admits
@@ -185,6 +185,6 @@ UsageTold = (usage_line Show ≡ codes "ssh_audit show --kind KIND --file FILE\n
     × (asks_usage (codes "G8" ∷ codes "usage" ∷ []) ≡ true)
     × (asks_usage (codes "usages" ∷ codes "USAGE" ∷ []) ≡ false)
 
-pub usage_told : UsageTold
+pub usage_reported : UsageReported
 unfolding usage_line
-usage_told = (refl, refl, refl, refl, refl, refl, refl, refl)
+usage_reported = (refl, refl, refl, refl, refl, refl, refl, refl)

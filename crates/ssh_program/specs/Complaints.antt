@@ -10,7 +10,7 @@ use Rattle.ssh_program.specs.declared.subcommand.Subcommand.{Subcommand}
 use Rattle.ssh_program.specs.declared.word.Place.{Place}
 use Rattle.ssh_program.specs.declared.word.Place.TheVariants.{Open, AfterOption, Behind}
 use Rattle.ssh_program.specs.Help.{other_place}
-use Rattle.ssh_program.specs.Options.{is_required, option_word, subcommand_name, subcommand_operands, told_options}
+use Rattle.ssh_program.specs.Options.{is_required, option_word, subcommand_name, subcommand_operands, reported_options}
 use Rattle.ssh_program.specs.WordPlaces.{Word, has_operand, is_bare, is_dashes, is_flag, is_given, is_given_twice, names_option}
 
 -- what is wrong with the words after the name of a command
@@ -34,7 +34,7 @@ first_wrong f (x ∷ xs) = option_or (f x) (first_wrong f xs)
 
 -- the row of the option of a command that a word names
 abbrev pub row_named : Subcommand → Text → Option (ArgName × Needed)
-row_named c word = find (λ row. names_option row.0 word) (told_options c)
+row_named c word = find (λ row. names_option row.0 word) (reported_options c)
 
 abbrev pub option_in : Subcommand → Text → Option ArgName
 option_in c word = option_map (λ row. row.0) (row_named c word)
@@ -113,7 +113,7 @@ names_wrong c words = names_by (subcommand_operands c) (has_operand words)
 abbrev pub whole_wrong : Subcommand → List Word → Wrong
 whole_wrong c words =
     unwrap_or (option_map Wrong.no_value (waiting c words))
-    (unwrap_or (first_wrong (option_wrong c words) (told_options c)) (names_wrong c words))
+    (unwrap_or (first_wrong (option_wrong c words) (reported_options c)) (names_wrong c words))
 
 -- the first wrong word comes before all of these
 abbrev pub complaint_of : Subcommand → List Word → Wrong
@@ -123,11 +123,11 @@ complaint_of c words = unwrap_or (first_wrong (word_wrong c) words) (whole_wrong
 
 -- an option by its name, and what is said of it
 abbrev pub option_text : ArgName → Text → Text
-option_text o told = codes "--" ++ option_word o ++ told
+option_text o reported = codes "--" ++ option_word o ++ reported
 
 -- a word of the command line, which cannot forge a line, and what is said of it
-abbrev pub told_word : Text → Text → Text
-told_word word told = escaped_text word ++ told
+abbrev pub reported_word : Text → Text → Text
+reported_word word reported = escaped_text word ++ reported
 
 abbrev pub neither_text : ArgName → ArgName → Text
 neither_text o other = option_text o (codes " or ") ++ option_text other (codes " is missing")
@@ -137,10 +137,10 @@ both_text o other = option_text o (codes " and ") ++ option_text other (codes " 
 
 -- the sentence of a complaint
 unfoldable pub complaint_text : Subcommand → Wrong → Text
-complaint_text c (Wrong.not_option word) = told_word word (codes " is not an option of ") ++ subcommand_name c
+complaint_text c (Wrong.not_option word) = reported_word word (codes " is not an option of ") ++ subcommand_name c
 complaint_text c (Wrong.no_value o) = option_text o (codes " has no value")
 complaint_text c (Wrong.twice o) = option_text o (codes " is given twice")
-complaint_text c (Wrong.extra_word word) = told_word word (codes " is a word too many")
+complaint_text c (Wrong.extra_word word) = reported_word word (codes " is a word too many")
 complaint_text c (Wrong.missing o) = option_text o (codes " is missing")
 complaint_text c (Wrong.neither o other) = neither_text o other
 complaint_text c (Wrong.both o other) = both_text o other

@@ -16,19 +16,19 @@ somewhere = record nowhere { time = Some (codes "7"); zone = Some (codes "UTC0")
 abbrev dated : Surroundings
 dated = record somewhere { given_time = Some (codes "9"); given_zone = Some (codes "CET-1") }
 
-abbrev told : Surroundings → List Text → List Text → Type 0
-told around words wanted = words_with_defaults around words ≡ wanted
+abbrev reported : Surroundings → List Text → List Text → Type 0
+reported around words wanted = words_with_defaults around words ≡ wanted
 
 -- a review of a file by its name, and of the user's own file
-abbrev pub ReviewsTold : Type 0
-ReviewsTold =
-    told somewhere (codes "review" ∷ codes "a/authorized_keys" ∷ [])
+abbrev pub ReviewsReported : Type 0
+ReviewsReported =
+    reported somewhere (codes "review" ∷ codes "a/authorized_keys" ∷ [])
     (codes "review" ∷ codes "--now" ∷ codes "7" ∷ codes "--zone" ∷ codes "local:UTC0" ∷ codes "--kind" ∷ codes "auth" ∷ codes "a/authorized_keys" ∷ [])
-    × told somewhere (codes "review" ∷ codes "--now=1" ∷ codes "db.known_hosts" ∷ [])
+    × reported somewhere (codes "review" ∷ codes "--now=1" ∷ codes "db.known_hosts" ∷ [])
     (codes "review" ∷ codes "--zone" ∷ codes "local:UTC0" ∷ codes "--kind" ∷ codes "known" ∷ codes "--now=1" ∷ codes "db.known_hosts" ∷ [])
-    × told somewhere (codes "review" ∷ codes "--now" ∷ codes "1" ∷ codes "--zone" ∷ codes "EST5" ∷ codes "--kind" ∷ codes "known" ∷ [])
+    × reported somewhere (codes "review" ∷ codes "--now" ∷ codes "1" ∷ codes "--zone" ∷ codes "EST5" ∷ codes "--kind" ∷ codes "known" ∷ [])
     (codes "review" ∷ codes "--now" ∷ codes "1" ∷ codes "--zone" ∷ codes "EST5" ∷ codes "--kind" ∷ codes "known" ∷ codes "/h/.ssh/known_hosts" ∷ [])
-    × told dated (codes "review" ∷ codes "--now" ∷ codes "d" ∷ codes "--zone=z" ∷ codes "--kind" ∷ codes "auth" ∷ codes "-" ∷ [])
+    × reported dated (codes "review" ∷ codes "--now" ∷ codes "d" ∷ codes "--zone=z" ∷ codes "--kind" ∷ codes "auth" ∷ codes "-" ∷ [])
     (codes "review" ∷ codes "--now" ∷ codes "9" ∷ codes "--zone" ∷ codes "CET-1" ∷ codes "--kind" ∷ codes "auth" ∷ codes "-" ∷ [])
 
 -- the zone of a review: what the value of `--zone` says, and whether it was given for the files
@@ -42,41 +42,41 @@ ReviewZonesRead =
     × (gives_zone (Some (codes "")) ≡ true)
 
 -- a host's key asks of no zone; where nothing is known nothing is added, and nothing to other commands
-abbrev pub OthersTold : Type 0
-OthersTold =
-    told somewhere (codes "trusts" ∷ codes "--host" ∷ codes "h" ∷ codes "--" ∷ codes "--now" ∷ [])
+abbrev pub OthersReported : Type 0
+OthersReported =
+    reported somewhere (codes "trusts" ∷ codes "--host" ∷ codes "h" ∷ codes "--" ∷ codes "--now" ∷ [])
     (codes "trusts" ∷ codes "--now" ∷ codes "7" ∷ codes "--host" ∷ codes "h" ∷ codes "--" ∷ codes "--now" ∷ [])
-    × told nowhere (codes "admits" ∷ codes "--user" ∷ codes "ann" ∷ []) (codes "admits" ∷ codes "--user" ∷ codes "ann" ∷ [])
-    × told somewhere (codes "login" ∷ codes "--user" ∷ codes "ann" ∷ []) (codes "login" ∷ codes "--user" ∷ codes "ann" ∷ [])
-    × told somewhere [] []
+    × reported nowhere (codes "admits" ∷ codes "--user" ∷ codes "ann" ∷ []) (codes "admits" ∷ codes "--user" ∷ codes "ann" ∷ [])
+    × reported somewhere (codes "login" ∷ codes "--user" ∷ codes "ann" ∷ []) (codes "login" ∷ codes "--user" ∷ codes "ann" ∷ [])
+    × reported somewhere [] []
 
 -- a host with its port, where `--port` is not given; an address of IPv6 is left as it is
-abbrev pub HostsTold : Type 0
-HostsTold =
-    told somewhere (codes "trusts" ∷ codes "--host" ∷ codes "[h]:2" ∷ codes "f" ∷ [])
+abbrev pub HostsReported : Type 0
+HostsReported =
+    reported somewhere (codes "trusts" ∷ codes "--host" ∷ codes "[h]:2" ∷ codes "f" ∷ [])
     (codes "trusts" ∷ codes "--now" ∷ codes "7" ∷ codes "--host" ∷ codes "h" ∷ codes "--port" ∷ codes "2" ∷ codes "f" ∷ [])
-    × told somewhere (codes "trusts" ∷ codes "--host=h:22" ∷ codes "f" ∷ [])
+    × reported somewhere (codes "trusts" ∷ codes "--host=h:22" ∷ codes "f" ∷ [])
     (codes "trusts" ∷ codes "--now" ∷ codes "7" ∷ codes "--host" ∷ codes "h" ∷ codes "--port" ∷ codes "22" ∷ codes "f" ∷ [])
-    × told somewhere (codes "trusts" ∷ codes "--host" ∷ codes "[::1]:2" ∷ codes "f" ∷ [])
+    × reported somewhere (codes "trusts" ∷ codes "--host" ∷ codes "[::1]:2" ∷ codes "f" ∷ [])
     (codes "trusts" ∷ codes "--now" ∷ codes "7" ∷ codes "--host" ∷ codes "::1" ∷ codes "--port" ∷ codes "2" ∷ codes "f" ∷ [])
-    × told somewhere (codes "trusts" ∷ codes "--host" ∷ codes "::1" ∷ codes "f" ∷ [])
+    × reported somewhere (codes "trusts" ∷ codes "--host" ∷ codes "::1" ∷ codes "f" ∷ [])
     (codes "trusts" ∷ codes "--now" ∷ codes "7" ∷ codes "--host" ∷ codes "::1" ∷ codes "f" ∷ [])
-    × told somewhere (codes "trusts" ∷ codes "--host" ∷ codes "h:2" ∷ codes "--port" ∷ codes "3" ∷ codes "f" ∷ [])
+    × reported somewhere (codes "trusts" ∷ codes "--host" ∷ codes "h:2" ∷ codes "--port" ∷ codes "3" ∷ codes "f" ∷ [])
     (codes "trusts" ∷ codes "--now" ∷ codes "7" ∷ codes "--host" ∷ codes "h:2" ∷ codes "--port" ∷ codes "3" ∷ codes "f" ∷ [])
-    × told somewhere (codes "admits" ∷ codes "--host" ∷ codes "h:2" ∷ codes "f" ∷ [])
+    × reported somewhere (codes "admits" ∷ codes "--host" ∷ codes "h:2" ∷ codes "f" ∷ [])
     (codes "admits" ∷ codes "--now" ∷ codes "7" ∷ codes "--zone" ∷ codes "UTC0" ∷ codes "--host" ∷ codes "h:2" ∷ codes "f" ∷ [])
 
-pub hosts_told : HostsTold
+pub hosts_reported : HostsReported
 unfolding asked
-hosts_told = (refl, refl, refl, refl, refl, refl)
+hosts_reported = (refl, refl, refl, refl, refl, refl)
 
-pub reviews_told : ReviewsTold
+pub reviews_reported : ReviewsReported
 unfolding asked
-reviews_told = (refl, refl, refl, refl)
+reviews_reported = (refl, refl, refl, refl)
 
-pub others_told : OthersTold
+pub others_reported : OthersReported
 unfolding asked
-others_told = (refl, refl, refl, refl)
+others_reported = (refl, refl, refl, refl)
 
 pub review_zones_read : ReviewZonesRead
 review_zones_read = (refl, refl, refl, refl, refl, refl)

@@ -114,27 +114,27 @@ given_words name None word = word ∷ []
 given_words name (Some value) word = name ∷ value ∷ []
 
 -- the value of an option
-abbrev pub told_value : Surroundings → Text → Text → List Text
-told_value s before text =
+abbrev pub reported_value : Surroundings → Text → Text → List Text
+reported_value s before text =
     if bytes_eq before (codes "--now") then unwrap_or s.given_time text ∷ []
     else if bytes_eq before (codes "--zone") then unwrap_or s.given_zone text ∷ []
     else text ∷ []
 
 -- an option with its value in one word
-abbrev pub told_option : Surroundings → Text → List Text
-told_option s text =
+abbrev pub reported_option : Surroundings → Text → List Text
+reported_option s text =
     if starts_with nat_eq text (codes "--now=") then given_words (codes "--now") s.given_time text
     else if starts_with nat_eq text (codes "--zone=") then given_words (codes "--zone") s.given_zone text
     else text ∷ []
 
-abbrev pub told_at : Place → Surroundings → Word → List Text
-told_at Open s word = told_option s word.text
-told_at AfterOption s word = told_value s word.before word.text
-told_at Behind s word = word.text ∷ []
+abbrev pub reported_at : Place → Surroundings → Word → List Text
+reported_at Open s word = reported_option s word.text
+reported_at AfterOption s word = reported_value s word.before word.text
+reported_at Behind s word = word.text ∷ []
 
 -- a word, where the value of `--now` is a date and a time, or that of `--zone` a name, as the value that it stands for
-abbrev pub told_word : Surroundings → Word → List Text
-told_word s word = told_at word.place s word
+abbrev pub reported_word : Surroundings → Word → List Text
+reported_word s word = reported_at word.place s word
 
 -- ---- a host with its port
 
@@ -146,19 +146,19 @@ parts_hosts c words = false
 abbrev pub parts_if : Bool → Word → Option (Text × Text)
 parts_if apart word = if apart then parts_in word else None
 
-abbrev pub told_by : Option (Text × Text) → Surroundings → Word → List Text
-told_by None s word = told_word s word
-told_by (Some parts) s word = parted word.place parts
+abbrev pub reported_by : Option (Text × Text) → Surroundings → Word → List Text
+reported_by None s word = reported_word s word
+reported_by (Some parts) s word = parted word.place parts
 
 -- a word, a host and its port as two options
-abbrev pub told_words : Bool → Surroundings → Word → List Text
-told_words apart s word = told_by (parts_if apart word) s word
+abbrev pub reported_words : Bool → Surroundings → Word → List Text
+reported_words apart s word = reported_by (parts_if apart word) s word
 
 -- ---- the words
 
 -- the words after the name of a command, with what they leave out
 unfoldable pub asked : Subcommand → Surroundings → List Word → List Text
-asked c s words = added_options c s words ++ (flat_map (told_words (parts_hosts c words) s) words ++ added_files c s words)
+asked c s words = added_options c s words ++ (flat_map (reported_words (parts_hosts c words) s) words ++ added_files c s words)
 
 -- the commands whose questions may leave something out
 abbrev pub takes_defaults : Subcommand → Bool

@@ -15,7 +15,7 @@ use Rattle.ssh_review.specs.Reviews.{Review, auth_review, fault_review}
 use Rattle.ssh_review.specs.HostReviews.{known_review}
 use Rattle.ssh_program.specs.declared.review.ReviewKind.{ReviewKind}
 use Rattle.ssh_program.specs.declared.review.ReviewKind.TheVariants.{Auth, Known}
-use Rattle.ssh_program.specs.declared.streaming.FileTold.{FileTold}
+use Rattle.ssh_program.specs.declared.streaming.FileReported.{FileReported}
 use Rattle.ssh_program.specs.declared.streaming.Stop.{Stop}
 use Rattle.ssh_program.specs.declared.streaming.Stop.TheVariants.{Memory, Write}
 use Rattle.ssh_program.specs.Account.{Account, NoneFailed}
@@ -56,12 +56,12 @@ kind_name Known = codes "known"
 -- ---- files whose texts are written one after the other
 
 -- the files at the front of these were read, each after those before it, and tell this together
-pub record TellsFront {A B : Type 0} (with : B → A → B) (tells : Telling A) (start : B) (names : List (List ℕ)) (s : SourceState) (told : B) : Type 0 where
+pub record TellsFront {A B : Type 0} (with : B → A → B) (tells : Telling A) (start : B) (names : List (List ℕ)) (s : SourceState) (reported : B) : Type 0 where
   pub front : List (List ℕ)
   pub unread : List (List ℕ)
   pub parts : names ≡ front ++ unread
   pub left : Option SourceState
-  pub chain : TellsFiles with tells start front s left told
+  pub chain : TellsFiles with tells start front s left reported
 
 -- whole lines at the front of a text, and not all of it
 pub record IsCutAt (part text : List ℕ) : Type 0 where
@@ -72,7 +72,7 @@ pub record IsCutAt (part text : List ℕ) : Type 0 where
 
 -- lines at the front of the text of the file of this name, as it tells it, and not the whole text
 abbrev pub IsFrontOf : {A : Type 0} → Telling A → (A → List ℕ) → List ℕ → SourceState → List ℕ → Type 0
-IsFrontOf tells text name s part = (t : Option SourceState) × (told : _) × TellsFile tells name s t told × IsCutAt part (text told)
+IsFrontOf tells text name s part = (t : Option SourceState) × (reported : _) × TellsFile tells name s t reported × IsCutAt part (text reported)
 
 -- the same of the first of these files, which is read next
 abbrev pub IsFrontOfNext : {A : Type 0} → Telling A → (A → List ℕ) → List (List ℕ) → Option SourceState → List ℕ → Type 0
@@ -82,11 +82,11 @@ IsFrontOfNext tells text (name ∷ names) o part = IfTells o (λ s. IsFrontOf te
 -- What is written where memory could not be allocated: the texts of some files at the front, whole, and behind them nothing or
 -- lines at the front of the text of the next file.
 pub record WritesFront {A B : Type 0} (with : B → A → B) (tells : Telling A) (start : B) (text : B → List ℕ) (text_of : A → List ℕ) (names : List (List ℕ)) (s : SourceState) (written : List ℕ) : Type 0 where
-  pub told : B
-  pub files : TellsFront with tells start names s told
+  pub reported : B
+  pub files : TellsFront with tells start names s reported
   pub part : List ℕ
   pub next : (part ≡ []) ⊎ IsFrontOfNext tells text_of files.unread files.left part
-  pub parts : written ≡ text told ++ part
+  pub parts : written ≡ text reported ++ part
 
 -- The answer goes no further than that, and the fault of want of memory behind it. It is printed so where memory could not be
 -- allocated; where a write failed, a proper prefix of it was printed.
@@ -96,9 +96,9 @@ EndsEarly with tells start text text_of names s r = (written : List ℕ) × Writ
 -- What came of writing the text of each file when it was read: all were taken, and this is what is kept of what the files tell;
 -- or memory could not be allocated, and what goes before was taken; or a write failed in the texts of files at the front.
 abbrev pub TextsWritten : {A B K : Type 0} → (B → A → B) → Telling A → B → (B → List ℕ) → (A → List ℕ) → (B → K) → List (List ℕ) → SourceState → Option SourceState → Option Account → Option Account → Result K Stop → Type 0
-TextsWritten with tells start text text_of kept names s t old new (Ok k) = (told : _) × TellsFiles with tells start names s t told × TakesAll old new (text told) × (k ≡ kept told)
+TextsWritten with tells start text text_of kept names s t old new (Ok k) = (reported : _) × TellsFiles with tells start names s t reported × TakesAll old new (text reported) × (k ≡ kept reported)
 TextsWritten with tells start text text_of kept names s t old new (Err Memory) = (written : List ℕ) × WritesFront with tells start text text_of names s written × TakesAll old new written
-TextsWritten with tells start text text_of kept names s t old new (Err Write) = (told : _) × TellsFront with tells start names s told × Breaks old new (text told)
+TextsWritten with tells start text text_of kept names s t old new (Err Write) = (reported : _) × TellsFront with tells start names s reported × Breaks old new (text reported)
 
 -- ---- one file, whose text is written as it is made
 
@@ -112,17 +112,17 @@ TextPut text kept old new (Err Write) = Breaks old new text
 -- What came of writing the text of the file of this name: the same, of what the file tells; nothing of it is taken where memory
 -- could not be allocated to read the file.
 abbrev pub TextWritten : {A K : Type 0} → Telling A → (A → List ℕ) → (A → K) → List ℕ → Option SourceState → Option SourceState → Option Account → Option Account → Result K Stop → Type 0
-TextWritten tells text kept name o t old new (Ok k) = (told : _) × IfTells o (λ s. TellsFile tells name s t told) × TakesAll old new (text told) × (k ≡ kept told)
+TextWritten tells text kept name o t old new (Ok k) = (reported : _) × IfTells o (λ s. TellsFile tells name s t reported) × TakesAll old new (text reported) × (k ≡ kept reported)
 TextWritten tells text kept name o t old new (Err Memory) = (part : List ℕ) × TakesAll old new part
-    × ((part ≡ []) ⊎ ((told : _) × IfTells o (λ s. TellsFile tells name s t told) × IsCutAt part (text told)))
-TextWritten tells text kept name o t old new (Err Write) = (told : _) × IfTells o (λ s. TellsFile tells name s t told) × Breaks old new (text told)
+    × ((part ≡ []) ⊎ ((reported : _) × IfTells o (λ s. TellsFile tells name s t reported) × IsCutAt part (text reported)))
+TextWritten tells text kept name o t old new (Err Write) = (reported : _) × IfTells o (λ s. TellsFile tells name s t reported) × Breaks old new (text reported)
 
 -- what is kept of a review whose text is written
-abbrev pub review_kept : Review → FileTold
+abbrev pub review_kept : Review → FileReported
 review_kept r = record { counts = r.counts; stands = false; fault = r.fault }
 
 -- what came of writing the end of a file whose bytes could not be had
-abbrev pub UnreadPut : Form → List ℕ → ReadError → Option Account → Option Account → Result FileTold Stop → Type 0
+abbrev pub UnreadPut : Form → List ℕ → ReadError → Option Account → Option Account → Result FileReported Stop → Type 0
 UnreadPut form name read.Memory old new r = (r ≡ Err Memory) × (new ≡ old)
 UnreadPut form name read.TooLong old new r = TextPut (fault_review form name TooLong).text (review_kept (fault_review form name TooLong)) old new r
 UnreadPut form name read.Missing old new r = TextPut (fault_review form name Unread).text (review_kept (fault_review form name Unread)) old new r
@@ -138,13 +138,13 @@ FailedIfStopped (Ok k) new = NoneFailed new
 
 -- the reviews, and the line of their total, which says the time zone by its rule
 abbrev pub review_response : ReviewKind → Form → List ℕ → Asking → Lines → Response
-review_response kind form rule asking told = record {
-  status = total_status told.total;
-  text = told.text ++ total_line form (kind_name kind) rule asking told.total;
+review_response kind form rule asking reported = record {
+  status = total_status reported.total;
+  text = reported.text ++ total_line form (kind_name kind) rule asking reported.total;
 }
 
 -- the total is last: an answer without it went no further
 abbrev pub ReviewsFiles : ReviewKind → Form → List ℕ → Asking → List (List ℕ) → SourceState → Option SourceState → Response → Type 0
 ReviewsFiles kind form rule asking names s t r =
-    ((told : Lines) × TellsFiles with_file (telling_review kind form asking) no_lines names s t told × (r ≡ review_response kind form rule asking told))
-    ⊎ EndsEarly with_file (telling_review kind form asking) no_lines (λ told. told.text) (λ r. r.text) names s r
+    ((reported : Lines) × TellsFiles with_file (telling_review kind form asking) no_lines names s t reported × (r ≡ review_response kind form rule asking reported))
+    ⊎ EndsEarly with_file (telling_review kind form asking) no_lines (λ reported. reported.text) (λ r. r.text) names s r

@@ -40,17 +40,17 @@ fault text = record { status = 2; text = codes "fault " ++ text ++ codes "\n" }
 
 -- the signatures of a vouch file: by a name, or on standard input up to the first empty line; the faults of a missing
 -- one and of one with a bad line
-abbrev pub VouchFilesTold : Type 0
-VouchFilesTold = (vouched_in None (source (codes "v") [] []) ≡ Ok [])
+abbrev pub VouchFilesReported : Type 0
+VouchFilesReported = (vouched_in None (source (codes "v") [] []) ≡ Ok [])
     × (vouched_in (Some (codes "v")) (source (codes "v") (codes "01 02 -\n") []) ≡ Ok (signed (1 ∷ []) (2 ∷ []) [] ∷ []))
     × (vouched_in (Some (codes "-")) (source (codes "v") [] (codes "01 02 -\n\nx")) ≡ Ok (signed (1 ∷ []) (2 ∷ []) [] ∷ []))
     × (vouched_in (Some (codes "-")) (source (codes "v") [] (codes "\n01 02 -\n")) ≡ Ok [])
     × (vouched_in (Some (codes "w x")) (source (codes "v") (codes "01 02 -\n") []) ≡ Err (fault (codes "file w x")))
     × (vouched_in (Some (codes "v")) (source (codes "v") (codes "# v\n\n0 1 2\n") []) ≡ Err (fault (codes "vouch 3")))
 
-pub vouch_files_told : VouchFilesTold
+pub vouch_files_reported : VouchFilesReported
 unfolding vouched_of three_fields digits
-vouch_files_told = (refl, refl, refl, refl, refl, refl)
+vouch_files_reported = (refl, refl, refl, refl, refl, refl)
 
 -- what is left for the trust file: of standard input what follows the empty line, of another file all
 abbrev pub TrustFilesLeft : Type 0

@@ -28,22 +28,22 @@ pub record AsksFor (subcommand : Subcommand) (words : List (List ℕ)) (s : Sour
 
 -- the options give this login, in the zone of their text and with the texts read; and the files read after these answer
 -- it so
-pub record TellsLogin (Told : Login → AuditFiles → SourceState → Response → Type 0) (rows : List Row) (places : TextPlaces) (f : AuditFiles) (s : SourceState) (r : Response) : Type 0 where
+pub record TellsLogin (Reported : Login → AuditFiles → SourceState → Response → Type 0) (rows : List Row) (places : TextPlaces) (f : AuditFiles) (s : SourceState) (r : Response) : Type 0 where
   pub zone : Option TimeZone
   pub read : ReadsZone (zone_text (given option.Zone rows)) zone
   pub texts : OptionTexts
   pub taken : texts_at places s ≡ Ok texts
   pub asked : Login
   pub spelled : login_spelled rows zone texts ≡ Ok asked
-  pub answered : Told asked f (after_texts places s) r
+  pub answered : Reported asked f (after_texts places s) r
 
 -- the options give this host's key with the texts read; and the files read after these answer it so
-pub record TellsHost (Told : HostCheck → AuditFiles → SourceState → Response → Type 0) (rows : List Row) (places : TextPlaces) (f : AuditFiles) (s : SourceState) (r : Response) : Type 0 where
+pub record TellsHost (Reported : HostCheck → AuditFiles → SourceState → Response → Type 0) (rows : List Row) (places : TextPlaces) (f : AuditFiles) (s : SourceState) (r : Response) : Type 0 where
   pub texts : OptionTexts
   pub taken : texts_at places s ≡ Ok texts
   pub asked : HostCheck
   pub spelled : host_spelled rows texts ≡ Ok asked
-  pub answered : Told asked f (after_texts places s) r
+  pub answered : Reported asked f (after_texts places s) r
 
 abbrev pub GrantsLogin : List Row → TextPlaces → AuditFiles → SourceState → Response → Type 0
 GrantsLogin = TellsLogin LoginGranted

@@ -37,7 +37,7 @@ pub record LoginHeard (q : Login) (f : AuditFiles) (s : SourceState) : Type 0 wh
   pub claim : LoginClaim
   pub claimed : IsLoginClaim q claim
   pub vouched : List Signed
-  pub told : vouched_in f.vouch s ≡ Ok vouched
+  pub reported : vouched_in f.vouch s ≡ Ok vouched
   pub file : List ℕ
   pub trusted : bytes_at (after_vouching f.vouch s) f.trust ≡ Some file
 
@@ -66,7 +66,7 @@ pub record HostHeard (q : HostCheck) (f : AuditFiles) (s : SourceState) : Type 0
   pub claim : HostClaim
   pub claimed : IsHostClaim q claim
   pub vouched : List Signed
-  pub told : vouched_in f.vouch s ≡ Ok vouched
+  pub reported : vouched_in f.vouch s ≡ Ok vouched
   pub file : List ℕ
   pub trusted : bytes_at (after_vouching f.vouch s) f.trust ≡ Some file
 

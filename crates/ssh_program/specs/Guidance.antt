@@ -14,7 +14,7 @@ use Rattle.ssh_program.specs.declared.word.Place.{Place}
 use Rattle.ssh_program.specs.declared.word.Place.TheVariants.{Open, AfterOption, Behind}
 use Rattle.ssh_program.specs.Complaints.{Wrong, complaint_of, complaint_text}
 use Rattle.ssh_program.specs.Help.{commands_help, options_help, wants_text}
-use Rattle.ssh_program.specs.Options.{option_word, subcommand_in, subcommand_name, subcommand_named, told_options, subcommands}
+use Rattle.ssh_program.specs.Options.{option_word, subcommand_in, subcommand_name, subcommand_named, reported_options, subcommands}
 use Rattle.ssh_program.specs.WordPlaces.{Word, in_turn}
 
 -- ---- words that ask for nothing
@@ -84,7 +84,7 @@ is_end b = b == 10
 
 -- the option of a command by its name
 abbrev pub option_of : Subcommand → Text → Option (ArgName × Needed)
-option_of c name = find (λ row. bytes_eq (option_word row.0) name) (told_options c)
+option_of c name = find (λ row. bytes_eq (option_word row.0) name) (reported_options c)
 
 -- the one value of `explain` is no option's
 abbrev pub value_by : Subcommand → Option (ArgName × Needed) → Text
@@ -108,24 +108,24 @@ text_of bytes = if is_utf8 bytes then Some bytes else None
 
 -- `fault CODE ..`: what `explain` says of the code
 abbrev pub code_sentence : Text → Text
-code_sentence told = code_by (option_and_then row_of (text_of (before_first is_space told)))
+code_sentence reported = code_by (option_and_then row_of (text_of (before_first is_space reported)))
 
 -- a file among those that were asked of has a fault
 abbrev pub file_sentence : Subcommand → Text
 file_sentence c = front c ++ codes "a file has a fault: its line tells the code, which 'ssh_audit explain' explains\n"
 
 -- what stands behind `fault `
-abbrev pub told_sentence : Subcommand → Text → Text
-told_sentence c told = if starts_with nat_eq told (codes "value ") then value_sentence c (drop 6 told) else code_sentence told
+abbrev pub reported_sentence : Subcommand → Text → Text
+reported_sentence c reported = if starts_with nat_eq reported (codes "value ") then value_sentence c (drop 6 reported) else code_sentence reported
 
 abbrev pub line_sentence : Subcommand → Text → Text
-line_sentence c line = if starts_with nat_eq line (codes "fault ") then told_sentence c (drop 6 line) else file_sentence c
+line_sentence c line = if starts_with nat_eq line (codes "fault ") then reported_sentence c (drop 6 line) else file_sentence c
 
 -- what is said of the first line of what was printed
 abbrev pub fault_sentence : Subcommand → Text → Text
 fault_sentence c printed = line_sentence c (before_first is_end printed)
 
--- of these commands the faults are told in a sentence
+-- of these commands the faults are reported in a sentence
 abbrev pub tells_faults : Subcommand → Bool
 tells_faults Readable = true
 tells_faults Admits = true

@@ -35,7 +35,7 @@ hash_response trust salts s = hashed_over trust (after_whole s salts) (salts_in 
 -- the read of the salts failed; or, after they were read, that of the trust file
 abbrev pub IsHashFault : List ℕ → List ℕ → SourceState → Option SourceState → Response → Type 0
 IsHashFault trust salts s t r = IsFileFault salts s t r
-    ⊎ ((told : List (List ℕ)) × (salts_in salts s ≡ Ok told) × IsRewriteFault trust (after_whole s salts) t r)
+    ⊎ ((reported : List (List ℕ)) × (salts_in salts s ≡ Ok reported) × IsRewriteFault trust (after_whole s salts) t r)
 
 -- the response is the defined one and no read failed; or a read failed, and the response is the fault of that file
 abbrev pub Hashes : List ℕ → List ℕ → SourceState → Option SourceState → Response → Type 0

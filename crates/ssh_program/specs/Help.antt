@@ -9,7 +9,7 @@ use Rattle.ssh_program.specs.declared.args.ArgName.{ArgName}
 use Rattle.ssh_program.specs.declared.args.ArgName.TheVariants as option
 use Rattle.ssh_program.specs.declared.subcommand.Subcommand.{Subcommand}
 use Rattle.ssh_program.specs.declared.subcommand.Subcommand.TheVariants.{Show, Login, Host, Sshsig, Rewrite, Readable, Hash, Admits, Trusts, Review, Explain}
-use Rattle.ssh_program.specs.Options.{option_word, told_options, subcommand_name}
+use Rattle.ssh_program.specs.Options.{option_word, reported_options, subcommand_name}
 
 -- ---- the sentences
 
@@ -174,7 +174,7 @@ other_place c option.Signature = Some option.SignatureFile
 other_place c option.Key = other_key c
 other_place c o = None
 
--- whether an option is told together with the one before it
+-- whether an option is reported together with the one before it
 abbrev pub is_joined : ArgName → Bool
 is_joined option.OfferFile = true
 is_joined option.SignatureFile = true
@@ -232,7 +232,7 @@ help_option c row =
 -- the options of a command
 unfoldable pub options_help : Subcommand → Text
 options_help c = codes "ssh_audit " ++ subcommand_name c ++ codes ": " ++ command_sentence c ++ codes "\n"
-    ++ flat_map (help_option c) (told_options c) ++ help_names c ++ codes "see also the manual page ssh_audit(1)\n"
+    ++ flat_map (help_option c) (reported_options c) ++ help_names c ++ codes "see also the manual page ssh_audit(1)\n"
 
 -- the line of a command in the list of the commands
 abbrev pub command_line : Subcommand → Text

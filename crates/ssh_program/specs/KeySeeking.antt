@@ -16,7 +16,7 @@ use Rattle.ssh_review.specs.Forms.{total_line}
 use Rattle.ssh_review.specs.KeyReviews.{KeyReview, auth_key_review, key_fault_review, known_key_review}
 use Rattle.ssh_program.specs.declared.args.ArgName.TheVariants as option
 use Rattle.ssh_program.specs.declared.key_seeking.KeyTotal.{KeyTotal}
-use Rattle.ssh_program.specs.declared.streaming.FileTold.{FileTold}
+use Rattle.ssh_program.specs.declared.streaming.FileReported.{FileReported}
 use Rattle.ssh_program.specs.declared.review.ReviewKind.{ReviewKind}
 use Rattle.ssh_program.specs.declared.review.ReviewKind.TheVariants.{Auth, Known}
 use Rattle.ssh_program.specs.Audits.{IsFileFault}
@@ -44,7 +44,7 @@ abbrev pub with_key_file : KeyLines → KeyReview → KeyLines
 with_key_file sofar r = record { lines = with_file sofar.lines r.file; stands = sofar.stands || r.stands }
 
 -- what is kept of a review whose text is written
-abbrev pub key_review_kept : KeyReview → FileTold
+abbrev pub key_review_kept : KeyReview → FileReported
 key_review_kept r = record { counts = r.file.counts; stands = r.stands; fault = r.file.fault }
 
 -- the review for the key with this fingerprint, of a file of this format, name and bytes
@@ -70,15 +70,15 @@ key_status total stands = if nat_lt 0 total.faults then 2 else if stands then 1 
 
 -- the reviews, and the line of their total
 abbrev pub key_review_response : ReviewKind → Form → List ℕ → Asking → KeyLines → Response
-key_review_response kind form rule asking told = record {
-  status = key_status told.lines.total told.stands;
-  text = told.lines.text ++ total_line form (kind_name kind) rule asking told.lines.total;
+key_review_response kind form rule asking reported = record {
+  status = key_status reported.lines.total reported.stands;
+  text = reported.lines.text ++ total_line form (kind_name kind) rule asking reported.lines.total;
 }
 
 abbrev pub SeeksKey : ReviewKind → Form → List ℕ → Asking → List (List ℕ) → List ℕ → SourceState → Option SourceState → Response → Type 0
 SeeksKey kind form rule asking names fingerprint s t r =
-    ((told : KeyLines) × TellsFiles with_key_file (telling_key_review fingerprint kind form asking) no_key_lines names s t told × (r ≡ key_review_response kind form rule asking told))
-    ⊎ EndsEarly with_key_file (telling_key_review fingerprint kind form asking) no_key_lines (λ told. told.lines.text) (λ r. r.file.text) names s r
+    ((reported : KeyLines) × TellsFiles with_key_file (telling_key_review fingerprint kind form asking) no_key_lines names s t reported × (r ≡ key_review_response kind form rule asking reported))
+    ⊎ EndsEarly with_key_file (telling_key_review fingerprint kind form asking) no_key_lines (λ reported. reported.lines.text) (λ r. r.file.text) names s r
 
 -- ---- the key
 

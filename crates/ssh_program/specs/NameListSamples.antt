@@ -8,8 +8,8 @@ use Rattle.ssh_program.specs.NameLists.{names_read}
 use Rattle.ssh_program.specs.WordPlaces.{in_turn}
 
 -- names ended by LF, the last with its end or without; by NUL where there is one; and what is no name
-abbrev pub NamesTold : Type 0
-NamesTold =
+abbrev pub NamesReported : Type 0
+NamesReported =
     (names_read (codes "a\n-x y\n") ≡ Ok (codes "a" ∷ codes "-x y" ∷ []))
     × (names_read (codes "a\n-x y") ≡ Ok (codes "a" ∷ codes "-x y" ∷ []))
     × (names_read (codes "a\nb" ++ 0 ∷ codes "c") ≡ Ok (codes "a\nb" ∷ codes "c" ∷ []))
@@ -19,14 +19,14 @@ NamesTold =
     × (names_read (codes "a\tb\n") ≡ Err (Name Tab 1))
 
 -- the words that are asked: those that remain, and behind `--` the names
-abbrev told : List Text → List Text → Type 0
-told words wanted = listed_words (in_turn words) (codes "-x" ∷ codes "--now=5" ∷ []) ≡ wanted
+abbrev reported : List Text → List Text → Type 0
+reported words wanted = listed_words (in_turn words) (codes "-x" ∷ codes "--now=5" ∷ []) ≡ wanted
 
 abbrev pub WordsListed : Type 0
 WordsListed =
-    told (codes "--files-from" ∷ codes "l" ∷ codes "--now" ∷ codes "7" ∷ codes "a" ∷ [])
+    reported (codes "--files-from" ∷ codes "l" ∷ codes "--now" ∷ codes "7" ∷ codes "a" ∷ [])
     (codes "--now" ∷ codes "7" ∷ codes "a" ∷ codes "--" ∷ codes "-x" ∷ codes "--now=5" ∷ [])
-    × told (codes "a" ∷ codes "--files-from=l" ∷ codes "--" ∷ codes "--files-from" ∷ [])
+    × reported (codes "a" ∷ codes "--files-from=l" ∷ codes "--" ∷ codes "--files-from" ∷ [])
     (codes "a" ∷ codes "--" ∷ codes "--files-from" ∷ codes "-x" ∷ codes "--now=5" ∷ [])
 
 -- the list that words name: of `review` alone, and once
@@ -43,8 +43,8 @@ ListsNamed =
     × (reads_twice (in_turn (codes "--files-from" ∷ codes "-" ∷ codes "-" ∷ [])) ≡ true)
     × (reads_twice (in_turn (codes "--files-from" ∷ codes "-" ∷ codes "a" ∷ [])) ≡ false)
 
-pub names_told : NamesTold
-names_told = (refl, refl, refl, refl, refl, refl, refl)
+pub names_reported : NamesReported
+names_reported = (refl, refl, refl, refl, refl, refl, refl)
 
 pub words_listed : WordsListed
 words_listed = (refl, refl)

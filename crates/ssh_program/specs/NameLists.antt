@@ -88,7 +88,7 @@ unread_list read.TooLong = list.TooLong
 unread_list read.Failed = list.Unread
 unread_list read.Memory = list.Memory
 
--- ---- what is told
+-- ---- what is reported
 
 -- the response where there is no list of names
 abbrev pub list_response : ListError → Response
@@ -111,13 +111,13 @@ list_why list.NoName = codes "it has no name"
 list_why (list.Name fault n) = codes "name " ++ decimal n ++ fault_words fault
 
 -- the line that says it of the list of this name
-abbrev pub told_why : Text → ListError → Text
-told_why name e = codes "ssh_audit: " ++ escaped_text name ++ codes ": " ++ list_why e ++ codes "\n"
+abbrev pub reported_why : Text → ListError → Text
+reported_why name e = codes "ssh_audit: " ++ escaped_text name ++ codes ": " ++ list_why e ++ codes "\n"
 
 abbrev pub why_line : Text → ListError → Text
 why_line name list.Unread = []
 why_line name list.Memory = []
-why_line name e = told_why name e
+why_line name e = reported_why name e
 
 -- what standard error says where there is no list of names: what the option wants, and what is wrong with the list
 abbrev pub list_guidance : Text → ListError → Text

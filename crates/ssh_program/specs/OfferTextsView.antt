@@ -5,7 +5,7 @@ use Rattle.ssh_files.specs.Loading.{IsLeft, NoReadFailed}
 use Rattle.ssh_print.specs.ResponseView.{response}
 use Rattle.ssh_program.specs.Texts.{OptionText, TextPlace, TextPlaces}
 use Rattle.ssh_program.specs.declared.texts.NoText.{NoText}
-use Rattle.ssh_program.specs.declared.texts.NoText.TheVariants.{Told, Memory}
+use Rattle.ssh_program.specs.declared.texts.NoText.TheVariants.{Reported, Memory}
 use Rattle.ssh_program.specs.declared.texts.TakenText.{TakenText}
 use Rattle.ssh_program.specs.declared.texts.TakenText.TheVariants.{Word, Line}
 use Rattle.ssh_program.specs.declared.texts.TakenTexts.{TakenTexts}
@@ -21,11 +21,11 @@ texts_seen t = record { offer = taken_seen t.offer; signature = taken_seen t.sig
 -- the result of reading a text: the text and the state of the source, or why there is none
 abbrev pub TakesText : TextPlace → SourceState → Option SourceState → Result TakenText NoText → Type 0
 TakesText place s t (Ok text) = (text_at place s ≡ Ok (taken_seen text)) × IsLeft s (after_text place s) t
-TakesText place s t (Err (Told r)) = IsTextReadFault place s t (response r) ⊎ ((text_at place s ≡ Err (response r)) × NoReadFailed s t)
+TakesText place s t (Err (Reported r)) = IsTextReadFault place s t (response r) ⊎ ((text_at place s ≡ Err (response r)) × NoReadFailed s t)
 TakesText place s t (Err Memory) = ⊤
 
 -- the same of both texts
 abbrev pub TakesTexts : TextPlaces → SourceState → Option SourceState → Result TakenTexts NoText → Type 0
 TakesTexts places s t (Ok texts) = (texts_at places s ≡ Ok (texts_seen texts)) × IsLeft s (after_texts places s) t
-TakesTexts places s t (Err (Told r)) = IsTextsReadFault places s t (response r) ⊎ ((texts_at places s ≡ Err (response r)) × NoReadFailed s t)
+TakesTexts places s t (Err (Reported r)) = IsTextsReadFault places s t (response r) ⊎ ((texts_at places s ≡ Err (response r)) × NoReadFailed s t)
 TakesTexts places s t (Err Memory) = ⊤

@@ -95,12 +95,12 @@ subcommand_options Review = (option.Kind, Required) ∷ (option.Now, Required) �
     ∷ (option.Findings, Optional) ∷ (option.Form, Optional) ∷ []
 subcommand_options Explain = []
 
--- The options of a subcommand as people are told of them: those, and of `review` a list of names. That is read before the
+-- The options of a subcommand as people are reported of them: those, and of `review` a list of names. That is read before the
 -- words are: the question is asked with its names.
-abbrev pub told_options : Subcommand → List (ArgName × Needed)
-told_options Review = (option.Kind, Required) ∷ (option.Now, Required) ∷ (option.Key, Optional) ∷ (option.Zone, Optional) ∷ (option.RsaMinimum, Optional)
+abbrev pub reported_options : Subcommand → List (ArgName × Needed)
+reported_options Review = (option.Kind, Required) ∷ (option.Now, Required) ∷ (option.Key, Optional) ∷ (option.Zone, Optional) ∷ (option.RsaMinimum, Optional)
     ∷ (option.Findings, Optional) ∷ (option.Form, Optional) ∷ (option.FilesFrom, Optional) ∷ []
-told_options c = subcommand_options c
+reported_options c = subcommand_options c
 
 -- whether a subcommand takes operands (files or codes), and whether at least one has to be given
 abbrev pub subcommand_operands : Subcommand → Option Needed

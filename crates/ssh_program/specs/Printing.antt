@@ -1,17 +1,17 @@
 -- The bytes that the program writes, and what a failed write leaves.
 use Rattle.std.specs.Prelude.{◌≡◌, ◌⊎◌, ◌++◌, ◌<◌, ℕ, List, Option, length}
-use Rattle.ssh_program.specs.Account.{Account, failing, taking, where_told}
+use Rattle.ssh_program.specs.Account.{Account, failing, taking, where_reported}
 use Rattle.ssh_print.specs.Responses.{Response, out_of_memory}
 
 -- the text was taken but for this rest, and no write failed
 pub record TakesUpTo (old new : Option Account) (text rest : List ℕ) : Type 0 where
   pub front : List ℕ
   pub parts : text ≡ front ++ rest
-  pub told : new ≡ where_told (λ a. taking a front) old
+  pub reported : new ≡ where_reported (λ a. taking a front) old
 
 -- all of the text was taken, and no write failed
 abbrev pub TakesAll : Option Account → Option Account → List ℕ → Type 0
-TakesAll old new text = new ≡ where_told (λ a. taking a text) old
+TakesAll old new text = new ≡ where_reported (λ a. taking a text) old
 
 -- a proper prefix of the text was taken, and then one write failed
 pub record Breaks (old new : Option Account) (text : List ℕ) : Type 0 where
@@ -19,7 +19,7 @@ pub record Breaks (old new : Option Account) (text : List ℕ) : Type 0 where
   pub rest : List ℕ
   pub parts : text ≡ front ++ rest
   pub proper : 0 < length rest
-  pub told : new ≡ where_told (λ a. failing (taking a front)) old
+  pub reported : new ≡ where_reported (λ a. failing (taking a front)) old
 
 -- the whole text was taken, no write failed, and the status is the response's; or a write failed after a proper prefix
 -- of the text, and the status is 2

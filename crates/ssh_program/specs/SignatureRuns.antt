@@ -32,7 +32,7 @@ pub record AsksSignature (words : List (List ℕ)) (s : SourceState) (w : Sshsig
 -- The vouch file vouches for these, the body and the message have these bytes, and of them the answer is this; it was printed.
 pub record SignatureAnswered (w : SshsigQuestion) (s : SourceState) (r : Response) : Type 0 where
   pub vouched : List Signed
-  pub told : vouched_in w.vouch s ≡ Ok vouched
+  pub reported : vouched_in w.vouch s ≡ Ok vouched
   pub body : List ℕ
   pub body_read : within_limit (bytes_at (after_vouching w.vouch s) w.body) ≡ Some body
   pub message : List ℕ

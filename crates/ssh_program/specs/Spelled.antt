@@ -50,14 +50,14 @@ review_spelled rows zone = do
   now ← value (number_below (2 ^ 64)) option.Now rows
   zone ← or_fault option.Zone zone
   rsa_minimum ← value_or usual_minimum (number_below (2 ^ 32)) option.RsaMinimum rows
-  told ← value_or default_codes codes_in option.Findings rows
+  reported ← value_or default_codes codes_in option.Findings rows
   form ← value_or Text form_of option.Form rows
   names ← names_needed rows
   Ok (record {
     kind = kind;
     form = form;
     rule = review_rule rows;
-    asking = record { now = now; zone = zone; is_zone_given = is_zone_given rows; rsa_minimum = rsa_minimum; told = told };
+    asking = record { now = now; zone = zone; is_zone_given = is_zone_given rows; rsa_minimum = rsa_minimum; reported = reported };
     names = names;
   })
 

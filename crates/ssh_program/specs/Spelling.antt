@@ -83,7 +83,7 @@ RespondsTo responds (Err e) s t r = NoReadFailed s t × (r ≡ e)
 RespondsTo responds (Ok q) s t r = responds q s t r
 
 -- the response to an error, unless memory could not be allocated
-abbrev pub IsToldAs : CommandError → Response → Type 0
-IsToldAs Usage r = r ≡ usage_response
-IsToldAs (Value o) r = r ≡ value_response (option_word o)
-IsToldAs Memory r = ⊥
+abbrev pub IsReportedAs : CommandError → Response → Type 0
+IsReportedAs Usage r = r ≡ usage_response
+IsReportedAs (Value o) r = r ≡ value_response (option_word o)
+IsReportedAs Memory r = ⊥

@@ -10,7 +10,7 @@ use Rattle.ssh_program.specs.declared.args.ArgName.{ArgName}
 use Rattle.ssh_program.specs.declared.subcommand.Subcommand.{Subcommand}
 use Rattle.ssh_program.specs.declared.subcommand.Subcommand.TheVariants.{Explain}
 use Rattle.ssh_program.specs.Help.{help_forms, is_joined, other_place}
-use Rattle.ssh_program.specs.Options.{subcommand_operands, told_options, subcommand_name, subcommands}
+use Rattle.ssh_program.specs.Options.{subcommand_operands, reported_options, subcommand_name, subcommands}
 
 -- a space before each argument, and brackets around what may be left out
 abbrev pub opened : Needed → Text
@@ -45,7 +45,7 @@ usage_names c (Some needed) = opened needed ++ operand_word c ++ codes ".." ++ c
 
 -- the line of a subcommand, which ends with an LF
 unfoldable pub usage_line : Subcommand → Text
-usage_line c = codes "ssh_audit " ++ subcommand_name c ++ flat_map (usage_option c) (told_options c) ++ usage_names c (subcommand_operands c) ++ codes "\n"
+usage_line c = codes "ssh_audit " ++ subcommand_name c ++ flat_map (usage_option c) (reported_options c) ++ usage_names c (subcommand_operands c) ++ codes "\n"
 
 -- the lines of all subcommands, in the order of the table
 unfoldable pub usage_lines : Text

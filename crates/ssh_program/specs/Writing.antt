@@ -29,4 +29,4 @@ IfWritten old new (Err Memory) P = ⊤
 -- `review` alone is not answered in memory: nothing is read for it yet
 abbrev pub AnswersInMemory : Subcommand → Option (Result Printed CommandError) → Option SourceState → Option SourceState → (SourceState → Response → Type 0) → Type 0
 AnswersInMemory subcommand None o t P = (subcommand ≡ Review) × (t ≡ o)
-AnswersInMemory subcommand (Some told) o t P = IfTells o (λ s. IfAnswered told (P s))
+AnswersInMemory subcommand (Some reported) o t P = IfTells o (λ s. IfAnswered reported (P s))

@@ -1,15 +1,15 @@
 //! The answers of trust files about one key, for `admits` and `trusts`, and their combined status.
 
 ghost use Rattle.std.specs.Prelude.{◌≡◌, ◌++◌, IfOk, Ok, Err, map};
-ghost use Rattle.ssh_program.specs.Admissions.{AsksBy, IsToldUnread, and_then, beside_answer, denied_outcome, nothing_told, outcome_of, refusal_or, status_of, telling, text_of, told_both, told_by, told_of, told_response, total_of, unread_fault};
-ghost use Rattle.ssh_program.specs.AdmissionsView.{told_seen};
+ghost use Rattle.ssh_program.specs.Admissions.{AsksBy, IsReportedUnread, and_then, beside_answer, denied_outcome, nothing_reported, outcome_of, refusal_or, status_of, telling, text_of, reported_both, reported_by, reported_of, reported_response, total_of, unread_fault};
+ghost use Rattle.ssh_program.specs.AdmissionsView.{reported_seen};
 ghost use Rattle.ssh_print.specs.OtherLines.{nothing_other, otherwise_seen};
 ghost use Rattle.ssh_review.specs.Asked.{asked_of};
 ghost use Rattle.ssh_files.specs.FilesInTurn.{TellsFile, TellsFiles};
 ghost use Rattle.ssh_files.specs.SourceState.{IfTells};
 ghost use Rattle.ssh_print.specs.ResponseView.{response};
 ghost use Rattle.ssh_program.specs.Audits.{Deciding, refusal_of};
-ghost use Rattle.ssh_program.specs.Fingerprints.{told_alone_by};
+ghost use Rattle.ssh_program.specs.Fingerprints.{reported_alone_by};
 
 use crate::audit::is_memory;
 use crate::file_question::FileQuestion;
@@ -133,7 +133,7 @@ pub(crate) fn tell_fault(
     error: AuditError,
 ) -> Result<FileAnswer, AllocError>
     ensures { IfOk result
-        (λ told. told_seen told ≡ told_of who name.now nothing_other (Err error)) }
+        (λ reported. reported_seen reported ≡ reported_of who name.now nothing_other (Err error)) }
 {
     let text = answer_in(alloc, who, name, &nothing_other(alloc), &Err(error))?;
     Ok(FileAnswer {
@@ -152,7 +152,7 @@ fn tell_decision<Q: FileQuestion>(
     file: &[u8],
     decision: Decision,
 ) -> Result<FileAnswer, AllocError>
-    ensures { IfOk result (λ told. told_seen told ≡ told_of who name.now
+    ensures { IfOk result (λ reported. reported_seen reported ≡ reported_of who name.now
         (Q.beside question.entry.now file.now decision) (Ok decision)) }
 {
     let other = question.tell_beside(alloc, file, &decision)?;
@@ -169,7 +169,7 @@ fn tell_answer<Q: FileQuestion>(
     file: &[u8],
     answer: Result<Decision, AuditError>,
 ) -> Result<FileAnswer, AllocError>
-    ensures { IfOk result (λ told. told_seen told ≡ told_of who name.now
+    ensures { IfOk result (λ reported. reported_seen reported ≡ reported_of who name.now
         (beside_answer (Q.beside question.entry.now) file.now answer) answer) }
 {
     match answer {
@@ -179,7 +179,7 @@ fn tell_answer<Q: FileQuestion>(
 }
 
 /// The answer of a trust file with these bytes, where all of this evidence is vouched for.
-#[tactic(auto, using(crate::proofs::AdmissionLemmas::bytes_told))]
+#[tactic(auto, using(crate::proofs::AdmissionLemmas::bytes_reported))]
 fn tell_bytes<Q: FileQuestion>(
     alloc: Global,
     who: AnswerForm,
@@ -188,20 +188,20 @@ fn tell_bytes<Q: FileQuestion>(
     name: &[u8],
     file: &[u8],
 ) -> Result<FileAnswer, AllocError>
-    ensures { IfOk result (λ told. told_seen told ≡ told_by who (Q.decides question.entry.now)
+    ensures { IfOk result (λ reported. reported_seen reported ≡ reported_by who (Q.decides question.entry.now)
         (Q.beside question.entry.now) evidence.now name.now file.now) }
 {
     let answer = question.decide_bytes(alloc, file, evidence);
     if is_memory(&answer) {
         return Err(AllocError);
     }
-    let told = tell_answer(alloc, who, question, name, file, answer)?;
-    Ok(told)
+    let reported = tell_answer(alloc, who, question, name, file, answer)?;
+    Ok(reported)
 }
 
 /// The answer of a trust file with these bytes, where all evidence is vouched for. An offer that is
 /// refused (A1 to A6) is a fault of the file.
-#[tactic(auto, using(crate::proofs::AdmissionLemmas::alone_told, crate::proofs::AdmissionLemmas::alone_refused))]
+#[tactic(auto, using(crate::proofs::AdmissionLemmas::alone_reported, crate::proofs::AdmissionLemmas::alone_refused))]
 pub(crate) fn tell_alone<Q: FileQuestion>(
     alloc: Global,
     who: AnswerForm,
@@ -209,7 +209,7 @@ pub(crate) fn tell_alone<Q: FileQuestion>(
     name: &[u8],
     file: &[u8],
 ) -> Result<FileAnswer, AllocError>
-    ensures { IfOk result (λ told. told_seen told ≡ told_alone_by who (Q.decides question.entry.now)
+    ensures { IfOk result (λ reported. reported_seen reported ≡ reported_alone_by who (Q.decides question.entry.now)
         (Q.beside question.entry.now) (Q.rests_on question.entry.now) name.now file.now) }
 {
     let evidence = question.evidence(alloc);
@@ -218,12 +218,12 @@ pub(crate) fn tell_alone<Q: FileQuestion>(
     }
     match evidence {
         Ok(evidence) => {
-            let told = tell_bytes(alloc, who, question, evidence.as_slice(), name, file)?;
-            Ok(told)
+            let reported = tell_bytes(alloc, who, question, evidence.as_slice(), name, file)?;
+            Ok(reported)
         }
         Err(error) => {
-            let told = tell_fault(alloc, who, name, error)?;
-            Ok(told)
+            let reported = tell_fault(alloc, who, name, error)?;
+            Ok(reported)
         }
     }
 }
@@ -259,8 +259,8 @@ fn tell_unread<Q: FileQuestion>(
     name: &[u8],
     fault: ReadError,
 ) -> Result<FileAnswer, AllocError>
-    ensures { IfOk result (λ told. IsToldUnread who (Q.decides question.entry.now) name.now fault
-        (told_seen told)) }
+    ensures { IfOk result (λ reported. IsReportedUnread who (Q.decides question.entry.now) name.now fault
+        (reported_seen reported)) }
 {
     match fault {
         ReadError::Memory => Err(AllocError),
@@ -279,9 +279,9 @@ fn tell_file<Q: FileQuestion, F: Files>(
     name: &str,
     files: &mut F,
 ) -> Result<FileAnswer, AllocError>
-    ensures { IfTells (F.source_state files.old) (λ s. IfOk result (λ told.
+    ensures { IfTells (F.source_state files.old) (λ s. IfOk result (λ reported.
         TellsFile (telling who (Q.decides question.entry.now) (Q.beside question.entry.now)
-        evidence.now) name.now s (F.source_state files.new) (told_seen told))) }
+        evidence.now) name.now s (F.source_state files.new) (reported_seen reported))) }
 {
     match read_whole(alloc, files, name) {
         Ok(file) => tell_bytes(alloc, who, question, evidence, name.as_bytes(), &file),
@@ -299,16 +299,16 @@ fn tell_files<Q: FileQuestion, F: Files>(
     names: &[&str],
     files: &mut F,
 ) -> Result<FileAnswer, AllocError>
-    ensures { IfTells (F.source_state files.old) (λ s. IfOk result (λ told.
-        TellsFiles told_both (telling who (Q.decides question.entry.now) (Q.beside question.entry.now)
-        evidence.now) nothing_told (map (λ name. name.now) names.now) s (F.source_state files.new) (told_seen told))) }
+    ensures { IfTells (F.source_state files.old) (λ s. IfOk result (λ reported.
+        TellsFiles reported_both (telling who (Q.decides question.entry.now) (Q.beside question.entry.now)
+        evidence.now) nothing_reported (map (λ name. name.now) names.now) s (F.source_state files.new) (reported_seen reported))) }
 {
     let mut outcome = Outcome::Denies;
     let mut text = Vec::new(alloc);
     for name in names {
-        let told = tell_file(alloc, who, question, evidence, name, files)?;
-        outcome = outcome.and_then(told.outcome);
-        text.extend_from_slice(&told.text)?;
+        let reported = tell_file(alloc, who, question, evidence, name, files)?;
+        outcome = outcome.and_then(reported.outcome);
+        text.extend_from_slice(&reported.text)?;
     }
     Ok(FileAnswer { outcome, text })
 }
@@ -331,19 +331,19 @@ fn total_in(
 }
 
 /// The response of files of this number.
-pub(crate) fn told_response(
+pub(crate) fn reported_response(
     alloc: Global,
     who: AnswerForm,
     at: &AskedAt<'_>,
     files: usize,
-    told: FileAnswer,
+    reported: FileAnswer,
 ) -> Result<Response, AllocError>
     ensures { IfOk result (λ r. response r
-        ≡ told_response who (asked_of at.entry.now) files (told_seen told)) }
+        ≡ reported_response who (asked_of at.entry.now) files (reported_seen reported)) }
 {
-    let status = told.outcome.status();
+    let status = reported.outcome.status();
     let total = total_in(alloc, who, at, files as u64, status)?;
-    let mut text = told.text;
+    let mut text = reported.text;
     text.extend_from_slice(&total)?;
     Ok(Response::new(status, text))
 }
@@ -369,8 +369,8 @@ pub fn ask_files<Q: FileQuestion, F: Files>(
     }
     match evidence {
         Ok(evidence) => {
-            let told = tell_files(alloc, who, question, evidence.as_slice(), names, files)?;
-            let response = told_response(alloc, who, at, names.len(), told)?;
+            let reported = tell_files(alloc, who, question, evidence.as_slice(), names, files)?;
+            let response = reported_response(alloc, who, at, names.len(), reported)?;
             Ok(response)
         }
         Err(error) => audit_fault(alloc, error),

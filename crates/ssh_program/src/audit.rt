@@ -254,22 +254,22 @@ pub fn unread(alloc: Global, name: &str, fault: ReadError) -> Result<Response, A
 
 /// The response after the vouch file was read. It gave which of the evidence is vouched for, or the
 /// number of its first line that is not a triple of key, message and signature.
-fn respond_told<Q: Question, F: Files>(
+fn respond_reported<Q: Question, F: Files>(
     alloc: Global,
     names: &AuditFiles<'_>,
     question: &Q,
     evidence: &[Signed],
-    told: Result<Found, u64>,
+    reported: Result<Found, u64>,
     files: &mut F,
 ) -> Result<Response, AllocError>
     requires evidence { evidence.now ≡ sought_in (Q.rests_on question.now) }
     requires rests { RestsOn (Q.decides question.now) (Q.rests_on question.now) }
-    ensures { (file : List ℕ) → TellsOf (first_resting evidence.now) (second_resting evidence.now) file told
+    ensures { (file : List ℕ) → TellsOf (first_resting evidence.now) (second_resting evidence.now) file reported
         → IfTells (F.source_state files.old) (λ s. IfOk result (λ r.
         AuditsVouched (Q.decides question.entry.now) names.entry.now.trust.now
         (or_vouch_fault (vouched_of file)) s (F.source_state files.new) (response r))) }
 {
-    match told {
+    match reported {
         Ok(found) => respond_vouched(alloc, names, question, kept(evidence, found), files),
         Err(number) => vouch_fault(alloc, number),
     }
@@ -293,7 +293,7 @@ fn respond_sought<Q: Question, F: Files>(
 {
     let (first, second) = first_two(evidence);
     match seek_vouched(files, name, first, second) {
-        Ok(told) => respond_told(alloc, names, question, evidence, told, files),
+        Ok(reported) => respond_reported(alloc, names, question, evidence, reported, files),
         Err(fault) => unread(alloc, name, fault),
     }
 }

@@ -7,22 +7,22 @@ ghost use Rattle.ssh_files.specs.FilesInTurn.{TellsFile, TellsFiles};
 ghost use Rattle.ssh_files.specs.SourceState.{IfTells};
 ghost use Rattle.ssh_print.specs.FingerprintKeys.{found_key, offered_key};
 ghost use Rattle.ssh_print.specs.Offering.{offer_seen};
-ghost use Rattle.ssh_print.specs.OtherLines.{otherwise_seen, untold_other};
+ghost use Rattle.ssh_print.specs.OtherLines.{otherwise_seen, unreported_other};
 ghost use Rattle.ssh_print.specs.ResponseView.{response};
-ghost use Rattle.ssh_program.specs.Admissions.{nothing_told, told_both};
-ghost use Rattle.ssh_program.specs.AdmissionsView.{told_seen};
+ghost use Rattle.ssh_program.specs.Admissions.{nothing_reported, reported_both};
+ghost use Rattle.ssh_program.specs.AdmissionsView.{reported_seen};
 ghost use Rattle.ssh_program.specs.ArgsView.{IfAnswered, Spells, rows_in};
 ghost use Rattle.ssh_program.specs.Clients.{client_asks};
 ghost use Rattle.ssh_program.specs.ClientView.{client_seen};
 ghost use Rattle.ssh_program.specs.FingerprintValues.{fingerprint_bytes};
-ghost use Rattle.ssh_program.specs.Fingerprints.{AsksFingerprint, IsUnreadFile, absent_in, fingerprint_telling, told_absent, told_alone, told_found};
+ghost use Rattle.ssh_program.specs.Fingerprints.{AsksFingerprint, IsUnreadFile, absent_in, fingerprint_telling, reported_absent, reported_alone, reported_found};
 ghost use Rattle.ssh_program.specs.Keys.{AdmitsAt};
 ghost use Rattle.ssh_program.specs.Spelling.{value};
 ghost use Rattle.ssh_program.specs.declared.args.ArgName.TheVariants as option;
 ghost use Rattle.ssh_program.specs.declared.args.KeyPlace.TheVariants.{Fingerprint};
 
 use crate::admission::{
-    FileAnswer, Outcome, denied_outcome, tell_alone, tell_fault, told_response,
+    FileAnswer, Outcome, denied_outcome, reported_response, tell_alone, tell_fault,
 };
 use crate::args::{ArgName, Args};
 use crate::client::Client;
@@ -33,7 +33,7 @@ use ssh_files::{Files, ReadError, read_whole};
 use ssh_offers::{AuditError, Items};
 use ssh_patterns::parse_address;
 use ssh_print::{
-    OfferedKey, Otherwise, Response, Subject, absent_text, audit_fault, find_key, other_untold,
+    OfferedKey, Otherwise, Response, Subject, absent_text, audit_fault, find_key, other_unreported,
     stand_in,
 };
 use ssh_review::{Form, answer_object};
@@ -73,9 +73,9 @@ fn tell_absent(
     name: &[u8],
     file: &[u8],
 ) -> Result<FileAnswer, AllocError>
-    ensures { IfOk result (λ told. told_seen told ≡ told_absent form name.now (untold_other file.now)) }
+    ensures { IfOk result (λ reported. reported_seen reported ≡ reported_absent form name.now (unreported_other file.now)) }
 {
-    let other = other_untold(alloc, file)?;
+    let other = other_unreported(alloc, file)?;
     let outcome = denied_outcome(other.may_admit);
     let text = absent_in(alloc, form, name, &other)?;
     Ok(FileAnswer { outcome, text })
@@ -89,13 +89,13 @@ fn tell_offered(
     name: &[u8],
     file: &[u8],
 ) -> Result<FileAnswer, AllocError>
-    ensures { IfOk result (λ told. told_seen told
-        ≡ told_alone (client_asks (client_seen client.now) (offer_seen offer.now)) name.now file.now) }
+    ensures { IfOk result (λ reported. reported_seen reported
+        ≡ reported_alone (client_asks (client_seen client.now) (offer_seen offer.now)) name.now file.now) }
 {
     let signature = stand_in(alloc, offer.kind)?;
     let question = client.question(offer, signature.as_slice());
-    let told = tell_alone(alloc, client.who(), &question, name, file)?;
-    Ok(told)
+    let reported = tell_alone(alloc, client.who(), &question, name, file)?;
+    Ok(reported)
 }
 
 fn tell_found(
@@ -105,8 +105,8 @@ fn tell_found(
     name: &[u8],
     file: &[u8],
 ) -> Result<FileAnswer, AllocError>
-    ensures { IfOk result (λ told. told_seen told
-        ≡ told_found (client_seen client.now) name.now file.now (option_map offer_seen offer)) }
+    ensures { IfOk result (λ reported. reported_seen reported
+        ≡ reported_found (client_seen client.now) name.now file.now (option_map offer_seen offer)) }
 {
     match offer {
         None => tell_absent(alloc, client.form, name, file),
@@ -122,12 +122,12 @@ fn tell_bytes(
     name: &[u8],
     file: &[u8],
 ) -> Result<FileAnswer, AllocError>
-    ensures { IfOk result (λ told. told_seen told ≡ told_found (client_seen client.now) name.now
+    ensures { IfOk result (λ reported. reported_seen reported ≡ reported_found (client_seen client.now) name.now
         file.now (option_map offered_key (found_key digest.now file.now))) }
 {
     let offer = find_key(alloc, file, digest)?;
-    let told = tell_found(alloc, client, offer, name, file)?;
-    Ok(told)
+    let reported = tell_found(alloc, client, offer, name, file)?;
+    Ok(reported)
 }
 
 /// The answer of a file whose bytes could not be had.
@@ -138,7 +138,7 @@ fn tell_unread(
     fault: ReadError,
 ) -> Result<FileAnswer, AllocError>
     ensures { IfOk result
-        (λ told. IsUnreadFile (client_seen client.now).form name.now fault (told_seen told)) }
+        (λ reported. IsUnreadFile (client_seen client.now).form name.now fault (reported_seen reported)) }
 {
     match fault {
         ReadError::Memory => Err(AllocError),
@@ -157,9 +157,9 @@ fn tell_file<F: Files>(
     name: &str,
     files: &mut F,
 ) -> Result<FileAnswer, AllocError>
-    ensures { IfTells (F.source_state files.old) (λ s. IfOk result (λ told.
+    ensures { IfTells (F.source_state files.old) (λ s. IfOk result (λ reported.
         TellsFile (fingerprint_telling (client_seen client.now) digest.now) name.now s
-        (F.source_state files.new) (told_seen told))) }
+        (F.source_state files.new) (reported_seen reported))) }
 {
     match read_whole(alloc, files, name) {
         Ok(file) => tell_bytes(alloc, client, digest, name.as_bytes(), &file),
@@ -176,16 +176,16 @@ fn tell_files<F: Files>(
     names: &[&str],
     files: &mut F,
 ) -> Result<FileAnswer, AllocError>
-    ensures { IfTells (F.source_state files.old) (λ s. IfOk result (λ told.
-        TellsFiles told_both (fingerprint_telling (client_seen client.now) digest.now) nothing_told
-        (map (λ name. name.now) names.now) s (F.source_state files.new) (told_seen told))) }
+    ensures { IfTells (F.source_state files.old) (λ s. IfOk result (λ reported.
+        TellsFiles reported_both (fingerprint_telling (client_seen client.now) digest.now) nothing_reported
+        (map (λ name. name.now) names.now) s (F.source_state files.new) (reported_seen reported))) }
 {
     let mut outcome = Outcome::Denies;
     let mut text = Vec::new(alloc);
     for name in names {
-        let told = tell_file(alloc, client, digest, name, files)?;
-        outcome = outcome.and_then(told.outcome);
-        text.extend_from_slice(&told.text)?;
+        let reported = tell_file(alloc, client, digest, name, files)?;
+        outcome = outcome.and_then(reported.outcome);
+        text.extend_from_slice(&reported.text)?;
     }
     Ok(FileAnswer { outcome, text })
 }
@@ -206,8 +206,14 @@ fn ask_fingerprint<F: Files>(
     match parse_address(client.address) {
         Err(_) => audit_fault(alloc, AuditError::Address),
         Ok(_) => {
-            let told = tell_files(alloc, client, digest, names, files)?;
-            let response = told_response(alloc, client.who(), &client.at(), names.len(), told)?;
+            let reported = tell_files(alloc, client, digest, names, files)?;
+            let response = reported_response(
+                alloc,
+                client.who(),
+                &client.at(),
+                names.len(),
+                reported,
+            )?;
             Ok(response)
         }
     }

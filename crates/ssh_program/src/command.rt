@@ -2,7 +2,7 @@
 
 ghost use Rattle.std.specs.Prelude.{◌≡◌, IfOk, map, option_map, option_and_then};
 ghost use Rattle.ssh_program.specs.declared.command.CommandError.TheVariants.{Memory};
-ghost use Rattle.ssh_program.specs.Spelling.{IsToldAs};
+ghost use Rattle.ssh_program.specs.Spelling.{IsReportedAs};
 ghost use Rattle.ssh_print.specs.ResponseView.{response};
 ghost use Rattle.clap.specs.Words.{subcommand_rows_of, app_of, with_rule, with_subcommand};
 ghost use Rattle.ssh_program.specs.CommandLine.{request_in, program_app, names_rule, option_rule, subcommand_app, with_named, with_names, with_options};
@@ -36,7 +36,7 @@ impl From<AllocError> for CommandError {
 
 /// The response to an error of the command line.
 pub fn respond_fault(alloc: Global, fault: CommandError) -> Result<Response, AllocError>
-    ensures { IfOk result (λ r. IsToldAs fault (response r)) }
+    ensures { IfOk result (λ r. IsReportedAs fault (response r)) }
 {
     match fault {
         CommandError::Usage => usage_fault(alloc),

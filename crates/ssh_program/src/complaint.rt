@@ -1,9 +1,9 @@
 //! Which word of a command line is wrong, and the sentence that says so.
 
 ghost use Rattle.std.specs.Prelude.{◌≡◌, ◌++◌, OnOk, map, option_map};
-ghost use Rattle.ssh_program.specs.Complaints.{both_text, complaint_of, complaint_text, first_wrong, flag_wrong, names_wrong, neither_text, open_wrong, operand_wrong, option_in, option_text, option_wrong, pair_by, pair_wrong, row_named, told_word, value_wrong, waiting, waiting_at, whole_wrong, word_wrong};
+ghost use Rattle.ssh_program.specs.Complaints.{both_text, complaint_of, complaint_text, first_wrong, flag_wrong, names_wrong, neither_text, open_wrong, operand_wrong, option_in, option_text, option_wrong, pair_by, pair_wrong, row_named, reported_word, value_wrong, waiting, waiting_at, whole_wrong, word_wrong};
 ghost use Rattle.ssh_program.specs.ComplaintsView.{complaint_seen};
-ghost use Rattle.ssh_program.specs.Options.{told_options};
+ghost use Rattle.ssh_program.specs.Options.{reported_options};
 ghost use Rattle.ssh_program.specs.WordPlacesView.{word_seen};
 
 use crate::args::{ArgName, Needed};
@@ -38,7 +38,7 @@ pub enum Complaint<'a> {
 fn row_named(command: Subcommand, word: &[u8]) -> Option<OptionRow>
     ensures { result ≡ row_named command word.now }
 {
-    for row in command.told_options() {
+    for row in command.reported_options() {
         if names_option(row.0, word) {
             return Some(*row);
         }
@@ -199,9 +199,9 @@ fn option_complaint<'a>(
 /// What is wrong with the first option with which something is.
 fn options_complaint<'a>(command: Subcommand, words: &[Word<'_>]) -> Option<Complaint<'a>>
     ensures { option_map complaint_seen result
-        ≡ first_wrong (option_wrong command (map word_seen words.now)) (told_options command) }
+        ≡ first_wrong (option_wrong command (map word_seen words.now)) (reported_options command) }
 {
-    for row in command.told_options() {
+    for row in command.reported_options() {
         if let Some(complaint) = option_complaint(command, words, *row) {
             return Some(complaint);
         }
@@ -243,20 +243,20 @@ pub fn find_complaint<'a>(command: Subcommand, words: &[Word<'a>]) -> Complaint<
 }
 
 /// An option by its name.
-fn push_option(out: &mut Vec<u8>, option: ArgName, told: &[u8]) -> Result<(), AllocError>
-    ensures { OnOk result (out.new.items ≡ out.old.items ++ option_text option told.now) }
+fn push_option(out: &mut Vec<u8>, option: ArgName, reported: &[u8]) -> Result<(), AllocError>
+    ensures { OnOk result (out.new.items ≡ out.old.items ++ option_text option reported.now) }
 {
     out.extend_from_slice(b"--")?;
     out.extend_from_slice(option.name().as_bytes())?;
-    out.extend_from_slice(told)?;
+    out.extend_from_slice(reported)?;
     Ok(())
 }
 
-fn push_word(out: &mut Vec<u8>, word: &str, told: &[u8]) -> Result<(), AllocError>
-    ensures { OnOk result (out.new.items ≡ out.old.items ++ told_word word.now told.now) }
+fn push_word(out: &mut Vec<u8>, word: &str, reported: &[u8]) -> Result<(), AllocError>
+    ensures { OnOk result (out.new.items ≡ out.old.items ++ reported_word word.now reported.now) }
 {
     push_escaped(out, word.as_bytes())?;
-    out.extend_from_slice(told)?;
+    out.extend_from_slice(reported)?;
     Ok(())
 }
 

@@ -76,7 +76,7 @@ pub fn respond_login<F: Files>(
     let places = words.text_places()?;
     match take_texts(alloc, &places, files) {
         Ok(texts) => respond_in_zone(alloc, words, zone, &texts, files),
-        Err(NoText::Told(response)) => Ok(response),
+        Err(NoText::Reported(response)) => Ok(response),
         Err(NoText::Memory) => Err(CommandError::Memory),
     }
 }
@@ -130,7 +130,7 @@ pub fn respond_host<F: Files>(
     let places = words.text_places()?;
     match take_texts(alloc, &places, files) {
         Ok(texts) => respond_by_texts(alloc, words, &texts, files),
-        Err(NoText::Told(response)) => Ok(response),
+        Err(NoText::Reported(response)) => Ok(response),
         Err(NoText::Memory) => Err(CommandError::Memory),
     }
 }

@@ -13,8 +13,8 @@ ghost use Rattle.ssh_program.specs.declared.subcommand.Subcommand.TheVariants.{R
 
 use crate::args::ArgName;
 use crate::kinds::{asks_known, usual_kind};
+use crate::reported::{parts_hosts, push_words};
 use crate::subcommand::Subcommand;
-use crate::told::{parts_hosts, push_words};
 use crate::word::{Word, has_operand, in_turn, is_given};
 use std::alloc::{AllocError, Global};
 
@@ -275,14 +275,14 @@ fn command_words(
     around: &Surroundings<'_>,
     words: &[&str],
 ) -> Result<Vec<String>, AllocError>
-    ensures { IfOk result (λ told. map string_bytes told.items ≡ name.now
+    ensures { IfOk result (λ reported. map string_bytes reported.items ≡ name.now
         ∷ words_of (subcommand_named name.now) (around_seen around.now)
         (map (λ word. word.now) words.now)) }
 {
-    let mut told = Vec::new(alloc);
-    push_text(alloc, &mut told, name)?;
-    push_rest(alloc, &mut told, Subcommand::named(name), around, words)?;
-    Ok(told)
+    let mut reported = Vec::new(alloc);
+    push_text(alloc, &mut reported, name)?;
+    push_rest(alloc, &mut reported, Subcommand::named(name), around, words)?;
+    Ok(reported)
 }
 
 /// The words of the program with what a question leaves out: options behind the name of the
@@ -295,7 +295,7 @@ pub fn with_defaults(
     words: &[&str],
     around: &Surroundings<'_>,
 ) -> Result<Vec<String>, AllocError>
-    ensures { IfOk result (λ told. map string_bytes told.items
+    ensures { IfOk result (λ reported. map string_bytes reported.items
         ≡ words_with_defaults (around_seen around.now) (map (λ word. word.now) words.now)) }
 {
     match words.split_first() {

@@ -183,15 +183,15 @@ fn listed_words<'a>(
     words: &[Word<'a>],
     names: &[&'a str],
 ) -> Result<Vec<&'a str>, AllocError>
-    ensures { IfOk result (λ told. map (λ word. word.now) told.items ≡ command.entry.now
+    ensures { IfOk result (λ reported. map (λ word. word.now) reported.items ≡ command.entry.now
         ∷ listed_words (map word_seen words.entry.now) (map (λ name. name.now) names.entry.now)) }
 {
-    let mut told = Vec::new(alloc);
-    told.push(command)?;
-    push_kept(&mut told, words)?;
-    push_dashes(&mut told, words)?;
-    told.extend_from_slice(names)?;
-    Ok(told)
+    let mut reported = Vec::new(alloc);
+    reported.push(command)?;
+    push_kept(&mut reported, words)?;
+    push_dashes(&mut reported, words)?;
+    reported.extend_from_slice(names)?;
+    Ok(reported)
 }
 
 /// The words of a command, with the names of this list.
@@ -201,7 +201,7 @@ fn asked_by<'a>(
     words: &[Word<'a>],
     list: &'a [u8],
 ) -> Result<Vec<&'a str>, ListError>
-    ensures { Lists (λ told. map (λ word. word.now) told.items)
+    ensures { Lists (λ reported. map (λ word. word.now) reported.items)
         (asked_by command.entry.now (map word_seen words.entry.now) list.entry.now) result }
 {
     if reads_twice(words) {
@@ -221,7 +221,7 @@ pub fn with_list<'a>(
     words: &[&'a str],
     list: &'a [u8],
 ) -> Result<Vec<&'a str>, ListError>
-    ensures { Lists (λ told. map (λ word. word.now) told.items)
+    ensures { Lists (λ reported. map (λ word. word.now) reported.items)
         (with_list (map (λ word. word.now) words.entry.now) list.entry.now) result }
 {
     match words.split_first() {

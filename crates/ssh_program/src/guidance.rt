@@ -5,7 +5,7 @@ ghost use Rattle.std.specs.List.{before_first, list_any};
 ghost use Rattle.ssh_print.specs.Explaining.{row_text};
 ghost use Rattle.ssh_print.specs.Table.{code_row, row_of};
 ghost use Rattle.ssh_program.specs.ComplaintsView.{complaint_seen};
-ghost use Rattle.ssh_program.specs.Guidance.{asks_commands, asks_help, asks_readable, code_by, code_sentence, command_usage, complaint_front, complaint_lines, fault_by, fault_guidance, fault_sentence, file_sentence, front, is_end, is_help, is_readable, is_space, line_sentence, no_command, no_words, option_of, options_pointer, row_sentence, tells_faults, text_of, told_sentence, usage_by, usage_guidance, value_sentence};
+ghost use Rattle.ssh_program.specs.Guidance.{asks_commands, asks_help, asks_readable, code_by, code_sentence, command_usage, complaint_front, complaint_lines, fault_by, fault_guidance, fault_sentence, file_sentence, front, is_end, is_help, is_readable, is_space, line_sentence, no_command, no_words, option_of, options_pointer, row_sentence, tells_faults, text_of, reported_sentence, usage_by, usage_guidance, value_sentence};
 ghost use Rattle.ssh_program.specs.Help.{wants_text};
 ghost use Rattle.ssh_program.specs.Options.{subcommand_named};
 ghost use Rattle.ssh_program.specs.WordPlacesView.{word_seen};
@@ -179,7 +179,7 @@ pub fn push_wanted(out: &mut Vec<u8>, option: ArgName) -> Result<(), AllocError>
 fn option_of(command: Subcommand, name: &[u8]) -> Option<OptionRow>
     ensures { result ≡ option_of command name.now }
 {
-    for row in command.told_options() {
+    for row in command.reported_options() {
         if row.0.name().as_bytes() == name {
             return Some(*row);
         }
@@ -285,10 +285,10 @@ fn push_code(out: &mut Vec<u8>, row: Option<Row>) -> Result<(), AllocError>
 }
 
 /// What is said of another fault: what `explain` says of its code.
-fn push_code_fault(out: &mut Vec<u8>, told: &[u8]) -> Result<(), AllocError>
-    ensures { OnOk result (out.new.items ≡ out.old.items ++ code_sentence told.now) }
+fn push_code_fault(out: &mut Vec<u8>, reported: &[u8]) -> Result<(), AllocError>
+    ensures { OnOk result (out.new.items ≡ out.old.items ++ code_sentence reported.now) }
 {
-    push_code(out, row_in(before_space(told)))
+    push_code(out, row_in(before_space(reported)))
 }
 
 /// What is said where a file among those that were asked of has a fault.
@@ -303,13 +303,17 @@ fn push_file_fault(out: &mut Vec<u8>, command: Subcommand) -> Result<(), AllocEr
 }
 
 /// What is said of what stands behind `fault `.
-fn push_told_fault(out: &mut Vec<u8>, command: Subcommand, told: &[u8]) -> Result<(), AllocError>
-    ensures { OnOk result (out.new.items ≡ out.old.items ++ told_sentence command told.now) }
+fn push_reported_fault(
+    out: &mut Vec<u8>,
+    command: Subcommand,
+    reported: &[u8],
+) -> Result<(), AllocError>
+    ensures { OnOk result (out.new.items ≡ out.old.items ++ reported_sentence command reported.now) }
 {
-    if told.starts_with(b"value ".as_slice()) {
-        push_value_fault(out, command, told.split_at(6).1)
+    if reported.starts_with(b"value ".as_slice()) {
+        push_value_fault(out, command, reported.split_at(6).1)
     } else {
-        push_code_fault(out, told)
+        push_code_fault(out, reported)
     }
 }
 
@@ -318,7 +322,7 @@ fn push_line_fault(out: &mut Vec<u8>, command: Subcommand, line: &[u8]) -> Resul
     ensures { OnOk result (out.new.items ≡ out.old.items ++ line_sentence command line.now) }
 {
     if line.starts_with(b"fault ".as_slice()) {
-        push_told_fault(out, command, line.split_at(6).1)
+        push_reported_fault(out, command, line.split_at(6).1)
     } else {
         push_file_fault(out, command)
     }
@@ -331,7 +335,7 @@ fn push_fault(out: &mut Vec<u8>, command: Subcommand, printed: &[u8]) -> Result<
     push_line_fault(out, command, before_end(printed))
 }
 
-/// Whether the faults of a command are told in a sentence: `readable`, those that ask of files by
+/// Whether the faults of a command are reported in a sentence: `readable`, those that ask of files by
 /// their names, and `explain`.
 fn tells_faults(command: Subcommand) -> bool
     ensures { result ≡ tells_faults command }

@@ -245,7 +245,7 @@ pub fn other_place(command: Subcommand, option: ArgName) -> Option<ArgName>
     }
 }
 
-/// Whether an option is told together with the one before it.
+/// Whether an option is reported together with the one before it.
 pub fn is_joined(option: ArgName) -> bool
     ensures { result ≡ is_joined option }
 {
@@ -426,7 +426,7 @@ pub fn push_command_help(out: &mut Vec<u8>, command: Subcommand) -> Result<(), A
     out.extend_from_slice(b": ")?;
     out.extend_from_slice(command_sentence(command))?;
     out.extend_from_slice(b"\n")?;
-    push_options_help(out, command, command.told_options())?;
+    push_options_help(out, command, command.reported_options())?;
     out.extend_from_slice(names_sentence(command))?;
     out.extend_from_slice(b"see also the manual page ssh_audit(1)\n")?;
     Ok(())

@@ -22,7 +22,7 @@ use crate::offer_fingerprint::offer_print;
 use crate::printing::{put_made, put_no_memory};
 use crate::review::{FOUND, NOTHING, ReviewKind, review_files, with_counted};
 use crate::sink::Sink;
-use crate::streaming::{FileTold, Stop, put_review, put_total, put_unread};
+use crate::streaming::{FileReported, Stop, put_review, put_total, put_unread};
 use ssh_files::{Files, read_top_line, read_whole};
 use ssh_findings::ReviewOptions;
 use ssh_keys::digest_text;
@@ -67,7 +67,7 @@ fn put_bytes_review<W: Sink>(
     name: &[u8],
     file: &[u8],
     writer: &mut W,
-) -> Result<FileTold, Stop>
+) -> Result<FileReported, Stop>
     requires none { NoneFailed (W.account writer.old) }
     requires limit { length file.now ≤ file_limit }
     ensures failed { FailedIfStopped result (W.account writer.new) }
@@ -97,10 +97,10 @@ fn put_file<F: Files, W: Sink>(
     name: &str,
     files: &mut F,
     writer: &mut W,
-) -> Result<FileTold, Stop>
+) -> Result<FileReported, Stop>
     requires { NoneFailed (W.account writer.old) }
     ensures failed { FailedIfStopped result (W.account writer.new) }
-    ensures told { TextWritten (telling_key_review sought.now kind form (asking_of asked.entry.now))
+    ensures reported { TextWritten (telling_key_review sought.now kind form (asking_of asked.entry.now))
         (λ r. r.file.text) key_review_kept name.now (F.source_state files.old)
         (F.source_state files.new) (W.account writer.old) (W.account writer.new) result }
 {
@@ -132,17 +132,17 @@ fn tell_files<F: Files, W: Sink>(
 ) -> Result<KeyTotal, Stop>
     requires { NoneFailed (W.account writer.old) }
     ensures failed { FailedIfStopped result (W.account writer.new) }
-    ensures told { IfTells (F.source_state files.old) (λ s. TextsWritten with_key_file
+    ensures reported { IfTells (F.source_state files.old) (λ s. TextsWritten with_key_file
         (telling_key_review sought.now kind form (asking_of asked.entry.now)) no_key_lines
-        (λ told. told.lines.text) (λ r. r.file.text) key_total (map (λ name. name.now) names.now) s
+        (λ reported. reported.lines.text) (λ r. r.file.text) key_total (map (λ name. name.now) names.now) s
         (F.source_state files.new) (W.account writer.old) (W.account writer.new) result) }
 {
     let mut total = NOTHING;
     let mut stands = false;
     for name in names {
-        let told = put_file(alloc, kind, form, asked, sought, name, files, writer)?;
-        total = with_counted(total, told.counts, told.fault);
-        stands = either(stands, told.stands);
+        let reported = put_file(alloc, kind, form, asked, sought, name, files, writer)?;
+        total = with_counted(total, reported.counts, reported.fault);
+        stands = either(stands, reported.stands);
     }
     Ok(KeyTotal { total, stands })
 }
@@ -168,9 +168,18 @@ fn seek_key<F: Files, W: Sink>(
         (W.account writer.old) (W.account writer.new) result) }
 {
     match tell_files(alloc, kind, form, asked, sought, names, files, writer) {
-        Ok(told) => {
-            let status = key_status(&told.total, told.stands);
-            put_total(alloc, kind, form, rule, asked, &told.total, status, writer)
+        Ok(reported) => {
+            let status = key_status(&reported.total, reported.stands);
+            put_total(
+                alloc,
+                kind,
+                form,
+                rule,
+                asked,
+                &reported.total,
+                status,
+                writer,
+            )
         }
         Err(Stop::Memory) => put_no_memory(writer),
         Err(Stop::Write) => FAULT,

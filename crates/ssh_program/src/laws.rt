@@ -32,13 +32,13 @@ ghost use Rattle.ssh_keys.specs.Fingerprint.{digest_text_of};
 ghost use Rattle.ssh_offers.specs.FirstRefusal.{AreBytes};
 ghost use Rattle.ssh_program.specs.FingerprintSamples.{FingerprintsRead};
 ghost use Rattle.ssh_program.specs.FingerprintValues.{fingerprint_bytes};
-ghost use Rattle.ssh_program.specs.FileSamples.{FaultsInOrder, HashFaultsInOrder, RewriteKinds, SignatureFaultsInOrder, TrustFilesLeft, VouchFilesTold, VouchFilesWritten};
+ghost use Rattle.ssh_program.specs.FileSamples.{FaultsInOrder, HashFaultsInOrder, RewriteKinds, SignatureFaultsInOrder, TrustFilesLeft, VouchFilesReported, VouchFilesWritten};
 ghost use Rattle.jiff.specs.Types.{TimeZone as Zone};
-ghost use Rattle.ssh_program.specs.DefaultSamples.{HostsTold, OthersTold, ReviewZonesRead, ReviewsTold};
-ghost use Rattle.ssh_program.specs.NameListSamples.{ListsNamed, NamesTold, WordsListed};
+ghost use Rattle.ssh_program.specs.DefaultSamples.{HostsReported, OthersReported, ReviewZonesRead, ReviewsReported};
+ghost use Rattle.ssh_program.specs.NameListSamples.{ListsNamed, NamesReported, WordsListed};
 ghost use Rattle.ssh_program.specs.Samples.{HostValuesInOrder, LoginAsksMore, LoginSpelled, LoginValuesInOrder, ShowKinds, TextsOfFiles};
-ghost use Rattle.ssh_program.specs.ArgsSamples.{HostsAsked, KeyPlacesAsked, KeysAsked, LoginsAsked, OthersAsked, ReviewsAsked, TextsAsked, UsageTold, WordsRefused};
-ghost use Rattle.ssh_program.specs.AnswerSamples.{AdmitsSpelled, FingerprintsRefused, OutcomesSummed, StatusesTold, TrustsSpelled};
+ghost use Rattle.ssh_program.specs.ArgsSamples.{HostsAsked, KeyPlacesAsked, KeysAsked, LoginsAsked, OthersAsked, ReviewsAsked, TextsAsked, UsageReported, WordsRefused};
+ghost use Rattle.ssh_program.specs.AnswerSamples.{AdmitsSpelled, FingerprintsRefused, OutcomesSummed, StatusesReported, TrustsSpelled};
 
 /// What is printed of a signature is, after its number, a line of a vouch file; and a vouch file of
 /// such lines vouches for exactly these signatures.
@@ -89,9 +89,9 @@ fn denied_rule()
         → HoldsAnother line (sought_blob claim) }
 {}
 
-/// What files tell and leave, what is printed as one, and which fault is told where there are two.
-fn files_as_told()
-    ensures vouched { VouchFilesTold }
+/// What files tell and leave, what is printed as one, and which fault is reported where there are two.
+fn files_as_reported()
+    ensures vouched { VouchFilesReported }
     ensures left { TrustFilesLeft }
     ensures written { VouchFilesWritten }
     ensures audits { (decision : List ℕ → List SignedValue → DecisionValue)
@@ -101,7 +101,7 @@ fn files_as_told()
     ensures hashed { HashFaultsInOrder }
 {}
 
-/// Which values texts spell, and which fault is told where more than one spells none.
+/// Which values texts spell, and which fault is reported where more than one spells none.
 fn values_as_read()
     ensures shown { ShowKinds }
     ensures texts { TextsOfFiles }
@@ -121,7 +121,7 @@ fn words_as_asked()
     ensures others { OthersAsked }
     ensures reviews { ReviewsAsked }
     ensures refused { WordsRefused }
-    ensures usage { UsageTold }
+    ensures usage { UsageReported }
 {}
 
 /// What the options of `admits` and `trusts` spell, what files come to together, and the status of that.
@@ -130,15 +130,15 @@ fn outcomes_as_summed()
     ensures fingerprints { (zone : Zone) → FingerprintsRefused zone }
     ensures trusts { TrustsSpelled }
     ensures summed { OutcomesSummed }
-    ensures statuses { StatusesTold }
+    ensures statuses { StatusesReported }
 {}
 
 /// What a question may leave out, and what is asked in its place.
-fn defaults_as_told()
-    ensures reviews { ReviewsTold }
+fn defaults_as_reported()
+    ensures reviews { ReviewsReported }
     ensures zones { ReviewZonesRead }
-    ensures others { OthersTold }
-    ensures hosts { HostsTold }
+    ensures others { OthersReported }
+    ensures hosts { HostsReported }
 {}
 
 /// The words that are asked in place of those that name a list: all others in their order, and the
@@ -149,8 +149,8 @@ fn list_rule()
 {}
 
 /// What a list of names has, and which words are asked with it.
-fn lists_as_told()
-    ensures names { NamesTold }
+fn lists_as_reported()
+    ensures names { NamesReported }
     ensures words { WordsListed }
     ensures lists { ListsNamed }
 {}

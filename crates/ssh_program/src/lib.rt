@@ -45,6 +45,7 @@ mod pieces;
 mod printing;
 mod program;
 mod question;
+mod reported;
 mod review;
 mod review_zone;
 mod rewriting;
@@ -54,7 +55,6 @@ mod sshsig;
 mod streaming;
 mod subcommand;
 mod texts;
-mod told;
 mod vouching;
 mod word;
 

@@ -1,9 +1,9 @@
-//! A list of names of files: its names, which texts are none, and what is told where there is no list.
+//! A list of names of files: its names, which texts are none, and what is reported where there is no list.
 
 ghost use Rattle.std.specs.Prelude.{◌≡◌, ◌++◌, ◌==◌, ◌<◌, IfOk, OnOk, map};
 ghost use Rattle.std.specs.List.{after_first, before_first, list_any};
 ghost use Rattle.ssh_program.specs.Account.{NoneFailed};
-ghost use Rattle.ssh_program.specs.NameLists.{Lists, fault_words, is_nul, is_tab, list_guidance, list_names, list_response, list_why, name_end, name_fault, names_read, told_why, unread_list, why_line};
+ghost use Rattle.ssh_program.specs.NameLists.{Lists, fault_words, is_nul, is_tab, list_guidance, list_names, list_response, list_why, name_end, name_fault, names_read, reported_why, unread_list, why_line};
 ghost use Rattle.ssh_program.specs.Printing.{WritesResponse};
 ghost use Rattle.ssh_program.specs.declared.name_list.ListError.TheVariants.{Memory, Name};
 
@@ -210,8 +210,8 @@ fn push_why(out: &mut Vec<u8>, error: ListError) -> Result<(), AllocError>
 }
 
 /// The line that says what is wrong with the list of this name.
-fn told_why(alloc: Global, name: &str, error: ListError) -> Result<Vec<u8>, AllocError>
-    ensures { IfOk result (λ line. line.items ≡ told_why name.now error) }
+fn reported_why(alloc: Global, name: &str, error: ListError) -> Result<Vec<u8>, AllocError>
+    ensures { IfOk result (λ line. line.items ≡ reported_why name.now error) }
 {
     let mut line = Vec::from_slice(alloc, b"ssh_audit: ")?;
     push_escaped(&mut line, name.as_bytes())?;
@@ -233,7 +233,7 @@ fn push_why_line(
     match error {
         ListError::Unread | ListError::Memory => Ok(()),
         _ => {
-            let line = told_why(alloc, name, error)?;
+            let line = reported_why(alloc, name, error)?;
             out.extend_from_slice(&line)
         }
     }

@@ -24,7 +24,7 @@ use crate::key_seeking::review_for;
 use crate::printing::{put_made, put_no_memory};
 use crate::review_zone::{given_rule, is_zone_given, zone_text};
 use crate::sink::Sink;
-use crate::streaming::{FileTold, Stop, put_review, put_total, put_unread};
+use crate::streaming::{FileReported, Stop, put_review, put_total, put_unread};
 use jiff::tz::TimeZone;
 use ssh_files::{Files, read_bits, read_whole, zone_of};
 use ssh_findings::{Code, ReviewOptions, parse_codes};
@@ -89,7 +89,7 @@ pub fn rsa_minimum(words: &Args<'_>) -> Result<u32, CommandError>
 
 /// The codes of the findings that are reported; where the option is not given, those for faults
 /// that are wrong under any policy (F1 to F14 and F22).
-pub fn told_codes(alloc: Global, words: &Args<'_>) -> Result<Vec<Code>, CommandError>
+pub fn reported_codes(alloc: Global, words: &Args<'_>) -> Result<Vec<Code>, CommandError>
     ensures { Spells (λ v. v.items) (value_or default_codes codes_in option.Findings
         (rows_in words.now)) result }
 {
@@ -176,7 +176,7 @@ fn put_bytes_review<W: Sink>(
     name: &[u8],
     file: &[u8],
     writer: &mut W,
-) -> Result<FileTold, Stop>
+) -> Result<FileReported, Stop>
     requires none { NoneFailed (W.account writer.old) }
     requires limit { length file.now ≤ file_limit }
     ensures failed { FailedIfStopped result (W.account writer.new) }
@@ -205,10 +205,10 @@ fn put_file<F: Files, W: Sink>(
     name: &str,
     files: &mut F,
     writer: &mut W,
-) -> Result<FileTold, Stop>
+) -> Result<FileReported, Stop>
     requires { NoneFailed (W.account writer.old) }
     ensures failed { FailedIfStopped result (W.account writer.new) }
-    ensures told { TextWritten (telling_review kind form (asking_of asked.entry.now)) (λ r. r.text)
+    ensures reported { TextWritten (telling_review kind form (asking_of asked.entry.now)) (λ r. r.text)
         review_kept name.now (F.source_state files.old) (F.source_state files.new)
         (W.account writer.old) (W.account writer.new) result }
 {
@@ -231,15 +231,15 @@ fn tell_files<F: Files, W: Sink>(
 ) -> Result<Total, Stop>
     requires { NoneFailed (W.account writer.old) }
     ensures failed { FailedIfStopped result (W.account writer.new) }
-    ensures told { IfTells (F.source_state files.old) (λ s. TextsWritten with_file
-        (telling_review kind form (asking_of asked.entry.now)) no_lines (λ told. told.text)
-        (λ r. r.text) (λ told. told.total) (map (λ name. name.now) names.now) s (F.source_state files.new)
+    ensures reported { IfTells (F.source_state files.old) (λ s. TextsWritten with_file
+        (telling_review kind form (asking_of asked.entry.now)) no_lines (λ reported. reported.text)
+        (λ r. r.text) (λ reported. reported.total) (map (λ name. name.now) names.now) s (F.source_state files.new)
         (W.account writer.old) (W.account writer.new) result) }
 {
     let mut total = NOTHING;
     for name in names {
-        let told = put_file(alloc, kind, form, asked, name, files, writer)?;
-        total = with_counted(total, told.counts, told.fault);
+        let reported = put_file(alloc, kind, form, asked, name, files, writer)?;
+        total = with_counted(total, reported.counts, reported.fault);
     }
     Ok(total)
 }
@@ -285,7 +285,7 @@ fn review_in_zone<F: Files, W: Sink>(
 ) -> Result<u8, CommandError>
     requires { NoneFailed (W.account writer.old) }
     ensures untouched { OnErr result (W.account writer.new ≡ W.account writer.old) }
-    ensures told { IfTells (F.source_state files.old) (λ s. IfWritten (W.account writer.old)
+    ensures reported { IfTells (F.source_state files.old) (λ s. IfWritten (W.account writer.old)
         (W.account writer.new) result (λ r. ReviewsInZone (rows_in words.now)
         (option_map plain_zone zone.entry) s (F.source_state files.new) r)) }
 {
@@ -293,7 +293,7 @@ fn review_in_zone<F: Files, W: Sink>(
     let now = words.number(ArgName::Now)?;
     let zone = ArgName::Zone.or_fault(zone)?;
     let rsa_minimum = rsa_minimum(words)?;
-    let told = told_codes(alloc, words)?;
+    let reported = reported_codes(alloc, words)?;
     let form = form(words)?;
     let names = words.needed_names()?;
     let rule = zone_text(given_rule(words));
@@ -303,7 +303,7 @@ fn review_in_zone<F: Files, W: Sink>(
         zone: &zone,
         is_zone_given: is_given,
         rsa_minimum,
-        told: &told,
+        reported: &reported,
     };
     let key = words.given(ArgName::Key);
     Ok(review_for(alloc, kind, form, rule, &asked, names, key, files, writer))

@@ -1,7 +1,7 @@
 //! The writer that the program prints to.
 ghost use Rattle.std.specs.Prelude.{◌≡◌, Option, IfSome, None, Some};
 ghost use Rattle.std.specs.Io.{WritesAtMost};
-ghost use Rattle.ssh_program.specs.Account.{Account, NoneFailed, after_write, where_told};
+ghost use Rattle.ssh_program.specs.Account.{Account, NoneFailed, after_write, where_reported};
 
 use std::io::{Print, Printer, Result, Write};
 
@@ -16,7 +16,7 @@ pub trait Sink: Write {
     fn put(&mut self, buf: &[u8]) -> Result<usize>
         requires { NoneFailed (account self.old) }
         ensures bound { WritesAtMost result buf.now }
-        ensures told { account self.new ≡ where_told (after_write result buf.now)
+        ensures reported { account self.new ≡ where_reported (after_write result buf.now)
             (account self.old) };
 
     /// The contents of the writer, as `Write` defines them, are the bytes that it took.

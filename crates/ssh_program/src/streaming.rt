@@ -54,7 +54,7 @@ impl From<Error> for Stop {
 /// What is kept of the review of a file, whose text is written: its counts, whether the key that is
 /// sought stands in it, if one is, and why there is no review.
 #[derive(Clone, Copy, Debug)]
-pub struct FileTold {
+pub struct FileReported {
     pub counts: Counts,
     pub stands: bool,
     pub fault: Option<FileFault>,
@@ -70,7 +70,7 @@ pub(crate) fn put_review<L: LineRecords + Drop, W: Sink>(
     file: &[u8],
     begun: Records<'_, L>,
     writer: &mut W,
-) -> Result<FileTold, Stop>
+) -> Result<FileReported, Stop>
     requires { NoneFailed (W.account writer.old) }
     ensures failed { FailedIfStopped result (W.account writer.new) }
     ensures put { (text : List ℕ) (all : KeyCountsValue)
@@ -85,13 +85,13 @@ pub(crate) fn put_review<L: LineRecords + Drop, W: Sink>(
         put_lines(writer, &out)?;
         out.clear();
     }
-    let told = records.told();
+    let reported = records.reported();
     let digest = Sha256::digest(file);
-    push_end(alloc, form, &mut out, name, told.counts, &digest)?;
+    push_end(alloc, form, &mut out, name, reported.counts, &digest)?;
     put_lines(writer, &out)?;
-    Ok(FileTold {
-        counts: told.counts,
-        stands: told.stands,
+    Ok(FileReported {
+        counts: reported.counts,
+        stands: reported.stands,
         fault: None,
     })
 }
@@ -103,7 +103,7 @@ fn put_fault_end<W: Sink>(
     name: &[u8],
     fault: FileFault,
     writer: &mut W,
-) -> Result<FileTold, Stop>
+) -> Result<FileReported, Stop>
     requires { NoneFailed (W.account writer.old) }
     ensures failed { FailedIfStopped result (W.account writer.new) }
     ensures put { TextPut (fault_review form name.now fault).text
@@ -112,7 +112,7 @@ fn put_fault_end<W: Sink>(
 {
     let reviewed = review_fault(alloc, form, name, fault)?;
     put_lines(writer, &reviewed.text)?;
-    Ok(FileTold {
+    Ok(FileReported {
         counts: Counts::NONE,
         stands: false,
         fault: Some(fault),
@@ -126,7 +126,7 @@ pub(crate) fn put_unread<W: Sink>(
     name: &[u8],
     fault: ReadError,
     writer: &mut W,
-) -> Result<FileTold, Stop>
+) -> Result<FileReported, Stop>
     requires { NoneFailed (W.account writer.old) }
     ensures failed { FailedIfStopped result (W.account writer.new) }
     ensures put { UnreadPut form name.now fault (W.account writer.old) (W.account writer.new) result }

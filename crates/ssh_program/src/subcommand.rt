@@ -1,7 +1,7 @@
 //! The table of the subcommands and their options, and the synopsis that is printed of it.
 
 ghost use Rattle.std.specs.Prelude.{◌≡◌, ◌++◌, map, IfOk, OnOk};
-ghost use Rattle.ssh_program.specs.Options.{subcommand_in, subcommand_operands, subcommand_options, subcommand_name, subcommand_named, subcommands, told_options};
+ghost use Rattle.ssh_program.specs.Options.{subcommand_in, subcommand_operands, subcommand_options, subcommand_name, subcommand_named, subcommands, reported_options};
 ghost use Rattle.std.specs.List.{flat_map};
 ghost use Rattle.ssh_program.specs.Usage.{asks_usage, closed, shown_needed, opened, operand_word, usage_forms, usage_line, usage_lines, usage_names, usage_option};
 
@@ -126,7 +126,7 @@ const REVIEW: [OptionRow; 7] = [
 ];
 
 /// The same with the list of names, which is read before the words are.
-const TOLD_REVIEW: [OptionRow; 8] = [
+const REPORTED_REVIEW: [OptionRow; 8] = [
     (ArgName::Kind, Required),
     (ArgName::Now, Required),
     (ArgName::Key, Optional),
@@ -203,13 +203,13 @@ impl Subcommand {
         }
     }
 
-    /// Its options as people are told of them: `review` takes a list of names too, which is read
+    /// Its options as people are reported of them: `review` takes a list of names too, which is read
     /// before the words are.
-    pub fn told_options(self) -> &'static [OptionRow]
-        ensures { result.now ≡ told_options self }
+    pub fn reported_options(self) -> &'static [OptionRow]
+        ensures { result.now ≡ reported_options self }
     {
         match self {
-            Subcommand::Review => &TOLD_REVIEW,
+            Subcommand::Review => &REPORTED_REVIEW,
             _ => self.options(),
         }
     }
@@ -328,7 +328,7 @@ fn push_line(out: &mut Vec<u8>, subcommand: Subcommand) -> Result<(), AllocError
 {
     out.extend_from_slice(b"ssh_audit ")?;
     out.extend_from_slice(subcommand.name().as_bytes())?;
-    push_options(out, subcommand, subcommand.told_options())?;
+    push_options(out, subcommand, subcommand.reported_options())?;
     push_names(out, subcommand, subcommand.names())?;
     out.push(b'\n')?;
     Ok(())

@@ -96,7 +96,7 @@ pub struct TakenTexts<'a> {
 #[derive(Drop)]
 pub enum NoText {
     /// Its file cannot be read; this is the response.
-    Told(Response),
+    Reported(Response),
     Memory,
 }
 
@@ -121,7 +121,7 @@ fn take_text<'a, F: Files>(
         TextPlace::Word(option, text) => Ok(TakenText::Word(option, text)),
         TextPlace::File(option, name) => match read_top_line(alloc, files, name) {
             Ok(line) => Ok(TakenText::Line(option, line)),
-            Err(fault) => Err(NoText::Told(unread(alloc, name, fault)?)),
+            Err(fault) => Err(NoText::Reported(unread(alloc, name, fault)?)),
         },
     }
 }

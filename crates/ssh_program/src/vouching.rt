@@ -134,7 +134,7 @@ fn seek_held(bytes: &[u8], sought: Option<&Signed>) -> Result<Found, u64>
 {
     let mut file = MemoryFile::new(bytes);
     match seek_vouched(&mut file, MEMORY_NAME, sought, None) {
-        Ok(told) => told,
+        Ok(reported) => reported,
         Err(_) => unreachable!(),
     }
 }

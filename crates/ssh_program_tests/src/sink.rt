@@ -2,7 +2,7 @@
 
 ghost use Rattle.std.specs.Prelude.{◌≡◌, Some, refl};
 ghost use Rattle.std.specs.Io.{WritesAtMost};
-ghost use Rattle.ssh_program.specs.Account.{NoneFailed, after_write, where_told};
+ghost use Rattle.ssh_program.specs.Account.{NoneFailed, after_write, where_reported};
 
 use crate::source::{FailsAt, OneFile, Sips};
 use ssh_program::{Sink, WordsError, refuse, run};

@@ -6,7 +6,7 @@ use Rattle.ssh_options.specs.declared.option.ValueName.TheVariants as value
 use Rattle.ssh_rights.specs.Rights.{rights_of}
 use Rattle.ssh_findings.specs.KeyRead.{key_read}
 use Rattle.ssh_findings.specs.Facts.{facts_of}
-use Rattle.ssh_findings.specs.HeldKey.{held_of as told_of}
+use Rattle.ssh_findings.specs.HeldKey.{held_of as reported_of}
 
 -- ---- parts
 
@@ -133,7 +133,7 @@ entry-facts zone line e h is =
     let bytes = spelled-bytes e line (auth_line-spells line e h is) h in (facts-bytes zone e bytes, bytes.values)
 
 -- what is printed of the key on a line that cannot be read consists of bytes
-pub held-bytes : (key : Option PublicKey) → IsHeldOfBytes (option_map told_of key)
+pub held-bytes : (key : Option PublicKey) → IsHeldOfBytes (option_map reported_of key)
 held-bytes None = tt
 held-bytes (Some key) = fingerprint-bytes key
 

@@ -1,19 +1,19 @@
 -- How much a known_hosts file counts at most.
-use Rattle.ssh_review.proofs.Imports.{ℕ, ◌+◌, ◌≤◌, Bool, true, List, [], ◌∷◌, ◌++◌, length, length-append, arith, Option, option_map, key_blob, KnownLine, Revoked, RevokedUnreadable, known_line, numbered, Asking, told_some, HostFacts, RevocationFacts, HostFinding, other_line, revoking_line, same_line, spelled_line, spelling_line, trusting_line, host_code_of, unreadable_revocation_findings, host_reading_findings, other_line_findings, name_findings, passing_findings, refusal_findings, revoking_findings, trusting_findings, HostLine, host_counts_of, host_kept_of, host_line_counts}
+use Rattle.ssh_review.proofs.Imports.{ℕ, ◌+◌, ◌≤◌, Bool, true, List, [], ◌∷◌, ◌++◌, length, length-append, arith, Option, option_map, key_blob, KnownLine, Revoked, RevokedUnreadable, known_line, numbered, Asking, reported_some, HostFacts, RevocationFacts, HostFinding, other_line, revoking_line, same_line, spelled_line, spelling_line, trusting_line, host_code_of, unreadable_revocation_findings, host_reading_findings, other_line_findings, name_findings, passing_findings, refusal_findings, revoking_findings, trusting_findings, HostLine, host_counts_of, host_kept_of, host_line_counts}
 use Rattle.ssh_entries.specs.declared.known_line.KnownLine.TheVariants.{Blank, Comment, Entry, Unreadable}
-use Rattle.ssh_findings.specs.Telling.{told_if}
+use Rattle.ssh_findings.specs.Telling.{reported_if}
 use Rattle.ssh_findings.specs.declared.host_finding.HostFinding.TheVariants as finding
 use Rattle.ssh_findings.specs.HostFacts.{host_facts_of}
 use Rattle.ssh_findings.specs.RevocationFacts.{revocation_facts_of}
 use Rattle.ssh_findings.specs.HostFindings.{findings_by, host_entry_findings, revocation_findings}
-use Rattle.ssh_review.proofs.LineLemmas.{Within, both-within, some-short, told-short}
+use Rattle.ssh_review.proofs.LineLemmas.{Within, both-within, some-short, reported-short}
 
 -- ---- findings of a line
 
-if-short : (asking : Asking) (holds : Bool) (f : HostFinding) → length (told_if host_code_of asking holds f) ≤ 1
-if-short asking holds f = told-short host_code_of asking holds f
+if-short : (asking : Asking) (holds : Bool) (f : HostFinding) → length (reported_if host_code_of asking holds f) ≤ 1
+if-short asking holds f = reported-short host_code_of asking holds f
 
-any-short : (asking : Asking) (found : Option HostFinding) → length (told_some host_code_of asking found) ≤ 1
+any-short : (asking : Asking) (found : Option HostFinding) → length (reported_some host_code_of asking found) ≤ 1
 any-short asking found = some-short host_code_of asking found
 
 both : (a b : List HostFinding) (m n : ℕ) → length a ≤ m → length b ≤ n → length (a ++ b) ≤ m + n

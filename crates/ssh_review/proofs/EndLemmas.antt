@@ -54,11 +54,11 @@ asked-printable a h =
     let at = said-printable (codes "at") refl (date-printable (pos a.now)) in
     join (join now at) (any-text-printable (codes "zone") a.zone refl h)
 
-elements-printable : (told : List Code) → ArePrintable (flat_map code_element told)
+elements-printable : (reported : List Code) → ArePrintable (flat_map code_element reported)
 elements-printable [] = word [] refl
-elements-printable (c ∷ told) =
+elements-printable (c ∷ reported) =
     let text = string-printable (code_text c) (bytes-from_printable (code_word-printable c)) in
-    join (join (word (codes ",") refl) text) (elements-printable told)
+    join (join (word (codes ",") refl) text) (elements-printable reported)
 
 pub array-printable : (name elements : List ℕ) → are_printable name ≡ true → ArePrintable elements → ArePrintable (array_field name elements)
 array-printable name elements h k =
@@ -70,7 +70,7 @@ unfolding review_fields
 review-printable kind asking h =
     let named = text-printable (codes "kind") kind refl h in
     let least = number-printable (codes "rsa_minimum") asking.rsa_minimum refl in
-    join (join named least) (array-printable (codes "told") (flat_map code_element asking.told) refl (elements-printable asking.told))
+    join (join named least) (array-printable (codes "told") (flat_map code_element asking.reported) refl (elements-printable asking.reported))
 
 total-counts-printable : (t : Total) → ArePrintable (total_counts t)
 unfolding total_counts

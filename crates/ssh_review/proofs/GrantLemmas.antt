@@ -46,13 +46,13 @@ record Clear (revokes blind admitted unvouched : Bool) : Type 0 where
   some : admitted ≡ true
   vouched : unvouched ≡ false
 
-granted-clear : (r b c u : Option ℕ) (reasons told : List (ℕ × Reason)) (evidence : List Signed) (line : ℕ)
-    → host_decision_by (revocation_cause r b) c u reasons evidence ≡ Granted line None told evidence → Clear (is_some r) (is_some b) (is_some c) (is_some u)
-granted-clear (Some n) b c u reasons told evidence line h = cc
-granted-clear None (Some n) c u reasons told evidence line h = cc
-granted-clear None None None u reasons told evidence line h = cc
-granted-clear None None (Some at) (Some index) reasons told evidence line h = cc
-granted-clear None None (Some at) None reasons told evidence line h = record { unrevoked = refl; no_unreadable_revocation = refl; some = refl; vouched = refl }
+granted-clear : (r b c u : Option ℕ) (reasons reported : List (ℕ × Reason)) (evidence : List Signed) (line : ℕ)
+    → host_decision_by (revocation_cause r b) c u reasons evidence ≡ Granted line None reported evidence → Clear (is_some r) (is_some b) (is_some c) (is_some u)
+granted-clear (Some n) b c u reasons reported evidence line h = cc
+granted-clear None (Some n) c u reasons reported evidence line h = cc
+granted-clear None None None u reasons reported evidence line h = cc
+granted-clear None None (Some at) (Some index) reasons reported evidence line h = cc
+granted-clear None None (Some at) None reasons reported evidence line h = record { unrevoked = refl; no_unreadable_revocation = refl; some = refl; vouched = refl }
 
 clear-granted : (r b c u : Option ℕ) (reasons : List (ℕ × Reason)) (evidence : List Signed) → Clear (is_some r) (is_some b) (is_some c) (is_some u)
     → (line : ℕ) × (host_decision_by (revocation_cause r b) c u reasons evidence ≡ Granted line None reasons evidence)
@@ -121,9 +121,9 @@ ClearFacts facts claim vouched =
 
 grants-clear : (file : List ℕ) (claim : HostClaim) (vouched : List Signed) → Grants file claim vouched → ClearFacts (known_facts file) claim vouched
 unfolding ClearFacts host_decision host_scan_of
-grants-clear file claim vouched (line, told, h) =
+grants-clear file claim vouched (line, reported, h) =
     let clear = granted-clear (first_revoked claim file) (first_blind file) (candidate claim file)
-    (first_unvouched vouched (host_evidence claim)) (reasons claim file) told (host_evidence claim) line h in
+    (first_unvouched vouched (host_evidence claim)) (reasons claim file) reported (host_evidence claim) line h in
     record {
       unrevoked = sym (revokes-some claim file) ∙ clear.unrevoked;
       no_unreadable_revocation = sym (blind-some file) ∙ clear.no_unreadable_revocation;

@@ -17,10 +17,10 @@ records_after : (form : Form) (asking : Asking) (name : List ℕ) (earlier : Lis
 records_after form asking name earlier [] rest = ap (λ e. host_records_of form asking name e rest) (sym (append-nil earlier))
 records_after form asking name earlier (line ∷ first) rest =
     let kept = host_kept_of line.0 line.1 (known_line line.1) in
-    let told = host_line_record form asking name earlier line.0 line.1 (known_line line.1) in
-    ap (λ more. told ++ more) (records_after form asking name (earlier ++ kept) first rest
+    let reported = host_line_record form asking name earlier line.0 line.1 (known_line line.1) in
+    ap (λ more. reported ++ more) (records_after form asking name (earlier ++ kept) first rest
     ∙ ap (λ e. host_records_of form asking name (earlier ++ kept) first ++ host_records_of form asking name e rest) (append_assoc earlier kept (lines_kept first)))
-    ∙ sym (append_assoc told (host_records_of form asking name (earlier ++ kept) first) (host_records_of form asking name (earlier ++ (kept ++ lines_kept first)) rest))
+    ∙ sym (append_assoc reported (host_records_of form asking name (earlier ++ kept) first) (host_records_of form asking name (earlier ++ (kept ++ lines_kept first)) rest))
 
 same-record : (form : Form) (asking : Asking) (name : List ℕ) (earlier : List HostLine) (n k : ℕ) (line : List ℕ) (e : KnownEntry) → n ≡ 1 + k → known_line line ≡ Entry e
     → host_line_record form asking name earlier (1 + k) line (known_line line) ≡ host_line_record form asking name earlier n line (Entry e)
@@ -92,7 +92,7 @@ listed-by form asking name file claim vouched n e all grant =
     let parts : host_records_of form asking name [] lines ≡ before ++ (host_line_record form asking name earlier (1 + k) candidate.line (known_line candidate.line) ++ after) =
     ap (host_records_of form asking name []) (split_at 1 k (lines_of file) candidate.line at) ∙ records_after form asking name [] (take k lines) ((1 + k, candidate.line) ∷ drop (suc k) lines) in
     let here : host_records_of form asking name [] lines ≡ before ++ (host_line_record form asking name earlier n candidate.line (Entry e) ++ after) =
-    parts ∙ ap (λ told. before ++ (told ++ after)) (same-record form asking name earlier n k candidate.line e number spells) in
+    parts ∙ ap (λ reported. before ++ (reported ++ after)) (same-record form asking name earlier n k candidate.line e number spells) in
     record {
       line = candidate.line;
       stands = candidate.stands;

@@ -1,5 +1,5 @@
 -- A review is of printable bytes and LFs, in each form; each record is one line as a JSON object.
-use Rattle.ssh_review.proofs.Imports.{◌≡◌, ◌⊎◌, ◌+◌, ℕ, nat_lt, Bool, true, false, cond, List, [], ◌∷◌, ◌++◌, length, refl, inl, inr, codes, AllByRecursion, file_limit, lines_of, numbered, KnownLine, Revoked, RevokedUnreadable, known_line, Asking, HostLine, known_held_key, AreBytes, is_line, TooLong, Form, Text, Json, fault_review, host_counts_of, host_kept_of, host_line_findings, host_line_record, host_records_of, known_key_told, known_review}
+use Rattle.ssh_review.proofs.Imports.{◌≡◌, ◌⊎◌, ◌+◌, ℕ, nat_lt, Bool, true, false, cond, List, [], ◌∷◌, ◌++◌, length, refl, inl, inr, codes, AllByRecursion, file_limit, lines_of, numbered, KnownLine, Revoked, RevokedUnreadable, known_line, Asking, HostLine, known_held_key, AreBytes, is_line, TooLong, Form, Text, Json, fault_review, host_counts_of, host_kept_of, host_line_findings, host_line_record, host_records_of, known_key_reported, known_review}
 use Rattle.sha2.specs.Sha256.{sha256}
 use Rattle.ssh_entries.specs.declared.known_line.KnownLine.TheVariants.{Blank, Comment, Entry, Unreadable}
 use Rattle.ssh_findings.specs.HostFacts.{host_facts_of}
@@ -25,9 +25,9 @@ line-by asking name earlier n line (Entry e) h k is =
 line-by asking name earlier n line (Revoked bytes) h k is =
     inr (revoked-line name n bytes (revocation_facts_of line bytes) (host_line_findings asking earlier line (Revoked bytes)) h (revocation-names line bytes k))
 line-by asking name earlier n line RevokedUnreadable h k is =
-    inr (bare-line name n (codes "revocation-unreadable") (known_key_told line) (host_line_findings asking earlier line RevokedUnreadable) h refl (held-bytes (known_held_key line)))
+    inr (bare-line name n (codes "revocation-unreadable") (known_key_reported line) (host_line_findings asking earlier line RevokedUnreadable) h refl (held-bytes (known_held_key line)))
 line-by asking name earlier n line (Unreadable cause) h k is =
-    inr (bare-line name n (codes "unreadable") (known_key_told line) (host_line_findings asking earlier line (Unreadable cause)) h refl (held-bytes (known_held_key line)))
+    inr (bare-line name n (codes "unreadable") (known_key_reported line) (host_line_findings asking earlier line (Unreadable cause)) h refl (held-bytes (known_held_key line)))
 
 pub record-line : (asking : Asking) (name : List ℕ) (earlier : List HostLine) (n : ℕ) (line : List ℕ) → AreBytes name → AreBytes line
     → (host_line_record Json asking name earlier n line (known_line line) ≡ []) ⊎ (is_line (host_line_record Json asking name earlier n line (known_line line)) ≡ true)
@@ -49,9 +49,9 @@ record-by Text asking name earlier n line (Entry e) h k is =
 record-by Text asking name earlier n line (Revoked bytes) h k is =
     revoked-shown name n bytes (revocation_facts_of line bytes) (host_line_findings asking earlier line (Revoked bytes)) h (revocation-names line bytes k)
 record-by Text asking name earlier n line RevokedUnreadable h k is =
-    bare-shown name n (codes "revocation-unreadable") (known_key_told line) (host_line_findings asking earlier line RevokedUnreadable) h refl (held-printable (known_held_key line))
+    bare-shown name n (codes "revocation-unreadable") (known_key_reported line) (host_line_findings asking earlier line RevokedUnreadable) h refl (held-printable (known_held_key line))
 record-by Text asking name earlier n line (Unreadable cause) h k is =
-    bare-shown name n (codes "unreadable") (known_key_told line) (host_line_findings asking earlier line (Unreadable cause)) h refl (held-printable (known_held_key line))
+    bare-shown name n (codes "unreadable") (known_key_reported line) (host_line_findings asking earlier line (Unreadable cause)) h refl (held-printable (known_held_key line))
 
 records-shown : (form : Form) (asking : Asking) (name : List ℕ) (earlier : List HostLine) (n : ℕ) (lines : List (List ℕ))
     → AreBytes name → AllByRecursion AreBytes lines → AreShown (host_records_of form asking name earlier (numbered n lines))

@@ -1,4 +1,4 @@
--- One more line of a known_hosts file: what is left to be told then, and what is stored.
+-- One more line of a known_hosts file: what is left to be reported then, and what is stored.
 use Rattle.ssh_review.proofs.Imports.{◌≡◌, ◌∙◌, ℕ, ◌+◌, ◌≤◌, List, [], ◌∷◌, ◌++◌, length, refl, sym, ap, subst, append_assoc, arith, Bool, TooLong, fault_review, known_review, KnownLine, known_line, Asking, HostLine, Counts, Form, plus, AreBytes, lines_of, numbered, file_limit, RemembersLines, host_bytes_kept, kept_sum, host_counts_of, host_kept_lines, host_kept_of, host_line_counts, host_line_record, host_records_of, host_line_bytes, host_line_sum, over_lines}
 use Rattle.ssh_findings.specs.declared.host_earlier.EarlierHosts.{EarlierHosts}
 use Rattle.ssh_review.specs.HostKeyRecords.{host_holds_key, host_key_counts, host_key_counts_of, host_key_record, host_key_records_of}
@@ -27,19 +27,19 @@ over-step count line said lines number before after most says more h =
     let all : before + (count line (known_line line) + over_lines count lines) ≤ most = h in
     omega (arith, own, more, all)
 
-pub known-next : (form : Form) (asking : Asking) (name file : List ℕ) (number : ℕ) (line : List ℕ) (lines : List (ℕ × List ℕ)) (said : KnownLine) (old new : EarlierHosts) (before after text : List ℕ) (counts : KeyCounts) (told : Counts)
+pub known-next : (form : Form) (asking : Asking) (name file : List ℕ) (number : ℕ) (line : List ℕ) (lines : List (ℕ × List ℕ)) (said : KnownLine) (old new : EarlierHosts) (before after text : List ℕ) (counts : KeyCounts) (reported : Counts)
     → said ≡ known_line line → KnownTells old form asking name file ((number, line) ∷ lines) text counts
     → ((hosts : List HostLine) → RemembersLines old hosts → after ≡ before ++ host_line_record form asking name hosts number line said)
-    → ((hosts : List HostLine) → RemembersLines old hosts → told ≡ host_line_counts asking hosts line said)
+    → ((hosts : List HostLine) → RemembersLines old hosts → reported ≡ host_line_counts asking hosts line said)
     → ((hosts : List HostLine) → RemembersLines old hosts → RemembersLines new (hosts ++ host_kept_of number line said))
     → host_bytes_kept new ≤ host_bytes_kept old + host_line_bytes line said
     → ((weight : List ℕ → ℕ) → kept_sum weight new ≤ kept_sum weight old + host_line_sum weight line said)
-    → (rest : List ℕ) × (more : KeyCounts) × KnownTells new form asking name file lines rest more × (after ++ rest ≡ before ++ text) × (counts ≡ plus_key (of_all told) more) × (AreWholeLines before → AreWholeLines after)
-known-next form asking name file number line lines said old new before after text counts told says h written counted stores bytes sum =
+    → (rest : List ℕ) × (more : KeyCounts) × KnownTells new form asking name file lines rest more × (after ++ rest ≡ before ++ text) × (counts ≡ plus_key (of_all reported) more) × (AreWholeLines before → AreWholeLines after)
+known-next form asking name file number line lines said old new before after text counts reported says h written counted stores bytes sum =
     let left = h.before ++ host_kept_of number line (known_line line) in
     let rest = host_records_of form asking name left lines in
     let more = host_counts_of asking left lines in
-    let is : told ≡ host_line_counts asking h.before line (known_line line) = counted h.before h.stored ∙ ap (host_line_counts asking h.before line) says in (
+    let is : reported ≡ host_line_counts asking h.before line (known_line line) = counted h.before h.stored ∙ ap (host_line_counts asking h.before line) says in (
       rest,
       of_all more,
       record {
@@ -86,18 +86,18 @@ known-whole form asking name file r few is = is ∙ ap (λ (b : Bool). if b then
 
 -- ---- one key
 
-pub known-key-next : (form : Form) (asking : Asking) (name file : List ℕ) (number : ℕ) (line : List ℕ) (lines : List (ℕ × List ℕ)) (said : KnownLine) (old new : ForKey EarlierHosts) (before after text : List ℕ) (counts told : KeyCounts)
+pub known-key-next : (form : Form) (asking : Asking) (name file : List ℕ) (number : ℕ) (line : List ℕ) (lines : List (ℕ × List ℕ)) (said : KnownLine) (old new : ForKey EarlierHosts) (before after text : List ℕ) (counts reported : KeyCounts)
     → new.sought.now ≡ old.sought.now → said ≡ known_line line → KnownKeyTells old form asking name file ((number, line) ∷ lines) text counts
     → ((hosts : List HostLine) → RemembersLines old.earlier hosts → after ≡ before ++ host_key_record old.sought.now form asking name hosts number line said)
-    → ((hosts : List HostLine) → RemembersLines old.earlier hosts → told ≡ host_key_counts old.sought.now asking hosts line said)
+    → ((hosts : List HostLine) → RemembersLines old.earlier hosts → reported ≡ host_key_counts old.sought.now asking hosts line said)
     → ((hosts : List HostLine) → RemembersLines old.earlier hosts → RemembersLines new.earlier (hosts ++ host_kept_of number line said))
-    → (rest : List ℕ) × (more : KeyCounts) × KnownKeyTells new form asking name file lines rest more × (after ++ rest ≡ before ++ text) × (counts ≡ plus_key told more) × (AreWholeLines before → AreWholeLines after)
-known-key-next form asking name file number line lines said old new before after text counts told same says h written counted stores =
+    → (rest : List ℕ) × (more : KeyCounts) × KnownKeyTells new form asking name file lines rest more × (after ++ rest ≡ before ++ text) × (counts ≡ plus_key reported more) × (AreWholeLines before → AreWholeLines after)
+known-key-next form asking name file number line lines said old new before after text counts reported same says h written counted stores =
     let sought = old.sought.now in
     let left = h.before ++ host_kept_of number line (known_line line) in
     let rest = host_key_records_of sought form asking name left lines in
     let more = host_key_counts_of sought asking left lines in
-    let is : told ≡ host_key_counts sought asking h.before line (known_line line) = counted h.before h.stored ∙ ap (host_key_counts sought asking h.before line) says in (
+    let is : reported ≡ host_key_counts sought asking h.before line (known_line line) = counted h.before h.stored ∙ ap (host_key_counts sought asking h.before line) says in (
       rest,
       more,
       record {

@@ -35,7 +35,7 @@ pub use Rattle.ssh_entries.specs.declared.known_view.Marker.{Marker}
 pub use Rattle.ssh_findings.proofs.LawLemmas.{granted, revoked_then}
 pub use Rattle.ssh_findings.proofs.ShadowLemmas.{named, no_principals, no_sources}
 pub use Rattle.ssh_findings.proofs.SumLemmas.{entry-bytes, entry-count, entry-sum}
-pub use Rattle.ssh_findings.specs.Asking.{Asking, asking_of, is_told}
+pub use Rattle.ssh_findings.specs.Asking.{Asking, asking_of, is_reported}
 pub use Rattle.ssh_findings.specs.Codes.{code_text}
 pub use Rattle.ssh_findings.specs.Earlier.{Held, repeat_after, is_free, is_of_key, held_entry}
 pub use Rattle.ssh_findings.specs.EntryFindings.{condition_findings, forces_but_forwards, ground_finding, ground_findings, policy_findings, reading_findings}
@@ -55,7 +55,7 @@ pub use Rattle.ssh_findings.specs.OpenSsh.{all_grounds, has_ground}
 pub use Rattle.ssh_findings.specs.RevocationFacts.{revocation_facts_of}
 pub use Rattle.ssh_findings.specs.Revoked.{revokes}
 pub use Rattle.ssh_findings.specs.StandsFor.{RemembersLines}
-pub use Rattle.ssh_findings.specs.Telling.{told_some}
+pub use Rattle.ssh_findings.specs.Telling.{reported_some}
 pub use Rattle.ssh_findings.specs.declared.code.Code.{Code}
 pub use Rattle.ssh_findings.specs.declared.facts.Facts.{Facts}
 pub use Rattle.ssh_findings.specs.declared.finding.Finding.{Finding}
@@ -112,11 +112,11 @@ pub use Rattle.ssh_review.specs.Grants.{FindsShared, Grants, IsBlind, IsRevoked}
 pub use Rattle.ssh_review.specs.HostListing.{IsHostListed, lines_kept}
 pub use Rattle.ssh_review.specs.HostCounting.{host_counts_with}
 pub use Rattle.ssh_review.specs.HostForms.{blind_record, host_entry_record, revoked_record, host_unreadable_record}
-pub use Rattle.ssh_review.specs.HostLines.{host_counts_of, host_kept_of, host_records_of, host_line_counts, host_line_record, host_kept_lines, host_line_findings, known_key_told}
+pub use Rattle.ssh_review.specs.HostLines.{host_counts_of, host_kept_of, host_records_of, host_line_counts, host_line_record, host_kept_lines, host_line_findings, known_key_reported}
 pub use Rattle.ssh_review.specs.HostMemory.{host_line_bytes, host_line_sum, over_lines, host_line_spelling}
 pub use Rattle.ssh_review.specs.HostReviews.{known_review}
 pub use Rattle.ssh_review.specs.HostSpelling.{HasNoMarkerTab, has_marker_tab}
-pub use Rattle.ssh_review.specs.Lines.{counts_of, held_by_line, line_record, records_of, line_counts, key_told, line_findings, shadow_line, held_lines}
+pub use Rattle.ssh_review.specs.Lines.{counts_of, held_by_line, line_record, records_of, line_counts, key_reported, line_findings, shadow_line, held_lines}
 pub use Rattle.ssh_review.specs.Listing.{entries_of, HasRecord, IsListed}
 pub use Rattle.ssh_review.specs.Memory.{lines_bytes, line_bytes}
 pub use Rattle.ssh_review.specs.Objects.{fingerprint_text, held_fields, is_word, no_key_fields}

@@ -34,10 +34,10 @@ all-host-records form asking name earlier (line ∷ lines) =
     (all-host-records form asking name (earlier ++ host_kept_of line.0 line.1 (known_line line.1)) lines)
 
 -- one more record, which is kept or not
-one-more : (b : Bool) (line : ℕ × List ℕ) (told rest : List ℕ) (kept : List Apart) → rest ≡ flat_map text_of kept
-    → cond b told [] ++ rest ≡ flat_map text_of (cond b ((line, told) ∷ kept) kept)
-one-more true line told rest kept h = ap (λ more. told ++ more) h
-one-more false line told rest kept h = h
+one-more : (b : Bool) (line : ℕ × List ℕ) (reported rest : List ℕ) (kept : List Apart) → rest ≡ flat_map text_of kept
+    → cond b reported [] ++ rest ≡ flat_map text_of (cond b ((line, reported) ∷ kept) kept)
+one-more true line reported rest kept h = ap (λ more. reported ++ more) h
+one-more false line reported rest kept h = h
 
 pub key-records : (fingerprint : List ℕ) (form : Form) (asking : Asking) (name : List ℕ) (earlier : List Held) (lines : List (ℕ × List ℕ))
     → key_records_of fingerprint form asking name earlier lines

@@ -1,8 +1,8 @@
 -- How much an authorized_keys file counts at most.
-use Rattle.ssh_review.proofs.Imports.{ℕ, suc, ◌+◌, ◌*◌, ◌≤◌, ◌==◌, Bool, true, false, not, ◌&&◌, cond, List, [], ◌∷◌, ◌++◌, length, length-append, arith, flat_map, onto_first, Option, Some, None, AuthLine, Blank, Comment, Entry, Unreadable, auth_line, lines_of, numbered, Counts, Code, Facts, Finding, Asking, is_told, plus, Ground, condition_findings, forces_but_forwards, ground_finding, ground_findings, policy_findings, reading_findings, all_grounds, has_ground, told_some, key_blob, Held, repeat_after, code_of, counts_of, held_by_line, line_counts}
+use Rattle.ssh_review.proofs.Imports.{ℕ, suc, ◌+◌, ◌*◌, ◌≤◌, ◌==◌, Bool, true, false, not, ◌&&◌, cond, List, [], ◌∷◌, ◌++◌, length, length-append, arith, flat_map, onto_first, Option, Some, None, AuthLine, Blank, Comment, Entry, Unreadable, auth_line, lines_of, numbered, Counts, Code, Facts, Finding, Asking, is_reported, plus, Ground, condition_findings, forces_but_forwards, ground_finding, ground_findings, policy_findings, reading_findings, all_grounds, has_ground, reported_some, key_blob, Held, repeat_after, code_of, counts_of, held_by_line, line_counts}
 use Rattle.ssh_findings.specs.declared.finding.Finding.TheVariants as finding
 use Rattle.ssh_findings.specs.EntryFindings.{entry_findings}
-use Rattle.ssh_findings.specs.Telling.{told_if}
+use Rattle.ssh_findings.specs.Telling.{reported_if}
 use Rattle.ssh_findings.specs.Facts.{facts_of}
 
 -- ---- how much is counted at most
@@ -13,21 +13,21 @@ pub record Within (counts : Counts) (n : ℕ) : Type 0 where
   pub unreadable : counts.unreadable ≤ n
   pub findings : counts.findings ≤ 24 * n
 
-pub told-short : {F : Type 0} (code : F → Code) (asking : Asking) (holds : Bool) (f : F) → length (told_if code asking holds f) ≤ 1
-unfolding told_if
-told-short code asking holds f = go (holds && is_told asking (code f))
+pub reported-short : {F : Type 0} (code : F → Code) (asking : Asking) (holds : Bool) (f : F) → length (reported_if code asking holds f) ≤ 1
+unfolding reported_if
+reported-short code asking holds f = go (holds && is_reported asking (code f))
   where
     go : (b : Bool) → length (cond b (f ∷ []) []) ≤ 1
     go true = omega arith
     go false = omega arith
 
-pub some-short : {F : Type 0} (code : F → Code) (asking : Asking) (found : Option F) → length (told_some code asking found) ≤ 1
+pub some-short : {F : Type 0} (code : F → Code) (asking : Asking) (found : Option F) → length (reported_some code asking found) ≤ 1
 some-short code asking None = omega arith
-some-short code asking (Some f) = told-short code asking true f
+some-short code asking (Some f) = reported-short code asking true f
 
 -- so of entries
-if-short : (asking : Asking) (holds : Bool) (f : Finding) → length (told_if code_of asking holds f) ≤ 1
-if-short asking holds f = told-short code_of asking holds f
+if-short : (asking : Asking) (holds : Bool) (f : Finding) → length (reported_if code_of asking holds f) ≤ 1
+if-short asking holds f = reported-short code_of asking holds f
 
 -- four and one and more lists of at most one
 four : (a b c d : List Finding) → length a ≤ 1 → length b ≤ 1 → length c ≤ 1 → length d ≤ 1 → length (a ++ b ++ c ++ d) ≤ 4
@@ -72,11 +72,11 @@ entry-short asking earlier blob f =
     let e = grounds-short asking f in
     omega (
       arith,
-      length-append (told_some code_of asking (repeat_after earlier blob f) ++ condition_findings asking f ++ reading_findings asking f ++ told_if code_of asking (not f.is_authority && forces_but_forwards f.rights) finding.ForcedButForwards ++ policy_findings asking f) (ground_findings asking f),
-      length-append (told_some code_of asking (repeat_after earlier blob f) ++ condition_findings asking f ++ reading_findings asking f ++ told_if code_of asking (not f.is_authority && forces_but_forwards f.rights) finding.ForcedButForwards) (policy_findings asking f),
-      length-append (told_some code_of asking (repeat_after earlier blob f) ++ condition_findings asking f ++ reading_findings asking f) (told_if code_of asking (not f.is_authority && forces_but_forwards f.rights) finding.ForcedButForwards),
-      length-append (told_some code_of asking (repeat_after earlier blob f) ++ condition_findings asking f) (reading_findings asking f),
-      length-append (told_some code_of asking (repeat_after earlier blob f)) (condition_findings asking f),
+      length-append (reported_some code_of asking (repeat_after earlier blob f) ++ condition_findings asking f ++ reading_findings asking f ++ reported_if code_of asking (not f.is_authority && forces_but_forwards f.rights) finding.ForcedButForwards ++ policy_findings asking f) (ground_findings asking f),
+      length-append (reported_some code_of asking (repeat_after earlier blob f) ++ condition_findings asking f ++ reading_findings asking f ++ reported_if code_of asking (not f.is_authority && forces_but_forwards f.rights) finding.ForcedButForwards) (policy_findings asking f),
+      length-append (reported_some code_of asking (repeat_after earlier blob f) ++ condition_findings asking f ++ reading_findings asking f) (reported_if code_of asking (not f.is_authority && forces_but_forwards f.rights) finding.ForcedButForwards),
+      length-append (reported_some code_of asking (repeat_after earlier blob f) ++ condition_findings asking f) (reading_findings asking f),
+      length-append (reported_some code_of asking (repeat_after earlier blob f)) (condition_findings asking f),
       if-short asking (not f.is_authority && forces_but_forwards f.rights) finding.ForcedButForwards,
     )
 

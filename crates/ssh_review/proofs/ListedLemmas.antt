@@ -8,10 +8,10 @@ pub records_after : (form : Form) (asking : Asking) (name : List ℕ) (earlier :
 records_after form asking name earlier [] rest = ap (λ e. records_of form asking name e rest) (sym (append-nil earlier))
 records_after form asking name earlier (line ∷ first) rest =
     let held = held_by_line asking (line.0, auth_line line.1) in
-    let told = line_record form asking name earlier line (auth_line line.1) in
-    ap (λ more. told ++ more) (records_after form asking name (earlier ++ held) first rest
+    let reported = line_record form asking name earlier line (auth_line line.1) in
+    ap (λ more. reported ++ more) (records_after form asking name (earlier ++ held) first rest
     ∙ ap (λ e. records_of form asking name (earlier ++ held) first ++ records_of form asking name e rest) (append_assoc earlier held (entries_of asking first)))
-    ∙ sym (append_assoc told (records_of form asking name (earlier ++ held) first) (records_of form asking name (earlier ++ (held ++ entries_of asking first)) rest))
+    ∙ sym (append_assoc reported (records_of form asking name (earlier ++ held) first) (records_of form asking name (earlier ++ (held ++ entries_of asking first)) rest))
 
 -- the entry of a line, which has this place among them
 pub record IsOfLine (asking : Asking) (lines : List (ℕ × List ℕ)) (d : Held) : Type 0 where

@@ -24,9 +24,9 @@ same-record form asking name earlier n k line e number spells =
     ap (line_record form asking name earlier (1 + k, line)) spells
     ∙ ap (λ (m : ℕ). line_record form asking name earlier (m, line) (Entry e)) (sym number)
 
-pub joined : (whole before told after tail : List ℕ) → whole ≡ before ++ (told ++ after) → whole ++ tail ≡ before ++ (told ++ (after ++ tail))
-joined whole before told after tail h =
-    ap (λ text. text ++ tail) h ∙ (append_assoc before (told ++ after) tail ∙ ap (λ rest. before ++ rest) (append_assoc told after tail))
+pub joined : (whole before reported after tail : List ℕ) → whole ≡ before ++ (reported ++ after) → whole ++ tail ≡ before ++ (reported ++ (after ++ tail))
+joined whole before reported after tail h =
+    ap (λ text. text ++ tail) h ∙ (append_assoc before (reported ++ after) tail ∙ ap (λ rest. before ++ rest) (append_assoc reported after tail))
 
 recorded : (form : Form) (asking : Asking) (name file line : List ℕ) (n k : ℕ) (e : AuthEntry) → n ≡ 1 + k → slice_get (lines_of file) k ≡ Some line → auth_line line ≡ Entry e
     → HasRecord form asking name file (line_record form asking name (entries_of asking (take k (numbered 1 (lines_of file)))) (n, line) (Entry e))
@@ -39,7 +39,7 @@ recorded form asking name file line n k e number stands spells =
     let parts : records_of form asking name [] all ≡ before ++ (line_record form asking name earlier (1 + k, line) (auth_line line) ++ after) =
     ap (records_of form asking name []) (split_at 1 k (lines_of file) line stands) ∙ records_after form asking name [] (take k all) ((1 + k, line) ∷ drop (suc k) all) in
     let here : records_of form asking name [] all ≡ before ++ (line_record form asking name earlier (n, line) (Entry e) ++ after) =
-    parts ∙ ap (λ told. before ++ (told ++ after)) (same-record form asking name earlier n k line e number spells) in
+    parts ∙ ap (λ reported. before ++ (reported ++ after)) (same-record form asking name earlier n k line e number spells) in
     record {
       before = before;
       after = after ++ end_line form name (counts_of asking [] all) (sha256 file);
@@ -166,7 +166,7 @@ listed-by form asking name file claim vouched n rights e bytes grant left =
       unexpired = unexpired;
       marked = λ now zone. let-in asking _ e unshadowed sources principals (unexpired now zone);
       left = left;
-      told = λ key offered. left ∙ ap (λ (o : Offer). Some (rights_of e o)) offered ∙ ap (λ (r : Rights). Some r) (same-rights asking.zone e key);
+      reported = λ key offered. left ∙ ap (λ (o : Offer). Some (rights_of e o)) offered ∙ ap (λ (r : Rights). Some r) (same-rights asking.zone e key);
     }
 
 pub listed : (form : Form) (asking : Asking) (name file : List ℕ) (claim : LoginClaim) (vouched : List Signed) (n : ℕ) (rights : Option Rights) (reasons : List (ℕ × Reason)) (evidence : List Signed)

@@ -60,12 +60,12 @@ none-plus-key : (a : KeyCounts) → a ≡ plus_key no_key_counts a
 none-plus-key a = ap (λ (x : Counts). made x a.stands) (none-plus a.counts)
 
 -- a part of a sum that fits
-pub part-fits : (before told rest all : KeyCounts) → AreCounts all.counts → all ≡ plus_key before (plus_key told rest) → AreCounts (plus before.counts told.counts)
-part-fits before told rest all fits is =
-    let lines : all.counts.lines ≡ before.counts.lines + (told.counts.lines + rest.counts.lines) = ap (λ (k : KeyCounts). k.counts.lines) is in
-    let keys : all.counts.keys ≡ before.counts.keys + (told.counts.keys + rest.counts.keys) = ap (λ (k : KeyCounts). k.counts.keys) is in
-    let unreadable : all.counts.unreadable ≡ before.counts.unreadable + (told.counts.unreadable + rest.counts.unreadable) = ap (λ (k : KeyCounts). k.counts.unreadable) is in
-    let findings : all.counts.findings ≡ before.counts.findings + (told.counts.findings + rest.counts.findings) = ap (λ (k : KeyCounts). k.counts.findings) is in
+pub part-fits : (before reported rest all : KeyCounts) → AreCounts all.counts → all ≡ plus_key before (plus_key reported rest) → AreCounts (plus before.counts reported.counts)
+part-fits before reported rest all fits is =
+    let lines : all.counts.lines ≡ before.counts.lines + (reported.counts.lines + rest.counts.lines) = ap (λ (k : KeyCounts). k.counts.lines) is in
+    let keys : all.counts.keys ≡ before.counts.keys + (reported.counts.keys + rest.counts.keys) = ap (λ (k : KeyCounts). k.counts.keys) is in
+    let unreadable : all.counts.unreadable ≡ before.counts.unreadable + (reported.counts.unreadable + rest.counts.unreadable) = ap (λ (k : KeyCounts). k.counts.unreadable) is in
+    let findings : all.counts.findings ≡ before.counts.findings + (reported.counts.findings + rest.counts.findings) = ap (λ (k : KeyCounts). k.counts.findings) is in
     record {
       lines = omega (arith, lines, fits.lines);
       keys = omega (arith, keys, fits.keys);
@@ -128,7 +128,7 @@ made-on tells form asking name old mid new before between after p q file text al
 
 -- no line was left
 pub none-made : {S : Type 0} (tells : S → Form → Asking → List ℕ → List ℕ → List (ℕ × List ℕ) → List ℕ → KeyCounts → Type 0) (form : Form) (asking : Asking) (name : List ℕ) (old new : Records S) (out : List ℕ)
-    → lines_left old ≡ [] → lines_left new ≡ [] → new.earlier ≡ old.earlier → new.told ≡ old.told → MakesFront tells form asking name old new out out
+    → lines_left old ≡ [] → lines_left new ≡ [] → new.earlier ≡ old.earlier → new.reported ≡ old.reported → MakesFront tells form asking name old new out out
 none-made {S = S} tells form asking name old new out was is same counted file text all w = (
   text,
   record {
@@ -144,21 +144,21 @@ none-made {S = S} tells form asking name old new out was is same counted file te
 )
 
 -- the record of one line was
-pub next-made : {S : Type 0} (tells : S → Form → Asking → List ℕ → List ℕ → List (ℕ × List ℕ) → List ℕ → KeyCounts → Type 0) (form : Form) (asking : Asking) (name : List ℕ) (old new : Records S) (item : ℕ × List ℕ) (before after : List ℕ) (told : KeyCounts)
+pub next-made : {S : Type 0} (tells : S → Form → Asking → List ℕ → List ℕ → List (ℕ × List ℕ) → List ℕ → KeyCounts → Type 0) (form : Form) (asking : Asking) (name : List ℕ) (old new : Records S) (item : ℕ × List ℕ) (before after : List ℕ) (reported : KeyCounts)
     → lines_left old ≡ item ∷ lines_left new
     → ((file : List ℕ) (lines : List (ℕ × List ℕ)) (text : List ℕ) (counts : KeyCounts) → tells old.earlier form asking name file (item ∷ lines) text counts
-    → (rest : List ℕ) × (more : KeyCounts) × tells new.earlier form asking name file lines rest more × (after ++ rest ≡ before ++ text) × (counts ≡ plus_key told more) × (AreWholeLines before → AreWholeLines after))
-    → new.told ≡ plus_key_within old.told told
+    → (rest : List ℕ) × (more : KeyCounts) × tells new.earlier form asking name file lines rest more × (after ++ rest ≡ before ++ text) × (counts ≡ plus_key reported more) × (AreWholeLines before → AreWholeLines after))
+    → new.reported ≡ plus_key_within old.reported reported
     → MakesFront tells form asking name old new before after
-next-made tells form asking name old new item before after told steps goes adds file text all w =
+next-made tells form asking name old new item before after reported steps goes adds file text all w =
     let h = goes file (lines_left new) text w.more (subst (λ (l : List (ℕ × List ℕ)). tells old.earlier form asking name file l text w.more) steps w.left) in
-    let sums : all ≡ plus_key old.told (plus_key told h.1) = w.sum ∙ ap (plus_key old.told) h.4 in
-    let added : new.told ≡ plus_key old.told told = adds ∙ key-within-same old.told told (part-fits old.told told h.1 all w.fits sums) in (
+    let sums : all ≡ plus_key old.reported (plus_key reported h.1) = w.sum ∙ ap (plus_key old.reported) h.4 in
+    let added : new.reported ≡ plus_key old.reported reported = adds ∙ key-within-same old.reported reported (part-fits old.reported reported h.1 all w.fits sums) in (
       h.0,
       record {
         more = h.1;
         left = h.2;
-        sum = sums ∙ (sym (plus-key-assoc old.told told h.1) ∙ ap (λ k. plus_key k h.1) (sym added));
+        sum = sums ∙ (sym (plus-key-assoc old.reported reported h.1) ∙ ap (λ k. plus_key k h.1) (sym added));
         fits = w.fits;
       },
       h.3,
@@ -171,11 +171,11 @@ pub all-made : {S : Type 0} (tells : S → Form → Asking → List ℕ → List
     → lines_left r ≡ [] → IsAllMade tells form asking name r
 all-made tells form asking name r ends none file text all w =
     let h = ends r.earlier form asking name file text w.more (subst (λ (l : List (ℕ × List ℕ)). tells r.earlier form asking name file l text w.more) none w.left) in
-    (h.0, sym (w.sum ∙ (ap (plus_key r.told) h.1 ∙ plus-key-none r.told)))
+    (h.0, sym (w.sum ∙ (ap (plus_key r.reported) h.1 ∙ plus-key-none r.reported)))
 
 -- before the first line
 pub first-left : {S : Type 0} (tells : S → Form → Asking → List ℕ → List ℕ → List (ℕ × List ℕ) → List ℕ → KeyCounts → Type 0) (form : Form) (asking : Asking) (name file text : List ℕ) (all : KeyCounts) (earlier : S) (lines : List (ℕ × List ℕ)) (r : Records S)
-    → r.earlier ≡ earlier → lines_left r ≡ lines → r.told ≡ no_key_counts → AreCounts all.counts → tells earlier form asking name file lines text all → HasLeft tells form asking name file text all r
+    → r.earlier ≡ earlier → lines_left r ≡ lines → r.reported ≡ no_key_counts → AreCounts all.counts → tells earlier form asking name file lines text all → HasLeft tells form asking name file text all r
 first-left {S = S} tells form asking name file text all earlier lines r same is none fits h = record {
   more = all;
   left =
@@ -188,9 +188,9 @@ first-left {S = S} tells form asking name file text all earlier lines r same is 
 -- all of it, and the end of the file
 pub whole-made : {S : Type 0} (tells : S → Form → Asking → List ℕ → List ℕ → List (ℕ × List ℕ) → List ℕ → KeyCounts → Type 0) (form : Form) (asking : Asking) (name file text made : List ℕ) (all : KeyCounts) (old new : Records S)
     → MakesFront tells form asking name old new [] made → IsAllMade tells form asking name new → HasLeft tells form asking name file text all old
-    → reviewed_by form name file made new.told ≡ reviewed_by form name file text all
+    → reviewed_by form name file made new.reported ≡ reviewed_by form name file text all
 whole-made tells form asking name file text made all old new p over w =
     let h = p file text all w in
     let e = over file h.0 all h.1 in
     let is : made ≡ text = sym (append-nil made) ∙ (ap (λ l. made ++ l) (sym e.0) ∙ h.2) in
-    ap (λ (t : List ℕ). reviewed_by form name file t new.told) is ∙ ap (reviewed_by form name file text) e.1
+    ap (λ (t : List ℕ). reviewed_by form name file t new.reported) is ∙ ap (reviewed_by form name file text) e.1

@@ -136,11 +136,11 @@ among claim n found (Entry e ∷ facts) h = by (λ k at. among claim k found fac
         later claim (Entry e) facts (rest (n + 1)
         (sym (ap (λ (o : Option Mismatch). first_admitted n (verdict_by o e ∷ said claim (of_kept facts))) is) ∙ at))
 
-granted-some : (claim : LoginClaim) (vouched : List Signed) (found : Found) (reasons told : List (ℕ × Reason)) (n : ℕ) (rights : Option Rights) (evidence : List Signed)
-    → decided claim vouched found reasons ≡ Granted n rights told evidence → (one : ℕ × AuthEntry) × (found ≡ Some one)
+granted-some : (claim : LoginClaim) (vouched : List Signed) (found : Found) (reasons reported : List (ℕ × Reason)) (n : ℕ) (rights : Option Rights) (evidence : List Signed)
+    → decided claim vouched found reasons ≡ Granted n rights reported evidence → (one : ℕ × AuthEntry) × (found ≡ Some one)
 unfolding decided
-granted-some claim vouched None reasons told n rights evidence h = cc
-granted-some claim vouched (Some one) reasons told n rights evidence h = (one, refl)
+granted-some claim vouched None reasons reported n rights evidence h = cc
+granted-some claim vouched (Some one) reasons reported n rights evidence h = (one, refl)
 
 -- A grant by the new file is one by a line of the file that is kept.
 pub readable-grants : (file : List ℕ) (claim : LoginClaim) (vouched : List Signed) (n : ℕ) (rights : Option Rights) (reasons : List (ℕ × Reason)) (evidence : List Signed)

@@ -1,4 +1,4 @@
--- The lines of a file of the entries that are kept, and what is told of the others, line by line.
+-- The lines of a file of the entries that are kept, and what is reported of the others, line by line.
 use Rattle.ssh_review.proofs.Imports.{◌≡◌, ◌∙◌, ◌++◌, ℕ, Bool, true, false, ◌+◌, cond, List, [], ◌∷◌, map, ap, sym, refl, subst, append_assoc, append-nil, AllByRecursion, flat_map, HasNoNewline, lines_of, numbered, lines_of-whole, AuthEntry, AuthLine, auth_line, Blank, Comment, Entry, Unreadable, auth_or_same, auth_written, auth_facts, auth-kept, AreGood, IsGood, good}
 use Rattle.std.specs.List.{filter}
 use Rattle.ssh_text.specs.Scan.{with_newlines}
@@ -14,19 +14,19 @@ kept_at line = kept_line (auth_line line.1)
 abbrev pub left_out_at : ℕ × List ℕ → List ℕ
 left_out_at line = left_out_of line.0 (auth_line line.1)
 
-pub told-step : (told : ℕ × List ℕ → List ℕ) (line : ℕ × List ℕ) (now next : List (ℕ × List ℕ)) (out after all : List ℕ)
-    → now ≡ line ∷ next → after ≡ out ++ told line → out ++ flat_map told now ≡ all → after ++ flat_map told next ≡ all
-told-step told line now next out after all steps one h =
-    ap (λ t. t ++ flat_map told next) one
-    ∙ (append_assoc out (told line) (flat_map told next)
-    ∙ (ap (λ ls. out ++ flat_map told ls) (sym steps) ∙ h))
+pub reported-step : (reported : ℕ × List ℕ → List ℕ) (line : ℕ × List ℕ) (now next : List (ℕ × List ℕ)) (out after all : List ℕ)
+    → now ≡ line ∷ next → after ≡ out ++ reported line → out ++ flat_map reported now ≡ all → after ++ flat_map reported next ≡ all
+reported-step reported line now next out after all steps one h =
+    ap (λ t. t ++ flat_map reported next) one
+    ∙ (append_assoc out (reported line) (flat_map reported next)
+    ∙ (ap (λ ls. out ++ flat_map reported ls) (sym steps) ∙ h))
 
-pub told-none : (told : ℕ × List ℕ → List ℕ) (now : List (ℕ × List ℕ)) (out all : List ℕ) → now ≡ [] → out ++ flat_map told now ≡ all → out ≡ all
-told-none told now out all none h = sym (append-nil out) ∙ (ap (λ ls. out ++ flat_map told ls) (sym none) ∙ h)
+pub reported-none : (reported : ℕ × List ℕ → List ℕ) (now : List (ℕ × List ℕ)) (out all : List ℕ) → now ≡ [] → out ++ flat_map reported now ≡ all → out ≡ all
+reported-none reported now out all none h = sym (append-nil out) ∙ (ap (λ ls. out ++ flat_map reported ls) (sym none) ∙ h)
 
-unnumbered : (told : List ℕ → List ℕ) (n : ℕ) (lines : List (List ℕ)) → flat_map (λ (line : ℕ × List ℕ). told line.1) (numbered n lines) ≡ flat_map told lines
-unnumbered told n [] = refl
-unnumbered told n (line ∷ lines) = ap (λ t. told line ++ t) (unnumbered told (n + 1) lines)
+unnumbered : (reported : List ℕ → List ℕ) (n : ℕ) (lines : List (List ℕ)) → flat_map (λ (line : ℕ × List ℕ). reported line.1) (numbered n lines) ≡ flat_map reported lines
+unnumbered reported n [] = refl
+unnumbered reported n (line ∷ lines) = ap (λ t. reported line ++ t) (unnumbered reported (n + 1) lines)
 
 pub all_kept : (file : List ℕ) → readable_file file ≡ flat_map kept_at (numbered 1 (lines_of file))
 unfolding readable_file

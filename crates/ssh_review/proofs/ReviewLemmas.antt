@@ -1,9 +1,9 @@
 -- A review is of printable bytes and LFs, in each form.
-use Rattle.ssh_review.proofs.Imports.{◌≡◌, ◌+◌, ℕ, nat_lt, Bool, true, false, cond, List, [], ◌∷◌, ◌++◌, length, refl, Option, Some, None, codes, option_map, AllByRecursion, TimeZone, file_limit, lines_of, numbered, PublicKey, key_blob, AuthLine, Blank, Comment, Entry, Unreadable, AuthEntry, auth_line, Asking, Held, held_key, AreBytes, AreBytesIfAny, pos, are_printable, Counts, FileFault, TooLong, Total, Form, Text, Json, count_text, counts_text, end_line, file_fault_line, total_line, counts_of, held_by_line, key_told, line_findings, line_record, records_of, shadow_line, auth_review, fault_review}
+use Rattle.ssh_review.proofs.Imports.{◌≡◌, ◌+◌, ℕ, nat_lt, Bool, true, false, cond, List, [], ◌∷◌, ◌++◌, length, refl, Option, Some, None, codes, option_map, AllByRecursion, TimeZone, file_limit, lines_of, numbered, PublicKey, key_blob, AuthLine, Blank, Comment, Entry, Unreadable, AuthEntry, auth_line, Asking, Held, held_key, AreBytes, AreBytesIfAny, pos, are_printable, Counts, FileFault, TooLong, Total, Form, Text, Json, count_text, counts_text, end_line, file_fault_line, total_line, counts_of, held_by_line, key_reported, line_findings, line_record, records_of, shadow_line, auth_review, fault_review}
 use Rattle.sha2.specs.Sha256.{sha256}
 use Rattle.ssh_keys.specs.Fingerprint.{digest_text_of, fingerprint_of}
 use Rattle.ssh_findings.specs.Facts.{facts_of}
-use Rattle.ssh_findings.specs.HeldKey.{held_of as told_of}
+use Rattle.ssh_findings.specs.HeldKey.{held_of as reported_of}
 use Rattle.ssh_findings.specs.KeyRead.{key_read}
 use Rattle.ssh_review.specs.Lines.{lets_in}
 use Rattle.ssh_review.proofs.ObjectLemmas.{entry-line, unreadable-line}
@@ -28,7 +28,7 @@ entry-printable : (zone : TimeZone) (e : AuthEntry) → ArePrintable (facts_of z
 unfolding facts_of
 entry-printable zone e = fingerprint-printable (key_read e.key)
 
-pub held-printable : (key : Option PublicKey) → IsHeldPrintable (option_map told_of key)
+pub held-printable : (key : Option PublicKey) → IsHeldPrintable (option_map reported_of key)
 held-printable None = tt
 held-printable (Some key) = fingerprint-printable key
 
@@ -42,9 +42,9 @@ record-by Json asking name earlier n line (Entry e) h k is =
     let bytes = entry-facts asking.zone line e k is in
     from-line (entry-line name n (facts_of asking.zone e) e.options (shadow_line asking earlier e) (lets_in asking earlier e) (line_findings asking earlier (Entry e)) h bytes.0 bytes.1)
 record-by Text asking name earlier n line (Unreadable cause) h k is =
-    unreadable-shown name n (key_told line) (line_findings asking earlier (Unreadable cause)) h (held-printable (held_key line))
+    unreadable-shown name n (key_reported line) (line_findings asking earlier (Unreadable cause)) h (held-printable (held_key line))
 record-by Json asking name earlier n line (Unreadable cause) h k is =
-    from-line (unreadable-line name n (key_told line) (line_findings asking earlier (Unreadable cause)) h (held-bytes (held_key line)))
+    from-line (unreadable-line name n (key_reported line) (line_findings asking earlier (Unreadable cause)) h (held-bytes (held_key line)))
 
 records-shown : (form : Form) (asking : Asking) (name : List ℕ) (earlier : List Held) (n : ℕ) (lines : List (List ℕ))
     → AreBytes name → AllByRecursion AreBytes lines → AreShown (records_of form asking name earlier (numbered n lines))

@@ -127,8 +127,8 @@ rows-shown row h (f ∷ found) = add (line-shown (row f) (h f)) (rows-shown row 
 object-printable : {code said : List ℕ} → ArePrintable code → ArePrintable said → ArePrintable (code_object code said)
 unfolding code_object
 object-printable {code} {said} h k =
-    let told = string-printable code (bytes-from_printable h) in
-    join (join (join (word (codes "{\"code\":") refl) told) (said-printable (codes "detail") refl k)) (word (codes "}") refl)
+    let reported = string-printable code (bytes-from_printable h) in
+    join (join (join (word (codes "{\"code\":") refl) reported) (said-printable (codes "detail") refl k)) (word (codes "}") refl)
 
 row-printable : (r : FindingRow) → HasPrintable r → ArePrintable (row_object r)
 row-printable r h = object-printable (code-printable r.code) (detail-printable r h)

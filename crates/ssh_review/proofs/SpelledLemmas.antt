@@ -2,7 +2,7 @@
 use Rattle.ssh_review.proofs.Imports.{◌≡◌, ◌∙◌, ◌++◌, ◌+◌, ℕ, List, [], ◌∷◌, Option, None, map, ap, sym, refl, option_map, lines_of, numbered, PublicKey, auth_line, AuthLine, Entry, Unreadable, auth_or_same, auth_written, canonical_auth_file, KeepsLines, file-says, auth-kept, Asking, Held, held_key, Counts, Form, no_counts, plus, unreadable_record, counts_of, held_by_line, line_counts, line_findings, line_record, records_of}
 use Rattle.ssh_trust.proofs.CandidateLemmas.{AreBytes}
 use Rattle.ssh_entries.specs.declared.auth_line.AuthLine.TheVariants.{Blank, Comment}
-use Rattle.ssh_findings.specs.HeldKey.{held_of as told_of}
+use Rattle.ssh_findings.specs.HeldKey.{held_of as reported_of}
 
 -- ---- what a review uses of a line: what it is read as, and of one that cannot be read the key on it
 
@@ -41,7 +41,7 @@ record-by form asking name earlier n (Blank, key) = []
 record-by form asking name earlier n (Comment, key) = []
 record-by form asking name earlier n (Entry e, key) = line_record form asking name earlier (n, []) (Entry e)
 record-by form asking name earlier n (Unreadable cause, key) =
-    unreadable_record form name n (option_map told_of key) (line_findings asking earlier (Unreadable cause))
+    unreadable_record form name n (option_map reported_of key) (line_findings asking earlier (Unreadable cause))
 
 record-is : (form : Form) (asking : Asking) (name : List ℕ) (earlier : List Held) (n : ℕ) (line : List ℕ) (l : AuthLine)
     → line_record form asking name earlier (n, line) l ≡ record-by form asking name earlier n (l, key-on l line)
@@ -61,7 +61,7 @@ records-are : (form : Form) (asking : Asking) (name : List ℕ) (earlier : List 
 unfolding records-by
 records-are form asking name earlier n [] = refl
 records-are form asking name earlier n (line ∷ lines) =
-    ap (λ told. told ++ records_of form asking name (earlier ++ held_by_line asking (n, auth_line line)) (numbered (n + 1) lines))
+    ap (λ reported. reported ++ records_of form asking name (earlier ++ held_by_line asking (n, auth_line line)) (numbered (n + 1) lines))
     (record-is form asking name earlier n line (auth_line line))
     ∙ ap (λ more. record-by form asking name earlier n (said line) ++ more)
     (records-are form asking name (earlier ++ held_by_line asking (n, auth_line line)) (n + 1) lines)

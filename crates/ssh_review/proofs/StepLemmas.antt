@@ -1,4 +1,4 @@
--- One more line of an authorized_keys file: what is left to be told then, and what is stored.
+-- One more line of an authorized_keys file: what is left to be reported then, and what is stored.
 use Rattle.ssh_review.proofs.Imports.{◌≡◌, ◌∙◌, ℕ, ◌+◌, ◌≤◌, Bool, List, [], ◌∷◌, ◌++◌, length, refl, sym, ap, subst, append_assoc, arith, TooLong, auth_review, fault_review, AuthLine, auth_line, Asking, Held, Counts, Form, plus, AreBytes, lines_of, numbered, file_limit, RemembersEntries, bytes_kept, keys_kept, counts_of, held_by_line, held_lines, line_counts, line_record, records_of, line_bytes, lines_bytes}
 use Rattle.ssh_findings.specs.declared.earlier.Earlier.{Earlier}
 use Rattle.ssh_review.specs.KeyRecords.{holds_key, key_counts, key_counts_of, key_record, key_records_of, plus_key}
@@ -16,20 +16,20 @@ use Rattle.ssh_review.proofs.MemoryLemmas.{file-long}
 
 -- ---- all keys
 
-pub auth-next : (form : Form) (asking : Asking) (name file : List ℕ) (number : ℕ) (line : List ℕ) (lines : List (ℕ × List ℕ)) (said : AuthLine) (old new : Earlier) (before after text : List ℕ) (counts : KeyCounts) (told : Counts)
+pub auth-next : (form : Form) (asking : Asking) (name file : List ℕ) (number : ℕ) (line : List ℕ) (lines : List (ℕ × List ℕ)) (said : AuthLine) (old new : Earlier) (before after text : List ℕ) (counts : KeyCounts) (reported : Counts)
     → said ≡ auth_line line → AuthTells old form asking name file ((number, line) ∷ lines) text counts
     → ((held : List Held) → RemembersEntries old held → after ≡ before ++ line_record form asking name held (number, line) said)
-    → ((held : List Held) → RemembersEntries old held → told ≡ line_counts asking held said)
+    → ((held : List Held) → RemembersEntries old held → reported ≡ line_counts asking held said)
     → ((held : List Held) → RemembersEntries old held → RemembersEntries new (held ++ held_by_line asking (number, said)))
-    → bytes_kept new ≤ bytes_kept old + line_bytes asking said → keys_kept new ≤ keys_kept old + told.keys
-    → (rest : List ℕ) × (more : KeyCounts) × AuthTells new form asking name file lines rest more × (after ++ rest ≡ before ++ text) × (counts ≡ plus_key (of_all told) more) × (AreWholeLines before → AreWholeLines after)
-auth-next form asking name file number line lines said old new before after text counts told says h written counted stores bytes keys =
+    → bytes_kept new ≤ bytes_kept old + line_bytes asking said → keys_kept new ≤ keys_kept old + reported.keys
+    → (rest : List ℕ) × (more : KeyCounts) × AuthTells new form asking name file lines rest more × (after ++ rest ≡ before ++ text) × (counts ≡ plus_key (of_all reported) more) × (AreWholeLines before → AreWholeLines after)
+auth-next form asking name file number line lines said old new before after text counts reported says h written counted stores bytes keys =
     let left = h.held ++ held_by_line asking (number, auth_line line) in
     let rest = records_of form asking name left lines in
     let more = counts_of asking left lines in
     let own : line_bytes asking said ≡ line_bytes asking (auth_line line) = ap (line_bytes asking) says in
-    let is : told ≡ line_counts asking h.held (auth_line line) = counted h.held h.stored ∙ ap (line_counts asking h.held) says in
-    let own_keys : told.keys ≡ (line_counts asking h.held (auth_line line)).keys = ap (λ (c : Counts). c.keys) is in
+    let is : reported ≡ line_counts asking h.held (auth_line line) = counted h.held h.stored ∙ ap (line_counts asking h.held) says in
+    let own_keys : reported.keys ≡ (line_counts asking h.held (auth_line line)).keys = ap (λ (c : Counts). c.keys) is in
     let all_bytes : bytes_kept old + (line_bytes asking (auth_line line) + lines_bytes asking lines) ≤ lines_bytes asking (numbered 1 (lines_of file)) = h.bytes in
     let file_bytes : bytes_kept old + (line_bytes asking (auth_line line) + lines_bytes asking lines) ≤ length file = h.file_bytes in
     let file_keys : keys_kept old + ((line_counts asking h.held (auth_line line)).keys + more.keys) ≤ length file = h.file_keys in (
@@ -76,18 +76,18 @@ auth-whole form asking name file r few is = is ∙ ap (λ (b : Bool). if b then 
 
 -- ---- one key
 
-pub auth-key-next : (form : Form) (asking : Asking) (name file : List ℕ) (number : ℕ) (line : List ℕ) (lines : List (ℕ × List ℕ)) (said : AuthLine) (old new : ForKey Earlier) (before after text : List ℕ) (counts told : KeyCounts)
+pub auth-key-next : (form : Form) (asking : Asking) (name file : List ℕ) (number : ℕ) (line : List ℕ) (lines : List (ℕ × List ℕ)) (said : AuthLine) (old new : ForKey Earlier) (before after text : List ℕ) (counts reported : KeyCounts)
     → new.sought.now ≡ old.sought.now → said ≡ auth_line line → AuthKeyTells old form asking name file ((number, line) ∷ lines) text counts
     → ((held : List Held) → RemembersEntries old.earlier held → after ≡ before ++ key_record old.sought.now form asking name held (number, line) said)
-    → ((held : List Held) → RemembersEntries old.earlier held → told ≡ key_counts old.sought.now asking held line said)
+    → ((held : List Held) → RemembersEntries old.earlier held → reported ≡ key_counts old.sought.now asking held line said)
     → ((held : List Held) → RemembersEntries old.earlier held → RemembersEntries new.earlier (held ++ held_by_line asking (number, said)))
-    → (rest : List ℕ) × (more : KeyCounts) × AuthKeyTells new form asking name file lines rest more × (after ++ rest ≡ before ++ text) × (counts ≡ plus_key told more) × (AreWholeLines before → AreWholeLines after)
-auth-key-next form asking name file number line lines said old new before after text counts told same says h written counted stores =
+    → (rest : List ℕ) × (more : KeyCounts) × AuthKeyTells new form asking name file lines rest more × (after ++ rest ≡ before ++ text) × (counts ≡ plus_key reported more) × (AreWholeLines before → AreWholeLines after)
+auth-key-next form asking name file number line lines said old new before after text counts reported same says h written counted stores =
     let sought = old.sought.now in
     let left = h.held ++ held_by_line asking (number, auth_line line) in
     let rest = key_records_of sought form asking name left lines in
     let more = key_counts_of sought asking left lines in
-    let is : told ≡ key_counts sought asking h.held line (auth_line line) = counted h.held h.stored ∙ ap (key_counts sought asking h.held line) says in (
+    let is : reported ≡ key_counts sought asking h.held line (auth_line line) = counted h.held h.stored ∙ ap (key_counts sought asking h.held line) says in (
       rest,
       more,
       record {

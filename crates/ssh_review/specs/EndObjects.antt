@@ -42,7 +42,7 @@ code_element c = codes "," ++ json_text (code_text c)
 unfoldable pub review_fields : List ℕ → Asking → List ℕ
 review_fields kind asking =
     text_field (codes "kind") kind ++ number_field (codes "rsa_minimum") asking.rsa_minimum
-    ++ array_field (codes "told") (flat_map code_element asking.told)
+    ++ array_field (codes "told") (flat_map code_element asking.reported)
 
 unfoldable pub total_counts : Total → List ℕ
 total_counts t = number_field (codes "files") t.files ++ number_field (codes "faults") t.faults ++ counts_fields t.counts

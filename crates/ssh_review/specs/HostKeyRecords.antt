@@ -8,7 +8,7 @@ use Rattle.ssh_findings.specs.Asking.{Asking}
 use Rattle.ssh_findings.specs.HostLines.{HostLine}
 use Rattle.ssh_review.specs.declared.end.Form.{Form}
 use Rattle.ssh_review.specs.declared.key_review.KeyCounts.{KeyCounts}
-use Rattle.ssh_review.specs.HostLines.{host_kept_of, host_line_counts, host_line_record, known_key_told}
+use Rattle.ssh_review.specs.HostLines.{host_kept_of, host_line_counts, host_line_record, known_key_reported}
 use Rattle.ssh_review.specs.HostRecords.{print_of}
 use Rattle.ssh_review.specs.KeyRecords.{lists_key, no_key_counts, plus_key, recovers_key, unlisted_counts}
 
@@ -19,8 +19,8 @@ host_holds_key fingerprint line Blank = false
 host_holds_key fingerprint line Comment = false
 host_holds_key fingerprint line (Entry entry) = lists_key fingerprint entry.key
 host_holds_key fingerprint line (Revoked bytes) = bytes_eq (print_of bytes) fingerprint
-host_holds_key fingerprint line RevokedUnreadable = recovers_key fingerprint (known_key_told line)
-host_holds_key fingerprint line (Unreadable cause) = recovers_key fingerprint (known_key_told line)
+host_holds_key fingerprint line RevokedUnreadable = recovers_key fingerprint (known_key_reported line)
+host_holds_key fingerprint line (Unreadable cause) = recovers_key fingerprint (known_key_reported line)
 
 -- the record of a line that holds the key, as the whole review prints it; no other line has one
 abbrev pub host_key_record : List ℕ → Form → Asking → List ℕ → List HostLine → ℕ → List ℕ → KnownLine → List ℕ

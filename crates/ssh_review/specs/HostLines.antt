@@ -6,7 +6,7 @@ use Rattle.ssh_entries.specs.declared.known_line.KnownLine.TheVariants.{Blank, C
 use Rattle.ssh_entries.specs.KnownGrammar.{known_line}
 use Rattle.ssh_findings.specs.Asking.{Asking}
 use Rattle.ssh_findings.specs.declared.recovered_key.HeldKey.{HeldKey}
-use Rattle.ssh_findings.specs.HeldKey.{held_of as told_of, known_held_key}
+use Rattle.ssh_findings.specs.HeldKey.{held_of as reported_of, known_held_key}
 use Rattle.ssh_findings.specs.declared.host_finding.HostFinding.{HostFinding}
 use Rattle.ssh_findings.specs.HostFindingsEarlier.{revoking, trusting}
 use Rattle.ssh_findings.specs.HostFacts.{host_facts_of}
@@ -30,8 +30,8 @@ host_line_findings asking earlier line RevokedUnreadable = unreadable_revocation
 host_line_findings asking earlier line (Unreadable cause) = unreadable_host_findings asking cause
 
 -- the recovered key of a line that cannot be read: the key that OpenSSH looks for there
-abbrev pub known_key_told : List ℕ → Option HeldKey
-known_key_told line = option_map told_of (known_held_key line)
+abbrev pub known_key_reported : List ℕ → Option HeldKey
+known_key_reported line = option_map reported_of (known_held_key line)
 
 -- The record of a line with this reading (an entry, for example), and its number. Blank lines and comments have none.
 abbrev pub host_line_record : Form → Asking → List ℕ → List HostLine → ℕ → List ℕ → KnownLine → List ℕ
@@ -42,9 +42,9 @@ host_line_record form asking name earlier n line (Entry entry) =
 host_line_record form asking name earlier n line (Revoked bytes) =
     revoked_record form name n bytes (revocation_facts_of line bytes) (host_line_findings asking earlier line (Revoked bytes))
 host_line_record form asking name earlier n line RevokedUnreadable =
-    blind_record form name n (known_key_told line) (host_line_findings asking earlier line RevokedUnreadable)
+    blind_record form name n (known_key_reported line) (host_line_findings asking earlier line RevokedUnreadable)
 host_line_record form asking name earlier n line (Unreadable cause) =
-    host_unreadable_record form name n (known_key_told line) (host_line_findings asking earlier line (Unreadable cause))
+    host_unreadable_record form name n (known_key_reported line) (host_line_findings asking earlier line (Unreadable cause))
 
 abbrev pub host_line_counts : Asking → List HostLine → List ℕ → KnownLine → Counts
 host_line_counts asking earlier line said = host_counts_with said (length (host_line_findings asking earlier line said))

@@ -14,7 +14,7 @@ use Rattle.ssh_review.specs.declared.end.Counts.{Counts}
 use Rattle.ssh_review.specs.declared.end.Form.{Form}
 use Rattle.ssh_review.specs.declared.key_review.KeyCounts.{KeyCounts}
 use Rattle.ssh_review.specs.Counting.{no_counts, plus, plus_within}
-use Rattle.ssh_review.specs.Lines.{held_by_line, key_told, line_counts, line_record}
+use Rattle.ssh_review.specs.Lines.{held_by_line, key_reported, line_counts, line_record}
 
 -- ---- the key of a line
 
@@ -32,7 +32,7 @@ abbrev pub holds_key : List ℕ → List ℕ → AuthLine → Bool
 holds_key fingerprint line Blank = false
 holds_key fingerprint line Comment = false
 holds_key fingerprint line (Entry entry) = lists_key fingerprint entry.key
-holds_key fingerprint line (Unreadable cause) = recovers_key fingerprint (key_told line)
+holds_key fingerprint line (Unreadable cause) = recovers_key fingerprint (key_reported line)
 
 -- ---- the records
 

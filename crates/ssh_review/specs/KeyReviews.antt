@@ -24,9 +24,9 @@ key_review r = record { file = review r.review; stands = r.stands }
 
 -- the records of a file, and its end with the counts of these records and of all lines
 abbrev pub reviewed_by : Form → List ℕ → List ℕ → List ℕ → KeyCounts → KeyReview
-reviewed_by form name file records told = record {
-  file = record { text = records ++ end_line form name told.counts (sha256 file); counts = told.counts; fault = None };
-  stands = told.stands;
+reviewed_by form name file records reported = record {
+  file = record { text = records ++ end_line form name reported.counts (sha256 file); counts = reported.counts; fault = None };
+  stands = reported.stands;
 }
 
 -- the review of an authorized_keys file within the limit for the key with this fingerprint

@@ -14,7 +14,7 @@ use Rattle.ssh_review.specs.Counting.{counts_with, no_counts, plus}
 use Rattle.ssh_findings.specs.EntryFindings.{entry_findings, may_let_in, unreadable_findings}
 use Rattle.ssh_findings.specs.Facts.{facts_of}
 use Rattle.ssh_findings.specs.declared.recovered_key.HeldKey.{HeldKey}
-use Rattle.ssh_findings.specs.HeldKey.{held_key, held_of as told_of}
+use Rattle.ssh_findings.specs.HeldKey.{held_key, held_of as reported_of}
 use Rattle.ssh_review.specs.Forms.{entry_record, unreadable_record}
 
 -- the reported findings of a line after these entries
@@ -34,8 +34,8 @@ abbrev pub lets_in : Asking → List Held → AuthEntry → Bool
 lets_in asking earlier entry = is_none (shadow_line asking earlier entry) && may_let_in asking (facts_of asking.zone entry)
 
 -- the recovered key of a line that cannot be read (the key that OpenSSH reads there), if there is one
-abbrev pub key_told : List ℕ → Option HeldKey
-key_told line = option_map told_of (held_key line)
+abbrev pub key_reported : List ℕ → Option HeldKey
+key_reported line = option_map reported_of (held_key line)
 
 -- The record of a line with this reading (an entry, for example), and its number. Blank lines and comments have none.
 abbrev pub line_record : Form → Asking → List ℕ → List Held → ℕ × List ℕ → AuthLine → List ℕ
@@ -45,7 +45,7 @@ line_record form asking name earlier (n, line) (Entry entry) =
     entry_record form name n (facts_of asking.zone entry) entry.options (shadow_line asking earlier entry)
     (lets_in asking earlier entry) (line_findings asking earlier (Entry entry))
 line_record form asking name earlier (n, line) (Unreadable cause) =
-    unreadable_record form name n (key_told line) (line_findings asking earlier (Unreadable cause))
+    unreadable_record form name n (key_reported line) (line_findings asking earlier (Unreadable cause))
 
 abbrev pub line_counts : Asking → List Held → AuthLine → Counts
 line_counts asking earlier line = counts_with line (length (line_findings asking earlier line))

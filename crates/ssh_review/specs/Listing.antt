@@ -30,10 +30,10 @@ abbrev pub entries_before : Asking → List ℕ → ℕ → List Held
 entries_before asking file n = entries_of asking (take (n - 1) (numbered 1 (lines_of file)))
 
 -- the review of the file contains this record
-pub record HasRecord (form : Form) (asking : Asking) (name file told : List ℕ) : Type 0 where
+pub record HasRecord (form : Form) (asking : Asking) (name file reported : List ℕ) : Type 0 where
   pub before : List ℕ
   pub after : List ℕ
-  pub stands : (whole_review form asking name file).text ≡ before ++ (told ++ after)
+  pub stands : (whole_review form asking name file).text ≡ before ++ (reported ++ after)
 
 -- The login is let in by line n with these rights, and the review lists that line:
 pub record IsListed (form : Form) (asking : Asking) (name file : List ℕ) (claim : LoginClaim) (n : ℕ) (rights : Option Rights) : Type 0 where
@@ -54,4 +54,4 @@ pub record IsListed (form : Form) (asking : Asking) (name file : List ℕ) (clai
   pub marked : asking.now ≡ claim.query.now → asking.zone ≡ claim.query.zone → lets_in asking (entries_before asking file n) entry ≡ true
   -- the rights are those that the line gives to the offer; for a plain key they are those in the record
   pub left : rights ≡ Some (rights_of entry claim.offer)
-  pub told : (key : PublicKey) → claim.offer ≡ plain key → rights ≡ Some (facts_of asking.zone entry).rights
+  pub reported : (key : PublicKey) → claim.offer ≡ plain key → rights ≡ Some (facts_of asking.zone entry).rights

@@ -94,7 +94,7 @@ lines_left r = numbered (r.lines).0 (lines_of (r.lines).1)
 pub record HasLeft {S : Type 0} (tells : S → Form → Asking → List ℕ → List ℕ → List (ℕ × List ℕ) → List ℕ → KeyCounts → Type 0) (form : Form) (asking : Asking) (name file text : List ℕ) (all : KeyCounts) (r : Records S) : Type 0 where
   pub more : KeyCounts
   pub left : tells r.earlier form asking name file (lines_left r) text more
-  pub sum : all ≡ plus_key r.told more
+  pub sum : all ≡ plus_key r.reported more
   pub fits : AreCounts all.counts
 
 -- From one state of a review to a later one: whatever text was left, what was appended to this is its front, in whole lines,
@@ -105,4 +105,4 @@ MakesFront tells form asking name old new before after = (file text : List ℕ) 
 
 -- nothing is left, and the counts are those of the whole file
 abbrev pub IsAllMade : {S : Type 0} → (S → Form → Asking → List ℕ → List ℕ → List (ℕ × List ℕ) → List ℕ → KeyCounts → Type 0) → Form → Asking → List ℕ → Records S → Type 0
-IsAllMade tells form asking name r = (file text : List ℕ) (all : KeyCounts) → HasLeft tells form asking name file text all r → (text ≡ []) × (r.told ≡ all)
+IsAllMade tells form asking name r = (file text : List ℕ) (all : KeyCounts) → HasLeft tells form asking name file text all r → (text ≡ []) × (r.reported ≡ all)

@@ -1,4 +1,4 @@
--- The entries of an authorized_keys file that OpenSSH has no known reason to refuse or to read differently, and what is told
+-- The entries of an authorized_keys file that OpenSSH has no known reason to refuse or to read differently, and what is reported
 -- of the lines that are left out (this project's rule).
 use Rattle.std.specs.Prelude.{◌++◌, ◌∷◌, ◌==◌, ◌&&◌, [], ℕ, Bool, false, not, List, length, codes, if◌then◌else◌}
 use Rattle.std.specs.Fmt.{decimal}
@@ -28,7 +28,7 @@ use Rattle.ssh_review.specs.Findings.{detail_part, row_detail}
 -- F7, F8 and F22: lists that permit nobody, what OpenSSH reads differently, and why it may refuse a line. None of them
 -- depends on the time, the zone or the minimum.
 abbrev pub doubting : Asking
-doubting = record { now = 0; zone = UTC; is_zone_given = false; rsa_minimum = 0; told = PermitsNobody ∷ ReadOtherwise ∷ MayRefuse ∷ [] }
+doubting = record { now = 0; zone = UTC; is_zone_given = false; rsa_minimum = 0; reported = PermitsNobody ∷ ReadOtherwise ∷ MayRefuse ∷ [] }
 
 -- the findings for which an entry is left out
 unfoldable pub doubts : AuthEntry → List Finding
@@ -72,7 +72,7 @@ kept_line (Unreadable cause) = []
 unfoldable pub readable_file : List ℕ → List ℕ
 readable_file file = flat_map (λ line. kept_line (auth_line line)) (lines_of file)
 
--- ---- what is told of the lines that are left out
+-- ---- what is reported of the lines that are left out
 
 -- the number of the line, a code, and its detail
 unfoldable pub left_out_line : ℕ → List ℕ → List ℕ → List ℕ

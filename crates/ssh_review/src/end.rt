@@ -247,10 +247,10 @@ fn push_code_element(out: &mut Vec<u8>, code: Code) -> Result<(), AllocError>
     Ok(())
 }
 
-fn push_code_elements(out: &mut Vec<u8>, told: &[Code]) -> Result<(), AllocError>
-    ensures { OnOk result (out.new.items ≡ out.old.items ++ flat_map code_element told.now) }
+fn push_code_elements(out: &mut Vec<u8>, reported: &[Code]) -> Result<(), AllocError>
+    ensures { OnOk result (out.new.items ≡ out.old.items ++ flat_map code_element reported.now) }
 {
-    for code in told {
+    for code in reported {
         push_code_element(out, *code)?;
     }
     Ok(())
@@ -267,11 +267,11 @@ fn push_review_fields(
     ensures { OnOk result (out.new.items
         ≡ out.old.items ++ review_fields kind.now (asking_of asked.entry.now)) }
 {
-    let mut told = Vec::new(alloc);
-    push_code_elements(&mut told, asked.told)?;
+    let mut reported = Vec::new(alloc);
+    push_code_elements(&mut reported, asked.reported)?;
     push_text_field(out, b"kind", kind)?;
     push_number_field(out, b"rsa_minimum", asked.rsa_minimum as u64)?;
-    push_array(out, b"told", &told)?;
+    push_array(out, b"told", &reported)?;
     Ok(())
 }
 

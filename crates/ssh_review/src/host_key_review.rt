@@ -63,8 +63,8 @@ fn push_key_entry(
         → out.new.items ≡ out.old.items ++ host_key_record sought.now form
         (asking_of asked.entry.now) place.entry.now.name.now lines place.entry.now.number line.now
         (KnownLine.Entry entry.now)) }
-    ensures counts { IfOk result (λ told. (lines : List HostLine) → RemembersLines earlier.old lines
-        → told ≡ host_key_counts sought.now (asking_of asked.entry.now) lines line.now
+    ensures counts { IfOk result (λ reported. (lines : List HostLine) → RemembersLines earlier.old lines
+        → reported ≡ host_key_counts sought.now (asking_of asked.entry.now) lines line.now
         (KnownLine.Entry entry.now)) }
     ensures kept { OnOk result ((lines : List HostLine) → RemembersLines earlier.old lines
         → RemembersLines earlier.new (lines ++ host_kept_of
@@ -97,8 +97,8 @@ fn push_key_revoked(
         → out.new.items ≡ out.old.items ++ host_key_record sought.now form
         (asking_of asked.entry.now) place.entry.now.name.now lines place.entry.now.number line.now
         (KnownLine.Revoked bytes.now)) }
-    ensures counts { IfOk result (λ told. (lines : List HostLine) → RemembersLines earlier.old lines
-        → told ≡ host_key_counts sought.now (asking_of asked.entry.now) lines line.now
+    ensures counts { IfOk result (λ reported. (lines : List HostLine) → RemembersLines earlier.old lines
+        → reported ≡ host_key_counts sought.now (asking_of asked.entry.now) lines line.now
         (KnownLine.Revoked bytes.now)) }
     ensures kept { OnOk result ((lines : List HostLine) → RemembersLines earlier.old lines
         → RemembersLines earlier.new (lines ++ host_kept_of
@@ -129,7 +129,7 @@ fn push_key_blind(
     ensures text { OnOk result (out.new.items ≡ out.old.items ++ host_key_record sought.now form
         (asking_of asked.entry.now) place.entry.now.name.now [] place.entry.now.number line.now
         KnownLine.RevokedUnreadable) }
-    ensures counts { IfOk result (λ told. told ≡ host_key_counts sought.now
+    ensures counts { IfOk result (λ reported. reported ≡ host_key_counts sought.now
         (asking_of asked.entry.now) [] line.now KnownLine.RevokedUnreadable) }
 {
     let held = known_held_key(alloc, line)?;
@@ -156,7 +156,7 @@ fn push_key_unreadable(
     ensures text { OnOk result (out.new.items ≡ out.old.items ++ host_key_record sought.now form
         (asking_of asked.entry.now) place.entry.now.name.now [] place.entry.now.number line.now
         (KnownLine.Unreadable cause)) }
-    ensures counts { IfOk result (λ told. told ≡ host_key_counts sought.now
+    ensures counts { IfOk result (λ reported. reported ≡ host_key_counts sought.now
         (asking_of asked.entry.now) [] line.now (KnownLine.Unreadable cause)) }
 {
     let held = known_held_key(alloc, line)?;
@@ -185,8 +185,8 @@ fn push_key_line(
         → out.new.items ≡ out.old.items ++ host_key_record sought.now form
         (asking_of asked.entry.now) place.entry.now.name.now lines place.entry.now.number line.now
         (known_seen view.now)) }
-    ensures counts { IfOk result (λ told. (lines : List HostLine) → RemembersLines earlier.old lines
-        → told ≡ host_key_counts sought.now (asking_of asked.entry.now) lines line.now
+    ensures counts { IfOk result (λ reported. (lines : List HostLine) → RemembersLines earlier.old lines
+        → reported ≡ host_key_counts sought.now (asking_of asked.entry.now) lines line.now
         (known_seen view.now)) }
     ensures kept { OnOk result ((lines : List HostLine) → RemembersLines earlier.old lines
         → RemembersLines earlier.new (lines ++ host_kept_of
@@ -224,7 +224,7 @@ impl<'a> LineRecords for ForKey<'a, EarlierHosts> {
     ) -> Result<KeyCounts, AllocError> {
         let view = read_known_view(line, buffer);
         let sought = self.sought;
-        let told = push_key_line(
+        let reported = push_key_line(
             alloc,
             form,
             asked,
@@ -235,7 +235,7 @@ impl<'a> LineRecords for ForKey<'a, EarlierHosts> {
             &mut self.earlier,
             out,
         )?;
-        Ok(told)
+        Ok(reported)
     }
 
     ghost ends = { λ x form asking name file text counts h. (h.are_records, h.are_counts) };

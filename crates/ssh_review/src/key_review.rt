@@ -114,8 +114,8 @@ fn push_key_entry(
     ensures text { OnOk result ((held : List Held) → RemembersEntries earlier.old held
         → out.new.items ≡ out.old.items ++ key_record sought.now form (asking_of asked.entry.now)
         place.entry.now.name.now held (place.entry.now.number, []) (AuthLine.Entry entry.now)) }
-    ensures counts { IfOk result (λ told. (held : List Held) → RemembersEntries earlier.old held
-        → told ≡ key_counts sought.now (asking_of asked.entry.now) held []
+    ensures counts { IfOk result (λ reported. (held : List Held) → RemembersEntries earlier.old held
+        → reported ≡ key_counts sought.now (asking_of asked.entry.now) held []
         (AuthLine.Entry entry.now)) }
     ensures kept { OnOk result ((held : List Held) → RemembersEntries earlier.old held
         → RemembersEntries earlier.new (held ++ held_by_line
@@ -145,7 +145,7 @@ fn push_key_unreadable(
     ensures text { OnOk result (out.new.items ≡ out.old.items ++ key_record sought.now form
         (asking_of asked.entry.now) place.entry.now.name.now [] (place.entry.now.number, line.now)
         (AuthLine.Unreadable cause)) }
-    ensures counts { IfOk result (λ told. told ≡ key_counts sought.now (asking_of asked.entry.now)
+    ensures counts { IfOk result (λ reported. reported ≡ key_counts sought.now (asking_of asked.entry.now)
         [] line.now (AuthLine.Unreadable cause)) }
 {
     let held = held_key(alloc, line)?;
@@ -173,8 +173,8 @@ fn push_key_line(
     ensures text { OnOk result ((held : List Held) → RemembersEntries earlier.old held
         → out.new.items ≡ out.old.items ++ key_record sought.now form (asking_of asked.entry.now)
         place.entry.now.name.now held (place.entry.now.number, line.now) (line_seen view.now)) }
-    ensures counts { IfOk result (λ told. (held : List Held) → RemembersEntries earlier.old held
-        → told ≡ key_counts sought.now (asking_of asked.entry.now) held line.now
+    ensures counts { IfOk result (λ reported. (held : List Held) → RemembersEntries earlier.old held
+        → reported ≡ key_counts sought.now (asking_of asked.entry.now) held line.now
         (line_seen view.now)) }
     ensures kept { OnOk result ((held : List Held) → RemembersEntries earlier.old held
         → RemembersEntries earlier.new (held ++ held_by_line
@@ -206,7 +206,7 @@ impl<'a> LineRecords for ForKey<'a, Earlier> {
     ) -> Result<KeyCounts, AllocError> {
         let view = read_auth_view(line, buffer);
         let sought = self.sought;
-        let told = push_key_line(
+        let reported = push_key_line(
             alloc,
             form,
             asked,
@@ -217,7 +217,7 @@ impl<'a> LineRecords for ForKey<'a, Earlier> {
             &mut self.earlier,
             out,
         )?;
-        Ok(told)
+        Ok(reported)
     }
 
     ghost ends = { λ x form asking name file text counts h. (h.are_records, h.are_counts) };
@@ -248,22 +248,22 @@ pub(crate) fn with_end(
     form: Form,
     name: &[u8],
     file: &[u8],
-    told: KeyCounts,
+    reported: KeyCounts,
     records: Vec<u8>,
 ) -> Result<KeyReviewed, AllocError>
     ensures { IfOk result
-        (λ r. key_review r ≡ reviewed_by form name.now file.now records.items told) }
+        (λ r. key_review r ≡ reviewed_by form name.now file.now records.items reported) }
 {
     let mut text = records;
     let digest = Sha256::digest(file);
-    push_end(alloc, form, &mut text, name, told.counts, &digest)?;
+    push_end(alloc, form, &mut text, name, reported.counts, &digest)?;
     Ok(KeyReviewed {
         review: Reviewed {
             text,
-            counts: told.counts,
+            counts: reported.counts,
             fault: None,
         },
-        stands: told.stands,
+        stands: reported.stands,
     })
 }
 

@@ -7,8 +7,8 @@
 //! of it or `AllocError`. A caller that reviews a file and returns whether something was found:
 //!
 //! ```
-//! let told = Code::by_default();
-//! let asked = ReviewOptions { now, zone, is_zone_given: true, rsa_minimum: 2048, told };
+//! let reported = Code::by_default();
+//! let asked = ReviewOptions { now, zone, is_zone_given: true, rsa_minimum: 2048, reported };
 //! let reviewed = review_auth(alloc, Form::Text, &asked, name, file)?;
 //! out.extend_from_slice(&reviewed.text)?;
 //! Ok(reviewed.counts.findings > 0)
@@ -24,8 +24,8 @@
 //!     writer.write_all(&out)?;
 //!     out.clear();
 //! }
-//! let told = records.told();
-//! push_end(alloc, Form::Text, &mut out, name, told.counts, &Sha256::digest(file))?;
+//! let reported = records.reported();
+//! push_end(alloc, Form::Text, &mut out, name, reported.counts, &Sha256::digest(file))?;
 //! writer.write_all(&out)?;
 //! ```
 //!
@@ -39,8 +39,8 @@
 //! its formats are the same. A caller that reviews a file and returns whether something was found:
 //!
 //! ```
-//! let told = Code::by_default();
-//! let asked = ReviewOptions { now, zone, is_zone_given: true, rsa_minimum: 2048, told };
+//! let reported = Code::by_default();
+//! let asked = ReviewOptions { now, zone, is_zone_given: true, rsa_minimum: 2048, reported };
 //! let reviewed = review_known(alloc, Form::Text, &asked, name, file)?;
 //! out.extend_from_slice(&reviewed.text)?;
 //! Ok(reviewed.counts.findings > 0)

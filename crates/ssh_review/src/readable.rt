@@ -1,5 +1,5 @@
 //! The entries of an `authorized_keys` file that OpenSSH has no known reason to refuse or to read
-//! differently, and what is told of the lines that are left out.
+//! differently, and what is reported of the lines that are left out.
 
 ghost use Rattle.std.specs.Prelude.{◌≡◌, ◌<◌, ◌++◌, Ok, Err, IfOk, OnOk, length};
 ghost use Rattle.std.specs.List.{flat_map};
@@ -37,7 +37,7 @@ fn doubts(alloc: Global, entry: &AuthEntryView<'_>) -> Result<Vec<Finding>, Allo
         zone: &zone,
         is_zone_given: false,
         rsa_minimum: 0,
-        told: &DOUBTS,
+        reported: &DOUBTS,
     };
     let facts = Facts::read(alloc, &zone, entry)?;
     let earlier = Earlier::new(alloc);
@@ -193,7 +193,7 @@ fn push_left_out_entry(
     Ok(())
 }
 
-/// Appends what is told of a line, if it is left out.
+/// Appends what is reported of a line, if it is left out.
 fn push_left_out_of(
     alloc: Global,
     out: &mut Vec<u8>,
@@ -213,7 +213,7 @@ fn push_left_out_of(
 }
 
 /// The lines that `readable_auth` leaves out, as a text for standard error: a line for each reason,
-/// with the number of the line, the code and the detail of a finding. Nothing is told of blank
+/// with the number of the line, the code and the detail of a finding. Nothing is reported of blank
 /// lines and comments.
 pub fn left_out(alloc: Global, file: &[u8]) -> Result<Vec<u8>, AllocError>
     ensures { IfOk result (λ text. text.items ≡ left_out file.now) }

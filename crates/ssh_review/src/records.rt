@@ -36,12 +36,12 @@ pub trait LineRecords {
         buffer: &mut KeyBuffer,
         out: &mut Vec<u8>,
     ) -> Result<KeyCounts, AllocError>
-        ensures { IfOk result (λ told. (file : List ℕ) (lines : List (ℕ × List ℕ)) (text : List ℕ) (counts : KeyCountsValue)
+        ensures { IfOk result (λ reported. (file : List ℕ) (lines : List (ℕ × List ℕ)) (text : List ℕ) (counts : KeyCountsValue)
             → tells self.old form (asking_of asked.entry.now) place.entry.now.name.now file
             ((place.entry.now.number, line.now) ∷ lines) text counts
             → (rest : List ℕ) × (more : KeyCountsValue)
             × tells self.new form (asking_of asked.entry.now) place.entry.now.name.now file lines rest more
-            × (out.new.items ++ rest ≡ out.old.items ++ text) × (counts ≡ plus_key told more)
+            × (out.new.items ++ rest ≡ out.old.items ++ text) × (counts ≡ plus_key reported more)
             × (AreWholeLines out.old.items → AreWholeLines out.new.items)) };
 
     /// No lines have no text.
@@ -66,7 +66,7 @@ pub struct Records<'a, L> {
     lines: Lines<'a>,
     buffer: KeyBuffer,
     earlier: L,
-    told: KeyCounts,
+    reported: KeyCounts,
 }
 
 impl<'a, L: LineRecords + Drop> Records<'a, L> {
@@ -78,22 +78,22 @@ impl<'a, L: LineRecords + Drop> Records<'a, L> {
     ) -> Result<Records<'a, L>, AllocError>
         ensures lines { IfOk result (λ r. r.lines ≡ (1, file.now)) }
         ensures earlier { IfOk result (λ r. r.earlier ≡ earlier) }
-        ensures told { IfOk result (λ r. r.told ≡ no_key_counts) }
+        ensures reported { IfOk result (λ r. r.reported ≡ no_key_counts) }
     {
         let buffer = KeyBuffer::new(alloc)?;
         Ok(Records {
             lines: Lines::new(file),
             buffer,
             earlier,
-            told: KeyCounts::NONE,
+            reported: KeyCounts::NONE,
         })
     }
 
     /// The counts of the lines whose records were made.
-    pub fn told(&self) -> KeyCounts
-        ensures { result ≡ self.now.told }
+    pub fn reported(&self) -> KeyCounts
+        ensures { result ≡ self.now.reported }
     {
-        self.told
+        self.reported
     }
 
     /// Appends the record of the next line. Returns whether there was a line.
@@ -116,10 +116,10 @@ impl<'a, L: LineRecords + Drop> Records<'a, L> {
             None => Ok(false),
             Some((number, line)) => {
                 let place = LineRef { name, number };
-                let told = self
+                let reported = self
                     .earlier
                     .push_record(alloc, form, asked, &place, line, &mut self.buffer, out)?;
-                self.told = self.told.plus(told);
+                self.reported = self.reported.plus(reported);
                 Ok(true)
             }
         }
@@ -168,6 +168,6 @@ pub(crate) fn whole_review<L: LineRecords + Drop>(
     let mut records = begun;
     let mut text = Vec::new(alloc);
     while records.push_some(alloc, form, asked, name, &mut text)? {}
-    let reviewed = with_end(alloc, form, name, file, records.told, text)?;
+    let reviewed = with_end(alloc, form, name, file, records.reported, text)?;
     Ok(reviewed)
 }

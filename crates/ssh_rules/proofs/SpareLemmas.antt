@@ -74,8 +74,8 @@ pub held_off : (noted e : AuthEntry) (said claim : LoginClaim) → noted ≡ e �
     → bytes_eq (key_blob e.key) (key_blob (subject claim.offer)) ≡ true
     → (is_about e claim && (has_escaped e || is_named (login_mismatch e claim))) ≡ false
     → (is_in_role (is_authority noted) (is_certified said.offer) && has_escaped noted) ≡ false
-held_off noted e said claim same told holds h =
-    rw (same, told) (fewer_off _ (is_in_role (is_authority e) (is_certified claim.offer)) (has_escaped e) _ holds h)
+held_off noted e said claim same reported holds h =
+    rw (same, reported) (fewer_off _ (is_in_role (is_authority e) (is_certified claim.offer)) (has_escaped e) _ holds h)
 
 -- where no row about the line holds, the entry is about the key; so no principals have a quote, and no option is named
 pub passed_line : (e : AuthEntry) (claim : LoginClaim) → first_mismatch (line_rows e claim) ≡ None

@@ -35,16 +35,16 @@ same-ok : {E F : Type 0} (a b : SshsigAnswer) → ◌≡◌ {A = Result SshsigAn
 same-ok a b h = cc
 
 -- it is what is answered, where an answer was had
-pub other_told : {E : Type 0} (r : Result Sshsig AuditError) (v : Sshsig) (namespace : List ℕ) (a : SshsigAnswer) → r ≡ Ok v
+pub other_reported : {E : Type 0} (r : Result Sshsig AuditError) (v : Sshsig) (namespace : List ℕ) (a : SshsigAnswer) → r ≡ Ok v
     → (v.namespace ≢ namespace → ◌≡◌ {A = Result SshsigAnswer E} (Ok a) (Ok OtherNamespace))
     → OfClaim r (λ x. x.namespace ≢ namespace → ◌≡◌ {A = Result SshsigAnswer AuditError} (Ok a) (Ok OtherNamespace))
-other_told r v namespace a e h = rw e (λ other. same-ok a OtherNamespace (h other))
+other_reported r v namespace a e h = rw e (λ other. same-ok a OtherNamespace (h other))
 
 no-ok : {E F : Type 0} (x : E) (a b : SshsigAnswer) (res : Result SshsigAnswer F) → ◌≡◌ {A = Result SshsigAnswer E} (Err x) (Ok a) → res ≡ Ok b
 no-ok x a b res h = cc
 
 -- and where none was had, it is not another one
-pub none_told : {E : Type 0} (r : Result Sshsig AuditError) (v : Sshsig) (namespace : List ℕ) (x : E) (res : Result SshsigAnswer AuditError) → r ≡ Ok v
+pub none_reported : {E : Type 0} (r : Result Sshsig AuditError) (v : Sshsig) (namespace : List ℕ) (x : E) (res : Result SshsigAnswer AuditError) → r ≡ Ok v
     → (v.namespace ≢ namespace → ◌≡◌ {A = Result SshsigAnswer E} (Err x) (Ok OtherNamespace))
     → OfClaim r (λ y. y.namespace ≢ namespace → res ≡ Ok OtherNamespace)
-none_told r v namespace x res e h = rw e (λ other. no-ok x OtherNamespace OtherNamespace res (h other))
+none_reported r v namespace x res e h = rw e (λ other. no-ok x OtherNamespace OtherNamespace res (h other))

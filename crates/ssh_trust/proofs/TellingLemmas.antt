@@ -273,27 +273,27 @@ verified-user claim e v = (verification-is e.options claim.offer claim.signature
 unverified : (claim : LoginClaim) (e : AuthEntry) → verified_by claim e ≡ false → ¬ VerificationSuffices e.options claim.offer claim.signature
 unverified claim e v = λ h. let bad : true ≡ false = sym ((verification-is e.options claim.offer claim.signature).1 h) ∙ v in cc
 
-login-told-at : (file : List ℕ) (claim : LoginClaim) (vouched : List Signed) (i : ℕ) (e : AuthEntry) → AreBytes file → IsCandidate file claim i e
+login-reported-at : (file : List ℕ) (claim : LoginClaim) (vouched : List Signed) (i : ℕ) (e : AuthEntry) → AreBytes file → IsCandidate file claim i e
     → (touched : Bool) → touched_by claim e ≡ touched → (verified : Bool) → verified_by claim e ≡ verified
     → (unvouched : Option ℕ) → first_unvouched vouched (login_evidence claim) ≡ unvouched
     → LoginTells file claim vouched (decision_by (login_evidence claim) (candidate_at claim (i, e)) (cause_by touched verified unvouched) (reasons_of (verdicts claim file)))
-login-told-at file claim vouched i e bytes c false t verified v unvouched u = ((i, e, c, untouched claim e t), login-reasons file claim bytes)
-login-told-at file claim vouched i e bytes c true t false v unvouched u = ((i, e, c, touched claim e t, unverified claim e v), login-reasons file claim bytes)
-login-told-at file claim vouched i e bytes c true t true v (Some k) u =
+login-reported-at file claim vouched i e bytes c false t verified v unvouched u = ((i, e, c, untouched claim e t), login-reasons file claim bytes)
+login-reported-at file claim vouched i e bytes c true t false v unvouched u = ((i, e, c, touched claim e t, unverified claim e v), login-reasons file claim bytes)
+login-reported-at file claim vouched i e bytes c true t true v (Some k) u =
     ((i, e, c, touched claim e t, verified-user claim e v, first-unvouched vouched (login_evidence claim) k u), login-reasons file claim bytes)
-login-told-at file claim vouched i e bytes c true t true v None u = login-reasons file claim bytes
+login-reported-at file claim vouched i e bytes c true t true v None u = login-reasons file claim bytes
 
-login-told-by : (file : List ℕ) (claim : LoginClaim) (vouched : List Signed) → AreBytes file
+login-reported-by : (file : List ℕ) (claim : LoginClaim) (vouched : List Signed) → AreBytes file
     → (c : Option (ℕ × AuthEntry)) → candidate_of (verdicts claim file) ≡ c
     → LoginTells file claim vouched (decision_of (login_evidence claim) vouched (option_map (candidate_at claim) c) (reasons_of (verdicts claim file)))
-login-told-by file claim vouched bytes None none =
+login-reported-by file claim vouched bytes None none =
     (no-candidate (line_verdict claim) (login-judges claim) file none, login-reasons file claim bytes)
-login-told-by file claim vouched bytes (Some c) some =
-    login-told-at file claim vouched c.0 c.1 bytes (candidate-is (line_verdict claim) (login-judges claim) file c.0 c.1 bytes some) _ refl _ refl _ refl
+login-reported-by file claim vouched bytes (Some c) some =
+    login-reported-at file claim vouched c.0 c.1 bytes (candidate-is (line_verdict claim) (login-judges claim) file c.0 c.1 bytes some) _ refl _ refl _ refl
 
-pub login_told : (file : List ℕ) (claim : LoginClaim) (vouched : List Signed) → AreBytes file → LoginTells file claim vouched (login_decision file claim vouched)
+pub login_reported : (file : List ℕ) (claim : LoginClaim) (vouched : List Signed) → AreBytes file → LoginTells file claim vouched (login_decision file claim vouched)
 unfolding login_decision
-login_told file claim vouched bytes = login-told-by file claim vouched bytes _ refl
+login_reported file claim vouched bytes = login-reported-by file claim vouched bytes _ refl
 
 -- ---- hosts
 
@@ -336,19 +336,19 @@ host-trust-by file claim vouched bytes r b (Some found) c (Some k) v =
     (((unrevoked, no_unreadable_revocation), (found.0, found.1, candidate, first-unvouched vouched (host_evidence claim) k v)), host-reasons file claim bytes)
 host-trust-by file claim vouched bytes r b (Some found) c None v = host-reasons file claim bytes
 
-host-told-by : (file : List ℕ) (claim : HostClaim) (vouched : List Signed) → AreBytes file
+host-reported-by : (file : List ℕ) (claim : HostClaim) (vouched : List Signed) → AreBytes file
     → (revoked : Option ℕ) → first_number (revokes_by claim) 1 (lines_of file) ≡ revoked
     → (unreadable_revocation : Option ℕ) → first_number is_blind 1 (lines_of file) ≡ unreadable_revocation
     → HostTells file claim vouched (host_decision_by (revocation_cause revoked unreadable_revocation)
     (option_map admitting_number (candidate_of (host_verdicts claim file))) (first_unvouched vouched (host_evidence claim))
     (reasons_of (host_verdicts claim file)) (host_evidence claim))
-host-told-by file claim vouched bytes (Some n) r unreadable_revocation b =
+host-reported-by file claim vouched bytes (Some n) r unreadable_revocation b =
     (least-at (revokes_by claim) (RevokesOwn claim.offer) (revokes-decides claim) file bytes n r, host-reasons file claim bytes)
-host-told-by file claim vouched bytes None r (Some n) b =
+host-reported-by file claim vouched bytes None r (Some n) b =
     let unrevoked = none-at (revokes_by claim) (RevokesOwn claim.offer) (revokes-decides claim) file bytes r in
     ((unrevoked, least-at is_blind Blind unreadable_revocation-decides file bytes n b), host-reasons file claim bytes)
-host-told-by file claim vouched bytes None r None b = host-trust-by file claim vouched bytes r b _ refl _ refl
+host-reported-by file claim vouched bytes None r None b = host-trust-by file claim vouched bytes r b _ refl _ refl
 
-pub host_told : (file : List ℕ) (claim : HostClaim) (vouched : List Signed) → AreBytes file → HostTells file claim vouched (host_decision file claim vouched)
+pub host_reported : (file : List ℕ) (claim : HostClaim) (vouched : List Signed) → AreBytes file → HostTells file claim vouched (host_decision file claim vouched)
 unfolding host_decision host_scan_of
-host_told file claim vouched bytes = host-told-by file claim vouched bytes _ refl _ refl
+host_reported file claim vouched bytes = host-reported-by file claim vouched bytes _ refl _ refl

@@ -5,7 +5,7 @@ use Rattle.ssh_trust.specs.Answer.{host_answer}
 use Rattle.ssh_trust.specs.HostDecision.{HostMeans}
 use Rattle.ssh_trust.specs.Telling.{HostTells}
 use Rattle.ssh_decisions_c.specs.Asked.{host_asked, signed_of}
-use Rattle.ssh_decisions_c.proofs.ToldLemmas.{host_answers, host_same, host_with, memory_answers}
+use Rattle.ssh_decisions_c.proofs.ReportedLemmas.{host_answers, host_same, host_with, memory_answers}
 use Rattle.ssh_decisions_c.proofs.host_call.decide_host.Goals as goal
 
 pub returns-in-Err : goal.returns-in-Err

@@ -8,7 +8,7 @@ use Rattle.ssh_trust.specs.Telling.{HostTells}
 use Rattle.ssh_decisions_c.specs.Answered.{AnswersHost, LendsReasons}
 use Rattle.ssh_decisions_c.specs.Asked.{host_asked, signed_of}
 use Rattle.ssh_decisions_c.specs.declared.decided.LineReason.{LineReason}
-use Rattle.ssh_decisions_c.proofs.ToldLemmas.{answers_or_memory, host_denied, host_granted, host_passed}
+use Rattle.ssh_decisions_c.proofs.ReportedLemmas.{answers_or_memory, host_denied, host_granted, host_passed}
 use Rattle.ssh_decisions_c.proofs.host_call.ssh_audit_host.Goals as goal
 
 pub returns : goal.returns

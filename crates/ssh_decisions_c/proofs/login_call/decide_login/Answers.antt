@@ -5,7 +5,7 @@ use Rattle.ssh_trust.specs.Answer.{login_answer}
 use Rattle.ssh_trust.specs.LoginDecision.{LoginMeans}
 use Rattle.ssh_trust.specs.Telling.{LoginTells}
 use Rattle.ssh_decisions_c.specs.Asked.{login_asked, signed_of}
-use Rattle.ssh_decisions_c.proofs.ToldLemmas.{login_answers, login_same, login_with, memory_answers}
+use Rattle.ssh_decisions_c.proofs.ReportedLemmas.{login_answers, login_same, login_with, memory_answers}
 use Rattle.ssh_decisions_c.proofs.login_call.decide_login.Goals as goal
 
 pub returns-then-not-is_short : goal.returns-then-not-is_short

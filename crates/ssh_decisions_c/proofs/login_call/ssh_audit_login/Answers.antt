@@ -10,7 +10,7 @@ use Rattle.ssh_decisions_c.specs.Asked.{login_asked, signed_of}
 use Rattle.ssh_decisions_c.specs.declared.decided.CarriedText.{CarriedText}
 use Rattle.ssh_decisions_c.specs.declared.decided.LineReason.{LineReason}
 use Rattle.ssh_decisions_c.specs.declared.decided.LoginDecided.{LoginDecided}
-use Rattle.ssh_decisions_c.proofs.ToldLemmas.{answers_or_memory, login_denied, login_granted, login_passed}
+use Rattle.ssh_decisions_c.proofs.ReportedLemmas.{answers_or_memory, login_denied, login_granted, login_passed}
 use Rattle.ssh_decisions_c.proofs.login_call.ssh_audit_login.Goals as goal
 
 pub returns : goal.returns
@@ -24,7 +24,7 @@ returns c =
     let answers : AnswersLogin file asked vouched answer =
     answers_or_memory LoginClaim (login_claim asked) (IsLoginClaim asked) (λ claim. login_answer file claim vouched) (λ claim. LoginMeans file claim vouched)
     (λ claim. LoginTells file claim vouched) c.decide_login.result answer c.tell-telling.ensures.1 c.decide_login.ensures in
-    let told : TellsLogin answer decided c.args.reasons.now c.lend.new.out c.args.carried.now c.lend-2.new.out c.args.texts.now c.lend-3.new.out =
+    let reported : TellsLogin answer decided c.args.reasons.now c.lend.new.out c.args.carried.now c.lend-2.new.out c.args.texts.now c.lend-3.new.out =
     record {
       decision = is.decision;
       rights = is.rights.numbers;
@@ -33,8 +33,8 @@ returns c =
       texts = c.lend-3.ensures.0 ∙ ap (λ (l : List ℕ). filled l c.args.texts.now) (c.as_slice-3.ensures.value ∙ is.rights.texts);
     } in
     record {
-      answer = (answer, answers, told);
-      granted = λ claim of zero. login_granted file claim vouched answer decided _ _ _ _ _ _ told (answers.means claim of) zero;
-      denied = λ claim of one. login_denied file claim vouched answer decided.decision told.decision (answers.means claim of) (answers.tells claim of) one;
-      passed_over = λ claim of few. login_passed file claim vouched answer decided.decision _ _ told.decision told.reasons (answers.tells claim of) few;
+      answer = (answer, answers, reported);
+      granted = λ claim of zero. login_granted file claim vouched answer decided _ _ _ _ _ _ reported (answers.means claim of) zero;
+      denied = λ claim of one. login_denied file claim vouched answer decided.decision reported.decision (answers.means claim of) (answers.tells claim of) one;
+      passed_over = λ claim of few. login_passed file claim vouched answer decided.decision _ _ reported.decision reported.reasons (answers.tells claim of) few;
     }

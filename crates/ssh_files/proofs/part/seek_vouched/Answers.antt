@@ -1,5 +1,5 @@
 use Rattle.ssh_files.proofs.Imports.{◌≡◌, ℕ, List, refl, after_part, part_at, second_rest, seeker_rest, sought_of}
-use Rattle.ssh_files.proofs.SeekingLemmas.{both_told, second_lines}
+use Rattle.ssh_files.proofs.SeekingLemmas.{both_reported, second_lines}
 use Rattle.ssh_files.proofs.part.seek_vouched.Goals as goal
 use Rattle.ssh_files.proofs.part.seek_vouched.Goals.{in-Some, in-None}
 
@@ -13,7 +13,7 @@ returns-clause-bytes g c =
       | in-Some w ↦ λ l. rw (w.seekers-is, w.in-Some.is) (w.new-in-Some.ensures l)
       | in-None w ↦ λ l. rw (w.seekers-is, w.in-None.is) refl
     ] in
-    both_told (sought_of c.args.first) (sought_of c.args.second)
+    both_reported (sought_of c.args.first) (sought_of c.args.second)
     (seeker_rest c.new.result) (seeker_rest seekers.first) (second_rest second) (second_rest seekers.second)
     name (λ s. part_at s name) (λ s. after_part s name) (g.F.Files.source_state c.args.files.now) (g.F.Files.source_state c.take_vouch_file.new.files)
     c.in_ok-take_vouch_file.field-0 c.finish.result c.new.ensures begun c.finish.ensures c.in_ok-take_vouch_file.ensures.bytes

@@ -6,4 +6,4 @@ use Rattle.ssh_page.proofs.file.push_each_class.Goals as goal
 
 pub returns : goal.returns
 returns c =
-    subst (λ m. c.loop-code.out.items ≡ c.args.out.now.items ++ m) (sym (each_marks class_of c.args.told.now)) (grind (arith, common_steps))
+    subst (λ m. c.loop-code.out.items ≡ c.args.out.now.items ++ m) (sym (each_marks class_of c.args.reported.now)) (grind (arith, common_steps))

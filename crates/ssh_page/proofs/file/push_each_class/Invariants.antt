@@ -6,5 +6,5 @@ use Rattle.ssh_page.proofs.file.push_each_class.Given as goal
 
 abbrev pub invariant-loop-code : goal.invariant-loop-code
 invariant-loop-code l =
-    l.out.items ++ flat_map (λ c. marks (class_of c)) (drop l.code-index l.told)
-    ≡ l.initial.out.items ++ flat_map (λ c. marks (class_of c)) l.told
+    l.out.items ++ flat_map (λ c. marks (class_of c)) (drop l.code-index l.reported)
+    ≡ l.initial.out.items ++ flat_map (λ c. marks (class_of c)) l.reported

@@ -1,4 +1,4 @@
-use Rattle.ssh_program.proofs.Imports.{map, response, client_seen, told_seen}
+use Rattle.ssh_program.proofs.Imports.{map, response, client_seen, reported_seen}
 use Rattle.std.proofs.lemmas.List.{length-map}
 use Rattle.ssh_review.specs.Asked.{asked_of}
 use Rattle.ssh_program.proofs.ByFingerprintLemmas.{addressed, unaddressed}
@@ -12,5 +12,5 @@ returns-in-Err g c =
 pub returns-in_ok-response-in-Ok : goal.returns-in_ok-response-in-Ok
 returns-in_ok-response-in-Ok g c =
     addressed response (client_seen c.args.client.now) c.who.result (asked_of c.at.result) c.args.digest.now (map (λ name. name.now) c.args.names.now)
-    (g.F.Files.source_state c.args.files.now) (g.F.Files.source_state c.tell_files.new.files) (told_seen c.in_ok-told-in-Ok.told) c.in_ok-response-in-Ok.response _ _
-    c.in-Ok.ensures.value c.who.ensures c.at.ensures (rw (length-map c.args.names.now (λ name. name.now)) c.in_ok-response-in-Ok.ensures) c.in_ok-told-in-Ok.ensures
+    (g.F.Files.source_state c.args.files.now) (g.F.Files.source_state c.tell_files.new.files) (reported_seen c.in_ok-reported-in-Ok.reported) c.in_ok-response-in-Ok.response _ _
+    c.in-Ok.ensures.value c.who.ensures c.at.ensures (rw (length-map c.args.names.now (λ name. name.now)) c.in_ok-response-in-Ok.ensures) c.in_ok-reported-in-Ok.ensures

@@ -1,8 +1,8 @@
-use Rattle.ssh_program.proofs.Imports.{drop, map, Leads, IfTells, told_both, nothing_told, client_seen, fingerprint_telling}
+use Rattle.ssh_program.proofs.Imports.{drop, map, Leads, IfTells, reported_both, nothing_reported, client_seen, fingerprint_telling}
 use Rattle.ssh_program.proofs.by_fingerprint.tell_files.Given as goal
 
 abbrev pub invariant-loop-name : goal.invariant-loop-name
 invariant-loop-name g l =
-    IfTells (g.F.Files.source_state l.fn.files) (λ s. Leads told_both (fingerprint_telling (client_seen l.client) l.digest) nothing_told
+    IfTells (g.F.Files.source_state l.fn.files) (λ s. Leads reported_both (fingerprint_telling (client_seen l.client) l.digest) nothing_reported
     (map (λ name. name.now) l.names) s
     (map (λ name. name.now) (drop l.name-index l.names)) (g.F.Files.source_state l.files) (record { outcome = l.outcome; text = l.text.items }))

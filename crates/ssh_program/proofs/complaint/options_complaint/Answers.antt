@@ -7,5 +7,5 @@ use Rattle.ssh_program.proofs.complaint.options_complaint.Goals as goal
 pub loop-row-preserved : goal.loop-row-preserved
 loop-row-preserved c =
     wrong_later (option_wrong c.args.command (map word_seen c.args.words.now)) _ _ _ _
-    (at_drop_more (λ rows. rows) c.told_options-row-items.result.now c.loop-row.row-index _ c.loop-row-test.true)
+    (at_drop_more (λ rows. rows) c.reported_options-row-items.result.now c.loop-row.row-index _ c.loop-row-test.true)
     c.in_default.ensures c.loop-row.invariant

@@ -1,6 +1,6 @@
 use Rattle.std.proofs.Common.{◌∙◌, map, sym}
 use Rattle.ssh_program.specs.WordPlacesView.{word_seen}
-use Rattle.ssh_program.proofs.FilesFromLemmas.{asked_failed, asked_told}
+use Rattle.ssh_program.proofs.FilesFromLemmas.{asked_failed, asked_reported}
 use Rattle.ssh_program.proofs.files_from.asked_by.Goals as goal
 
 pub returns-in-Err : goal.returns-in-Err

@@ -13,7 +13,7 @@ returns-in-Ok g c =
 pub returns-in-Err : goal.returns-in-Err
 returns-in-Err g c =
     let state = g.F.Files.source_state c.args.files.now in
-    let told : IfTells state (λ s. IfOk c.show_fault.result (λ r. RespondsTo (SeeksKey c.args.kind c.args.form c.args.rule.now (asking_of c.args.asked.now) (map (λ name. name.now) c.args.names.now))
+    let reported : IfTells state (λ s. IfOk c.show_fault.result (λ r. RespondsTo (SeeksKey c.args.kind c.args.form c.args.rule.now (asking_of c.args.asked.now) (map (λ name. name.now) c.args.names.now))
     (or_key_fault (shown_offer_in c.args.line.now)) s state (response r))) = search rules in
     writes_made (λ s. RespondsTo (SeeksKey c.args.kind c.args.form c.args.rule.now (asking_of c.args.asked.now) (map (λ name. name.now) c.args.names.now)) (or_key_fault (shown_offer_in c.args.line.now)) s state)
-    state c.show_fault.result (g.W.Sink.account c.args.writer.now) (g.W.Sink.account c.put_made.new.writer) c.put_made.result told c.put_made.ensures
+    state c.show_fault.result (g.W.Sink.account c.args.writer.now) (g.W.Sink.account c.put_made.new.writer) c.put_made.result reported c.put_made.ensures

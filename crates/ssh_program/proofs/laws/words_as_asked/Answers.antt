@@ -1,4 +1,4 @@
-use Rattle.ssh_program.proofs.Imports.{hosts_asked, key_places_asked, keys_asked, logins_asked, others_asked, reviews_asked, texts_are_asked, usage_told, words_refused}
+use Rattle.ssh_program.proofs.Imports.{hosts_asked, key_places_asked, keys_asked, logins_asked, others_asked, reviews_asked, texts_are_asked, usage_reported, words_refused}
 use Rattle.ssh_program.proofs.laws.words_as_asked.Goals as goal
 
 pub returns : goal.returns
@@ -11,5 +11,5 @@ returns c = record {
   others = others_asked;
   reviews = reviews_asked;
   refused = words_refused;
-  usage = usage_told;
+  usage = usage_reported;
 }

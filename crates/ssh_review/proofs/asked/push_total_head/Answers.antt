@@ -9,5 +9,5 @@ returns c =
     let out = c.args.out.now.items in
     let is = codes "{\"what\":\"total\"" in
     let format = number_field (codes "format") 2 in
-    let told = both out is format _ _ c.in_ok-extend_from_slice.ensures.items c.in_ok-push_number_field.ensures in
-    both out (is ++ format) program_field _ _ told c.in_ok-push_program.ensures
+    let reported = both out is format _ _ c.in_ok-extend_from_slice.ensures.items c.in_ok-push_number_field.ensures in
+    both out (is ++ format) program_field _ _ reported c.in_ok-push_program.ensures

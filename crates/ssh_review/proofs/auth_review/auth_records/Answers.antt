@@ -10,5 +10,5 @@ returns c =
     let file = c.args.file.now in
     let lines = numbered 1 (lines_of file) in
     first-left AuthTells form asking name file (records_of form asking name [] lines) (of_all (counts_of asking [] lines)) c.new-earlier.result lines c.in_ok-records.records
-    c.in_ok-records.ensures.earlier (ap (λ s. numbered s.0 (lines_of s.1)) c.in_ok-records.ensures.lines) c.in_ok-records.ensures.told (auth-fits asking file c.requires)
+    c.in_ok-records.ensures.earlier (ap (λ s. numbered s.0 (lines_of s.1)) c.in_ok-records.ensures.lines) c.in_ok-records.ensures.reported (auth-fits asking file c.requires)
     (auth-first form asking name file c.new-earlier.result (AreBytes-from file (λ i. omega (arith, c.type_inv.file i))) c.new-earlier.ensures.stands c.new-earlier.ensures.bytes c.new-earlier.ensures.keys)

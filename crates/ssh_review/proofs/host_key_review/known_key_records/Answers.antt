@@ -12,5 +12,5 @@ returns c =
     let sought = c.args.sought.now in
     let lines = numbered 1 (lines_of file) in
     first-left KnownKeyTells form asking name file (host_key_records_of sought form asking name [] lines) (host_key_counts_of sought asking [] lines) _ lines c.in_ok-records.records
-    c.in_ok-records.ensures.earlier (ap (λ s. numbered s.0 (lines_of s.1)) c.in_ok-records.ensures.lines) c.in_ok-records.ensures.told (known-key-fits sought asking file c.requires)
+    c.in_ok-records.ensures.earlier (ap (λ s. numbered s.0 (lines_of s.1)) c.in_ok-records.ensures.lines) c.in_ok-records.ensures.reported (known-key-fits sought asking file c.requires)
     (record { before = []; stored = c.new-earlier.ensures.stands; are_records = refl; are_counts = refl })

@@ -1,6 +1,6 @@
 use Rattle.ssh_review.proofs.Imports.{◌∙◌, ◌++◌, ap, lines_of, numbered}
 use Rattle.ssh_review.specs.Readable.{left_out, left_out_of}
-use Rattle.ssh_review.proofs.ReadableLemmas.{left_out_at, told-none, told-step}
+use Rattle.ssh_review.proofs.ReadableLemmas.{left_out_at, reported-none, reported-step}
 use Rattle.ssh_review.proofs.readable.left_out.Goals as goal
 
 pub loop-number-preserved : goal.loop-number-preserved
@@ -10,7 +10,7 @@ loop-number-preserved c =
     let said = ap (left_out_of number) c.read_auth_view-view.ensures.exact in (
       tt,
       tt,
-      told-step left_out_at (number, line) (numbered (c.loop-number.number-iterator).0 (lines_of (c.loop-number.number-iterator).1))
+      reported-step left_out_at (number, line) (numbered (c.loop-number.number-iterator).0 (lines_of (c.loop-number.number-iterator).1))
           (numbered (c.next.new.self).0 (lines_of (c.next.new.self).1)) c.loop-number.text.items c.push_left_out_of.new.out.items _
           c.in-Some.ensures.steps (c.in_ok-push_left_out_of.ensures ∙ ap (λ t. c.loop-number.text.items ++ t) said) c.loop-number.invariant.2,
     )
@@ -18,5 +18,5 @@ loop-number-preserved c =
 pub returns : goal.returns
 unfolding left_out
 returns c =
-    told-none left_out_at (numbered (c.loop-number.number-iterator).0 (lines_of (c.loop-number.number-iterator).1)) c.loop-number.text.items _
+    reported-none left_out_at (numbered (c.loop-number.number-iterator).0 (lines_of (c.loop-number.number-iterator).1)) c.loop-number.text.items _
     c.in-None.ensures.steps.0 c.loop-number.invariant.2

@@ -21,7 +21,7 @@ returns g c =
     let makes = made-on tells c.args.form asking c.args.name.now c.args.begun c.loop-text.records c.push_some.new.self [] c.loop-text.text.items c.push_some.new.out.items
     c.loop-text.invariant c.in_ok-push_some.ensures.made in
     λ text all w.
-    ◌∙◌ {b = reviewed_by c.args.form c.args.name.now c.args.file.now c.push_some.new.out.items c.push_some.new.self.told}
+    ◌∙◌ {b = reviewed_by c.args.form c.args.name.now c.args.file.now c.push_some.new.out.items c.push_some.new.self.reported}
     c.in_ok-reviewed.ensures
     (whole-made tells c.args.form asking c.args.name.now c.args.file.now text c.push_some.new.out.items all c.args.begun c.push_some.new.self makes
     (c.in_ok-push_some.ensures.over c.if-branch.false) w)

@@ -1,5 +1,5 @@
-use Rattle.ssh_trust.proofs.TellingLemmas.{host_told}
+use Rattle.ssh_trust.proofs.TellingLemmas.{host_reported}
 use Rattle.ssh_trust.proofs.laws.host_telling_rule.Goals as goal
 
 pub returns : goal.returns
-returns c = host_told
+returns c = host_reported

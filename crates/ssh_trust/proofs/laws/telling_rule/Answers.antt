@@ -1,5 +1,5 @@
-use Rattle.ssh_trust.proofs.TellingLemmas.{login_told}
+use Rattle.ssh_trust.proofs.TellingLemmas.{login_reported}
 use Rattle.ssh_trust.proofs.laws.telling_rule.Goals as goal
 
 pub returns : goal.returns
-returns c = login_told
+returns c = login_reported

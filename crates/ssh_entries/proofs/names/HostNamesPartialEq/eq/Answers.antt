@@ -5,6 +5,6 @@ use Rattle.ssh_entries.proofs.names.HostNamesPartialEq.eq.Goals as goal
 
 pub returns-clause-same : goal.returns-clause-same
 returns-clause-same c =
-    let told = same-names c.args.self.now c.args.other.now c.text.result.now c.text-2.result.now c.text.ensures.spelled c.text-2.ensures.spelled in
+    let reported = same-names c.args.self.now c.args.other.now c.text.result.now c.text-2.result.now c.text.ensures.spelled c.text-2.ensures.spelled in
     let is : c.eq.result ≡ bytes_eq c.text.result.now c.text-2.result.now = cc in
-    rw is told
+    rw is reported

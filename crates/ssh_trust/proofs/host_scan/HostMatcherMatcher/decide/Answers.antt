@@ -1,5 +1,5 @@
 use Rattle.ssh_trust.proofs.Imports.{◌∙◌, List, ap, sym, subst, Signed, host_evidence, HostClaim, HostDecides, host_decision_of, host_line_most, host_width}
-use Rattle.ssh_trust.proofs.TellingLemmas.{host_told}
+use Rattle.ssh_trust.proofs.TellingLemmas.{host_reported}
 use Rattle.ssh_trust.proofs.HostMeaningLemmas.{host_means}
 use Rattle.ssh_trust.proofs.SearchLemmas.{host-decided}
 use Rattle.ssh_trust.proofs.LengthLemmas.{host-fits}
@@ -17,7 +17,7 @@ returns-clause-decided c file h =
 pub returns-clause-means : goal.returns-clause-means
 returns-clause-means c file h are =
     subst (λ d. HostDecides file c.args.self.now c.args.vouched.now d) (sym (returns-clause-decided c file h))
-    (host_means file c.args.self.now c.args.vouched.now are, host_told file c.args.self.now c.args.vouched.now are)
+    (host_means file c.args.self.now c.args.vouched.now are, host_reported file c.args.self.now c.args.vouched.now are)
 
 pub returns-clause-width : goal.returns-clause-width
 returns-clause-width c file are =

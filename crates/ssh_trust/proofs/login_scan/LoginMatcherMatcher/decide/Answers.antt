@@ -1,5 +1,5 @@
 use Rattle.ssh_trust.proofs.Imports.{◌∙◌, List, ap, sym, subst, Signed, login_evidence, LoginClaim, LoginDecides, decision_of, login_width, login_line_most}
-use Rattle.ssh_trust.proofs.TellingLemmas.{login_told}
+use Rattle.ssh_trust.proofs.TellingLemmas.{login_reported}
 use Rattle.ssh_trust.proofs.MeaningLemmas.{login_means}
 use Rattle.ssh_trust.proofs.SearchLemmas.{login-decided}
 use Rattle.ssh_trust.proofs.LengthLemmas.{login-fits}
@@ -17,7 +17,7 @@ returns-clause-decided c file h =
 pub returns-clause-means : goal.returns-clause-means
 returns-clause-means c file h are =
     subst (λ d. LoginDecides file c.args.self.now c.args.vouched.now d) (sym (returns-clause-decided c file h))
-    (login_means file c.args.self.now c.args.vouched.now are, login_told file c.args.self.now c.args.vouched.now are)
+    (login_means file c.args.self.now c.args.vouched.now are, login_reported file c.args.self.now c.args.vouched.now are)
 
 pub returns-clause-width : goal.returns-clause-width
 returns-clause-width c file are =

@@ -1,6 +1,6 @@
 use Rattle.ssh_program.proofs.Imports.{rules, response}
 use Rattle.ssh_program.proofs.KeptLemmas.{found_responds}
-use Rattle.ssh_program.proofs.audit.respond_told.Goals as goal
+use Rattle.ssh_program.proofs.audit.respond_reported.Goals as goal
 
 pub returns-in-Ok : goal.returns-in-Ok
 returns-in-Ok g c file tells =

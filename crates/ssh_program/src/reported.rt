@@ -3,7 +3,7 @@
 
 ghost use Rattle.std.specs.Prelude.{◌≡◌, ◌++◌, OnOk, map, nat_eq, option_map, string_bytes, unwrap_or};
 ghost use Rattle.std.specs.List.{flat_map, starts_with};
-ghost use Rattle.ssh_program.specs.Defaults.{given_words, parts_hosts, parts_if, told_at, told_by, told_option, told_value, told_word, told_words};
+ghost use Rattle.ssh_program.specs.Defaults.{given_words, parts_hosts, parts_if, reported_at, reported_by, reported_option, reported_value, reported_word, reported_words};
 ghost use Rattle.ssh_program.specs.DefaultsView.{around_seen, text_seen};
 ghost use Rattle.ssh_program.specs.HostPortsView.{pair_seen};
 ghost use Rattle.ssh_program.specs.WordPlaces.{is_given};
@@ -25,7 +25,7 @@ fn push_value(
     text: &str,
 ) -> Result<(), AllocError>
     ensures { OnOk result (map string_bytes out.new.items ≡ map string_bytes out.old.items
-        ++ told_value (around_seen around.now) before.now text.now) }
+        ++ reported_value (around_seen around.now) before.now text.now) }
 {
     if before == b"--now".as_slice() {
         push_text(alloc, out, around.given_time.unwrap_or(text))
@@ -64,7 +64,7 @@ fn push_open(
     text: &str,
 ) -> Result<(), AllocError>
     ensures { OnOk result (map string_bytes out.new.items ≡ map string_bytes out.old.items
-        ++ told_option (around_seen around.now) text.now) }
+        ++ reported_option (around_seen around.now) text.now) }
 {
     if text.as_bytes().starts_with(b"--now=".as_slice()) {
         push_given(alloc, out, "--now", around.given_time, text)
@@ -83,7 +83,7 @@ fn push_word(
     word: &Word<'_>,
 ) -> Result<(), AllocError>
     ensures { OnOk result (map string_bytes out.new.items ≡ map string_bytes out.old.items
-        ++ told_word (around_seen around.now) (word_seen word.now)) }
+        ++ reported_word (around_seen around.now) (word_seen word.now)) }
 {
     match word.place {
         Place::Open => push_open(alloc, out, around, word.text),
@@ -110,7 +110,7 @@ fn parts_if<'a>(is_apart: bool, word: &Word<'a>) -> Option<(&'a str, &'a str)>
 }
 
 /// Appends a word of the question, a host and its port as two options.
-fn push_told(
+fn push_reported(
     alloc: Global,
     out: &mut Vec<String>,
     is_apart: bool,
@@ -118,7 +118,7 @@ fn push_told(
     word: &Word<'_>,
 ) -> Result<(), AllocError>
     ensures { OnOk result (map string_bytes out.new.items ≡ map string_bytes out.old.items
-        ++ told_words is_apart (around_seen around.now) (word_seen word.now)) }
+        ++ reported_words is_apart (around_seen around.now) (word_seen word.now)) }
 {
     match parts_if(is_apart, word) {
         Some(parts) => push_parted(alloc, out, word.place, parts),
@@ -135,10 +135,10 @@ pub fn push_words(
     words: &[Word<'_>],
 ) -> Result<(), AllocError>
     ensures { OnOk result (map string_bytes out.new.items ≡ map string_bytes out.old.items
-        ++ flat_map (told_words is_apart (around_seen around.now)) (map word_seen words.now)) }
+        ++ flat_map (reported_words is_apart (around_seen around.now)) (map word_seen words.now)) }
 {
     for word in words {
-        push_told(alloc, out, is_apart, around, word)?;
+        push_reported(alloc, out, is_apart, around, word)?;
     }
     Ok(())
 }

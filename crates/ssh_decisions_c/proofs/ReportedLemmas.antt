@@ -25,7 +25,7 @@ use Rattle.ssh_trust.specs.declared.decision.Decision.{Decision}
 use Rattle.ssh_trust.specs.declared.decision.Decision.TheVariants.{Granted, Denied}
 use Rattle.ssh_decisions_c.specs.Answered.{AnswersHost, AnswersLogin, AreHostReasons, AreLoginReasons, IsAnswer, LendsReasons, TellsDenial, TellsGrant, TellsLogin, TellsReasons}
 use Rattle.ssh_decisions_c.specs.Asked.{empty_principals_by, host_asked, host_name_by, login_asked}
-use Rattle.ssh_decisions_c.specs.Decided.{carried_in, carried_row, reason_row, rights_told, texts_in, told_of}
+use Rattle.ssh_decisions_c.specs.Decided.{carried_in, carried_row, reason_row, rights_reported, texts_in, reported_of}
 use Rattle.ssh_decisions_c.specs.declared.asked.HostAsked.{HostAsked}
 use Rattle.ssh_decisions_c.specs.declared.asked.LoginAsked.{LoginAsked}
 use Rattle.ssh_decisions_c.specs.declared.decided.CarriedText.{CarriedText}
@@ -51,11 +51,11 @@ memory_answers C claim IsClaim answers Means Tells = record {
 
 -- an answer, or the fault of memory in its place
 pub answers_or_memory : (C : Type 0) (claim : Result C AuditError) (IsClaim : C → Type 0) (answers : C → Result Decision AuditError) (Means Tells : C → Decision → Type 0)
-    (answer told : Result Decision AuditError) → (told ≡ answer) ⊎ (told ≡ Err Memory)
-    → IsAnswer C claim IsClaim answers Means Tells answer → IsAnswer C claim IsClaim answers Means Tells told
-answers_or_memory C claim IsClaim answers Means Tells answer told (inl same) is =
+    (answer reported : Result Decision AuditError) → (reported ≡ answer) ⊎ (reported ≡ Err Memory)
+    → IsAnswer C claim IsClaim answers Means Tells answer → IsAnswer C claim IsClaim answers Means Tells reported
+answers_or_memory C claim IsClaim answers Means Tells answer reported (inl same) is =
     subst (λ (r : Result Decision AuditError). IsAnswer C claim IsClaim answers Means Tells r) (sym same) is
-answers_or_memory C claim IsClaim answers Means Tells answer told (inr memory) is =
+answers_or_memory C claim IsClaim answers Means Tells answer reported (inr memory) is =
     subst (λ (r : Result Decision AuditError). IsAnswer C claim IsClaim answers Means Tells r) (sym memory)
     (memory_answers C claim IsClaim answers Means Tells)
 
@@ -106,13 +106,13 @@ count_of d e same = ap (λ (d : Decided). d.reasons_length) same
 
 -- a denial, by its cause
 denial : (E : Type 0) (IsGranted : ℕ → E → Type 0) (IsCause : Cause → Type 0) (why : Cause) (reasons : List (ℕ × Reason)) (evidence : List Signed) (d : Decided)
-    → d ≡ told_of (Ok (Denied why reasons evidence)) → ((line : ℕ) (e : E) → IsGranted line e → ⊥) → IsCause why → TellsDenial E IsGranted IsCause d
-denial E IsGranted IsCause why reasons evidence d told none cause = record {
+    → d ≡ reported_of (Ok (Denied why reasons evidence)) → ((line : ℕ) (e : E) → IsGranted line e → ⊥) → IsCause why → TellsDenial E IsGranted IsCause d
+denial E IsGranted IsCause why reasons evidence d reported none cause = record {
   none = none;
   why = why;
   cause = cause;
-  code = ap (λ (d : Decided). d.code) told;
-  number = number_of d _ told;
+  code = ap (λ (d : Decided). d.code) reported;
+  number = number_of d _ reported;
 }
 
 -- the reasons of a decision
@@ -124,72 +124,72 @@ passed AreThese reasons d old new count rows these = record { reasons = reasons;
 
 pub login_granted : (file : List ℕ) (claim : LoginClaim) (vouched : List Signed) (r : Result Decision AuditError) (d : LoginDecided) (ro rn : List LineReason) (co cn : List CarriedText) (xo xn : List ℕ)
     → TellsLogin r d ro rn co cn xo xn → IfOk r (LoginMeans file claim vouched) → d.decision.kind ≡ 0 → TellsGrant file claim vouched d co cn xo xn
-login_granted file claim vouched (Ok (Granted line rights reasons evidence)) d ro rn co cn xo xn told means zero =
+login_granted file claim vouched (Ok (Granted line rights reasons evidence)) d ro rn co cn xo xn reported means zero =
     let given : rights ≡ Some (means.2).0 = (means.2).1 in
     record {
       entry = means.0;
-      grant = subst (λ (n : ℕ). IsGrant file claim vouched n means.0) (sym (number_of d.decision _ told.decision)) means.1;
+      grant = subst (λ (n : ℕ). IsGrant file claim vouched n means.0) (sym (number_of d.decision _ reported.decision)) means.1;
       given = (means.2).0;
       rights = (means.2).2;
-      told = told.rights ∙ ap rights_told given;
-      carried = told.carried ∙ ap (λ (g : Option Rights). filled (map carried_row (carried_in g)) co) given;
-      texts = told.texts ∙ ap (λ (g : Option Rights). filled (texts_in g) xo) given;
+      reported = reported.rights ∙ ap rights_reported given;
+      carried = reported.carried ∙ ap (λ (g : Option Rights). filled (map carried_row (carried_in g)) co) given;
+      texts = reported.texts ∙ ap (λ (g : Option Rights). filled (texts_in g) xo) given;
     }
-login_granted file claim vouched (Ok (Denied why reasons evidence)) d ro rn co cn xo xn told means zero =
-    let one : d.decision.kind ≡ 1 = kind_of d.decision _ told.decision in absurd (omega (arith, zero, one))
-login_granted file claim vouched (Err e) d ro rn co cn xo xn told means zero =
-    let two : d.decision.kind ≡ 2 = kind_of d.decision _ told.decision in absurd (omega (arith, zero, two))
+login_granted file claim vouched (Ok (Denied why reasons evidence)) d ro rn co cn xo xn reported means zero =
+    let one : d.decision.kind ≡ 1 = kind_of d.decision _ reported.decision in absurd (omega (arith, zero, one))
+login_granted file claim vouched (Err e) d ro rn co cn xo xn reported means zero =
+    let two : d.decision.kind ≡ 2 = kind_of d.decision _ reported.decision in absurd (omega (arith, zero, two))
 
 pub login_denied : (file : List ℕ) (claim : LoginClaim) (vouched : List Signed) (r : Result Decision AuditError) (d : Decided)
-    → d ≡ told_of r → IfOk r (LoginMeans file claim vouched) → IfOk r (LoginTells file claim vouched) → d.kind ≡ 1
+    → d ≡ reported_of r → IfOk r (LoginMeans file claim vouched) → IfOk r (LoginTells file claim vouched) → d.kind ≡ 1
     → TellsDenial AuthEntry (IsGrant file claim vouched) (LoginCause file claim vouched) d
-login_denied file claim vouched (Ok (Granted line rights reasons evidence)) d told means tells one =
-    let zero : d.kind ≡ 0 = kind_of d _ told in absurd (omega (arith, zero, one))
-login_denied file claim vouched (Ok (Denied why reasons evidence)) d told means tells one =
-    denial AuthEntry (IsGrant file claim vouched) (LoginCause file claim vouched) why reasons evidence d told means.0 tells.0
-login_denied file claim vouched (Err e) d told means tells one =
-    let two : d.kind ≡ 2 = kind_of d _ told in absurd (omega (arith, one, two))
+login_denied file claim vouched (Ok (Granted line rights reasons evidence)) d reported means tells one =
+    let zero : d.kind ≡ 0 = kind_of d _ reported in absurd (omega (arith, zero, one))
+login_denied file claim vouched (Ok (Denied why reasons evidence)) d reported means tells one =
+    denial AuthEntry (IsGrant file claim vouched) (LoginCause file claim vouched) why reasons evidence d reported means.0 tells.0
+login_denied file claim vouched (Err e) d reported means tells one =
+    let two : d.kind ≡ 2 = kind_of d _ reported in absurd (omega (arith, one, two))
 
 pub login_passed : (file : List ℕ) (claim : LoginClaim) (vouched : List Signed) (r : Result Decision AuditError) (d : Decided) (old new : List LineReason)
-    → d ≡ told_of r → LendsReasons r old new → IfOk r (LoginTells file claim vouched) → d.kind < 2
+    → d ≡ reported_of r → LendsReasons r old new → IfOk r (LoginTells file claim vouched) → d.kind < 2
     → TellsReasons (AreLoginReasons file claim) d old new
-login_passed file claim vouched (Ok (Granted line rights reasons evidence)) d old new told rows tells few =
-    passed (AreLoginReasons file claim) reasons d old new (count_of d _ told) rows tells
-login_passed file claim vouched (Ok (Denied why reasons evidence)) d old new told rows tells few =
-    passed (AreLoginReasons file claim) reasons d old new (count_of d _ told) rows tells.1
-login_passed file claim vouched (Err e) d old new told rows tells few =
-    let two : d.kind ≡ 2 = kind_of d _ told in absurd (omega (arith, few, two))
+login_passed file claim vouched (Ok (Granted line rights reasons evidence)) d old new reported rows tells few =
+    passed (AreLoginReasons file claim) reasons d old new (count_of d _ reported) rows tells
+login_passed file claim vouched (Ok (Denied why reasons evidence)) d old new reported rows tells few =
+    passed (AreLoginReasons file claim) reasons d old new (count_of d _ reported) rows tells.1
+login_passed file claim vouched (Err e) d old new reported rows tells few =
+    let two : d.kind ≡ 2 = kind_of d _ reported in absurd (omega (arith, few, two))
 
 -- ---- a host's key
 
 pub host_granted : (file : List ℕ) (claim : HostClaim) (vouched : List Signed) (r : Result Decision AuditError) (d : Decided)
-    → d ≡ told_of r → IfOk r (HostMeans file claim vouched) → d.kind ≡ 0 → (e : KnownEntry) × IsHostGrant file claim vouched d.number e
-host_granted file claim vouched (Ok (Granted line rights reasons evidence)) d told means zero =
-    (means.0, subst (λ (n : ℕ). IsHostGrant file claim vouched n means.0) (sym (number_of d _ told)) means.1)
-host_granted file claim vouched (Ok (Denied why reasons evidence)) d told means zero =
-    let one : d.kind ≡ 1 = kind_of d _ told in absurd (omega (arith, zero, one))
-host_granted file claim vouched (Err e) d told means zero =
-    let two : d.kind ≡ 2 = kind_of d _ told in absurd (omega (arith, zero, two))
+    → d ≡ reported_of r → IfOk r (HostMeans file claim vouched) → d.kind ≡ 0 → (e : KnownEntry) × IsHostGrant file claim vouched d.number e
+host_granted file claim vouched (Ok (Granted line rights reasons evidence)) d reported means zero =
+    (means.0, subst (λ (n : ℕ). IsHostGrant file claim vouched n means.0) (sym (number_of d _ reported)) means.1)
+host_granted file claim vouched (Ok (Denied why reasons evidence)) d reported means zero =
+    let one : d.kind ≡ 1 = kind_of d _ reported in absurd (omega (arith, zero, one))
+host_granted file claim vouched (Err e) d reported means zero =
+    let two : d.kind ≡ 2 = kind_of d _ reported in absurd (omega (arith, zero, two))
 
 pub host_denied : (file : List ℕ) (claim : HostClaim) (vouched : List Signed) (r : Result Decision AuditError) (d : Decided)
-    → d ≡ told_of r → IfOk r (HostMeans file claim vouched) → IfOk r (HostTells file claim vouched) → d.kind ≡ 1
+    → d ≡ reported_of r → IfOk r (HostMeans file claim vouched) → IfOk r (HostTells file claim vouched) → d.kind ≡ 1
     → TellsDenial KnownEntry (IsHostGrant file claim vouched) (HostCause file claim vouched) d
-host_denied file claim vouched (Ok (Granted line rights reasons evidence)) d told means tells one =
-    let zero : d.kind ≡ 0 = kind_of d _ told in absurd (omega (arith, zero, one))
-host_denied file claim vouched (Ok (Denied why reasons evidence)) d told means tells one =
-    denial KnownEntry (IsHostGrant file claim vouched) (HostCause file claim vouched) why reasons evidence d told means.0 tells.0
-host_denied file claim vouched (Err e) d told means tells one =
-    let two : d.kind ≡ 2 = kind_of d _ told in absurd (omega (arith, one, two))
+host_denied file claim vouched (Ok (Granted line rights reasons evidence)) d reported means tells one =
+    let zero : d.kind ≡ 0 = kind_of d _ reported in absurd (omega (arith, zero, one))
+host_denied file claim vouched (Ok (Denied why reasons evidence)) d reported means tells one =
+    denial KnownEntry (IsHostGrant file claim vouched) (HostCause file claim vouched) why reasons evidence d reported means.0 tells.0
+host_denied file claim vouched (Err e) d reported means tells one =
+    let two : d.kind ≡ 2 = kind_of d _ reported in absurd (omega (arith, one, two))
 
 pub host_passed : (file : List ℕ) (claim : HostClaim) (vouched : List Signed) (r : Result Decision AuditError) (d : Decided) (old new : List LineReason)
-    → d ≡ told_of r → LendsReasons r old new → IfOk r (HostTells file claim vouched) → d.kind < 2
+    → d ≡ reported_of r → LendsReasons r old new → IfOk r (HostTells file claim vouched) → d.kind < 2
     → TellsReasons (AreHostReasons file claim) d old new
-host_passed file claim vouched (Ok (Granted line rights reasons evidence)) d old new told rows tells few =
-    passed (AreHostReasons file claim) reasons d old new (count_of d _ told) rows tells
-host_passed file claim vouched (Ok (Denied why reasons evidence)) d old new told rows tells few =
-    passed (AreHostReasons file claim) reasons d old new (count_of d _ told) rows tells.1
-host_passed file claim vouched (Err e) d old new told rows tells few =
-    let two : d.kind ≡ 2 = kind_of d _ told in absurd (omega (arith, few, two))
+host_passed file claim vouched (Ok (Granted line rights reasons evidence)) d old new reported rows tells few =
+    passed (AreHostReasons file claim) reasons d old new (count_of d _ reported) rows tells
+host_passed file claim vouched (Ok (Denied why reasons evidence)) d old new reported rows tells few =
+    passed (AreHostReasons file claim) reasons d old new (count_of d _ reported) rows tells.1
+host_passed file claim vouched (Err e) d old new reported rows tells few =
+    let two : d.kind ≡ 2 = kind_of d _ reported in absurd (omega (arith, few, two))
 
 -- ---- what is asked
 
