@@ -1,4 +1,5 @@
 pub mod Codes
+pub mod Urgency
 pub mod Asking
 pub mod Telling
 pub mod Lists

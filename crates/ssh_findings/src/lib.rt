@@ -65,6 +65,7 @@ mod recovered_words;
 mod row;
 mod sources;
 mod table;
+mod urgency;
 
 pub use certified_key::known_certified_blob;
 pub use code::{Code, ReviewOptions, parse_codes};
@@ -84,3 +85,4 @@ pub use recovered_key::{HeldKey, held_blob, held_key, known_held_blob, known_hel
 pub use recovered_words::{canonical_blob, key_on_line, openssh_blob};
 pub use row::{Printed, Row, Value};
 pub use sources::is_read_otherwise;
+pub use urgency::{Urgency, how_soon};

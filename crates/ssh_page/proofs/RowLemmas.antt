@@ -21,14 +21,15 @@ use Rattle.ssh_rights.specs.declared.rights.Rights.{Rights}
 use Rattle.ssh_page.specs.declared.piece.Piece.{Piece}
 use Rattle.ssh_page.specs.declared.piece.Piece.TheVariants as piece
 use Rattle.ssh_page.specs.declared.record.RowPlace.{RowPlace}
-use Rattle.ssh_page.specs.declared.classes.Urgency.{Urgency}
-use Rattle.ssh_page.specs.declared.classes.Urgency.TheVariants as urgencies
+use Rattle.ssh_findings.specs.Urgency.{how_soon}
+use Rattle.ssh_findings.specs.declared.urgency.Urgency.{Urgency}
+use Rattle.ssh_findings.specs.declared.urgency.Urgency.TheVariants as urgencies
 use Rattle.ssh_page.specs.Documents.{nothing, put, say, count, after, ◌&◌}
 use Rattle.ssh_page.specs.Findings.{detail, finding_head, finding_part, has_bytes, has_value, line_link, link, names_a_line, value_detail, value_link, value_sentence}
 use Rattle.ssh_page.specs.HostRecords.{bare_row, host_cells, host_entry_row, revoked_cells, revoked_row, role}
 use Rattle.ssh_page.specs.Records.{all_limits, bits_part, carried_part, command_part, comment_part, entry_cells, entry_row, fingerprint_part, flag_part, held_part, is_free, key_part, limits_part, right_marks, right_piece, rights_part, row_classes, row_findings, row_numbers, setting_part, unreadable_row, until_part, words_part}
 use Rattle.ssh_page.specs.Tags.{within, valued}
-use Rattle.ssh_page.specs.Classes.{class_of, class_piece, code_number, how_soon}
+use Rattle.ssh_page.specs.Classes.{class_of, class_piece, code_number}
 use Rattle.ssh_page.proofs.PlaceLemmas.{Leads, here, next, all_stay, may_stay}
 
 abbrev Open : Type 0

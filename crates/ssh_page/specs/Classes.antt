@@ -1,38 +1,14 @@
--- How soon to mend what a finding tells (this project's rule), and the class that its code has on the page.
+-- The class that a code has on the page (this project's rule): how soon to mend what it tells, and the code.
 use Rattle.std.specs.Prelude.{◌+◌, ℕ}
 use denote.Enum.Declared.{tag_of}
 use Rattle.ssh_findings.specs.contracts.code.Code as code_type
 use Rattle.ssh_findings.specs.declared.code.Code.{Code}
-use Rattle.ssh_findings.specs.declared.code.Code.TheVariants as code
+use Rattle.ssh_findings.specs.declared.urgency.Urgency.{Urgency}
+use Rattle.ssh_findings.specs.declared.urgency.Urgency.TheVariants.{Today, Soon, TidyUp, Policy}
+use Rattle.ssh_findings.specs.Urgency.{how_soon}
 use Rattle.ssh_page.specs.declared.piece.Piece.{Piece}
 use Rattle.ssh_page.specs.declared.piece.Piece.TheVariants.{TodayClass, SoonClass, TidyClass, PolicyClass}
-use Rattle.ssh_page.specs.declared.classes.Urgency.{Urgency}
-use Rattle.ssh_page.specs.declared.classes.Urgency.TheVariants.{Today, Soon, TidyUp, Policy}
 use Rattle.ssh_page.specs.Documents.{Document, put, count, ◌&◌}
-
-abbrev pub how_soon : Code → Urgency
-how_soon code.Unreadable = Today
-how_soon code.SameKey = Soon
-how_soon code.NeverDecides = TidyUp
-how_soon code.GivesMore = Today
-how_soon code.ShortKey = Soon
-how_soon code.Expired = TidyUp
-how_soon code.PermitsNobody = Soon
-how_soon code.ReadOtherwise = Today
-how_soon code.ForcedButForwards = Soon
-how_soon code.BlindRevocation = Today
-how_soon code.OtherKey = Today
-how_soon code.TrustedAndRevoked = Today
-how_soon code.PatternHosts = Soon
-how_soon code.EveryHost = Today
-how_soon code.AnyAddress = Policy
-how_soon code.AnyCommand = Policy
-how_soon code.NoExpiry = Policy
-how_soon code.AnyPrincipal = Policy
-how_soon code.NoComment = Policy
-how_soon code.NamesInClear = Policy
-how_soon code.SameHostKey = Policy
-how_soon code.MayRefuse = Today
 
 -- the front of the class of codes that are this urgent
 abbrev pub class_piece : Urgency → Piece

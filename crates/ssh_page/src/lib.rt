@@ -28,7 +28,6 @@ mod piece;
 mod record;
 mod style;
 
-pub use classes::{Urgency, how_soon};
 pub use expanding::expand;
 pub use file::{
     FileClasses, FileKind, FileRow, push_empty_section, push_fault_row, push_fault_section,
