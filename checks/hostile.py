@@ -44,7 +44,7 @@ SIGNATURE = re.compile(rb"denied namespace\n|(vouched|denied N6 0)\n" + EVIDENCE
 SHOWN = re.compile(rb"type [ -~]*\n([a-z-]+ [ -~]*\n)*")
 NEW = re.compile(rb"(.*\n)?", re.DOTALL)
 REVIEWED = re.compile(
-    rb"(-:\d+: [ -~]+\n( {4}[ -~]+\n)*)*-: \d+ lines[ -~]+\ntotal: 1 files, 0 faults[ -~]+\n"
+    rb"(-:\d+: [ -~]+\n( {4}[ -~]+\n)*)*-: \d+ lines[ -~]+\n(F\d+: \d+, [ -~]+\n)*total: 1 files, 0 faults[ -~]+\n"
     rb"|(\{\"file\":\"-\",[ -~]+\}\n)+\{\"what\":\"total\",[ -~]+\}\n"
 )
 # What `readable` says on standard error of lines.

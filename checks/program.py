@@ -42,6 +42,7 @@ import threading
 HERE = pathlib.Path(__file__).resolve().parent
 sys.dont_write_bytecode = True
 sys.path.insert(0, str(HERE.parent / "bench"))
+import explained
 import hurt
 import inputs
 from rewrite import kind_of, loosened
@@ -253,6 +254,16 @@ def asked_at(now=150, zone="UTC0"):
     """What the last line of an answer says of the moment and the zone; `trusts` reads no time in a zone."""
     date = f"{datetime.datetime.fromtimestamp(int(now), datetime.timezone.utc):%Y-%m-%dT%H:%M:%SZ}"
     return f"asked at {now} {date}" + (f", zone {zone}" if zone else "")
+
+
+# The codes of findings, the most urgent first, and what each means.
+WORST_FIRST = [f"F{number}" for number in (1, 4, 8, 10, 11, 12, 14, 22, 2, 5, 7, 9, 13, 3, 6, *range(15, 22))]
+MEANING = {code: sentence for code, sentence, _ in explained.rows_of_page()}
+
+
+def found_text(found):
+    """The lines before a total: how often each of these codes was found, and what it means."""
+    return "".join(f"{code}: {found[code]}, {MEANING[code]}\n" for code in WORST_FIRST if found.get(code))
 
 
 def asked_by(words):

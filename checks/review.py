@@ -31,7 +31,7 @@ import time
 
 sys.dont_write_bytecode = True
 import program
-from program import FILE_LIMIT, HINT, Program, Tally, asked_at, review
+from program import FILE_LIMIT, HINT, WORST_FIRST, Program, Tally, asked_at, found_text, review
 
 HERE = pathlib.Path(__file__).resolve().parent
 DEFAULT = pathlib.Path(program.CRATE) / "out" / "ssh_audit"
@@ -39,7 +39,7 @@ RIGHTS = ("port", "agent", "x11", "pty", "rc")
 AUTH_FIELDS = ["file", "line", "what", "type", "bits", "key", "comment", "options", "rights", "command", "source", "principals", "expires", "shadowed_by", "lets_in", "findings"]
 KNOWN_FIELDS = ["file", "line", "what", "type", "bits", "key", "comment", "names", "findings"]
 END_FIELDS = ["file", "what", "lines", "key_lines", "unreadable", "findings", "sha256", "fault"]
-TOTAL_FIELDS = ["what", "format", "program", "kind", "rsa_minimum", "told", "now", "at", "zone", "files", "faults", "lines", "key_lines", "unreadable", "findings"]
+TOTAL_FIELDS = ["what", "format", "program", "kind", "rsa_minimum", "told", "now", "at", "zone", "files", "faults", "lines", "key_lines", "unreadable", "findings", "findings_by_code"]
 # The first moment of 2026 in UTC, which an expiry time of that day names.
 NEW_YEAR = 1_767_225_600
 FORWARDS = "    F9: its command is forced, but it may still forward: add restrict"
@@ -103,6 +103,12 @@ web1/ann:10: key ssh-rsa 2048 SHA256:Bfvk8D9yagody1EbQdzAz5byw0A51qzcCWURIjCLnN4
     F8 verify-required: OpenSSH lets this key in: it ignores verify-required of a key that is no security key
 web1/ann: 10 lines, 8 key lines, 1 unreadable, 6 findings, sha256 a3b51c142bcda45a43c1dd1d736f45ea9554b013929818c32d1e1950dbd33041
 web1/none: fault A9
+F1: 1, the line cannot be read here, and OpenSSH may read it; the L code follows
+F4: 1, the line never decides: line K has the same key, lets it in first and gives more
+F8: 1, OpenSSH reads the line otherwise: principals= without cert-authority, empty-principal in the list, verify-required of a key that is no security key, local-time of an expiry time without Z where no --zone is given, short-address in from= (127.1), tab after a marker, type of a revocation that is not its key's
+F5: 1, an RSA key of B bits is too short: they are fewer than --rsa-minimum
+F9: 1, the line's command is forced, but it may still forward: add restrict
+F6: 1, the line has expired
 total: 2 files, 1 faults, 10 lines, 8 key lines, 1 unreadable, 6 findings, asked at 1770000000 2026-02-02T02:40:00Z, zone UTC0
 """
 
@@ -117,7 +123,7 @@ WORKED_JSON = r"""{"file":"web1/ann","line":2,"what":"key","type":"ssh-ed25519",
 {"file":"web1/ann","line":10,"what":"key","type":"ssh-rsa","bits":2048,"key":"SHA256:Bfvk8D9yagody1EbQdzAz5byw0A51qzcCWURIjCLnN4","comment":"","options":"verify-required","rights":"port agent x11 pty rc","command":null,"source":null,"principals":null,"expires":null,"shadowed_by":null,"lets_in":true,"findings":[{"code":"F8","detail":"verify-required"}]}
 {"file":"web1/ann","what":"end","lines":10,"key_lines":8,"unreadable":1,"findings":6,"sha256":"a3b51c142bcda45a43c1dd1d736f45ea9554b013929818c32d1e1950dbd33041","fault":null}
 {"file":"web1/none","what":"end","lines":0,"key_lines":0,"unreadable":0,"findings":0,"sha256":null,"fault":"A9"}
-{"what":"total","format":2,"program":"ssh_audit 1.0.0","kind":"auth","rsa_minimum":2048,"told":["F1","F2","F3","F4","F5","F6","F7","F8","F9","F10","F11","F12","F13","F14","F22"],"now":1770000000,"at":"2026-02-02T02:40:00Z","zone":"UTC0","files":2,"faults":1,"lines":10,"key_lines":8,"unreadable":1,"findings":6}
+{"what":"total","format":2,"program":"ssh_audit 1.0.0","kind":"auth","rsa_minimum":2048,"told":["F1","F2","F3","F4","F5","F6","F7","F8","F9","F10","F11","F12","F13","F14","F22"],"now":1770000000,"at":"2026-02-02T02:40:00Z","zone":"UTC0","files":2,"faults":1,"lines":10,"key_lines":8,"unreadable":1,"findings":6,"findings_by_code":{"F1":1,"F4":1,"F5":1,"F6":1,"F8":1,"F9":1}}
 """
 
 # Bytes that are no text: UTF-8, an escape sequence that clears a screen, a byte ff and a CR.
@@ -127,11 +133,12 @@ ODD_TEXT = r"""odd:1: key ssh-ed25519 SHA256:gXMk5B5PxTYWe+Q7kQzHGRTNDb0nrzC3BLT
     command a\x5cb "c" \xc3\xa4
     F9: its command is forced, but it may still forward: add restrict
 odd: 1 lines, 1 key lines, 0 unreadable, 1 findings, sha256 886bbc8ffa56bed5a1030ccd048549abedd0932d9d3863db4d887f07638f2910
+F9: 1, the line's command is forced, but it may still forward: add restrict
 total: 1 files, 0 faults, 1 lines, 1 key lines, 0 unreadable, 1 findings, asked at 1770000000 2026-02-02T02:40:00Z, zone UTC0
 """
 ODD_JSON = r"""{"file":"odd","line":1,"what":"key","type":"ssh-ed25519","bits":null,"key":"SHA256:gXMk5B5PxTYWe+Q7kQzHGRTNDb0nrzC3BLT7EPMvKSg","comment":"m\\xc3\\xbcller\\x1b[2J\\xff","options":"command=\"a\\x5cb \\x5c\"c\\x5c\" \\xc3\\xa4\"","rights":"port agent x11 pty rc","command":"a\\x5cb \"c\" \\xc3\\xa4","source":null,"principals":null,"expires":null,"shadowed_by":null,"lets_in":true,"findings":[{"code":"F9","detail":""}]}
 {"file":"odd","what":"end","lines":1,"key_lines":1,"unreadable":0,"findings":1,"sha256":"886bbc8ffa56bed5a1030ccd048549abedd0932d9d3863db4d887f07638f2910","fault":null}
-{"what":"total","format":2,"program":"ssh_audit 1.0.0","kind":"auth","rsa_minimum":2048,"told":["F1","F2","F3","F4","F5","F6","F7","F8","F9","F10","F11","F12","F13","F14","F22"],"now":1770000000,"at":"2026-02-02T02:40:00Z","zone":"UTC0","files":1,"faults":0,"lines":1,"key_lines":1,"unreadable":0,"findings":1}
+{"what":"total","format":2,"program":"ssh_audit 1.0.0","kind":"auth","rsa_minimum":2048,"told":["F1","F2","F3","F4","F5","F6","F7","F8","F9","F10","F11","F12","F13","F14","F22"],"now":1770000000,"at":"2026-02-02T02:40:00Z","zone":"UTC0","files":1,"faults":0,"lines":1,"key_lines":1,"unreadable":0,"findings":1,"findings_by_code":{"F9":1}}
 """
 POLICY = r"""web1/ann:2: key ssh-ed25519 SHA256:gXMk5B5PxTYWe+Q7kQzHGRTNDb0nrzC3BLT7EPMvKSg laptop@example
     rights port agent x11 pty rc
@@ -175,6 +182,12 @@ known:9: unreadable ssh-ed25519 SHA256:K1O2eINbmb17fEiDcz4h4FqkT185rAHrxyBBdF4KQ
 known:10: key ssh-ed25519 SHA256:K1O2eINbmb17fEiDcz4h4FqkT185rAHrxyBBdF4KQT8
     names [git.example.org]:2222
 known: 10 lines, 6 key lines, 2 unreadable, 6 findings, sha256 256b6d0a7a61116a5090af644595ba7ab28f34ef7693844bf761f174a13ea6fa
+F1: 1, the line cannot be read here, and OpenSSH may read it; the L code follows
+F10: 1, the line may revoke any key and cannot be read: here it denies every host, OpenSSH may pass over it
+F11: 1, another key of this type for a name of line K
+F12: 1, the line's key is both trusted and revoked: see line K; spelling K: line K has another spelling of it
+F14: 1, an authority for every host
+F13: 1, one key for all hosts that a pattern names
 total: 1 files, 0 faults, 10 lines, 6 key lines, 2 unreadable, 6 findings, asked at 1770000000 2026-02-02T02:40:00Z, zone UTC0
 """
 HOSTS_JSON = r"""{"file":"known","line":2,"what":"key","type":"ssh-ed25519","bits":null,"key":"SHA256:K1O2eINbmb17fEiDcz4h4FqkT185rAHrxyBBdF4KQT8","comment":"","names":"web1.example.org,192.0.2.10","findings":[]}
@@ -187,7 +200,7 @@ HOSTS_JSON = r"""{"file":"known","line":2,"what":"key","type":"ssh-ed25519","bit
 {"file":"known","line":9,"what":"unreadable","type":"ssh-ed25519","bits":null,"key":"SHA256:K1O2eINbmb17fEiDcz4h4FqkT185rAHrxyBBdF4KQT8","comment":null,"names":null,"findings":[{"code":"F1","detail":"L16"}]}
 {"file":"known","line":10,"what":"key","type":"ssh-ed25519","bits":null,"key":"SHA256:K1O2eINbmb17fEiDcz4h4FqkT185rAHrxyBBdF4KQT8","comment":"","names":"[git.example.org]:2222","findings":[]}
 {"file":"known","what":"end","lines":10,"key_lines":6,"unreadable":2,"findings":6,"sha256":"256b6d0a7a61116a5090af644595ba7ab28f34ef7693844bf761f174a13ea6fa","fault":null}
-{"what":"total","format":2,"program":"ssh_audit 1.0.0","kind":"known","rsa_minimum":2048,"told":["F1","F2","F3","F4","F5","F6","F7","F8","F9","F10","F11","F12","F13","F14","F22"],"now":1770000000,"at":"2026-02-02T02:40:00Z","zone":"UTC0","files":1,"faults":0,"lines":10,"key_lines":6,"unreadable":2,"findings":6}
+{"what":"total","format":2,"program":"ssh_audit 1.0.0","kind":"known","rsa_minimum":2048,"told":["F1","F2","F3","F4","F5","F6","F7","F8","F9","F10","F11","F12","F13","F14","F22"],"now":1770000000,"at":"2026-02-02T02:40:00Z","zone":"UTC0","files":1,"faults":0,"lines":10,"key_lines":6,"unreadable":2,"findings":6,"findings_by_code":{"F1":1,"F10":1,"F11":1,"F12":1,"F13":1,"F14":1}}
 """
 
 
@@ -637,7 +650,7 @@ def drawn_file(draw, keys):
 def records_of(answer):
     """The records of each file by number, and the objects of ends and of the total, in their order."""
     lines = [json.loads(line, object_pairs_hook=list) for line in answer.decode("ascii").split("\n")[:-1]]
-    objects = [{name: plain(value) for name, value in line} for line in lines]
+    objects = [{name: dict(value) if name == "findings_by_code" else plain(value) for name, value in line} for line in lines]
     fields = [[name for name, _ in line] for line in lines]
     return objects, fields
 
@@ -677,30 +690,33 @@ def text_lines(made):
         yield f"    {found['code']} {found['detail']}".rstrip()
 
 
-def end_line(made):
+def end_lines(made):
+    """The end of a file, or how often each code was found and the total, made of their JSON; without sentences."""
     counts = f"{made['lines']} lines, {made['key_lines']} key lines, {made['unreadable']} unreadable, {made['findings']} findings"
     if made["what"] == "total":
-        return f"total: {made['files']} files, {made['faults']} faults, {counts}, {asked_at(made['now'], made['zone'])}"
-    return f"{made['file']}: fault {made['fault']}" if made["fault"] else f"{made['file']}: {counts}, sha256 {made['sha256']}"
+        found = [f"{code}: {made['findings_by_code'][code]}" for code in WORST_FIRST if code in made["findings_by_code"]]
+        return [*found, f"total: {made['files']} files, {made['faults']} faults, {counts}, {asked_at(made['now'], made['zone'])}"]
+    return [f"{made['file']}: fault {made['fault']}" if made["fault"] else f"{made['file']}: {counts}, sha256 {made['sha256']}"]
 
 
 LEFT_OUT = re.compile(r"    (carry .*|no-touch-required|verify-required|in ssh it counts for these names alone)")
-FOUND = re.compile(r"(    F\d+(?: [^:]+)?): .*")
+FOUND = re.compile(r"(    F\d+(?: [^:]+)?): .*|(F\d+: \d+), .*")
 
 
 def same_text(objects, text):
     """The lines of the text form that JSON does not give, and those that it gives and the text has not."""
-    lines = [found[1] if (found := FOUND.fullmatch(line)) else line for line in text.decode("ascii").split("\n")[:-1] if not LEFT_OUT.fullmatch(line)]
-    wanted = [line for made in objects for line in (text_lines(made) if is_record(made) else [end_line(made)])]
+    lines = [found[1] or found[2] if (found := FOUND.fullmatch(line)) else line for line in text.decode("ascii").split("\n")[:-1] if not LEFT_OUT.fullmatch(line)]
+    wanted = [line for made in objects for line in (text_lines(made) if is_record(made) else end_lines(made))]
     return next(((a, b) for a, b in zip([*lines, None], [*wanted, None]) if a != b), None)
 
 
 def counted(objects, contents):
     """Whether ends and the total count what stands before them; the wrong ones."""
-    sums, here, number = {"files": 0, "faults": 0, "lines": 0, "key_lines": 0, "unreadable": 0, "findings": 0}, [], 0
+    sums, here, number, codes = {"files": 0, "faults": 0, "lines": 0, "key_lines": 0, "unreadable": 0, "findings": 0}, [], 0, []
     for made in objects:
         if is_record(made):
             here.append(made)
+            codes += [found["code"] for found in made["findings"]]
         elif made["what"] == "end":
             content = contents[made["file"]]
             wanted = {
@@ -715,8 +731,9 @@ def counted(objects, contents):
             here = []
         else:
             number += 1
-            if {name: made[name] for name in sums} != sums or made["format"] != 2:
-                yield made, sums
+            by_code = [(code, codes.count(code)) for code in sorted(set(codes), key=lambda code: int(code[1:]))]
+            if {name: made[name] for name in sums} != sums or made["format"] != 2 or list(made["findings_by_code"].items()) != by_code:
+                yield made, sums, by_code
     if number != 1 or objects[-1]["what"] != "total":
         yield "the total", number
 
@@ -927,8 +944,10 @@ def end_text(name, content, lines=1, keys=1, unreadable=0, findings=0):
     return f"{name}: {lines} lines, {keys} key lines, {unreadable} unreadable, {findings} findings, sha256 {hashlib.sha256(content).hexdigest()}\n"
 
 
-def total_text(files, faults=0, lines=0, keys=0, unreadable=0, findings=0):
-    return f"total: {files} files, {faults} faults, {lines} lines, {keys} key lines, {unreadable} unreadable, {findings} findings, {asked_at()}\n"
+def total_text(files, faults=0, lines=0, keys=0, unreadable=0, found=None):
+    """How often these codes were found, and the total."""
+    counts = f"{lines} lines, {keys} key lines, {unreadable} unreadable, {sum((found or {}).values())} findings"
+    return found_text(found or {}) + f"total: {files} files, {faults} faults, {counts}, {asked_at()}\n"
 
 
 ONE = key_text("key") + end_text("key", KEY_LINE)
@@ -969,12 +988,13 @@ def many_rows(audit, tally):
     content = 101 * b"ssh-dss AAAA\n"
     (audit.room / "many").write_bytes(content)
     status, answer, _ = audit.run(review("many"))
-    lines = answer.decode().split("\n")
-    tally.check("101 findings", (status, sum(line.startswith("    F1 L9: ") for line in lines), lines[-3] + "\n", lines[-2] + "\n"), (1, 101, end_text("many", content, 101, 0, 101, 101), total_text(1, 0, 101, 0, 101, 101)))
+    text = answer.decode()
+    wanted = end_text("many", content, 101, 0, 101, 101) + total_text(1, 0, 101, 0, 101, {"F1": 101})
+    tally.check("101 findings", (status, text.count("\n    F1 L9: "), text[-len(wanted) :]), (1, 101, wanted))
     content = 10_000 * (b"restrict,pty " + KEY_LINE)
     (audit.room / "many").write_bytes(content)
     status, answer, _ = audit.run(review("many"))
-    tally.check("10,000 lines of one key", (status, answer.count(b"\n    F3 1: "), answer.endswith(total_text(1, 0, 10_000, 10_000, 0, 9_999).encode())), (1, 9_999, True))
+    tally.check("10,000 lines of one key", (status, answer.count(b"\n    F3 1: "), answer.endswith(total_text(1, 0, 10_000, 10_000, 0, {"F3": 9_999}).encode())), (1, 9_999, True))
 
 
 def size_rows(audit, tally):

@@ -1,10 +1,11 @@
 """`review --key`: of worked files the records of one key, which are those of the whole review, by its fingerprint and by its
 file; the statuses; and values that give no key."""
+import collections
 import hashlib
 import json
 import re
 
-from program import review
+from program import found_text, review
 from rows.admission_rows import K0_MARK, K1_MARK, admits, mark_of, security_key, standing
 from rows.asking import as_bytes
 from rows.keys import K0, K1, RSA, SK_NAME
@@ -55,12 +56,12 @@ def counts_text(lines, keys, unreadable, findings):
 
 
 def counts_of(records):
-    """How many of these records are entries, how many are unreadable, and how many findings they have."""
+    """How many of these records are entries, how many are unreadable, and how many findings of each code they have."""
     kinds = [head.split(" ")[0] for _, head, _ in records]
     return (
         sum(kind in ("key", "authority") for kind in kinds),
         sum(kind in ("unreadable", "revocation-unreadable") for kind in kinds),
-        sum(len(re.findall(r"^    F\d+", rest, re.MULTILINE)) for _, _, rest in records),
+        collections.Counter(code for _, _, rest in records for code in re.findall(r"^    (F\d+)", rest, re.MULTILINE)),
     )
 
 
@@ -73,9 +74,10 @@ def prints_the_records_of_the_key(asker):
             for mark, lines in marks.items():
                 records = [record for record in whole if mark in record[1].split(" ")]
                 asker.check(f"lines of {mark} in {kind}", [int(number) for number, _, _ in records], lines)
-                counts = file.count("\n"), *counts_of(records)
+                *counts, found = file.count("\n"), *counts_of(records)
+                counts.append(sum(found.values()))
                 text = "".join(f"f:{number}: {head}\n{rest}" for number, head, rest in records)
-                wanted = text + end_text("f", file.encode(), *counts) + f"total: 1 files, 0 faults, {counts_text(*counts)}"
+                wanted = text + end_text("f", file.encode(), *counts) + found_text(found) + f"total: 1 files, 0 faults, {counts_text(*counts)}"
                 status, answer, errors = asker.program.run(review("f", kind=kind, findings=findings, key=mark))
                 asker.check(f"{mark} in {kind} with {findings}", (status, answer.decode()[: len(wanted)], errors), (1 if lines else 0, wanted, b""))
 
@@ -112,8 +114,8 @@ def has_one_status_over_several_files(asker):
             for names, status in ((["empty"], 0), (["empty", "f"], 1), (["f", "empty"], 1), (["f", "missing"], 2), (["missing", "f"], 2), (["missing"], 2)):
                 found, answer, errors = asker.program.run(review(*names, kind=kind, key=K0_MARK))
                 asker.check(f"{names} in {kind}", (found, errors), (status, b""))
-                parts = [here[: here.index("total: ")] if name == "f" else f"{name}: fault A9\n" if name == "missing" else end_text(name, b"") for name in names]
-                asker.check(f"what is printed of {names} in {kind}", answer.decode().split("total: ")[0], "".join(parts))
+                parts = [here[: here.index("\nF") + 1] if name == "f" else f"{name}: fault A9\n" if name == "missing" else end_text(name, b"") for name in names]
+                asker.check(f"what is printed of {names} in {kind}", re.split(r"^(?:F\d+|total): ", answer.decode(), maxsplit=1, flags=re.MULTILINE)[0], "".join(parts))
 
 
 def finds_the_key_that_openssh_reads(asker):

@@ -57,7 +57,8 @@ class FileEnd:
 
 @dataclass(frozen=True)
 class Total:
-    """How was asked, and the counts of all files. A review without it was cut off."""
+    """How was asked, and the counts of all files. `findings_by_code` has how often each code was found, and no code that was not.
+    A review without it was cut off."""
 
     program: str
     now: int
@@ -68,6 +69,7 @@ class Total:
     key_lines: int
     unreadable: int
     findings: int
+    findings_by_code: Dict[str, int]
 
 
 _ESCAPE = re.compile(r"\\x([0-9a-f]{2})")
@@ -112,7 +114,7 @@ def _end(told: Dict[str, Any], file: str) -> FileEnd:
 
 
 def _total(told: Dict[str, Any]) -> Total:
-    return Total(*(told[name] for name in ("program", "now", "zone", "files", "faults", "lines", "key_lines", "unreadable", "findings")))
+    return Total(*(told[name] for name in ("program", "now", "zone", "files", "faults", "lines", "key_lines", "unreadable", "findings", "findings_by_code")))
 
 
 def review(

@@ -17,3 +17,5 @@ pub mod RowLemmas
 pub mod PlaceLemmas
 pub mod SeekLemmas
 pub mod EntryLemmas
+pub mod CodeCountLemmas
+mod PlacedLemmas

@@ -1,6 +1,7 @@
 -- The codes of findings, as they are printed and listed (this project's rule).
 use Rattle.std.specs.Prelude.{ℕ, Bool, if◌then◌else◌, List, [], ◌∷◌, ◌++◌, codes, bytes_eq, find, Option, Some, option_and_then}
 use denote.Enum.Bare.{sameb}
+use denote.Enum.Declared.{tag_of}
 use Rattle.ssh_patterns.specs.Lists.{pieces}
 use Rattle.ssh_findings.specs.contracts.code.Code as code_type
 use Rattle.ssh_findings.specs.declared.code.Code.{Code}
@@ -9,6 +10,10 @@ use Rattle.ssh_findings.specs.declared.code.Code.TheVariants as code
 -- two codes are the same if they are the same variant
 abbrev pub same_code : Code → Code → Bool
 same_code = sameb code_type.the_type
+
+-- the place of a code among all codes: 0 for F1
+abbrev pub code_place : Code → ℕ
+code_place c = tag_of code_type.the_type c
 
 -- the printed code
 abbrev pub code_text : Code → List ℕ

@@ -1,5 +1,6 @@
 pub mod Codes
 pub mod Urgency
+pub mod CodeCounts
 pub mod Asking
 pub mod Telling
 pub mod Lists

@@ -1,8 +1,15 @@
 -- How soon to mend what a finding tells (this project's rule).
+use Rattle.std.specs.Prelude.{Bool}
+use denote.Enum.Bare.{sameb}
 use Rattle.ssh_findings.specs.declared.code.Code.{Code}
 use Rattle.ssh_findings.specs.declared.code.Code.TheVariants as code
+use Rattle.ssh_findings.specs.contracts.urgency.Urgency as urgency_type
 use Rattle.ssh_findings.specs.declared.urgency.Urgency.{Urgency}
 use Rattle.ssh_findings.specs.declared.urgency.Urgency.TheVariants.{Today, Soon, TidyUp, Policy}
+
+-- two urgencies are the same if they are the same variant
+abbrev pub same_urgency : Urgency → Urgency → Bool
+same_urgency = sameb urgency_type.the_type
 
 abbrev pub how_soon : Code → Urgency
 how_soon code.Unreadable = Today

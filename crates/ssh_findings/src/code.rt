@@ -1,7 +1,7 @@
 //! The codes of findings, lists of codes, and the options of a review.
 
-ghost use Rattle.std.specs.Prelude.{◌≡◌, [], false, IfOk, IsOk, OnOk, ◌++◌, ◌∷◌, option_map};
-ghost use Rattle.ssh_findings.specs.Codes.{code_named, code_text, default_codes, named_in, codes_in, listed_codes};
+ghost use Rattle.std.specs.Prelude.{◌≡◌, ◌<◌, [], false, IfOk, IsOk, OnOk, ◌++◌, ◌∷◌, option_map};
+ghost use Rattle.ssh_findings.specs.Codes.{code_named, code_place, code_text, default_codes, named_in, codes_in, listed_codes};
 ghost use Rattle.ssh_patterns.specs.Lists.{pieces};
 ghost use Rattle.ssh_findings.specs.Spare.{is_code_first, takes_codes};
 ghost use Rattle.ssh_findings.specs.Asking.{asking_of, is_reported, short_size};
@@ -114,33 +114,48 @@ impl Code {
     }
 
     /// The printed code, such as `F1`.
-    pub fn text(self) -> &'static [u8]
+    pub fn name(self) -> &'static str
         ensures { result.now ≡ code_text self }
     {
         match self {
-            Code::Unreadable => b"F1",
-            Code::SameKey => b"F2",
-            Code::NeverDecides => b"F3",
-            Code::GivesMore => b"F4",
-            Code::ShortKey => b"F5",
-            Code::Expired => b"F6",
-            Code::PermitsNobody => b"F7",
-            Code::ReadOtherwise => b"F8",
-            Code::ForcedButForwards => b"F9",
-            Code::BlindRevocation => b"F10",
-            Code::OtherKey => b"F11",
-            Code::TrustedAndRevoked => b"F12",
-            Code::PatternHosts => b"F13",
-            Code::EveryHost => b"F14",
-            Code::AnyAddress => b"F15",
-            Code::AnyCommand => b"F16",
-            Code::NoExpiry => b"F17",
-            Code::AnyPrincipal => b"F18",
-            Code::NoComment => b"F19",
-            Code::NamesInClear => b"F20",
-            Code::SameHostKey => b"F21",
-            Code::MayRefuse => b"F22",
+            Code::Unreadable => "F1",
+            Code::SameKey => "F2",
+            Code::NeverDecides => "F3",
+            Code::GivesMore => "F4",
+            Code::ShortKey => "F5",
+            Code::Expired => "F6",
+            Code::PermitsNobody => "F7",
+            Code::ReadOtherwise => "F8",
+            Code::ForcedButForwards => "F9",
+            Code::BlindRevocation => "F10",
+            Code::OtherKey => "F11",
+            Code::TrustedAndRevoked => "F12",
+            Code::PatternHosts => "F13",
+            Code::EveryHost => "F14",
+            Code::AnyAddress => "F15",
+            Code::AnyCommand => "F16",
+            Code::NoExpiry => "F17",
+            Code::AnyPrincipal => "F18",
+            Code::NoComment => "F19",
+            Code::NamesInClear => "F20",
+            Code::SameHostKey => "F21",
+            Code::MayRefuse => "F22",
         }
+    }
+
+    /// The bytes of the printed code.
+    pub fn text(self) -> &'static [u8]
+        ensures { result.now ≡ code_text self }
+    {
+        self.name().as_bytes()
+    }
+
+    /// Its place among all codes: 0 for F1.
+    pub(crate) fn place(self) -> usize
+        ensures value { result ≡ code_place self }
+        ensures few { result < 22 }
+    {
+        self as usize
     }
 
     /// The code with this printed text.

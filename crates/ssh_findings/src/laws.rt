@@ -1,7 +1,7 @@
 //! Laws of the definitions, and worked examples. The check proves what each function ensures; no
 //! code calls them.
 
-ghost use Rattle.std.specs.Prelude.{◌≡◌, ℕ, false, true, List, None, Some, ◌≤◌, ◌==◌, ◌&&◌, Bool};
+ghost use Rattle.std.specs.Prelude.{◌≡◌, ℕ, false, true, List, None, Some, ◌≤◌, ◌==◌, ◌&&◌, ◌+◌, Bool, length};
 ghost use Rattle.jiff.specs.Types.{TimeZone};
 ghost use Rattle.ssh_options.specs.declared.option.ValueName.TheVariants.{Principals};
 ghost use Rattle.ssh_options.specs.Settings.{setting};
@@ -10,6 +10,13 @@ ghost use Rattle.ssh_offers.specs.LoginClaim.{LoginClaim};
 ghost use Rattle.ssh_rules.specs.Admission.{AdmitsLogin, is_authority};
 ghost use Rattle.ssh_keys.specs.Fingerprint.{IsRsaSize};
 ghost use Rattle.ssh_keys.specs.PublicKey.{PublicKey, key_blob};
+ghost use Rattle.ssh_findings.specs.CodeCounts.{counted, findings_in, no_codes, number_of, plus_codes, times};
+ghost use Rattle.ssh_findings.specs.Findings.{code_of};
+ghost use Rattle.ssh_findings.specs.HostFindingsFindings.{host_code_of};
+ghost use Rattle.ssh_findings.specs.declared.code.Code.{Code};
+ghost use Rattle.ssh_findings.specs.declared.code_counts.CodeCounts.{CodeCounts};
+ghost use Rattle.ssh_findings.specs.declared.finding.Finding.{Finding};
+ghost use Rattle.ssh_findings.specs.declared.host_finding.HostFinding.{HostFinding};
 ghost use Rattle.ssh_findings.specs.Earlier.{Held, held_entry, is_free, repeat_after, shadow};
 ghost use Rattle.ssh_findings.specs.EntryFindings.{lets_nobody_in, names_nobody, permits_bad, refuses_all_in};
 ghost use Rattle.ssh_findings.specs.declared.facts.Facts.{Facts as FactsValue};
@@ -121,6 +128,19 @@ fn both_rule()
         → AllByRecursion (λ d. revokes claim.offer d ≡ false) earlier
         → AdmitsHost e claim
         → revoking_line earlier (key_blob e.key) ≡ None }
+{}
+
+/// How often each code is reported: as often as findings have it, in a sum as often as in both. All
+/// numbers together are the number of findings.
+fn code_counts_rule()
+    ensures none { (c : Code) → number_of no_codes c ≡ 0 }
+    ensures counted { (found : List Finding) (c : Code)
+        → number_of (counted code_of found) c ≡ times code_of found c }
+    ensures hosts { (found : List HostFinding) (c : Code)
+        → number_of (counted host_code_of found) c ≡ times host_code_of found c }
+    ensures plus { (a b : CodeCounts) (c : Code)
+        → number_of (plus_codes a b) c ≡ number_of a c + number_of b c }
+    ensures all { (found : List Finding) → findings_in (counted code_of found) ≡ length found }
 {}
 
 /// Which option values sshd accepts.

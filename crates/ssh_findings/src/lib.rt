@@ -46,6 +46,7 @@
 mod carried;
 mod certified_key;
 mod code;
+mod code_counts;
 mod earlier;
 mod entry;
 mod facts;
@@ -69,6 +70,7 @@ mod urgency;
 
 pub use certified_key::known_certified_blob;
 pub use code::{Code, ReviewOptions, parse_codes};
+pub use code_counts::CodeCounts;
 pub use earlier::Earlier;
 pub use entry::{entry_findings, may_let_in, unreadable_findings};
 pub use facts::Facts;

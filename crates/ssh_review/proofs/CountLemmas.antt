@@ -6,7 +6,8 @@ use Rattle.ssh_findings.specs.declared.host_finding.HostFinding.TheVariants as f
 use Rattle.ssh_findings.specs.HostFacts.{host_facts_of}
 use Rattle.ssh_findings.specs.RevocationFacts.{revocation_facts_of}
 use Rattle.ssh_findings.specs.HostFindings.{findings_by, host_entry_findings, revocation_findings}
-use Rattle.ssh_review.proofs.LineLemmas.{Within, both-within, some-short, reported-short}
+use Rattle.ssh_review.specs.HostLines.{host_line_findings}
+use Rattle.ssh_review.proofs.LineLemmas.{Within, alone-within, both-within, found-within, none-within, some-short, reported-short}
 
 -- ---- findings of a line
 
@@ -63,19 +64,23 @@ blind-short asking line = both _ _ 1 1 (if-short asking _ _) (if-short asking tr
 -- ---- lines
 
 pub line-within : (asking : Asking) (earlier : List HostLine) (line : List ℕ) (said : KnownLine) → Within (host_line_counts asking earlier line said) 1
-line-within asking earlier line Blank = record { lines = omega arith; keys = omega arith; unreadable = omega arith; findings = omega arith }
-line-within asking earlier line Comment = record { lines = omega arith; keys = omega arith; unreadable = omega arith; findings = omega arith }
+line-within asking earlier line Blank = alone-within
+line-within asking earlier line Comment = alone-within
 line-within asking earlier line (Entry e) =
-    record { lines = omega arith; keys = omega arith; unreadable = omega arith; findings = omega (arith, entry-short asking earlier (key_blob e.key) (host_facts_of line e)) }
+    let few = entry-short asking earlier (key_blob e.key) (host_facts_of line e) in
+    found-within host_code_of (host_line_findings asking earlier line (Entry e)) 1 0 (omega arith) (omega arith) (omega (arith, few))
 line-within asking earlier line (Revoked bytes) =
-    record { lines = omega arith; keys = omega arith; unreadable = omega arith; findings = omega (arith, revocation-short asking earlier bytes (revocation_facts_of line bytes)) }
+    let few = revocation-short asking earlier bytes (revocation_facts_of line bytes) in
+    found-within host_code_of (host_line_findings asking earlier line (Revoked bytes)) 0 0 (omega arith) (omega arith) (omega (arith, few))
 line-within asking earlier line RevokedUnreadable =
-    record { lines = omega arith; keys = omega arith; unreadable = omega arith; findings = omega (arith, blind-short asking line) }
+    let few = blind-short asking line in
+    found-within host_code_of (host_line_findings asking earlier line RevokedUnreadable) 0 1 (omega arith) (omega arith) (omega (arith, few))
 line-within asking earlier line (Unreadable cause) =
-    record { lines = omega arith; keys = omega arith; unreadable = omega arith; findings = omega (arith, if-short asking true (finding.Unreadable cause)) }
+    let few = if-short asking true (finding.Unreadable cause) in
+    found-within host_code_of (host_line_findings asking earlier line (Unreadable cause)) 0 1 (omega arith) (omega arith) (omega (arith, few))
 
 pub all-within : (asking : Asking) (earlier : List HostLine) (n : ℕ) (lines : List (List ℕ)) → Within (host_counts_of asking earlier (numbered n lines)) (length lines)
-all-within asking earlier n [] = record { lines = omega arith; keys = omega arith; unreadable = omega arith; findings = omega arith }
+all-within asking earlier n [] = none-within
 all-within asking earlier n (line ∷ lines) =
     let after = earlier ++ host_kept_of n line (known_line line) in
     both-within (host_line_counts asking earlier line (known_line line)) (host_counts_of asking after (numbered (n + 1) lines)) (length lines)

@@ -2,6 +2,7 @@
 use Rattle.ssh_review.proofs.Imports.{◌≡◌, ℕ, pos, true, List, [], ◌∷◌, refl, codes, flat_map, Code, Asking, code_text, AreBytes, AreBytesIfAny, are_printable, is_line, Counts, FileFault, Unread, TooLong, Total, no_counts, fault_code}
 use Rattle.ssh_review.proofs.DateTextLemmas.{date-printable}
 use Rattle.ssh_review.proofs.FieldLemmas.{any-text-printable, null-printable, number-printable, said-printable, text-printable}
+use Rattle.ssh_review.proofs.FoundLemmas.{found-printable}
 use Rattle.ssh_review.proofs.PrintableLemmas.{ArePrintable, bytes-from_printable, hex-printable, join, line-from, rest-printable, string-printable, word}
 use Rattle.ssh_review.proofs.WordLemmas.{code-printable as code_word-printable}
 use Rattle.ssh_print.specs.AnswerText.{sentence}
@@ -77,7 +78,7 @@ unfolding total_counts
 total-counts-printable t =
     let files = number-printable (codes "files") t.files refl in
     let faults = number-printable (codes "faults") t.faults refl in
-    join (join files faults) (counts-printable t.counts)
+    join (join (join files faults) (counts-printable t.counts)) (found-printable t.counts.by_code)
 
 pub total-line : (kind zone : List ℕ) (asking : Asking) (t : Total) → AreBytes kind → AreBytes zone → is_line (total_object kind zone asking t) ≡ true
 unfolding total_object total_head

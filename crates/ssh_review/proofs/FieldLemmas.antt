@@ -1,7 +1,7 @@
 -- The fields of an object are of printable ASCII.
-use Rattle.ssh_review.proofs.Imports.{◌≡◌, ℕ, Bool, true, false, List, ◌++◌, ℤ, Option, Some, None, codes, refl, field_name, moment_or_null, null_field, number_field, number_or_null, text_field, text_or_null, AreBytes, AreBytesIfAny, are_printable}
-use Rattle.ssh_review.specs.Fields.{truth_field}
-use Rattle.ssh_review.proofs.PrintableLemmas.{ArePrintable, bytes-from_printable, decimal-printable, join, signed-printable, string-printable, word}
+use Rattle.ssh_review.proofs.Imports.{◌≡◌, ℕ, nat_lt, Bool, true, false, cond, List, [], ◌++◌, ℤ, Option, Some, None, codes, refl, field_name, moment_or_null, null_field, number_field, number_or_null, text_field, text_or_null, AreBytes, AreBytesIfAny, are_printable}
+use Rattle.ssh_review.specs.Fields.{count_field, object_field, truth_field}
+use Rattle.ssh_review.proofs.PrintableLemmas.{ArePrintable, bytes-from_printable, decimal-printable, join, rest-printable, signed-printable, string-printable, word}
 
 pub name-then : {value : List ℕ} (name : List ℕ) → are_printable name ≡ true → ArePrintable value → ArePrintable (field_name name ++ value)
 name-then name h k = join (join (join (word (codes ",\"") refl) (word name h)) (word (codes "\":") refl)) k
@@ -26,6 +26,16 @@ truth-printable name false h = name-then name h (word (codes "false") refl)
 
 pub number-printable : (name : List ℕ) (n : ℕ) → are_printable name ≡ true → ArePrintable (number_field name n)
 number-printable name n h = name-then name h (decimal-printable n)
+
+pub count-printable : (name : List ℕ) (n : ℕ) → are_printable name ≡ true → ArePrintable (count_field name n)
+count-printable name n h = go (nat_lt 0 n)
+  where
+    go : (b : Bool) → ArePrintable (cond b (number_field name n) [])
+    go true = number-printable name n h
+    go false = word [] refl
+
+pub object-printable : (name fields : List ℕ) → are_printable name ≡ true → ArePrintable fields → ArePrintable (object_field name fields)
+object-printable name fields h k = join (join (name-then name h (word (codes "{") refl)) (rest-printable k)) (word (codes "}") refl)
 
 pub any-number-printable : (name : List ℕ) (n : Option ℕ) → are_printable name ≡ true → ArePrintable (number_or_null name n)
 any-number-printable name None h = null-printable name h

@@ -4,7 +4,6 @@ use Rattle.ssh_review.proofs.Imports.{◌≡◌, ◌∙◌, ◌++◌, ◌+◌, �
 use Rattle.ssh_entries.specs.declared.known_line.KnownLine.TheVariants.{Blank, Comment}
 use Rattle.ssh_trust.proofs.CandidateLemmas.{AreBytes}
 use Rattle.std.proofs.Common.{append_assoc}
-use Rattle.std.specs.Prelude.{length}
 use Rattle.ssh_entries.specs.declared.known_line.KnownLine.TheVariants.{Entry, Unreadable}
 use Rattle.ssh_entries.specs.declared.known_view.Marker.TheVariants as markers
 use Rattle.ssh_findings.specs.HostFacts.{host_facts_of}
@@ -169,7 +168,7 @@ records-are form asking name earlier n (line ∷ lines) =
 counts-by : Asking → List HostLine → ℕ → List Said → Counts
 counts-by asking earlier n [] = no_counts
 counts-by asking earlier n (s ∷ more) =
-    plus (host_counts_with s.0 (length (findings-by asking earlier s))) (counts-by asking (earlier ++ kept-by n s) (n + 1) more)
+    plus (host_counts_with s.0 (findings-by asking earlier s)) (counts-by asking (earlier ++ kept-by n s) (n + 1) more)
 
 counts-are : (asking : Asking) (earlier : List HostLine) (n : ℕ) (lines : List (List ℕ))
     → host_counts_of asking earlier (numbered n lines) ≡ counts-by asking earlier n (map said lines)
@@ -177,11 +176,11 @@ unfolding counts-by
 counts-are asking earlier n [] = refl
 counts-are asking earlier n (line ∷ lines) =
     let l = known_line line in
-    ap (λ (found : List HostFinding). plus (host_counts_with l (length found)) (host_counts_of asking (earlier ++ host_kept_of n line l) (numbered (n + 1) lines)))
+    ap (λ (found : List HostFinding). plus (host_counts_with l found) (host_counts_of asking (earlier ++ host_kept_of n line l) (numbered (n + 1) lines)))
     (findings-are asking earlier line l)
-    ∙ ap (λ kept. plus (host_counts_with l (length (findings-by asking earlier (said line)))) (host_counts_of asking (earlier ++ kept) (numbered (n + 1) lines)))
+    ∙ ap (λ kept. plus (host_counts_with l (findings-by asking earlier (said line))) (host_counts_of asking (earlier ++ kept) (numbered (n + 1) lines)))
     (kept-is n line l)
-    ∙ ap (plus (host_counts_with l (length (findings-by asking earlier (said line)))))
+    ∙ ap (plus (host_counts_with l (findings-by asking earlier (said line))))
     (counts-are asking (earlier ++ kept-by n (said line)) (n + 1) lines)
 
 -- ---- the canonical file

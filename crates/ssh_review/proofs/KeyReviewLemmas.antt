@@ -1,17 +1,18 @@
 -- How much is counted at most of the lines that hold one key.
 use Rattle.ssh_review.proofs.Imports.{◌≤◌, ◌+◌, Bool, true, false, Counts, ◌++◌, ℕ, List, [], ◌∷◌, length, arith, auth_line, known_line, numbered, lines_of, file_limit, Asking, Held, HostLine, held_by_line, host_kept_of, host_line_counts, line_counts}
 use Rattle.ssh_review.specs.HostKeyRecords.{host_holds_key, host_key_counts, host_key_counts_of}
-use Rattle.ssh_review.specs.KeyRecords.{holds_key, key_counts, key_counts_of, unlisted_counts}
+use Rattle.ssh_review.specs.KeyRecords.{holds_key, key_counts, key_counts_of}
 use Rattle.ssh_review.proofs.CountLemmas as hosts
 use Rattle.std.specs.Prelude.{if◌then◌else◌}
-use Rattle.ssh_review.proofs.LineLemmas.{Within, both-within, line-within, lines-few}
+use Rattle.ssh_review.specs.Counting.{line_alone}
+use Rattle.ssh_review.proofs.LineLemmas.{Within, alone-within, both-within, line-within, lines-few, none-within}
 
-one-within : (b : Bool) (counts : Counts) → Within counts 1 → Within (if b then counts else unlisted_counts) 1
+one-within : (b : Bool) (counts : Counts) → Within counts 1 → Within (if b then counts else line_alone) 1
 one-within true counts h = h
-one-within false counts h = record { lines = omega arith; keys = omega arith; unreadable = omega arith; findings = omega arith }
+one-within false counts h = alone-within
 
 pub key-within : (sought : List ℕ) (asking : Asking) (earlier : List Held) (n : ℕ) (lines : List (List ℕ)) → Within (key_counts_of sought asking earlier (numbered n lines)).counts (length lines)
-key-within sought asking earlier n [] = record { lines = omega arith; keys = omega arith; unreadable = omega arith; findings = omega arith }
+key-within sought asking earlier n [] = none-within
 key-within sought asking earlier n (line ∷ lines) =
     let after = earlier ++ held_by_line asking (n, auth_line line) in
     both-within (key_counts sought asking earlier line (auth_line line)).counts (key_counts_of sought asking after (numbered (n + 1) lines)).counts (length lines)
@@ -19,7 +20,7 @@ key-within sought asking earlier n (line ∷ lines) =
     (key-within sought asking after (n + 1) lines)
 
 pub host-key-within : (sought : List ℕ) (asking : Asking) (earlier : List HostLine) (n : ℕ) (lines : List (List ℕ)) → Within (host_key_counts_of sought asking earlier (numbered n lines)).counts (length lines)
-host-key-within sought asking earlier n [] = record { lines = omega arith; keys = omega arith; unreadable = omega arith; findings = omega arith }
+host-key-within sought asking earlier n [] = none-within
 host-key-within sought asking earlier n (line ∷ lines) =
     let after = earlier ++ host_kept_of n line (known_line line) in
     both-within (host_key_counts sought asking earlier line (known_line line)).counts (host_key_counts_of sought asking after (numbered (n + 1) lines)).counts (length lines)

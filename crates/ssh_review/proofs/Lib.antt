@@ -15,9 +15,11 @@ pub mod UnquotedLemmas
 pub mod PrintableLemmas
 pub mod WordLemmas
 pub mod FieldLemmas
+pub mod FoundLemmas
 pub mod RowLemmas
 pub mod ObjectLemmas
 pub mod CountLemmas
+mod CodeLemmas
 pub mod HostByteLemmas
 pub mod HostTextLemmas
 pub mod HostObjectLemmas

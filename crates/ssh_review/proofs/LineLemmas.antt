@@ -1,9 +1,13 @@
 -- How much an authorized_keys file counts at most.
 use Rattle.ssh_review.proofs.Imports.{ℕ, suc, ◌+◌, ◌*◌, ◌≤◌, ◌==◌, Bool, true, false, not, ◌&&◌, cond, List, [], ◌∷◌, ◌++◌, length, length-append, arith, flat_map, onto_first, Option, Some, None, AuthLine, Blank, Comment, Entry, Unreadable, auth_line, lines_of, numbered, Counts, Code, Facts, Finding, Asking, is_reported, plus, Ground, condition_findings, forces_but_forwards, ground_finding, ground_findings, policy_findings, reading_findings, all_grounds, has_ground, reported_some, key_blob, Held, repeat_after, code_of, counts_of, held_by_line, line_counts}
+use Rattle.ssh_findings.proofs.CodeCountLemmas.{counted-few, number-none, number-plus}
+use Rattle.ssh_findings.specs.CodeCounts.{counted, number_of}
 use Rattle.ssh_findings.specs.declared.finding.Finding.TheVariants as finding
 use Rattle.ssh_findings.specs.EntryFindings.{entry_findings}
 use Rattle.ssh_findings.specs.Telling.{reported_if}
 use Rattle.ssh_findings.specs.Facts.{facts_of}
+use Rattle.ssh_review.specs.Counting.{line_alone, no_counts}
+use Rattle.ssh_review.specs.Lines.{line_findings}
 
 -- ---- how much is counted at most
 
@@ -12,6 +16,7 @@ pub record Within (counts : Counts) (n : ℕ) : Type 0 where
   pub keys : counts.keys ≤ n
   pub unreadable : counts.unreadable ≤ n
   pub findings : counts.findings ≤ 24 * n
+  pub by_code : (c : Code) → number_of counts.by_code c ≤ 24 * n
 
 pub reported-short : {F : Type 0} (code : F → Code) (asking : Asking) (holds : Bool) (f : F) → length (reported_if code asking holds f) ≤ 1
 unfolding reported_if
@@ -80,13 +85,32 @@ entry-short asking earlier blob f =
       if-short asking (not f.is_authority && forces_but_forwards f.rights) finding.ForcedButForwards,
     )
 
+pub none-within : Within no_counts 0
+none-within = record { lines = omega arith; keys = omega arith; unreadable = omega arith; findings = omega arith; by_code = λ c. omega (arith, number-none c) }
+
+-- a line with no findings
+pub alone-within : Within line_alone 1
+alone-within = record { lines = omega arith; keys = omega arith; unreadable = omega arith; findings = omega arith; by_code = λ c. omega (arith, number-none c) }
+
+-- a line with some findings
+pub found-within : {F : Type 0} (code : F → Code) (found : List F) (keys unreadable : ℕ) → keys ≤ 1 → unreadable ≤ 1 → length found ≤ 24
+    → Within (record { lines = 1; keys = keys; unreadable = unreadable; findings = length found; by_code = counted code found }) 1
+found-within code found keys unreadable h k few = record {
+  lines = omega arith;
+  keys = omega (arith, h);
+  unreadable = omega (arith, k);
+  findings = omega (arith, few);
+  by_code = λ c. omega (arith, few, counted-few code found c);
+}
+
 pub line-within : (asking : Asking) (earlier : List Held) (line : AuthLine) → Within (line_counts asking earlier line) 1
-line-within asking earlier Blank = record { lines = omega arith; keys = omega arith; unreadable = omega arith; findings = omega arith }
-line-within asking earlier Comment = record { lines = omega arith; keys = omega arith; unreadable = omega arith; findings = omega arith }
+line-within asking earlier Blank = alone-within
+line-within asking earlier Comment = alone-within
 line-within asking earlier (Entry entry) =
-    record { lines = omega arith; keys = omega arith; unreadable = omega arith; findings = omega (arith, entry-short asking earlier (key_blob entry.key) (facts_of asking.zone entry)) }
+    found-within code_of (line_findings asking earlier (Entry entry)) 1 0 (omega arith) (omega arith) (entry-short asking earlier (key_blob entry.key) (facts_of asking.zone entry))
 line-within asking earlier (Unreadable cause) =
-    record { lines = omega arith; keys = omega arith; unreadable = omega arith; findings = omega (arith, if-short asking true (finding.Unreadable cause)) }
+    let few = if-short asking true (finding.Unreadable cause) in
+    found-within code_of (line_findings asking earlier (Unreadable cause)) 0 1 (omega arith) (omega arith) (omega (arith, few))
 
 pub both-within : (a b : Counts) (n : ℕ) → Within a 1 → Within b n → Within (plus a b) (suc n)
 both-within a b n v w = record {
@@ -94,10 +118,11 @@ both-within a b n v w = record {
   keys = omega (arith, v.keys, w.keys);
   unreadable = omega (arith, v.unreadable, w.unreadable);
   findings = omega (arith, v.findings, w.findings);
+  by_code = λ c. omega (arith, v.by_code c, w.by_code c, number-plus a.by_code b.by_code c);
 }
 
 pub all-within : (asking : Asking) (earlier : List Held) (n : ℕ) (lines : List (List ℕ)) → Within (counts_of asking earlier (numbered n lines)) (length lines)
-all-within asking earlier n [] = record { lines = omega arith; keys = omega arith; unreadable = omega arith; findings = omega arith }
+all-within asking earlier n [] = none-within
 all-within asking earlier n (line ∷ lines) =
     let after = earlier ++ held_by_line asking (n, auth_line line) in
     both-within (line_counts asking earlier (auth_line line)) (counts_of asking after (numbered (n + 1) lines)) (length lines)

@@ -1,8 +1,10 @@
 -- Records that are made one after the other: what was appended is the front of what was left.
-use Rattle.ssh_review.proofs.Imports.{◌≡◌, ◌∙◌, ℕ, ◌+◌, ◌-◌, ◌≤◌, ◌^◌, Bool, true, false, ◌||◌, List, [], ◌∷◌, ◌++◌, refl, sym, ap, subst, append_assoc, append-nil, add_assoc, arith, file_limit, ltb-true, nat_lt, Asking, Counts, Form, no_counts, plus}
+use Rattle.ssh_review.proofs.Imports.{◌≡◌, ◌∙◌, ℕ, ◌+◌, ◌≤◌, ◌<◌, ◌^◌, Bool, true, false, ◌||◌, List, [], ◌∷◌, ◌++◌, refl, sym, ap, subst, append_assoc, append-nil, add_assoc, arith, file_limit, ltb-true, nat_lt, Asking, Code, Counts, Form, no_counts, plus}
 use Rattle.ssh_review.specs.KeyRecords.{no_key_counts, plus_key, plus_key_within}
 use Rattle.std.proofs.Math.Nat.{min-eq_left}
-use Rattle.std.specs.Prelude.{min}
+use Rattle.ssh_findings.proofs.CodeCountLemmas.{codes-assoc, codes-none, codes-within, none-codes, number-plus}
+use Rattle.ssh_findings.specs.CodeCounts.{number_of, plus_codes, sum_within}
+use Rattle.ssh_findings.specs.declared.code_counts.CodeCounts.{CodeCounts}
 use Rattle.ssh_review.specs.Counting.{plus_within}
 use Rattle.ssh_review.specs.KeyReviews.{reviewed_by}
 use Rattle.ssh_review.specs.Making.{AreCounts, AreWholeLines, HasLeft, IsAllMade, MakesFront, lines_left}
@@ -19,6 +21,7 @@ plus-assoc a b c =
       add_assoc a.keys b.keys c.keys,
       add_assoc a.unreadable b.unreadable c.unreadable,
       add_assoc a.findings b.findings c.findings,
+      codes-assoc a.by_code b.by_code c.by_code,
     ) refl
 
 or-assoc : (a b c : Bool) → ((a || b) || c) ≡ (a || (b || c))
@@ -43,7 +46,7 @@ plus-none a =
     let keys : a.keys + 0 ≡ a.keys = omega arith in
     let unreadable : a.unreadable + 0 ≡ a.unreadable = omega arith in
     let findings : a.findings + 0 ≡ a.findings = omega arith in
-    rw (lines, keys, unreadable, findings) refl
+    rw (lines, keys, unreadable, findings, codes-none a.by_code) refl
 
 plus-key-none : (a : KeyCounts) → plus_key a no_key_counts ≡ a
 plus-key-none a = ap (λ (x : Counts). made x (a.stands || false)) (plus-none a.counts) ∙ ap (λ (x : Bool). made a.counts x) (or-false a.stands)
@@ -54,12 +57,16 @@ none-plus a =
     let keys : 0 + a.keys ≡ a.keys = omega arith in
     let unreadable : 0 + a.unreadable ≡ a.unreadable = omega arith in
     let findings : 0 + a.findings ≡ a.findings = omega arith in
-    rw (lines, keys, unreadable, findings) refl
+    rw (lines, keys, unreadable, findings, none-codes a.by_code) refl
 
 none-plus-key : (a : KeyCounts) → a ≡ plus_key no_key_counts a
 none-plus-key a = ap (λ (x : Counts). made x a.stands) (none-plus a.counts)
 
 -- a part of a sum that fits
+part-few : (before reported rest : CodeCounts) (c : Code) → number_of (plus_codes before (plus_codes reported rest)) c < 2 ^ 64 → number_of (plus_codes before reported) c < 2 ^ 64
+part-few before reported rest c h =
+    omega (arith, h, number-plus before reported c, number-plus before (plus_codes reported rest) c, number-plus reported rest c)
+
 pub part-fits : (before reported rest all : KeyCounts) → AreCounts all.counts → all ≡ plus_key before (plus_key reported rest) → AreCounts (plus before.counts reported.counts)
 part-fits before reported rest all fits is =
     let lines : all.counts.lines ≡ before.counts.lines + (reported.counts.lines + rest.counts.lines) = ap (λ (k : KeyCounts). k.counts.lines) is in
@@ -71,16 +78,17 @@ part-fits before reported rest all fits is =
       keys = omega (arith, keys, fits.keys);
       unreadable = omega (arith, unreadable, fits.unreadable);
       findings = omega (arith, findings, fits.findings);
+      by_code = λ c. part-few before.counts.by_code reported.counts.by_code rest.counts.by_code c (subst (λ n. n < 2 ^ 64) (ap (λ (k : KeyCounts). number_of k.counts.by_code c) is) (fits.by_code c));
     }
 
 -- a sum that fits is not cut off
 within-same : (a b : Counts) → AreCounts (plus a b) → plus_within a b ≡ plus a b
 within-same a b h =
-    let lines : min (a.lines + b.lines) (2 ^ 64 - 1) ≡ a.lines + b.lines = min-eq_left (omega (arith, h.lines)) in
-    let keys : min (a.keys + b.keys) (2 ^ 64 - 1) ≡ a.keys + b.keys = min-eq_left (omega (arith, h.keys)) in
-    let unreadable : min (a.unreadable + b.unreadable) (2 ^ 64 - 1) ≡ a.unreadable + b.unreadable = min-eq_left (omega (arith, h.unreadable)) in
-    let findings : min (a.findings + b.findings) (2 ^ 64 - 1) ≡ a.findings + b.findings = min-eq_left (omega (arith, h.findings)) in
-    rw (lines, keys, unreadable, findings) refl
+    let lines : sum_within a.lines b.lines ≡ a.lines + b.lines = min-eq_left (omega (arith, h.lines)) in
+    let keys : sum_within a.keys b.keys ≡ a.keys + b.keys = min-eq_left (omega (arith, h.keys)) in
+    let unreadable : sum_within a.unreadable b.unreadable ≡ a.unreadable + b.unreadable = min-eq_left (omega (arith, h.unreadable)) in
+    let findings : sum_within a.findings b.findings ≡ a.findings + b.findings = min-eq_left (omega (arith, h.findings)) in
+    rw (lines, keys, unreadable, findings, codes-within a.by_code b.by_code h.by_code) refl
 
 key-within-same : (a b : KeyCounts) → AreCounts (plus a.counts b.counts) → plus_key_within a b ≡ plus_key a b
 key-within-same a b h = ap (λ (x : Counts). made x (a.stands || b.stands)) (within-same a.counts b.counts h)
@@ -92,6 +100,7 @@ few-counts counts n w h = record {
   keys = omega (arith, w.keys);
   unreadable = omega (arith, w.unreadable);
   findings = omega (arith, w.findings);
+  by_code = λ c. omega (arith, w.by_code c);
 }
 
 -- such a file is not too long

@@ -15,6 +15,7 @@ use Rattle.ssh_review.proofs.DateTextLemmas.{moment-printable}
 use Rattle.ssh_review.specs.Asked.{Asked, asked_words, zone_words}
 use Rattle.ssh_review.specs.Ends.{asked_by}
 use Rattle.ssh_review.proofs.EndLemmas.{code-printable, end-line, fault-line, total-line}
+use Rattle.ssh_review.proofs.FoundLemmas.{found-shown}
 use Rattle.ssh_review.proofs.ShownLemmas.{AreShown, add, from-line, seen, show}
 use Rattle.ssh_review.proofs.TextLemmas.{IsHeldPrintable, entry-shown, unreadable-shown}
 
@@ -87,10 +88,11 @@ asked-words-printable a h = join (join (word (codes "asked at ") refl) (moment-p
 
 pub total-shown : (form : Form) (kind zone : List ℕ) (asking : Asking) (t : Total) → AreBytes kind → AreBytes zone → AreShown (total_line form kind zone asking t)
 total-shown Text kind zone asking t h k =
-    let files = join (word (codes "total: ") refl) (count-printable t.files (codes " files, ") refl) in
-    let faults = join files (count-printable t.faults (codes " faults, ") refl) in
-    let counted = join (join faults (counts-printable t.counts)) (word (codes ", ") refl) in
-    add (seen (join counted (asked-words-printable (asked_by zone asking) k))) (show (codes "\n") refl)
+    let start = add (found-shown t.counts.by_code) (seen (word (codes "total: ") refl)) in
+    let files = add start (seen (count-printable t.files (codes " files, ") refl)) in
+    let faults = add files (seen (count-printable t.faults (codes " faults, ") refl)) in
+    let counted = add (add faults (seen (counts-printable t.counts))) (seen (word (codes ", ") refl)) in
+    add (add counted (seen (asked-words-printable (asked_by zone asking) k))) (show (codes "\n") refl)
 total-shown Json kind zone asking t h k = from-line (total-line kind zone asking t h k)
 
 -- ---- reviews

@@ -4,6 +4,7 @@ use Rattle.std.specs.Fmt.{decimal}
 use Rattle.ssh_findings.specs.Asking.{Asking}
 use Rattle.ssh_print.specs.Texts.{escaped_text, hex_text}
 use Rattle.ssh_review.specs.Asked.{Asked, asked_words}
+use Rattle.ssh_review.specs.Found.{found_lines}
 use Rattle.ssh_review.specs.declared.end.Counts.{Counts}
 use Rattle.ssh_review.specs.declared.end.FileFault.{FileFault}
 use Rattle.ssh_review.specs.declared.end.FileFault.TheVariants.{Unread, TooLong}
@@ -34,8 +35,8 @@ fault_text name fault = escaped_text name ++ codes ": fault " ++ fault_code faul
 abbrev pub asked_by : List ℕ → Asking → Asked
 asked_by zone asking = record { now = asking.now; zone = Some zone }
 
--- the total of all files, and when it was asked
+-- how often each code was found in all files, then their total, and when it was asked
 abbrev pub total_text : List ℕ → Asking → Total → List ℕ
 total_text zone asking t =
-    codes "total: " ++ count_text t.files (codes " files, ") ++ count_text t.faults (codes " faults, ")
+    found_lines t.counts.by_code ++ codes "total: " ++ count_text t.files (codes " files, ") ++ count_text t.faults (codes " faults, ")
     ++ counts_text t.counts ++ codes ", " ++ asked_words (asked_by zone asking) ++ codes "\n"

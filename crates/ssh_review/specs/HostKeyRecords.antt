@@ -8,9 +8,10 @@ use Rattle.ssh_findings.specs.Asking.{Asking}
 use Rattle.ssh_findings.specs.HostLines.{HostLine}
 use Rattle.ssh_review.specs.declared.end.Form.{Form}
 use Rattle.ssh_review.specs.declared.key_review.KeyCounts.{KeyCounts}
+use Rattle.ssh_review.specs.Counting.{line_alone}
 use Rattle.ssh_review.specs.HostLines.{host_kept_of, host_line_counts, host_line_record, known_key_reported}
 use Rattle.ssh_review.specs.HostRecords.{print_of}
-use Rattle.ssh_review.specs.KeyRecords.{lists_key, no_key_counts, plus_key, recovers_key, unlisted_counts}
+use Rattle.ssh_review.specs.KeyRecords.{lists_key, no_key_counts, plus_key, recovers_key}
 
 -- the key of a line with this reading, the bytes that it revokes, or the key that an unreadable line holds, has this
 -- fingerprint
@@ -37,7 +38,7 @@ host_key_records_of fingerprint form asking name earlier (line ∷ lines) =
 -- the counts of a line, and whether it holds the key: one that does not counts as a line alone
 abbrev pub host_key_counts : List ℕ → Asking → List HostLine → List ℕ → KnownLine → KeyCounts
 host_key_counts fingerprint asking earlier line said = record {
-  counts = if host_holds_key fingerprint line said then host_line_counts asking earlier line said else unlisted_counts;
+  counts = if host_holds_key fingerprint line said then host_line_counts asking earlier line said else line_alone;
   stands = host_holds_key fingerprint line said;
 }
 

@@ -1,5 +1,5 @@
 -- The records of a known_hosts file's lines, and their counts.
-use Rattle.std.specs.Prelude.{◌++◌, ◌∷◌, [], ℕ, List, length, Option, option_map}
+use Rattle.std.specs.Prelude.{◌++◌, ◌∷◌, [], ℕ, List, Option, option_map}
 use Rattle.ssh_keys.specs.PublicKey.{key_blob}
 use Rattle.ssh_entries.specs.declared.known_line.KnownLine.{KnownLine}
 use Rattle.ssh_entries.specs.declared.known_line.KnownLine.TheVariants.{Blank, Comment, Entry, Revoked, RevokedUnreadable, Unreadable}
@@ -47,7 +47,7 @@ host_line_record form asking name earlier n line (Unreadable cause) =
     host_unreadable_record form name n (known_key_reported line) (host_line_findings asking earlier line (Unreadable cause))
 
 abbrev pub host_line_counts : Asking → List HostLine → List ℕ → KnownLine → Counts
-host_line_counts asking earlier line said = host_counts_with said (length (host_line_findings asking earlier line said))
+host_line_counts asking earlier line said = host_counts_with said (host_line_findings asking earlier line said)
 
 -- the facts of a line that later lines need
 abbrev pub host_kept_of : ℕ → List ℕ → KnownLine → List HostLine

@@ -10,10 +10,9 @@ use Rattle.ssh_findings.specs.Asking.{Asking}
 use Rattle.ssh_findings.specs.Earlier.{Held}
 use Rattle.ssh_findings.specs.declared.recovered_key.HeldKey.{HeldKey}
 use Rattle.ssh_findings.specs.KeyRead.{key_read}
-use Rattle.ssh_review.specs.declared.end.Counts.{Counts}
 use Rattle.ssh_review.specs.declared.end.Form.{Form}
 use Rattle.ssh_review.specs.declared.key_review.KeyCounts.{KeyCounts}
-use Rattle.ssh_review.specs.Counting.{no_counts, plus, plus_within}
+use Rattle.ssh_review.specs.Counting.{line_alone, no_counts, plus, plus_within}
 use Rattle.ssh_review.specs.Lines.{held_by_line, key_reported, line_counts, line_record}
 
 -- ---- the key of a line
@@ -50,14 +49,10 @@ key_records_of fingerprint form asking name earlier (line ∷ lines) =
 
 -- ---- the counts
 
--- a line of which no record is printed
-abbrev pub unlisted_counts : Counts
-unlisted_counts = record { lines = 1; keys = 0; unreadable = 0; findings = 0 }
-
 -- the counts of a line, and whether it holds the key: one that does not counts as a line alone
 abbrev pub key_counts : List ℕ → Asking → List Held → List ℕ → AuthLine → KeyCounts
 key_counts fingerprint asking earlier line said = record {
-  counts = if holds_key fingerprint line said then line_counts asking earlier said else unlisted_counts;
+  counts = if holds_key fingerprint line said then line_counts asking earlier said else line_alone;
   stands = holds_key fingerprint line said;
 }
 

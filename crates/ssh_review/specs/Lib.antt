@@ -8,6 +8,7 @@ pub mod Memory
 pub mod Reviews
 pub mod Shown
 pub mod Fields
+pub mod Found
 pub mod Asked
 pub mod Findings
 pub mod OptionsText

@@ -1,5 +1,5 @@
 -- The records of an authorized_keys file's lines, and their counts.
-use Rattle.std.specs.Prelude.{◌++◌, ◌∷◌, [], ◌&&◌, ℕ, Bool, List, Option, is_none, option_map, length}
+use Rattle.std.specs.Prelude.{◌++◌, ◌∷◌, [], ◌&&◌, ℕ, Bool, List, Option, is_none, option_map}
 use Rattle.ssh_entries.specs.declared.auth_line.AuthLine.{AuthLine}
 use Rattle.ssh_entries.specs.declared.auth_line.AuthLine.TheVariants.{Blank, Comment, Entry, Unreadable}
 use Rattle.ssh_entries.specs.AuthEntry.{AuthEntry}
@@ -48,7 +48,7 @@ line_record form asking name earlier (n, line) (Unreadable cause) =
     unreadable_record form name n (key_reported line) (line_findings asking earlier (Unreadable cause))
 
 abbrev pub line_counts : Asking → List Held → AuthLine → Counts
-line_counts asking earlier line = counts_with line (length (line_findings asking earlier line))
+line_counts asking earlier line = counts_with line (line_findings asking earlier line)
 
 -- the facts of the line's entry that later lines need, with its number
 abbrev pub held_by_line : Asking → ℕ × AuthLine → List Held

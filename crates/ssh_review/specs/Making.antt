@@ -2,12 +2,14 @@
 use Rattle.std.specs.Prelude.{◌≡◌, ◌≤◌, ◌<◌, ◌+◌, ◌*◌, ◌^◌, ◌⊎◌, ◌++◌, ◌∷◌, [], ℕ, false, List, length}
 use Rattle.ssh_text.specs.Text.{line_limit, lines_of, numbered}
 use Rattle.ssh_findings.specs.Asking.{Asking}
+use Rattle.ssh_findings.specs.CodeCounts.{number_of}
 use Rattle.ssh_findings.specs.Earlier.{Held}
 use Rattle.ssh_findings.specs.HostFindingsMemory.{host_bytes_kept, text_bytes_kept, texts_kept}
 use Rattle.ssh_findings.specs.HostLines.{HostLine}
 use Rattle.ssh_findings.specs.Keeping.{RemembersEntries}
 use Rattle.ssh_findings.specs.Memory.{bytes_kept, keys_kept}
 use Rattle.ssh_findings.specs.StandsFor.{RemembersLines}
+use Rattle.ssh_findings.specs.declared.code.Code.{Code}
 use Rattle.ssh_findings.specs.declared.earlier.Earlier.{Earlier}
 use Rattle.ssh_findings.specs.declared.host_earlier.EarlierHosts.{EarlierHosts}
 use Rattle.ssh_review.specs.declared.end.Counts.{Counts}
@@ -32,6 +34,7 @@ pub record AreCounts (counts : Counts) : Type 0 where
   pub keys : counts.keys < 2 ^ 64
   pub unreadable : counts.unreadable < 2 ^ 64
   pub findings : counts.findings < 2 ^ 64
+  pub by_code : (c : Code) → number_of counts.by_code c < 2 ^ 64
 
 -- the last byte is an LF
 abbrev pub EndsLine : List ℕ → Type 0

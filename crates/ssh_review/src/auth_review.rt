@@ -26,7 +26,8 @@ use crate::record::{push_entry_text, push_unreadable_text};
 use crate::records::{LineRecords, Records, whole_review};
 use ssh_entries::{AuthEntryView, AuthLineView, KeyBuffer, read_auth_view};
 use ssh_findings::{
-    Earlier, Facts, ReviewOptions, entry_findings, held_key, may_let_in, unreadable_findings,
+    CodeCounts, Earlier, Facts, ReviewOptions, entry_findings, held_key, may_let_in,
+    unreadable_findings,
 };
 use ssh_options::LineCause;
 use ssh_text::FILE_LIMIT;
@@ -57,7 +58,6 @@ pub(crate) fn push_entry_line(
 {
     let facts = Facts::read(alloc, asked.zone, entry)?;
     let found = entry_findings(alloc, asked, earlier, entry.blob(), &facts)?;
-    let findings = found.len() as u64;
     match form {
         Form::Text => push_entry_text(alloc, out, place, &facts, &found)?,
         Form::Json => {
@@ -81,7 +81,8 @@ pub(crate) fn push_entry_line(
         lines: 1,
         keys: 1,
         unreadable: 0,
-        findings,
+        findings: found.len() as u64,
+        by_code: CodeCounts::of(&found),
     })
 }
 
@@ -111,6 +112,7 @@ pub(crate) fn push_unreadable_line(
         keys: 0,
         unreadable: 1,
         findings: found.len() as u64,
+        by_code: CodeCounts::of(&found),
     })
 }
 
@@ -139,12 +141,7 @@ fn push_line(
         (λ counts. keys_kept earlier.new ≤ keys_kept earlier.old + counts.keys) }
 {
     match view {
-        AuthLineView::Blank | AuthLineView::Comment => Ok(Counts {
-            lines: 1,
-            keys: 0,
-            unreadable: 0,
-            findings: 0,
-        }),
+        AuthLineView::Blank | AuthLineView::Comment => Ok(Counts::LINE_ALONE),
         AuthLineView::Entry(entry) => push_entry_line(
             alloc, form, asked, place, entry, earlier, out,
         ),
@@ -267,8 +264,9 @@ pub fn review_auth(
     }
 }
 
-/// The line with the total of all files. It says how they were asked: of which format they are, by its name in
-/// `--kind`, the time zone as a POSIX rule, and the options of the review.
+/// The line with the total of all files; as text, behind a line for each code that was found. It says
+/// how they were asked: of which format they are, by its name in `--kind`, the time zone as a POSIX
+/// rule, and the options of the review.
 pub fn total_line(
     alloc: Global,
     form: Form,

@@ -10,7 +10,8 @@ ghost use Rattle.ssh_review.specs.EndObjects.{code_element, counts_fields, end_h
 
 use crate::asked::{AskedAt, push_asked_fields, push_asked_words, push_total_head};
 use crate::fields::{push_array, push_null_field, push_number_field, push_text_field};
-use ssh_findings::{Code, ReviewOptions};
+use crate::found::{push_found_lines, push_found_object};
+use ssh_findings::{Code, CodeCounts, ReviewOptions};
 use ssh_print::{push_escaped, push_hex, push_json_text, push_number};
 use std::alloc::{AllocError, Global};
 
@@ -34,6 +35,8 @@ pub struct Counts {
     pub unreadable: u64,
     /// Findings that are reported.
     pub findings: u64,
+    /// How often each code is reported.
+    pub by_code: CodeCounts,
 }
 
 impl Counts {
@@ -42,6 +45,16 @@ impl Counts {
         keys: 0,
         unreadable: 0,
         findings: 0,
+        by_code: CodeCounts::NONE,
+    };
+
+    /// A line that is no key, can be read, and has no findings.
+    pub(crate) const LINE_ALONE: Counts = Counts {
+        lines: 1,
+        keys: 0,
+        unreadable: 0,
+        findings: 0,
+        by_code: CodeCounts::NONE,
     };
 
     /// The sums of both. A sum stops at 2^64 - 1, since a count that wraps around would be wrong.
@@ -53,6 +66,7 @@ impl Counts {
             keys: self.keys.saturating_add(other.keys),
             unreadable: self.unreadable.saturating_add(other.unreadable),
             findings: self.findings.saturating_add(other.findings),
+            by_code: self.by_code.plus(other.by_code),
         }
     }
 }
@@ -156,7 +170,8 @@ fn asked_by<'a>(zone: &'a [u8], asked: &ReviewOptions<'_>) -> AskedAt<'a>
     }
 }
 
-/// Appends the total of all files, as text.
+/// Appends the total of all files, as text: how often each code was found, and the line of the
+/// total.
 pub(crate) fn push_total_text(
     alloc: Global,
     out: &mut Vec<u8>,
@@ -167,6 +182,7 @@ pub(crate) fn push_total_text(
     ensures { OnOk result (out.new.items
         ≡ out.old.items ++ total_text zone.now (asking_of asked.entry.now) total.now) }
 {
+    push_found_lines(out, total.counts.by_code)?;
     out.extend_from_slice(b"total: ")?;
     push_count(out, total.files, b" files, ")?;
     push_count(out, total.faults, b" faults, ")?;
@@ -276,12 +292,13 @@ fn push_review_fields(
 }
 
 #[tactic(auto, unfolding(crate::specs::EndObjects::total_counts))]
-fn push_total_counts(out: &mut Vec<u8>, total: &Total) -> Result<(), AllocError>
+fn push_total_counts(alloc: Global, out: &mut Vec<u8>, total: &Total) -> Result<(), AllocError>
     ensures { OnOk result (out.new.items ≡ out.old.items ++ total_counts total.now) }
 {
     push_number_field(out, b"files", total.files)?;
     push_number_field(out, b"faults", total.faults)?;
     push_counts_fields(out, total.counts)?;
+    push_found_object(alloc, out, total.counts.by_code)?;
     Ok(())
 }
 
@@ -301,7 +318,7 @@ pub(crate) fn push_total_object(
     push_total_head(out)?;
     push_review_fields(alloc, out, kind, asked)?;
     push_asked_fields(alloc, out, &asked_by(zone, asked))?;
-    push_total_counts(out, total)?;
+    push_total_counts(alloc, out, total)?;
     out.extend_from_slice(b"}\n")?;
     Ok(())
 }

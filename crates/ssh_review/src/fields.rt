@@ -1,7 +1,7 @@
 //! Fields of JSON objects; and the fingerprints, rights and options in records.
 
 ghost use Rattle.std.specs.Prelude.{◌≡◌, ◌++◌, OnOk, codes, drop, IfOk, ◌==◌, ◌∷◌, []};
-ghost use Rattle.ssh_review.specs.Fields.{array_field, field_name, moment_or_null, null_field, number_field, number_or_null, text_field, text_or_null, truth_field};
+ghost use Rattle.ssh_review.specs.Fields.{array_field, count_field, field_name, moment_or_null, null_field, number_field, number_or_null, object_field, text_field, text_or_null, truth_field};
 ghost use Rattle.ssh_review.specs.HostRecords.{print_of};
 ghost use Rattle.ssh_print.specs.DecisionText.{right_words};
 ghost use Rattle.ssh_review.specs.RightsWords.{rights_words, without_space};
@@ -74,6 +74,21 @@ pub(crate) fn push_number_field(
     Ok(())
 }
 
+/// Appends a field with a number that is not 0.
+pub(crate) fn push_count_field(
+    out: &mut Vec<u8>,
+    name: &[u8],
+    number: u64,
+) -> Result<(), AllocError>
+    ensures { OnOk result (out.new.items ≡ out.old.items ++ count_field name.now number) }
+{
+    if number > 0 {
+        push_number_field(out, name, number)
+    } else {
+        Ok(())
+    }
+}
+
 pub(crate) fn push_number_or_null(
     out: &mut Vec<u8>,
     name: &[u8],
@@ -127,6 +142,17 @@ pub(crate) fn push_array(out: &mut Vec<u8>, name: &[u8], elements: &[u8]) -> Res
     out.push(b'[')?;
     out.extend_from_slice(without_first(elements))?;
     out.push(b']')?;
+    Ok(())
+}
+
+/// Appends an object, of its fields with a comma before each.
+pub(crate) fn push_object(out: &mut Vec<u8>, name: &[u8], fields: &[u8]) -> Result<(), AllocError>
+    ensures { OnOk result (out.new.items ≡ out.old.items ++ object_field name.now fields.now) }
+{
+    push_field_name(out, name)?;
+    out.push(b'{')?;
+    out.extend_from_slice(without_first(fields))?;
+    out.push(b'}')?;
     Ok(())
 }
 

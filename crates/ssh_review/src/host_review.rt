@@ -10,7 +10,7 @@ ghost use Rattle.ssh_findings.specs.HostLines.{HostLine};
 ghost use Rattle.ssh_findings.specs.HostFindingsMemory.{host_bytes_kept, kept_sum};
 ghost use Rattle.ssh_findings.specs.StandsFor.{RemembersLines};
 ghost use Rattle.ssh_review.specs.declared.end.Form.{Form as FormValue};
-ghost use Rattle.ssh_review.specs.HostCounting.{host_counts_with};
+ghost use Rattle.ssh_review.specs.HostCounting.{bare_counts};
 ghost use Rattle.ssh_review.specs.HostForms.{bare_record};
 ghost use Rattle.ssh_review.specs.HostLines.{host_counts_of, host_kept_of, host_line_counts, host_line_findings, host_line_record, host_records_of};
 ghost use Rattle.ssh_review.specs.HostMemory.{host_line_bytes, host_line_sum};
@@ -27,7 +27,7 @@ use crate::key_review::KeyCounts;
 use crate::records::{LineRecords, Records, whole_review};
 use ssh_entries::{KeyBuffer, KnownEntryView, KnownLineView, read_known_view};
 use ssh_findings::{
-    EarlierHosts, HeldKey, HostFacts, HostFinding, ReviewOptions, RevocationFacts,
+    CodeCounts, EarlierHosts, HeldKey, HostFacts, HostFinding, ReviewOptions, RevocationFacts,
     host_entry_findings, known_held_key, revocation_findings, unreadable_host_findings,
     unreadable_revocation_findings,
 };
@@ -71,6 +71,7 @@ pub(crate) fn push_entry_line(
         keys: 1,
         unreadable: 0,
         findings: found.len() as u64,
+        by_code: CodeCounts::of(&found),
     })
 }
 
@@ -110,6 +111,7 @@ pub(crate) fn push_revoked_line(
         keys: 0,
         unreadable: 0,
         findings: found.len() as u64,
+        by_code: CodeCounts::of(&found),
     })
 }
 
@@ -126,8 +128,7 @@ fn push_bare_line(
 ) -> Result<Counts, AllocError>
     ensures text { OnOk result (out.new.items ≡ out.old.items
         ++ bare_record form place.entry.now.name.now place.entry.now.number is.now held found.now) }
-    ensures counts { IfOk result (λ counts. counts
-        ≡ host_counts_with KnownLine.RevokedUnreadable (length found.now)) }
+    ensures counts { IfOk result (λ counts. counts ≡ bare_counts found.now) }
 {
     match form {
         Form::Text => push_bare_text(alloc, out, place, is, held, found)?,
@@ -138,6 +139,7 @@ fn push_bare_line(
         keys: 0,
         unreadable: 1,
         findings: found.len() as u64,
+        by_code: CodeCounts::of(found),
     })
 }
 
@@ -214,12 +216,7 @@ fn push_line(
         ≤ kept_sum weight earlier.old + host_line_sum weight line.now (known_seen view.now)) }
 {
     match view {
-        KnownLineView::Blank | KnownLineView::Comment => Ok(Counts {
-            lines: 1,
-            keys: 0,
-            unreadable: 0,
-            findings: 0,
-        }),
+        KnownLineView::Blank | KnownLineView::Comment => Ok(Counts::LINE_ALONE),
         KnownLineView::Entry(entry) => push_entry_line(
             alloc, form, asked, place, line, entry, earlier, out,
         ),

@@ -42,12 +42,7 @@ impl KeyCounts {
 
     /// A line that does not hold the key.
     pub(crate) const OTHER_LINE: KeyCounts = KeyCounts {
-        counts: Counts {
-            lines: 1,
-            keys: 0,
-            unreadable: 0,
-            findings: 0,
-        },
+        counts: Counts::LINE_ALONE,
         stands: false,
     };
 

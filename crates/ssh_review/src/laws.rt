@@ -3,6 +3,7 @@
 ghost use Rattle.std.specs.Prelude.{◌≡◌, ◌⊎◌, [], ℕ, Bool, true, List, Option};
 ghost use Rattle.ssh_entries.specs.AuthGrammar.{auth_line};
 ghost use Rattle.ssh_findings.specs.Asking.{Asking};
+ghost use Rattle.ssh_findings.specs.CodeCounts.{findings_in};
 ghost use Rattle.ssh_findings.specs.Earlier.{Held};
 ghost use Rattle.ssh_offers.specs.FirstRefusal.{AreBytes};
 ghost use Rattle.ssh_review.specs.OneLine.{is_line, HaveByteValues, IsHeldOfBytes, IsOfBytes, are_printable};
@@ -13,7 +14,7 @@ ghost use Rattle.ssh_review.specs.declared.end.Form.{Form};
 ghost use Rattle.ssh_review.specs.declared.end.Form.TheVariants.{Json};
 ghost use Rattle.ssh_review.specs.EndObjects.{end_object, fault_object, total_object};
 ghost use Rattle.ssh_review.specs.Forms.{file_fault_line, total_line};
-ghost use Rattle.ssh_review.specs.Lines.{line_record};
+ghost use Rattle.ssh_review.specs.Lines.{counts_of, line_record};
 ghost use Rattle.ssh_review.specs.Reviews.{auth_review};
 ghost use Rattle.ssh_review.specs.Shown.{are_shown};
 ghost use Rattle.ssh_options.specs.AuthOption.{AuthOption};
@@ -24,7 +25,7 @@ ghost use Rattle.ssh_review.specs.Objects.{entry_object, unreadable_object};
 ghost use Rattle.ssh_print.specs.Strings.{json_text};
 ghost use Rattle.ssh_entries.specs.KnownGrammar.{known_line};
 ghost use Rattle.ssh_findings.specs.HostLines.{HostLine};
-ghost use Rattle.ssh_review.specs.HostLines.{host_line_record};
+ghost use Rattle.ssh_review.specs.HostLines.{host_counts_of, host_line_record};
 ghost use Rattle.ssh_review.specs.HostReviews.{known_review};
 
 /// In JSON each record, each end and the total is one line of printable ASCII, whatever bytes are
@@ -62,6 +63,16 @@ fn shown_rule()
         → AreBytes kind
         → AreBytes zone
         → are_shown (total_line form kind zone asking t) ≡ true }
+{}
+
+/// Each reported finding of a file is counted under its code: the numbers of all codes together are
+/// the number of findings.
+fn counts_rule()
+    ensures entries { (asking : Asking) (lines : List (ℕ × List ℕ))
+        → findings_in (counts_of asking [] lines).by_code ≡ (counts_of asking [] lines).findings }
+    ensures hosts { (asking : Asking) (lines : List (ℕ × List ℕ))
+        → findings_in (host_counts_of asking [] lines).by_code
+        ≡ (host_counts_of asking [] lines).findings }
 {}
 
 /// Each record is one line of printable ASCII, whatever bytes it is given: no byte of a file can

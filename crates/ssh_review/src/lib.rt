@@ -68,6 +68,7 @@ mod decision_laws;
 mod end;
 mod fields;
 mod findings;
+mod found;
 mod host_json_record;
 mod host_key_review;
 mod host_record;
