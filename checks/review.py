@@ -39,7 +39,7 @@ RIGHTS = ("port", "agent", "x11", "pty", "rc")
 AUTH_FIELDS = ["file", "line", "what", "type", "bits", "key", "comment", "options", "rights", "command", "source", "principals", "expires", "shadowed_by", "lets_in", "findings"]
 KNOWN_FIELDS = ["file", "line", "what", "type", "bits", "key", "comment", "names", "findings"]
 END_FIELDS = ["file", "what", "lines", "key_lines", "unreadable", "findings", "sha256", "fault"]
-TOTAL_FIELDS = ["what", "format", "program", "kind", "rsa_minimum", "told", "now", "at", "zone", "files", "faults", "lines", "key_lines", "unreadable", "findings", "findings_by_code"]
+TOTAL_FIELDS = ["what", "format", "program", "kind", "rsa_minimum", "told", "now", "at", "zone", "files", "faults", "faults_by_code", "lines", "key_lines", "unreadable", "findings", "findings_by_code"]
 # The first moment of 2026 in UTC, which an expiry time of that day names.
 NEW_YEAR = 1_767_225_600
 FORWARDS = "    F9: its command is forced, but it may still forward: add restrict"
@@ -123,7 +123,7 @@ WORKED_JSON = r"""{"file":"web1/ann","line":2,"what":"key","type":"ssh-ed25519",
 {"file":"web1/ann","line":10,"what":"key","type":"ssh-rsa","bits":2048,"key":"SHA256:Bfvk8D9yagody1EbQdzAz5byw0A51qzcCWURIjCLnN4","comment":"","options":"verify-required","rights":"port agent x11 pty rc","command":null,"source":null,"principals":null,"expires":null,"shadowed_by":null,"lets_in":true,"findings":[{"code":"F8","detail":"verify-required"}]}
 {"file":"web1/ann","what":"end","lines":10,"key_lines":8,"unreadable":1,"findings":6,"sha256":"a3b51c142bcda45a43c1dd1d736f45ea9554b013929818c32d1e1950dbd33041","fault":null}
 {"file":"web1/none","what":"end","lines":0,"key_lines":0,"unreadable":0,"findings":0,"sha256":null,"fault":"A9"}
-{"what":"total","format":2,"program":"ssh_audit 1.0.0","kind":"auth","rsa_minimum":2048,"told":["F1","F2","F3","F4","F5","F6","F7","F8","F9","F10","F11","F12","F13","F14","F22"],"now":1770000000,"at":"2026-02-02T02:40:00Z","zone":"UTC0","files":2,"faults":1,"lines":10,"key_lines":8,"unreadable":1,"findings":6,"findings_by_code":{"F1":1,"F4":1,"F5":1,"F6":1,"F8":1,"F9":1}}
+{"what":"total","format":2,"program":"ssh_audit 1.0.0","kind":"auth","rsa_minimum":2048,"told":["F1","F2","F3","F4","F5","F6","F7","F8","F9","F10","F11","F12","F13","F14","F22"],"now":1770000000,"at":"2026-02-02T02:40:00Z","zone":"UTC0","files":2,"faults":1,"faults_by_code":{"A9":1},"lines":10,"key_lines":8,"unreadable":1,"findings":6,"findings_by_code":{"F1":1,"F4":1,"F5":1,"F6":1,"F8":1,"F9":1}}
 """
 
 # Bytes that are no text: UTF-8, an escape sequence that clears a screen, a byte ff and a CR.
@@ -138,7 +138,7 @@ total: 1 files, 0 faults, 1 lines, 1 key lines, 0 unreadable, 1 findings, asked 
 """
 ODD_JSON = r"""{"file":"odd","line":1,"what":"key","type":"ssh-ed25519","bits":null,"key":"SHA256:gXMk5B5PxTYWe+Q7kQzHGRTNDb0nrzC3BLT7EPMvKSg","comment":"m\\xc3\\xbcller\\x1b[2J\\xff","options":"command=\"a\\x5cb \\x5c\"c\\x5c\" \\xc3\\xa4\"","rights":"port agent x11 pty rc","command":"a\\x5cb \"c\" \\xc3\\xa4","source":null,"principals":null,"expires":null,"shadowed_by":null,"lets_in":true,"findings":[{"code":"F9","detail":""}]}
 {"file":"odd","what":"end","lines":1,"key_lines":1,"unreadable":0,"findings":1,"sha256":"886bbc8ffa56bed5a1030ccd048549abedd0932d9d3863db4d887f07638f2910","fault":null}
-{"what":"total","format":2,"program":"ssh_audit 1.0.0","kind":"auth","rsa_minimum":2048,"told":["F1","F2","F3","F4","F5","F6","F7","F8","F9","F10","F11","F12","F13","F14","F22"],"now":1770000000,"at":"2026-02-02T02:40:00Z","zone":"UTC0","files":1,"faults":0,"lines":1,"key_lines":1,"unreadable":0,"findings":1,"findings_by_code":{"F9":1}}
+{"what":"total","format":2,"program":"ssh_audit 1.0.0","kind":"auth","rsa_minimum":2048,"told":["F1","F2","F3","F4","F5","F6","F7","F8","F9","F10","F11","F12","F13","F14","F22"],"now":1770000000,"at":"2026-02-02T02:40:00Z","zone":"UTC0","files":1,"faults":0,"faults_by_code":{},"lines":1,"key_lines":1,"unreadable":0,"findings":1,"findings_by_code":{"F9":1}}
 """
 POLICY = r"""web1/ann:2: key ssh-ed25519 SHA256:gXMk5B5PxTYWe+Q7kQzHGRTNDb0nrzC3BLT7EPMvKSg laptop@example
     rights port agent x11 pty rc
@@ -200,7 +200,7 @@ HOSTS_JSON = r"""{"file":"known","line":2,"what":"key","type":"ssh-ed25519","bit
 {"file":"known","line":9,"what":"unreadable","type":"ssh-ed25519","bits":null,"key":"SHA256:K1O2eINbmb17fEiDcz4h4FqkT185rAHrxyBBdF4KQT8","comment":null,"names":null,"findings":[{"code":"F1","detail":"L16"}]}
 {"file":"known","line":10,"what":"key","type":"ssh-ed25519","bits":null,"key":"SHA256:K1O2eINbmb17fEiDcz4h4FqkT185rAHrxyBBdF4KQT8","comment":"","names":"[git.example.org]:2222","findings":[]}
 {"file":"known","what":"end","lines":10,"key_lines":6,"unreadable":2,"findings":6,"sha256":"256b6d0a7a61116a5090af644595ba7ab28f34ef7693844bf761f174a13ea6fa","fault":null}
-{"what":"total","format":2,"program":"ssh_audit 1.0.0","kind":"known","rsa_minimum":2048,"told":["F1","F2","F3","F4","F5","F6","F7","F8","F9","F10","F11","F12","F13","F14","F22"],"now":1770000000,"at":"2026-02-02T02:40:00Z","zone":"UTC0","files":1,"faults":0,"lines":10,"key_lines":6,"unreadable":2,"findings":6,"findings_by_code":{"F1":1,"F10":1,"F11":1,"F12":1,"F13":1,"F14":1}}
+{"what":"total","format":2,"program":"ssh_audit 1.0.0","kind":"known","rsa_minimum":2048,"told":["F1","F2","F3","F4","F5","F6","F7","F8","F9","F10","F11","F12","F13","F14","F22"],"now":1770000000,"at":"2026-02-02T02:40:00Z","zone":"UTC0","files":1,"faults":0,"faults_by_code":{},"lines":10,"key_lines":6,"unreadable":2,"findings":6,"findings_by_code":{"F1":1,"F10":1,"F11":1,"F12":1,"F13":1,"F14":1}}
 """
 
 
@@ -650,7 +650,7 @@ def drawn_file(draw, keys):
 def records_of(answer):
     """The records of each file by number, and the objects of ends and of the total, in their order."""
     lines = [json.loads(line, object_pairs_hook=list) for line in answer.decode("ascii").split("\n")[:-1]]
-    objects = [{name: dict(value) if name == "findings_by_code" else plain(value) for name, value in line} for line in lines]
+    objects = [{name: dict(value) if name.endswith("_by_code") else plain(value) for name, value in line} for line in lines]
     fields = [[name for name, _ in line] for line in lines]
     return objects, fields
 
@@ -981,6 +981,8 @@ def name_rows(audit, tally):
     _, answer, _ = audit.run(review("a\nb", "\u00e9\\", form="json"))
     objects, _ = records_of(answer)
     tally.check("names in JSON", [made["file"] for made in objects if is_record(made)], ["a\\x0ab", "\\xc3\\xa9\\x5c"])
+    objects, _ = records_of(audit.run(review("missing", "key", "/dev/zero", ".", form="json"))[1])
+    tally.check("faults by their codes", (objects[-1]["faults"], list(objects[-1]["faults_by_code"].items())), (3, [("A7", 1), ("A9", 2)]))
 
 
 def many_rows(audit, tally):

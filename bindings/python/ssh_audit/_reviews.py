@@ -57,14 +57,15 @@ class FileEnd:
 
 @dataclass(frozen=True)
 class Total:
-    """How was asked, and the counts of all files. `findings_by_code` has how often each code was found, and no code that was not.
-    A review without it was cut off."""
+    """How was asked, and the counts of all files. `faults_by_code` and `findings_by_code` have how often each code was told, and
+    none that was not. A review without its total was cut off."""
 
     program: str
     now: int
     zone: Optional[str]
     files: int
     faults: int
+    faults_by_code: Dict[str, int]
     lines: int
     key_lines: int
     unreadable: int
@@ -114,7 +115,7 @@ def _end(told: Dict[str, Any], file: str) -> FileEnd:
 
 
 def _total(told: Dict[str, Any]) -> Total:
-    return Total(*(told[name] for name in ("program", "now", "zone", "files", "faults", "lines", "key_lines", "unreadable", "findings", "findings_by_code")))
+    return Total(*(told[name] for name in ("program", "now", "zone", "files", "faults", "faults_by_code", "lines", "key_lines", "unreadable", "findings", "findings_by_code")))
 
 
 def review(

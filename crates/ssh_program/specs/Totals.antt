@@ -4,6 +4,7 @@ use Rattle.ssh_review.specs.declared.end.Counts.{Counts}
 use Rattle.ssh_review.specs.declared.end.FileFault.{FileFault}
 use Rattle.ssh_review.specs.declared.end.Total.{Total}
 use Rattle.ssh_review.specs.Counting.{no_counts, plus_within}
+use Rattle.ssh_review.specs.FaultCounts.{faults_with, no_faults}
 use Rattle.ssh_review.specs.Reviews.{Review}
 
 -- a sum of counts stops at 2^64 - 1
@@ -16,13 +17,14 @@ fault_count (Some fault) = 1
 
 -- the total before the first file
 abbrev pub nothing : Total
-nothing = record { files = 0; faults = 0; counts = no_counts }
+nothing = record { files = 0; faults = 0; faults_by_code = no_faults; counts = no_counts }
 
 -- the total with one more file, of these counts or with this fault
 abbrev pub with_counted : Total → Counts → Option FileFault → Total
 with_counted total counts fault = record {
   files = counted total.files 1;
   faults = counted total.faults (fault_count fault);
+  faults_by_code = faults_with total.faults_by_code fault;
   counts = plus_within total.counts counts;
 }
 

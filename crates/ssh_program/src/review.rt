@@ -29,7 +29,7 @@ use jiff::tz::TimeZone;
 use ssh_files::{Files, read_bits, read_whole, zone_of};
 use ssh_findings::{Code, ReviewOptions, parse_codes};
 use ssh_print::{DONE, FAULT};
-use ssh_review::{Counts, FileFault, Form, Total, auth_records, known_records};
+use ssh_review::{Counts, FaultCounts, FileFault, Form, Total, auth_records, known_records};
 use std::alloc::Global;
 
 /// The format of the files under review.
@@ -131,6 +131,7 @@ pub const FOUND: u8 = 1;
 pub const NOTHING: Total = Total {
     files: 0,
     faults: 0,
+    faults_by_code: FaultCounts::NONE,
     counts: Counts::NONE,
 };
 
@@ -150,6 +151,7 @@ pub fn with_counted(total: Total, counts: Counts, fault: Option<FileFault>) -> T
     Total {
         files: total.files.saturating_add(1),
         faults: total.faults.saturating_add(fault_count(fault)),
+        faults_by_code: total.faults_by_code.with_fault(fault),
         counts: total.counts.plus(counts),
     }
 }

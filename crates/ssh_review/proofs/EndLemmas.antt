@@ -1,7 +1,7 @@
 -- The end of a file and the total are one line each as JSON objects.
 use Rattle.ssh_review.proofs.Imports.{◌≡◌, ℕ, pos, true, List, [], ◌∷◌, refl, codes, flat_map, Code, Asking, code_text, AreBytes, AreBytesIfAny, are_printable, is_line, Counts, FileFault, Unread, TooLong, Total, no_counts, fault_code}
 use Rattle.ssh_review.proofs.DateTextLemmas.{date-printable}
-use Rattle.ssh_review.proofs.FieldLemmas.{any-text-printable, null-printable, number-printable, said-printable, text-printable}
+use Rattle.ssh_review.proofs.FieldLemmas.{any-text-printable, count-printable, null-printable, number-printable, object-printable, said-printable, text-printable}
 use Rattle.ssh_review.proofs.FoundLemmas.{found-printable}
 use Rattle.ssh_review.proofs.PrintableLemmas.{ArePrintable, bytes-from_printable, hex-printable, join, line-from, rest-printable, string-printable, word}
 use Rattle.ssh_review.proofs.WordLemmas.{code-printable as code_word-printable}
@@ -9,6 +9,8 @@ use Rattle.ssh_print.specs.AnswerText.{sentence}
 use Rattle.ssh_print.specs.Table.{answers, bodies, certificates, faults, fields, findings, keys, lines, reasons, row_of, table}
 use Rattle.ssh_review.specs.Asked.{Asked, asked_fields, program_field, total_head}
 use Rattle.ssh_review.specs.Ends.{asked_by}
+use Rattle.ssh_review.specs.FaultCounts.{faults_object}
+use Rattle.ssh_review.specs.declared.fault_counts.FaultCounts.{FaultCounts}
 use Rattle.ssh_review.specs.Fields.{array_field}
 use Rattle.ssh_review.specs.EndObjects.{code_element, counts_fields, end_head, end_object, fault_object, review_fields, total_counts, total_object}
 
@@ -73,12 +75,19 @@ review-printable kind asking h =
     let least = number-printable (codes "rsa_minimum") asking.rsa_minimum refl in
     join (join named least) (array-printable (codes "told") (flat_map code_element asking.reported) refl (elements-printable asking.reported))
 
+faults-printable : (counts : FaultCounts) → ArePrintable (faults_object counts)
+unfolding faults_object
+faults-printable counts =
+    let long = count-printable (fault_code TooLong) counts.too_long refl in
+    object-printable (codes "faults_by_code") _ refl (join long (count-printable (fault_code Unread) counts.unread refl))
+
 total-counts-printable : (t : Total) → ArePrintable (total_counts t)
 unfolding total_counts
 total-counts-printable t =
     let files = number-printable (codes "files") t.files refl in
     let faults = number-printable (codes "faults") t.faults refl in
-    join (join (join files faults) (counts-printable t.counts)) (found-printable t.counts.by_code)
+    let by_code = join (join files faults) (faults-printable t.faults_by_code) in
+    join (join by_code (counts-printable t.counts)) (found-printable t.counts.by_code)
 
 pub total-line : (kind zone : List ℕ) (asking : Asking) (t : Total) → AreBytes kind → AreBytes zone → is_line (total_object kind zone asking t) ≡ true
 unfolding total_object total_head

@@ -6,6 +6,7 @@ use Rattle.ssh_findings.specs.Asking.{Asking}
 use Rattle.ssh_findings.specs.Codes.{code_text}
 use Rattle.ssh_findings.specs.declared.code.Code.{Code}
 use Rattle.ssh_review.specs.Asked.{asked_fields, total_head}
+use Rattle.ssh_review.specs.FaultCounts.{faults_object}
 use Rattle.ssh_review.specs.Found.{found_object}
 use Rattle.ssh_review.specs.Fields.{array_field, null_field, number_field, text_field}
 use Rattle.ssh_print.specs.Strings.{json_text}
@@ -47,7 +48,7 @@ review_fields kind asking =
 
 unfoldable pub total_counts : Total → List ℕ
 total_counts t =
-    number_field (codes "files") t.files ++ number_field (codes "faults") t.faults ++ counts_fields t.counts
+    number_field (codes "files") t.files ++ number_field (codes "faults") t.faults ++ faults_object t.faults_by_code ++ counts_fields t.counts
     ++ found_object t.counts.by_code
 
 -- how the review was asked, and what was counted in all files

@@ -1,6 +1,7 @@
 pub mod Counting
 pub mod Records
 pub mod Ends
+pub mod FaultCounts
 pub mod EndObjects
 pub mod Forms
 pub mod Lines

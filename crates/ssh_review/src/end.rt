@@ -9,6 +9,7 @@ ghost use Rattle.ssh_review.specs.Ends.{asked_by, count_text, counts_text, end_t
 ghost use Rattle.ssh_review.specs.EndObjects.{code_element, counts_fields, end_head, end_object, fault_object, review_fields, total_counts, total_object};
 
 use crate::asked::{AskedAt, push_asked_fields, push_asked_words, push_total_head};
+use crate::fault_counts::{FaultCounts, push_faults_object};
 use crate::fields::{push_array, push_null_field, push_number_field, push_text_field};
 use crate::found::{push_found_lines, push_found_object};
 use ssh_findings::{Code, CodeCounts, ReviewOptions};
@@ -95,6 +96,8 @@ pub struct Total {
     pub files: u64,
     /// Files that were not reviewed.
     pub faults: u64,
+    /// How many files had which fault.
+    pub faults_by_code: FaultCounts,
     pub counts: Counts,
 }
 
@@ -297,6 +300,7 @@ fn push_total_counts(alloc: Global, out: &mut Vec<u8>, total: &Total) -> Result<
 {
     push_number_field(out, b"files", total.files)?;
     push_number_field(out, b"faults", total.faults)?;
+    push_faults_object(alloc, out, total.faults_by_code)?;
     push_counts_fields(out, total.counts)?;
     push_found_object(alloc, out, total.counts.by_code)?;
     Ok(())
