@@ -27,6 +27,7 @@ LISTS = {
     "rewrite kind": ("ssh_program/src/rewriting.rt", "rewrite_kind"),
     "review kind": ("ssh_program/src/review.rt", "read_kind"),
     "form": ("ssh_program/src/review.rt", "read_form"),
+    "show": ("ssh_program/src/review_show.rt", "read_show"),
     "empty-principals": ("ssh_files/src/values.rt", "read_empty_principals"),
     "findings": ("ssh_findings/src/code.rt", "parse_codes"),
 }

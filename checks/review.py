@@ -9,7 +9,7 @@ of the line; whoever `admits` lets in, gets in by a line that has a record, is n
 somebody, and leaves the rights that were admitted; the lines that `admits` cannot read are those that the review calls
 unreadable; each fingerprint that `ssh-keygen -lf` prints of the file is in a record; asked for by its fingerprint, each key has the records
 that the whole review has of it; both forms tell the same, and the
-JSON lines have their fields in order. Then names, limits, faults, statuses and writers that fail. Random known_hosts files
+JSON lines have their fields in order; what `--show` leaves out is left out of both. Then names, limits, faults, statuses and writers that fail. Random known_hosts files
 are compared with a model of theirs in the same way, and with the hosts that `trusts` trusts by them.
 
 The same seed gives the same files, but for the keys. Needs ssh-keygen (Debian: openssh-client) and the built program. The
@@ -906,6 +906,8 @@ def auth_rows(audit, tally, draw, count):
     objects, _ = reviewed(audit, tally, "another zone", list(files), contents, AUTH_FIELDS, **asked)
     model_row(tally, "another zone", objects, files, NEW_YEAR - 3600, shift=3600, minimum=3073)
     told_rows(audit, tally, list(files), objects, asked)
+    for listed in (None, "none", "all", "F9"):
+        shown_rows(audit, tally, f"findings {listed}", list(files), findings=listed, **asked)
     zone_row(audit, tally, list(files), objects, asked)
 
 
@@ -918,6 +920,36 @@ def told_rows(audit, tally, names, everything, asked):
         wanted = [{**made, "findings": [found for found in made["findings"] if found["code"] in told]} for made in everything if is_record(made)]
         count = sum(len(made["findings"]) for made in wanted)
         tally.check(f"findings {listed}", ([made for made in objects if is_record(made)] == wanted, objects[-1]["findings"], status), (True, count, 1 if count else 0))
+
+
+def is_found(made):
+    """A record of a line with a finding, or that cannot be read."""
+    return bool(made["findings"]) or made["what"] in ("unreadable", "revocation-unreadable")
+
+
+SHOWN = {
+    "all": lambda made: True,
+    "found": lambda made: not is_record(made) or is_found(made),
+    "totals": lambda made: made["what"] == "total" or not is_record(made) and made["fault"] is not None,
+}
+
+
+def parts_of(text):
+    """The text of each record, of each end, and of the total with the codes before it."""
+    return re.findall(rb"(?:F\d+: \d+, .*\n)*[^ ].*\n(?:    .*\n)*", text)
+
+
+def shown_rows(audit, tally, what, names, **asked):
+    """`--show` leaves out records and ends, and nothing else: the counts and the status stay."""
+    for form in ("text", "json"):
+        for given in (names, [*names, "missing"], ["missing"]):
+            objects, _ = records_of(audit.run(review(*given, form="json", **asked))[1])
+            status, whole, _ = audit.run(review(*given, form=form, **asked))
+            parts = parts_of(whole) if form == "text" else whole.splitlines(keepends=True)
+            for show, keeps in SHOWN.items():
+                wanted = b"".join(part for part, made in zip(parts, objects) if keeps(made))
+                found = audit.run(review(*given, form=form, show=show, **asked))[:2]
+                tally.check(f"{what}: {show} of {len(given)} files as {form}", (len(parts), found), (len(objects), (status, wanted)))
 
 
 def zone_row(audit, tally, names, objects, asked):
@@ -1018,7 +1050,7 @@ def fault_rows(audit, tally):
     values = {
         "kind": ["", "auths", "AUTH", "key"], "now": ["", "-", "1.5", "18446744073709551616", "1 "], "zone": ["", "x", "Europe/Nowhere", "/usr/share/zoneinfo/Europe/Berlin", "Europe/../Europe/Berlin",
                  "local:", "local:x", "local:Europe/Berlin", "Local:UTC0"],
-        "rsa-minimum": ["", "x", "4294967296"], "form": ["", "tsv", "JSON"],
+        "rsa-minimum": ["", "x", "4294967296"], "form": ["", "tsv", "JSON"], "show": ["", "ALL", "none", "found,totals", "total"],
         "key": ["SHA256:", "SHA256:x", "SHA256:" + 43 * "/"],
         "findings": ["", ",", "F1,,F2", "F1,", ",F1", "F0", "F23", "F01", "f1", "F", "F1 ,F2", "all,F1", "none,none", "ALL"],
     }
@@ -1032,7 +1064,7 @@ def fault_rows(audit, tally):
         tally.check(f"the first of several: {option}", audit.run(review("missing", **given)), (2, f"fault value {option}\n".encode(), b""))
     for what, words in (
         ("no kind", review("key", kind=None)), ("an option twice", review("key", now=1) + ["--now", "1"]),
-        ("an unknown option", review("key", soon=1)), ("a file by an option", review("key", file="key")), ("help", ["review", "--help"]),
+        ("what is shown of one key", review("key", show="all", key="key")), ("an unknown option", review("key", soon=1)), ("a file by an option", review("key", file="key")), ("help", ["review", "--help"]),
     ):
         tally.check(f"usage: {what}", audit.run(words), (2, b"fault usage\n", HINT))
     for listed in ("all", "none", ",".join(f"F{number}" for number in range(22, 0, -1)), "F1,F1"):
@@ -1303,6 +1335,8 @@ def known_rows(audit, tally, draw, count):
     host_model_row(tally, "known_hosts files by 3,073 bits", objects, files, 3073)
     fingerprint_row(audit, tally, "known_hosts files", list(contents), objects)
     standing_row(audit, tally, "known_hosts files", list(contents), keys, objects, kind="known", rsa_minimum=3073)
+    for listed in (None, "none", "all"):
+        shown_rows(audit, tally, f"known_hosts files, findings {listed}", list(contents), kind="known", findings=listed)
     records, wrong, grants = by_file(objects), [], 0
     for key in keys:
         for host in ("h.example", "192.0.2.7", "g.example"):

@@ -30,7 +30,7 @@ _ssh_audit() {
     hash) options='--file --salts' ;;
     admits) options='--key --fingerprint --user --address --now --host --zone --empty-principals --rsa-minimum --form' operands=files ;;
     trusts) options='--key --host --now --port --empty-principals --rsa-minimum --form' operands=files ;;
-    review) options='--kind --now --key --zone --rsa-minimum --findings --form --files-from' operands=files ;;
+    review) options='--kind --now --key --zone --rsa-minimum --findings --show --form --files-from' operands=files ;;
     explain) operands=codes ;;
     esac
     [[ $given != -- ]] || option=
@@ -57,6 +57,7 @@ _ssh_audit() {
                 [[ ,$before == *,$at,* ]] || words+=" $before$at"
             done
             ;;
+        *' --show') words='all found totals' ;;
         esac
     elif [[ $given != -- && ($word == -* || -z $operands) ]]; then
         for at in $options --help; do

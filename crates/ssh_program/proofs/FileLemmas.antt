@@ -5,16 +5,17 @@ use Rattle.sha2.specs.Sha256.{sha256}
 use Rattle.ssh_files.specs.declared.read.ReadError.TheVariants as read
 use Rattle.ssh_text.specs.Text.{numbered}
 use Rattle.ssh_review.specs.Forms.{end_line}
-use Rattle.ssh_review.specs.HostLines.{host_counts_of, host_records_of}
-use Rattle.ssh_review.specs.HostReviews.{host_whole_review}
-use Rattle.ssh_review.specs.Lines.{counts_of, records_of}
-use Rattle.ssh_review.specs.Reviews.{whole_review}
+use Rattle.ssh_review.specs.HostLines.{host_counts_of}
+use Rattle.ssh_review.specs.Lines.{counts_of}
+use Rattle.ssh_review.specs.ShownRecords.{host_shown_whole_review, shown_end, shown_records, shown_whole_review}
+use Rattle.ssh_review.specs.ToldLines.{host_lines_told, lines_told}
+use Rattle.ssh_review.specs.declared.show.Show.{Show}
 use Rattle.ssh_review.specs.declared.end.FileFault.TheVariants.{Unread}
 use Rattle.ssh_program.specs.declared.streaming.FileReported.{FileReported}
 use Rattle.ssh_program.specs.declared.streaming.Stop.{Stop}
 use Rattle.ssh_program.specs.declared.streaming.Stop.TheVariants as stop
 use Rattle.ssh_program.specs.FileReviews.{TextPut, TextWritten, UnreadPut, review_kept}
-use Rattle.ssh_program.proofs.PutLemmas.{end-some, nothing-reported, put-nothing, text-reported}
+use Rattle.ssh_program.proofs.PutLemmas.{nothing-reported, text-reported}
 use Rattle.ssh_program.proofs.WrittenText.{nothing_taken}
 
 -- ---- a file within the limit
@@ -26,63 +27,46 @@ within-false n h = go (nat_lt file_limit n) refl
     go true e = absurd (omega (arith, ltb-true file_limit n e, h))
     go false e = e
 
-pub auth-put : (form : Form) (asking : Asking) (name file : List ℕ) (old new : Option Account) (r : Result FileReported Stop) → length file ≤ file_limit
-    → TextPut (records_of form asking name [] (numbered 1 (lines_of file)) ++ end_line form name (counts_of asking [] (numbered 1 (lines_of file))) (sha256 file))
+pub auth-put : (show : Show) (form : Form) (asking : Asking) (name file : List ℕ) (old new : Option Account) (r : Result FileReported Stop) → length file ≤ file_limit
+    → TextPut (shown_records show (lines_told form asking name [] (numbered 1 (lines_of file))) ++ shown_end show (end_line form name (counts_of asking [] (numbered 1 (lines_of file))) (sha256 file)))
     (record { counts = counts_of asking [] (numbered 1 (lines_of file)); stands = false; fault = None }) old new r
-    → TextPut (review_of Auth form asking name file).text (review_kept (review_of Auth form asking name file)) old new r
-unfolding whole_review
-auth-put form asking name file old new r few h =
-    subst (λ (b : Bool). TextPut (if b then fault_review form name TooLong else whole_review form asking name file).text (review_kept (if b then fault_review form name TooLong else whole_review form asking name file)) old new r)
+    → TextPut (review_of Auth show form asking name file).text (review_kept (review_of Auth show form asking name file)) old new r
+unfolding shown_whole_review
+auth-put show form asking name file old new r few h =
+    subst (λ (b : Bool). TextPut (if b then fault_review form name TooLong else shown_whole_review show form asking name file).text (review_kept (if b then fault_review form name TooLong else shown_whole_review show form asking name file)) old new r)
     (sym (within-false (length file) few)) h
 
-pub known-put : (form : Form) (asking : Asking) (name file : List ℕ) (old new : Option Account) (r : Result FileReported Stop) → length file ≤ file_limit
-    → TextPut (host_records_of form asking name [] (numbered 1 (lines_of file)) ++ end_line form name (host_counts_of asking [] (numbered 1 (lines_of file))) (sha256 file))
+pub known-put : (show : Show) (form : Form) (asking : Asking) (name file : List ℕ) (old new : Option Account) (r : Result FileReported Stop) → length file ≤ file_limit
+    → TextPut (shown_records show (host_lines_told form asking name [] (numbered 1 (lines_of file))) ++ shown_end show (end_line form name (host_counts_of asking [] (numbered 1 (lines_of file))) (sha256 file)))
     (record { counts = host_counts_of asking [] (numbered 1 (lines_of file)); stands = false; fault = None }) old new r
-    → TextPut (review_of Known form asking name file).text (review_kept (review_of Known form asking name file)) old new r
-unfolding host_whole_review
-known-put form asking name file old new r few h =
-    subst (λ (b : Bool). TextPut (if b then fault_review form name TooLong else host_whole_review form asking name file).text (review_kept (if b then fault_review form name TooLong else host_whole_review form asking name file)) old new r)
+    → TextPut (review_of Known show form asking name file).text (review_kept (review_of Known show form asking name file)) old new r
+unfolding host_shown_whole_review
+known-put show form asking name file old new r few h =
+    subst (λ (b : Bool). TextPut (if b then fault_review form name TooLong else host_shown_whole_review show form asking name file).text (review_kept (if b then fault_review form name TooLong else host_shown_whole_review show form asking name file)) old new r)
     (sym (within-false (length file) few)) h
-
--- memory could not be allocated for its first record
-pub auth-refused : (form : Form) (asking : Asking) (name file : List ℕ) (a : Option Account) → length file ≤ file_limit
-    → TextPut (review_of Auth form asking name file).text (review_kept (review_of Auth form asking name file)) a a (Err stop.Memory)
-auth-refused form asking name file a few =
-    let counts = counts_of asking [] (numbered 1 (lines_of file)) in
-    auth-put form asking name file a a (Err stop.Memory) few
-    (put-nothing (records_of form asking name [] (numbered 1 (lines_of file))) (end_line form name counts (sha256 file)) (record { counts = counts; stands = false; fault = None }) a
-    (end-some form name counts (sha256 file)))
-
-pub known-refused : (form : Form) (asking : Asking) (name file : List ℕ) (a : Option Account) → length file ≤ file_limit
-    → TextPut (review_of Known form asking name file).text (review_kept (review_of Known form asking name file)) a a (Err stop.Memory)
-known-refused form asking name file a few =
-    let counts = host_counts_of asking [] (numbered 1 (lines_of file)) in
-    known-put form asking name file a a (Err stop.Memory) few
-    (put-nothing (host_records_of form asking name [] (numbered 1 (lines_of file))) (end_line form name counts (sha256 file)) (record { counts = counts; stands = false; fault = None }) a
-    (end-some form name counts (sha256 file)))
 
 -- ---- a file that was read
 
-file-reported : (kind : ReviewKind) (form : Form) (asking : Asking) (name file bytes : List ℕ) (o t : Option SourceState) → bytes ≡ file
+file-reported : (kind : ReviewKind) (show : Show) (form : Form) (asking : Asking) (name file bytes : List ℕ) (o t : Option SourceState) → bytes ≡ file
     → IfTells o (λ s. (within_limit (bytes_at s name) ≡ Some file) × IsLeft s (after_whole s name) t) → IfTells o (λ s. KeepsOthers name s t)
-    → IfTells o (λ s. TellsFile (telling_review kind form asking) name s t (review_of kind form asking name bytes))
-file-reported kind form asking name file bytes None t is loads keeps = tt
-file-reported kind form asking name file bytes (Some s) t is loads keeps = λ counts.
+    → IfTells o (λ s. TellsFile (telling_review kind show form asking) name s t (review_of kind show form asking name bytes))
+file-reported kind show form asking name file bytes None t is loads keeps = tt
+file-reported kind show form asking name file bytes (Some s) t is loads keeps = λ counts.
     let load = loads counts in (
       keeps counts,
       inr (
         left-none s (after_whole s name) t load.1,
         left-end name s t load.1,
-        ap (review_of kind form asking name) is ∙ ap (review_over kind form asking name) (sym (read-all (bytes_at s name) file load.0)),
+        ap (review_of kind show form asking name) is ∙ ap (review_over kind show form asking name) (sym (read-all (bytes_at s name) file load.0)),
       ),
     )
 
-pub file_reviewed : (kind : ReviewKind) (form : Form) (asking : Asking) (name file bytes : List ℕ) (o t : Option SourceState) (old new : Option Account) (r : Result FileReported Stop) → bytes ≡ file
+pub file_reviewed : (kind : ReviewKind) (show : Show) (form : Form) (asking : Asking) (name file bytes : List ℕ) (o t : Option SourceState) (old new : Option Account) (r : Result FileReported Stop) → bytes ≡ file
     → IfTells o (λ s. (within_limit (bytes_at s name) ≡ Some file) × IsLeft s (after_whole s name) t) → IfTells o (λ s. KeepsOthers name s t)
-    → TextPut (review_of kind form asking name bytes).text (review_kept (review_of kind form asking name bytes)) old new r
-    → TextWritten (telling_review kind form asking) (λ x. x.text) review_kept name o t old new r
-file_reviewed kind form asking name file bytes o t old new r is loads keeps put =
-    text-reported (telling_review kind form asking) (λ x. x.text) review_kept name o t old new r (review_of kind form asking name bytes) (file-reported kind form asking name file bytes o t is loads keeps) put
+    → TextPut (review_of kind show form asking name bytes).text (review_kept (review_of kind show form asking name bytes)) old new r
+    → TextWritten (telling_review kind show form asking) (λ x. x.text) review_kept name o t old new r
+file_reviewed kind show form asking name file bytes o t old new r is loads keeps put =
+    text-reported (telling_review kind show form asking) (λ x. x.text) review_kept name o t old new r (review_of kind show form asking name bytes) (file-reported kind show form asking name file bytes o t is loads keeps) put
 
 -- ---- one that gives no bytes
 
@@ -90,23 +74,23 @@ pub both_in : (P Q R : SourceState → Type 0) (o : Option SourceState) → ((s 
 both_in P Q R None f p q = tt
 both_in P Q R (Some s) f p q = λ counts. f s (p counts) (q counts)
 
-too-long : (kind : ReviewKind) (form : Form) (asking : Asking) (name : List ℕ) (bytes : Option (List ℕ)) → IsTooLong bytes → review_over kind form asking name bytes ≡ fault_review form name TooLong
-too-long kind form asking name None h = absurd h
-too-long Auth form asking name (Some bytes) h = rw (lt-ltb file_limit (length bytes) h) refl
-too-long Known form asking name (Some bytes) h = rw (lt-ltb file_limit (length bytes) h) refl
+too-long : (kind : ReviewKind) (show : Show) (form : Form) (asking : Asking) (name : List ℕ) (bytes : Option (List ℕ)) → IsTooLong bytes → review_over kind show form asking name bytes ≡ fault_review form name TooLong
+too-long kind show form asking name None h = absurd h
+too-long Auth show form asking name (Some bytes) h = rw (lt-ltb file_limit (length bytes) h) refl
+too-long Known show form asking name (Some bytes) h = rw (lt-ltb file_limit (length bytes) h) refl
 
-pub file_unread : (kind : ReviewKind) (form : Form) (asking : Asking) (name : List ℕ) (o t : Option SourceState) (e : ReadError) (old new : Option Account) (r : Result FileReported Stop)
+pub file_unread : (kind : ReviewKind) (show : Show) (form : Form) (asking : Asking) (name : List ℕ) (o t : Option SourceState) (e : ReadError) (old new : Option Account) (r : Result FileReported Stop)
     → IfTells o (λ s. FailsLoad name (bytes_at s name) s t e) → IfTells o (λ s. KeepsOthers name s t) → UnreadPut form name e old new r
-    → TextWritten (telling_review kind form asking) (λ x. x.text) review_kept name o t old new r
-file_unread kind form asking name o t read.Memory old new r fails keeps (is, same) =
-    subst (λ (x : Result FileReported Stop). TextWritten (telling_review kind form asking) (λ x. x.text) review_kept name o t old new x) (sym is)
-    (nothing-reported (telling_review kind form asking) (λ x. x.text) review_kept name o t old new (same ∙ nothing_taken old))
-file_unread kind form asking name o t read.TooLong old new r fails keeps put =
-    text-reported (telling_review kind form asking) (λ x. x.text) review_kept name o t old new r (fault_review form name TooLong)
-    (both_in _ _ _ o (λ s f k. (k, inr (f.1, no-end name s t k (over_limit (bytes_at s name) f.0), sym (too-long kind form asking name (bytes_at s name) f.0)))) fails keeps) put
-file_unread kind form asking name o t read.Missing old new r fails keeps put =
-    text-reported (telling_review kind form asking) (λ x. x.text) review_kept name o t old new r (fault_review form name Unread)
-    (both_in _ _ _ o (λ s f k. (k, inr (f.1, no-end name s t k (ap within_limit f.0), sym (ap (review_over kind form asking name) f.0)))) fails keeps) put
-file_unread kind form asking name o t read.Failed old new r fails keeps put =
-    text-reported (telling_review kind form asking) (λ x. x.text) review_kept name o t old new r (fault_review form name Unread)
+    → TextWritten (telling_review kind show form asking) (λ x. x.text) review_kept name o t old new r
+file_unread kind show form asking name o t read.Memory old new r fails keeps (is, same) =
+    subst (λ (x : Result FileReported Stop). TextWritten (telling_review kind show form asking) (λ x. x.text) review_kept name o t old new x) (sym is)
+    (nothing-reported (telling_review kind show form asking) (λ x. x.text) review_kept name o t old new (same ∙ nothing_taken old))
+file_unread kind show form asking name o t read.TooLong old new r fails keeps put =
+    text-reported (telling_review kind show form asking) (λ x. x.text) review_kept name o t old new r (fault_review form name TooLong)
+    (both_in _ _ _ o (λ s f k. (k, inr (f.1, no-end name s t k (over_limit (bytes_at s name) f.0), sym (too-long kind show form asking name (bytes_at s name) f.0)))) fails keeps) put
+file_unread kind show form asking name o t read.Missing old new r fails keeps put =
+    text-reported (telling_review kind show form asking) (λ x. x.text) review_kept name o t old new r (fault_review form name Unread)
+    (both_in _ _ _ o (λ s f k. (k, inr (f.1, no-end name s t k (ap within_limit f.0), sym (ap (review_over kind show form asking name) f.0)))) fails keeps) put
+file_unread kind show form asking name o t read.Failed old new r fails keeps put =
+    text-reported (telling_review kind show form asking) (λ x. x.text) review_kept name o t old new r (fault_review form name Unread)
     (both_in _ _ _ o (λ s f k. (k, inl (f, refl))) fails keeps) put

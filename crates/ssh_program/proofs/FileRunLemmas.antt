@@ -33,6 +33,12 @@ use Rattle.ssh_review.specs.declared.end.FileFault.TheVariants.{TooLong, Unread}
 use Rattle.ssh_review.specs.declared.end.Form.TheVariants.{Text}
 use Rattle.ssh_review.specs.declared.end.Total.{Total}
 use Rattle.ssh_review.specs.Forms.{total_line}
+use Rattle.ssh_review.specs.ShownRecords.{shown_auth_review, shown_known_review}
+use Rattle.ssh_review.specs.declared.show.Show.{Show}
+use Rattle.ssh_review.specs.declared.show.Show.TheVariants.{All}
+use Rattle.ssh_review.proofs.ShownRecordLemmas.{shown-all-auth, shown-all-known}
+use Rattle.ssh_print.specs.Responses.{usage_response}
+use Rattle.clap.specs.Words.{Text as Word}
 use Rattle.ssh_program.specs.declared.args.ArgName.TheVariants as option
 use Rattle.ssh_program.specs.declared.review.ReviewKind.{ReviewKind}
 use Rattle.ssh_program.specs.declared.review.ReviewKind.TheVariants.{Auth, Known}
@@ -41,14 +47,15 @@ use Rattle.ssh_program.specs.declared.rewriting.NewFile.TheVariants.{CanonicalAu
 use Rattle.ssh_program.specs.declared.subcommand.Subcommand.{Subcommand}
 use Rattle.ssh_program.specs.declared.subcommand.Subcommand.TheVariants as command
 use Rattle.ssh_program.specs.FileReviews.{Lines, ReviewsFiles, kind_name, no_lines, review_of, telling_review, with_file}
-use Rattle.ssh_program.specs.FileRuns.{AnswersHosts, AnswersKept, AnswersLogins, AsksNoKey, AsksWith, FileHashed, FileReadable, FileRewritten, FilesReviewed, GrantsKept, IsPartOf, KeepsGrants, PrintsReview, PrintsReviews}
+use Rattle.ssh_program.specs.FileRuns.{AnswersHosts, AnswersKept, AnswersLogins, AsksNoKey, AsksWith, FileHashed, FileReadable, FileRewritten, FilesReviewed, GrantsKept, IsPartOf, KeepsGrants, PrintsReview, PrintsReviews, ShowsAll}
 use Rattle.ssh_program.specs.Hashings.{Hashes, hashed_over}
 use Rattle.ssh_program.specs.KeyRuns.{AsksOfFiles}
 use Rattle.ssh_program.specs.KeySeeking.{ReviewsFor}
 use Rattle.ssh_program.specs.Rewritings.{RewritesFile, new_file, new_response, rewrite_kind, rewrite_over}
+use Rattle.ssh_program.specs.ReviewShows.{show_asked, show_by, show_of}
 use Rattle.ssh_program.specs.ReviewZones.{review_rule}
 use Rattle.ssh_program.specs.Spelled.{ReviewAsked, form_of, review_kind_of, review_spelled, usual_minimum}
-use Rattle.ssh_program.specs.Spelling.{names_needed, names_given}
+use Rattle.ssh_program.specs.Spelling.{given, names_needed, names_given}
 use Rattle.ssh_program.specs.Totals.{counted, fault_count, total_status}
 use Rattle.ssh_program.proofs.GrantedRunLemmas.{Answered, IsFaulty, ends-as, fault-faulty, needed-faulty, none-faulty, optional-faulty, or-faulty, responds-to, status-of, step-faulty, value-faulty}
 use Rattle.ssh_program.proofs.SpelledBytes.{ok-same, step-any, step-gives}
@@ -293,14 +300,16 @@ known-whole asked name file h = by (nat_lt file_limit (length file)) h
     by true e = cc
     by false e = refl
 
-prints : (kind : ReviewKind) (asked : ReviewAsked) (name text file : List ℕ) → (review_of kind asked.form asked.asking name file).fault ≡ None
-    → IsPartOf (review_of kind asked.form asked.asking name file).text text → PrintsReview kind asked name text file
-prints Auth asked name text file h part = (
-  subst (λ (x : List ℕ). IsPartOf x text) (auth-whole asked name file h) part,
+prints : (kind : ReviewKind) (asked : ReviewAsked) (name text file : List ℕ) → asked.show ≡ All → (review_of kind asked.show asked.form asked.asking name file).fault ≡ None
+    → IsPartOf (review_of kind asked.show asked.form asked.asking name file).text text → PrintsReview kind asked name text file
+prints Auth asked name text file all h part = (
+  let same : review_of Auth asked.show asked.form asked.asking name file ≡ auth_review asked.form asked.asking name file = ap (λ (x : Show). shown_auth_review x asked.form asked.asking name file) all ∙ shown-all-auth asked.form asked.asking name file in
+      subst (λ (x : List ℕ). IsPartOf x text) (auth-whole asked name file (sym (ap (λ (x : Review). x.fault) same) ∙ h)) (subst (λ (x : Review). IsPartOf x.text text) same part),
   λ bytes claim vouched n rights reasons evidence. listed asked.form asked.asking name file claim vouched n rights reasons evidence bytes,
 )
-prints Known asked name text file h part = (
-  subst (λ (x : List ℕ). IsPartOf x text) (known-whole asked name file h) part,
+prints Known asked name text file all h part = (
+  let same : review_of Known asked.show asked.form asked.asking name file ≡ known_review asked.form asked.asking name file = ap (λ (x : Show). shown_known_review x asked.form asked.asking name file) all ∙ shown-all-known asked.form asked.asking name file in
+      subst (λ (x : List ℕ). IsPartOf x text) (known-whole asked name file (sym (ap (λ (x : Review). x.fault) same) ∙ h)) (subst (λ (x : Review). IsPartOf x.text text) same part),
   λ bytes claim vouched n rights reasons evidence. trusted asked.form asked.asking name file claim vouched n rights reasons evidence bytes,
 )
 
@@ -308,10 +317,10 @@ prints Known asked name text file h part = (
 record ReviewedAs (asked : ReviewAsked) (name : List ℕ) (s : SourceState) (first : Review) : Type 0 where
   file : List ℕ
   there : bytes_at s name ≡ Some file
-  is : first ≡ review_of asked.kind asked.form asked.asking name file
+  is : first ≡ review_of asked.kind asked.show asked.form asked.asking name file
 
 abbrev telling : ReviewAsked → Telling Review
-telling asked = telling_review asked.kind asked.form asked.asking
+telling asked = telling_review asked.kind asked.show asked.form asked.asking
 
 reviewed-by : (asked : ReviewAsked) (name : List ℕ) (s : SourceState) (first : Review) (bytes : Option (List ℕ)) → bytes_at s name ≡ bytes
     → first ≡ (telling asked).of_bytes name bytes → first.fault ≡ None → ReviewedAs asked name s first
@@ -363,17 +372,25 @@ each-reviewed asked sofar (name ∷ names) s t reported room (m, first, one, mor
     )
 
 -- so each review is a part of the whole text
-prints-each : (asked : ReviewAsked) (text before : List ℕ) (after : List ℕ) (names : List (List ℕ)) (s : SourceState) (rest : List ℕ) → EachReviewed asked names s rest
+prints-each : (asked : ReviewAsked) (text before : List ℕ) (after : List ℕ) (names : List (List ℕ)) (s : SourceState) (rest : List ℕ) → asked.show ≡ All → EachReviewed asked names s rest
     → text ≡ before ++ (rest ++ after) → PrintsReviews asked text names s
-prints-each asked text before after [] s rest h is = tt
-prints-each asked text before after (name ∷ names) s rest (first, reviewed, whole, (m, more, keeps, are, each)) is =
+prints-each asked text before after [] s rest all h is = tt
+prints-each asked text before after (name ∷ names) s rest all (first, reviewed, whole, (m, more, keeps, are, each)) is =
     let parts : text ≡ before ++ (first.text ++ (more ++ after)) = is ∙ ap (λ (x : List ℕ). before ++ (x ++ after)) are ∙ ap (λ (x : List ℕ). before ++ x) (append_assoc first.text more after) in
     let later : text ≡ (before ++ first.text) ++ (more ++ after) = parts ∙ sym (append_assoc before first.text (more ++ after)) in
     let fault = sym (ap (λ (x : Review). x.fault) reviewed.is) ∙ whole in
     let part = subst (λ (x : Review). IsPartOf x.text text) reviewed.is (before, more ++ after, parts) in
-    ((reviewed.file, reviewed.there, prints asked.kind asked name text reviewed.file fault part), (m, keeps, prints-each asked text (before ++ first.text) after names m more each later))
+    ((reviewed.file, reviewed.there, prints asked.kind asked name text reviewed.file all fault part), (m, keeps, prints-each asked text (before ++ first.text) after names m more all each later))
 
 -- ---- what the options spell
+
+show-by-faulty : (word key : Option Word) → IsFaulty (show_by word key)
+show-by-faulty None key = none-faulty All
+show-by-faulty (Some word) (Some key) = or-faulty {A = Show} None usage_response refl
+show-by-faulty (Some word) None = fault-faulty option.Show (show_of word)
+
+show-faulty : (rows : List Row) → IsFaulty (show_asked rows)
+show-faulty rows = show-by-faulty (given option.Show rows) (given option.Key rows)
 
 pub review-faulty : (rows : List Row) (zone : Option TimeZone) → IsFaulty (review_spelled rows zone)
 unfolding review_spelled
@@ -384,7 +401,8 @@ review-faulty rows zone =
     step-faulty _ _ (optional-faulty usual_minimum (number_below (2 ^ 32)) option.RsaMinimum rows) (λ rsa_minimum.
     step-faulty _ _ (optional-faulty default_codes codes_in option.Findings rows) (λ reported.
     step-faulty _ _ (optional-faulty Text form_of option.Form rows) (λ form.
-    step-faulty _ _ (or-faulty (names_given rows) _ refl) (λ names. none-faulty _)))))))
+    step-faulty _ _ (show-faulty rows) (λ show.
+    step-faulty _ _ (or-faulty (names_given rows) _ refl) (λ names. none-faulty _))))))))
 
 abbrev pub IsNamed : List Row → ReviewAsked → Type 0
 IsNamed rows a = names_needed rows ≡ Ok a.names
@@ -398,8 +416,25 @@ review-names rows zone =
     step-any (IsNamed rows) (value_or usual_minimum (number_below (2 ^ 32)) option.RsaMinimum rows) _ (λ rsa_minimum.
     step-any (IsNamed rows) (value_or default_codes codes_in option.Findings rows) _ (λ reported.
     step-any (IsNamed rows) (value_or Text form_of option.Form rows) _ (λ form.
+    step-any (IsNamed rows) (show_asked rows) _ (λ show.
     step-gives (λ names. names_needed rows ≡ Ok names) (IsNamed rows) (names_needed rows) _ (λ names h. h) (λ names is.
-    λ a h. subst (IsNamed rows) (ok-same {A = ReviewAsked} {B = Response} _ a h) is)))))))
+    λ a h. subst (IsNamed rows) (ok-same {A = ReviewAsked} {B = Response} _ a h) is))))))))
+
+abbrev IsShownAs : List Row → ReviewAsked → Type 0
+IsShownAs rows a = show_asked rows ≡ Ok a.show
+
+review-shows : (rows : List Row) (zone : Option TimeZone) (a : ReviewAsked) → review_spelled rows zone ≡ Ok a → IsShownAs rows a
+unfolding review_spelled
+review-shows rows zone =
+    step-any (IsShownAs rows) (value review_kind_of option.Kind rows) _ (λ kind.
+    step-any (IsShownAs rows) (value (number_below (2 ^ 64)) option.Now rows) _ (λ now.
+    step-any (IsShownAs rows) (or_fault option.Zone zone) _ (λ zone.
+    step-any (IsShownAs rows) (value_or usual_minimum (number_below (2 ^ 32)) option.RsaMinimum rows) _ (λ rsa_minimum.
+    step-any (IsShownAs rows) (value_or default_codes codes_in option.Findings rows) _ (λ reported.
+    step-any (IsShownAs rows) (value_or Text form_of option.Form rows) _ (λ form.
+    step-gives (λ show. show_asked rows ≡ Ok show) (IsShownAs rows) (show_asked rows) _ (λ show h. h) (λ show is.
+    step-any (IsShownAs rows) (names_needed rows) _ (λ names.
+    λ a h. subst (IsShownAs rows) (ok-same {A = ReviewAsked} {B = Response} _ a h) is))))))))
 
 -- ---- a response to `review`
 
@@ -410,31 +445,32 @@ faultless total few = by (nat_lt 0 total.faults) refl few
     by true is few = absurd (omega (arith, few))
     by false is few = let none = ltb-false 0 total.faults is in omega (arith, none)
 
-review-of : (asked : ReviewAsked) (s : SourceState) (t : Option SourceState) (r : Response) → s.failures + length asked.names < most_failures
-    → ReviewsFiles asked.kind asked.form asked.rule asked.asking asked.names s t r → r.status < 2 → PrintsReviews asked r.text asked.names s
-review-of asked s t r room (inr (reported, front, is)) few = let two : r.status ≡ 2 = status-of r _ is in absurd (omega (arith, two, few))
-review-of asked s t r room (inl (reported, chain, is)) few =
+review-of : (asked : ReviewAsked) (s : SourceState) (t : Option SourceState) (r : Response) → s.failures + length asked.names < most_failures → asked.show ≡ All
+    → ReviewsFiles asked.kind asked.show asked.form asked.rule asked.asking asked.names s t r → r.status < 2 → PrintsReviews asked r.text asked.names s
+review-of asked s t r room all (inr (reported, front, is)) few = let two : r.status ≡ 2 = status-of r _ is in absurd (omega (arith, two, few))
+review-of asked s t r room all (inl (reported, chain, is)) few =
     let status = status-of r _ is in
     let none = faultless reported.total (omega (arith, status, few)) in
     let (rest, printed, each) = each-reviewed asked no_lines asked.names s t reported room chain none in
     let whole : r.text ≡ [] ++ (rest ++ total_line asked.form (kind_name asked.kind) asked.rule asked.asking reported.total) = ap (λ (x : Response). x.text) is ∙ ap (λ (x : List ℕ). x ++ total_line asked.form (kind_name asked.kind) asked.rule asked.asking reported.total) printed.text in
-    prints-each asked r.text [] (total_line asked.form (kind_name asked.kind) asked.rule asked.asking reported.total) asked.names s rest each whole
+    prints-each asked r.text [] (total_line asked.form (kind_name asked.kind) asked.rule asked.asking reported.total) asked.names s rest all each whole
 
 reviewed-in : (rows : List Row) (names : List (List ℕ)) (zone : Option TimeZone) (s : SourceState) (t : Option SourceState) (r : Response) → names_needed rows ≡ Ok names
-    → s.failures + length names < most_failures → ReadsZone (review_rule rows) zone
-    → (x : Result ReviewAsked Response) → review_spelled rows zone ≡ x → RespondsTo (λ q. ReviewsFor None q.kind q.form q.rule q.asking q.names) x s t r → r.status < 2 → FilesReviewed rows s r
-reviewed-in rows names zone s t r named room read (Err fault) spelled (unfailed, is) few =
+    → s.failures + length names < most_failures → ReadsZone (review_rule rows) zone → ShowsAll rows
+    → (x : Result ReviewAsked Response) → review_spelled rows zone ≡ x → RespondsTo (λ q. ReviewsFor None q.kind q.show q.form q.rule q.asking q.names) x s t r → r.status < 2 → FilesReviewed rows s r
+reviewed-in rows names zone s t r named room read shows (Err fault) spelled (unfailed, is) few =
     let two = review-faulty rows zone fault spelled in
     let same = status-of r fault is in
     absurd (omega (arith, two, same, few))
-reviewed-in rows names zone s t r named room read (Ok a) spelled h few =
+reviewed-in rows names zone s t r named room read shows (Ok a) spelled h few =
+    let all = ok-same {A = Show} {B = Response} a.show All (sym (review-shows rows zone a spelled) ∙ shows) in
     let are = ok-same {A = List (List ℕ)} {B = Response} names a.names (sym named ∙ review-names rows zone a spelled) in
     record {
       zone = zone;
       read = read;
       asked = a;
       spelled = spelled;
-      reviews = review-of a s t r (subst (λ (x : List (List ℕ)). s.failures + length x < most_failures) are room) h few;
+      reviews = review-of a s t r (subst (λ (x : List (List ℕ)). s.failures + length x < most_failures) are room) all h few;
     }
 
 -- ---- a run
@@ -475,12 +511,12 @@ few-as old new r status (inl (taken, same)) few = omega (arith, same, few)
 few-as old new r status (inr (broken, two)) few = absurd (omega (arith, two, few))
 
 pub files_reviewed_run : (words : List (List ℕ)) (o t : Option SourceState) (old new : Option Account) (status : ℕ) → IfTells o (Answered words t old new status)
-    → IfTells o (λ s. (rows : List Row) (names : List (List ℕ)) → AsksOfFiles command.Review words s rows names → AsksNoKey rows → status < 2
+    → IfTells o (λ s. (rows : List Row) (names : List (List ℕ)) → AsksOfFiles command.Review words s rows names → AsksNoKey rows → ShowsAll rows → status < 2
     → (r : Response) × FilesReviewed rows (source_of words s) r × WritesResponse old new r status)
 files_reviewed_run words None t old new status h = tt
-files_reviewed_run words (Some s) t old new status h = λ room rows names asks no_key is.
+files_reviewed_run words (Some s) t old new status h = λ room rows names asks no_key shows is.
     let (r, answers, writes) = h room in
     let few = few-as old new r status writes is in
     let (zone, read, by) = asked-run command.Review words s t r rows asks.request answers few in
-    let whole = subst (λ (k : Option (List ℕ)). RespondsTo (λ q. ReviewsFor k q.kind q.form q.rule q.asking q.names) (review_spelled rows zone) (source_of words s) t r) no_key by in
-    (r, reviewed-in rows names zone (source_of words s) t r asks.named asks.room read (review_spelled rows zone) refl whole few, writes)
+    let whole = subst (λ (k : Option (List ℕ)). RespondsTo (λ q. ReviewsFor k q.kind q.show q.form q.rule q.asking q.names) (review_spelled rows zone) (source_of words s) t r) no_key by in
+    (r, reviewed-in rows names zone (source_of words s) t r asks.named asks.room read shows (review_spelled rows zone) refl whole few, writes)

@@ -10,6 +10,7 @@ use Rattle.ssh_review.specs.Forms.{end_line}
 use Rattle.ssh_review.specs.HostKeyRecords.{host_key_counts_of, host_key_records_of}
 use Rattle.ssh_review.specs.KeyRecords.{key_counts_of, key_records_of}
 use Rattle.ssh_review.specs.declared.end.FileFault.TheVariants.{Unread}
+use Rattle.ssh_review.specs.declared.show.Show.{Show}
 use Rattle.ssh_program.specs.declared.streaming.FileReported.{FileReported}
 use Rattle.ssh_program.specs.declared.streaming.Stop.{Stop}
 use Rattle.ssh_program.specs.declared.streaming.Stop.TheVariants as stop
@@ -19,7 +20,7 @@ use Rattle.ssh_program.specs.KeySeeking.{ReviewsFor, SeeksBy, SeeksKey, SeeksKey
 use Rattle.ssh_program.specs.Printing.{WritesAnswer}
 use Rattle.ssh_program.proofs.AnsweredLemmas.{spelled_same}
 use Rattle.ssh_program.proofs.FileLemmas.{both_in, within-false}
-use Rattle.ssh_program.proofs.PutLemmas.{end-some, nothing-reported, put-nothing, text-reported}
+use Rattle.ssh_program.proofs.PutLemmas.{nothing-reported, text-reported}
 use Rattle.ssh_program.proofs.StreamLemmas.{ends_same, writes_as}
 use Rattle.ssh_program.proofs.WrittenText.{nothing_taken}
 
@@ -42,23 +43,6 @@ unfolding host_whole_key_review
 known-key-put sought form asking name file old new r few h =
     subst (λ (b : Bool). TextPut (if b then key_fault_review form name TooLong else host_whole_key_review sought form asking name file).file.text (key_review_kept (if b then key_fault_review form name TooLong else host_whole_key_review sought form asking name file)) old new r)
     (sym (within-false (length file) few)) h
-
--- memory could not be allocated for its first record
-pub auth-key-refused : (sought : List ℕ) (form : Form) (asking : Asking) (name file : List ℕ) (a : Option Account) → length file ≤ file_limit
-    → TextPut (key_review_of sought Auth form asking name file).file.text (key_review_kept (key_review_of sought Auth form asking name file)) a a (Err stop.Memory)
-auth-key-refused sought form asking name file a few =
-    let reported = key_counts_of sought asking [] (numbered 1 (lines_of file)) in
-    auth-key-put sought form asking name file a a (Err stop.Memory) few
-    (put-nothing (key_records_of sought form asking name [] (numbered 1 (lines_of file))) (end_line form name reported.counts (sha256 file)) (record { counts = reported.counts; stands = reported.stands; fault = None }) a
-    (end-some form name reported.counts (sha256 file)))
-
-pub known-key-refused : (sought : List ℕ) (form : Form) (asking : Asking) (name file : List ℕ) (a : Option Account) → length file ≤ file_limit
-    → TextPut (key_review_of sought Known form asking name file).file.text (key_review_kept (key_review_of sought Known form asking name file)) a a (Err stop.Memory)
-known-key-refused sought form asking name file a few =
-    let reported = host_key_counts_of sought asking [] (numbered 1 (lines_of file)) in
-    known-key-put sought form asking name file a a (Err stop.Memory) few
-    (put-nothing (host_key_records_of sought form asking name [] (numbered 1 (lines_of file))) (end_line form name reported.counts (sha256 file)) (record { counts = reported.counts; stands = reported.stands; fault = None }) a
-    (end-some form name reported.counts (sha256 file)))
 
 -- ---- a file that was read
 
@@ -177,8 +161,8 @@ by-same true kind form rule asking names key a b u r e h =
     spelled_same (SeeksKey kind form rule asking names) (spelled_fingerprint key) a b u r e (λ sought. seeks-same kind form rule asking names sought a b u r e) h
 by-same false kind form rule asking names key a b u r e h = file-same kind form rule asking names key a b u r e h
 
-pub reviews_for_same : (key : Option (List ℕ)) (kind : ReviewKind) (form : Form) (rule : List ℕ) (asking : Asking) (names : List (List ℕ)) (a b : SourceState) (u : Option SourceState) (r : Shown) → Alike a b
-    → ReviewsFor key kind form rule asking names a u r → ReviewsFor key kind form rule asking names b u r
-reviews_for_same None kind form rule asking names a b u r e (inl (reported, h, is)) = inl (reported, files_same with_file (telling_review kind form asking) no_lines names a b u reported e h, is)
-reviews_for_same None kind form rule asking names a b u r e (inr early) = inr (ends_same with_file (telling_review kind form asking) no_lines (λ reported. reported.text) (λ x. x.text) names a b r e early)
-reviews_for_same (Some key) kind form rule asking names a b u r e h = by-same (is_fingerprint key) kind form rule asking names key a b u r e h
+pub reviews_for_same : (key : Option (List ℕ)) (kind : ReviewKind) (show : Show) (form : Form) (rule : List ℕ) (asking : Asking) (names : List (List ℕ)) (a b : SourceState) (u : Option SourceState) (r : Shown) → Alike a b
+    → ReviewsFor key kind show form rule asking names a u r → ReviewsFor key kind show form rule asking names b u r
+reviews_for_same None kind show form rule asking names a b u r e (inl (reported, h, is)) = inl (reported, files_same with_file (telling_review kind show form asking) no_lines names a b u reported e h, is)
+reviews_for_same None kind show form rule asking names a b u r e (inr early) = inr (ends_same with_file (telling_review kind show form asking) no_lines (λ reported. reported.text) (λ x. x.text) names a b r e early)
+reviews_for_same (Some key) kind show form rule asking names a b u r e h = by-same (is_fingerprint key) kind form rule asking names key a b u r e h

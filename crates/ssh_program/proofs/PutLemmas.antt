@@ -1,54 +1,53 @@
 -- A text that is written as it is made, and the review that it is of.
 use Rattle.ssh_program.proofs.Imports.{◌≡◌, ◌∙◌, ◌+◌, ◌<◌, ◌⊎◌, ◌++◌, ℕ, List, [], ◌∷◌, Option, None, Result, Ok, Err, ap, sym, refl, inl, inr, length, arith, append_assoc, append-nil, length-append, Account, Breaks, TakesAll, TakesUpTo, Asking, IfTells, SourceState, TellsFile, Form}
 use Rattle.ssh_files.specs.FilesInTurn.{Telling}
-use Rattle.ssh_review.specs.EndObjects.{end_object, fault_object}
-use Rattle.ssh_review.specs.Forms.{end_line, file_fault_line}
+use Rattle.ssh_review.proofs.ShownRecordLemmas.{no-records}
+use Rattle.ssh_review.specs.EndObjects.{end_object}
+use Rattle.ssh_review.specs.Forms.{end_line}
 use Rattle.ssh_review.specs.Making.{AreWholeLines, HasLeft, IsAllMade, MakesFront}
 use Rattle.ssh_review.specs.declared.end.Counts.{Counts}
-use Rattle.ssh_review.specs.declared.end.FileFault.{FileFault}
 use Rattle.ssh_review.specs.declared.end.Form.TheVariants.{Json, Text}
 use Rattle.ssh_review.specs.declared.key_review.KeyCounts.{KeyCounts}
 use Rattle.ssh_review.specs.declared.records.Records.{Records}
+use Rattle.ssh_review.specs.declared.show.Show.{Show}
+use Rattle.ssh_review.specs.declared.show.Show.TheVariants.{All, Found, Totals}
+use Rattle.ssh_review.specs.ShownRecords.{shown_end, shown_records}
+use Rattle.ssh_review.specs.ToldLines.{LineTold}
 use Rattle.ssh_program.specs.declared.streaming.FileReported.{FileReported}
 use Rattle.ssh_program.specs.declared.streaming.Stop.{Stop}
 use Rattle.ssh_program.specs.declared.streaming.Stop.TheVariants as stop
-use Rattle.ssh_program.specs.FileReviews.{TextPut, TextWritten}
+use Rattle.ssh_program.specs.FileReviews.{IsCutAt, TextPut, TextWritten}
 use Rattle.ssh_program.proofs.WrittenText.{at_last, both_taken, broken_on, nothing_taken, taken_on}
 
--- ---- an end is never empty
+-- ---- an end is not empty, where it is shown
 
 longer : (front text : List ℕ) → 0 < length text → 0 < length (front ++ text)
 longer front text some = omega (arith, length-append front text, some)
 
-pub end-some : (form : Form) (name : List ℕ) (counts : Counts) (digest : List ℕ) → 0 < length (end_line form name counts digest)
+end-some : (form : Form) (name : List ℕ) (counts : Counts) (digest : List ℕ) → 0 < length (end_line form name counts digest)
 unfolding end_object
 end-some Text name counts digest = longer _ (10 ∷ []) (omega arith)
 end-some Json name counts digest = longer _ (125 ∷ 10 ∷ []) (omega arith)
 
-pub fault-some : (form : Form) (name : List ℕ) (fault : FileFault) → 0 < length (file_fault_line form name fault)
-unfolding fault_object
-fault-some Text name fault = longer _ (10 ∷ []) (omega arith)
-fault-some Json name fault = longer _ (125 ∷ 10 ∷ []) (omega arith)
-
 -- ---- records that are written as they are made
 
 -- what was taken of the text of a review, in whole lines, and what is left of the review
-abbrev pub PutSoFar : {S : Type 0} → (S → Form → Asking → List ℕ → List ℕ → List (ℕ × List ℕ) → List ℕ → KeyCounts → Type 0) → Form → Asking → List ℕ → Records S → Records S → Option Account → Option Account → Type 0
-PutSoFar tells form asking name begun now old p = (file text : List ℕ) (all : KeyCounts) → HasLeft tells form asking name file text all begun
-    → (front : List ℕ) × (rest : List ℕ) × HasLeft tells form asking name file rest all now × (text ≡ front ++ rest) × AreWholeLines front × TakesAll old p front
+abbrev pub PutSoFar : {S : Type 0} → (S → Form → Asking → List ℕ → List ℕ → List (ℕ × List ℕ) → List LineTold → Type 0) → Show → Form → Asking → List ℕ → Records S → Records S → Option Account → Option Account → Type 0
+PutSoFar tells show form asking name begun now old p = (file text : List ℕ) (all : KeyCounts) → HasLeft tells show form asking name file text all begun
+    → (front : List ℕ) × (rest : List ℕ) × HasLeft tells show form asking name file rest all now × (text ≡ front ++ rest) × AreWholeLines front × TakesAll old p front
 
-pub put-first : {S : Type 0} (tells : S → Form → Asking → List ℕ → List ℕ → List (ℕ × List ℕ) → List ℕ → KeyCounts → Type 0) (form : Form) (asking : Asking) (name : List ℕ) (r : Records S) (a : Option Account)
-    → PutSoFar tells form asking name r r a a
-put-first tells form asking name r a file text all w = ([], text, w, refl, inl refl, nothing_taken a)
+pub put-first : {S : Type 0} (tells : S → Form → Asking → List ℕ → List ℕ → List (ℕ × List ℕ) → List LineTold → Type 0) (show : Show) (form : Form) (asking : Asking) (name : List ℕ) (r : Records S) (a : Option Account)
+    → PutSoFar tells show form asking name r r a a
+put-first tells show form asking name r a file text all w = ([], text, w, refl, inl refl, nothing_taken a)
 
 both-lines : (a b : List ℕ) → AreWholeLines a → AreWholeLines b → AreWholeLines (a ++ b)
 both-lines a b w (inl none) = rw (none, append-nil a) w
 both-lines a b w (inr (before, is)) = inr (a ++ before, ap (λ t. a ++ t) is ∙ sym (append_assoc a before (10 ∷ [])))
 
 -- more records were made and taken
-pub put-more : {S : Type 0} (tells : S → Form → Asking → List ℕ → List ℕ → List (ℕ × List ℕ) → List ℕ → KeyCounts → Type 0) (form : Form) (asking : Asking) (name : List ℕ) (begun now next : Records S) (old p q : Option Account) (out : List ℕ)
-    → PutSoFar tells form asking name begun now old p → MakesFront tells form asking name now next [] out → TakesAll p q out → PutSoFar tells form asking name begun next old q
-put-more tells form asking name begun now next old p q out so makes taken file text all w =
+pub put-more : {S : Type 0} (tells : S → Form → Asking → List ℕ → List ℕ → List (ℕ × List ℕ) → List LineTold → Type 0) (show : Show) (form : Form) (asking : Asking) (name : List ℕ) (begun now next : Records S) (old p q : Option Account) (out : List ℕ)
+    → PutSoFar tells show form asking name begun now old p → MakesFront tells show form asking name now next [] out → TakesAll p q out → PutSoFar tells show form asking name begun next old q
+put-more tells show form asking name begun now next old p q out so makes taken file text all w =
     let (front, rest, left, parts, lines, took) = so file text all w in
     let (after, later, made, whole) = makes file rest all left in (
       front ++ out,
@@ -63,64 +62,74 @@ put-more tells form asking name begun now next old p q out so makes taken file t
 up-to : (old p : Option Account) (text front rest end : List ℕ) → text ≡ front ++ rest → TakesAll old p front → TakesUpTo old p (text ++ end) (rest ++ end)
 up-to old p text front rest end parts took = record { front = front; parts = ap (λ t. t ++ end) parts ∙ append_assoc front rest end; reported = took }
 
--- memory could not be allocated
-pub put-refused : {S K : Type 0} (tells : S → Form → Asking → List ℕ → List ℕ → List (ℕ × List ℕ) → List ℕ → KeyCounts → Type 0) (form : Form) (asking : Asking) (name file text digest : List ℕ) (all : KeyCounts) (kept : K) (begun now : Records S) (old p : Option Account)
-    → PutSoFar tells form asking name begun now old p → HasLeft tells form asking name file text all begun → TextPut (text ++ end_line form name all.counts digest) kept old p (Err stop.Memory)
-put-refused tells form asking name file text digest all kept begun now old p so w =
-    let (front, rest, left, parts, lines, took) = so file text all w in
-    let end = end_line form name all.counts digest in (
-      front,
-      record {
-        rest = rest ++ end;
-        parts = ap (λ t. t ++ end) parts ∙ append_assoc front rest end;
-        proper = omega (arith, length-append rest end, end-some form name all.counts digest);
-        lines = lines;
-      },
-      took,
-    )
+-- what was taken is nothing, or lines at the front of a text with an end behind it
+nil-front : (front rest : List ℕ) → front ++ rest ≡ [] → front ≡ []
+nil-front [] rest e = refl
+nil-front (b ∷ front) rest e = cc
 
--- nothing was written of a text that has an end
-pub put-nothing : (text end : List ℕ) (kept : FileReported) (a : Option Account) → 0 < length end → TextPut (text ++ end) kept a a (Err stop.Memory)
-put-nothing text end kept a some = ([], record { rest = text ++ end; parts = refl; proper = longer text end some; lines = inl refl }, nothing_taken a)
+cut : (front rest text end : List ℕ) → 0 < length end → text ≡ front ++ rest → AreWholeLines front → IsCutAt front (text ++ end)
+cut front rest text end some parts lines = record {
+  rest = rest ++ end;
+  parts = ap (λ t. t ++ end) parts ∙ append_assoc front rest end;
+  proper = longer rest end some;
+  lines = lines;
+}
+
+front-of : (show : Show) (told : List LineTold) (front rest text end : List ℕ) → 0 < length end → text ≡ shown_records show told → text ≡ front ++ rest → AreWholeLines front
+    → (front ≡ []) ⊎ IsCutAt front (text ++ shown_end show end)
+front-of All told front rest text end some are parts lines = inr (cut front rest text end some parts lines)
+front-of Found told front rest text end some are parts lines = inr (cut front rest text end some parts lines)
+front-of Totals told front rest text end some are parts lines = inl (nil-front front rest (sym parts ∙ (are ∙ no-records told)))
+
+-- memory could not be allocated
+pub put-refused : {S K : Type 0} (tells : S → Form → Asking → List ℕ → List ℕ → List (ℕ × List ℕ) → List LineTold → Type 0) (show : Show) (form : Form) (asking : Asking) (name file text digest : List ℕ) (all : KeyCounts) (kept : K) (begun now : Records S) (old p : Option Account)
+    → PutSoFar tells show form asking name begun now old p → HasLeft tells show form asking name file text all begun → TextPut (text ++ shown_end show (end_line form name all.counts digest)) kept old p (Err stop.Memory)
+put-refused tells show form asking name file text digest all kept begun now old p so w =
+    let (front, rest, left, parts, lines, took) = so file text all w in
+    (front, front-of show w.more front rest text (end_line form name all.counts digest) (end-some form name all.counts digest) w.are_records parts lines, took)
+
+-- nothing was written
+pub put-nothing : {K : Type 0} (text : List ℕ) (kept : K) (a : Option Account) → TextPut text kept a a (Err stop.Memory)
+put-nothing text kept a = ([], inl refl, nothing_taken a)
 
 -- a write failed in the records
-pub put-broken : {S : Type 0} (tells : S → Form → Asking → List ℕ → List ℕ → List (ℕ × List ℕ) → List ℕ → KeyCounts → Type 0) (form : Form) (asking : Asking) (name file text end : List ℕ) (all : KeyCounts) (begun now next : Records S) (old p q : Option Account) (out : List ℕ)
-    → PutSoFar tells form asking name begun now old p → MakesFront tells form asking name now next [] out → Breaks p q out → HasLeft tells form asking name file text all begun → Breaks old q (text ++ end)
-put-broken tells form asking name file text end all begun now next old p q out so makes breaks w =
+pub put-broken : {S : Type 0} (tells : S → Form → Asking → List ℕ → List ℕ → List (ℕ × List ℕ) → List LineTold → Type 0) (show : Show) (form : Form) (asking : Asking) (name file text end : List ℕ) (all : KeyCounts) (begun now next : Records S) (old p q : Option Account) (out : List ℕ)
+    → PutSoFar tells show form asking name begun now old p → MakesFront tells show form asking name now next [] out → Breaks p q out → HasLeft tells show form asking name file text all begun → Breaks old q (text ++ end)
+put-broken tells show form asking name file text end all begun now next old p q out so makes breaks w =
     let (front, rest, left, parts, lines, took) = so file text all w in
     let (after, later, made, whole) = makes file rest all left in
     broken_on old p q (text ++ end) (rest ++ end) out (after ++ end) (up-to old p text front rest end parts took) (ap (λ t. t ++ end) (sym made) ∙ append_assoc out after end) breaks
 
 -- the last records with the end of the file are what is left
-last-is : {S : Type 0} (tells : S → Form → Asking → List ℕ → List ℕ → List (ℕ × List ℕ) → List ℕ → KeyCounts → Type 0) (form : Form) (asking : Asking) (name file rest digest : List ℕ) (all : KeyCounts) (now next : Records S) (out last : List ℕ)
-    → MakesFront tells form asking name now next [] out → IsAllMade tells form asking name next → last ≡ out ++ end_line form name next.reported.counts digest → HasLeft tells form asking name file rest all now
-    → last ≡ rest ++ end_line form name all.counts digest
-last-is tells form asking name file rest digest all now next out last makes over is w =
+last-is : {S : Type 0} (tells : S → Form → Asking → List ℕ → List ℕ → List (ℕ × List ℕ) → List LineTold → Type 0) (show : Show) (form : Form) (asking : Asking) (name file rest digest : List ℕ) (all : KeyCounts) (now next : Records S) (out last : List ℕ)
+    → MakesFront tells show form asking name now next [] out → IsAllMade tells show form asking name next → last ≡ out ++ shown_end show (end_line form name next.reported.counts digest) → HasLeft tells show form asking name file rest all now
+    → last ≡ rest ++ shown_end show (end_line form name all.counts digest)
+last-is tells show form asking name file rest digest all now next out last makes over is w =
     let k = makes file rest all w in
     let e = over file k.0 all k.1 in
     let same : out ≡ rest = sym (append-nil out) ∙ (ap (λ l. out ++ l) (sym e.0) ∙ k.2) in
-    is ∙ (ap (λ (reported : KeyCounts). out ++ end_line form name reported.counts digest) e.1 ∙ ap (λ l. l ++ end_line form name all.counts digest) same)
+    is ∙ (ap (λ (reported : KeyCounts). out ++ shown_end show (end_line form name reported.counts digest)) e.1 ∙ ap (λ l. l ++ shown_end show (end_line form name all.counts digest)) same)
 
-pub put-last-broken : {S : Type 0} (tells : S → Form → Asking → List ℕ → List ℕ → List (ℕ × List ℕ) → List ℕ → KeyCounts → Type 0) (form : Form) (asking : Asking) (name file text digest : List ℕ) (all : KeyCounts) (begun now next : Records S) (old p q : Option Account) (out last : List ℕ)
-    → PutSoFar tells form asking name begun now old p → MakesFront tells form asking name now next [] out → IsAllMade tells form asking name next → last ≡ out ++ end_line form name next.reported.counts digest
-    → Breaks p q last → HasLeft tells form asking name file text all begun → Breaks old q (text ++ end_line form name all.counts digest)
-put-last-broken tells form asking name file text digest all begun now next old p q out last so makes over is breaks w =
+pub put-last-broken : {S : Type 0} (tells : S → Form → Asking → List ℕ → List ℕ → List (ℕ × List ℕ) → List LineTold → Type 0) (show : Show) (form : Form) (asking : Asking) (name file text digest : List ℕ) (all : KeyCounts) (begun now next : Records S) (old p q : Option Account) (out last : List ℕ)
+    → PutSoFar tells show form asking name begun now old p → MakesFront tells show form asking name now next [] out → IsAllMade tells show form asking name next → last ≡ out ++ shown_end show (end_line form name next.reported.counts digest)
+    → Breaks p q last → HasLeft tells show form asking name file text all begun → Breaks old q (text ++ shown_end show (end_line form name all.counts digest))
+put-last-broken tells show form asking name file text digest all begun now next old p q out last so makes over is breaks w =
     let (front, rest, left, parts, lines, took) = so file text all w in
-    let end = end_line form name all.counts digest in
+    let end = shown_end show (end_line form name all.counts digest) in
     broken_on old p q (text ++ end) (rest ++ end) last [] (up-to old p text front rest end parts took)
-    (sym (last-is tells form asking name file rest digest all now next out last makes over is left) ∙ sym (append-nil last)) breaks
+    (sym (last-is tells show form asking name file rest digest all now next out last makes over is left) ∙ sym (append-nil last)) breaks
 
-pub put-all : {S : Type 0} (tells : S → Form → Asking → List ℕ → List ℕ → List (ℕ × List ℕ) → List ℕ → KeyCounts → Type 0) (form : Form) (asking : Asking) (name file text digest : List ℕ) (all : KeyCounts) (begun now next : Records S) (old p q : Option Account) (out last : List ℕ)
-    → PutSoFar tells form asking name begun now old p → MakesFront tells form asking name now next [] out → IsAllMade tells form asking name next → last ≡ out ++ end_line form name next.reported.counts digest
-    → TakesAll p q last → HasLeft tells form asking name file text all begun
-    → TextPut {K = FileReported} (text ++ end_line form name all.counts digest) (record { counts = all.counts; stands = all.stands; fault = None }) old q (Ok (record { counts = next.reported.counts; stands = next.reported.stands; fault = None }))
-put-all tells form asking name file text digest all begun now next old p q out last so makes over is taken w =
+pub put-all : {S : Type 0} (tells : S → Form → Asking → List ℕ → List ℕ → List (ℕ × List ℕ) → List LineTold → Type 0) (show : Show) (form : Form) (asking : Asking) (name file text digest : List ℕ) (all : KeyCounts) (begun now next : Records S) (old p q : Option Account) (out last : List ℕ)
+    → PutSoFar tells show form asking name begun now old p → MakesFront tells show form asking name now next [] out → IsAllMade tells show form asking name next → last ≡ out ++ shown_end show (end_line form name next.reported.counts digest)
+    → TakesAll p q last → HasLeft tells show form asking name file text all begun
+    → TextPut {K = FileReported} (text ++ shown_end show (end_line form name all.counts digest)) (record { counts = all.counts; stands = all.stands; fault = None }) old q (Ok (record { counts = next.reported.counts; stands = next.reported.stands; fault = None }))
+put-all tells show form asking name file text digest all begun now next old p q out last so makes over is taken w =
     let (front, rest, left, parts, lines, took) = so file text all w in
     let k = makes file rest all left in
     let e = over file k.0 all k.1 in
-    let end = end_line form name all.counts digest in (
+    let end = shown_end show (end_line form name all.counts digest) in (
       at_last old q (text ++ end) (taken_on old p q (text ++ end) (rest ++ end) last [] (up-to old p text front rest end parts took)
-          (sym (last-is tells form asking name file rest digest all now next out last makes over is left) ∙ sym (append-nil last)) taken),
+          (sym (last-is tells show form asking name file rest digest all now next out last makes over is left) ∙ sym (append-nil last)) taken),
       ap (λ (reported : KeyCounts). record { counts = reported.counts; stands = reported.stands; fault = None }) e.1,
     )
 
@@ -130,19 +139,11 @@ put-all tells form asking name file text digest all begun now next old p q out l
 pub text-reported : {A K : Type 0} (tells : Telling A) (text_of : A → List ℕ) (of : A → K) (name : List ℕ) (o t : Option SourceState) (old new : Option Account) (r : Result K Stop) (reported : A)
     → IfTells o (λ s. TellsFile tells name s t reported) → TextPut (text_of reported) (of reported) old new r → TextWritten tells text_of of name o t old new r
 text-reported tells text_of of name o t old new (Ok k) reported file (taken, is) = (reported, file, taken, is)
-text-reported tells text_of of name o t old new (Err stop.Memory) reported file (part, cut, taken) = (part, taken, inr (reported, file, cut))
+text-reported tells text_of of name o t old new (Err stop.Memory) reported file (part, inl none, taken) = (part, taken, inl none)
+text-reported tells text_of of name o t old new (Err stop.Memory) reported file (part, inr is_front, taken) = (part, taken, inr (reported, file, is_front))
 text-reported tells text_of of name o t old new (Err stop.Write) reported file breaks = (reported, file, breaks)
 
 -- nothing was
 pub nothing-reported : {A K : Type 0} (tells : Telling A) (text_of : A → List ℕ) (of : A → K) (name : List ℕ) (o t : Option SourceState) (old new : Option Account) → TakesAll old new []
     → TextWritten tells text_of of name o t old new (Err stop.Memory)
 nothing-reported tells text_of of name o t old new none = ([], none, inl refl)
-
--- ---- the end of a file with a fault
-
-pub fault-refused : {K : Type 0} (form : Form) (name : List ℕ) (fault : FileFault) (kept : K) (old : Option Account) → TextPut (file_fault_line form name fault) kept old old (Err stop.Memory)
-fault-refused form name fault kept old = (
-  [],
-  record { rest = file_fault_line form name fault; parts = refl; proper = fault-some form name fault; lines = inl refl },
-  nothing_taken old,
-)

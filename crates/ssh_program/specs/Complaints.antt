@@ -9,7 +9,7 @@ use Rattle.ssh_program.specs.declared.args.Needed.TheVariants.{Required}
 use Rattle.ssh_program.specs.declared.subcommand.Subcommand.{Subcommand}
 use Rattle.ssh_program.specs.declared.word.Place.{Place}
 use Rattle.ssh_program.specs.declared.word.Place.TheVariants.{Open, AfterOption, Behind}
-use Rattle.ssh_program.specs.Help.{other_place}
+use Rattle.ssh_program.specs.Help.{apart_from, other_place}
 use Rattle.ssh_program.specs.Options.{is_required, option_word, subcommand_name, subcommand_operands, reported_options}
 use Rattle.ssh_program.specs.WordPlaces.{Word, has_operand, is_bare, is_dashes, is_flag, is_given, is_given_twice, names_option}
 
@@ -91,12 +91,17 @@ abbrev pub pair_wrong : ArgName → Option ArgName → List Word → Option Wron
 pair_wrong o None words = None
 pair_wrong o (Some other) words = pair_by o other (is_given o words) (is_given other words)
 
--- an option that is given twice or missing, or one of such a pair
+-- an option beside another one that it is not given with
+abbrev pub apart_wrong : ArgName → Option ArgName → List Word → Option Wrong
+apart_wrong o None words = None
+apart_wrong o (Some other) words = if is_given o words && is_given other words then Some (Wrong.both o other) else None
+
+-- an option that is given twice or missing, or one of such a pair, or beside one that it is not given with
 abbrev pub option_wrong : Subcommand → List Word → ArgName × Needed → Option Wrong
 option_wrong c words row =
     if is_given_twice row.0 words then Some (Wrong.twice row.0)
     else if is_required row.1 && not (is_given row.0 words) then Some (Wrong.missing row.0)
-    else pair_wrong row.0 (other_place c row.0) words
+    else option_or (pair_wrong row.0 (other_place c row.0) words) (apart_wrong row.0 (apart_from row.0) words)
 
 -- ---- the operands
 

@@ -11,8 +11,9 @@ use Rattle.ssh_review.specs.declared.end.Total.{Total}
 use Rattle.ssh_review.specs.declared.end.Form.{Form}
 use Rattle.ssh_review.specs.Forms.{total_line}
 use Rattle.ssh_review.specs.Making.{AreWholeLines}
-use Rattle.ssh_review.specs.Reviews.{Review, auth_review, fault_review}
-use Rattle.ssh_review.specs.HostReviews.{known_review}
+use Rattle.ssh_review.specs.Reviews.{Review, fault_review}
+use Rattle.ssh_review.specs.ShownRecords.{shown_auth_review, shown_known_review}
+use Rattle.ssh_review.specs.declared.show.Show.{Show}
 use Rattle.ssh_program.specs.declared.review.ReviewKind.{ReviewKind}
 use Rattle.ssh_program.specs.declared.review.ReviewKind.TheVariants.{Auth, Known}
 use Rattle.ssh_program.specs.declared.streaming.FileReported.{FileReported}
@@ -34,19 +35,19 @@ no_lines = record { total = nothing; text = [] }
 abbrev pub with_file : Lines → Review → Lines
 with_file sofar r = record { total = with_review sofar.total r; text = sofar.text ++ r.text }
 
--- the review of a file of this format, name and bytes
-abbrev pub review_of : ReviewKind → Form → Asking → List ℕ → List ℕ → Review
-review_of Auth form asking name file = auth_review form asking name file
-review_of Known form asking name file = known_review form asking name file
+-- the review of a file of this format, name and bytes, of which this is shown
+abbrev pub review_of : ReviewKind → Show → Form → Asking → List ℕ → List ℕ → Review
+review_of Auth show form asking name file = shown_auth_review show form asking name file
+review_of Known show form asking name file = shown_known_review show form asking name file
 
 -- the same of the file of this name; a missing file has the fault A9
-abbrev pub review_over : ReviewKind → Form → Asking → List ℕ → Option (List ℕ) → Review
-review_over kind form asking name None = fault_review form name Unread
-review_over kind form asking name (Some file) = review_of kind form asking name file
+abbrev pub review_over : ReviewKind → Show → Form → Asking → List ℕ → Option (List ℕ) → Review
+review_over kind show form asking name None = fault_review form name Unread
+review_over kind show form asking name (Some file) = review_of kind show form asking name file
 
 -- a file of which a read fails has the fault A9 too
-abbrev pub telling_review : ReviewKind → Form → Asking → Telling Review
-telling_review kind form asking = record { of_bytes = review_over kind form asking; of_fault = λ name. fault_review form name Unread }
+abbrev pub telling_review : ReviewKind → Show → Form → Asking → Telling Review
+telling_review kind show form asking = record { of_bytes = review_over kind show form asking; of_fault = λ name. fault_review form name Unread }
 
 -- the format by its name in `--kind`
 abbrev pub kind_name : ReviewKind → List ℕ
@@ -102,11 +103,11 @@ TextsWritten with tells start text text_of kept names s t old new (Err Write) = 
 
 -- ---- one file, whose text is written as it is made
 
--- What came of writing a text: all was taken, and this is kept; or memory could not be allocated, and lines at its front were
--- taken; or a write failed in it.
+-- What came of writing a text: all was taken, and this is kept; or memory could not be allocated, and nothing or lines at its
+-- front were taken; or a write failed in it.
 abbrev pub TextPut : {K : Type 0} → List ℕ → K → Option Account → Option Account → Result K Stop → Type 0
 TextPut text kept old new (Ok k) = TakesAll old new text × (k ≡ kept)
-TextPut text kept old new (Err Memory) = (part : List ℕ) × IsCutAt part text × TakesAll old new part
+TextPut text kept old new (Err Memory) = (part : List ℕ) × ((part ≡ []) ⊎ IsCutAt part text) × TakesAll old new part
 TextPut text kept old new (Err Write) = Breaks old new text
 
 -- What came of writing the text of the file of this name: the same, of what the file tells; nothing of it is taken where memory
@@ -136,7 +137,7 @@ FailedIfStopped (Ok k) new = NoneFailed new
 
 -- ---- the response
 
--- the reviews, and the line of their total, which says the time zone by its rule
+-- what is shown of the reviews, and the line of their total, which says the time zone by its rule
 abbrev pub review_response : ReviewKind → Form → List ℕ → Asking → Lines → Response
 review_response kind form rule asking reported = record {
   status = total_status reported.total;
@@ -144,7 +145,7 @@ review_response kind form rule asking reported = record {
 }
 
 -- the total is last: an answer without it went no further
-abbrev pub ReviewsFiles : ReviewKind → Form → List ℕ → Asking → List (List ℕ) → SourceState → Option SourceState → Response → Type 0
-ReviewsFiles kind form rule asking names s t r =
-    ((reported : Lines) × TellsFiles with_file (telling_review kind form asking) no_lines names s t reported × (r ≡ review_response kind form rule asking reported))
-    ⊎ EndsEarly with_file (telling_review kind form asking) no_lines (λ reported. reported.text) (λ r. r.text) names s r
+abbrev pub ReviewsFiles : ReviewKind → Show → Form → List ℕ → Asking → List (List ℕ) → SourceState → Option SourceState → Response → Type 0
+ReviewsFiles kind show form rule asking names s t r =
+    ((reported : Lines) × TellsFiles with_file (telling_review kind show form asking) no_lines names s t reported × (r ≡ review_response kind form rule asking reported))
+    ⊎ EndsEarly with_file (telling_review kind show form asking) no_lines (λ reported. reported.text) (λ r. r.text) names s r

@@ -24,6 +24,7 @@ use Rattle.ssh_review.specs.HostReviews.{host_whole_review}
 use Rattle.ssh_review.specs.Listing.{IsListed}
 use Rattle.ssh_review.specs.ReadableDecisions.{IsAnsweredAlike, IsKeptGrant}
 use Rattle.ssh_review.specs.Reviews.{whole_review}
+use Rattle.ssh_review.specs.declared.show.Show.TheVariants.{All}
 use Rattle.ssh_program.specs.declared.args.ArgName.TheVariants as option
 use Rattle.ssh_program.specs.declared.review.ReviewKind.TheVariants.{Auth, Known}
 use Rattle.ssh_program.specs.declared.review.ReviewKind.{ReviewKind}
@@ -32,6 +33,7 @@ use Rattle.ssh_program.specs.declared.subcommand.Subcommand.{Subcommand}
 use Rattle.ssh_program.specs.CommandLine.{request_of}
 use Rattle.ssh_program.specs.Requests.{request_words}
 use Rattle.ssh_program.specs.Rewritings.{rewrite_kind}
+use Rattle.ssh_program.specs.ReviewShows.{show_asked}
 use Rattle.ssh_program.specs.ReviewZones.{review_rule}
 use Rattle.ssh_program.specs.Spelled.{ReviewAsked, review_spelled}
 use Rattle.ssh_program.specs.Spelling.{given, needed, value}
@@ -105,9 +107,13 @@ pub record FileHashed (rows : List Row) (s : SourceState) (r : Response) : Type 
 
 -- ---- `review`
 
--- no key is asked for, so the reviews are whole
+-- no key is asked for, so the reviews are of all keys
 abbrev pub AsksNoKey : List Row → Type 0
 AsksNoKey rows = given option.Key rows ≡ None
+
+-- all of the reviews is shown
+abbrev pub ShowsAll : List Row → Type 0
+ShowsAll rows = show_asked rows ≡ Ok All
 
 abbrev pub IsPartOf : List ℕ → List ℕ → Type 0
 IsPartOf part text = (before : List ℕ) × (after : List ℕ) × (text ≡ before ++ (part ++ after))

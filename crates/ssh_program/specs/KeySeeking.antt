@@ -12,6 +12,7 @@ use Rattle.ssh_print.specs.declared.showing.ShowError.{ShowError}
 use Rattle.ssh_review.specs.declared.end.FileFault.TheVariants.{Unread}
 use Rattle.ssh_review.specs.declared.end.Form.{Form}
 use Rattle.ssh_review.specs.declared.end.Total.{Total}
+use Rattle.ssh_review.specs.declared.show.Show.{Show}
 use Rattle.ssh_review.specs.Forms.{total_line}
 use Rattle.ssh_review.specs.KeyReviews.{KeyReview, auth_key_review, key_fault_review, known_key_review}
 use Rattle.ssh_program.specs.declared.args.ArgName.TheVariants as option
@@ -106,7 +107,7 @@ abbrev pub SeeksBy : Bool → ReviewKind → Form → List ℕ → Asking → Li
 SeeksBy true kind form rule asking names key = RespondsTo (SeeksKey kind form rule asking names) (spelled_fingerprint key)
 SeeksBy false kind form rule asking names key = SeeksKeyOfFile kind form rule asking names key
 
--- the whole review, or that for the key of this value
-abbrev pub ReviewsFor : Option (List ℕ) → ReviewKind → Form → List ℕ → Asking → List (List ℕ) → SourceState → Option SourceState → Response → Type 0
-ReviewsFor None kind form rule asking names = ReviewsFiles kind form rule asking names
-ReviewsFor (Some key) kind form rule asking names = SeeksBy (is_fingerprint key) kind form rule asking names key
+-- the review of all keys, of which this is shown, or that for the key of this value
+abbrev pub ReviewsFor : Option (List ℕ) → ReviewKind → Show → Form → List ℕ → Asking → List (List ℕ) → SourceState → Option SourceState → Response → Type 0
+ReviewsFor None kind show form rule asking names = ReviewsFiles kind show form rule asking names
+ReviewsFor (Some key) kind show form rule asking names = SeeksBy (is_fingerprint key) kind form rule asking names key

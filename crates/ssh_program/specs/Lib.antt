@@ -62,6 +62,7 @@ pub mod AnswerSamples
 pub mod Totals
 pub mod FileReviews
 pub mod ReviewZones
+pub mod ReviewShows
 pub mod Spelled
 pub mod KeyRuns
 pub mod FingerprintRuns

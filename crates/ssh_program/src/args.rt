@@ -55,6 +55,7 @@ pub enum ArgName {
     Key,
     Fingerprint,
     Findings,
+    Show,
     Form,
     FilesFrom,
 }
@@ -90,6 +91,7 @@ impl ArgName {
             ArgName::Key => "key",
             ArgName::Fingerprint => "fingerprint",
             ArgName::Findings => "findings",
+            ArgName::Show => "show",
             ArgName::Form => "form",
             ArgName::FilesFrom => "files-from",
         }

@@ -1,13 +1,13 @@
 //! Which word of a command line is wrong, and the sentence that says so.
 
 ghost use Rattle.std.specs.Prelude.{◌≡◌, ◌++◌, OnOk, map, option_map};
-ghost use Rattle.ssh_program.specs.Complaints.{both_text, complaint_of, complaint_text, first_wrong, flag_wrong, names_wrong, neither_text, open_wrong, operand_wrong, option_in, option_text, option_wrong, pair_by, pair_wrong, row_named, reported_word, value_wrong, waiting, waiting_at, whole_wrong, word_wrong};
+ghost use Rattle.ssh_program.specs.Complaints.{apart_wrong, both_text, complaint_of, complaint_text, first_wrong, flag_wrong, names_wrong, neither_text, open_wrong, operand_wrong, option_in, option_text, option_wrong, pair_by, pair_wrong, row_named, reported_word, value_wrong, waiting, waiting_at, whole_wrong, word_wrong};
 ghost use Rattle.ssh_program.specs.ComplaintsView.{complaint_seen};
 ghost use Rattle.ssh_program.specs.Options.{reported_options};
 ghost use Rattle.ssh_program.specs.WordPlacesView.{word_seen};
 
 use crate::args::{ArgName, Needed};
-use crate::help::other_place;
+use crate::help::{apart_from, other_place};
 use crate::subcommand::{OptionRow, Subcommand};
 use crate::word::{
     Place, Word, has_operand, is_bare, is_flag, is_given, is_given_twice, names_option,
@@ -178,6 +178,22 @@ fn pair_complaint<'a>(
     }
 }
 
+/// An option is wrong beside another one that it is not given with.
+fn apart_complaint<'a>(
+    option: ArgName,
+    other: Option<ArgName>,
+    words: &[Word<'_>],
+) -> Option<Complaint<'a>>
+    ensures { option_map complaint_seen result ≡ apart_wrong option other (map word_seen words.now) }
+{
+    match other {
+        Some(other) if is_given(option, words) && is_given(other, words) => {
+            Some(Complaint::Both(option, other))
+        }
+        _ => None,
+    }
+}
+
 /// What is wrong with one option as a whole.
 fn option_complaint<'a>(
     command: Subcommand,
@@ -193,7 +209,10 @@ fn option_complaint<'a>(
     if row.1.is_required() && !is_given(row.0, words) {
         return Some(Complaint::Missing(row.0));
     }
-    pair_complaint(row.0, other_place(command, row.0), words)
+    match pair_complaint(row.0, other_place(command, row.0), words) {
+        Some(complaint) => Some(complaint),
+        None => apart_complaint(row.0, apart_from(row.0), words),
+    }
 }
 
 /// What is wrong with the first option with which something is.

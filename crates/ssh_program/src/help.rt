@@ -2,7 +2,7 @@
 
 ghost use Rattle.std.specs.Prelude.{◌≡◌, ◌++◌, OnOk, Some};
 ghost use Rattle.std.specs.List.{flat_map};
-ghost use Rattle.ssh_program.specs.Help.{command_line, command_sentence, commands_help, default_kind, default_time, default_word, default_zone, file_sentence, help_form, help_forms, help_names, help_option, host_sentence, is_joined, key_sentence, kind_sentence, minimum_sentence, needed_by, needed_word, option_sentence, options_help, other_key, other_place, port_sentence, value_word, wanted_value};
+ghost use Rattle.ssh_program.specs.Help.{apart_from, command_line, command_sentence, commands_help, default_kind, default_time, default_word, default_zone, file_sentence, help_form, help_forms, help_names, help_option, host_sentence, is_joined, key_sentence, kind_sentence, minimum_sentence, needed_by, needed_word, option_sentence, options_help, other_key, other_place, port_sentence, value_word, wanted_value};
 
 use crate::args::{ArgName, Needed};
 use crate::subcommand::{OptionRow, Subcommand};
@@ -69,6 +69,7 @@ fn value_word(option: ArgName) -> &'static [u8]
         ArgName::Key => b"FILE",
         ArgName::Fingerprint => b"FINGERPRINT",
         ArgName::Findings => b"CODES",
+        ArgName::Show => b"WHAT",
         ArgName::Form => b"FORM",
         ArgName::FilesFrom => b"FILE",
     }
@@ -179,6 +180,8 @@ fn option_sentence(command: Subcommand, option: ArgName) -> &'static [u8]
         ArgName::Fingerprint => b"the fingerprint of the key, as sshd logs it",
         ArgName::Findings =>
             b"the findings that are reported: all, none, or codes joined by commas",
+        ArgName::Show =>
+            b"what is listed: all (so without it), found for lines with a finding, or totals",
         ArgName::Form => b"text (so without it), or json for one object on each line",
         ArgName::FilesFrom =>
             b"a file of more names, each ended by NUL or by a line end; - is standard input",
@@ -217,6 +220,7 @@ pub fn wanted_value(option: ArgName) -> &'static [u8]
         ArgName::Key => b"the name of a file, or a fingerprint as ssh-keygen -l prints it",
         ArgName::Fingerprint => b"SHA256: and 43 characters of base64, as in sshd's log",
         ArgName::Findings => b"all, none, or codes from F1 to F22 joined by commas",
+        ArgName::Show => b"all, found or totals",
         ArgName::Form => b"text or json",
         ArgName::FilesFrom => b"a file of names, each ended by NUL or by a line end",
     }
@@ -241,6 +245,16 @@ pub fn other_place(command: Subcommand, option: ArgName) -> Option<ArgName>
         ArgName::Offer => Some(ArgName::OfferFile),
         ArgName::Signature => Some(ArgName::SignatureFile),
         ArgName::Key => other_key(command),
+        _ => None,
+    }
+}
+
+/// The option that an option is not given with.
+pub fn apart_from(option: ArgName) -> Option<ArgName>
+    ensures { result ≡ apart_from option }
+{
+    match option {
+        ArgName::Show => Some(ArgName::Key),
         _ => None,
     }
 }

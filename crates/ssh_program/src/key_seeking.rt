@@ -27,7 +27,7 @@ use ssh_files::{Files, read_top_line, read_whole};
 use ssh_findings::ReviewOptions;
 use ssh_keys::digest_text;
 use ssh_print::{DONE, FAULT, OfferedKey, read_offer, show_fault};
-use ssh_review::{Form, Total, auth_key_records, known_key_records};
+use ssh_review::{Form, Show, Total, auth_key_records, known_key_records};
 use std::alloc::{AllocError, Global};
 
 /// The status: 2 if a file could not be reviewed, else 1 if the key stands in one of them.
@@ -78,11 +78,11 @@ fn put_bytes_review<W: Sink>(
     match kind {
         ReviewKind::Auth => {
             let records = auth_key_records(alloc, file, sought)?;
-            put_review(alloc, form, asked, name, file, records, writer)
+            put_review(alloc, Show::All, form, asked, name, file, records, writer)
         }
         ReviewKind::Known => {
             let records = known_key_records(alloc, file, sought)?;
-            put_review(alloc, form, asked, name, file, records, writer)
+            put_review(alloc, Show::All, form, asked, name, file, records, writer)
         }
     }
 }
@@ -320,11 +320,12 @@ fn seek<F: Files, W: Sink>(
     }
 }
 
-/// Writes the reviews of the files of these names, or, where `--key` has a value, their reviews for
-/// that key, and then their total. Returns the status.
+/// Writes what is shown of the reviews of the files of these names, or, where `--key` has a value,
+/// their reviews for that key, and then their total. Returns the status.
 pub fn review_for<F: Files, W: Sink>(
     alloc: Global,
     kind: ReviewKind,
+    show: Show,
     form: Form,
     rule: &[u8],
     asked: &ReviewOptions<'_>,
@@ -335,12 +336,12 @@ pub fn review_for<F: Files, W: Sink>(
 ) -> u8
     requires { NoneFailed (W.account writer.old) }
     ensures { IfTells (F.source_state files.old) (λ s. WritesAnswer
-        (ReviewsFor (option_map (λ k. k.now) key.entry) kind form rule.now (asking_of asked.entry.now)
+        (ReviewsFor (option_map (λ k. k.now) key.entry) kind show form rule.now (asking_of asked.entry.now)
         (map (λ name. name.now) names.now) s (F.source_state files.new))
         (W.account writer.old) (W.account writer.new) result) }
 {
     match key {
-        None => review_files(alloc, kind, form, rule, asked, names, files, writer),
+        None => review_files(alloc, kind, show, form, rule, asked, names, files, writer),
         Some(key) => seek(alloc, kind, form, rule, asked, names, key, files, writer),
     }
 }

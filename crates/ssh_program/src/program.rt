@@ -16,7 +16,7 @@ ghost use Rattle.ssh_program.specs.FingerprintRuns.{AsksByFingerprint, Fingerpri
 ghost use Rattle.ssh_program.specs.KeyRuns.{AsksByKey, AsksOfFiles, ClientAdmitted, ClientKeptOut, HostDistrusted, HostTrusted};
 ghost use Rattle.ssh_program.specs.KeyStanding.{AsksForKey, KeyNowhere, KeyStanding};
 ghost use Rattle.ssh_program.specs.SignatureRuns.{AsksSignature, SignatureUnvouched, SignatureVouched};
-ghost use Rattle.ssh_program.specs.FileRuns.{AsksNoKey, AsksWith, FileHashed, FileReadable, FileRewritten, FilesReviewed};
+ghost use Rattle.ssh_program.specs.FileRuns.{AsksNoKey, AsksWith, FileHashed, FileReadable, FileRewritten, FilesReviewed, ShowsAll};
 ghost use Rattle.ssh_program.specs.Printing.{WritesAnswer, WritesResponse};
 ghost use Rattle.ssh_program.specs.Writing.{AnswersInMemory};
 ghost use Rattle.ssh_program.specs.FileNames.{AuditFiles, SshsigQuestion as SshsigAsked};
@@ -286,12 +286,14 @@ pub fn run<S: AsStr, F: Files, W: Sink>(
         → result ≡ 0
         → (r : Shown) × FileHashed rows (source_of (map S.text words.now) s) r
         × WritesResponse (W.account writer.old) (W.account writer.new) r result) }
-    // Status 0 or 1 of `review` that asks for no key: each of the named files is there, and what was
-    // printed lists each line by which one of them lets in a login or trusts a host's key.
+    // Status 0 or 1 of `review` that asks for no key and leaves nothing out: each of the named files
+    // is there, and what was printed lists each line by which one of them lets in a login or trusts
+    // a host's key.
     ensures review { IfTells (F.source_state files.old) (λ s. (rows : List Row)
         (names : List (List ℕ))
         → AsksOfFiles Review (map S.text words.now) s rows names
         → AsksNoKey rows
+        → ShowsAll rows
         → result < 2
         → (r : Shown) × FilesReviewed rows (source_of (map S.text words.now) s) r
         × WritesResponse (W.account writer.old) (W.account writer.new) r result) }

@@ -22,6 +22,7 @@ use crate::args::{ArgName, Args};
 use crate::command::{CommandError, respond_fault};
 use crate::key_seeking::review_for;
 use crate::printing::{put_made, put_no_memory};
+use crate::review_show::show_asked;
 use crate::review_zone::{given_rule, is_zone_given, zone_text};
 use crate::sink::Sink;
 use crate::streaming::{FileReported, Stop, put_review, put_total, put_unread};
@@ -29,7 +30,7 @@ use jiff::tz::TimeZone;
 use ssh_files::{Files, read_bits, read_whole, zone_of};
 use ssh_findings::{Code, ReviewOptions, parse_codes};
 use ssh_print::{DONE, FAULT};
-use ssh_review::{Counts, FaultCounts, FileFault, Form, Total, auth_records, known_records};
+use ssh_review::{Counts, FaultCounts, FileFault, Form, Show, Total, auth_records, known_records};
 use std::alloc::Global;
 
 /// The format of the files under review.
@@ -169,10 +170,11 @@ pub fn total_status(total: &Total) -> u8
     }
 }
 
-/// Writes the review of a file with this name and these bytes.
+/// Writes what is shown of the review of a file with this name and these bytes.
 fn put_bytes_review<W: Sink>(
     alloc: Global,
     kind: ReviewKind,
+    show: Show,
     form: Form,
     asked: &ReviewOptions<'_>,
     name: &[u8],
@@ -182,18 +184,18 @@ fn put_bytes_review<W: Sink>(
     requires none { NoneFailed (W.account writer.old) }
     requires limit { length file.now ≤ file_limit }
     ensures failed { FailedIfStopped result (W.account writer.new) }
-    ensures put { TextPut (review_of kind form (asking_of asked.entry.now) name.now file.now).text
-        (review_kept (review_of kind form (asking_of asked.entry.now) name.now file.now))
+    ensures put { TextPut (review_of kind show form (asking_of asked.entry.now) name.now file.now).text
+        (review_kept (review_of kind show form (asking_of asked.entry.now) name.now file.now))
         (W.account writer.old) (W.account writer.new) result }
 {
     match kind {
         ReviewKind::Auth => {
             let records = auth_records(alloc, file)?;
-            put_review(alloc, form, asked, name, file, records, writer)
+            put_review(alloc, show, form, asked, name, file, records, writer)
         }
         ReviewKind::Known => {
             let records = known_records(alloc, file)?;
-            put_review(alloc, form, asked, name, file, records, writer)
+            put_review(alloc, show, form, asked, name, file, records, writer)
         }
     }
 }
@@ -202,6 +204,7 @@ fn put_bytes_review<W: Sink>(
 fn put_file<F: Files, W: Sink>(
     alloc: Global,
     kind: ReviewKind,
+    show: Show,
     form: Form,
     asked: &ReviewOptions<'_>,
     name: &str,
@@ -210,12 +213,21 @@ fn put_file<F: Files, W: Sink>(
 ) -> Result<FileReported, Stop>
     requires { NoneFailed (W.account writer.old) }
     ensures failed { FailedIfStopped result (W.account writer.new) }
-    ensures reported { TextWritten (telling_review kind form (asking_of asked.entry.now)) (λ r. r.text)
+    ensures reported { TextWritten (telling_review kind show form (asking_of asked.entry.now)) (λ r. r.text)
         review_kept name.now (F.source_state files.old) (F.source_state files.new)
         (W.account writer.old) (W.account writer.new) result }
 {
     match read_whole(alloc, files, name) {
-        Ok(file) => put_bytes_review(alloc, kind, form, asked, name.as_bytes(), &file, writer),
+        Ok(file) => put_bytes_review(
+            alloc,
+            kind,
+            show,
+            form,
+            asked,
+            name.as_bytes(),
+            &file,
+            writer,
+        ),
         Err(fault) => put_unread(alloc, form, name.as_bytes(), fault, writer),
     }
 }
@@ -225,6 +237,7 @@ fn put_file<F: Files, W: Sink>(
 fn tell_files<F: Files, W: Sink>(
     alloc: Global,
     kind: ReviewKind,
+    show: Show,
     form: Form,
     asked: &ReviewOptions<'_>,
     names: &[&str],
@@ -234,24 +247,25 @@ fn tell_files<F: Files, W: Sink>(
     requires { NoneFailed (W.account writer.old) }
     ensures failed { FailedIfStopped result (W.account writer.new) }
     ensures reported { IfTells (F.source_state files.old) (λ s. TextsWritten with_file
-        (telling_review kind form (asking_of asked.entry.now)) no_lines (λ reported. reported.text)
+        (telling_review kind show form (asking_of asked.entry.now)) no_lines (λ reported. reported.text)
         (λ r. r.text) (λ reported. reported.total) (map (λ name. name.now) names.now) s (F.source_state files.new)
         (W.account writer.old) (W.account writer.new) result) }
 {
     let mut total = NOTHING;
     for name in names {
-        let reported = put_file(alloc, kind, form, asked, name, files, writer)?;
+        let reported = put_file(alloc, kind, show, form, asked, name, files, writer)?;
         total = with_counted(total, reported.counts, reported.fault);
     }
     Ok(total)
 }
 
-/// Writes the reviews of the files of these names, and then their total, which says the time zone by
-/// its rule. Returns the status. A file that cannot be reviewed has its fault, and the next is
-/// reviewed all the same; after a failed write no file is read.
+/// Writes what is shown of the reviews of the files of these names, and then their total, which says
+/// the time zone by its rule. Returns the status. A file that cannot be reviewed has its fault, and
+/// the next is reviewed all the same; after a failed write no file is read.
 pub fn review_files<F: Files, W: Sink>(
     alloc: Global,
     kind: ReviewKind,
+    show: Show,
     form: Form,
     rule: &[u8],
     asked: &ReviewOptions<'_>,
@@ -261,11 +275,11 @@ pub fn review_files<F: Files, W: Sink>(
 ) -> u8
     requires { NoneFailed (W.account writer.old) }
     ensures { IfTells (F.source_state files.old) (λ s. WritesAnswer
-        (ReviewsFiles kind form rule.now (asking_of asked.entry.now)
+        (ReviewsFiles kind show form rule.now (asking_of asked.entry.now)
         (map (λ name. name.now) names.now) s (F.source_state files.new))
         (W.account writer.old) (W.account writer.new) result) }
 {
-    match tell_files(alloc, kind, form, asked, names, files, writer) {
+    match tell_files(alloc, kind, show, form, asked, names, files, writer) {
         Ok(total) => {
             let status = total_status(&total);
             put_total(alloc, kind, form, rule, asked, &total, status, writer)
@@ -297,6 +311,7 @@ fn review_in_zone<F: Files, W: Sink>(
     let rsa_minimum = rsa_minimum(words)?;
     let reported = reported_codes(alloc, words)?;
     let form = form(words)?;
+    let show = show_asked(words)?;
     let names = words.needed_names()?;
     let rule = zone_text(given_rule(words));
     let is_given = is_zone_given(words);
@@ -308,7 +323,9 @@ fn review_in_zone<F: Files, W: Sink>(
         reported: &reported,
     };
     let key = words.given(ArgName::Key);
-    Ok(review_for(alloc, kind, form, rule, &asked, names, key, files, writer))
+    Ok(review_for(
+        alloc, kind, show, form, rule, &asked, names, key, files, writer,
+    ))
 }
 
 /// Writes the answer to `review`, and returns the status. The values of the options are read first,

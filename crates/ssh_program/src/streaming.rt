@@ -1,13 +1,14 @@
 //! Texts that are written while the files are read, each as it is made, and the line of their total
 //! behind them.
 
-ghost use Rattle.std.specs.Prelude.{◌≡◌, ◌++◌, List, ℕ};
+ghost use Rattle.std.specs.Prelude.{◌≡◌, ◌++◌, List, ℕ, OnOk};
 ghost use Rattle.sha2.specs.Sha256.{sha256};
 ghost use Rattle.ssh_findings.specs.Asking.{asking_of};
 ghost use Rattle.ssh_review.specs.declared.key_review.KeyCounts.{KeyCounts as KeyCountsValue};
 ghost use Rattle.ssh_review.specs.Forms.{end_line, total_line};
 ghost use Rattle.ssh_review.specs.Making.{HasLeft};
 ghost use Rattle.ssh_review.specs.Reviews.{fault_review};
+ghost use Rattle.ssh_review.specs.ShownRecords.{shown_end};
 ghost use Rattle.ssh_program.specs.declared.streaming.Stop.TheVariants.{Memory, Write};
 ghost use Rattle.ssh_program.specs.Account.{NoneFailed};
 ghost use Rattle.ssh_program.specs.FileReviews.{FailedIfStopped, TextPut, UnreadPut, review_kept, kind_name};
@@ -21,7 +22,7 @@ use sha2::{Digest, Sha256};
 use ssh_files::ReadError;
 use ssh_findings::ReviewOptions;
 use ssh_review::{
-    Counts, FileFault, Form, LineRecords, Records, Total, push_end, review_fault, total_line,
+    Counts, FileFault, Form, LineRecords, Records, Show, Total, push_end, review_fault, total_line,
 };
 use std::alloc::{AllocError, Global};
 use std::io::Error;
@@ -60,10 +61,31 @@ pub struct FileReported {
     pub fault: Option<FileFault>,
 }
 
-/// Writes the review of a file: its records, as they are made, and its end. Where memory is refused,
-/// what was written are whole records, and the end is missing.
+/// Appends the end of a file that was reviewed, if ends are shown.
+fn push_shown_end(
+    alloc: Global,
+    show: Show,
+    form: Form,
+    out: &mut Vec<u8>,
+    name: &[u8],
+    counts: Counts,
+    file: &[u8],
+) -> Result<(), AllocError>
+    ensures { OnOk result (out.new.items ≡ out.old.items
+        ++ shown_end show (end_line form name.now counts (sha256 file.now))) }
+{
+    if show.shows_end() {
+        let digest = Sha256::digest(file);
+        push_end(alloc, form, out, name, counts, &digest)?;
+    }
+    Ok(())
+}
+
+/// Writes the review of a file: its records, as they are made, and its end, where they are shown.
+/// Where memory is refused, what was written are whole records, and the end is missing.
 pub(crate) fn put_review<L: LineRecords + Drop, W: Sink>(
     alloc: Global,
+    show: Show,
     form: Form,
     asked: &ReviewOptions<'_>,
     name: &[u8],
@@ -74,20 +96,19 @@ pub(crate) fn put_review<L: LineRecords + Drop, W: Sink>(
     requires { NoneFailed (W.account writer.old) }
     ensures failed { FailedIfStopped result (W.account writer.new) }
     ensures put { (text : List ℕ) (all : KeyCountsValue)
-        → HasLeft L.tells form (asking_of asked.entry.now) name.now file.now text all begun.entry
-        → TextPut (text ++ end_line form name.now all.counts (sha256 file.now))
+        → HasLeft L.tells show form (asking_of asked.entry.now) name.now file.now text all begun.entry
+        → TextPut (text ++ shown_end show (end_line form name.now all.counts (sha256 file.now)))
         (record { counts = all.counts; stands = all.stands; fault = None })
         (W.account writer.old) (W.account writer.new) result }
 {
     let mut records = begun;
     let mut out = Vec::new(alloc);
-    while records.push_some(alloc, form, asked, name, &mut out)? {
+    while records.push_some(alloc, show, form, asked, name, &mut out)? {
         put_lines(writer, &out)?;
         out.clear();
     }
     let reported = records.reported();
-    let digest = Sha256::digest(file);
-    push_end(alloc, form, &mut out, name, reported.counts, &digest)?;
+    push_shown_end(alloc, show, form, &mut out, name, reported.counts, file)?;
     put_lines(writer, &out)?;
     Ok(FileReported {
         counts: reported.counts,

@@ -65,8 +65,7 @@ lines-shown counts (c ∷ listed) urgency = add (urgent-shown counts urgency c) 
 pub found-shown : (counts : CodeCounts) → AreShown (found_lines counts)
 unfolding found_lines
 found-shown counts =
-    let first = add (lines-shown counts all_codes Today) (lines-shown counts all_codes Soon) in
-    add (add first (lines-shown counts all_codes TidyUp)) (lines-shown counts all_codes Policy)
+    add (lines-shown counts all_codes Today) (add (lines-shown counts all_codes Soon) (add (lines-shown counts all_codes TidyUp) (add (lines-shown counts all_codes Policy) (show [] refl))))
 
 -- ---- as JSON
 

@@ -40,5 +40,6 @@ pub mod ReadableLemmas
 pub mod ReadableDecisionLemmas
 pub mod LineEndLemmas
 pub mod MakingLemmas
+pub mod ShownRecordLemmas
 pub mod KeyReviewLemmas
 pub mod KeyListingLemmas

@@ -5,11 +5,16 @@ use Rattle.std.proofs.Math.Nat.{min-eq_left}
 use Rattle.ssh_findings.proofs.CodeCountLemmas.{codes-assoc, codes-none, codes-within, none-codes, number-plus}
 use Rattle.ssh_findings.specs.CodeCounts.{number_of, plus_codes, sum_within}
 use Rattle.ssh_findings.specs.declared.code_counts.CodeCounts.{CodeCounts}
+use Rattle.std.specs.Prelude.{if◌then◌else◌, length, take}
 use Rattle.ssh_review.specs.Counting.{plus_within}
 use Rattle.ssh_review.specs.KeyReviews.{reviewed_by}
 use Rattle.ssh_review.specs.Making.{AreCounts, AreWholeLines, HasLeft, IsAllMade, MakesFront, lines_left}
 use Rattle.ssh_review.specs.declared.key_review.KeyCounts.{KeyCounts}
 use Rattle.ssh_review.specs.declared.records.Records.{Records}
+use Rattle.ssh_review.specs.declared.show.Show.{Show}
+use Rattle.ssh_review.specs.ShownRecords.{is_shown, shown_records}
+use Rattle.ssh_review.specs.ToldLines.{LineTold, line_told, told_counts}
+use Rattle.std.proofs.Math.Seq.{take-append_seam}
 use Rattle.ssh_review.proofs.LineLemmas.{Within}
 
 -- ---- sums
@@ -111,94 +116,106 @@ within-false n h = go (nat_lt file_limit n) refl
     go true e = absurd (omega (arith, ltb-true file_limit n e, h))
     go false e = e
 
--- ---- text
+-- ---- what is shown
 
--- what was written, then the record of the line, then those of the rest
-pub text-more : {L : Type 0} (record_of : L → List ℕ) (said says : L) (out new rest left whole : List ℕ)
-    → said ≡ says → new ≡ out ++ record_of said → left ≡ record_of says ++ rest → out ++ left ≡ whole → new ++ rest ≡ whole
-text-more record_of said says out new rest left whole is written parts all =
-    ap (λ t. t ++ rest) (written ∙ ap (λ s. out ++ record_of s) is)
-    ∙ (append_assoc out (record_of says) rest ∙ (sym (ap (λ t. out ++ t) parts) ∙ all))
+-- what was appended stays where it is shown
+shown-left : (shown : Bool) (before own made after : List ℕ) → made ≡ before ++ own → (shown ≡ true → after ≡ made) → (shown ≡ false → after ≡ take (length before) made)
+    → after ≡ before ++ (if shown then own else [])
+shown-left true before own made after is kept left = kept refl ∙ is
+shown-left false before own made after is kept left = left refl ∙ (ap (take (length before)) is ∙ (take-append_seam before own ∙ sym (append-nil before)))
+
+lines-left : (shown : Bool) (before own made after : List ℕ) → made ≡ before ++ own → after ≡ before ++ (if shown then own else []) → (AreWholeLines before → AreWholeLines made)
+    → AreWholeLines before → AreWholeLines after
+lines-left true before own made after is left whole lines = subst AreWholeLines (is ∙ sym left) (whole lines)
+lines-left false before own made after is left whole lines = subst AreWholeLines (sym (left ∙ append-nil before)) lines
 
 -- ---- steps
 
 -- nothing was appended
-pub nothing-made : {S : Type 0} (tells : S → Form → Asking → List ℕ → List ℕ → List (ℕ × List ℕ) → List ℕ → KeyCounts → Type 0) (form : Form) (asking : Asking) (name : List ℕ) (r : Records S) (out : List ℕ)
-    → MakesFront tells form asking name r r out out
-nothing-made tells form asking name r out file text all w = (text, w, refl, λ lines. lines)
+pub nothing-made : {S : Type 0} (tells : S → Form → Asking → List ℕ → List ℕ → List (ℕ × List ℕ) → List LineTold → Type 0) (show : Show) (form : Form) (asking : Asking) (name : List ℕ) (r : Records S) (out : List ℕ)
+    → MakesFront tells show form asking name r r out out
+nothing-made tells show form asking name r out file text all w = (text, w, refl, λ lines. lines)
 
 -- one step after another
-pub made-on : {S : Type 0} (tells : S → Form → Asking → List ℕ → List ℕ → List (ℕ × List ℕ) → List ℕ → KeyCounts → Type 0) (form : Form) (asking : Asking) (name : List ℕ) (old mid new : Records S) (before between after : List ℕ)
-    → MakesFront tells form asking name old mid before between → MakesFront tells form asking name mid new between after → MakesFront tells form asking name old new before after
-made-on tells form asking name old mid new before between after p q file text all w =
+pub made-on : {S : Type 0} (tells : S → Form → Asking → List ℕ → List ℕ → List (ℕ × List ℕ) → List LineTold → Type 0) (show : Show) (form : Form) (asking : Asking) (name : List ℕ) (old mid new : Records S) (before between after : List ℕ)
+    → MakesFront tells show form asking name old mid before between → MakesFront tells show form asking name mid new between after → MakesFront tells show form asking name old new before after
+made-on tells show form asking name old mid new before between after p q file text all w =
     let h = p file text all w in
     let k = q file h.0 all h.1 in
     (k.0, k.1, k.2 ∙ h.2, λ lines. k.3 (h.3 lines))
 
 -- no line was left
-pub none-made : {S : Type 0} (tells : S → Form → Asking → List ℕ → List ℕ → List (ℕ × List ℕ) → List ℕ → KeyCounts → Type 0) (form : Form) (asking : Asking) (name : List ℕ) (old new : Records S) (out : List ℕ)
-    → lines_left old ≡ [] → lines_left new ≡ [] → new.earlier ≡ old.earlier → new.reported ≡ old.reported → MakesFront tells form asking name old new out out
-none-made {S = S} tells form asking name old new out was is same counted file text all w = (
+pub none-made : {S : Type 0} (tells : S → Form → Asking → List ℕ → List ℕ → List (ℕ × List ℕ) → List LineTold → Type 0) (show : Show) (form : Form) (asking : Asking) (name : List ℕ) (old new : Records S) (out : List ℕ)
+    → lines_left old ≡ [] → lines_left new ≡ [] → new.earlier ≡ old.earlier → new.reported ≡ old.reported → MakesFront tells show form asking name old new out out
+none-made {S = S} tells show form asking name old new out was is same counted file text all w = (
   text,
   record {
     more = w.more;
     left =
-        subst (λ (x : S). tells x form asking name file (lines_left new) text w.more) (sym same)
-        (subst (λ (l : List (ℕ × List ℕ)). tells old.earlier form asking name file l text w.more) (was ∙ sym is) w.left);
-    sum = w.sum ∙ ap (λ k. plus_key k w.more) (sym counted);
+        subst (λ (x : S). tells x form asking name file (lines_left new) w.more) (sym same)
+        (subst (λ (l : List (ℕ × List ℕ)). tells old.earlier form asking name file l w.more) (was ∙ sym is) w.left);
+    are_records = w.are_records;
+    sum = w.sum ∙ ap (λ k. plus_key k (told_counts w.more)) (sym counted);
     fits = w.fits;
   },
   refl,
   λ lines. lines,
 )
 
--- the record of one line was
-pub next-made : {S : Type 0} (tells : S → Form → Asking → List ℕ → List ℕ → List (ℕ × List ℕ) → List ℕ → KeyCounts → Type 0) (form : Form) (asking : Asking) (name : List ℕ) (old new : Records S) (item : ℕ × List ℕ) (before after : List ℕ) (reported : KeyCounts)
+-- the record of one line was, and stays if it is shown
+pub next-made : {S : Type 0} (tells : S → Form → Asking → List ℕ → List ℕ → List (ℕ × List ℕ) → List LineTold → Type 0) (show : Show) (form : Form) (asking : Asking) (name : List ℕ) (old new : Records S) (item : ℕ × List ℕ) (before made after : List ℕ) (reported : KeyCounts)
     → lines_left old ≡ item ∷ lines_left new
-    → ((file : List ℕ) (lines : List (ℕ × List ℕ)) (text : List ℕ) (counts : KeyCounts) → tells old.earlier form asking name file (item ∷ lines) text counts
-    → (rest : List ℕ) × (more : KeyCounts) × tells new.earlier form asking name file lines rest more × (after ++ rest ≡ before ++ text) × (counts ≡ plus_key reported more) × (AreWholeLines before → AreWholeLines after))
+    → ((file : List ℕ) (lines : List (ℕ × List ℕ)) (told : List LineTold) → tells old.earlier form asking name file (item ∷ lines) told
+    → (own : List ℕ) × (more : List LineTold) × (told ≡ line_told own reported ∷ more) × tells new.earlier form asking name file lines more × (made ≡ before ++ own) × (AreWholeLines before → AreWholeLines made))
+    → (is_shown show reported.counts ≡ true → after ≡ made) → (is_shown show reported.counts ≡ false → after ≡ take (length before) made)
     → new.reported ≡ plus_key_within old.reported reported
-    → MakesFront tells form asking name old new before after
-next-made tells form asking name old new item before after reported steps goes adds file text all w =
-    let h = goes file (lines_left new) text w.more (subst (λ (l : List (ℕ × List ℕ)). tells old.earlier form asking name file l text w.more) steps w.left) in
-    let sums : all ≡ plus_key old.reported (plus_key reported h.1) = w.sum ∙ ap (plus_key old.reported) h.4 in
-    let added : new.reported ≡ plus_key old.reported reported = adds ∙ key-within-same old.reported reported (part-fits old.reported reported h.1 all w.fits sums) in (
-      h.0,
+    → MakesFront tells show form asking name old new before after
+next-made tells show form asking name old new item before made after reported steps goes kept left adds file text all w =
+    let (own, more, told, tells_more, is, whole) = goes file (lines_left new) w.more (subst (λ (l : List (ℕ × List ℕ)). tells old.earlier form asking name file l w.more) steps w.left) in
+    let sums : all ≡ plus_key old.reported (plus_key reported (told_counts more)) = w.sum ∙ ap (λ (t : List LineTold). plus_key old.reported (told_counts t)) told in
+    let added : new.reported ≡ plus_key old.reported reported = adds ∙ key-within-same old.reported reported (part-fits old.reported reported (told_counts more) all w.fits sums) in
+    let shown = is_shown show reported.counts in
+    let parts : text ≡ (if shown then own else []) ++ shown_records show more = w.are_records ∙ ap (shown_records show) told in
+    let stays : after ≡ before ++ (if shown then own else []) = shown-left shown before own made after is kept left in (
+      shown_records show more,
       record {
-        more = h.1;
-        left = h.2;
-        sum = sums ∙ (sym (plus-key-assoc old.reported reported h.1) ∙ ap (λ k. plus_key k h.1) (sym added));
+        more = more;
+        left = tells_more;
+        are_records = refl;
+        sum = sums ∙ (sym (plus-key-assoc old.reported reported (told_counts more)) ∙ ap (λ k. plus_key k (told_counts more)) (sym added));
         fits = w.fits;
       },
-      h.3,
-      h.5,
+      ap (λ t. t ++ shown_records show more) stays ∙ (append_assoc before (if shown then own else []) (shown_records show more) ∙ ap (λ t. before ++ t) (sym parts)),
+      lines-left shown before own made after is stays whole,
     )
 
 -- where no line is left, all is made
-pub all-made : {S : Type 0} (tells : S → Form → Asking → List ℕ → List ℕ → List (ℕ × List ℕ) → List ℕ → KeyCounts → Type 0) (form : Form) (asking : Asking) (name : List ℕ) (r : Records S)
-    → ((x : S) (form : Form) (asking : Asking) (name file text : List ℕ) (counts : KeyCounts) → tells x form asking name file [] text counts → (text ≡ []) × (counts ≡ no_key_counts))
-    → lines_left r ≡ [] → IsAllMade tells form asking name r
-all-made tells form asking name r ends none file text all w =
-    let h = ends r.earlier form asking name file text w.more (subst (λ (l : List (ℕ × List ℕ)). tells r.earlier form asking name file l text w.more) none w.left) in
-    (h.0, sym (w.sum ∙ (ap (plus_key r.reported) h.1 ∙ plus-key-none r.reported)))
+pub all-made : {S : Type 0} (tells : S → Form → Asking → List ℕ → List ℕ → List (ℕ × List ℕ) → List LineTold → Type 0) (show : Show) (form : Form) (asking : Asking) (name : List ℕ) (r : Records S)
+    → ((x : S) (form : Form) (asking : Asking) (name file : List ℕ) (told : List LineTold) → tells x form asking name file [] told → told ≡ [])
+    → lines_left r ≡ [] → IsAllMade tells show form asking name r
+all-made tells show form asking name r ends none file text all w =
+    let h = ends r.earlier form asking name file w.more (subst (λ (l : List (ℕ × List ℕ)). tells r.earlier form asking name file l w.more) none w.left) in
+    (w.are_records ∙ ap (shown_records show) h, sym (w.sum ∙ (ap (λ (t : List LineTold). plus_key r.reported (told_counts t)) h ∙ plus-key-none r.reported)))
 
 -- before the first line
-pub first-left : {S : Type 0} (tells : S → Form → Asking → List ℕ → List ℕ → List (ℕ × List ℕ) → List ℕ → KeyCounts → Type 0) (form : Form) (asking : Asking) (name file text : List ℕ) (all : KeyCounts) (earlier : S) (lines : List (ℕ × List ℕ)) (r : Records S)
-    → r.earlier ≡ earlier → lines_left r ≡ lines → r.reported ≡ no_key_counts → AreCounts all.counts → tells earlier form asking name file lines text all → HasLeft tells form asking name file text all r
-first-left {S = S} tells form asking name file text all earlier lines r same is none fits h = record {
-  more = all;
+pub first-left : {S : Type 0} (tells : S → Form → Asking → List ℕ → List ℕ → List (ℕ × List ℕ) → List LineTold → Type 0) (show : Show) (form : Form) (asking : Asking) (name file text : List ℕ) (all : KeyCounts) (earlier : S) (lines : List (ℕ × List ℕ)) (told : List LineTold) (r : Records S)
+    → r.earlier ≡ earlier → lines_left r ≡ lines → r.reported ≡ no_key_counts → AreCounts all.counts → tells earlier form asking name file lines told
+    → text ≡ shown_records show told → all ≡ told_counts told → HasLeft tells show form asking name file text all r
+first-left {S = S} tells show form asking name file text all earlier lines told r same is none fits h are sums = record {
+  more = told;
   left =
-      subst (λ (x : S). tells x form asking name file (lines_left r) text all) (sym same)
-      (subst (λ (l : List (ℕ × List ℕ)). tells earlier form asking name file l text all) (sym is) h);
-  sum = none-plus-key all ∙ ap (λ (k : KeyCounts). plus_key k all) (sym none);
+      subst (λ (x : S). tells x form asking name file (lines_left r) told) (sym same)
+      (subst (λ (l : List (ℕ × List ℕ)). tells earlier form asking name file l told) (sym is) h);
+  are_records = are;
+  sum = sums ∙ (none-plus-key (told_counts told) ∙ ap (λ (k : KeyCounts). plus_key k (told_counts told)) (sym none));
   fits = fits;
 }
 
 -- all of it, and the end of the file
-pub whole-made : {S : Type 0} (tells : S → Form → Asking → List ℕ → List ℕ → List (ℕ × List ℕ) → List ℕ → KeyCounts → Type 0) (form : Form) (asking : Asking) (name file text made : List ℕ) (all : KeyCounts) (old new : Records S)
-    → MakesFront tells form asking name old new [] made → IsAllMade tells form asking name new → HasLeft tells form asking name file text all old
+pub whole-made : {S : Type 0} (tells : S → Form → Asking → List ℕ → List ℕ → List (ℕ × List ℕ) → List LineTold → Type 0) (show : Show) (form : Form) (asking : Asking) (name file text made : List ℕ) (all : KeyCounts) (old new : Records S)
+    → MakesFront tells show form asking name old new [] made → IsAllMade tells show form asking name new → HasLeft tells show form asking name file text all old
     → reviewed_by form name file made new.reported ≡ reviewed_by form name file text all
-whole-made tells form asking name file text made all old new p over w =
+whole-made tells show form asking name file text made all old new p over w =
     let h = p file text all w in
     let e = over file h.0 all h.1 in
     let is : made ≡ text = sym (append-nil made) ∙ (ap (λ l. made ++ l) (sym e.0) ∙ h.2) in

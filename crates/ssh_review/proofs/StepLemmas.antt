@@ -1,63 +1,67 @@
 -- One more line of an authorized_keys file: what is left to be reported then, and what is stored.
-use Rattle.ssh_review.proofs.Imports.{◌≡◌, ◌∙◌, ℕ, ◌+◌, ◌≤◌, Bool, List, [], ◌∷◌, ◌++◌, length, refl, sym, ap, subst, append_assoc, arith, TooLong, auth_review, fault_review, AuthLine, auth_line, Asking, Held, Counts, Form, plus, AreBytes, lines_of, numbered, file_limit, RemembersEntries, bytes_kept, keys_kept, counts_of, held_by_line, held_lines, line_counts, line_record, records_of, line_bytes, lines_bytes}
+use Rattle.ssh_review.proofs.Imports.{◌≡◌, ◌∙◌, ℕ, ◌+◌, ◌≤◌, Bool, List, [], ◌∷◌, ◌++◌, length, refl, sym, ap, subst, append_assoc, arith, TooLong, auth_review, fault_review, AuthLine, auth_line, Asking, Held, Counts, Form, AreBytes, lines_of, numbered, file_limit, RemembersEntries, bytes_kept, keys_kept, counts_of, held_by_line, held_lines, line_counts, line_record, line_bytes, lines_bytes}
 use Rattle.ssh_findings.specs.declared.earlier.Earlier.{Earlier}
-use Rattle.ssh_review.specs.KeyRecords.{holds_key, key_counts, key_counts_of, key_record, key_records_of, plus_key}
+use Rattle.ssh_review.specs.KeyRecords.{holds_key, key_counts, key_counts_of, key_record, key_records_of}
 use Rattle.std.specs.Prelude.{if◌then◌else◌}
 use Rattle.ssh_review.specs.KeyReviews.{KeyReview, auth_key_review, key_fault_review, reviewed_by, whole_key_review}
 use Rattle.ssh_review.specs.Reviews.{Review, whole_review}
-use Rattle.ssh_review.specs.Making.{AreCounts, AreWholeLines, AuthKeyTells, AuthTells, of_all}
+use Rattle.ssh_review.specs.Making.{AreCounts, AreWholeLines, AuthKeyTells, AuthTells}
+use Rattle.ssh_review.specs.ShownRecords.{shown_records}
+use Rattle.ssh_review.specs.ToldLines.{LineTold, key_lines_told, line_told, lines_told, of_all}
 use Rattle.ssh_review.specs.declared.key_review.KeyCounts.{KeyCounts}
+use Rattle.ssh_review.specs.declared.show.Show.TheVariants.{All}
 use Rattle.ssh_review.specs.declared.records.ForKey.{ForKey}
 use Rattle.ssh_review.proofs.KeyReviewLemmas.{few-lines, key-within}
 use Rattle.ssh_review.proofs.LineLemmas.{all-within, lines-few}
 use Rattle.ssh_review.proofs.LineEndLemmas.{record-lines, if-lines, lines-on}
-use Rattle.ssh_review.proofs.MakingLemmas.{few-counts, text-more, within-false}
+use Rattle.ssh_review.proofs.MakingLemmas.{few-counts, within-false}
 use Rattle.ssh_review.proofs.MemoryLemmas.{file-long}
+use Rattle.ssh_review.proofs.ShownRecordLemmas.{all-shown}
 
 -- ---- all keys
 
-pub auth-next : (form : Form) (asking : Asking) (name file : List ℕ) (number : ℕ) (line : List ℕ) (lines : List (ℕ × List ℕ)) (said : AuthLine) (old new : Earlier) (before after text : List ℕ) (counts : KeyCounts) (reported : Counts)
-    → said ≡ auth_line line → AuthTells old form asking name file ((number, line) ∷ lines) text counts
+pub auth-next : (form : Form) (asking : Asking) (name file : List ℕ) (number : ℕ) (line : List ℕ) (lines : List (ℕ × List ℕ)) (said : AuthLine) (old new : Earlier) (before after : List ℕ) (told : List LineTold) (reported : Counts)
+    → said ≡ auth_line line → AuthTells old form asking name file ((number, line) ∷ lines) told
     → ((held : List Held) → RemembersEntries old held → after ≡ before ++ line_record form asking name held (number, line) said)
     → ((held : List Held) → RemembersEntries old held → reported ≡ line_counts asking held said)
     → ((held : List Held) → RemembersEntries old held → RemembersEntries new (held ++ held_by_line asking (number, said)))
     → bytes_kept new ≤ bytes_kept old + line_bytes asking said → keys_kept new ≤ keys_kept old + reported.keys
-    → (rest : List ℕ) × (more : KeyCounts) × AuthTells new form asking name file lines rest more × (after ++ rest ≡ before ++ text) × (counts ≡ plus_key (of_all reported) more) × (AreWholeLines before → AreWholeLines after)
-auth-next form asking name file number line lines said old new before after text counts reported says h written counted stores bytes keys =
+    → (own : List ℕ) × (more : List LineTold) × (told ≡ line_told own (of_all reported) ∷ more) × AuthTells new form asking name file lines more × (after ≡ before ++ own) × (AreWholeLines before → AreWholeLines after)
+auth-next form asking name file number line lines said old new before after told reported says h written counted stores bytes keys =
     let left = h.held ++ held_by_line asking (number, auth_line line) in
-    let rest = records_of form asking name left lines in
-    let more = counts_of asking left lines in
-    let own : line_bytes asking said ≡ line_bytes asking (auth_line line) = ap (line_bytes asking) says in
+    let own = line_record form asking name h.held (number, line) said in
+    let more = lines_told form asking name left lines in
+    let counts = counts_of asking left lines in
+    let own_bytes : line_bytes asking said ≡ line_bytes asking (auth_line line) = ap (line_bytes asking) says in
     let is : reported ≡ line_counts asking h.held (auth_line line) = counted h.held h.stored ∙ ap (line_counts asking h.held) says in
     let own_keys : reported.keys ≡ (line_counts asking h.held (auth_line line)).keys = ap (λ (c : Counts). c.keys) is in
     let all_bytes : bytes_kept old + (line_bytes asking (auth_line line) + lines_bytes asking lines) ≤ lines_bytes asking (numbered 1 (lines_of file)) = h.bytes in
     let file_bytes : bytes_kept old + (line_bytes asking (auth_line line) + lines_bytes asking lines) ≤ length file = h.file_bytes in
-    let file_keys : keys_kept old + ((line_counts asking h.held (auth_line line)).keys + more.keys) ≤ length file = h.file_keys in (
-      rest,
-      of_all more,
+    let file_keys : keys_kept old + ((line_counts asking h.held (auth_line line)).keys + counts.keys) ≤ length file = h.file_keys in (
+      own,
+      more,
+      h.are_told ∙ (ap (λ (s : AuthLine). line_told (line_record form asking name h.held (number, line) s) (of_all (line_counts asking h.held (auth_line line))) ∷ more) (sym says)
+          ∙ ap (λ (c : Counts). line_told own (of_all c) ∷ more) (sym is)),
       record {
         held = left;
         stored = subst (λ (s : AuthLine). RemembersEntries new (h.held ++ held_by_line asking (number, s))) says (stores h.held h.stored);
-        are_records = refl;
-        are_counts = refl;
+        are_told = refl;
         kept = append_assoc h.held (held_by_line asking (number, auth_line line)) (held_lines asking lines) ∙ h.kept;
-        bytes = omega (arith, bytes, own, all_bytes);
-        file_bytes = omega (arith, bytes, own, file_bytes);
+        bytes = omega (arith, bytes, own_bytes, all_bytes);
+        file_bytes = omega (arith, bytes, own_bytes, file_bytes);
         file_keys = omega (arith, keys, own_keys, file_keys);
       },
-      text-more (line_record form asking name h.held (number, line)) said (auth_line line) before after rest text (before ++ text) says (written h.held h.stored) h.are_records refl,
-      h.are_counts ∙ ap (λ (c : Counts). of_all (plus c more)) (sym is),
-      lines-on before (line_record form asking name h.held (number, line) said) after (written h.held h.stored) (record-lines form asking name h.held number line said),
+      written h.held h.stored,
+      lines-on before own after (written h.held h.stored) (record-lines form asking name h.held number line said),
     )
 
 -- before the first line
 pub auth-first : (form : Form) (asking : Asking) (name file : List ℕ) (earlier : Earlier) → AreBytes file → RemembersEntries earlier [] → bytes_kept earlier ≡ 0 → keys_kept earlier ≡ 0
-    → AuthTells earlier form asking name file (numbered 1 (lines_of file)) (records_of form asking name [] (numbered 1 (lines_of file))) (of_all (counts_of asking [] (numbered 1 (lines_of file))))
+    → AuthTells earlier form asking name file (numbered 1 (lines_of file)) (lines_told form asking name [] (numbered 1 (lines_of file)))
 auth-first form asking name file earlier are stands none no_keys = record {
   held = [];
   stored = stands;
-  are_records = refl;
-  are_counts = refl;
+  are_told = refl;
   kept = refl;
   bytes = omega (arith, none);
   file_bytes = omega (arith, none, file-long asking file are);
@@ -69,36 +73,38 @@ auth-fits asking file h = few-counts _ (length (lines_of file)) (all-within aski
 
 -- the whole text is that of the review
 pub auth-whole : (form : Form) (asking : Asking) (name file : List ℕ) (r : Review) → length file ≤ file_limit
-    → r ≡ (reviewed_by form name file (records_of form asking name [] (numbered 1 (lines_of file))) (of_all (counts_of asking [] (numbered 1 (lines_of file))))).file
+    → r ≡ (reviewed_by form name file (shown_records All (lines_told form asking name [] (numbered 1 (lines_of file)))) (of_all (counts_of asking [] (numbered 1 (lines_of file))))).file
     → r ≡ auth_review form asking name file
 unfolding whole_review
-auth-whole form asking name file r few is = is ∙ ap (λ (b : Bool). if b then fault_review form name TooLong else whole_review form asking name file) (sym (within-false (length file) few))
+auth-whole form asking name file r few is =
+    is ∙ ap (λ (t : List ℕ). (reviewed_by form name file t (of_all (counts_of asking [] (numbered 1 (lines_of file))))).file) (all-shown form asking name [] (numbered 1 (lines_of file)))
+    ∙ ap (λ (b : Bool). if b then fault_review form name TooLong else whole_review form asking name file) (sym (within-false (length file) few))
 
 -- ---- one key
 
-pub auth-key-next : (form : Form) (asking : Asking) (name file : List ℕ) (number : ℕ) (line : List ℕ) (lines : List (ℕ × List ℕ)) (said : AuthLine) (old new : ForKey Earlier) (before after text : List ℕ) (counts reported : KeyCounts)
-    → new.sought.now ≡ old.sought.now → said ≡ auth_line line → AuthKeyTells old form asking name file ((number, line) ∷ lines) text counts
+pub auth-key-next : (form : Form) (asking : Asking) (name file : List ℕ) (number : ℕ) (line : List ℕ) (lines : List (ℕ × List ℕ)) (said : AuthLine) (old new : ForKey Earlier) (before after : List ℕ) (told : List LineTold) (reported : KeyCounts)
+    → new.sought.now ≡ old.sought.now → said ≡ auth_line line → AuthKeyTells old form asking name file ((number, line) ∷ lines) told
     → ((held : List Held) → RemembersEntries old.earlier held → after ≡ before ++ key_record old.sought.now form asking name held (number, line) said)
     → ((held : List Held) → RemembersEntries old.earlier held → reported ≡ key_counts old.sought.now asking held line said)
     → ((held : List Held) → RemembersEntries old.earlier held → RemembersEntries new.earlier (held ++ held_by_line asking (number, said)))
-    → (rest : List ℕ) × (more : KeyCounts) × AuthKeyTells new form asking name file lines rest more × (after ++ rest ≡ before ++ text) × (counts ≡ plus_key reported more) × (AreWholeLines before → AreWholeLines after)
-auth-key-next form asking name file number line lines said old new before after text counts reported same says h written counted stores =
+    → (own : List ℕ) × (more : List LineTold) × (told ≡ line_told own reported ∷ more) × AuthKeyTells new form asking name file lines more × (after ≡ before ++ own) × (AreWholeLines before → AreWholeLines after)
+auth-key-next form asking name file number line lines said old new before after told reported same says h written counted stores =
     let sought = old.sought.now in
     let left = h.held ++ held_by_line asking (number, auth_line line) in
-    let rest = key_records_of sought form asking name left lines in
-    let more = key_counts_of sought asking left lines in
+    let own = key_record sought form asking name h.held (number, line) said in
+    let more = key_lines_told sought form asking name left lines in
     let is : reported ≡ key_counts sought asking h.held line (auth_line line) = counted h.held h.stored ∙ ap (key_counts sought asking h.held line) says in (
-      rest,
+      own,
       more,
+      h.are_told ∙ (ap (λ (s : AuthLine). line_told (key_record sought form asking name h.held (number, line) s) (key_counts sought asking h.held line (auth_line line)) ∷ more) (sym says)
+          ∙ ap (λ (c : KeyCounts). line_told own c ∷ more) (sym is)),
       record {
         held = left;
         stored = subst (λ (s : AuthLine). RemembersEntries new.earlier (h.held ++ held_by_line asking (number, s))) says (stores h.held h.stored);
-        are_records = ap (λ (k : List ℕ). key_records_of k form asking name left lines) (sym same);
-        are_counts = ap (λ (k : List ℕ). key_counts_of k asking left lines) (sym same);
+        are_told = ap (λ (k : List ℕ). key_lines_told k form asking name left lines) (sym same);
       },
-      text-more (key_record sought form asking name h.held (number, line)) said (auth_line line) before after rest text (before ++ text) says (written h.held h.stored) h.are_records refl,
-      h.are_counts ∙ ap (λ (c : KeyCounts). plus_key c more) (sym is),
-      lines-on before (key_record old.sought.now form asking name h.held (number, line) said) after (written h.held h.stored) (if-lines (holds_key old.sought.now line said) (line_record form asking name h.held (number, line) said) (record-lines form asking name h.held number line said)),
+      written h.held h.stored,
+      lines-on before own after (written h.held h.stored) (if-lines (holds_key old.sought.now line said) (line_record form asking name h.held (number, line) said) (record-lines form asking name h.held number line said)),
     )
 
 pub auth-key-fits : (sought : List ℕ) (asking : Asking) (file : List ℕ) → length file ≤ file_limit → AreCounts (key_counts_of sought asking [] (numbered 1 (lines_of file))).counts

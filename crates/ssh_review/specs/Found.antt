@@ -1,5 +1,5 @@
 -- How often each code was found in all files, as the total prints it (this project's rule).
-use Rattle.std.specs.Prelude.{◌++◌, [], ℕ, List, codes, flat_map, if◌then◌else◌, nat_lt}
+use Rattle.std.specs.Prelude.{◌++◌, ◌∷◌, [], ℕ, List, codes, flat_map, if◌then◌else◌, nat_lt}
 use Rattle.std.specs.Fmt.{decimal}
 use Rattle.ssh_findings.specs.CodeCounts.{number_of}
 use Rattle.ssh_findings.specs.Codes.{all_codes, code_text}
@@ -28,9 +28,7 @@ urgent_lines counts listed urgency = flat_map (urgent_line counts urgency) liste
 
 -- the lines of all codes, the most urgent first
 unfoldable pub found_lines : CodeCounts → List ℕ
-found_lines counts =
-    urgent_lines counts all_codes Today ++ urgent_lines counts all_codes Soon ++ urgent_lines counts all_codes TidyUp
-    ++ urgent_lines counts all_codes Policy
+found_lines counts = flat_map (urgent_lines counts all_codes) (Today ∷ Soon ∷ TidyUp ∷ Policy ∷ [])
 
 -- ---- as JSON
 

@@ -34,4 +34,6 @@ pub mod KeyRecords
 pub mod HostKeyRecords
 pub mod KeyReviews
 pub mod KeyListing
+pub mod ToldLines
+pub mod ShownRecords
 pub mod Making

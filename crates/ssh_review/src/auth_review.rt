@@ -10,11 +10,14 @@ ghost use Rattle.ssh_findings.specs.Earlier.{Held};
 ghost use Rattle.ssh_findings.specs.Keeping.{RemembersEntries};
 ghost use Rattle.ssh_findings.specs.Memory.{bytes_kept, keys_kept};
 ghost use Rattle.ssh_review.specs.declared.end.Form.{Form as FormValue};
-ghost use Rattle.ssh_review.specs.Lines.{counts_of, held_by_line, line_counts, line_findings, line_record, records_of};
-ghost use Rattle.ssh_review.specs.Making.{AuthTells, HasLeft, of_all};
+ghost use Rattle.ssh_review.specs.declared.show.Show.{Show as ShowValue};
+ghost use Rattle.ssh_review.specs.Lines.{counts_of, held_by_line, line_counts, line_findings, line_record};
+ghost use Rattle.ssh_review.specs.Making.{AuthTells, HasLeft};
 ghost use Rattle.ssh_review.specs.Memory.{line_bytes};
 ghost use Rattle.ssh_review.specs.Forms.{end_line, file_fault_line, total_line};
 ghost use Rattle.ssh_review.specs.Reviews.{auth_review, fault_review, review};
+ghost use Rattle.ssh_review.specs.ShownRecords.{shown_records};
+ghost use Rattle.ssh_review.specs.ToldLines.{lines_told, of_all};
 
 use crate::end::{
     Counts, FileFault, Form, Reviewed, Total, push_end_object, push_end_text, push_fault_object,
@@ -172,16 +175,16 @@ impl LineRecords for Earlier {
         })
     }
 
-    ghost ends = { λ x form asking name file text counts h. (h.are_records, h.are_counts) };
+    ghost ends = { λ x form asking name file told h. h.are_told };
 }
 
 /// The review of an `authorized_keys` file of these bytes, before its first record is made: a record
 /// for each entry and each line that cannot be read.
 pub fn auth_records(alloc: Global, file: &[u8]) -> Result<Records<'_, Earlier>, AllocError>
     requires { length file.now ≤ file_limit }
-    ensures { IfOk result (λ r. (form : FormValue) (asking : Asking) (name : List ℕ)
-        → HasLeft AuthTells form asking name file.now
-        (records_of form asking name [] (numbered 1 (lines_of file.now)))
+    ensures { IfOk result (λ r. (show : ShowValue) (form : FormValue) (asking : Asking) (name : List ℕ)
+        → HasLeft AuthTells show form asking name file.now
+        (shown_records show (lines_told form asking name [] (numbered 1 (lines_of file.now))))
         (of_all (counts_of asking [] (numbered 1 (lines_of file.now)))) r) }
 {
     let earlier = Earlier::new(alloc);

@@ -10,6 +10,7 @@ ghost use Rattle.ssh_findings.specs.HostFacts.{host_facts_of};
 ghost use Rattle.ssh_findings.specs.HostLines.{HostLine};
 ghost use Rattle.ssh_findings.specs.StandsFor.{RemembersLines};
 ghost use Rattle.ssh_review.specs.declared.end.Form.{Form as FormValue};
+ghost use Rattle.ssh_review.specs.declared.show.Show.TheVariants.{All};
 ghost use Rattle.ssh_review.specs.HostKeyRecords.{host_key_counts, host_key_counts_of, host_key_record, host_key_records_of};
 ghost use Rattle.ssh_review.specs.HostLines.{host_kept_of};
 ghost use Rattle.ssh_review.specs.KeyRecords.{lists_key};
@@ -238,7 +239,7 @@ impl<'a> LineRecords for ForKey<'a, EarlierHosts> {
         Ok(reported)
     }
 
-    ghost ends = { λ x form asking name file text counts h. (h.are_records, h.are_counts) };
+    ghost ends = { λ x form asking name file told h. h.are_told };
 }
 
 /// The review of a `known_hosts` file of these bytes for the key with this fingerprint, before its
@@ -250,7 +251,7 @@ pub fn known_key_records<'a>(
 ) -> Result<Records<'a, ForKey<'a, EarlierHosts>>, AllocError>
     requires { length file.now ≤ file_limit }
     ensures { IfOk result (λ r. (form : FormValue) (asking : Asking) (name : List ℕ)
-        → HasLeft KnownKeyTells form asking name file.now
+        → HasLeft KnownKeyTells All form asking name file.now
         (host_key_records_of sought.now form asking name [] (numbered 1 (lines_of file.now)))
         (host_key_counts_of sought.now asking [] (numbered 1 (lines_of file.now))) r) }
 {

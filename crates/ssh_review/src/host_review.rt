@@ -10,13 +10,16 @@ ghost use Rattle.ssh_findings.specs.HostLines.{HostLine};
 ghost use Rattle.ssh_findings.specs.HostFindingsMemory.{host_bytes_kept, kept_sum};
 ghost use Rattle.ssh_findings.specs.StandsFor.{RemembersLines};
 ghost use Rattle.ssh_review.specs.declared.end.Form.{Form as FormValue};
+ghost use Rattle.ssh_review.specs.declared.show.Show.{Show as ShowValue};
 ghost use Rattle.ssh_review.specs.HostCounting.{bare_counts};
 ghost use Rattle.ssh_review.specs.HostForms.{bare_record};
-ghost use Rattle.ssh_review.specs.HostLines.{host_counts_of, host_kept_of, host_line_counts, host_line_findings, host_line_record, host_records_of};
+ghost use Rattle.ssh_review.specs.HostLines.{host_counts_of, host_kept_of, host_line_counts, host_line_findings, host_line_record};
 ghost use Rattle.ssh_review.specs.HostMemory.{host_line_bytes, host_line_sum};
-ghost use Rattle.ssh_review.specs.Making.{HasLeft, KnownTells, of_all};
+ghost use Rattle.ssh_review.specs.Making.{HasLeft, KnownTells};
 ghost use Rattle.ssh_review.specs.Reviews.{review};
 ghost use Rattle.ssh_review.specs.HostReviews.{known_review};
+ghost use Rattle.ssh_review.specs.ShownRecords.{shown_records};
+ghost use Rattle.ssh_review.specs.ToldLines.{host_lines_told, of_all};
 
 use crate::auth_review::review_fault;
 use crate::end::{Counts, FileFault, Form, Reviewed};
@@ -251,7 +254,7 @@ impl LineRecords for EarlierHosts {
         })
     }
 
-    ghost ends = { λ x form asking name file text counts h. (h.are_records, h.are_counts) };
+    ghost ends = { λ x form asking name file told h. h.are_told };
 }
 
 /// The review of a `known_hosts` file of these bytes, before its first record is made: a record for
@@ -260,9 +263,9 @@ impl LineRecords for EarlierHosts {
 /// blob.
 pub fn known_records(alloc: Global, file: &[u8]) -> Result<Records<'_, EarlierHosts>, AllocError>
     requires { length file.now ≤ file_limit }
-    ensures { IfOk result (λ r. (form : FormValue) (asking : Asking) (name : List ℕ)
-        → HasLeft KnownTells form asking name file.now
-        (host_records_of form asking name [] (numbered 1 (lines_of file.now)))
+    ensures { IfOk result (λ r. (show : ShowValue) (form : FormValue) (asking : Asking) (name : List ℕ)
+        → HasLeft KnownTells show form asking name file.now
+        (shown_records show (host_lines_told form asking name [] (numbered 1 (lines_of file.now))))
         (of_all (host_counts_of asking [] (numbered 1 (lines_of file.now)))) r) }
 {
     let earlier = EarlierHosts::new(alloc);

@@ -10,6 +10,7 @@ ghost use Rattle.ssh_findings.specs.Earlier.{Held};
 ghost use Rattle.ssh_findings.specs.Facts.{facts_of};
 ghost use Rattle.ssh_findings.specs.Keeping.{RemembersEntries};
 ghost use Rattle.ssh_review.specs.declared.end.Form.{Form as FormValue};
+ghost use Rattle.ssh_review.specs.declared.show.Show.TheVariants.{All};
 ghost use Rattle.ssh_review.specs.KeyRecords.{key_counts, key_counts_of, key_record, key_records_of, lists_key, plus_key_within, recovers_key};
 ghost use Rattle.ssh_review.specs.KeyReviews.{auth_key_review, key_fault_review, key_review, reviewed_by};
 ghost use Rattle.ssh_review.specs.Lines.{held_by_line};
@@ -215,7 +216,7 @@ impl<'a> LineRecords for ForKey<'a, Earlier> {
         Ok(reported)
     }
 
-    ghost ends = { λ x form asking name file text counts h. (h.are_records, h.are_counts) };
+    ghost ends = { λ x form asking name file told h. h.are_told };
 }
 
 /// The review of an `authorized_keys` file of these bytes for the key with this fingerprint, before
@@ -227,7 +228,7 @@ pub fn auth_key_records<'a>(
 ) -> Result<Records<'a, ForKey<'a, Earlier>>, AllocError>
     requires { length file.now ≤ file_limit }
     ensures { IfOk result (λ r. (form : FormValue) (asking : Asking) (name : List ℕ)
-        → HasLeft AuthKeyTells form asking name file.now
+        → HasLeft AuthKeyTells All form asking name file.now
         (key_records_of sought.now form asking name [] (numbered 1 (lines_of file.now)))
         (key_counts_of sought.now asking [] (numbered 1 (lines_of file.now))) r) }
 {

@@ -16,11 +16,11 @@
 //!
 //! The records of a large file are many times its size. So they can be made a few at a time, by
 //! `auth_records`, `known_records`, `auth_key_records` and `known_key_records`. A caller that writes
-//! them as they are made, and then the end of the file:
+//! those that are shown (`Show`) as they are made, and then the end of the file:
 //!
 //! ```
 //! let mut records = auth_records(alloc, file)?;
-//! while records.push_some(alloc, Form::Text, &asked, name, &mut out)? {
+//! while records.push_some(alloc, Show::All, Form::Text, &asked, name, &mut out)? {
 //!     writer.write_all(&out)?;
 //!     out.clear();
 //! }
@@ -82,6 +82,7 @@ mod readable;
 mod record;
 mod records;
 mod short_text;
+mod show;
 
 pub use answer_json::{answer_object, answer_total};
 pub use asked::{AskedAt, asked_line};
@@ -94,3 +95,4 @@ pub use json_record::LineRef;
 pub use key_review::{KeyCounts, KeyReviewed, auth_key_records, review_auth_key, review_key_fault};
 pub use readable::{left_out, readable_auth};
 pub use records::{ForKey, LineRecords, Records};
+pub use show::Show;

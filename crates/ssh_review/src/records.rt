@@ -5,13 +5,16 @@ ghost use Rattle.std.specs.Prelude.{◌≡◌, ◌++◌, ◌∷◌, ◌<◌, [],
 ghost use Rattle.ssh_findings.specs.Asking.{Asking, asking_of};
 ghost use Rattle.ssh_review.specs.declared.end.Form.{Form as FormValue};
 ghost use Rattle.ssh_review.specs.declared.key_review.KeyCounts.{KeyCounts as KeyCountsValue};
-ghost use Rattle.ssh_review.specs.KeyRecords.{no_key_counts, plus_key};
+ghost use Rattle.ssh_review.specs.declared.show.Show.TheVariants.{All};
+ghost use Rattle.ssh_review.specs.KeyRecords.{no_key_counts};
 ghost use Rattle.ssh_review.specs.KeyReviews.{key_review, reviewed_by};
 ghost use Rattle.ssh_review.specs.Making.{AreWholeLines, HasLeft, IsAllMade, MakesFront, lines_left};
+ghost use Rattle.ssh_review.specs.ToldLines.{LineTold, line_told};
 
 use crate::end::Form;
 use crate::json_record::LineRef;
 use crate::key_review::{KeyCounts, KeyReviewed, with_end};
+use crate::show::{Show, leave_shown};
 use ssh_entries::KeyBuffer;
 use ssh_findings::ReviewOptions;
 use ssh_text::Lines;
@@ -21,8 +24,8 @@ use std::alloc::{AllocError, Global};
 /// next is.
 pub trait LineRecords {
     /// After the lines that were stored, these lines of the file of this name, each with its number,
-    /// have this text and these counts.
-    ghost tells: { Self → FormValue → Asking → List ℕ → List ℕ → List (ℕ × List ℕ) → List ℕ → KeyCountsValue → Type 0 };
+    /// tell this, one after the other.
+    ghost tells: { Self → FormValue → Asking → List ℕ → List ℕ → List (ℕ × List ℕ) → List LineTold → Type 0 };
 
     /// Appends the record of a line, if it has one, stores what later lines need of the line, and
     /// returns its counts. The line's key is decoded into the buffer.
@@ -36,17 +39,17 @@ pub trait LineRecords {
         buffer: &mut KeyBuffer,
         out: &mut Vec<u8>,
     ) -> Result<KeyCounts, AllocError>
-        ensures { IfOk result (λ reported. (file : List ℕ) (lines : List (ℕ × List ℕ)) (text : List ℕ) (counts : KeyCountsValue)
+        ensures { IfOk result (λ reported. (file : List ℕ) (lines : List (ℕ × List ℕ)) (told : List LineTold)
             → tells self.old form (asking_of asked.entry.now) place.entry.now.name.now file
-            ((place.entry.now.number, line.now) ∷ lines) text counts
-            → (rest : List ℕ) × (more : KeyCountsValue)
-            × tells self.new form (asking_of asked.entry.now) place.entry.now.name.now file lines rest more
-            × (out.new.items ++ rest ≡ out.old.items ++ text) × (counts ≡ plus_key reported more)
+            ((place.entry.now.number, line.now) ∷ lines) told
+            → (own : List ℕ) × (more : List LineTold) × (told ≡ line_told own reported ∷ more)
+            × tells self.new form (asking_of asked.entry.now) place.entry.now.name.now file lines more
+            × (out.new.items ≡ out.old.items ++ own)
             × (AreWholeLines out.old.items → AreWholeLines out.new.items)) };
 
-    /// No lines have no text.
-    ghost ends: { (x : Self) (form : FormValue) (asking : Asking) (name file text : List ℕ) (counts : KeyCountsValue)
-        → tells x form asking name file [] text counts → (text ≡ []) × (counts ≡ no_key_counts) };
+    /// No lines tell nothing.
+    ghost ends: { (x : Self) (form : FormValue) (asking : Asking) (name file : List ℕ) (told : List LineTold)
+        → tells x form asking name file [] told → told ≡ [] };
 }
 
 /// What is stored of earlier lines, where only the records of the lines that hold one key are made:
@@ -96,54 +99,58 @@ impl<'a, L: LineRecords + Drop> Records<'a, L> {
         self.reported
     }
 
-    /// Appends the record of the next line. Returns whether there was a line.
+    /// Appends the record of the next line, if it is shown. Returns whether there was a line.
     fn push_next(
         &mut self,
         alloc: Global,
+        show: Show,
         form: Form,
         asked: &ReviewOptions<'_>,
         name: &[u8],
         out: &mut Vec<u8>,
     ) -> Result<bool, AllocError>
-        ensures made { OnOk result (MakesFront L.tells form (asking_of asked.entry.now) name.now
+        ensures made { OnOk result (MakesFront L.tells show form (asking_of asked.entry.now) name.now
             self.old self.new out.old.items out.new.items) }
         ensures more { IfOk result (λ more. more ≡ true
             → length (lines_left self.new) < length (lines_left self.old)) }
         ensures over { IfOk result (λ more. more ≡ false
-            → IsAllMade L.tells form (asking_of asked.entry.now) name.now self.new) }
+            → IsAllMade L.tells show form (asking_of asked.entry.now) name.now self.new) }
     {
         match self.lines.next() {
             None => Ok(false),
             Some((number, line)) => {
                 let place = LineRef { name, number };
+                let before = out.len();
                 let reported = self
                     .earlier
                     .push_record(alloc, form, asked, &place, line, &mut self.buffer, out)?;
+                leave_shown(out, before, show.shows(reported.counts));
                 self.reported = self.reported.plus(reported);
                 Ok(true)
             }
         }
     }
 
-    /// Appends the records of further lines until there are some 65,536 bytes of them, or no line is
-    /// left. Returns whether a line may be left. The format, the options and the name are to be the
-    /// same in each call.
+    /// Appends the records of further lines, those that are shown, until there are some 65,536 bytes
+    /// of them, or no line is left. Returns whether a line may be left. What is shown, the format, the
+    /// options and the name are to be the same in each call.
     pub fn push_some(
         &mut self,
         alloc: Global,
+        show: Show,
         form: Form,
         asked: &ReviewOptions<'_>,
         name: &[u8],
         out: &mut Vec<u8>,
     ) -> Result<bool, AllocError>
-        ensures made { OnOk result (MakesFront L.tells form (asking_of asked.entry.now) name.now
+        ensures made { OnOk result (MakesFront L.tells show form (asking_of asked.entry.now) name.now
             self.old self.new out.old.items out.new.items) }
         ensures more { IfOk result (λ more. more ≡ true
             → length (lines_left self.new) < length (lines_left self.old)) }
         ensures over { IfOk result (λ more. more ≡ false
-            → IsAllMade L.tells form (asking_of asked.entry.now) name.now self.new) }
+            → IsAllMade L.tells show form (asking_of asked.entry.now) name.now self.new) }
     {
-        while self.push_next(alloc, form, asked, name, out)? {
+        while self.push_next(alloc, show, form, asked, name, out)? {
             if out.len() >= ENOUGH {
                 return Ok(true);
             }
@@ -162,12 +169,12 @@ pub(crate) fn whole_review<L: LineRecords + Drop>(
     begun: Records<'_, L>,
 ) -> Result<KeyReviewed, AllocError>
     ensures { IfOk result (λ r. (text : List ℕ) (all : KeyCountsValue)
-        → HasLeft L.tells form (asking_of asked.entry.now) name.now file.now text all begun.entry
+        → HasLeft L.tells All form (asking_of asked.entry.now) name.now file.now text all begun.entry
         → key_review r ≡ reviewed_by form name.now file.now text all) }
 {
     let mut records = begun;
     let mut text = Vec::new(alloc);
-    while records.push_some(alloc, form, asked, name, &mut text)? {}
+    while records.push_some(alloc, Show::All, form, asked, name, &mut text)? {}
     let reviewed = with_end(alloc, form, name, file, records.reported, text)?;
     Ok(reviewed)
 }

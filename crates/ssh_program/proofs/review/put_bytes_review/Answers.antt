@@ -1,9 +1,11 @@
 use Rattle.ssh_program.proofs.Imports.{[], asking_of, err_from_is_err_and, lines_of}
 use Rattle.ssh_text.specs.Text.{numbered}
-use Rattle.ssh_review.specs.HostLines.{host_counts_of, host_records_of}
-use Rattle.ssh_review.specs.Lines.{counts_of, records_of}
-use Rattle.ssh_review.specs.Making.{of_all}
-use Rattle.ssh_program.proofs.FileLemmas.{auth-put, auth-refused, known-put, known-refused}
+use Rattle.ssh_review.specs.HostLines.{host_counts_of}
+use Rattle.ssh_review.specs.Lines.{counts_of}
+use Rattle.ssh_review.specs.ShownRecords.{shown_records}
+use Rattle.ssh_review.specs.ToldLines.{host_lines_told, lines_told, of_all}
+use Rattle.ssh_program.proofs.FileLemmas.{auth-put, known-put}
+use Rattle.ssh_program.proofs.PutLemmas.{put-nothing}
 use Rattle.ssh_program.proofs.review.put_bytes_review.Goals as goal
 
 pub returns-in_ok-records-in-Auth-clause-put : goal.returns-in_ok-records-in-Auth-clause-put
@@ -11,23 +13,23 @@ returns-in_ok-records-in-Auth-clause-put g c =
     let file = c.args.file.now in
     let asking = asking_of c.args.asked.now in
     let lines = numbered 1 (lines_of file) in
-    rw c.in-Auth.is (auth-put c.args.form asking c.args.name.now file (g.W.Sink.account c.args.writer.now) (g.W.Sink.account c.put_review.new.writer) c.put_review.result c.requires.limit
-    (c.put_review.ensures.put (records_of c.args.form asking c.args.name.now [] lines) (of_all (counts_of asking [] lines)) (c.in_ok-records-in-Auth.ensures c.args.form asking c.args.name.now)))
+    rw c.in-Auth.is (auth-put c.args.show c.args.form asking c.args.name.now file (g.W.Sink.account c.args.writer.now) (g.W.Sink.account c.put_review.new.writer) c.put_review.result c.requires.limit
+    (c.put_review.ensures.put (shown_records c.args.show (lines_told c.args.form asking c.args.name.now [] lines)) (of_all (counts_of asking [] lines)) (c.in_ok-records-in-Auth.ensures c.args.show c.args.form asking c.args.name.now)))
 
 pub returns-in_ok-records-in-Known-clause-put : goal.returns-in_ok-records-in-Known-clause-put
 returns-in_ok-records-in-Known-clause-put g c =
     let file = c.args.file.now in
     let asking = asking_of c.args.asked.now in
     let lines = numbered 1 (lines_of file) in
-    rw c.in-Known.is (known-put c.args.form asking c.args.name.now file (g.W.Sink.account c.args.writer.now) (g.W.Sink.account c.put_review-in-Known.new.writer) c.put_review-in-Known.result c.requires.limit
-    (c.put_review-in-Known.ensures.put (host_records_of c.args.form asking c.args.name.now [] lines) (of_all (host_counts_of asking [] lines)) (c.in_ok-records-in-Known.ensures c.args.form asking c.args.name.now)))
+    rw c.in-Known.is (known-put c.args.show c.args.form asking c.args.name.now file (g.W.Sink.account c.args.writer.now) (g.W.Sink.account c.put_review-in-Known.new.writer) c.put_review-in-Known.result c.requires.limit
+    (c.put_review-in-Known.ensures.put (shown_records c.args.show (host_lines_told c.args.form asking c.args.name.now [] lines)) (of_all (host_counts_of asking [] lines)) (c.in_ok-records-in-Known.ensures c.args.show c.args.form asking c.args.name.now)))
 
 pub returns-in_err-records-in-Auth-clause-put : goal.returns-in_err-records-in-Auth-clause-put
 returns-in_err-records-in-Auth-clause-put g c =
     let p = err_from_is_err_and c.from_residual.result c.from_residual.ensures.1 in
-    rw (p.1, p.2, c.in-Auth.is) (auth-refused c.args.form (asking_of c.args.asked.now) c.args.name.now c.args.file.now (g.W.Sink.account c.args.writer.now) c.requires.limit)
+    rw (p.1, p.2) (put-nothing _ _ (g.W.Sink.account c.args.writer.now))
 
 pub returns-in_err-records-in-Known-clause-put : goal.returns-in_err-records-in-Known-clause-put
 returns-in_err-records-in-Known-clause-put g c =
     let p = err_from_is_err_and c.from_residual-in_err-records-in-Known.result c.from_residual-in_err-records-in-Known.ensures.1 in
-    rw (p.1, p.2, c.in-Known.is) (known-refused c.args.form (asking_of c.args.asked.now) c.args.name.now c.args.file.now (g.W.Sink.account c.args.writer.now) c.requires.limit)
+    rw (p.1, p.2) (put-nothing _ _ (g.W.Sink.account c.args.writer.now))

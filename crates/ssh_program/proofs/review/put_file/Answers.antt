@@ -4,12 +4,12 @@ use Rattle.ssh_program.proofs.review.put_file.Goals as goal
 
 pub returns-in-Ok-clause-reported : goal.returns-in-Ok-clause-reported
 returns-in-Ok-clause-reported g c =
-    file_reviewed c.args.kind c.args.form (asking_of c.args.asked.now) c.args.name.now c.in-Ok.file.items c.deref.result.now
+    file_reviewed c.args.kind c.args.show c.args.form (asking_of c.args.asked.now) c.args.name.now c.in-Ok.file.items c.deref.result.now
     (g.F.Files.source_state c.args.files.now) (g.F.Files.source_state c.read_whole.new.files) (g.W.Sink.account c.args.writer.now) (g.W.Sink.account c.put_bytes_review.new.writer) c.put_bytes_review.result
     (search rules) c.in-Ok.ensures.bytes c.in-Ok.ensures.others (search rules)
 
 pub returns-in-Err-clause-reported : goal.returns-in-Err-clause-reported
 returns-in-Err-clause-reported g c =
-    file_unread c.args.kind c.args.form (asking_of c.args.asked.now) c.args.name.now
+    file_unread c.args.kind c.args.show c.args.form (asking_of c.args.asked.now) c.args.name.now
     (g.F.Files.source_state c.args.files.now) (g.F.Files.source_state c.read_whole.new.files) c.in-Err.fault (g.W.Sink.account c.args.writer.now) (g.W.Sink.account c.put_unread.new.writer) c.put_unread.result
     c.in-Err.ensures.bytes c.in-Err.ensures.others (search rules)

@@ -9,7 +9,7 @@ use Rattle.ssh_program.proofs.review.tell_files.Goals as goal
 pub loop-name-init : goal.loop-name-init
 loop-name-init g c = (
   c.requires,
-  written_first with_file (telling_review c.args.kind c.args.form (asking_of c.args.asked.now)) no_lines (λ reported. reported.text) (λ reported. reported.total) (map (λ name. name.now) c.args.names.now)
+  written_first with_file (telling_review c.args.kind c.args.show c.args.form (asking_of c.args.asked.now)) no_lines (λ reported. reported.text) (λ reported. reported.total) (map (λ name. name.now) c.args.names.now)
       (g.F.Files.source_state c.args.files.now) (g.W.Sink.account c.args.writer.now) refl,
 )
 
@@ -17,7 +17,7 @@ pub loop-name-preserved : goal.loop-name-preserved
 loop-name-preserved g c =
     let x : FileReported = c.in_ok-reported.reported in (
       c.in_ok-reported.ensures.failed,
-      written_reported with_file (telling_review c.args.kind c.args.form (asking_of c.args.asked.now)) no_lines (λ reported. reported.text) (λ r. r.text) (λ reported. reported.total) review_kept (map (λ name. name.now) c.args.names.now) _
+      written_reported with_file (telling_review c.args.kind c.args.show c.args.form (asking_of c.args.asked.now)) no_lines (λ reported. reported.text) (λ r. r.text) (λ reported. reported.total) review_kept (map (λ name. name.now) c.args.names.now) _
           (map (λ name. name.now) (drop c.loop-name.name-index c.args.names.now)) (map (λ name. name.now) (drop (c.loop-name.name-index + 1) c.args.names.now))
           (g.F.Files.source_state c.args.files.now) (g.F.Files.source_state c.loop-name.files) (g.F.Files.source_state c.put_file.new.files)
           (g.W.Sink.account c.args.writer.now) (g.W.Sink.account c.loop-name.writer) (g.W.Sink.account c.put_file.new.writer)
@@ -31,7 +31,7 @@ loop-name-preserved g c =
 pub returns-in_err-reported-clause-reported : goal.returns-in_err-reported-clause-reported
 returns-in_err-reported-clause-reported g c =
     let p = err_from_is_err_and c.from_residual.result c.from_residual.ensures.1 in
-    rw (p.1, p.2) (written_stopped with_file (telling_review c.args.kind c.args.form (asking_of c.args.asked.now)) no_lines (λ reported. reported.text) (λ r. r.text) (λ reported. reported.total) review_kept (map (λ name. name.now) c.args.names.now) _
+    rw (p.1, p.2) (written_stopped with_file (telling_review c.args.kind c.args.show c.args.form (asking_of c.args.asked.now)) no_lines (λ reported. reported.text) (λ r. r.text) (λ reported. reported.total) review_kept (map (λ name. name.now) c.args.names.now) _
     (map (λ name. name.now) (drop c.loop-name.name-index c.args.names.now)) (map (λ name. name.now) (drop (c.loop-name.name-index + 1) c.args.names.now))
     (g.F.Files.source_state c.args.files.now) (g.F.Files.source_state c.loop-name.files) (g.F.Files.source_state c.put_file.new.files)
     (g.W.Sink.account c.args.writer.now) (g.W.Sink.account c.loop-name.writer) (g.W.Sink.account c.put_file.new.writer)
@@ -45,7 +45,7 @@ returns-in_err-reported-clause-failed g c =
 
 pub returns-clause-reported : goal.returns-clause-reported
 returns-clause-reported g c =
-    written_last with_file (telling_review c.args.kind c.args.form (asking_of c.args.asked.now)) no_lines (λ reported. reported.text) (λ r. r.text) (λ reported. reported.total) (map (λ name. name.now) c.args.names.now)
+    written_last with_file (telling_review c.args.kind c.args.show c.args.form (asking_of c.args.asked.now)) no_lines (λ reported. reported.text) (λ r. r.text) (λ reported. reported.total) (map (λ name. name.now) c.args.names.now)
     (map (λ name. name.now) (drop c.loop-name.name-index c.args.names.now))
     (g.F.Files.source_state c.args.files.now) (g.F.Files.source_state c.loop-name.files) (g.W.Sink.account c.args.writer.now) (g.W.Sink.account c.loop-name.writer) c.loop-name.total
     (ap (map (λ name. name.now)) (drop_all c.loop-name.name-index c.args.names.now c.loop-name-test.false)) c.loop-name.invariant.1

@@ -2,7 +2,7 @@ use Rattle.ssh_program.proofs.Imports.{◌≡◌, ◌∙◌, List, ℕ, ap, refl
 use Rattle.ssh_review.specs.Forms.{file_fault_line}
 use Rattle.ssh_review.specs.Reviews.{Review, fault_review}
 use Rattle.ssh_program.specs.FileReviews.{review_kept}
-use Rattle.ssh_program.proofs.PutLemmas.{fault-refused}
+use Rattle.ssh_program.proofs.PutLemmas.{put-nothing}
 use Rattle.ssh_program.proofs.WrittenText.{none_failed}
 use Rattle.ssh_program.proofs.streaming.put_fault_end.Goals as goal
 
@@ -12,7 +12,7 @@ returns-in_err-reviewed-clause-failed g c = let p = err_from_is_err_and c.from_r
 pub returns-in_err-reviewed-clause-put : goal.returns-in_err-reviewed-clause-put
 returns-in_err-reviewed-clause-put g c =
     let p = err_from_is_err_and c.from_residual.result c.from_residual.ensures.1 in
-    rw (p.1, p.2) (fault-refused c.args.form c.args.name.now c.args.fault (review_kept (fault_review c.args.form c.args.name.now c.args.fault)) (g.W.Sink.account c.args.writer.now))
+    rw (p.1, p.2) (put-nothing (file_fault_line c.args.form c.args.name.now c.args.fault) (review_kept (fault_review c.args.form c.args.name.now c.args.fault)) (g.W.Sink.account c.args.writer.now))
 
 pub returns-in_err-put_lines-clause-failed : goal.returns-in_err-put_lines-clause-failed
 returns-in_err-put_lines-clause-failed g c =

@@ -1,14 +1,19 @@
-use Rattle.ssh_review.proofs.Imports.{[], arith, ap, host_counts_of, host_records_of, lines_of, numbered, AreBytes-from}
-use Rattle.ssh_review.specs.Making.{KnownTells, of_all}
+use Rattle.ssh_review.proofs.Imports.{[], arith, ap, host_counts_of, lines_of, numbered, refl, AreBytes-from}
+use Rattle.ssh_review.specs.Making.{KnownTells}
+use Rattle.ssh_review.specs.ShownRecords.{shown_records}
+use Rattle.ssh_review.specs.ToldLines.{host_lines_told, of_all}
 use Rattle.ssh_review.proofs.HostStepLemmas.{known-first, known-fits}
 use Rattle.ssh_review.proofs.MakingLemmas.{first-left}
+use Rattle.ssh_review.proofs.ShownRecordLemmas.{hosts-told-counts}
 use Rattle.ssh_review.proofs.host_review.known_records.Goals as goal
 
 pub returns : goal.returns
 returns c =
-    λ form asking name.
+    λ show form asking name.
     let file = c.args.file.now in
     let lines = numbered 1 (lines_of file) in
-    first-left KnownTells form asking name file (host_records_of form asking name [] lines) (of_all (host_counts_of asking [] lines)) c.new-earlier.result lines c.in_ok-records.records
+    let told = host_lines_told form asking name [] lines in
+    first-left KnownTells show form asking name file (shown_records show told) (of_all (host_counts_of asking [] lines)) c.new-earlier.result lines told c.in_ok-records.records
     c.in_ok-records.ensures.earlier (ap (λ s. numbered s.0 (lines_of s.1)) c.in_ok-records.ensures.lines) c.in_ok-records.ensures.reported (known-fits asking file c.requires)
     (known-first form asking name file c.new-earlier.result (AreBytes-from file (λ i. omega (arith, c.type_inv.file i))) c.new-earlier.ensures.stands c.new-earlier.ensures.bytes c.new-earlier.ensures.sum)
+    refl (hosts-told-counts form asking name [] lines)
