@@ -87,6 +87,8 @@ def usage_rows():
     yield "show --kind key --file f --port 1", "ssh_audit: show: --port is not an option of show\n" + see("show")
     yield "admits --user ann --now 1 keys", "ssh_audit: admits: --key or --fingerprint is missing\n" + see("admits")
     yield "admits --key k --fingerprint f --user ann --now 1 keys", "ssh_audit: admits: --key and --fingerprint are given, and one of them is wanted\n" + see("admits")
+    yield "review --kind auth --now 1 --key k --fail-on F1 keys", "ssh_audit: review: --fail-on and --key are given, and one of them is wanted\n" + see("review")
+    yield "review --kind auth --now 1 --zone UTC0 --fail-on F15 keys", "ssh_audit: review: --fail-on has a code that is not reported: name it in --findings too\n" + see("review")
     yield "review --kind auth --now 1 --key k --show all keys", "ssh_audit: review: --show and --key are given, and one of them is wanted\n" + see("review")
     yield "trusts --fingerprint f --host h --now 1 keys", "ssh_audit: trusts: --fingerprint is not an option of trusts\n" + see("trusts")
     yield "explain --all", "ssh_audit: explain: --all is not an option of explain\n" + see("explain")
@@ -96,7 +98,7 @@ def value_rows():
     """Values of the newer commands, and what they have to be."""
     for option, wanted in (
         ("now", "seconds since 1970-01-01 UTC"), ("zone", "a POSIX rule"), ("kind", "a format or kind"), ("rsa-minimum", "decimal digits"),
-        ("findings", "all, none, or codes"), ("form", "text or json"), ("show", "all, found or totals"),
+        ("findings", "all, none, or codes"), ("form", "text or json"), ("show", "all, found or totals"), ("fail-on", "all, none, or codes"),
     ):
         given = {"kind": "auth", "now": "1", "zone": "UTC0", option: "?"}
         words = [word for name, value in given.items() for word in (f"--{name}", value)]

@@ -30,7 +30,10 @@ LISTS = {
     "show": ("ssh_program/src/review_show.rt", "read_show"),
     "empty-principals": ("ssh_files/src/values.rt", "read_empty_principals"),
     "findings": ("ssh_findings/src/code.rt", "parse_codes"),
+    "fail-on": ("ssh_findings/src/code.rt", "parse_codes"),
 }
+# Those whose words are codes of findings too, joined by commas.
+CODES = {"findings", "fail-on"}
 # The words of help for a value that has no closed list and names no file.
 OPEN = {"BASE64", "HEX", "FINGERPRINT", "NAME", "ADDRESS", "SECONDS", "RULE", "BITS", "PORT", "TEXT"}
 # What the machine knows of such a value.
@@ -87,14 +90,14 @@ def words_of(place):
     found = WORD.findall(body(CRATES / path, name))
     if not found:
         sys.exit(f"make_completion.py: no words in {name} of crates/{path}")
-    return found + [code for code in codes() if place == "findings" and FINDING.fullmatch(code)]
+    return found + [code for code in codes() if place in CODES and FINDING.fullmatch(code)]
 
 
 def value(command, option):
     """How the value of an option is completed, and its words if it has a closed list."""
     place = next((place for place in (f"{command} {option}", option) if place in LISTS), None)
     if place:
-        return "codes" if place == "findings" else "words", words_of(place)
+        return "codes" if place in CODES else "words", words_of(place)
     word = value_words()[option]
     if word == "FILE":
         return "files", []

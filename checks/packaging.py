@@ -287,6 +287,8 @@ def bash_rows(root, room, tally):
         (["review", "--findings", "F1,F2"], ["F1,F2", "F1,F20", "F1,F21", "F1,F22"]),
         (["review", "--findings", "F2,F22,F2"], ["F2,F22,F20", "F2,F22,F21"]),
         (["review", "--findings", "F1,n"], []),
+        (["review", "--fail-on", "F1,F2"], ["F1,F2", "F1,F20", "F1,F21", "F1,F22"]),
+        (["review", "--show", "f"], ["found"]),
         (["nothing", "--"], ["--help"]),
     ):
         tally.check(f"bash: {words}", offered(*words), wanted)

@@ -906,6 +906,9 @@ def auth_rows(audit, tally, draw, count):
     objects, _ = reviewed(audit, tally, "another zone", list(files), contents, AUTH_FIELDS, **asked)
     model_row(tally, "another zone", objects, files, NEW_YEAR - 3600, shift=3600, minimum=3073)
     told_rows(audit, tally, list(files), objects, asked)
+    fail_rows(audit, tally, "files", list(files), **asked)
+    for name in list(files)[:8]:
+        fail_rows(audit, tally, f"the file {name}", [name], **asked)
     for listed in (None, "none", "all", "F9"):
         shown_rows(audit, tally, f"findings {listed}", list(files), findings=listed, **asked)
     zone_row(audit, tally, list(files), objects, asked)
@@ -925,6 +928,22 @@ def told_rows(audit, tally, names, everything, asked):
 def is_found(made):
     """A record of a line with a finding, or that cannot be read."""
     return bool(made["findings"]) or made["what"] in ("unreadable", "revocation-unreadable")
+
+
+def fail_rows(audit, tally, what, names, **asked):
+    """The status is 1 where a finding with a code of `--fail-on` is reported, and nothing else depends on it."""
+    objects, _ = records_of(audit.run(review(*names, form="json", findings="all", **asked))[1])
+    told = {found["code"] for made in objects if is_record(made) for found in made["findings"]}
+    whole = audit.run(review(*names, findings="all", **asked))[1]
+    every = [f"F{number}" for number in range(1, 23)]
+    for listed in ("all", "none", *every, ",".join(every[1::2]), ",".join(code for code in every if code not in told) or "none"):
+        fails = bool(told) if listed == "all" else bool(told & set(listed.split(",")))
+        tally.check(f"{what}: fails on {listed}", audit.run(review(*names, findings="all", fail_on=listed, **asked)), (int(fails), whole, b""))
+    for code in sorted(told):
+        listed = ",".join({*every} - {code})
+        found = [audit.run(review(*names, findings=listed, fail_on=one, **asked))[0] for one in (listed, code)]
+        tally.check(f"{what}: {code} is not reported", found, [int(told != {code}), 2])
+    tally.check(f"{what}: fails, and a fault", audit.run(review(*names, "missing", findings="all", fail_on="all", **asked))[0], 2)
 
 
 SHOWN = {
@@ -1052,6 +1071,7 @@ def fault_rows(audit, tally):
                  "local:", "local:x", "local:Europe/Berlin", "Local:UTC0"],
         "rsa-minimum": ["", "x", "4294967296"], "form": ["", "tsv", "JSON"], "show": ["", "ALL", "none", "found,totals", "total"],
         "key": ["SHA256:", "SHA256:x", "SHA256:" + 43 * "/"],
+        "fail-on": ["", ",", "F1,,F2", "F1,", "F0", "F23", "f1", "all,F1", "NONE"],
         "findings": ["", ",", "F1,,F2", "F1,", ",F1", "F0", "F23", "F01", "f1", "F", "F1 ,F2", "all,F1", "none,none", "ALL"],
     }
     for option, wrong in values.items():
@@ -1064,6 +1084,8 @@ def fault_rows(audit, tally):
         tally.check(f"the first of several: {option}", audit.run(review("missing", **given)), (2, f"fault value {option}\n".encode(), b""))
     for what, words in (
         ("no kind", review("key", kind=None)), ("an option twice", review("key", now=1) + ["--now", "1"]),
+        ("a code that is not reported", review("key", fail_on="F1,F15")), ("all of which some are not reported", review("key", fail_on="all")),
+        ("a code where none is reported", review("key", findings="none", fail_on="F1")), ("a code and a key", review("key", fail_on="F1", key="key")),
         ("what is shown of one key", review("key", show="all", key="key")), ("an unknown option", review("key", soon=1)), ("a file by an option", review("key", file="key")), ("help", ["review", "--help"]),
     ):
         tally.check(f"usage: {what}", audit.run(words), (2, b"fault usage\n", HINT))
@@ -1335,6 +1357,7 @@ def known_rows(audit, tally, draw, count):
     host_model_row(tally, "known_hosts files by 3,073 bits", objects, files, 3073)
     fingerprint_row(audit, tally, "known_hosts files", list(contents), objects)
     standing_row(audit, tally, "known_hosts files", list(contents), keys, objects, kind="known", rsa_minimum=3073)
+    fail_rows(audit, tally, "known_hosts files", list(contents), kind="known")
     for listed in (None, "none", "all"):
         shown_rows(audit, tally, f"known_hosts files, findings {listed}", list(contents), kind="known", findings=listed)
     records, wrong, grants = by_file(objects), [], 0

@@ -30,7 +30,7 @@ _ssh_audit() {
     hash) options='--file --salts' ;;
     admits) options='--key --fingerprint --user --address --now --host --zone --empty-principals --rsa-minimum --form' operands=files ;;
     trusts) options='--key --host --now --port --empty-principals --rsa-minimum --form' operands=files ;;
-    review) options='--kind --now --key --zone --rsa-minimum --findings --show --form --files-from' operands=files ;;
+    review) options='--kind --now --key --zone --rsa-minimum --findings --fail-on --show --form --files-from' operands=files ;;
     explain) operands=codes ;;
     esac
     [[ $given != -- ]] || option=
@@ -45,7 +45,7 @@ _ssh_audit() {
         *' --host') words='hosts' ;;
         *' --empty-principals') words='any never' ;;
         *' --form') words='text json' ;;
-        *' --findings')
+        *' --findings' | *' --fail-on')
             # Codes are joined by commas, and each is named once.
             compopt -o nospace
             if [[ $word == *,* ]]; then

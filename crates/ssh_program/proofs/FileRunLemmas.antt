@@ -4,7 +4,7 @@ use Rattle.ssh_program.proofs.Imports.{◌≡◌, ◌<◌, ◌≤◌, ◌+◌, �
 use Rattle.std.proofs.lemmas.Bool.{ltb-false}
 use Rattle.std.proofs.lemmas.List.{append-nil, append_assoc, length-take-le, length-drop}
 use Rattle.std.specs.List.{AllByRecursion}
-use Rattle.std.specs.Prelude.{◌==◌}
+use Rattle.std.specs.Prelude.{◌==◌, if◌then◌else◌}
 use Rattle.std.specs.Option.{ok_or}
 use Rattle.std.specs.Simd.{first_chunks}
 use Rattle.ssh_entries.proofs.ByteLemmas.{IsBytes-from_all}
@@ -52,6 +52,8 @@ use Rattle.ssh_program.specs.Hashings.{Hashes, hashed_over}
 use Rattle.ssh_program.specs.KeyRuns.{AsksOfFiles}
 use Rattle.ssh_program.specs.KeySeeking.{ReviewsFor}
 use Rattle.ssh_program.specs.Rewritings.{RewritesFile, new_file, new_response, rewrite_kind, rewrite_over}
+use Rattle.ssh_findings.specs.declared.code.Code.{Code}
+use Rattle.ssh_program.specs.ReviewFails.{are_reported, failing_asked, failing_by, fails_by}
 use Rattle.ssh_program.specs.ReviewShows.{show_asked, show_by, show_of}
 use Rattle.ssh_program.specs.ReviewZones.{review_rule}
 use Rattle.ssh_program.specs.Spelled.{ReviewAsked, form_of, review_kind_of, review_spelled, usual_minimum}
@@ -392,6 +394,19 @@ show-by-faulty (Some word) None = fault-faulty option.Show (show_of word)
 show-faulty : (rows : List Row) → IsFaulty (show_asked rows)
 show-faulty rows = show-by-faulty (given option.Show rows) (given option.Key rows)
 
+reported-faulty : (codes : List Code) (reported : Bool) → IsFaulty (if reported then Ok codes else Err usage_response)
+reported-faulty codes true = none-faulty codes
+reported-faulty codes false = or-faulty {A = List Code} None usage_response refl
+
+failing-by-faulty : (reported : List Code) (text key : Option Word) → IsFaulty (failing_by reported text key)
+failing-by-faulty reported None key = none-faulty reported
+failing-by-faulty reported (Some text) (Some key) = or-faulty {A = List Code} None usage_response refl
+failing-by-faulty reported (Some text) None =
+    step-faulty _ _ (fault-faulty option.FailOn (codes_in text)) (λ codes. reported-faulty codes (are_reported reported codes))
+
+failing-faulty : (reported : List Code) (rows : List Row) → IsFaulty (failing_asked reported rows)
+failing-faulty reported rows = failing-by-faulty reported (given option.FailOn rows) (given option.Key rows)
+
 pub review-faulty : (rows : List Row) (zone : Option TimeZone) → IsFaulty (review_spelled rows zone)
 unfolding review_spelled
 review-faulty rows zone =
@@ -402,7 +417,8 @@ review-faulty rows zone =
     step-faulty _ _ (optional-faulty default_codes codes_in option.Findings rows) (λ reported.
     step-faulty _ _ (optional-faulty Text form_of option.Form rows) (λ form.
     step-faulty _ _ (show-faulty rows) (λ show.
-    step-faulty _ _ (or-faulty (names_given rows) _ refl) (λ names. none-faulty _))))))))
+    step-faulty _ _ (failing-faulty reported rows) (λ failing.
+    step-faulty _ _ (or-faulty (names_given rows) _ refl) (λ names. none-faulty _)))))))))
 
 abbrev pub IsNamed : List Row → ReviewAsked → Type 0
 IsNamed rows a = names_needed rows ≡ Ok a.names
@@ -417,8 +433,9 @@ review-names rows zone =
     step-any (IsNamed rows) (value_or default_codes codes_in option.Findings rows) _ (λ reported.
     step-any (IsNamed rows) (value_or Text form_of option.Form rows) _ (λ form.
     step-any (IsNamed rows) (show_asked rows) _ (λ show.
+    step-any (IsNamed rows) (failing_asked reported rows) _ (λ failing.
     step-gives (λ names. names_needed rows ≡ Ok names) (IsNamed rows) (names_needed rows) _ (λ names h. h) (λ names is.
-    λ a h. subst (IsNamed rows) (ok-same {A = ReviewAsked} {B = Response} _ a h) is))))))))
+    λ a h. subst (IsNamed rows) (ok-same {A = ReviewAsked} {B = Response} _ a h) is)))))))))
 
 abbrev IsShownAs : List Row → ReviewAsked → Type 0
 IsShownAs rows a = show_asked rows ≡ Ok a.show
@@ -433,31 +450,32 @@ review-shows rows zone =
     step-any (IsShownAs rows) (value_or default_codes codes_in option.Findings rows) _ (λ reported.
     step-any (IsShownAs rows) (value_or Text form_of option.Form rows) _ (λ form.
     step-gives (λ show. show_asked rows ≡ Ok show) (IsShownAs rows) (show_asked rows) _ (λ show h. h) (λ show is.
+    step-any (IsShownAs rows) (failing_asked reported rows) _ (λ failing.
     step-any (IsShownAs rows) (names_needed rows) _ (λ names.
-    λ a h. subst (IsShownAs rows) (ok-same {A = ReviewAsked} {B = Response} _ a h) is))))))))
+    λ a h. subst (IsShownAs rows) (ok-same {A = ReviewAsked} {B = Response} _ a h) is)))))))))
 
 -- ---- a response to `review`
 
-faultless : (total : Total) → total_status total < 2 → total.faults ≡ 0
-faultless total few = by (nat_lt 0 total.faults) refl few
+faultless : (failing : List Code) (total : Total) → total_status failing total < 2 → total.faults ≡ 0
+faultless failing total few = by (nat_lt 0 total.faults) refl few
   where
-    by : (some : Bool) → nat_lt 0 total.faults ≡ some → cond some 2 (cond (nat_lt 0 total.counts.findings) 1 0) < 2 → total.faults ≡ 0
+    by : (some : Bool) → nat_lt 0 total.faults ≡ some → cond some 2 (cond (fails_by failing total.counts.by_code) 1 0) < 2 → total.faults ≡ 0
     by true is few = absurd (omega (arith, few))
     by false is few = let none = ltb-false 0 total.faults is in omega (arith, none)
 
 review-of : (asked : ReviewAsked) (s : SourceState) (t : Option SourceState) (r : Response) → s.failures + length asked.names < most_failures → asked.show ≡ All
-    → ReviewsFiles asked.kind asked.show asked.form asked.rule asked.asking asked.names s t r → r.status < 2 → PrintsReviews asked r.text asked.names s
+    → ReviewsFiles asked.kind asked.show asked.failing asked.form asked.rule asked.asking asked.names s t r → r.status < 2 → PrintsReviews asked r.text asked.names s
 review-of asked s t r room all (inr (reported, front, is)) few = let two : r.status ≡ 2 = status-of r _ is in absurd (omega (arith, two, few))
 review-of asked s t r room all (inl (reported, chain, is)) few =
     let status = status-of r _ is in
-    let none = faultless reported.total (omega (arith, status, few)) in
+    let none = faultless asked.failing reported.total (omega (arith, status, few)) in
     let (rest, printed, each) = each-reviewed asked no_lines asked.names s t reported room chain none in
     let whole : r.text ≡ [] ++ (rest ++ total_line asked.form (kind_name asked.kind) asked.rule asked.asking reported.total) = ap (λ (x : Response). x.text) is ∙ ap (λ (x : List ℕ). x ++ total_line asked.form (kind_name asked.kind) asked.rule asked.asking reported.total) printed.text in
     prints-each asked r.text [] (total_line asked.form (kind_name asked.kind) asked.rule asked.asking reported.total) asked.names s rest all each whole
 
 reviewed-in : (rows : List Row) (names : List (List ℕ)) (zone : Option TimeZone) (s : SourceState) (t : Option SourceState) (r : Response) → names_needed rows ≡ Ok names
     → s.failures + length names < most_failures → ReadsZone (review_rule rows) zone → ShowsAll rows
-    → (x : Result ReviewAsked Response) → review_spelled rows zone ≡ x → RespondsTo (λ q. ReviewsFor None q.kind q.show q.form q.rule q.asking q.names) x s t r → r.status < 2 → FilesReviewed rows s r
+    → (x : Result ReviewAsked Response) → review_spelled rows zone ≡ x → RespondsTo (λ q. ReviewsFor None q.kind q.show q.failing q.form q.rule q.asking q.names) x s t r → r.status < 2 → FilesReviewed rows s r
 reviewed-in rows names zone s t r named room read shows (Err fault) spelled (unfailed, is) few =
     let two = review-faulty rows zone fault spelled in
     let same = status-of r fault is in
@@ -518,5 +536,5 @@ files_reviewed_run words (Some s) t old new status h = λ room rows names asks n
     let (r, answers, writes) = h room in
     let few = few-as old new r status writes is in
     let (zone, read, by) = asked-run command.Review words s t r rows asks.request answers few in
-    let whole = subst (λ (k : Option (List ℕ)). RespondsTo (λ q. ReviewsFor k q.kind q.show q.form q.rule q.asking q.names) (review_spelled rows zone) (source_of words s) t r) no_key by in
+    let whole = subst (λ (k : Option (List ℕ)). RespondsTo (λ q. ReviewsFor k q.kind q.show q.failing q.form q.rule q.asking q.names) (review_spelled rows zone) (source_of words s) t r) no_key by in
     (r, reviewed-in rows names zone (source_of words s) t r asks.named asks.room read shows (review_spelled rows zone) refl whole few, writes)

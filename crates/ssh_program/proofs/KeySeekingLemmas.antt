@@ -11,6 +11,7 @@ use Rattle.ssh_review.specs.HostKeyRecords.{host_key_counts_of, host_key_records
 use Rattle.ssh_review.specs.KeyRecords.{key_counts_of, key_records_of}
 use Rattle.ssh_review.specs.declared.end.FileFault.TheVariants.{Unread}
 use Rattle.ssh_review.specs.declared.show.Show.{Show}
+use Rattle.ssh_findings.specs.declared.code.Code.{Code}
 use Rattle.ssh_program.specs.declared.streaming.FileReported.{FileReported}
 use Rattle.ssh_program.specs.declared.streaming.Stop.{Stop}
 use Rattle.ssh_program.specs.declared.streaming.Stop.TheVariants as stop
@@ -161,8 +162,8 @@ by-same true kind form rule asking names key a b u r e h =
     spelled_same (SeeksKey kind form rule asking names) (spelled_fingerprint key) a b u r e (λ sought. seeks-same kind form rule asking names sought a b u r e) h
 by-same false kind form rule asking names key a b u r e h = file-same kind form rule asking names key a b u r e h
 
-pub reviews_for_same : (key : Option (List ℕ)) (kind : ReviewKind) (show : Show) (form : Form) (rule : List ℕ) (asking : Asking) (names : List (List ℕ)) (a b : SourceState) (u : Option SourceState) (r : Shown) → Alike a b
-    → ReviewsFor key kind show form rule asking names a u r → ReviewsFor key kind show form rule asking names b u r
-reviews_for_same None kind show form rule asking names a b u r e (inl (reported, h, is)) = inl (reported, files_same with_file (telling_review kind show form asking) no_lines names a b u reported e h, is)
-reviews_for_same None kind show form rule asking names a b u r e (inr early) = inr (ends_same with_file (telling_review kind show form asking) no_lines (λ reported. reported.text) (λ x. x.text) names a b r e early)
-reviews_for_same (Some key) kind show form rule asking names a b u r e h = by-same (is_fingerprint key) kind form rule asking names key a b u r e h
+pub reviews_for_same : (key : Option (List ℕ)) (kind : ReviewKind) (show : Show) (failing : List Code) (form : Form) (rule : List ℕ) (asking : Asking) (names : List (List ℕ)) (a b : SourceState) (u : Option SourceState) (r : Shown) → Alike a b
+    → ReviewsFor key kind show failing form rule asking names a u r → ReviewsFor key kind show failing form rule asking names b u r
+reviews_for_same None kind show failing form rule asking names a b u r e (inl (reported, h, is)) = inl (reported, files_same with_file (telling_review kind show form asking) no_lines names a b u reported e h, is)
+reviews_for_same None kind show failing form rule asking names a b u r e (inr early) = inr (ends_same with_file (telling_review kind show form asking) no_lines (λ reported. reported.text) (λ x. x.text) names a b r e early)
+reviews_for_same (Some key) kind show failing form rule asking names a b u r e h = by-same (is_fingerprint key) kind form rule asking names key a b u r e h

@@ -291,7 +291,7 @@ record SoughtRun (rows : List Row) (key : List ℕ) (s : SourceState) (r : Respo
 
 sought-in : (rows : List Row) (names : List (List ℕ)) (key : List ℕ) (zone : Option TimeZone) (s : SourceState) (t : Option SourceState) (r : Response) → names_needed rows ≡ Ok names
     → s.failures + length names < most_failures → ReadsZone (review_rule rows) zone
-    → (x : Result ReviewAsked Response) → review_spelled rows zone ≡ x → RespondsTo (λ q. ReviewsFor (Some key) q.kind q.show q.form q.rule q.asking q.names) x s t r → r.status < 2 → SoughtRun rows key s r
+    → (x : Result ReviewAsked Response) → review_spelled rows zone ≡ x → RespondsTo (λ q. ReviewsFor (Some key) q.kind q.show q.failing q.form q.rule q.asking q.names) x s t r → r.status < 2 → SoughtRun rows key s r
 sought-in rows names key zone s t r named room read (Err fault) spelled (unfailed, is) few =
     let two = review-faulty rows zone fault spelled in
     let same = status-of r fault is in
@@ -329,7 +329,7 @@ key_nowhere_run words (Some s) t old new status h = λ room rows names key asks 
     let few : r.status < 2 = omega (arith, done) in
     let (zone, read, by) = asked-run command.Review words s t r rows asks.request answers few in
     let run = sought-in rows names key zone (source_of words s) t r asks.named asks.room read (review_spelled rows zone) refl
-    (subst (λ (k : Option (List ℕ)). RespondsTo (λ q. ReviewsFor k q.kind q.show q.form q.rule q.asking q.names) (review_spelled rows zone) (source_of words s) t r) for_key by) few in
+    (subst (λ (k : Option (List ℕ)). RespondsTo (λ q. ReviewsFor k q.kind q.show q.failing q.form q.rule q.asking q.names) (review_spelled rows zone) (source_of words s) t r) for_key by) few in
     (r, record { sought = reported-of rows key (source_of words s) r run; nowhere = run.given_key.found.nowhere done }, writes)
 
 pub key_standing_run : (words : List (List ℕ)) (o t : Option SourceState) (old new : Option Account) (status : ℕ) → IfTells o (Answered words t old new status)
@@ -343,5 +343,5 @@ key_standing_run words (Some s) t old new status h = λ room rows names key asks
     let few : r.status < 2 = omega (arith, done) in
     let (zone, read, by) = asked-run command.Review words s t r rows asks.request answers few in
     let run = sought-in rows names key zone (source_of words s) t r asks.named asks.room read (review_spelled rows zone) refl
-    (subst (λ (k : Option (List ℕ)). RespondsTo (λ q. ReviewsFor k q.kind q.show q.form q.rule q.asking q.names) (review_spelled rows zone) (source_of words s) t r) for_key by) few in
+    (subst (λ (k : Option (List ℕ)). RespondsTo (λ q. ReviewsFor k q.kind q.show q.failing q.form q.rule q.asking q.names) (review_spelled rows zone) (source_of words s) t r) for_key by) few in
     (r, record { sought = reported-of rows key (source_of words s) r run; stands = run.given_key.found.stands done }, writes)

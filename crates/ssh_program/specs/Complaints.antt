@@ -4,6 +4,7 @@ use Rattle.std.specs.Option.{option_or}
 use Rattle.clap.specs.Words.{Text}
 use Rattle.ssh_print.specs.Texts.{escaped_text}
 use Rattle.ssh_program.specs.declared.args.ArgName.{ArgName}
+use Rattle.ssh_program.specs.declared.args.ArgName.TheVariants as option
 use Rattle.ssh_program.specs.declared.args.Needed.{Needed}
 use Rattle.ssh_program.specs.declared.args.Needed.TheVariants.{Required}
 use Rattle.ssh_program.specs.declared.subcommand.Subcommand.{Subcommand}
@@ -23,6 +24,7 @@ pub data Wrong : Type 0 where
   neither : ArgName → ArgName → Wrong
   both : ArgName → ArgName → Wrong
   no_names : Wrong
+  unreported : Wrong
   unknown : Wrong
 
 -- what is wrong with the first item of a list with which something is
@@ -105,12 +107,14 @@ option_wrong c words row =
 
 -- ---- the operands
 
-abbrev pub names_by : Option Needed → Bool → Wrong
-names_by (Some Required) false = Wrong.no_names
-names_by needed given = Wrong.unknown
+-- where nothing else is wrong, a code that is not reported is in the list of those that make the status 1
+abbrev pub names_by : Option Needed → Bool → Bool → Wrong
+names_by (Some Required) false lists = Wrong.no_names
+names_by needed given true = Wrong.unreported
+names_by needed given false = Wrong.unknown
 
 abbrev pub names_wrong : Subcommand → List Word → Wrong
-names_wrong c words = names_by (subcommand_operands c) (has_operand words)
+names_wrong c words = names_by (subcommand_operands c) (has_operand words) (is_given option.FailOn words)
 
 -- ---- all words
 
@@ -150,4 +154,5 @@ complaint_text c (Wrong.missing o) = option_text o (codes " is missing")
 complaint_text c (Wrong.neither o other) = neither_text o other
 complaint_text c (Wrong.both o other) = both_text o other
 complaint_text c Wrong.no_names = codes "no file is named"
+complaint_text c Wrong.unreported = option_text option.FailOn (codes " has a code that is not reported: name it in --findings too")
 complaint_text c Wrong.unknown = codes "the words ask for nothing"

@@ -1,6 +1,7 @@
 -- The reviews of files, one after the other (this project's rule).
 use Rattle.std.specs.Prelude.{◌≡◌, ◌<◌, ◌⊎◌, ◌++◌, ℕ, List, [], ◌∷◌, false, length, Option, Some, None, Result, Ok, Err, codes, ⊤}
 use Rattle.ssh_findings.specs.Asking.{Asking}
+use Rattle.ssh_findings.specs.declared.code.Code.{Code}
 use Rattle.ssh_files.specs.FilesInTurn.{Telling, TellsFile, TellsFiles}
 use Rattle.ssh_files.specs.SourceState.{IfTells, SourceState}
 use Rattle.ssh_files.specs.declared.read.ReadError.{ReadError}
@@ -138,14 +139,14 @@ FailedIfStopped (Ok k) new = NoneFailed new
 -- ---- the response
 
 -- what is shown of the reviews, and the line of their total, which says the time zone by its rule
-abbrev pub review_response : ReviewKind → Form → List ℕ → Asking → Lines → Response
-review_response kind form rule asking reported = record {
-  status = total_status reported.total;
+abbrev pub review_response : ReviewKind → List Code → Form → List ℕ → Asking → Lines → Response
+review_response kind failing form rule asking reported = record {
+  status = total_status failing reported.total;
   text = reported.text ++ total_line form (kind_name kind) rule asking reported.total;
 }
 
 -- the total is last: an answer without it went no further
-abbrev pub ReviewsFiles : ReviewKind → Show → Form → List ℕ → Asking → List (List ℕ) → SourceState → Option SourceState → Response → Type 0
-ReviewsFiles kind show form rule asking names s t r =
-    ((reported : Lines) × TellsFiles with_file (telling_review kind show form asking) no_lines names s t reported × (r ≡ review_response kind form rule asking reported))
+abbrev pub ReviewsFiles : ReviewKind → Show → List Code → Form → List ℕ → Asking → List (List ℕ) → SourceState → Option SourceState → Response → Type 0
+ReviewsFiles kind show failing form rule asking names s t r =
+    ((reported : Lines) × TellsFiles with_file (telling_review kind show form asking) no_lines names s t reported × (r ≡ review_response kind failing form rule asking reported))
     ⊎ EndsEarly with_file (telling_review kind show form asking) no_lines (λ reported. reported.text) (λ r. r.text) names s r

@@ -54,6 +54,7 @@ value_word option.Salts = codes "FILE"
 value_word option.Key = codes "FILE"
 value_word option.Fingerprint = codes "FINGERPRINT"
 value_word option.Findings = codes "CODES"
+value_word option.FailOn = codes "CODES"
 value_word option.Show = codes "WHAT"
 value_word option.Form = codes "FORM"
 value_word option.FilesFrom = codes "FILE"
@@ -120,6 +121,7 @@ option_sentence c option.Salts = codes "a file of 20 raw bytes for each name"
 option_sentence c option.Key = key_sentence c
 option_sentence c option.Fingerprint = codes "the fingerprint of the key, as sshd logs it"
 option_sentence c option.Findings = codes "the findings that are reported: all, none, or codes joined by commas"
+option_sentence c option.FailOn = codes "the findings that make the status 1: all, none, or codes; without it all that are reported"
 option_sentence c option.Show = codes "what is listed: all (so without it), found for lines with a finding, or totals"
 option_sentence c option.Form = codes "text (so without it), or json for one object on each line"
 option_sentence c option.FilesFrom = codes "a file of more names, each ended by NUL or by a line end; - is standard input"
@@ -151,6 +153,7 @@ wanted_value option.Salts = codes "the name of a file"
 wanted_value option.Key = codes "the name of a file, or a fingerprint as ssh-keygen -l prints it"
 wanted_value option.Fingerprint = codes "SHA256: and 43 characters of base64, as in sshd's log"
 wanted_value option.Findings = codes "all, none, or codes from F1 to F22 joined by commas"
+wanted_value option.FailOn = codes "all, none, or codes from F1 to F22 joined by commas"
 wanted_value option.Show = codes "all, found or totals"
 wanted_value option.Form = codes "text or json"
 wanted_value option.FilesFrom = codes "a file of names, each ended by NUL or by a line end"
@@ -179,6 +182,7 @@ other_place c o = None
 
 -- the option that an option is not given with
 abbrev pub apart_from : ArgName → Option ArgName
+apart_from option.FailOn = Some option.Key
 apart_from option.Show = Some option.Key
 apart_from o = None
 

@@ -2,6 +2,7 @@
 use Rattle.std.specs.Prelude.{◌≡◌, ◌⊎◌, ◌++◌, ◌||◌, ℕ, nat_lt, Bool, true, false, if◌then◌else◌, List, Option, Some, None, Result, Ok, Err, option_map}
 use Rattle.ssh_keys.specs.Fingerprint.{digest_text_of}
 use Rattle.ssh_findings.specs.Asking.{Asking}
+use Rattle.ssh_findings.specs.declared.code.Code.{Code}
 use Rattle.ssh_files.specs.FilesInTurn.{Telling, TellsFiles}
 use Rattle.ssh_files.specs.Loading.{KeepsOthers, NoReadFailed, ReadToEnd, within_limit}
 use Rattle.ssh_files.specs.SourceState.{SourceState, bytes_at}
@@ -108,6 +109,6 @@ SeeksBy true kind form rule asking names key = RespondsTo (SeeksKey kind form ru
 SeeksBy false kind form rule asking names key = SeeksKeyOfFile kind form rule asking names key
 
 -- the review of all keys, of which this is shown, or that for the key of this value
-abbrev pub ReviewsFor : Option (List ℕ) → ReviewKind → Show → Form → List ℕ → Asking → List (List ℕ) → SourceState → Option SourceState → Response → Type 0
-ReviewsFor None kind show form rule asking names = ReviewsFiles kind show form rule asking names
-ReviewsFor (Some key) kind show form rule asking names = SeeksBy (is_fingerprint key) kind form rule asking names key
+abbrev pub ReviewsFor : Option (List ℕ) → ReviewKind → Show → List Code → Form → List ℕ → Asking → List (List ℕ) → SourceState → Option SourceState → Response → Type 0
+ReviewsFor None kind show failing form rule asking names = ReviewsFiles kind show failing form rule asking names
+ReviewsFor (Some key) kind show failing form rule asking names = SeeksBy (is_fingerprint key) kind form rule asking names key

@@ -63,6 +63,7 @@ pub mod Totals
 pub mod FileReviews
 pub mod ReviewZones
 pub mod ReviewShows
+pub mod ReviewFails
 pub mod Spelled
 pub mod KeyRuns
 pub mod FingerprintRuns

@@ -5,6 +5,7 @@ use Rattle.clap.specs.Words.{Row}
 use Rattle.jiff.specs.Types.{TimeZone}
 use Rattle.ssh_findings.specs.Asking.{Asking}
 use Rattle.ssh_findings.specs.Codes.{codes_in, default_codes}
+use Rattle.ssh_findings.specs.declared.code.Code.{Code}
 use Rattle.ssh_files.specs.SourceState.{SourceState}
 use Rattle.ssh_files.specs.Values.{ReadsZone, number_below}
 use Rattle.ssh_print.specs.Responses.{Response}
@@ -14,6 +15,7 @@ use Rattle.ssh_review.specs.declared.show.Show.{Show}
 use Rattle.ssh_program.specs.declared.review.ReviewKind.{ReviewKind}
 use Rattle.ssh_program.specs.declared.review.ReviewKind.TheVariants.{Auth, Known}
 use Rattle.ssh_program.specs.KeySeeking.{ReviewsFor}
+use Rattle.ssh_program.specs.ReviewFails.{failing_asked}
 use Rattle.ssh_program.specs.ReviewShows.{show_asked}
 use Rattle.ssh_program.specs.ReviewZones.{is_zone_given, review_rule}
 use Rattle.ssh_wire.specs.Reading.{◌>>=◌}
@@ -38,10 +40,11 @@ form_of word =
     else if bytes_eq word (codes "json") then Some Json
     else None
 
--- the format of the files, what is shown, the output format, the rule of the time zone, the options of the review, and the names of the files
+-- the format of the files, what is shown, the codes that make the status 1, the output format, the rule of the time zone, the options of the review, and the names of the files
 pub record ReviewAsked : Type 0 where
   pub kind : ReviewKind
   pub show : Show
+  pub failing : List Code
   pub form : Form
   pub rule : List ℕ
   pub asking : Asking
@@ -56,10 +59,12 @@ review_spelled rows zone = do
   reported ← value_or default_codes codes_in option.Findings rows
   form ← value_or Text form_of option.Form rows
   show ← show_asked rows
+  failing ← failing_asked reported rows
   names ← names_needed rows
   Ok (record {
     kind = kind;
     show = show;
+    failing = failing;
     form = form;
     rule = review_rule rows;
     asking = record { now = now; zone = zone; is_zone_given = is_zone_given rows; rsa_minimum = rsa_minimum; reported = reported };
@@ -68,7 +73,7 @@ review_spelled rows zone = do
 
 -- where a key is asked for, the reviews are for it; its value is read after those of the other options
 abbrev pub ReviewsInZone : List Row → Option TimeZone → SourceState → Option SourceState → Response → Type 0
-ReviewsInZone rows zone = RespondsTo (λ q. ReviewsFor (given option.Key rows) q.kind q.show q.form q.rule q.asking q.names) (review_spelled rows zone)
+ReviewsInZone rows zone = RespondsTo (λ q. ReviewsFor (given option.Key rows) q.kind q.show q.failing q.form q.rule q.asking q.names) (review_spelled rows zone)
 
 -- the same in the zone of the option's rule
 abbrev pub RespondsToReview : List Row → SourceState → Option SourceState → Response → Type 0

@@ -1,11 +1,13 @@
 -- The total of the files that were reviewed, and the status (this project's rule).
-use Rattle.std.specs.Prelude.{◌+◌, ◌-◌, ◌^◌, ℕ, min, nat_lt, if◌then◌else◌, Option, Some, None}
+use Rattle.std.specs.Prelude.{◌+◌, ◌-◌, ◌^◌, ℕ, min, nat_lt, if◌then◌else◌, List, Option, Some, None}
+use Rattle.ssh_findings.specs.declared.code.Code.{Code}
 use Rattle.ssh_review.specs.declared.end.Counts.{Counts}
 use Rattle.ssh_review.specs.declared.end.FileFault.{FileFault}
 use Rattle.ssh_review.specs.declared.end.Total.{Total}
 use Rattle.ssh_review.specs.Counting.{no_counts, plus_within}
 use Rattle.ssh_review.specs.FaultCounts.{faults_with, no_faults}
 use Rattle.ssh_review.specs.Reviews.{Review}
+use Rattle.ssh_program.specs.ReviewFails.{fails_by}
 
 -- a sum of counts stops at 2^64 - 1
 abbrev pub counted : ℕ → ℕ → ℕ
@@ -31,6 +33,6 @@ with_counted total counts fault = record {
 abbrev pub with_review : Total → Review → Total
 with_review total r = with_counted total r.counts r.fault
 
--- 2 if a file could not be reviewed, else 1 if something was found
-abbrev pub total_status : Total → ℕ
-total_status total = if nat_lt 0 total.faults then 2 else if nat_lt 0 total.counts.findings then 1 else 0
+-- 2 if a file could not be reviewed, else 1 if a finding with one of these codes was reported
+abbrev pub total_status : List Code → Total → ℕ
+total_status failing total = if nat_lt 0 total.faults then 2 else if fails_by failing total.counts.by_code then 1 else 0

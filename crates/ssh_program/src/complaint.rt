@@ -30,6 +30,8 @@ pub enum Complaint<'a> {
     Neither(ArgName, ArgName),
     Both(ArgName, ArgName),
     NoNames,
+    /// `--fail-on` has a code that is not reported.
+    Unreported,
     /// Nothing else is known to be wrong.
     Other,
 }
@@ -233,6 +235,7 @@ fn names_complaint<'a>(command: Subcommand, words: &[Word<'_>]) -> Complaint<'a>
 {
     match (command.names(), has_operand(words)) {
         (Some(Needed::Required), false) => Complaint::NoNames,
+        _ if is_given(ArgName::FailOn, words) => Complaint::Unreported,
         _ => Complaint::Other,
     }
 }
@@ -321,6 +324,11 @@ pub fn push_complaint(
             out.extend_from_slice(b"no file is named")?;
             Ok(())
         }
+        Complaint::Unreported => push_option(
+            out,
+            ArgName::FailOn,
+            b" has a code that is not reported: name it in --findings too",
+        ),
         Complaint::Other => {
             out.extend_from_slice(b"the words ask for nothing")?;
             Ok(())

@@ -69,6 +69,7 @@ fn value_word(option: ArgName) -> &'static [u8]
         ArgName::Key => b"FILE",
         ArgName::Fingerprint => b"FINGERPRINT",
         ArgName::Findings => b"CODES",
+        ArgName::FailOn => b"CODES",
         ArgName::Show => b"WHAT",
         ArgName::Form => b"FORM",
         ArgName::FilesFrom => b"FILE",
@@ -180,6 +181,8 @@ fn option_sentence(command: Subcommand, option: ArgName) -> &'static [u8]
         ArgName::Fingerprint => b"the fingerprint of the key, as sshd logs it",
         ArgName::Findings =>
             b"the findings that are reported: all, none, or codes joined by commas",
+        ArgName::FailOn =>
+            b"the findings that make the status 1: all, none, or codes; without it all that are reported",
         ArgName::Show =>
             b"what is listed: all (so without it), found for lines with a finding, or totals",
         ArgName::Form => b"text (so without it), or json for one object on each line",
@@ -220,6 +223,7 @@ pub fn wanted_value(option: ArgName) -> &'static [u8]
         ArgName::Key => b"the name of a file, or a fingerprint as ssh-keygen -l prints it",
         ArgName::Fingerprint => b"SHA256: and 43 characters of base64, as in sshd's log",
         ArgName::Findings => b"all, none, or codes from F1 to F22 joined by commas",
+        ArgName::FailOn => b"all, none, or codes from F1 to F22 joined by commas",
         ArgName::Show => b"all, found or totals",
         ArgName::Form => b"text or json",
         ArgName::FilesFrom => b"a file of names, each ended by NUL or by a line end",
@@ -254,7 +258,7 @@ pub fn apart_from(option: ArgName) -> Option<ArgName>
     ensures { result ≡ apart_from option }
 {
     match option {
-        ArgName::Show => Some(ArgName::Key),
+        ArgName::FailOn | ArgName::Show => Some(ArgName::Key),
         _ => None,
     }
 }

@@ -24,7 +24,7 @@ use crate::review::{FOUND, NOTHING, ReviewKind, review_files, with_counted};
 use crate::sink::Sink;
 use crate::streaming::{FileReported, Stop, put_review, put_total, put_unread};
 use ssh_files::{Files, read_top_line, read_whole};
-use ssh_findings::ReviewOptions;
+use ssh_findings::{Code, ReviewOptions};
 use ssh_keys::digest_text;
 use ssh_print::{DONE, FAULT, OfferedKey, read_offer, show_fault};
 use ssh_review::{Form, Show, Total, auth_key_records, known_key_records};
@@ -326,6 +326,7 @@ pub fn review_for<F: Files, W: Sink>(
     alloc: Global,
     kind: ReviewKind,
     show: Show,
+    failing: &[Code],
     form: Form,
     rule: &[u8],
     asked: &ReviewOptions<'_>,
@@ -336,12 +337,14 @@ pub fn review_for<F: Files, W: Sink>(
 ) -> u8
     requires { NoneFailed (W.account writer.old) }
     ensures { IfTells (F.source_state files.old) (λ s. WritesAnswer
-        (ReviewsFor (option_map (λ k. k.now) key.entry) kind show form rule.now (asking_of asked.entry.now)
+        (ReviewsFor (option_map (λ k. k.now) key.entry) kind show failing.now form rule.now (asking_of asked.entry.now)
         (map (λ name. name.now) names.now) s (F.source_state files.new))
         (W.account writer.old) (W.account writer.new) result) }
 {
     match key {
-        None => review_files(alloc, kind, show, form, rule, asked, names, files, writer),
+        None => review_files(
+            alloc, kind, show, failing, form, rule, asked, names, files, writer,
+        ),
         Some(key) => seek(alloc, kind, form, rule, asked, names, key, files, writer),
     }
 }

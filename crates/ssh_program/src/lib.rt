@@ -47,6 +47,7 @@ mod program;
 mod question;
 mod reported;
 mod review;
+mod review_fail;
 mod review_show;
 mod review_zone;
 mod rewriting;

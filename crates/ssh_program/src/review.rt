@@ -22,6 +22,7 @@ use crate::args::{ArgName, Args};
 use crate::command::{CommandError, respond_fault};
 use crate::key_seeking::review_for;
 use crate::printing::{put_made, put_no_memory};
+use crate::review_fail::{failing_codes, fails_by};
 use crate::review_show::show_asked;
 use crate::review_zone::{given_rule, is_zone_given, zone_text};
 use crate::sink::Sink;
@@ -157,13 +158,14 @@ pub fn with_counted(total: Total, counts: Counts, fault: Option<FileFault>) -> T
     }
 }
 
-/// The status: 2 if a file could not be reviewed, else 1 if something was found.
-pub fn total_status(total: &Total) -> u8
-    ensures { result ≡ total_status total.now }
+/// The status: 2 if a file could not be reviewed, else 1 if a finding with one of these codes was
+/// reported.
+pub fn total_status(failing: &[Code], total: &Total) -> u8
+    ensures { result ≡ total_status failing.now total.now }
 {
     if total.faults > 0 {
         FAULT
-    } else if total.counts.findings > 0 {
+    } else if fails_by(failing, total.counts.by_code) {
         FOUND
     } else {
         DONE
@@ -266,6 +268,7 @@ pub fn review_files<F: Files, W: Sink>(
     alloc: Global,
     kind: ReviewKind,
     show: Show,
+    failing: &[Code],
     form: Form,
     rule: &[u8],
     asked: &ReviewOptions<'_>,
@@ -275,13 +278,13 @@ pub fn review_files<F: Files, W: Sink>(
 ) -> u8
     requires { NoneFailed (W.account writer.old) }
     ensures { IfTells (F.source_state files.old) (λ s. WritesAnswer
-        (ReviewsFiles kind show form rule.now (asking_of asked.entry.now)
+        (ReviewsFiles kind show failing.now form rule.now (asking_of asked.entry.now)
         (map (λ name. name.now) names.now) s (F.source_state files.new))
         (W.account writer.old) (W.account writer.new) result) }
 {
     match tell_files(alloc, kind, show, form, asked, names, files, writer) {
         Ok(total) => {
-            let status = total_status(&total);
+            let status = total_status(failing, &total);
             put_total(alloc, kind, form, rule, asked, &total, status, writer)
         }
         Err(Stop::Memory) => put_no_memory(writer),
@@ -312,6 +315,7 @@ fn review_in_zone<F: Files, W: Sink>(
     let reported = reported_codes(alloc, words)?;
     let form = form(words)?;
     let show = show_asked(words)?;
+    let failing = failing_codes(alloc, words, &reported)?;
     let names = words.needed_names()?;
     let rule = zone_text(given_rule(words));
     let is_given = is_zone_given(words);
@@ -324,7 +328,7 @@ fn review_in_zone<F: Files, W: Sink>(
     };
     let key = words.given(ArgName::Key);
     Ok(review_for(
-        alloc, kind, show, form, rule, &asked, names, key, files, writer,
+        alloc, kind, show, &failing, form, rule, &asked, names, key, files, writer,
     ))
 }
 

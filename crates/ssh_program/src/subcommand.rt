@@ -115,25 +115,27 @@ const TRUSTS: [OptionRow; 7] = [
     (ArgName::Form, Optional),
 ];
 
-const REVIEW: [OptionRow; 8] = [
+const REVIEW: [OptionRow; 9] = [
     (ArgName::Kind, Required),
     (ArgName::Now, Required),
     (ArgName::Key, Optional),
     (ArgName::Zone, Optional),
     (ArgName::RsaMinimum, Optional),
     (ArgName::Findings, Optional),
+    (ArgName::FailOn, Optional),
     (ArgName::Show, Optional),
     (ArgName::Form, Optional),
 ];
 
 /// The same with the list of names, which is read before the words are.
-const REPORTED_REVIEW: [OptionRow; 9] = [
+const REPORTED_REVIEW: [OptionRow; 10] = [
     (ArgName::Kind, Required),
     (ArgName::Now, Required),
     (ArgName::Key, Optional),
     (ArgName::Zone, Optional),
     (ArgName::RsaMinimum, Optional),
     (ArgName::Findings, Optional),
+    (ArgName::FailOn, Optional),
     (ArgName::Show, Optional),
     (ArgName::Form, Optional),
     (ArgName::FilesFrom, Optional),

@@ -2,6 +2,8 @@ use Rattle.ssh_program.proofs.Imports.{[], asking_of, err_from_is_err_and, lines
 use Rattle.ssh_text.specs.Text.{numbered}
 use Rattle.ssh_review.specs.HostKeyRecords.{host_key_counts_of, host_key_records_of}
 use Rattle.ssh_review.specs.KeyRecords.{key_counts_of, key_records_of}
+use Rattle.ssh_program.specs.KeySeeking.{key_review_kept, key_review_of}
+use Rattle.ssh_program.specs.declared.streaming.FileReported.{FileReported}
 use Rattle.ssh_program.proofs.KeySeekingLemmas.{auth-key-put, known-key-put}
 use Rattle.ssh_program.proofs.PutLemmas.{put-nothing}
 use Rattle.ssh_program.proofs.key_seeking.put_bytes_review.Goals as goal
@@ -27,9 +29,9 @@ returns-in_ok-records-in-Known-clause-put g c =
 pub returns-in_err-records-in-Auth-clause-put : goal.returns-in_err-records-in-Auth-clause-put
 returns-in_err-records-in-Auth-clause-put g c =
     let p = err_from_is_err_and c.from_residual.result c.from_residual.ensures.1 in
-    rw (p.1, p.2) (put-nothing _ _ (g.W.Sink.account c.args.writer.now))
+    rw (p.1, p.2) (put-nothing {K = FileReported} (key_review_of c.args.sought.now c.args.kind c.args.form (asking_of c.args.asked.now) c.args.name.now c.args.file.now).file.text (key_review_kept (key_review_of c.args.sought.now c.args.kind c.args.form (asking_of c.args.asked.now) c.args.name.now c.args.file.now)) (g.W.Sink.account c.args.writer.now))
 
 pub returns-in_err-records-in-Known-clause-put : goal.returns-in_err-records-in-Known-clause-put
 returns-in_err-records-in-Known-clause-put g c =
     let p = err_from_is_err_and c.from_residual-in_err-records-in-Known.result c.from_residual-in_err-records-in-Known.ensures.1 in
-    rw (p.1, p.2) (put-nothing _ _ (g.W.Sink.account c.args.writer.now))
+    rw (p.1, p.2) (put-nothing {K = FileReported} (key_review_of c.args.sought.now c.args.kind c.args.form (asking_of c.args.asked.now) c.args.name.now c.args.file.now).file.text (key_review_kept (key_review_of c.args.sought.now c.args.kind c.args.form (asking_of c.args.asked.now) c.args.name.now c.args.file.now)) (g.W.Sink.account c.args.writer.now))

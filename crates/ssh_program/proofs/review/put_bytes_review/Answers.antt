@@ -4,6 +4,8 @@ use Rattle.ssh_review.specs.HostLines.{host_counts_of}
 use Rattle.ssh_review.specs.Lines.{counts_of}
 use Rattle.ssh_review.specs.ShownRecords.{shown_records}
 use Rattle.ssh_review.specs.ToldLines.{host_lines_told, lines_told, of_all}
+use Rattle.ssh_program.specs.FileReviews.{review_kept, review_of}
+use Rattle.ssh_program.specs.declared.streaming.FileReported.{FileReported}
 use Rattle.ssh_program.proofs.FileLemmas.{auth-put, known-put}
 use Rattle.ssh_program.proofs.PutLemmas.{put-nothing}
 use Rattle.ssh_program.proofs.review.put_bytes_review.Goals as goal
@@ -27,9 +29,9 @@ returns-in_ok-records-in-Known-clause-put g c =
 pub returns-in_err-records-in-Auth-clause-put : goal.returns-in_err-records-in-Auth-clause-put
 returns-in_err-records-in-Auth-clause-put g c =
     let p = err_from_is_err_and c.from_residual.result c.from_residual.ensures.1 in
-    rw (p.1, p.2) (put-nothing _ _ (g.W.Sink.account c.args.writer.now))
+    rw (p.1, p.2) (put-nothing {K = FileReported} (review_of c.args.kind c.args.show c.args.form (asking_of c.args.asked.now) c.args.name.now c.args.file.now).text (review_kept (review_of c.args.kind c.args.show c.args.form (asking_of c.args.asked.now) c.args.name.now c.args.file.now)) (g.W.Sink.account c.args.writer.now))
 
 pub returns-in_err-records-in-Known-clause-put : goal.returns-in_err-records-in-Known-clause-put
 returns-in_err-records-in-Known-clause-put g c =
     let p = err_from_is_err_and c.from_residual-in_err-records-in-Known.result c.from_residual-in_err-records-in-Known.ensures.1 in
-    rw (p.1, p.2) (put-nothing _ _ (g.W.Sink.account c.args.writer.now))
+    rw (p.1, p.2) (put-nothing {K = FileReported} (review_of c.args.kind c.args.show c.args.form (asking_of c.args.asked.now) c.args.name.now c.args.file.now).text (review_kept (review_of c.args.kind c.args.show c.args.form (asking_of c.args.asked.now) c.args.name.now c.args.file.now)) (g.W.Sink.account c.args.writer.now))
