@@ -22,15 +22,17 @@ BASH = TOP / "packaging" / "ssh_audit.bash"
 ZSH = TOP / "packaging" / "_ssh_audit"
 HELP = documents.CODE / "help.rt"
 # Where the words are read that an option may have as its value: of a command, or of every command that has it.
+FORMS = "ssh_program/src/review.rt", "read_form"
 LISTS = {
-    "show kind": ("ssh_print/src/showing.rt", "show_kind"),
-    "rewrite kind": ("ssh_program/src/rewriting.rt", "rewrite_kind"),
-    "review kind": ("ssh_program/src/review.rt", "read_kind"),
-    "form": ("ssh_program/src/review.rt", "read_form"),
-    "show": ("ssh_program/src/review_show.rt", "read_show"),
-    "empty-principals": ("ssh_files/src/values.rt", "read_empty_principals"),
-    "findings": ("ssh_findings/src/code.rt", "parse_codes"),
-    "fail-on": ("ssh_findings/src/code.rt", "parse_codes"),
+    "show kind": [("ssh_print/src/showing.rt", "show_kind")],
+    "rewrite kind": [("ssh_program/src/rewriting.rt", "rewrite_kind")],
+    "review kind": [("ssh_program/src/review.rt", "read_kind")],
+    "review form": [FORMS, ("ssh_program/src/review_form.rt", "is_page")],
+    "form": [FORMS],
+    "show": [("ssh_program/src/review_show.rt", "read_show")],
+    "empty-principals": [("ssh_files/src/values.rt", "read_empty_principals")],
+    "findings": [("ssh_findings/src/code.rt", "parse_codes")],
+    "fail-on": [("ssh_findings/src/code.rt", "parse_codes")],
 }
 # Those whose words are codes of findings too, joined by commas.
 CODES = {"findings", "fail-on"}
@@ -38,7 +40,7 @@ CODES = {"findings", "fail-on"}
 OPEN = {"BASE64", "HEX", "FINGERPRINT", "NAME", "ADDRESS", "SECONDS", "RULE", "BITS", "PORT", "TEXT"}
 # What the machine knows of such a value.
 KNOWN = {"user": "users", "host": "hosts"}
-WORD = re.compile(r'if \w+ == b?"([\w-]+)"')
+WORD = re.compile(r'\w+ == b?"([\w-]+)"')
 SENTENCE = re.compile(r'Subcommand::(\w+) =>\s*(?:\{\s*)?b"([^"]*)"')
 FINDING = re.compile(r"F\d+")
 
@@ -86,10 +88,12 @@ def codes():
 
 def words_of(place):
     """The words of a closed list; of the findings, their codes too."""
-    path, name = LISTS[place]
-    found = WORD.findall(body(CRATES / path, name))
-    if not found:
-        sys.exit(f"make_completion.py: no words in {name} of crates/{path}")
+    found = []
+    for path, name in LISTS[place]:
+        words = WORD.findall(body(CRATES / path, name))
+        if not words:
+            sys.exit(f"make_completion.py: no words in {name} of crates/{path}")
+        found += words
     return found + [code for code in codes() if place in CODES and FINDING.fullmatch(code)]
 
 

@@ -135,7 +135,7 @@ def control_rows(package, path, library, tally):
 
 def wanted_files():
     """Each file of the package, and the file of the repository that it is."""
-    kept = [TOP / "README.md", TOP / "bench" / "README.md", *(TOP / "docs").glob("*.md"), *(path for path in (TOP / "examples").iterdir() if path.is_file())]
+    kept = [TOP / "README.md", TOP / "bench" / "README.md", *(TOP / "docs").glob("*.md"), TOP / "docs" / "page.png", *(path for path in (TOP / "examples").iterdir() if path.is_file())]
     return {**DEBIAN_PLACES, **{f"{DOCUMENTS}/{path.relative_to(TOP)}": str(path.relative_to(TOP)) for path in kept}}
 
 

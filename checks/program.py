@@ -7,9 +7,9 @@ PROGRAM is crates/ssh_audit/out/ssh_audit where it is left out. After its own ro
 help.py (what goes to standard error), colour.py (colours on a terminal), worked.py (worked rows of the whole command),
 examples.py (keys, certificates and signatures of ssh-keygen and openssl through examples/), documents.py (the commands of
 README.md and docs/MANUAL.md as they stand), packaging.py (packages: made, installed into a folder, used and removed), review.py (reviews
-of random files), streamed.py (whether a review is written while it is made), openssh.py (what docs/OPENSSH_DIFFERENCES.md
-says, asked of a real sshd and ssh, and whether whoever they
-let in is shown), recipes.py (the commands of docs/RECIPES.md), codes.py (whether each printed code is in a row),
+of random files), streamed.py (whether a review is written while it is made), page.py (the page of a review in a browser),
+openssh.py (what docs/OPENSSH_DIFFERENCES.md says, asked of a real sshd and ssh, and whether whoever they let in is shown),
+recipes.py (the commands of docs/RECIPES.md), codes.py (whether each printed code is in a row),
 explained.py (whether docs/CODES.md says what the source's table says), manual_page.py and completion.py (whether
 docs/ssh_audit.1 and the completions are made of the sources), closure.py (how much a reviewer has to read),
 memory_calls.py (whether each call that takes memory is in the table of growths/calls.md), edits.py (whether each wrong edit
@@ -18,7 +18,8 @@ refused in turn), cut_vectors.py (worked blobs, cut) and hostile.py (input that 
 starts it, library_rows.py (worked rows of the libraries), refused_calls.py (each growth of memory of the libraries' calls
 refused in turn) and sanitized.py (random bytes under AddressSanitizer) run too, which need the kit's `rt`, and the counts in
 the last line of LOG, what `rt ci` printed, are added. The last line is 'N passed, M failed' for all of them. The status is 0
-where nothing failed. What cannot run has failed; but without dpkg-deb nothing of packaging.py is counted.
+where nothing failed. What cannot run has failed; but without dpkg-deb nothing of packaging.py is counted, and without chromium
+or html5lib page.py leaves out what needs them.
 
 Needs ssh and ssh-keygen (Debian: openssh-client), sshd (openssh-server), openssl 3, gcc, jq, git, /dev/full, and the built
 program. It takes some ten minutes, without --after.
@@ -865,7 +866,7 @@ def try_all(path, tally):
             except (OSError, subprocess.SubprocessError) as error:
                 tally.check(row.__name__, repr(error), "no error")
     print(f"program.py itself: {tally.passed} passed, {tally.failed} failed", flush=True)
-    for name in ("help.py", "colour.py", "worked.py", "examples.py", "documents.py", "packaging.py", "review.py", "streamed.py", "recipes.py", "refused_growth.py", "cut_vectors.py", "hostile.py"):
+    for name in ("help.py", "colour.py", "worked.py", "examples.py", "documents.py", "packaging.py", "review.py", "streamed.py", "page.py", "recipes.py", "refused_growth.py", "cut_vectors.py", "hostile.py"):
         other_check(name, tally, path)
     other_check("openssh.py", tally, "--audit", path)
 

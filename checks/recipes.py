@@ -18,6 +18,7 @@ import shutil
 import subprocess
 import sys
 import tempfile
+import urllib.parse
 
 sys.dont_write_bytecode = True
 import keys_in_git
@@ -135,6 +136,9 @@ Match User dave
     AuthorizedKeysFile none
     TrustedUserCAKeys none
 """
+# The findings of the first quarter in their order, each with its level at a code host.
+SARIF = (("F9", "warning"), ("F4", "error"), ("F5", "warning"), ("F6", "note"), ("F1", "error"))
+SIGNED = "evidence 0: good\nvouched\n{laptop}\n"
 USED = ("laptop", "backup", "build", "work", "old")
 # What is told of the login that sshd refused, by the key `backup` from outside the net of its line.
 REFUSED = """{WEB}: does not admit: N3: no line admits the offer
@@ -246,23 +250,23 @@ def wanted(room, marks):
     return {
         "Which files count": machine_review(room, marks),
         "What changed on one machine": f"gone or changed:\nnew or changed:\n{machine_list(room, marks)}",
-        LIST: "",
+        LIST: "2\n2\n",
         "From many machines": "",
-        "Who has access": table(access),
+        "Who has access": table(access) + marks["backup"] + "\n",
         "What changed since the last quarter": "gone or changed:\n" + changes(GONE, marks) + "new or changed:\n" + changes(NEW, marks),
         "The same in SQLite": in_sqlite(marks),
         "Where one key stands": "".join(f"{place}: key ssh-ed25519 {marks['backup']} {TOLD['backup']}\n" for place in (f"{DB}:1", f"{WEB}:3")),
         "Why a login was refused": REFUSED.format(WEB=WEB, mark=marks["backup"], asked=asked_at(SECOND, machine_zone())),
-        "Keys on many hosts": marks["backup"] + "\n",
         "Keys that nobody used": table([marks[key]] for key in unused),
         "Orphans": f"{marks['ci']}\t{DB}\n",
         "Numbers for the report": f"q1\n{counts}q2\n",
         "What expires within 30 days": f"{WEB}:5 {marks['bob']} {TOLD['bob']}\n",
         "What hosts are known by": "db\tssh-ed25519\n",
-        "A table for a spreadsheet": "".join(csv(marks)),
+        "For spreadsheets and code hosts": "".join(csv(marks)) + "".join(f"{code} {level}\n" for code, level in SARIF),
         KEPT: "",
         "A gate on a repository of keys": "",
-        "A list that is signed": f"evidence 0: good\nvouched\n{marks['laptop']}\n",
+        "A list that is signed": SIGNED.format(**marks),
+        "A page for each team": "db1.html:3\nweb1.html:6\n" + SIGNED.format(**marks),
     }
 
 
@@ -349,6 +353,20 @@ def gathered_rows(room, tally):
     tally.check("its total", [record["files"] for record in records if record["what"] == "total"], [len(files)])
 
 
+def sarif_rows(room, tally):
+    """The report for code hosts has a result for each finding of the list, at its line, and the digest of each file."""
+    made = [json.loads(line) for line in (room / "q1.json").read_text().splitlines()]
+    report = json.loads((room / "q1.sarif").read_text())
+    run, name = report["runs"][0], lambda place: urllib.parse.unquote(place["uri"])
+    at = lambda result: [place["physicalLocation"] for place in result["locations"]]
+    told = [(one["ruleId"], name(place["artifactLocation"]), place["region"]["startLine"]) for one in run["results"] for place in at(one)]
+    tally.check("a result for each finding", told, [(found["code"], one["file"], one["line"]) for one in made if "line" in one for found in one["findings"]])
+    digests = [(name(one["location"]), one["hashes"]["sha-256"]) for one in run["artifacts"]]
+    tally.check("the digest of each file", digests, [(one["file"], one["sha256"]) for one in made if one["what"] == "end"])
+    rules = [rule["id"] for rule in run["tool"]["driver"]["rules"]]
+    tally.check("rules, version and outcome", ({code for code, _, _ in told} - set(rules), report["version"], run["invocations"][0]["executionSuccessful"]), (set(), "2.1.0", True))
+
+
 def login_rows(room, tally, path, lines):
     """sshd lets in by a line that cannot be read here; by the page's own lines of its configuration it does not, and the
     line that can be read lets in all the same."""
@@ -379,7 +397,7 @@ def main():
         (room / "bin").mkdir()
         (room / "bin" / "ssh_audit").symlink_to(path)
         settings = {**os.environ, "PATH": f"{room / 'bin'}:{os.environ['PATH']}", "TMPDIR": str(room)}
-        settings.update({"SSHD_CONFIG": str(room / "sshd_config"), "EXAMPLES": str(EXAMPLES), "KEY": str(room / "laptop"), "INVENTORY": str(room / "hosts")})
+        settings.update({"SSHD_CONFIG": str(room / "sshd_config"), "EXAMPLES": str(EXAMPLES), "KEY": str(room / "laptop"), "EACH": "1", "INVENTORY": str(room / "hosts")})
         (room / "hosts").write_text("web1 ansible_connection=local ansible_become=false ansible_python_interpreter=auto_silent\n")
         lines, marks = make_keys(room)
         write_machine(room, lines)
@@ -388,6 +406,7 @@ def main():
         login_rows(room, tally, path, lines)
         unit_rows(room, tally)
         gathered_rows(room, tally)
+        sarif_rows(room, tally)
         row = lambda file, key, rights, options: "\t".join((file, "key", marks[key], rights, options, TOLD[key])) + "\n"
         keys_in_git.gate_rows(room, tally, {**settings, "NOW": SECOND}, lines, row)
         keys_in_git.hook_rows(room, tally, {**settings, "NOW": SECOND}, lines)

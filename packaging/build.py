@@ -173,7 +173,7 @@ def contents(program, library, known):
         f"{documents}/VERSION": (VERSION.format(**known).encode(), False),
         **(library_files(library, known) if library else {}),
     }
-    for path in (TOP / "README.md", TOP / "bench" / "README.md", *(TOP / "docs").glob("*.md"), *(path for path in (TOP / "examples").iterdir() if path.is_file())):
+    for path in (TOP / "README.md", TOP / "bench" / "README.md", *(TOP / "docs").glob("*.md"), TOP / "docs" / "page.png", *(path for path in (TOP / "examples").iterdir() if path.is_file())):
         files[f"{documents}/{path.relative_to(TOP)}"] = (path.read_bytes(), os.access(path, os.X_OK))
     return dict(sorted(files.items()))
 

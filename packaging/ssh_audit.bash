@@ -30,7 +30,7 @@ _ssh_audit() {
     hash) options='--file --salts' ;;
     admits) options='--key --fingerprint --user --address --now --host --zone --empty-principals --rsa-minimum --form' operands=files ;;
     trusts) options='--key --host --now --port --empty-principals --rsa-minimum --form' operands=files ;;
-    review) options='--kind --now --key --zone --rsa-minimum --findings --fail-on --show --form --files-from' operands=files ;;
+    review) options='--kind --now --key --zone --rsa-minimum --findings --fail-on --show --form --title --files-from' operands=files ;;
     explain) operands=codes ;;
     esac
     [[ $given != -- ]] || option=
@@ -44,7 +44,8 @@ _ssh_audit() {
         *' --user') words='users' ;;
         *' --host') words='hosts' ;;
         *' --empty-principals') words='any never' ;;
-        *' --form') words='text json' ;;
+        'admits --form' | 'trusts --form') words='text json' ;;
+        'review --form') words='text json html' ;;
         *' --findings' | *' --fail-on')
             # Codes are joined by commas, and each is named once.
             compopt -o nospace

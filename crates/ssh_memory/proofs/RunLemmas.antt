@@ -52,7 +52,8 @@ run_given words s status Seen Given turn m = record {
   trusts_none = m.trusts_none;
   rewrite = λ rows asks ends. let at = m.rewrite rows asks ends in (at.0, at.1, turn at.0 at.2);
   hash = λ rows asks ends. let at = m.hash rows asks ends in (at.0, at.1, turn at.0 at.2);
-  review = λ rows names asks no_key shows ends. let at = m.review rows names asks no_key shows ends in (at.0, at.1, turn at.0 at.2);
+  review = λ rows names asks no_key lines shows ends. let at = m.review rows names asks no_key lines shows ends in (at.0, at.1, turn at.0 at.2);
+  review_page = λ rows names asks page ends. let at = m.review_page rows names asks page ends in (at.0, at.1, turn at.0 at.2);
   review_key = λ rows names key asks for_key ends. let at = m.review_key rows names key asks for_key ends in (at.0, at.1, turn at.0 at.2);
   review_key_none = λ rows names key asks for_key ends. let at = m.review_key_none rows names key asks for_key ends in (at.0, at.1, turn at.0 at.2);
 }
@@ -75,7 +76,8 @@ no_memory words s = record {
   trusts_none = λ rows names asks ends. absurd (omega (arith, ends));
   rewrite = λ rows asks ends. absurd (omega (arith, ends));
   hash = λ rows asks ends. absurd (omega (arith, ends));
-  review = λ rows names asks no_key shows ends. absurd (omega (arith, ends));
+  review = λ rows names asks no_key lines shows ends. absurd (omega (arith, ends));
+  review_page = λ rows names asks page ends. absurd (omega (arith, ends));
   review_key = λ rows names key asks for_key ends. absurd (omega (arith, ends));
   review_key_none = λ rows names key asks for_key ends. absurd (omega (arith, ends));
 }

@@ -10,7 +10,8 @@ use Rattle.ssh_print.specs.Responses.{Response}
 use Rattle.ssh_program.specs.declared.subcommand.Subcommand.TheVariants.{Hash, Host, Login, Review, Rewrite, Trusts}
 use Rattle.ssh_program.specs.Account.{Account}
 use Rattle.ssh_program.specs.FileNames.{AuditFiles, SshsigQuestion}
-use Rattle.ssh_program.specs.FileRuns.{AsksNoKey, AsksWith, FileHashed, FileRewritten, FilesReviewed, ShowsAll}
+use Rattle.ssh_program.specs.FileRuns.{AsksLines, AsksNoKey, AsksWith, FileHashed, FileRewritten, FilesReviewed, ShowsAll}
+use Rattle.ssh_program.specs.PageRuns.{AsksPage, FilesOnPage}
 use Rattle.ssh_program.specs.GrantedRuns.{AsksFor, DeniesHost, DeniesLogin, GrantsHost, GrantsLogin}
 use Rattle.ssh_program.specs.FingerprintRuns.{AsksByFingerprint, FingerprintAdmitted, FingerprintKeptOut}
 use Rattle.ssh_program.specs.KeyRuns.{AsksByKey, AsksOfFiles, ClientAdmitted, ClientKeptOut, HostDistrusted, HostTrusted}
@@ -83,10 +84,13 @@ pub record RunMeans (words : List (List ℕ)) (s : SourceState) (status : ℕ) (
       → (r : Response) × FileRewritten rows (source_of words s) r × Given r
   pub hash : (rows : List Row) → AsksWith Hash words s rows → status ≡ 0
       → (r : Response) × FileHashed rows (source_of words s) r × Given r
-  -- Status 0 or 1 of `review` that asks for no key and leaves nothing out: the text lists each line by which one of the files
-  -- lets somebody in.
-  pub review : (rows : List Row) (names : List (List ℕ)) → AsksOfFiles Review words s rows names → AsksNoKey rows → ShowsAll rows → status < 2
+  -- Status 0 or 1 of `review` that asks for no key and no page and leaves nothing out: the text lists each line by which one of
+  -- the files lets somebody in.
+  pub review : (rows : List Row) (names : List (List ℕ)) → AsksOfFiles Review words s rows names → AsksNoKey rows → AsksLines rows → ShowsAll rows → status < 2
       → (r : Response) × FilesReviewed rows (source_of words s) r × Given r
+  -- The same of `review --form html`: the page has a row for each such line.
+  pub review_page : (rows : List Row) (names : List (List ℕ)) → AsksOfFiles Review words s rows names → AsksPage rows → status < 2
+      → (r : Response) × FilesOnPage rows (source_of words s) r × Given r
   -- Status 1 of `review --key`: the text has the records of a line that holds the key; status 0: no line of any file does.
   pub review_key : (rows : List Row) (names : List (List ℕ)) (key : List ℕ) → AsksOfFiles Review words s rows names → AsksForKey rows key → status ≡ 1
       → (r : Response) × KeyStanding rows key (source_of words s) r × Given r

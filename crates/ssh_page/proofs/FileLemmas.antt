@@ -1,15 +1,21 @@
--- Each section of a file and the register close what they open.
+-- Each section of a file, the register and the whole page close what they open.
 use Rattle.std.proofs.Common.{◌≡◌, List, [], ◌∷◌, ℕ, refl}
 use Rattle.std.specs.Prelude.{codes}
 use Rattle.ssh_print.specs.Texts.{hex_text}
 use Rattle.ssh_page.specs.declared.file.FileKind.{FileKind}
 use Rattle.ssh_page.specs.declared.file.FileKind.TheVariants.{AuthorizedKeys, KnownHosts}
+use Rattle.ssh_page.specs.declared.header.PageTotals.{PageTotals}
+use Rattle.ssh_page.specs.declared.mend.CodeCount.{CodeCount}
 use Rattle.ssh_page.specs.declared.piece.Piece.TheVariants as piece
-use Rattle.ssh_page.specs.Documents.{Document, put, say, after}
+use Rattle.ssh_page.specs.Documents.{Document, put, say, after, ◌&◌}
 use Rattle.ssh_page.specs.Files.{ClassesSeen, FileSeen, count_cells, counts_part, empty_section, fault_row, fault_section, fault_words, file_link, file_row, register, register_end, section, section_classes, section_head, section_name, table_piece}
-use Rattle.ssh_page.specs.Pages.{page_end, page_start, whole_page}
+use Rattle.ssh_page.specs.Mending.{mend}
+use Rattle.ssh_page.specs.Pages.{header, page_end, page_start, whole_page}
+use Rattle.ssh_page.specs.Questions.{QuestionSeen}
 use Rattle.ssh_page.specs.Tags.{within, valued}
 use Rattle.ssh_page.specs.Classes.{class_of}
+use Rattle.ssh_page.proofs.HeaderLemmas.{asked_leads, tiles_stay, verdict_stays}
+use Rattle.ssh_page.proofs.MendLemmas.{mend_stays}
 use Rattle.ssh_page.proofs.PlaceLemmas.{Leads, here, next, all_stay, may_stay}
 use Rattle.ssh_page.proofs.RowLemmas.{class_stays}
 
@@ -109,22 +115,30 @@ register_stays opened rows total h =
 
 -- ---- the whole page
 
--- the elements that are open between its sections
+-- the elements that are open in its header, and between its sections
+abbrev heading : Open
+heading = codes "header" ∷ codes "body" ∷ codes "html" ∷ []
+
 abbrev sections : Open
 sections = codes "main" ∷ codes "body" ∷ codes "html" ∷ []
 
-start_leads : (title : List ℕ) → Leads (within []) (page_start title) (within sections)
+start_leads : (title : List ℕ) → Leads (within []) (page_start title) (within heading)
 unfolding page_start
 start_leads title = record { by = refl }
+
+header_leads : (q : QuestionSeen) (t : PageTotals) → Leads (within heading) (header q t) (within sections)
+header_leads q t = next (next (verdict_stays heading q t) (tiles_stay heading t)) (asked_leads (codes "body" ∷ codes "html" ∷ []) q)
 
 page_end_leads : Leads (within sections) page_end (within [])
 unfolding page_end
 page_end_leads = record { by = refl }
 
-pub page_closes : (title : List ℕ) (files rows : Document) (total : List ℕ)
+pub page_closes : (title : List ℕ) (q : QuestionSeen) (t : PageTotals) (found : List CodeCount) (files rows : Document) (total : List ℕ)
     → ((inner : Open) → after (within inner) files ≡ within inner) → ((inner : Open) → after (within inner) rows ≡ within inner)
-    → Leads (within []) (whole_page title files rows total) (within [])
-page_closes title files rows total h k =
+    → Leads (within []) (whole_page title q t found files rows total) (within [])
+page_closes title q t found files rows total h k =
     let lines : Open = codes "div" ∷ codes "section" ∷ sections in
     let middle : Leads (within lines) files (within lines) = record { by = h lines } in
-    next (next (next (next (next (start_leads title) (here (within sections) (put piece.Lines))) middle) (here (within lines) (put piece.LinesEnd))) (register_stays sections rows total k)) page_end_leads
+    let head : Leads (within []) (page_start title & header q t) (within sections) = next (start_leads title) (header_leads q t) in
+    let front : Leads (within []) (page_start title & header q t & mend q t found) (within sections) = next head (mend_stays sections q t found) in
+    next (next (next (next (next front (here (within sections) (put piece.Lines))) middle) (here (within lines) (put piece.LinesEnd))) (register_stays sections rows total k)) page_end_leads

@@ -2,10 +2,15 @@ pub mod Appended
 pub mod TableLemmas
 pub mod EachLemmas
 pub mod PieceLemmas
+pub mod PrintableLemmas
 pub mod PageLemmas
 pub mod ReadingLemmas
 pub mod PlaceLemmas
 pub mod RowLemmas
+pub mod KindLemmas
+pub mod HeaderLemmas
+pub mod MendLemmas
 pub mod FileLemmas
 pub mod ShapeLemmas
 pub mod TextLemmas
+pub mod HeadTextLemmas

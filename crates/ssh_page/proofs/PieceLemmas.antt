@@ -1,4 +1,4 @@
--- Each piece is its own: the text in the source at its number is the HTML of its tags, and these are sound.
+-- Each piece is its own: the text in the source at its number is the HTML of its tags, and these are sound. It is printable.
 use Rattle.std.proofs.Common.{◌≡◌, true, ◌++◌, refl}
 use Rattle.std.specs.Fmt.{decimal, digits}
 use Rattle.std.specs.List.{list_all}
@@ -10,6 +10,7 @@ use Rattle.ssh_page.specs.declared.piece.Piece.{Piece}
 use Rattle.ssh_page.specs.declared.piece.Piece.TheVariants as piece
 use Rattle.ssh_page.specs.Expanding.{mark_html}
 use Rattle.ssh_page.specs.Pieces.{all_markup, mark, markup_at, piece_html, tags}
+use Rattle.ssh_page.specs.Shown.{are_shown}
 use Rattle.ssh_page.specs.Tags.{is_sound}
 use Rattle.ssh_page.specs.Classes.{code_number}
 
@@ -78,6 +79,37 @@ piece-shown piece.StyleStart = refl
 piece-shown piece.Style = refl
 piece-shown piece.StyleEnd = refl
 piece-shown piece.HeadingEnd = refl
+piece-shown piece.VerdictGood = refl
+piece-shown piece.VerdictBad = refl
+piece-shown piece.ParagraphEnd = refl
+piece-shown piece.Tiles = refl
+piece-shown piece.Tile = refl
+piece-shown piece.TileWords = refl
+piece-shown piece.ItemEnd = refl
+piece-shown piece.ListEnd = refl
+piece-shown piece.Asked = refl
+piece-shown piece.Term = refl
+piece-shown piece.TermSays = refl
+piece-shown piece.TermEnd = refl
+piece-shown piece.HeaderEnd = refl
+piece-shown piece.Mend = refl
+piece-shown piece.TodayGroup = refl
+piece-shown piece.SoonGroup = refl
+piece-shown piece.TidyGroup = refl
+piece-shown piece.PolicyGroup = refl
+piece-shown piece.GroupEnd = refl
+piece-shown piece.FoundCode = refl
+piece-shown piece.FoundCount = refl
+piece-shown piece.FoundBar = refl
+piece-shown piece.FoundBarLength = refl
+piece-shown piece.FoundMeans = refl
+piece-shown piece.FoundRemedy = refl
+piece-shown piece.FoundEnd = refl
+piece-shown piece.NothingToMend = refl
+piece-shown piece.MendEnd = refl
+piece-shown piece.Absent = refl
+piece-shown piece.Item = refl
+piece-shown piece.LeftOut = refl
 piece-shown piece.Lines = refl
 piece-shown piece.LinesEnd = refl
 piece-shown piece.PageEnd = refl
@@ -146,9 +178,139 @@ piece-sound piece.StyleStart = refl
 piece-sound piece.Style = refl
 piece-sound piece.StyleEnd = refl
 piece-sound piece.HeadingEnd = refl
+piece-sound piece.VerdictGood = refl
+piece-sound piece.VerdictBad = refl
+piece-sound piece.ParagraphEnd = refl
+piece-sound piece.Tiles = refl
+piece-sound piece.Tile = refl
+piece-sound piece.TileWords = refl
+piece-sound piece.ItemEnd = refl
+piece-sound piece.ListEnd = refl
+piece-sound piece.Asked = refl
+piece-sound piece.Term = refl
+piece-sound piece.TermSays = refl
+piece-sound piece.TermEnd = refl
+piece-sound piece.HeaderEnd = refl
+piece-sound piece.Mend = refl
+piece-sound piece.TodayGroup = refl
+piece-sound piece.SoonGroup = refl
+piece-sound piece.TidyGroup = refl
+piece-sound piece.PolicyGroup = refl
+piece-sound piece.GroupEnd = refl
+piece-sound piece.FoundCode = refl
+piece-sound piece.FoundCount = refl
+piece-sound piece.FoundBar = refl
+piece-sound piece.FoundBarLength = refl
+piece-sound piece.FoundMeans = refl
+piece-sound piece.FoundRemedy = refl
+piece-sound piece.FoundEnd = refl
+piece-sound piece.NothingToMend = refl
+piece-sound piece.MendEnd = refl
+piece-sound piece.Absent = refl
+piece-sound piece.Item = refl
+piece-sound piece.LeftOut = refl
 piece-sound piece.Lines = refl
 piece-sound piece.LinesEnd = refl
 piece-sound piece.PageEnd = refl
+
+pub piece-printable : (p : Piece) → are_shown (piece_html p) ≡ true
+piece-printable piece.Code = refl
+piece-printable piece.CodeEnd = refl
+piece-printable piece.Row = refl
+piece-printable piece.FileId = refl
+piece-printable piece.LineId = refl
+piece-printable piece.RowNumber = refl
+piece-printable piece.KeyCell = refl
+piece-printable piece.RightsCell = refl
+piece-printable piece.LimitsCell = refl
+piece-printable piece.RowEnd = refl
+piece-printable piece.TodayClass = refl
+piece-printable piece.SoonClass = refl
+piece-printable piece.TidyClass = refl
+piece-printable piece.PolicyClass = refl
+piece-printable piece.UnreadableClass = refl
+piece-printable piece.AuthorityClass = refl
+piece-printable piece.NoComment = refl
+piece-printable piece.KeyType = refl
+piece-printable piece.KeyTypeEnd = refl
+piece-printable piece.Fingerprint = refl
+piece-printable piece.FingerprintEnd = refl
+piece-printable piece.Port = refl
+piece-printable piece.Agent = refl
+piece-printable piece.X11 = refl
+piece-printable piece.Pty = refl
+piece-printable piece.UserRc = refl
+piece-printable piece.RightOff = refl
+piece-printable piece.NoRights = refl
+piece-printable piece.RightsUnknown = refl
+piece-printable piece.Limit = refl
+piece-printable piece.LimitEnd = refl
+piece-printable piece.NoLimit = refl
+piece-printable piece.Finding = refl
+piece-printable piece.FindingCode = refl
+piece-printable piece.FindingSays = refl
+piece-printable piece.SeeFile = refl
+piece-printable piece.SeeLine = refl
+piece-printable piece.LinkEnd = refl
+piece-printable piece.Section = refl
+piece-printable piece.SectionName = refl
+piece-printable piece.SectionSays = refl
+piece-printable piece.KeysTable = refl
+piece-printable piece.HostsTable = refl
+piece-printable piece.TableEnd = refl
+piece-printable piece.SectionEnd = refl
+piece-printable piece.Fault = refl
+piece-printable piece.FaultEnd = refl
+piece-printable piece.Register = refl
+piece-printable piece.FileRow = refl
+piece-printable piece.FileName = refl
+piece-printable piece.FirstCount = refl
+piece-printable piece.NextCount = refl
+piece-printable piece.Digest = refl
+piece-printable piece.DigestEnd = refl
+piece-printable piece.FaultCell = refl
+piece-printable piece.FaultCellEnd = refl
+piece-printable piece.RegisterTotal = refl
+piece-printable piece.Sign = refl
+piece-printable piece.Front = refl
+piece-printable piece.StyleStart = refl
+piece-printable piece.Style = refl
+piece-printable piece.StyleEnd = refl
+piece-printable piece.HeadingEnd = refl
+piece-printable piece.VerdictGood = refl
+piece-printable piece.VerdictBad = refl
+piece-printable piece.ParagraphEnd = refl
+piece-printable piece.Tiles = refl
+piece-printable piece.Tile = refl
+piece-printable piece.TileWords = refl
+piece-printable piece.ItemEnd = refl
+piece-printable piece.ListEnd = refl
+piece-printable piece.Asked = refl
+piece-printable piece.Term = refl
+piece-printable piece.TermSays = refl
+piece-printable piece.TermEnd = refl
+piece-printable piece.HeaderEnd = refl
+piece-printable piece.Mend = refl
+piece-printable piece.TodayGroup = refl
+piece-printable piece.SoonGroup = refl
+piece-printable piece.TidyGroup = refl
+piece-printable piece.PolicyGroup = refl
+piece-printable piece.GroupEnd = refl
+piece-printable piece.FoundCode = refl
+piece-printable piece.FoundCount = refl
+piece-printable piece.FoundBar = refl
+piece-printable piece.FoundBarLength = refl
+piece-printable piece.FoundMeans = refl
+piece-printable piece.FoundRemedy = refl
+piece-printable piece.FoundEnd = refl
+piece-printable piece.NothingToMend = refl
+piece-printable piece.MendEnd = refl
+piece-printable piece.Absent = refl
+piece-printable piece.Item = refl
+piece-printable piece.LeftOut = refl
+piece-printable piece.Lines = refl
+piece-printable piece.LinesEnd = refl
+piece-printable piece.PageEnd = refl
 
 pub code-numbered : (c : Code) → code_text c ≡ codes "F" ++ decimal (code_number c)
 unfolding code_number digits

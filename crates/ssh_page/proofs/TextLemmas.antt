@@ -38,16 +38,16 @@ has : {a b : Document} {s t : List (List ℕ)} → HasTexts a s → HasTexts b t
 has {a} {b} {s} {t} h k = record { by = ap (λ texts. texts ++ texts_of b) h.by ∙ ap (λ texts. s ++ texts) k.by }
 
 -- the same after a part without texts, and before one
-past : {a b : Document} {t : List (List ℕ)} → HasTexts a [] → HasTexts b t → HasTexts (a & b) t
+pub past : {a b : Document} {t : List (List ℕ)} → HasTexts a [] → HasTexts b t → HasTexts (a & b) t
 past h k = has h k
 
 upto : {a b : Document} {s : List (List ℕ)} → HasTexts a s → HasTexts b [] → HasTexts (a & b) s
 upto {a} {b} {s} h k = record { by = (has h k).by ∙ append-nil s }
 
-piece_none : (p : Piece) → HasTexts (put p) []
+pub piece_none : (p : Piece) → HasTexts (put p) []
 piece_none p = record { by = refl }
 
-say_none : (words : List ℕ) → HasTexts (say words) []
+pub say_none : (words : List ℕ) → HasTexts (say words) []
 say_none words = record { by = refl }
 
 -- ---- findings
@@ -111,7 +111,7 @@ numbers_none : (place : RowPlace) → HasTexts (row_numbers place) []
 unfolding row_numbers
 numbers_none place = record { by = refl }
 
-if_none : (holds : Bool) (p : Piece) → HasTexts (put_if holds p) []
+pub if_none : (holds : Bool) (p : Piece) → HasTexts (put_if holds p) []
 if_none true p = record { by = refl }
 if_none false p = record { by = refl }
 

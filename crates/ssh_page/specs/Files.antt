@@ -68,9 +68,13 @@ unfoldable pub section_head : ℕ → FileKind → FileSeen → ClassesSeen → 
 section_head file kind f classes =
     put piece.Section & section_classes classes & section_name file f.name & counts_part f & put (table_piece kind)
 
+-- what comes after the rows
+abbrev pub section_end : Document
+section_end = put piece.TableEnd
+
 -- the section of a file with these rows
 abbrev pub section : ℕ → FileKind → FileSeen → ClassesSeen → Document → Document
-section file kind f classes rows = section_head file kind f classes & rows & put piece.TableEnd
+section file kind f classes rows = section_head file kind f classes & rows & section_end
 
 -- the section of a file without a row
 unfoldable pub empty_section : ℕ → FileSeen → Document
@@ -109,10 +113,14 @@ fault_row file name code means =
     file_link file name & put piece.FaultCell & say (codes "fault ") & say code & say (codes ": ") & say means
     & put piece.FaultCellEnd
 
+-- what comes before the rows
+abbrev pub register_head : Document
+register_head = put piece.Register
+
 -- what comes after the rows
 unfoldable pub register_end : List ℕ → Document
 register_end total = put piece.RegisterTotal & say total & put piece.SectionEnd
 
 -- the register with these rows, and the total in the words of the text form
 abbrev pub register : Document → List ℕ → Document
-register rows total = put piece.Register & rows & register_end total
+register rows total = register_head & rows & register_end total

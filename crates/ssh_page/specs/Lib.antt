@@ -3,10 +3,15 @@ pub mod Pieces
 pub mod Documents
 pub mod Expanding
 pub mod Reading
+pub mod Shown
 pub mod Classes
 pub mod Findings
 pub mod Records
 pub mod HostRecords
 pub mod Files
+pub mod Questions
+pub mod Headers
+pub mod Mending
 pub mod Pages
 pub mod StandIns
+pub mod RowClasses

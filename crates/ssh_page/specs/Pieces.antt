@@ -145,20 +145,87 @@ tags piece.StyleStart = closes (codes "title") ∷ reads (codes "\n") ∷ opens 
 tags piece.Style = reads STYLE.now ∷ []
 tags piece.StyleEnd =
     closes (codes "style") ∷ reads (codes "\n") ∷ closes (codes "head") ∷ reads (codes "\n") ∷ opens (codes "body") []
-    ∷ reads (codes "\n") ∷ opens (codes "a") (codes " class=\"skip\" href=\"#lines\"") ∷ reads (codes "To every line")
+    ∷ reads (codes "\n") ∷ opens (codes "a") (codes " class=\"skip\" href=\"#mend\"")
+    ∷ reads (codes "To what has to be mended")
     ∷ closes (codes "a") ∷ reads (codes "\n") ∷ opens (codes "header") [] ∷ reads (codes "\n")
     ∷ opens (codes "p") (codes " class=\"org\"") ∷ reads (codes "ssh_audit review") ∷ closes (codes "p")
     ∷ reads (codes "\n") ∷ opens (codes "h1") [] ∷ []
-tags piece.HeadingEnd =
-    closes (codes "h1") ∷ reads (codes "\n") ∷ opens (codes "p") (codes " class=\"says\"")
+tags piece.HeadingEnd = closes (codes "h1") ∷ reads (codes "\n") ∷ []
+tags piece.VerdictGood =
+    opens (codes "p") (codes " class=\"verdict ok\"") ∷ opens (codes "span") (codes " class=\"dot\" aria-hidden=\"true\"")
+    ∷ closes (codes "span") ∷ []
+tags piece.VerdictBad =
+    opens (codes "p") (codes " class=\"verdict a\"") ∷ opens (codes "span") (codes " class=\"dot\" aria-hidden=\"true\"")
+    ∷ closes (codes "span") ∷ []
+tags piece.ParagraphEnd = closes (codes "p") ∷ reads (codes "\n") ∷ []
+tags piece.Tiles = opens (codes "ul") (codes " class=\"tiles\"") ∷ reads (codes "\n") ∷ []
+tags piece.Tile = opens (codes "li") [] ∷ opens (codes "b") [] ∷ []
+tags piece.TileWords = closes (codes "b") ∷ reads (codes " ") ∷ []
+tags piece.ItemEnd = closes (codes "li") ∷ reads (codes "\n") ∷ []
+tags piece.ListEnd = closes (codes "ul") ∷ reads (codes "\n") ∷ []
+tags piece.Asked = opens (codes "dl") (codes " class=\"asked\"") ∷ reads (codes "\n") ∷ []
+tags piece.Term = opens (codes "dt") [] ∷ []
+tags piece.TermSays = closes (codes "dt") ∷ opens (codes "dd") [] ∷ []
+tags piece.TermEnd = closes (codes "dd") ∷ reads (codes "\n") ∷ []
+tags piece.HeaderEnd =
+    closes (codes "dl") ∷ reads (codes "\n") ∷ opens (codes "p") (codes " class=\"says\"")
     ∷ reads (codes "Text on a tinted ground, ") ∷ opens (codes "code") [] ∷ reads (codes "like this")
     ∷ closes (codes "code")
     ∷ reads (codes ", comes from the files: whoever can write there wrote it. It is printable ASCII; every other byte, and the backslash, is shown as \\x and two digits.")
     ∷ closes (codes "p") ∷ reads (codes "\n") ∷ opens (codes "nav") (codes " aria-label=\"Parts of this page\"")
-    ∷ opens (codes "a") (codes " href=\"#lines\"") ∷ reads (codes "Every line") ∷ closes (codes "a") ∷ reads (codes " ")
-    ∷ opens (codes "a") (codes " href=\"#files\"") ∷ reads (codes "Files") ∷ closes (codes "a") ∷ reads (codes " ")
-    ∷ opens (codes "a") (codes " href=\"#sign\"") ∷ reads (codes "Sign") ∷ closes (codes "a") ∷ closes (codes "nav")
-    ∷ reads (codes "\n") ∷ closes (codes "header") ∷ reads (codes "\n") ∷ opens (codes "main") [] ∷ reads (codes "\n") ∷ []
+    ∷ opens (codes "a") (codes " href=\"#mend\"") ∷ reads (codes "What has to be mended") ∷ closes (codes "a")
+    ∷ reads (codes " ") ∷ opens (codes "a") (codes " href=\"#lines\"") ∷ reads (codes "Every line") ∷ closes (codes "a")
+    ∷ reads (codes " ") ∷ opens (codes "a") (codes " href=\"#files\"") ∷ reads (codes "Files") ∷ closes (codes "a")
+    ∷ reads (codes " ") ∷ opens (codes "a") (codes " href=\"#sign\"") ∷ reads (codes "Sign") ∷ closes (codes "a")
+    ∷ closes (codes "nav") ∷ reads (codes "\n") ∷ closes (codes "header") ∷ reads (codes "\n") ∷ opens (codes "main") []
+    ∷ reads (codes "\n") ∷ []
+tags piece.Mend =
+    opens (codes "section") (codes " id=\"mend\"") ∷ reads (codes "\n") ∷ opens (codes "h2") []
+    ∷ reads (codes "What has to be mended") ∷ closes (codes "h2") ∷ reads (codes "\n") ∷ []
+tags piece.TodayGroup =
+    opens (codes "h3") (codes " class=\"a\"") ∷ opens (codes "span") (codes " class=\"dot\" aria-hidden=\"true\"")
+    ∷ closes (codes "span") ∷ reads (codes "Today") ∷ closes (codes "h3") ∷ reads (codes "\n")
+    ∷ opens (codes "p") (codes " class=\"says\"")
+    ∷ reads (codes "A line does other than it seems to do, or nobody can say what it does.") ∷ closes (codes "p")
+    ∷ reads (codes "\n") ∷ opens (codes "dl") (codes " class=\"codes\"") ∷ reads (codes "\n") ∷ []
+tags piece.SoonGroup =
+    opens (codes "h3") (codes " class=\"b\"") ∷ opens (codes "span") (codes " class=\"dot\" aria-hidden=\"true\"")
+    ∷ closes (codes "span") ∷ reads (codes "Soon") ∷ closes (codes "h3") ∷ reads (codes "\n")
+    ∷ opens (codes "p") (codes " class=\"says\"")
+    ∷ reads (codes "A weak key, a way around a limit, or two lines for one key.") ∷ closes (codes "p") ∷ reads (codes "\n")
+    ∷ opens (codes "dl") (codes " class=\"codes\"") ∷ reads (codes "\n") ∷ []
+tags piece.TidyGroup =
+    opens (codes "h3") (codes " class=\"c\"") ∷ opens (codes "span") (codes " class=\"dot\" aria-hidden=\"true\"")
+    ∷ closes (codes "span") ∷ reads (codes "Tidy up") ∷ closes (codes "h3") ∷ reads (codes "\n")
+    ∷ opens (codes "p") (codes " class=\"says\"") ∷ reads (codes "Lines that let nobody in, or never decide.")
+    ∷ closes (codes "p") ∷ reads (codes "\n") ∷ opens (codes "dl") (codes " class=\"codes\"") ∷ reads (codes "\n") ∷ []
+tags piece.PolicyGroup =
+    opens (codes "h3") (codes " class=\"p\"") ∷ opens (codes "span") (codes " class=\"dot\" aria-hidden=\"true\"")
+    ∷ closes (codes "span") ∷ reads (codes "Policy") ∷ closes (codes "h3") ∷ reads (codes "\n")
+    ∷ opens (codes "p") (codes " class=\"says\"")
+    ∷ reads (codes "Told because it was asked for: a policy may want it otherwise.") ∷ closes (codes "p")
+    ∷ reads (codes "\n") ∷ opens (codes "dl") (codes " class=\"codes\"") ∷ reads (codes "\n") ∷ []
+tags piece.GroupEnd = closes (codes "dl") ∷ reads (codes "\n") ∷ []
+tags piece.FoundCode = opens (codes "dt") [] ∷ opens (codes "b") (codes " class=\"cd\"") ∷ []
+tags piece.FoundCount = closes (codes "b") ∷ reads (codes " ") ∷ opens (codes "span") (codes " class=\"n\"") ∷ []
+tags piece.FoundBar =
+    closes (codes "span") ∷ reads (codes " ") ∷ begins (codes "svg") (codes " class=\"bar\" viewBox=\"0 0 ") ∷ []
+tags piece.FoundBarLength =
+    ends (codes " 1\" preserveAspectRatio=\"none\" aria-hidden=\"true\"") ∷ begins (codes "rect") (codes " width=\"") ∷ []
+tags piece.FoundMeans =
+    ends (codes "\" height=\"1\"") ∷ closes (codes "rect") ∷ closes (codes "svg") ∷ reads (codes " ")
+    ∷ opens (codes "span") (codes " class=\"mean\"") ∷ []
+tags piece.FoundRemedy =
+    closes (codes "span") ∷ closes (codes "dt") ∷ reads (codes "\n") ∷ opens (codes "dd") [] ∷ opens (codes "p") []
+    ∷ reads (codes "What to do: ") ∷ []
+tags piece.FoundEnd = reads (codes ".") ∷ closes (codes "p") ∷ closes (codes "dd") ∷ reads (codes "\n") ∷ []
+tags piece.NothingToMend = opens (codes "p") [] ∷ reads (codes "Nothing.") ∷ closes (codes "p") ∷ reads (codes "\n") ∷ []
+tags piece.MendEnd = closes (codes "section") ∷ reads (codes "\n") ∷ []
+tags piece.Absent =
+    opens (codes "p") (codes " class=\"says\"") ∷ reads (codes "Looked for in every line, and not found:")
+    ∷ closes (codes "p") ∷ reads (codes "\n") ∷ opens (codes "ul") [] ∷ reads (codes "\n") ∷ []
+tags piece.Item = opens (codes "li") [] ∷ []
+tags piece.LeftOut = opens (codes "p") (codes " class=\"says\"") ∷ reads (codes "Not looked for:") ∷ []
 tags piece.Lines =
     opens (codes "section") (codes " id=\"lines\"") ∷ reads (codes "\n") ∷ opens (codes "h2") []
     ∷ reads (codes "Every line, by file") ∷ closes (codes "h2") ∷ reads (codes "\n")

@@ -1,34 +1,36 @@
-//! The page of a marked text.
+//! The HTML of a marked text.
 
-ghost use Rattle.std.specs.Prelude.{◌≡◌, ◌++◌, OnOk};
+ghost use Rattle.std.specs.Prelude.{◌≡◌, ◌++◌, ◌∷◌, ◌<◌, ◌≤◌, [], OnOk, length, take};
 ghost use Rattle.ssh_page.specs.Expanding.{byte_html, mark_html, page};
 
 use crate::piece::{FIRST_MARK, markup};
+use arrayvec::ArrayVec;
 use std::alloc::AllocError;
 
-/// Appends a byte of text: itself, or its reference if it could begin markup or end a value.
-fn push_byte(out: &mut Vec<u8>, byte: u8) -> Result<(), AllocError>
-    ensures { OnOk result (out.new.items ≡ out.old.items ++ byte_html byte) }
+/// A byte of text, or its reference if it could begin markup or end a value. `itself` is the byte.
+fn byte_html(byte: u8, itself: &[u8]) -> &[u8]
+    requires { itself.now ≡ byte ∷ [] }
+    ensures { result.now ≡ byte_html byte }
 {
     match byte {
-        b'&' => out.extend_from_slice(b"&amp;")?,
-        b'<' => out.extend_from_slice(b"&lt;")?,
-        b'>' => out.extend_from_slice(b"&gt;")?,
-        b'"' => out.extend_from_slice(b"&quot;")?,
-        b'\'' => out.extend_from_slice(b"&#39;")?,
-        _ => out.push(byte)?,
+        b'&' => b"&amp;",
+        b'<' => b"&lt;",
+        b'>' => b"&gt;",
+        b'"' => b"&quot;",
+        b'\'' => b"&#39;",
+        _ => itself,
     }
-    Ok(())
 }
 
-/// Appends what a byte of a marked text stands for.
-fn push_mark(out: &mut Vec<u8>, byte: u8) -> Result<(), AllocError>
-    ensures { OnOk result (out.new.items ≡ out.old.items ++ mark_html byte) }
+/// What a byte of a marked text stands for. `itself` is the byte.
+fn mark_html(byte: u8, itself: &[u8]) -> &[u8]
+    requires { itself.now ≡ byte ∷ [] }
+    ensures { result.now ≡ mark_html byte }
 {
     if byte < FIRST_MARK {
-        push_byte(out, byte)
+        byte_html(byte, itself)
     } else {
-        out.extend_from_slice(markup((byte - FIRST_MARK) as usize))
+        markup((byte - FIRST_MARK) as usize)
     }
 }
 
@@ -38,7 +40,39 @@ pub fn expand(out: &mut Vec<u8>, marks: &[u8]) -> Result<(), AllocError>
     ensures { OnOk result (out.new.items ≡ out.old.items ++ page marks.now) }
 {
     for byte in marks {
-        push_mark(out, *byte)?;
+        out.extend_from_slice(mark_html(*byte, &[*byte]))?;
     }
     Ok(())
+}
+
+/// Room for the HTML of some marks. Only that of the longest pieces does not fit.
+pub type HtmlRoom = ArrayVec<u8, 4096>;
+
+/// Appends the HTML of the marks at the front of a marked text, of as many as there is room for, and
+/// returns how many these are. Does not allocate.
+pub fn expand_front(out: &mut HtmlRoom, marks: &[u8]) -> usize
+    ensures html { out.new.items ≡ out.old.items ++ page (take result marks.now) }
+    ensures within { result ≤ length marks.now }
+{
+    let mut count = 0;
+    for byte in marks {
+        if out
+            .try_extend_from_slice(mark_html(*byte, &[*byte]))
+            .is_err()
+        {
+            return count;
+        }
+        count += 1;
+    }
+    count
+}
+
+/// The HTML of the first mark.
+pub fn first_html(marks: &[u8]) -> &[u8]
+    ensures { result.now ≡ page (take 1 marks.now) }
+{
+    match marks.split_first() {
+        Some((byte, _)) => mark_html(*byte, marks.split_at(1).0),
+        None => b"",
+    }
 }

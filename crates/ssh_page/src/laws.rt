@@ -4,6 +4,8 @@ ghost use Rattle.std.specs.Prelude.{◌≡◌, ◌++◌, ◌∷◌, [], ℕ, tru
 ghost use Rattle.std.specs.Fmt.{decimal};
 ghost use Rattle.std.specs.List.{list_all};
 ghost use Rattle.ssh_findings.specs.Codes.{code_text};
+ghost use Rattle.ssh_findings.specs.Findings.{auth_row};
+ghost use Rattle.ssh_findings.specs.HostFindingsFindings.{host_row};
 ghost use Rattle.ssh_findings.specs.declared.code.Code.{Code};
 ghost use Rattle.ssh_findings.specs.declared.facts.Facts.{Facts};
 ghost use Rattle.ssh_findings.specs.declared.finding.Finding.{Finding};
@@ -11,16 +13,22 @@ ghost use Rattle.ssh_findings.specs.declared.host_facts.HostFacts.{HostFacts};
 ghost use Rattle.ssh_findings.specs.declared.host_finding.HostFinding.{HostFinding};
 ghost use Rattle.ssh_findings.specs.declared.recovered_key.HeldKey.{HeldKey};
 ghost use Rattle.ssh_page.specs.declared.file.FileKind.{FileKind};
+ghost use Rattle.ssh_page.specs.declared.file.FileKind.TheVariants.{AuthorizedKeys, KnownHosts};
+ghost use Rattle.ssh_page.specs.declared.header.PageTotals.{PageTotals};
+ghost use Rattle.ssh_page.specs.declared.mend.CodeCount.{CodeCount};
 ghost use Rattle.ssh_page.specs.declared.piece.Piece.{Piece};
 ghost use Rattle.ssh_page.specs.declared.record.RowPlace.{RowPlace};
 ghost use Rattle.ssh_page.specs.Documents.{Document, IsOfBytes, after, html, marks, pieces_of, texts_of};
 ghost use Rattle.ssh_page.specs.Expanding.{delimiters, page, text_html, without_text};
 ghost use Rattle.ssh_page.specs.Files.{ClassesSeen, FileSeen, empty_section, fault_row, fault_section, file_row, register, section};
 ghost use Rattle.ssh_page.specs.HostRecords.{bare_row, host_entry_row, revoked_row};
-ghost use Rattle.ssh_page.specs.Pages.{whole_page};
+ghost use Rattle.ssh_page.specs.Mending.{mend};
+ghost use Rattle.ssh_page.specs.Pages.{header, whole_page};
 ghost use Rattle.ssh_page.specs.Pieces.{tags};
+ghost use Rattle.ssh_page.specs.Questions.{QuestionSeen, is_of};
 ghost use Rattle.ssh_page.specs.Reading.{read_text};
 ghost use Rattle.ssh_page.specs.Records.{entry_row, unreadable_row};
+ghost use Rattle.ssh_page.specs.Shown.{are_shown};
 ghost use Rattle.ssh_page.specs.StandIns.{entry_texts, facts_stand_in, host_stand_in, if_bytes};
 ghost use Rattle.ssh_page.specs.Tags.{is_sound, within};
 ghost use Rattle.ssh_page.specs.Classes.{code_number};
@@ -40,6 +48,18 @@ fn page_rule()
     ensures expanded { (d : Document) → IsOfBytes d → page (marks d) ≡ html d }
     ensures sound { (p : Piece) → list_all is_sound (tags p) ≡ true }
     ensures class { (c : Code) → code_text c ≡ codes "F" ++ decimal (code_number c) }
+{}
+
+/// Each byte of a page is printable ASCII or an LF, whatever bytes are in the files.
+fn shown_rule()
+    ensures { (d : Document) → IsOfBytes d → are_shown (page (marks d)) ≡ true }
+{}
+
+/// Each finding has a code that files of its kind may have: nothing that can be found is left out of
+/// the codes that were looked for, or that were not.
+fn kinds_rule()
+    ensures keys { (f : Finding) → is_of AuthorizedKeys (auth_row f).code ≡ true }
+    ensures hosts { (f : HostFinding) → is_of KnownHosts (host_row f).code ≡ true }
 {}
 
 /// Each row closes what it opens, whatever its texts; no text stands within a tag, and in the values
@@ -82,10 +102,11 @@ fn sections_close_rule()
 
 /// The whole page closes what it opens, if its sections and rows do.
 fn page_closes_rule()
-    ensures { (title : List ℕ) (sections rows : Document) (total : List ℕ)
+    ensures { (title : List ℕ) (q : QuestionSeen) (t : PageTotals) (found : List CodeCount)
+        (sections rows : Document) (total : List ℕ)
         → ((inner : List (List ℕ)) → after (within inner) sections ≡ within inner)
         → ((inner : List (List ℕ)) → after (within inner) rows ≡ within inner)
-        → after (within []) (whole_page title sections rows total) ≡ within [] }
+        → after (within []) (whole_page title q t found sections rows total) ≡ within [] }
 {}
 
 /// Whoever writes the texts of a file cannot choose a tag: with one letter in place of each text, a
@@ -102,7 +123,8 @@ fn shape_rule()
 {}
 
 /// Each text of a line stands in its row once, between `<code>` and `</code>`, in the order of the
-/// text format, and nothing else stands so.
+/// text format, and nothing else stands so. No text of a file stands in the header, or in what has to
+/// be mended.
 fn texts_rule()
     ensures entry { (place : RowPlace) (f : Facts) (found : List Finding)
         → texts_of (entry_row place f found) ≡ entry_texts f }
@@ -114,4 +136,7 @@ fn texts_rule()
         → texts_of (revoked_row place fingerprint names found) ≡ names ∷ [] }
     ensures bare { (place : RowPlace) (is : List ℕ) (held : Option HeldKey) (found : List HostFinding)
         → texts_of (bare_row place is held found) ≡ [] }
+    ensures header { (q : QuestionSeen) (t : PageTotals) → texts_of (header q t) ≡ [] }
+    ensures mend { (q : QuestionSeen) (t : PageTotals) (found : List CodeCount)
+        → texts_of (mend q t found) ≡ [] }
 {}

@@ -20,19 +20,27 @@ mod classes;
 mod expanding;
 mod file;
 mod finding;
+mod header;
 mod host_record;
 mod laws;
 mod marks;
+mod mend;
 mod page;
 mod piece;
+mod question;
 mod record;
+mod row_classes;
 mod style;
 
-pub use expanding::expand;
+pub use expanding::{HtmlRoom, expand, expand_front, first_html};
 pub use file::{
     FileClasses, FileKind, FileRow, push_empty_section, push_fault_row, push_fault_section,
     push_file_row, push_register_end, push_register_head, push_section_end, push_section_head,
 };
+pub use header::{PageTotals, push_asked, push_tiles, push_verdict};
 pub use host_record::{push_bare_row, push_host_entry_row, push_revoked_row};
+pub use mend::{CodeCount, push_mend};
 pub use page::{push_lines_end, push_lines_start, push_page_end, push_page_start};
+pub use question::PageQuestion;
 pub use record::{RowPlace, push_entry_row, push_unreadable_row};
+pub use row_classes::has_authority;

@@ -1,7 +1,8 @@
 //! What stands around the sections of the files and the register: the head of the page, and its end.
 //!
-//! A page is `push_page_start`, `push_lines_start`, the section of each file, `push_lines_end`, the
-//! register, and `push_page_end`.
+//! A page is `push_page_start`, the header (`push_verdict`, `push_tiles`, `push_asked`), `push_mend`,
+//! `push_lines_start`, the section of each file, `push_lines_end`, the register, and
+//! `push_page_end`.
 
 ghost use Rattle.std.specs.Prelude.{◌≡◌, ◌++◌, OnOk};
 ghost use Rattle.ssh_page.specs.Documents.{marks, put};
@@ -13,8 +14,7 @@ use crate::piece::Piece;
 use ssh_print::push_shown;
 use std::alloc::AllocError;
 
-/// Appends what comes before the first section: the head, with the policy and the style, and the
-/// heading.
+/// Appends what comes before the header: the head, with the policy and the style, and the heading.
 #[tactic(auto, unfolding(crate::specs::Pages::page_start))]
 pub fn push_page_start(out: &mut Vec<u8>, title: &[u8]) -> Result<(), AllocError>
     ensures { OnOk result (out.new.items ≡ out.old.items ++ marks (page_start title.now)) }

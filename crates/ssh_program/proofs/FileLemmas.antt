@@ -1,5 +1,5 @@
 -- From what a file gives to its review, whose text is written.
-use Rattle.ssh_program.proofs.Imports.{◌≡◌, ◌∙◌, ◌≤◌, ◌++◌, ℕ, Bool, true, false, List, [], length, Option, Some, None, Result, Err, refl, sym, ap, subst, inl, inr, arith, lt-ltb, ltb-true, Account, Asking, TellsFile, IfTells, SourceState, bytes_at, after_whole, FailsLoad, IsLeft, IsTooLong, KeepsOthers, within_limit, ReadError, left-none, read-all, left-end, no-end, over_limit, TooLong, Form, fault_review, ReviewKind, Auth, Known, review_of, review_over, telling_review, file_limit, lines_of}
+use Rattle.ssh_program.proofs.Imports.{◌≡◌, ◌∙◌, ◌≤◌, ◌++◌, ℕ, Bool, true, false, List, [], length, Option, Some, None, Result, Err, refl, sym, ap, subst, inl, inr, arith, lt-ltb, ltb-true, Account, Asking, TellsFile, IfTells, SourceState, bytes_at, after_whole, FailsLoad, IsLeft, IsTooLong, KeepsOthers, within_limit, ReadError, left-none, read-all, left-end, no-end, over_limit, TooLong, Form, AsLines, fault_review, ReviewKind, Auth, Known, review_of, review_over, telling_review, file_limit, lines_of}
 use Rattle.std.specs.Prelude.{nat_lt, if◌then◌else◌}
 use Rattle.sha2.specs.Sha256.{sha256}
 use Rattle.ssh_files.specs.declared.read.ReadError.TheVariants as read
@@ -8,7 +8,7 @@ use Rattle.ssh_review.specs.Forms.{end_line}
 use Rattle.ssh_review.specs.HostLines.{host_counts_of}
 use Rattle.ssh_review.specs.Lines.{counts_of}
 use Rattle.ssh_review.specs.ShownRecords.{host_shown_whole_review, shown_end, shown_records, shown_whole_review}
-use Rattle.ssh_review.specs.ToldLines.{host_lines_told, lines_told}
+use Rattle.ssh_review.specs.LineReports.{host_line_reports_of, line_reports_of}
 use Rattle.ssh_review.specs.declared.show.Show.{Show}
 use Rattle.ssh_review.specs.declared.end.FileFault.TheVariants.{Unread}
 use Rattle.ssh_program.specs.declared.streaming.FileReported.{FileReported}
@@ -28,7 +28,7 @@ within-false n h = go (nat_lt file_limit n) refl
     go false e = e
 
 pub auth-put : (show : Show) (form : Form) (asking : Asking) (name file : List ℕ) (old new : Option Account) (r : Result FileReported Stop) → length file ≤ file_limit
-    → TextPut (shown_records show (lines_told form asking name [] (numbered 1 (lines_of file))) ++ shown_end show (end_line form name (counts_of asking [] (numbered 1 (lines_of file))) (sha256 file)))
+    → TextPut (shown_records show (line_reports_of (AsLines form) asking name [] (numbered 1 (lines_of file))) ++ shown_end show (end_line form name (counts_of asking [] (numbered 1 (lines_of file))) (sha256 file)))
     (record { counts = counts_of asking [] (numbered 1 (lines_of file)); stands = false; fault = None }) old new r
     → TextPut (review_of Auth show form asking name file).text (review_kept (review_of Auth show form asking name file)) old new r
 unfolding shown_whole_review
@@ -37,7 +37,7 @@ auth-put show form asking name file old new r few h =
     (sym (within-false (length file) few)) h
 
 pub known-put : (show : Show) (form : Form) (asking : Asking) (name file : List ℕ) (old new : Option Account) (r : Result FileReported Stop) → length file ≤ file_limit
-    → TextPut (shown_records show (host_lines_told form asking name [] (numbered 1 (lines_of file))) ++ shown_end show (end_line form name (host_counts_of asking [] (numbered 1 (lines_of file))) (sha256 file)))
+    → TextPut (shown_records show (host_line_reports_of (AsLines form) asking name [] (numbered 1 (lines_of file))) ++ shown_end show (end_line form name (host_counts_of asking [] (numbered 1 (lines_of file))) (sha256 file)))
     (record { counts = host_counts_of asking [] (numbered 1 (lines_of file)); stands = false; fault = None }) old new r
     → TextPut (review_of Known show form asking name file).text (review_kept (review_of Known show form asking name file)) old new r
 unfolding host_shown_whole_review

@@ -30,7 +30,6 @@ use Rattle.ssh_review.specs.Readable.{readable_file}
 use Rattle.ssh_review.specs.Reviews.{Review, auth_review, fault_review, whole_review}
 use Rattle.ssh_review.specs.declared.end.FileFault.{FileFault}
 use Rattle.ssh_review.specs.declared.end.FileFault.TheVariants.{TooLong, Unread}
-use Rattle.ssh_review.specs.declared.end.Form.TheVariants.{Text}
 use Rattle.ssh_review.specs.declared.end.Total.{Total}
 use Rattle.ssh_review.specs.Forms.{total_line}
 use Rattle.ssh_review.specs.ShownRecords.{shown_auth_review, shown_known_review}
@@ -47,19 +46,19 @@ use Rattle.ssh_program.specs.declared.rewriting.NewFile.TheVariants.{CanonicalAu
 use Rattle.ssh_program.specs.declared.subcommand.Subcommand.{Subcommand}
 use Rattle.ssh_program.specs.declared.subcommand.Subcommand.TheVariants as command
 use Rattle.ssh_program.specs.FileReviews.{Lines, ReviewsFiles, kind_name, no_lines, review_of, telling_review, with_file}
-use Rattle.ssh_program.specs.FileRuns.{AnswersHosts, AnswersKept, AnswersLogins, AsksNoKey, AsksWith, FileHashed, FileReadable, FileRewritten, FilesReviewed, GrantsKept, IsPartOf, KeepsGrants, PrintsReview, PrintsReviews, ShowsAll}
+use Rattle.ssh_program.specs.FileRuns.{AnswersHosts, AnswersKept, AnswersLogins, AsksLines, AsksNoKey, AsksWith, FileHashed, FileReadable, FileRewritten, FilesReviewed, GrantsKept, IsPartOf, KeepsGrants, PrintsReview, PrintsReviews, ShowsAll}
 use Rattle.ssh_program.specs.Hashings.{Hashes, hashed_over}
 use Rattle.ssh_program.specs.KeyRuns.{AsksOfFiles}
-use Rattle.ssh_program.specs.KeySeeking.{ReviewsFor}
 use Rattle.ssh_program.specs.Rewritings.{RewritesFile, new_file, new_response, rewrite_kind, rewrite_over}
 use Rattle.ssh_findings.specs.declared.code.Code.{Code}
 use Rattle.ssh_program.specs.ReviewFails.{are_reported, failing_asked, failing_by, fails_by}
-use Rattle.ssh_program.specs.ReviewShows.{show_asked, show_by, show_of}
 use Rattle.ssh_program.specs.ReviewZones.{review_rule}
-use Rattle.ssh_program.specs.Spelled.{ReviewAsked, form_of, review_kind_of, review_spelled, usual_minimum}
+use Rattle.ssh_program.specs.ReviewForms.{FormAsked, asks_page, review_form}
+use Rattle.ssh_program.specs.Spelled.{ReviewAsked, ReviewCall, ReviewsAs, review_kind_of, review_spelled, usual_minimum}
 use Rattle.ssh_program.specs.Spelling.{given, names_needed, names_given}
 use Rattle.ssh_program.specs.Totals.{counted, fault_count, total_status}
 use Rattle.ssh_program.proofs.GrantedRunLemmas.{Answered, IsFaulty, ends-as, fault-faulty, needed-faulty, none-faulty, optional-faulty, or-faulty, responds-to, status-of, step-faulty, value-faulty}
+use Rattle.ssh_program.proofs.ReviewFormLemmas.{asks-lines, form-faulty}
 use Rattle.ssh_program.proofs.SpelledBytes.{ok-same, step-any, step-gives}
 
 -- ---- `rewrite`
@@ -386,14 +385,6 @@ prints-each asked text before after (name ∷ names) s rest all (first, reviewed
 
 -- ---- what the options spell
 
-show-by-faulty : (word key : Option Word) → IsFaulty (show_by word key)
-show-by-faulty None key = none-faulty All
-show-by-faulty (Some word) (Some key) = or-faulty {A = Show} None usage_response refl
-show-by-faulty (Some word) None = fault-faulty option.Show (show_of word)
-
-show-faulty : (rows : List Row) → IsFaulty (show_asked rows)
-show-faulty rows = show-by-faulty (given option.Show rows) (given option.Key rows)
-
 reported-faulty : (codes : List Code) (reported : Bool) → IsFaulty (if reported then Ok codes else Err usage_response)
 reported-faulty codes true = none-faulty codes
 reported-faulty codes false = or-faulty {A = List Code} None usage_response refl
@@ -415,15 +406,14 @@ review-faulty rows zone =
     step-faulty _ _ (fault-faulty option.Zone zone) (λ zone.
     step-faulty _ _ (optional-faulty usual_minimum (number_below (2 ^ 32)) option.RsaMinimum rows) (λ rsa_minimum.
     step-faulty _ _ (optional-faulty default_codes codes_in option.Findings rows) (λ reported.
-    step-faulty _ _ (optional-faulty Text form_of option.Form rows) (λ form.
-    step-faulty _ _ (show-faulty rows) (λ show.
+    step-faulty _ _ (form-faulty kind rows) (λ form.
     step-faulty _ _ (failing-faulty reported rows) (λ failing.
-    step-faulty _ _ (or-faulty (names_given rows) _ refl) (λ names. none-faulty _)))))))))
+    step-faulty _ _ (or-faulty (names_given rows) _ refl) (λ names. none-faulty _))))))))
 
-abbrev pub IsNamed : List Row → ReviewAsked → Type 0
+abbrev pub IsNamed : List Row → ReviewCall → Type 0
 IsNamed rows a = names_needed rows ≡ Ok a.names
 
-pub review-names : (rows : List Row) (zone : Option TimeZone) (a : ReviewAsked) → review_spelled rows zone ≡ Ok a → IsNamed rows a
+pub review-names : (rows : List Row) (zone : Option TimeZone) (a : ReviewCall) → review_spelled rows zone ≡ Ok a → IsNamed rows a
 unfolding review_spelled
 review-names rows zone =
     step-any (IsNamed rows) (value review_kind_of option.Kind rows) _ (λ kind.
@@ -431,32 +421,14 @@ review-names rows zone =
     step-any (IsNamed rows) (or_fault option.Zone zone) _ (λ zone.
     step-any (IsNamed rows) (value_or usual_minimum (number_below (2 ^ 32)) option.RsaMinimum rows) _ (λ rsa_minimum.
     step-any (IsNamed rows) (value_or default_codes codes_in option.Findings rows) _ (λ reported.
-    step-any (IsNamed rows) (value_or Text form_of option.Form rows) _ (λ form.
-    step-any (IsNamed rows) (show_asked rows) _ (λ show.
+    step-any (IsNamed rows) (review_form kind rows) _ (λ form.
     step-any (IsNamed rows) (failing_asked reported rows) _ (λ failing.
     step-gives (λ names. names_needed rows ≡ Ok names) (IsNamed rows) (names_needed rows) _ (λ names h. h) (λ names is.
-    λ a h. subst (IsNamed rows) (ok-same {A = ReviewAsked} {B = Response} _ a h) is)))))))))
-
-abbrev IsShownAs : List Row → ReviewAsked → Type 0
-IsShownAs rows a = show_asked rows ≡ Ok a.show
-
-review-shows : (rows : List Row) (zone : Option TimeZone) (a : ReviewAsked) → review_spelled rows zone ≡ Ok a → IsShownAs rows a
-unfolding review_spelled
-review-shows rows zone =
-    step-any (IsShownAs rows) (value review_kind_of option.Kind rows) _ (λ kind.
-    step-any (IsShownAs rows) (value (number_below (2 ^ 64)) option.Now rows) _ (λ now.
-    step-any (IsShownAs rows) (or_fault option.Zone zone) _ (λ zone.
-    step-any (IsShownAs rows) (value_or usual_minimum (number_below (2 ^ 32)) option.RsaMinimum rows) _ (λ rsa_minimum.
-    step-any (IsShownAs rows) (value_or default_codes codes_in option.Findings rows) _ (λ reported.
-    step-any (IsShownAs rows) (value_or Text form_of option.Form rows) _ (λ form.
-    step-gives (λ show. show_asked rows ≡ Ok show) (IsShownAs rows) (show_asked rows) _ (λ show h. h) (λ show is.
-    step-any (IsShownAs rows) (failing_asked reported rows) _ (λ failing.
-    step-any (IsShownAs rows) (names_needed rows) _ (λ names.
-    λ a h. subst (IsShownAs rows) (ok-same {A = ReviewAsked} {B = Response} _ a h) is)))))))))
+    λ a h. subst (IsNamed rows) (ok-same {A = ReviewCall} {B = Response} _ a h) is))))))))
 
 -- ---- a response to `review`
 
-faultless : (failing : List Code) (total : Total) → total_status failing total < 2 → total.faults ≡ 0
+pub faultless : (failing : List Code) (total : Total) → total_status failing total < 2 → total.faults ≡ 0
 faultless failing total few = by (nat_lt 0 total.faults) refl few
   where
     by : (some : Bool) → nat_lt 0 total.faults ≡ some → cond some 2 (cond (fails_by failing total.counts.by_code) 1 0) < 2 → total.faults ≡ 0
@@ -474,21 +446,24 @@ review-of asked s t r room all (inl (reported, chain, is)) few =
     prints-each asked r.text [] (total_line asked.form (kind_name asked.kind) asked.rule asked.asking reported.total) asked.names s rest all each whole
 
 reviewed-in : (rows : List Row) (names : List (List ℕ)) (zone : Option TimeZone) (s : SourceState) (t : Option SourceState) (r : Response) → names_needed rows ≡ Ok names
-    → s.failures + length names < most_failures → ReadsZone (review_rule rows) zone → ShowsAll rows
-    → (x : Result ReviewAsked Response) → review_spelled rows zone ≡ x → RespondsTo (λ q. ReviewsFor None q.kind q.show q.failing q.form q.rule q.asking q.names) x s t r → r.status < 2 → FilesReviewed rows s r
-reviewed-in rows names zone s t r named room read shows (Err fault) spelled (unfailed, is) few =
+    → s.failures + length names < most_failures → ReadsZone (review_rule rows) zone → asks_page rows ≡ false → ShowsAll rows
+    → (x : Result ReviewCall Response) → review_spelled rows zone ≡ x → RespondsTo (λ q. ReviewsAs q.form None q.kind q.failing q.rule q.asking q.names) x s t r → r.status < 2 → FilesReviewed rows s r
+reviewed-in rows names zone s t r named room read lines shows (Err fault) spelled (unfailed, is) few =
     let two = review-faulty rows zone fault spelled in
     let same = status-of r fault is in
     absurd (omega (arith, two, same, few))
-reviewed-in rows names zone s t r named room read shows (Ok a) spelled h few =
-    let all = ok-same {A = Show} {B = Response} a.show All (sym (review-shows rows zone a spelled) ∙ shows) in
-    let are = ok-same {A = List (List ℕ)} {B = Response} names a.names (sym named ∙ review-names rows zone a spelled) in
+reviewed-in rows names zone s t r named room read lines shows (Ok q) spelled h few =
+    let are = ok-same {A = List (List ℕ)} {B = Response} names q.names (sym named ∙ review-names rows zone q spelled) in
+    let (show, form, is, shown, asked) = asks-lines rows zone q lines spelled in
+    let all = ok-same {A = Show} {B = Response} show All (sym shown ∙ shows) in
+    let a : ReviewAsked = record { kind = q.kind; show = show; form = form; failing = q.failing; rule = q.rule; asking = q.asking; names = q.names } in
     record {
       zone = zone;
       read = read;
       asked = a;
-      spelled = spelled;
-      reviews = review-of a s t r (subst (λ (x : List (List ℕ)). s.failures + length x < most_failures) are room) all h few;
+      spelled = asked;
+      reviews = review-of a s t r (subst (λ (x : List (List ℕ)). s.failures + length x < most_failures) are room) all
+          (subst (λ (x : FormAsked). ReviewsAs x None q.kind q.failing q.rule q.asking q.names s t r) is h) few;
     }
 
 -- ---- a run
@@ -529,12 +504,12 @@ few-as old new r status (inl (taken, same)) few = omega (arith, same, few)
 few-as old new r status (inr (broken, two)) few = absurd (omega (arith, two, few))
 
 pub files_reviewed_run : (words : List (List ℕ)) (o t : Option SourceState) (old new : Option Account) (status : ℕ) → IfTells o (Answered words t old new status)
-    → IfTells o (λ s. (rows : List Row) (names : List (List ℕ)) → AsksOfFiles command.Review words s rows names → AsksNoKey rows → ShowsAll rows → status < 2
+    → IfTells o (λ s. (rows : List Row) (names : List (List ℕ)) → AsksOfFiles command.Review words s rows names → AsksNoKey rows → AsksLines rows → ShowsAll rows → status < 2
     → (r : Response) × FilesReviewed rows (source_of words s) r × WritesResponse old new r status)
 files_reviewed_run words None t old new status h = tt
-files_reviewed_run words (Some s) t old new status h = λ room rows names asks no_key shows is.
+files_reviewed_run words (Some s) t old new status h = λ room rows names asks no_key lines shows is.
     let (r, answers, writes) = h room in
     let few = few-as old new r status writes is in
     let (zone, read, by) = asked-run command.Review words s t r rows asks.request answers few in
-    let whole = subst (λ (k : Option (List ℕ)). RespondsTo (λ q. ReviewsFor k q.kind q.show q.failing q.form q.rule q.asking q.names) (review_spelled rows zone) (source_of words s) t r) no_key by in
-    (r, reviewed-in rows names zone (source_of words s) t r asks.named asks.room read shows (review_spelled rows zone) refl whole few, writes)
+    let whole = subst (λ (k : Option (List ℕ)). RespondsTo (λ q. ReviewsAs q.form k q.kind q.failing q.rule q.asking q.names) (review_spelled rows zone) (source_of words s) t r) no_key by in
+    (r, reviewed-in rows names zone (source_of words s) t r asks.named asks.room read lines shows (review_spelled rows zone) refl whole few, writes)

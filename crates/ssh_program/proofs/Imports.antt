@@ -102,10 +102,11 @@ pub use Rattle.ssh_program.specs.OfferTextsView.{texts_seen, TakesText, TakesTex
 pub use Rattle.ssh_program.specs.Requests.{RespondsBy, Answers, request_words, source_of, Responds, RespondsIn}
 pub use Rattle.ssh_program.specs.Responding.{SignsDigest, SignsBody, SignsClaim, SignsMessage, SignsVouched, SignsAgain, SignsOne}
 pub use Rattle.ssh_program.specs.NeededVouches.{RestsOn, VouchAlike, first_resting, second_resting, kept_by, evidence_found, sought_in}
+pub use Rattle.ssh_program.specs.ReviewForms.{FormAsked, as_lines, as_page, form_of, form_seen, review_form}
 pub use Rattle.ssh_program.specs.Rewritings.{new_file, rewrite_over, RewritesFile, rewrite_kind, IsTrustFault, Rewrites, new_response}
 pub use Rattle.ssh_program.specs.Samples.{host_values_in_order, login_asks_more, login_is_spelled, login_values_in_order, show_kinds, texts_of_files}
 pub use Rattle.ssh_program.specs.Shows.{shown_part, ShowsFile, ShowsBytes}
-pub use Rattle.ssh_program.specs.Spelled.{ReviewAsked, RespondsToReview, form_of, review_kind_of, usual_minimum, ReviewsInZone}
+pub use Rattle.ssh_program.specs.Spelled.{ReviewAsked, ReviewCall, RespondsToReview, review_kind_of, usual_minimum, ReviewsInZone}
 pub use Rattle.ssh_program.specs.Spelling.{RespondsTo, value, given, or_fault, needed, value_or, audit_files, names_needed, sshsig_question, read_or, usual_port, IsReportedAs}
 pub use Rattle.ssh_program.specs.Sshsigs.{Signs, IsContentFault, IsLastFault, IsSecondFault, IsSshsigReadFault, body_over, body_response, claim_answer, claim_over, claim_response, message_response, read_again, signature_response, vouched_over}
 pub use Rattle.ssh_program.specs.Texts.{text_places, spelled_by, OptionText, TextPlace, TextPlaces}
@@ -138,6 +139,8 @@ pub use Rattle.ssh_program.specs.declared.vouching.Vouching.TheVariants.{Nothing
 pub use Rattle.ssh_review.specs.Reviews.{review, fault_review}
 pub use Rattle.ssh_review.specs.declared.end.FileFault.TheVariants.{TooLong}
 pub use Rattle.ssh_review.specs.declared.end.Form.{Form}
+pub use Rattle.ssh_review.specs.declared.records.RecordForm.{RecordForm}
+pub use Rattle.ssh_review.specs.declared.records.RecordForm.TheVariants.{AsLines}
 pub use Rattle.ssh_rewriting.specs.Answer.{hashed}
 pub use Rattle.ssh_rewriting.specs.declared.hash.HashError.{HashError}
 pub use Rattle.ssh_rights.specs.declared.rights.Rights.{Rights}

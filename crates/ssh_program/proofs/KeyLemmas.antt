@@ -3,7 +3,7 @@ use Rattle.ssh_program.proofs.Imports.{◌≡◌, ℕ, [], List, Option, Ok, ref
 use Rattle.ssh_review.specs.declared.end.Form.{Form}
 use Rattle.ssh_review.specs.declared.end.Form.TheVariants.{Text}
 use Rattle.ssh_program.specs.declared.args.ArgName.TheVariants as option
-use Rattle.ssh_program.specs.Spelled.{form_of}
+use Rattle.ssh_program.specs.ReviewForms.{form_of}
 use Rattle.ssh_program.specs.Clients.{client_spelled}
 use Rattle.ssh_program.specs.FingerprintValues.{fingerprint_bytes}
 use Rattle.ssh_program.specs.Keys.{admits_spelled, fingerprint_spelled, trusts_spelled}

@@ -15,7 +15,7 @@ use Rattle.ssh_print.specs.declared.admission_text.Subject.TheVariants.{Client, 
 use Rattle.ssh_program.specs.declared.admission.AnswerForm.{AnswerForm}
 use Rattle.ssh_review.specs.declared.end.Form.{Form}
 use Rattle.ssh_review.specs.declared.end.Form.TheVariants.{Text}
-use Rattle.ssh_program.specs.Spelled.{form_of}
+use Rattle.ssh_program.specs.ReviewForms.{form_of}
 use Rattle.ssh_program.specs.Clients.{client_spelled}
 use Rattle.ssh_print.specs.declared.showing.ShowError.{ShowError}
 use Rattle.ssh_print.specs.declared.showing.ShowError.TheVariants as shown

@@ -1,5 +1,5 @@
 -- From what a file gives to its review for one key, whose text is written, from the key's file to the fingerprint, and from both to the response.
-use Rattle.ssh_program.proofs.Imports.{◌≡◌, ◌∙◌, ◌<◌, ◌≤◌, ◌++◌, [], ℕ, Bool, true, false, List, length, Option, Some, None, Result, Ok, Err, refl, sym, ap, subst, inl, inr, IfOk, lt-ltb, Asking, TellsFile, IfTells, SourceState, bytes_at, most_failures, after_whole, top_line, FailsLoad, IsLeft, IsTooLong, KeepsOthers, NoReadFailed, ReadToEnd, within_limit, ReadError, left-none, read-all, left-end, no-end, over_limit, TooLong, Form, ReviewKind, Auth, Known, file_limit, ShowError, IsFaultOf, Offered, line-offered, shown_offer_in, Account, Alike, files_same, end-same, file-alike, keeps-same, none-failed, one-failed, RespondsTo}
+use Rattle.ssh_program.proofs.Imports.{◌≡◌, ◌∙◌, ◌<◌, ◌≤◌, ◌++◌, [], ℕ, Bool, true, false, List, length, Option, Some, None, Result, Ok, Err, refl, sym, ap, subst, inl, inr, IfOk, lt-ltb, Asking, TellsFile, IfTells, SourceState, bytes_at, most_failures, after_whole, top_line, FailsLoad, IsLeft, IsTooLong, KeepsOthers, NoReadFailed, ReadToEnd, within_limit, ReadError, left-none, read-all, left-end, no-end, over_limit, TooLong, Form, AsLines, ReviewKind, Auth, Known, file_limit, ShowError, IsFaultOf, Offered, line-offered, shown_offer_in, Account, Alike, files_same, end-same, file-alike, keeps-same, none-failed, one-failed, RespondsTo}
 use Rattle.ssh_files.specs.declared.read.ReadError.TheVariants as fault
 use Rattle.ssh_print.specs.Responses.{Response as Shown}
 use Rattle.ssh_review.specs.KeyReviews.{host_whole_key_review, key_fault_review, whole_key_review}
@@ -28,7 +28,7 @@ use Rattle.ssh_program.proofs.WrittenText.{nothing_taken}
 -- ---- a file within the limit
 
 pub auth-key-put : (sought : List ℕ) (form : Form) (asking : Asking) (name file : List ℕ) (old new : Option Account) (r : Result FileReported Stop) → length file ≤ file_limit
-    → TextPut (key_records_of sought form asking name [] (numbered 1 (lines_of file)) ++ end_line form name (key_counts_of sought asking [] (numbered 1 (lines_of file))).counts (sha256 file))
+    → TextPut (key_records_of sought (AsLines form) asking name [] (numbered 1 (lines_of file)) ++ end_line form name (key_counts_of sought asking [] (numbered 1 (lines_of file))).counts (sha256 file))
     (record { counts = (key_counts_of sought asking [] (numbered 1 (lines_of file))).counts; stands = (key_counts_of sought asking [] (numbered 1 (lines_of file))).stands; fault = None }) old new r
     → TextPut (key_review_of sought Auth form asking name file).file.text (key_review_kept (key_review_of sought Auth form asking name file)) old new r
 unfolding whole_key_review
@@ -37,7 +37,7 @@ auth-key-put sought form asking name file old new r few h =
     (sym (within-false (length file) few)) h
 
 pub known-key-put : (sought : List ℕ) (form : Form) (asking : Asking) (name file : List ℕ) (old new : Option Account) (r : Result FileReported Stop) → length file ≤ file_limit
-    → TextPut (host_key_records_of sought form asking name [] (numbered 1 (lines_of file)) ++ end_line form name (host_key_counts_of sought asking [] (numbered 1 (lines_of file))).counts (sha256 file))
+    → TextPut (host_key_records_of sought (AsLines form) asking name [] (numbered 1 (lines_of file)) ++ end_line form name (host_key_counts_of sought asking [] (numbered 1 (lines_of file))).counts (sha256 file))
     (record { counts = (host_key_counts_of sought asking [] (numbered 1 (lines_of file))).counts; stands = (host_key_counts_of sought asking [] (numbered 1 (lines_of file))).stands; fault = None }) old new r
     → TextPut (key_review_of sought Known form asking name file).file.text (key_review_kept (key_review_of sought Known form asking name file)) old new r
 unfolding host_whole_key_review

@@ -21,15 +21,17 @@ use Rattle.ssh_program.specs.FileRuns.{IsPartOf}
 use Rattle.ssh_program.specs.FingerprintValues.{fingerprint_bytes, is_fingerprint}
 use Rattle.ssh_program.specs.KeyRuns.{AsksOfFiles, EachFile, SomeFile}
 use Rattle.ssh_program.specs.FileReviews.{kind_name}
-use Rattle.ssh_program.specs.KeySeeking.{KeyLines, ReviewsFor, SeeksBy, SeeksKey, SeeksKeyOfFile, fingerprint_or_fault, key_review_of, key_status, no_key_lines, or_key_fault, spelled_fingerprint, telling_key_review, with_key_file}
+use Rattle.ssh_program.specs.KeySeeking.{KeyLines, SeeksBy, SeeksKey, SeeksKeyOfFile, fingerprint_or_fault, key_review_of, key_status, no_key_lines, or_key_fault, spelled_fingerprint, telling_key_review, with_key_file}
 use Rattle.ssh_program.specs.KeyStanding.{AsksForKey, GivesBy, StandsIn, StandsNowhereIn, KeyNowhere, KeySought, KeyStanding, PrintsKeyReviews, whole_for_key}
 use Rattle.ssh_program.specs.OfferPrints.{offer_print}
 use Rattle.ssh_program.specs.ReviewZones.{review_rule}
-use Rattle.ssh_program.specs.Spelled.{ReviewAsked, review_spelled}
+use Rattle.ssh_program.specs.ReviewForms.{FormAsked}
+use Rattle.ssh_program.specs.Spelled.{ReviewAsked, ReviewCall, ReviewsAs, in_lines, review_spelled}
 use Rattle.ssh_program.specs.Spelling.{names_needed}
 use Rattle.ssh_program.specs.Totals.{fault_count}
 use Rattle.ssh_program.proofs.FileRunLemmas.{asked-run, none-counted, review-faulty, review-names, some-faults}
 use Rattle.ssh_program.proofs.GrantedRunLemmas.{Answered, IsFaulty, ends-as, fault-faulty, none-faulty, or-faulty, status-of}
+use Rattle.ssh_program.proofs.ReviewFormLemmas.{asks-key}
 use Rattle.ssh_program.proofs.SpelledBytes.{ok-same}
 
 -- ---- one file
@@ -286,24 +288,27 @@ record SoughtRun (rows : List Row) (key : List ℕ) (s : SourceState) (r : Respo
   zone : Option TimeZone
   read : ReadsZone (review_rule rows) zone
   asked : ReviewAsked
-  spelled : review_spelled rows zone ≡ Ok asked
+  spelled : review_spelled rows zone ≡ Ok (in_lines asked)
   given_key : GivenKey asked key s r
 
 sought-in : (rows : List Row) (names : List (List ℕ)) (key : List ℕ) (zone : Option TimeZone) (s : SourceState) (t : Option SourceState) (r : Response) → names_needed rows ≡ Ok names
-    → s.failures + length names < most_failures → ReadsZone (review_rule rows) zone
-    → (x : Result ReviewAsked Response) → review_spelled rows zone ≡ x → RespondsTo (λ q. ReviewsFor (Some key) q.kind q.show q.failing q.form q.rule q.asking q.names) x s t r → r.status < 2 → SoughtRun rows key s r
-sought-in rows names key zone s t r named room read (Err fault) spelled (unfailed, is) few =
+    → s.failures + length names < most_failures → ReadsZone (review_rule rows) zone → AsksForKey rows key
+    → (x : Result ReviewCall Response) → review_spelled rows zone ≡ x → RespondsTo (λ q. ReviewsAs q.form (Some key) q.kind q.failing q.rule q.asking q.names) x s t r → r.status < 2 → SoughtRun rows key s r
+sought-in rows names key zone s t r named room read for_key (Err fault) spelled (unfailed, is) few =
     let two = review-faulty rows zone fault spelled in
     let same = status-of r fault is in
     absurd (omega (arith, two, same, few))
-sought-in rows names key zone s t r named room read (Ok a) spelled h few =
-    let are = ok-same {A = List (List ℕ)} {B = Response} names a.names (sym named ∙ review-names rows zone a spelled) in
+sought-in rows names key zone s t r named room read for_key (Ok q) spelled h few =
+    let are = ok-same {A = List (List ℕ)} {B = Response} names q.names (sym named ∙ review-names rows zone q spelled) in
+    let (show, form, is, asked) = asks-key rows zone q key for_key spelled in
+    let a : ReviewAsked = record { kind = q.kind; show = show; form = form; failing = q.failing; rule = q.rule; asking = q.asking; names = q.names } in
     record {
       zone = zone;
       read = read;
       asked = a;
-      spelled = spelled;
-      given_key = given-by a key s t r (is_fingerprint key) refl (subst (λ (x : List (List ℕ)). s.failures + length x < most_failures) are room) h few;
+      spelled = asked;
+      given_key = given-by a key s t r (is_fingerprint key) refl (subst (λ (x : List (List ℕ)). s.failures + length x < most_failures) are room)
+          (subst (λ (x : FormAsked). ReviewsAs x (Some key) q.kind q.failing q.rule q.asking q.names s t r) is h) few;
     }
 
 reported-of : (rows : List Row) (key : List ℕ) (s : SourceState) (r : Response) → SoughtRun rows key s r → KeySought rows key s r
@@ -328,8 +333,8 @@ key_nowhere_run words (Some s) t old new status h = λ room rows names key asks 
     let done = ends-as 0 (omega arith) old new r status writes is in
     let few : r.status < 2 = omega (arith, done) in
     let (zone, read, by) = asked-run command.Review words s t r rows asks.request answers few in
-    let run = sought-in rows names key zone (source_of words s) t r asks.named asks.room read (review_spelled rows zone) refl
-    (subst (λ (k : Option (List ℕ)). RespondsTo (λ q. ReviewsFor k q.kind q.show q.failing q.form q.rule q.asking q.names) (review_spelled rows zone) (source_of words s) t r) for_key by) few in
+    let run = sought-in rows names key zone (source_of words s) t r asks.named asks.room read for_key (review_spelled rows zone) refl
+    (subst (λ (k : Option (List ℕ)). RespondsTo (λ q. ReviewsAs q.form k q.kind q.failing q.rule q.asking q.names) (review_spelled rows zone) (source_of words s) t r) for_key by) few in
     (r, record { sought = reported-of rows key (source_of words s) r run; nowhere = run.given_key.found.nowhere done }, writes)
 
 pub key_standing_run : (words : List (List ℕ)) (o t : Option SourceState) (old new : Option Account) (status : ℕ) → IfTells o (Answered words t old new status)
@@ -342,6 +347,6 @@ key_standing_run words (Some s) t old new status h = λ room rows names key asks
     let done = ends-as 1 (omega arith) old new r status writes is in
     let few : r.status < 2 = omega (arith, done) in
     let (zone, read, by) = asked-run command.Review words s t r rows asks.request answers few in
-    let run = sought-in rows names key zone (source_of words s) t r asks.named asks.room read (review_spelled rows zone) refl
-    (subst (λ (k : Option (List ℕ)). RespondsTo (λ q. ReviewsFor k q.kind q.show q.failing q.form q.rule q.asking q.names) (review_spelled rows zone) (source_of words s) t r) for_key by) few in
+    let run = sought-in rows names key zone (source_of words s) t r asks.named asks.room read for_key (review_spelled rows zone) refl
+    (subst (λ (k : Option (List ℕ)). RespondsTo (λ q. ReviewsAs q.form k q.kind q.failing q.rule q.asking q.names) (review_spelled rows zone) (source_of words s) t r) for_key by) few in
     (r, record { sought = reported-of rows key (source_of words s) r run; stands = run.given_key.found.stands done }, writes)

@@ -52,3 +52,7 @@ mod GuidanceLemmas
 mod FingerprintLemmas
 mod KeyStandingLemmas
 mod ZoneLemmas
+pub mod PageLemmas
+mod ReviewFormLemmas
+mod PageRunLemmas
+mod PageTotalLemmas

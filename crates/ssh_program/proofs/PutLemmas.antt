@@ -1,5 +1,5 @@
 -- A text that is written as it is made, and the review that it is of.
-use Rattle.ssh_program.proofs.Imports.{◌≡◌, ◌∙◌, ◌+◌, ◌<◌, ◌⊎◌, ◌++◌, ℕ, List, [], ◌∷◌, Option, None, Result, Ok, Err, ap, sym, refl, inl, inr, length, arith, append_assoc, append-nil, length-append, Account, Breaks, TakesAll, TakesUpTo, Asking, IfTells, SourceState, TellsFile, Form}
+use Rattle.ssh_program.proofs.Imports.{◌≡◌, ◌∙◌, ◌+◌, ◌<◌, ◌⊎◌, ◌++◌, ℕ, List, [], ◌∷◌, Option, None, Result, Ok, Err, ap, sym, refl, inl, inr, length, arith, append_assoc, append-nil, length-append, Account, Breaks, TakesAll, TakesUpTo, Asking, IfTells, SourceState, TellsFile, Form, RecordForm, AsLines}
 use Rattle.ssh_files.specs.FilesInTurn.{Telling}
 use Rattle.ssh_review.proofs.ShownRecordLemmas.{no-records}
 use Rattle.ssh_review.specs.EndObjects.{end_object}
@@ -12,7 +12,7 @@ use Rattle.ssh_review.specs.declared.records.Records.{Records}
 use Rattle.ssh_review.specs.declared.show.Show.{Show}
 use Rattle.ssh_review.specs.declared.show.Show.TheVariants.{All, Found, Totals}
 use Rattle.ssh_review.specs.ShownRecords.{shown_end, shown_records}
-use Rattle.ssh_review.specs.ToldLines.{LineTold}
+use Rattle.ssh_review.specs.LineReports.{LineReport}
 use Rattle.ssh_program.specs.declared.streaming.FileReported.{FileReported}
 use Rattle.ssh_program.specs.declared.streaming.Stop.{Stop}
 use Rattle.ssh_program.specs.declared.streaming.Stop.TheVariants as stop
@@ -32,11 +32,11 @@ end-some Json name counts digest = longer _ (125 ∷ 10 ∷ []) (omega arith)
 -- ---- records that are written as they are made
 
 -- what was taken of the text of a review, in whole lines, and what is left of the review
-abbrev pub PutSoFar : {S : Type 0} → (S → Form → Asking → List ℕ → List ℕ → List (ℕ × List ℕ) → List LineTold → Type 0) → Show → Form → Asking → List ℕ → Records S → Records S → Option Account → Option Account → Type 0
-PutSoFar tells show form asking name begun now old p = (file text : List ℕ) (all : KeyCounts) → HasLeft tells show form asking name file text all begun
-    → (front : List ℕ) × (rest : List ℕ) × HasLeft tells show form asking name file rest all now × (text ≡ front ++ rest) × AreWholeLines front × TakesAll old p front
+abbrev pub PutSoFar : {S : Type 0} → (S → RecordForm → Asking → List ℕ → List ℕ → List (ℕ × List ℕ) → List LineReport → Type 0) → Show → Form → Asking → List ℕ → Records S → Records S → Option Account → Option Account → Type 0
+PutSoFar tells show form asking name begun now old p = (file text : List ℕ) (all : KeyCounts) → HasLeft tells show (AsLines form) asking name file text all begun
+    → (front : List ℕ) × (rest : List ℕ) × HasLeft tells show (AsLines form) asking name file rest all now × (text ≡ front ++ rest) × AreWholeLines front × TakesAll old p front
 
-pub put-first : {S : Type 0} (tells : S → Form → Asking → List ℕ → List ℕ → List (ℕ × List ℕ) → List LineTold → Type 0) (show : Show) (form : Form) (asking : Asking) (name : List ℕ) (r : Records S) (a : Option Account)
+pub put-first : {S : Type 0} (tells : S → RecordForm → Asking → List ℕ → List ℕ → List (ℕ × List ℕ) → List LineReport → Type 0) (show : Show) (form : Form) (asking : Asking) (name : List ℕ) (r : Records S) (a : Option Account)
     → PutSoFar tells show form asking name r r a a
 put-first tells show form asking name r a file text all w = ([], text, w, refl, inl refl, nothing_taken a)
 
@@ -45,8 +45,8 @@ both-lines a b w (inl none) = rw (none, append-nil a) w
 both-lines a b w (inr (before, is)) = inr (a ++ before, ap (λ t. a ++ t) is ∙ sym (append_assoc a before (10 ∷ [])))
 
 -- more records were made and taken
-pub put-more : {S : Type 0} (tells : S → Form → Asking → List ℕ → List ℕ → List (ℕ × List ℕ) → List LineTold → Type 0) (show : Show) (form : Form) (asking : Asking) (name : List ℕ) (begun now next : Records S) (old p q : Option Account) (out : List ℕ)
-    → PutSoFar tells show form asking name begun now old p → MakesFront tells show form asking name now next [] out → TakesAll p q out → PutSoFar tells show form asking name begun next old q
+pub put-more : {S : Type 0} (tells : S → RecordForm → Asking → List ℕ → List ℕ → List (ℕ × List ℕ) → List LineReport → Type 0) (show : Show) (form : Form) (asking : Asking) (name : List ℕ) (begun now next : Records S) (old p q : Option Account) (out : List ℕ)
+    → PutSoFar tells show form asking name begun now old p → MakesFront tells show (AsLines form) asking name now next [] out → TakesAll p q out → PutSoFar tells show form asking name begun next old q
 put-more tells show form asking name begun now next old p q out so makes taken file text all w =
     let (front, rest, left, parts, lines, took) = so file text all w in
     let (after, later, made, whole) = makes file rest all left in (
@@ -54,7 +54,7 @@ put-more tells show form asking name begun now next old p q out so makes taken f
       after,
       later,
       parts ∙ (ap (λ t. front ++ t) (sym made) ∙ sym (append_assoc front out after)),
-      both-lines front out lines (whole (inl refl)),
+      both-lines front out lines (whole tt (inl refl)),
       both_taken old p q front out took taken,
     )
 
@@ -75,15 +75,15 @@ cut front rest text end some parts lines = record {
   lines = lines;
 }
 
-front-of : (show : Show) (told : List LineTold) (front rest text end : List ℕ) → 0 < length end → text ≡ shown_records show told → text ≡ front ++ rest → AreWholeLines front
+front-of : (show : Show) (line_reports : List LineReport) (front rest text end : List ℕ) → 0 < length end → text ≡ shown_records show line_reports → text ≡ front ++ rest → AreWholeLines front
     → (front ≡ []) ⊎ IsCutAt front (text ++ shown_end show end)
-front-of All told front rest text end some are parts lines = inr (cut front rest text end some parts lines)
-front-of Found told front rest text end some are parts lines = inr (cut front rest text end some parts lines)
-front-of Totals told front rest text end some are parts lines = inl (nil-front front rest (sym parts ∙ (are ∙ no-records told)))
+front-of All line_reports front rest text end some are parts lines = inr (cut front rest text end some parts lines)
+front-of Found line_reports front rest text end some are parts lines = inr (cut front rest text end some parts lines)
+front-of Totals line_reports front rest text end some are parts lines = inl (nil-front front rest (sym parts ∙ (are ∙ no-records line_reports)))
 
 -- memory could not be allocated
-pub put-refused : {S K : Type 0} (tells : S → Form → Asking → List ℕ → List ℕ → List (ℕ × List ℕ) → List LineTold → Type 0) (show : Show) (form : Form) (asking : Asking) (name file text digest : List ℕ) (all : KeyCounts) (kept : K) (begun now : Records S) (old p : Option Account)
-    → PutSoFar tells show form asking name begun now old p → HasLeft tells show form asking name file text all begun → TextPut (text ++ shown_end show (end_line form name all.counts digest)) kept old p (Err stop.Memory)
+pub put-refused : {S K : Type 0} (tells : S → RecordForm → Asking → List ℕ → List ℕ → List (ℕ × List ℕ) → List LineReport → Type 0) (show : Show) (form : Form) (asking : Asking) (name file text digest : List ℕ) (all : KeyCounts) (kept : K) (begun now : Records S) (old p : Option Account)
+    → PutSoFar tells show form asking name begun now old p → HasLeft tells show (AsLines form) asking name file text all begun → TextPut (text ++ shown_end show (end_line form name all.counts digest)) kept old p (Err stop.Memory)
 put-refused tells show form asking name file text digest all kept begun now old p so w =
     let (front, rest, left, parts, lines, took) = so file text all w in
     (front, front-of show w.more front rest text (end_line form name all.counts digest) (end-some form name all.counts digest) w.are_records parts lines, took)
@@ -93,16 +93,16 @@ pub put-nothing : {K : Type 0} (text : List ℕ) (kept : K) (a : Option Account)
 put-nothing text kept a = ([], inl refl, nothing_taken a)
 
 -- a write failed in the records
-pub put-broken : {S : Type 0} (tells : S → Form → Asking → List ℕ → List ℕ → List (ℕ × List ℕ) → List LineTold → Type 0) (show : Show) (form : Form) (asking : Asking) (name file text end : List ℕ) (all : KeyCounts) (begun now next : Records S) (old p q : Option Account) (out : List ℕ)
-    → PutSoFar tells show form asking name begun now old p → MakesFront tells show form asking name now next [] out → Breaks p q out → HasLeft tells show form asking name file text all begun → Breaks old q (text ++ end)
+pub put-broken : {S : Type 0} (tells : S → RecordForm → Asking → List ℕ → List ℕ → List (ℕ × List ℕ) → List LineReport → Type 0) (show : Show) (form : Form) (asking : Asking) (name file text end : List ℕ) (all : KeyCounts) (begun now next : Records S) (old p q : Option Account) (out : List ℕ)
+    → PutSoFar tells show form asking name begun now old p → MakesFront tells show (AsLines form) asking name now next [] out → Breaks p q out → HasLeft tells show (AsLines form) asking name file text all begun → Breaks old q (text ++ end)
 put-broken tells show form asking name file text end all begun now next old p q out so makes breaks w =
     let (front, rest, left, parts, lines, took) = so file text all w in
     let (after, later, made, whole) = makes file rest all left in
     broken_on old p q (text ++ end) (rest ++ end) out (after ++ end) (up-to old p text front rest end parts took) (ap (λ t. t ++ end) (sym made) ∙ append_assoc out after end) breaks
 
 -- the last records with the end of the file are what is left
-last-is : {S : Type 0} (tells : S → Form → Asking → List ℕ → List ℕ → List (ℕ × List ℕ) → List LineTold → Type 0) (show : Show) (form : Form) (asking : Asking) (name file rest digest : List ℕ) (all : KeyCounts) (now next : Records S) (out last : List ℕ)
-    → MakesFront tells show form asking name now next [] out → IsAllMade tells show form asking name next → last ≡ out ++ shown_end show (end_line form name next.reported.counts digest) → HasLeft tells show form asking name file rest all now
+last-is : {S : Type 0} (tells : S → RecordForm → Asking → List ℕ → List ℕ → List (ℕ × List ℕ) → List LineReport → Type 0) (show : Show) (form : Form) (asking : Asking) (name file rest digest : List ℕ) (all : KeyCounts) (now next : Records S) (out last : List ℕ)
+    → MakesFront tells show (AsLines form) asking name now next [] out → IsAllMade tells show (AsLines form) asking name next → last ≡ out ++ shown_end show (end_line form name next.reported.counts digest) → HasLeft tells show (AsLines form) asking name file rest all now
     → last ≡ rest ++ shown_end show (end_line form name all.counts digest)
 last-is tells show form asking name file rest digest all now next out last makes over is w =
     let k = makes file rest all w in
@@ -110,18 +110,18 @@ last-is tells show form asking name file rest digest all now next out last makes
     let same : out ≡ rest = sym (append-nil out) ∙ (ap (λ l. out ++ l) (sym e.0) ∙ k.2) in
     is ∙ (ap (λ (reported : KeyCounts). out ++ shown_end show (end_line form name reported.counts digest)) e.1 ∙ ap (λ l. l ++ shown_end show (end_line form name all.counts digest)) same)
 
-pub put-last-broken : {S : Type 0} (tells : S → Form → Asking → List ℕ → List ℕ → List (ℕ × List ℕ) → List LineTold → Type 0) (show : Show) (form : Form) (asking : Asking) (name file text digest : List ℕ) (all : KeyCounts) (begun now next : Records S) (old p q : Option Account) (out last : List ℕ)
-    → PutSoFar tells show form asking name begun now old p → MakesFront tells show form asking name now next [] out → IsAllMade tells show form asking name next → last ≡ out ++ shown_end show (end_line form name next.reported.counts digest)
-    → Breaks p q last → HasLeft tells show form asking name file text all begun → Breaks old q (text ++ shown_end show (end_line form name all.counts digest))
+pub put-last-broken : {S : Type 0} (tells : S → RecordForm → Asking → List ℕ → List ℕ → List (ℕ × List ℕ) → List LineReport → Type 0) (show : Show) (form : Form) (asking : Asking) (name file text digest : List ℕ) (all : KeyCounts) (begun now next : Records S) (old p q : Option Account) (out last : List ℕ)
+    → PutSoFar tells show form asking name begun now old p → MakesFront tells show (AsLines form) asking name now next [] out → IsAllMade tells show (AsLines form) asking name next → last ≡ out ++ shown_end show (end_line form name next.reported.counts digest)
+    → Breaks p q last → HasLeft tells show (AsLines form) asking name file text all begun → Breaks old q (text ++ shown_end show (end_line form name all.counts digest))
 put-last-broken tells show form asking name file text digest all begun now next old p q out last so makes over is breaks w =
     let (front, rest, left, parts, lines, took) = so file text all w in
     let end = shown_end show (end_line form name all.counts digest) in
     broken_on old p q (text ++ end) (rest ++ end) last [] (up-to old p text front rest end parts took)
     (sym (last-is tells show form asking name file rest digest all now next out last makes over is left) ∙ sym (append-nil last)) breaks
 
-pub put-all : {S : Type 0} (tells : S → Form → Asking → List ℕ → List ℕ → List (ℕ × List ℕ) → List LineTold → Type 0) (show : Show) (form : Form) (asking : Asking) (name file text digest : List ℕ) (all : KeyCounts) (begun now next : Records S) (old p q : Option Account) (out last : List ℕ)
-    → PutSoFar tells show form asking name begun now old p → MakesFront tells show form asking name now next [] out → IsAllMade tells show form asking name next → last ≡ out ++ shown_end show (end_line form name next.reported.counts digest)
-    → TakesAll p q last → HasLeft tells show form asking name file text all begun
+pub put-all : {S : Type 0} (tells : S → RecordForm → Asking → List ℕ → List ℕ → List (ℕ × List ℕ) → List LineReport → Type 0) (show : Show) (form : Form) (asking : Asking) (name file text digest : List ℕ) (all : KeyCounts) (begun now next : Records S) (old p q : Option Account) (out last : List ℕ)
+    → PutSoFar tells show form asking name begun now old p → MakesFront tells show (AsLines form) asking name now next [] out → IsAllMade tells show (AsLines form) asking name next → last ≡ out ++ shown_end show (end_line form name next.reported.counts digest)
+    → TakesAll p q last → HasLeft tells show (AsLines form) asking name file text all begun
     → TextPut {K = FileReported} (text ++ shown_end show (end_line form name all.counts digest)) (record { counts = all.counts; stands = all.stands; fault = None }) old q (Ok (record { counts = next.reported.counts; stands = next.reported.stands; fault = None }))
 put-all tells show form asking name file text digest all begun now next old p q out last so makes over is taken w =
     let (front, rest, left, parts, lines, took) = so file text all w in

@@ -20,7 +20,7 @@ use Rattle.ssh_program.specs.declared.args.ArgName.TheVariants as option
 use Rattle.ssh_program.specs.declared.admission.AnswerForm.{AnswerForm}
 use Rattle.ssh_program.specs.Admissions.{KeyAsking, beside_by}
 use Rattle.ssh_program.specs.Audits.{login_by, login_rests}
-use Rattle.ssh_program.specs.Spelled.{form_of}
+use Rattle.ssh_program.specs.ReviewForms.{form_of}
 use Rattle.ssh_program.specs.Spelling.{given, needed, or_fault, value, value_or}
 
 -- who logs in, from where and when, and how the answer is printed

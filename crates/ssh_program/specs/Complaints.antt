@@ -1,6 +1,8 @@
 -- What standard error says is wrong with a command line (this project's rule).
-use Rattle.std.specs.Prelude.{◌++◌, ◌&&◌, Bool, true, false, not, List, [], ◌∷◌, Option, Some, None, codes, find, if◌then◌else◌, length, option_and_then, option_map, slice_get, unwrap_or, ◌-◌}
+use Rattle.std.specs.Prelude.{◌++◌, ◌&&◌, ◌||◌, Bool, true, false, not, List, [], ◌∷◌, Option, Some, None, codes, find, if◌then◌else◌, length, option_and_then, option_map, slice_get, unwrap_or, ◌-◌}
+use Rattle.std.specs.List.{list_any}
 use Rattle.std.specs.Option.{option_or}
+use Rattle.std.specs.Str.{bytes_eq}
 use Rattle.clap.specs.Words.{Text}
 use Rattle.ssh_print.specs.Texts.{escaped_text}
 use Rattle.ssh_program.specs.declared.args.ArgName.{ArgName}
@@ -107,14 +109,29 @@ option_wrong c words row =
 
 -- ---- the operands
 
--- where nothing else is wrong, a code that is not reported is in the list of those that make the status 1
+-- a word that asks for a page
+abbrev pub is_html : Word → Bool
+is_html word = bytes_eq word.text (codes "html") || bytes_eq word.text (codes "--form=html")
+
+-- a page is asked for, which leaves out other options; or a title, which a page alone has
+abbrev pub asks_html : List Word → Bool
+asks_html words = list_any is_html words
+
+abbrev pub is_of_page : List Word → Bool
+is_of_page words = is_given option.Title words || asks_html words
+
+-- so the list of the codes that make the status 1 is what is wrong
+abbrev pub lists_unreported : List Word → Bool
+lists_unreported words = is_given option.FailOn words && not (is_of_page words)
+
+-- where nothing else is wrong, a code that is not reported is in that list
 abbrev pub names_by : Option Needed → Bool → Bool → Wrong
 names_by (Some Required) false lists = Wrong.no_names
 names_by needed given true = Wrong.unreported
 names_by needed given false = Wrong.unknown
 
 abbrev pub names_wrong : Subcommand → List Word → Wrong
-names_wrong c words = names_by (subcommand_operands c) (has_operand words) (is_given option.FailOn words)
+names_wrong c words = names_by (subcommand_operands c) (has_operand words) (lists_unreported words)
 
 -- ---- all words
 

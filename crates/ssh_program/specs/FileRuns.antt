@@ -1,5 +1,5 @@
 -- What a run of `rewrite`, `readable`, `hash` or `review` means that ends without a fault (this project's rule).
-use Rattle.std.specs.Prelude.{◌≡◌, ◌⊎◌, ◌↔◌, ◌++◌, ℕ, List, [], ◌∷◌, Option, Some, None, Ok}
+use Rattle.std.specs.Prelude.{◌≡◌, ◌⊎◌, ◌↔◌, ◌++◌, ℕ, false, List, [], ◌∷◌, Option, Some, None, Ok}
 use Rattle.clap.specs.Words.{Row}
 use Rattle.jiff.specs.Types.{TimeZone}
 use Rattle.ssh_offers.specs.declared.claim.Signed.{Signed}
@@ -35,7 +35,8 @@ use Rattle.ssh_program.specs.Requests.{request_words}
 use Rattle.ssh_program.specs.Rewritings.{rewrite_kind}
 use Rattle.ssh_program.specs.ReviewShows.{show_asked}
 use Rattle.ssh_program.specs.ReviewZones.{review_rule}
-use Rattle.ssh_program.specs.Spelled.{ReviewAsked, review_spelled}
+use Rattle.ssh_program.specs.ReviewForms.{asks_page}
+use Rattle.ssh_program.specs.Spelled.{ReviewAsked, in_lines, review_spelled}
 use Rattle.ssh_program.specs.Spelling.{given, needed, value}
 
 -- the arguments ask this subcommand, with these options
@@ -115,6 +116,10 @@ AsksNoKey rows = given option.Key rows ≡ None
 abbrev pub ShowsAll : List Row → Type 0
 ShowsAll rows = show_asked rows ≡ Ok All
 
+-- the answer is in lines, and not a page
+abbrev pub AsksLines : List Row → Type 0
+AsksLines rows = asks_page rows ≡ false
+
 abbrev pub IsPartOf : List ℕ → List ℕ → Type 0
 IsPartOf part text = (before : List ℕ) × (after : List ℕ) × (text ≡ before ++ (part ++ after))
 
@@ -145,5 +150,5 @@ pub record FilesReviewed (rows : List Row) (s : SourceState) (r : Response) : Ty
   pub zone : Option TimeZone
   pub read : ReadsZone (review_rule rows) zone
   pub asked : ReviewAsked
-  pub spelled : review_spelled rows zone ≡ Ok asked
+  pub spelled : review_spelled rows zone ≡ Ok (in_lines asked)
   pub reviews : PrintsReviews asked r.text asked.names s

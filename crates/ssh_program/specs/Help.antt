@@ -57,6 +57,7 @@ value_word option.Findings = codes "CODES"
 value_word option.FailOn = codes "CODES"
 value_word option.Show = codes "WHAT"
 value_word option.Form = codes "FORM"
+value_word option.Title = codes "TEXT"
 value_word option.FilesFrom = codes "FILE"
 
 -- what `--kind` gives to a command
@@ -94,6 +95,11 @@ key_sentence Review = codes "list only this key: the file of the public key or c
 key_sentence Admits = codes "the .pub file of the key or certificate, or the key's fingerprint as sshd logs it"
 key_sentence c = codes "the file of the public key or certificate, as id_ed25519.pub"
 
+-- what `--form` gives to a command
+abbrev pub form_sentence : Subcommand → Text
+form_sentence Review = codes "text (so without it), json for one object on each line, or html for one page to look at, print and sign"
+form_sentence c = codes "text (so without it), or json for one object on each line"
+
 -- what an option gives to a command
 abbrev pub option_sentence : Subcommand → ArgName → Text
 option_sentence c option.Kind = kind_sentence c
@@ -123,7 +129,8 @@ option_sentence c option.Fingerprint = codes "the fingerprint of the key, as ssh
 option_sentence c option.Findings = codes "the findings that are reported: all, none, or codes joined by commas"
 option_sentence c option.FailOn = codes "the findings that make the status 1: all, none, or codes; without it all that are reported"
 option_sentence c option.Show = codes "what is listed: all (so without it), found for lines with a finding, or totals"
-option_sentence c option.Form = codes "text (so without it), or json for one object on each line"
+option_sentence c option.Form = form_sentence c
+option_sentence c option.Title = codes "the heading of the page, with --form html alone"
 option_sentence c option.FilesFrom = codes "a file of more names, each ended by NUL or by a line end; - is standard input"
 
 -- what the value of an option has to be
@@ -155,7 +162,8 @@ wanted_value option.Fingerprint = codes "SHA256: and 43 characters of base64, as
 wanted_value option.Findings = codes "all, none, or codes from F1 to F22 joined by commas"
 wanted_value option.FailOn = codes "all, none, or codes from F1 to F22 joined by commas"
 wanted_value option.Show = codes "all, found or totals"
-wanted_value option.Form = codes "text or json"
+wanted_value option.Form = codes "text or json, and of review also html"
+wanted_value option.Title = codes "a text"
 wanted_value option.FilesFrom = codes "a file of names, each ended by NUL or by a line end"
 
 -- what the operands of a command are

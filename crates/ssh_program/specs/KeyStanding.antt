@@ -18,7 +18,7 @@ use Rattle.ssh_program.specs.FingerprintValues.{is_fingerprint}
 use Rattle.ssh_program.specs.KeyRuns.{EachFile, SomeFile}
 use Rattle.ssh_program.specs.KeySeeking.{fingerprint_or_fault, spelled_fingerprint}
 use Rattle.ssh_program.specs.ReviewZones.{review_rule}
-use Rattle.ssh_program.specs.Spelled.{ReviewAsked, review_spelled}
+use Rattle.ssh_program.specs.Spelled.{ReviewAsked, in_lines, review_spelled}
 use Rattle.ssh_program.specs.Spelling.{given}
 
 -- this key is asked for, by its fingerprint or by the name of its file
@@ -57,7 +57,7 @@ pub record KeySought (rows : List Row) (key : List ℕ) (s : SourceState) (r : R
   pub zone : Option TimeZone
   pub read : ReadsZone (review_rule rows) zone
   pub asked : ReviewAsked
-  pub spelled : review_spelled rows zone ≡ Ok asked
+  pub spelled : review_spelled rows zone ≡ Ok (in_lines asked)
   pub fingerprint : List ℕ
   pub left : SourceState
   pub gives : GivesBy (is_fingerprint key) key s fingerprint left

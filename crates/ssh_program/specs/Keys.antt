@@ -18,7 +18,7 @@ use Rattle.ssh_review.specs.declared.end.Form.TheVariants.{Text}
 use Rattle.ssh_program.specs.declared.args.ArgName.TheVariants as option
 use Rattle.ssh_program.specs.declared.args.KeyPlace.{KeyPlace}
 use Rattle.ssh_program.specs.declared.args.KeyPlace.TheVariants as place
-use Rattle.ssh_program.specs.Spelled.{form_of}
+use Rattle.ssh_program.specs.ReviewForms.{form_of}
 use Rattle.ssh_program.specs.Spelling.{RespondsTo, given, names_needed, needed, usual_port, value, value_or}
 use Rattle.ssh_program.specs.Admissions.{KeyAsking, AsksKey, beside_by}
 use Rattle.ssh_program.specs.Audits.{host_by, host_rests}

@@ -63,12 +63,16 @@ pub mod Totals
 pub mod FileReviews
 pub mod ReviewZones
 pub mod ReviewShows
+pub mod ReviewForms
 pub mod ReviewFails
+pub mod PageFronts
+pub mod PageReviews
 pub mod Spelled
 pub mod KeyRuns
 pub mod FingerprintRuns
 pub mod SignatureRuns
 pub mod FileRuns
+pub mod PageRuns
 pub mod KeyFiles
 pub mod FingerprintValues
 pub mod FingerprintSamples

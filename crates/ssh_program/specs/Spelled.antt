@@ -10,13 +10,13 @@ use Rattle.ssh_files.specs.SourceState.{SourceState}
 use Rattle.ssh_files.specs.Values.{ReadsZone, number_below}
 use Rattle.ssh_print.specs.Responses.{Response}
 use Rattle.ssh_review.specs.declared.end.Form.{Form}
-use Rattle.ssh_review.specs.declared.end.Form.TheVariants.{Json, Text}
 use Rattle.ssh_review.specs.declared.show.Show.{Show}
 use Rattle.ssh_program.specs.declared.review.ReviewKind.{ReviewKind}
 use Rattle.ssh_program.specs.declared.review.ReviewKind.TheVariants.{Auth, Known}
 use Rattle.ssh_program.specs.KeySeeking.{ReviewsFor}
+use Rattle.ssh_program.specs.PageReviews.{ReviewsPage}
 use Rattle.ssh_program.specs.ReviewFails.{failing_asked}
-use Rattle.ssh_program.specs.ReviewShows.{show_asked}
+use Rattle.ssh_program.specs.ReviewForms.{FormAsked, as_lines, as_page, review_form}
 use Rattle.ssh_program.specs.ReviewZones.{is_zone_given, review_rule}
 use Rattle.ssh_wire.specs.Reading.{◌>>=◌}
 use Rattle.ssh_program.specs.declared.args.ArgName.TheVariants as option
@@ -33,47 +33,67 @@ review_kind_of word =
 abbrev pub usual_minimum : ℕ
 usual_minimum = 2048
 
--- the output format that `--form` names
-abbrev pub form_of : List ℕ → Option Form
-form_of word =
-    if bytes_eq word (codes "text") then Some Text
-    else if bytes_eq word (codes "json") then Some Json
-    else None
-
--- the format of the files, what is shown, the codes that make the status 1, the output format, the rule of the time zone, the options of the review, and the names of the files
-pub record ReviewAsked : Type 0 where
+-- The format of the files, how the answer is printed, the codes that make the status 1, the rule of the time zone, the options
+-- of the review, and the names of the files.
+pub record ReviewCall : Type 0 where
   pub kind : ReviewKind
-  pub show : Show
+  pub form : FormAsked
   pub failing : List Code
-  pub form : Form
   pub rule : List ℕ
   pub asking : Asking
   pub names : List (List ℕ)
 
-unfoldable pub review_spelled : List Row → Option TimeZone → Result ReviewAsked Response
+-- the same of an answer in lines of this output format, of which this is shown
+pub record ReviewAsked : Type 0 where
+  pub kind : ReviewKind
+  pub show : Show
+  pub form : Form
+  pub failing : List Code
+  pub rule : List ℕ
+  pub asking : Asking
+  pub names : List (List ℕ)
+
+abbrev pub in_lines : ReviewAsked → ReviewCall
+in_lines a = record { kind = a.kind; form = as_lines a.show a.form; failing = a.failing; rule = a.rule; asking = a.asking; names = a.names }
+
+-- the same of a page with this title
+pub record PageAsked : Type 0 where
+  pub kind : ReviewKind
+  pub title : List ℕ
+  pub failing : List Code
+  pub rule : List ℕ
+  pub asking : Asking
+  pub names : List (List ℕ)
+
+abbrev pub on_page : PageAsked → ReviewCall
+on_page a = record { kind = a.kind; form = as_page a.title; failing = a.failing; rule = a.rule; asking = a.asking; names = a.names }
+
+unfoldable pub review_spelled : List Row → Option TimeZone → Result ReviewCall Response
 review_spelled rows zone = do
   kind ← value review_kind_of option.Kind rows
   now ← value (number_below (2 ^ 64)) option.Now rows
   zone ← or_fault option.Zone zone
   rsa_minimum ← value_or usual_minimum (number_below (2 ^ 32)) option.RsaMinimum rows
   reported ← value_or default_codes codes_in option.Findings rows
-  form ← value_or Text form_of option.Form rows
-  show ← show_asked rows
+  form ← review_form kind rows
   failing ← failing_asked reported rows
   names ← names_needed rows
   Ok (record {
     kind = kind;
-    show = show;
-    failing = failing;
     form = form;
+    failing = failing;
     rule = review_rule rows;
     asking = record { now = now; zone = zone; is_zone_given = is_zone_given rows; rsa_minimum = rsa_minimum; reported = reported };
     names = names;
   })
 
--- where a key is asked for, the reviews are for it; its value is read after those of the other options
+-- as lines, or as a page; where a key is asked for, the reviews are for it, and its value is read after those of the other options
+abbrev pub ReviewsAs : FormAsked → Option (List ℕ) → ReviewKind → List Code → List ℕ → Asking → List (List ℕ) → SourceState → Option SourceState → Response → Type 0
+ReviewsAs (as_lines show form) key kind failing rule asking names = ReviewsFor key kind show failing form rule asking names
+ReviewsAs (as_page title) key kind failing rule asking names = ReviewsPage title kind failing rule asking names
+
 abbrev pub ReviewsInZone : List Row → Option TimeZone → SourceState → Option SourceState → Response → Type 0
-ReviewsInZone rows zone = RespondsTo (λ q. ReviewsFor (given option.Key rows) q.kind q.show q.failing q.form q.rule q.asking q.names) (review_spelled rows zone)
+ReviewsInZone rows zone = RespondsTo (λ q. ReviewsAs q.form (given option.Key rows) q.kind q.failing q.rule q.asking q.names) (review_spelled rows zone)
 
 -- the same in the zone of the option's rule
 abbrev pub RespondsToReview : List Row → SourceState → Option SourceState → Response → Type 0

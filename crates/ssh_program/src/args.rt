@@ -58,6 +58,7 @@ pub enum ArgName {
     FailOn,
     Show,
     Form,
+    Title,
     FilesFrom,
 }
 
@@ -95,6 +96,7 @@ impl ArgName {
             ArgName::FailOn => "fail-on",
             ArgName::Show => "show",
             ArgName::Form => "form",
+            ArgName::Title => "title",
             ArgName::FilesFrom => "files-from",
         }
     }

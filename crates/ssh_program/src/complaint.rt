@@ -1,7 +1,7 @@
 //! Which word of a command line is wrong, and the sentence that says so.
 
 ghost use Rattle.std.specs.Prelude.{◌≡◌, ◌++◌, OnOk, map, option_map};
-ghost use Rattle.ssh_program.specs.Complaints.{apart_wrong, both_text, complaint_of, complaint_text, first_wrong, flag_wrong, names_wrong, neither_text, open_wrong, operand_wrong, option_in, option_text, option_wrong, pair_by, pair_wrong, row_named, reported_word, value_wrong, waiting, waiting_at, whole_wrong, word_wrong};
+ghost use Rattle.ssh_program.specs.Complaints.{apart_wrong, asks_html, both_text, complaint_of, complaint_text, first_wrong, flag_wrong, is_html, is_of_page, lists_unreported, names_wrong, neither_text, open_wrong, operand_wrong, option_in, option_text, option_wrong, pair_by, pair_wrong, row_named, reported_word, value_wrong, waiting, waiting_at, whole_wrong, word_wrong};
 ghost use Rattle.ssh_program.specs.ComplaintsView.{complaint_seen};
 ghost use Rattle.ssh_program.specs.Options.{reported_options};
 ghost use Rattle.ssh_program.specs.WordPlacesView.{word_seen};
@@ -230,12 +230,39 @@ fn options_complaint<'a>(command: Subcommand, words: &[Word<'_>]) -> Option<Comp
     None
 }
 
+/// Whether a word asks for a page.
+fn is_html(word: &Word<'_>) -> bool
+    ensures { result ≡ is_html (word_seen word.now) }
+{
+    word.text == "html" || word.text == "--form=html"
+}
+
+fn asks_html(words: &[Word<'_>]) -> bool
+    ensures { result ≡ asks_html (map word_seen words.now) }
+{
+    words.iter().any(|word| is_html(word))
+}
+
+/// Whether a page is asked for, which leaves out other options; or a title, which a page alone has.
+fn is_of_page(words: &[Word<'_>]) -> bool
+    ensures { result ≡ is_of_page (map word_seen words.now) }
+{
+    is_given(ArgName::Title, words) || asks_html(words)
+}
+
+/// Whether the list of `--fail-on` is what is wrong, where nothing else is.
+fn lists_unreported(words: &[Word<'_>]) -> bool
+    ensures { result ≡ lists_unreported (map word_seen words.now) }
+{
+    is_given(ArgName::FailOn, words) && !is_of_page(words)
+}
+
 fn names_complaint<'a>(command: Subcommand, words: &[Word<'_>]) -> Complaint<'a>
     ensures { complaint_seen result ≡ names_wrong command (map word_seen words.now) }
 {
     match (command.names(), has_operand(words)) {
         (Some(Needed::Required), false) => Complaint::NoNames,
-        _ if is_given(ArgName::FailOn, words) => Complaint::Unreported,
+        _ if lists_unreported(words) => Complaint::Unreported,
         _ => Complaint::Other,
     }
 }

@@ -2,7 +2,7 @@
 
 ghost use Rattle.std.specs.Prelude.{◌≡◌, ◌++◌, OnOk, Some};
 ghost use Rattle.std.specs.List.{flat_map};
-ghost use Rattle.ssh_program.specs.Help.{apart_from, command_line, command_sentence, commands_help, default_kind, default_time, default_word, default_zone, file_sentence, help_form, help_forms, help_names, help_option, host_sentence, is_joined, key_sentence, kind_sentence, minimum_sentence, needed_by, needed_word, option_sentence, options_help, other_key, other_place, port_sentence, value_word, wanted_value};
+ghost use Rattle.ssh_program.specs.Help.{apart_from, command_line, command_sentence, commands_help, default_kind, default_time, default_word, default_zone, file_sentence, form_sentence, help_form, help_forms, help_names, help_option, host_sentence, is_joined, key_sentence, kind_sentence, minimum_sentence, needed_by, needed_word, option_sentence, options_help, other_key, other_place, port_sentence, value_word, wanted_value};
 
 use crate::args::{ArgName, Needed};
 use crate::subcommand::{OptionRow, Subcommand};
@@ -72,6 +72,7 @@ fn value_word(option: ArgName) -> &'static [u8]
         ArgName::FailOn => b"CODES",
         ArgName::Show => b"WHAT",
         ArgName::Form => b"FORM",
+        ArgName::Title => b"TEXT",
         ArgName::FilesFrom => b"FILE",
     }
 }
@@ -144,6 +145,18 @@ fn key_sentence(command: Subcommand) -> &'static [u8]
     }
 }
 
+/// What `--form` gives to a command.
+fn form_sentence(command: Subcommand) -> &'static [u8]
+    ensures { result.now ≡ form_sentence command }
+{
+    match command {
+        Subcommand::Review => {
+            b"text (so without it), json for one object on each line, or html for one page to look at, print and sign"
+        }
+        _ => b"text (so without it), or json for one object on each line",
+    }
+}
+
 /// What an option gives to a command, as a sentence.
 fn option_sentence(command: Subcommand, option: ArgName) -> &'static [u8]
     ensures { result.now ≡ option_sentence command option }
@@ -185,7 +198,8 @@ fn option_sentence(command: Subcommand, option: ArgName) -> &'static [u8]
             b"the findings that make the status 1: all, none, or codes; without it all that are reported",
         ArgName::Show =>
             b"what is listed: all (so without it), found for lines with a finding, or totals",
-        ArgName::Form => b"text (so without it), or json for one object on each line",
+        ArgName::Form => form_sentence(command),
+        ArgName::Title => b"the heading of the page, with --form html alone",
         ArgName::FilesFrom =>
             b"a file of more names, each ended by NUL or by a line end; - is standard input",
     }
@@ -225,7 +239,8 @@ pub fn wanted_value(option: ArgName) -> &'static [u8]
         ArgName::Findings => b"all, none, or codes from F1 to F22 joined by commas",
         ArgName::FailOn => b"all, none, or codes from F1 to F22 joined by commas",
         ArgName::Show => b"all, found or totals",
-        ArgName::Form => b"text or json",
+        ArgName::Form => b"text or json, and of review also html",
+        ArgName::Title => b"a text",
         ArgName::FilesFrom => b"a file of names, each ended by NUL or by a line end",
     }
 }

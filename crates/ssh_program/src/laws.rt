@@ -1,7 +1,7 @@
 //! Laws of the definitions, and worked examples: the check proves what each function ensures. No call
 //! needs them.
 
-ghost use Rattle.std.specs.Prelude.{◌≡◌, ◌++◌, ℕ, List, Ok, codes, Some, length, slice_get};
+ghost use Rattle.std.specs.Prelude.{◌≡◌, ◌++◌, ℕ, List, Option, Ok, codes, Some, length, slice_get};
 ghost use Rattle.std.specs.Fmt.{decimal};
 ghost use Rattle.std.specs.List.{AllByRecursion};
 ghost use Rattle.ssh_bodies.specs.Sshsig.{Sshsig, digest_of};
@@ -38,6 +38,11 @@ ghost use Rattle.ssh_program.specs.DefaultSamples.{HostsReported, OthersReported
 ghost use Rattle.ssh_program.specs.NameListSamples.{ListsNamed, NamesReported, WordsListed};
 ghost use Rattle.ssh_program.specs.Samples.{HostValuesInOrder, LoginAsksMore, LoginSpelled, LoginValuesInOrder, ShowKinds, TextsOfFiles};
 ghost use Rattle.ssh_program.specs.ArgsSamples.{HostsAsked, KeyPlacesAsked, KeysAsked, LoginsAsked, OthersAsked, ReviewsAsked, TextsAsked, UsageReported, WordsRefused};
+ghost use Rattle.ssh_findings.specs.Asking.{Asking};
+ghost use Rattle.ssh_program.specs.FileReviews.{Lines, telling_review, with_file};
+ghost use Rattle.ssh_review.specs.declared.show.Show.{Show as Shown};
+ghost use Rattle.ssh_program.specs.PageReviews.{PageSofar, telling_given, with_given};
+ghost use Rattle.ssh_program.specs.declared.review.ReviewKind.{ReviewKind};
 ghost use Rattle.ssh_program.specs.AnswerSamples.{AdmitsSpelled, FingerprintsRefused, OutcomesSummed, StatusesReported, TrustsSpelled};
 
 /// What is printed of a signature is, after its number, a line of a vouch file; and a vouch file of
@@ -164,4 +169,19 @@ fn fingerprints_as_read()
         → text ≡ codes "SHA256:" ++ digest_text_of digest }
     ensures again { (digest : List ℕ) → length digest ≡ 32 → AreBytes digest
         → fingerprint_bytes (codes "SHA256:" ++ digest_text_of digest) ≡ Some digest }
+{}
+
+/// The total of a page is that of the other formats, file by file, so the status is: whatever a file
+/// gives, and where a read of it fails.
+fn page_total_rule()
+    ensures read { (kind : ReviewKind) (show : Shown) (form : Form) (asking : Asking) (page : PageSofar)
+        (reported : Lines) (name : List ℕ) (bytes : Option (List ℕ))
+        → page.total ≡ reported.total
+        → (with_given kind asking page (telling_given.of_bytes name bytes)).total
+        ≡ (with_file reported ((telling_review kind show form asking).of_bytes name bytes)).total }
+    ensures failed { (kind : ReviewKind) (show : Shown) (form : Form) (asking : Asking) (page : PageSofar)
+        (reported : Lines) (name : List ℕ)
+        → page.total ≡ reported.total
+        → (with_given kind asking page (telling_given.of_fault name)).total
+        ≡ (with_file reported ((telling_review kind show form asking).of_fault name)).total }
 {}

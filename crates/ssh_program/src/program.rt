@@ -16,7 +16,8 @@ ghost use Rattle.ssh_program.specs.FingerprintRuns.{AsksByFingerprint, Fingerpri
 ghost use Rattle.ssh_program.specs.KeyRuns.{AsksByKey, AsksOfFiles, ClientAdmitted, ClientKeptOut, HostDistrusted, HostTrusted};
 ghost use Rattle.ssh_program.specs.KeyStanding.{AsksForKey, KeyNowhere, KeyStanding};
 ghost use Rattle.ssh_program.specs.SignatureRuns.{AsksSignature, SignatureUnvouched, SignatureVouched};
-ghost use Rattle.ssh_program.specs.FileRuns.{AsksNoKey, AsksWith, FileHashed, FileReadable, FileRewritten, FilesReviewed, ShowsAll};
+ghost use Rattle.ssh_program.specs.PageRuns.{AsksPage, FilesOnPage};
+ghost use Rattle.ssh_program.specs.FileRuns.{AsksLines, AsksNoKey, AsksWith, FileHashed, FileReadable, FileRewritten, FilesReviewed, ShowsAll};
 ghost use Rattle.ssh_program.specs.Printing.{WritesAnswer, WritesResponse};
 ghost use Rattle.ssh_program.specs.Writing.{AnswersInMemory};
 ghost use Rattle.ssh_program.specs.FileNames.{AuditFiles, SshsigQuestion as SshsigAsked};
@@ -172,7 +173,7 @@ fn answer<S: AsStr, F: Files, W: Sink>(
 /// status: 0 for granted or done, 1 for denied or something found, 2 for a fault (also of the
 /// writer), 3 where OpenSSH may let in a key that no line lets in here. After a failed write
 /// nothing more is written. `review` writes the text of each file before it reads the next; any
-/// other answer is whole in memory before it is written.
+/// other answer is whole in memory before it is written, a page in marked text.
 pub fn run<S: AsStr, F: Files, W: Sink>(
     alloc: Global,
     words: &[S],
@@ -286,16 +287,26 @@ pub fn run<S: AsStr, F: Files, W: Sink>(
         → result ≡ 0
         → (r : Shown) × FileHashed rows (source_of (map S.text words.now) s) r
         × WritesResponse (W.account writer.old) (W.account writer.new) r result) }
-    // Status 0 or 1 of `review` that asks for no key and leaves nothing out: each of the named files
-    // is there, and what was printed lists each line by which one of them lets in a login or trusts
-    // a host's key.
+    // Status 0 or 1 of `review` that asks for no key and no page and leaves nothing out: each of the
+    // named files is there, and what was printed lists each line by which one of them lets in a login
+    // or trusts a host's key.
     ensures review { IfTells (F.source_state files.old) (λ s. (rows : List Row)
         (names : List (List ℕ))
         → AsksOfFiles Review (map S.text words.now) s rows names
         → AsksNoKey rows
+        → AsksLines rows
         → ShowsAll rows
         → result < 2
         → (r : Shown) × FilesReviewed rows (source_of (map S.text words.now) s) r
+        × WritesResponse (W.account writer.old) (W.account writer.new) r result) }
+    // The same of `review --form html`: the page has a section for each of the named files, in their
+    // order, with a row for each such line.
+    ensures review_page { IfTells (F.source_state files.old) (λ s. (rows : List Row)
+        (names : List (List ℕ))
+        → AsksOfFiles Review (map S.text words.now) s rows names
+        → AsksPage rows
+        → result < 2
+        → (r : Shown) × FilesOnPage rows (source_of (map S.text words.now) s) r
         × WritesResponse (W.account writer.old) (W.account writer.new) r result) }
     // Status 1 of `review --key`: a line of one of the named files holds the key, or cannot be read
     // and holds it, and the records of these lines were printed.

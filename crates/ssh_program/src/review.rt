@@ -4,7 +4,8 @@ ghost use Rattle.std.specs.Prelude.{◌≡◌, ◌^◌, ◌≤◌, Some, option_
 ghost use Rattle.ssh_findings.specs.Codes.{codes_in, default_codes};
 ghost use Rattle.ssh_files.specs.Values.{number_below};
 ghost use Rattle.ssh_review.specs.declared.end.Form.TheVariants.{Text};
-ghost use Rattle.ssh_program.specs.Spelled.{form_of, review_kind_of, usual_minimum, RespondsToReview, ReviewsInZone};
+ghost use Rattle.ssh_program.specs.ReviewForms.{form_of, form_seen};
+ghost use Rattle.ssh_program.specs.Spelled.{review_kind_of, usual_minimum, RespondsToReview, ReviewsAs, ReviewsInZone};
 ghost use Rattle.ssh_program.specs.Spelling.{value, value_or};
 ghost use Rattle.ssh_program.specs.ArgsView.{Spells, rows_in};
 ghost use Rattle.ssh_text.specs.Text.{file_limit};
@@ -23,7 +24,8 @@ use crate::command::{CommandError, respond_fault};
 use crate::key_seeking::review_for;
 use crate::printing::{put_made, put_no_memory};
 use crate::review_fail::{failing_codes, fails_by};
-use crate::review_show::show_asked;
+use crate::review_form::{ReviewForm, review_form};
+use crate::review_page::review_page;
 use crate::review_zone::{given_rule, is_zone_given, zone_text};
 use crate::sink::Sink;
 use crate::streaming::{FileReported, Stop, put_review, put_total, put_unread};
@@ -292,6 +294,37 @@ pub fn review_files<F: Files, W: Sink>(
     }
 }
 
+/// Writes the answer about the files of these names as lines or as a page, and returns the status.
+fn review_as<F: Files, W: Sink>(
+    alloc: Global,
+    kind: ReviewKind,
+    failing: &[Code],
+    form: ReviewForm<'_>,
+    rule: &[u8],
+    asked: &ReviewOptions<'_>,
+    names: &[&str],
+    key: Option<&str>,
+    files: &mut F,
+    writer: &mut W,
+) -> u8
+    requires { NoneFailed (W.account writer.old) }
+    ensures { IfTells (F.source_state files.old) (λ s. WritesAnswer
+        (ReviewsAs (form_seen form.entry) (option_map (λ k. k.now) key.entry) kind failing.now rule.now (asking_of asked.entry.now)
+        (map (λ name. name.now) names.now) s (F.source_state files.new))
+        (W.account writer.old) (W.account writer.new) result) }
+{
+    match form {
+        ReviewForm::Lines(show, form) => review_for(
+            alloc, kind, show, failing, form, rule, asked, names, key, files, writer,
+        ),
+        ReviewForm::Page(title) => {
+            review_page(
+                alloc, title, kind, failing, rule, asked, names, files, writer,
+            )
+        }
+    }
+}
+
 /// Writes the answer to `review`, where the option for the zone has been read; `None` where its text
 /// is no zone. After an `Err` nothing was written.
 #[tactic(auto, unfolding(crate::specs::Spelled::review_spelled))]
@@ -313,8 +346,7 @@ fn review_in_zone<F: Files, W: Sink>(
     let zone = ArgName::Zone.or_fault(zone)?;
     let rsa_minimum = rsa_minimum(words)?;
     let reported = reported_codes(alloc, words)?;
-    let form = form(words)?;
-    let show = show_asked(words)?;
+    let form = review_form(words, kind)?;
     let failing = failing_codes(alloc, words, &reported)?;
     let names = words.needed_names()?;
     let rule = zone_text(given_rule(words));
@@ -327,8 +359,8 @@ fn review_in_zone<F: Files, W: Sink>(
         reported: &reported,
     };
     let key = words.given(ArgName::Key);
-    Ok(review_for(
-        alloc, kind, show, &failing, form, rule, &asked, names, key, files, writer,
+    Ok(review_as(
+        alloc, kind, &failing, form, rule, &asked, names, key, files, writer,
     ))
 }
 

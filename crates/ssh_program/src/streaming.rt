@@ -6,6 +6,7 @@ ghost use Rattle.sha2.specs.Sha256.{sha256};
 ghost use Rattle.ssh_findings.specs.Asking.{asking_of};
 ghost use Rattle.ssh_review.specs.declared.key_review.KeyCounts.{KeyCounts as KeyCountsValue};
 ghost use Rattle.ssh_review.specs.Forms.{end_line, total_line};
+ghost use Rattle.ssh_review.specs.declared.records.RecordForm.TheVariants.{AsLines};
 ghost use Rattle.ssh_review.specs.Making.{HasLeft};
 ghost use Rattle.ssh_review.specs.Reviews.{fault_review};
 ghost use Rattle.ssh_review.specs.ShownRecords.{shown_end};
@@ -22,7 +23,8 @@ use sha2::{Digest, Sha256};
 use ssh_files::ReadError;
 use ssh_findings::ReviewOptions;
 use ssh_review::{
-    Counts, FileFault, Form, LineRecords, Records, Show, Total, push_end, review_fault, total_line,
+    Counts, FileFault, Form, LineRecords, RecordForm, Records, Show, Total, push_end, review_fault,
+    total_line,
 };
 use std::alloc::{AllocError, Global};
 use std::io::Error;
@@ -96,14 +98,21 @@ pub(crate) fn put_review<L: LineRecords + Drop, W: Sink>(
     requires { NoneFailed (W.account writer.old) }
     ensures failed { FailedIfStopped result (W.account writer.new) }
     ensures put { (text : List ℕ) (all : KeyCountsValue)
-        → HasLeft L.tells show form (asking_of asked.entry.now) name.now file.now text all begun.entry
+        → HasLeft L.tells show (AsLines form) (asking_of asked.entry.now) name.now file.now text all begun.entry
         → TextPut (text ++ shown_end show (end_line form name.now all.counts (sha256 file.now)))
         (record { counts = all.counts; stands = all.stands; fault = None })
         (W.account writer.old) (W.account writer.new) result }
 {
     let mut records = begun;
     let mut out = Vec::new(alloc);
-    while records.push_some(alloc, show, form, asked, name, &mut out)? {
+    while records.push_some(
+        alloc,
+        show,
+        RecordForm::AsLines(form),
+        asked,
+        name,
+        &mut out,
+    )? {
         put_lines(writer, &out)?;
         out.clear();
     }

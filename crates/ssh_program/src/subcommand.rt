@@ -115,7 +115,7 @@ const TRUSTS: [OptionRow; 7] = [
     (ArgName::Form, Optional),
 ];
 
-const REVIEW: [OptionRow; 9] = [
+const REVIEW: [OptionRow; 10] = [
     (ArgName::Kind, Required),
     (ArgName::Now, Required),
     (ArgName::Key, Optional),
@@ -125,10 +125,11 @@ const REVIEW: [OptionRow; 9] = [
     (ArgName::FailOn, Optional),
     (ArgName::Show, Optional),
     (ArgName::Form, Optional),
+    (ArgName::Title, Optional),
 ];
 
 /// The same with the list of names, which is read before the words are.
-const REPORTED_REVIEW: [OptionRow; 10] = [
+const REPORTED_REVIEW: [OptionRow; 11] = [
     (ArgName::Kind, Required),
     (ArgName::Now, Required),
     (ArgName::Key, Optional),
@@ -138,6 +139,7 @@ const REPORTED_REVIEW: [OptionRow; 10] = [
     (ArgName::FailOn, Optional),
     (ArgName::Show, Optional),
     (ArgName::Form, Optional),
+    (ArgName::Title, Optional),
     (ArgName::FilesFrom, Optional),
 ];
 

@@ -1,5 +1,5 @@
 -- A trusted host's line is listed, and no line revokes its key.
-use Rattle.ssh_review.proofs.Imports.{◌≡◌, ◌∙◌, ◌+◌, ◌-◌, ◌++◌, ◌||◌, ◌⊎◌, inl, inr, ℕ, zero, suc, Bool, true, false, List, [], ◌∷◌, Option, Some, ap, sym, refl, subst, drop, take, AllByRecursion, slice_get, append-nil, append_assoc, bytes_eq-Decides, sha256, lines_of, numbered, lines_of-are, key_blob, KnownEntry, known_line, KnownLine, Revoked, RevokedUnreadable, known_line-spelled, read-blind, read-revokes, Signed, HostClaim, Offer, certified, plain, Rights, Reason, IsOwn, is_key_or_signer, Decision, Granted, HostMeans, IsHostGrant, at-place, line-bytes, line-of, host_means, Asking, HostLine, revokes, granted, revoked_then, Form, end_line, host_counts_of, host_kept_of, host_line_record, host_records_of, IsHostListed, lines_kept}
+use Rattle.ssh_review.proofs.Imports.{◌≡◌, ◌∙◌, ◌+◌, ◌-◌, ◌++◌, ◌||◌, ◌⊎◌, inl, inr, ℕ, zero, suc, Bool, true, false, List, [], ◌∷◌, Option, Some, ap, sym, refl, subst, drop, take, AllByRecursion, slice_get, append-nil, append_assoc, bytes_eq-Decides, sha256, lines_of, numbered, lines_of-are, key_blob, KnownEntry, known_line, KnownLine, Revoked, RevokedUnreadable, known_line-spelled, read-blind, read-revokes, Signed, HostClaim, Offer, certified, plain, Rights, Reason, IsOwn, is_key_or_signer, Decision, Granted, HostMeans, IsHostGrant, at-place, line-bytes, line-of, host_means, Asking, HostLine, revokes, granted, revoked_then, Form, RecordForm, AsLines, end_line, host_counts_of, host_kept_of, host_line_record, host_records_of, IsHostListed, lines_kept}
 use Rattle.ssh_entries.specs.declared.known_line.KnownLine.TheVariants.{Blank, Comment}
 use Rattle.ssh_trust.proofs.CandidateLemmas.{AreBytes}
 use Rattle.std.specs.Prelude.{bytes_eq}
@@ -11,7 +11,7 @@ use Rattle.ssh_review.proofs.ListingLemmas.{denied, joined, predecessor}
 
 -- ---- the record
 
-records_after : (form : Form) (asking : Asking) (name : List ℕ) (earlier : List HostLine) (first rest : List (ℕ × List ℕ))
+records_after : (form : RecordForm) (asking : Asking) (name : List ℕ) (earlier : List HostLine) (first rest : List (ℕ × List ℕ))
     → host_records_of form asking name earlier (first ++ rest)
     ≡ host_records_of form asking name earlier first ++ host_records_of form asking name (earlier ++ lines_kept first) rest
 records_after form asking name earlier [] rest = ap (λ e. host_records_of form asking name e rest) (sym (append-nil earlier))
@@ -22,7 +22,7 @@ records_after form asking name earlier (line ∷ first) rest =
     ∙ ap (λ e. host_records_of form asking name (earlier ++ kept) first ++ host_records_of form asking name e rest) (append_assoc earlier kept (lines_kept first)))
     ∙ sym (append_assoc reported (host_records_of form asking name (earlier ++ kept) first) (host_records_of form asking name (earlier ++ (kept ++ lines_kept first)) rest))
 
-same-record : (form : Form) (asking : Asking) (name : List ℕ) (earlier : List HostLine) (n k : ℕ) (line : List ℕ) (e : KnownEntry) → n ≡ 1 + k → known_line line ≡ Entry e
+same-record : (form : RecordForm) (asking : Asking) (name : List ℕ) (earlier : List HostLine) (n k : ℕ) (line : List ℕ) (e : KnownEntry) → n ≡ 1 + k → known_line line ≡ Entry e
     → host_line_record form asking name earlier (1 + k) line (known_line line) ≡ host_line_record form asking name earlier n line (Entry e)
 same-record form asking name earlier n k line e number spells =
     ap (host_line_record form asking name earlier (1 + k) line) spells
@@ -75,6 +75,21 @@ no-own file claim vouched n e all grant k line bytes at is =
       (bytes, read-revokes line bytes (line-bytes (lines_of file) file (lines_of-are file) all k line at) is, own-is claim.offer bytes own),
     ))
 
+-- the record of a line stands among those of its file
+pub stands-among : (form : RecordForm) (asking : Asking) (name file line : List ℕ) (n k : ℕ) (e : KnownEntry) → n ≡ 1 + k → slice_get (lines_of file) k ≡ Some line → known_line line ≡ Entry e
+    → (before : List ℕ) × (after : List ℕ)
+    × (host_records_of form asking name [] (numbered 1 (lines_of file)) ≡ before ++ (host_line_record form asking name (lines_kept (take k (numbered 1 (lines_of file)))) n line (Entry e) ++ after))
+stands-among form asking name file line n k e number at spells =
+    let lines = numbered 1 (lines_of file) in
+    let earlier = lines_kept (take k lines) in
+    let before = host_records_of form asking name [] (take k lines) in
+    let after = host_records_of form asking name (earlier ++ host_kept_of (1 + k) line (known_line line)) (drop (suc k) lines) in
+    let parts : host_records_of form asking name [] lines ≡ before ++ (host_line_record form asking name earlier (1 + k) line (known_line line) ++ after) =
+    ap (host_records_of form asking name []) (split_at 1 k (lines_of file) line at) ∙ records_after form asking name [] (take k lines) ((1 + k, line) ∷ drop (suc k) lines) in
+    let here : host_records_of form asking name [] lines ≡ before ++ (host_line_record form asking name earlier n line (Entry e) ++ after) =
+    parts ∙ ap (λ reported. before ++ (reported ++ after)) (same-record form asking name earlier n k line e number spells) in
+    (before, after, here)
+
 listed-by : (form : Form) (asking : Asking) (name file : List ℕ) (claim : HostClaim) (vouched : List Signed) (n : ℕ) (e : KnownEntry) → AreBytes file
     → IsHostGrant file claim vouched n e → IsHostListed form asking name file n
 unfolding host_whole_review
@@ -86,21 +101,16 @@ listed-by form asking name file claim vouched n e all grant =
     let spells = known_line-spelled e candidate.line candidate.spelled in
     let lines = numbered 1 (lines_of file) in
     let earlier = lines_kept (take k lines) in
-    let before = host_records_of form asking name [] (take k lines) in
-    let after = host_records_of form asking name (earlier ++ host_kept_of (1 + k) candidate.line (known_line candidate.line)) (drop (suc k) lines) in
     let tail = end_line form name (host_counts_of asking [] lines) (sha256 file) in
-    let parts : host_records_of form asking name [] lines ≡ before ++ (host_line_record form asking name earlier (1 + k) candidate.line (known_line candidate.line) ++ after) =
-    ap (host_records_of form asking name []) (split_at 1 k (lines_of file) candidate.line at) ∙ records_after form asking name [] (take k lines) ((1 + k, candidate.line) ∷ drop (suc k) lines) in
-    let here : host_records_of form asking name [] lines ≡ before ++ (host_line_record form asking name earlier n candidate.line (Entry e) ++ after) =
-    parts ∙ ap (λ reported. before ++ (reported ++ after)) (same-record form asking name earlier n k candidate.line e number spells) in
+    let among = stands-among (AsLines form) asking name file candidate.line n k e number at spells in
     record {
       line = candidate.line;
       stands = candidate.stands;
       entry = e;
       spells = spells;
-      before = before;
-      after = after ++ tail;
-      recorded = joined (host_records_of form asking name [] lines) before (host_line_record form asking name earlier n candidate.line (Entry e)) after tail here;
+      before = among.0;
+      after = among.1 ++ tail;
+      recorded = joined (host_records_of (AsLines form) asking name [] lines) among.0 (host_line_record (AsLines form) asking name earlier n candidate.line (Entry e)) among.1 tail among.2;
       unrevoked = granted earlier e claim
           (all-pass claim.offer (take k lines) (λ j x bytes stood is.
           no-own file claim vouched n e all grant j x.1 bytes (among_first 1 k j (lines_of file) x stood).2 is)) candidate.admits;

@@ -1,6 +1,6 @@
 -- The review of a known_hosts file depends on what its lines are read as, so that of its canonical file is the same,
 -- but for tabs after markers.
-use Rattle.ssh_review.proofs.Imports.{◌≡◌, ◌∙◌, ◌++◌, ◌+◌, ◌&&◌, ℕ, Bool, false, List, [], ◌∷◌, map, ap, sym, refl, AllByRecursion, HasNoNewline, lines_of, numbered, lines_of-whole, key_blob, names_text, KnownEntry, known_line, KnownLine, Revoked, RevokedUnreadable, Marker, comment_part, key_text, marker_part, canonical_known_file, known_or_same, known_written, AreGood, IsGood, good, known-kept, marks_authority, Asking, HostFacts, HostFinding, revoking, trusting, has_tab_after_first, revocation_facts_of, unreadable_revocation_findings, host_entry_findings, revocation_findings, unreadable_host_findings, HostLine, Counts, Form, no_counts, plus, host_counts_with, blind_record, host_entry_record, revoked_record, host_unreadable_record, host_counts_of, host_kept_of, host_line_findings, host_line_record, host_records_of, known_key_reported, HasNoMarkerTab, has_marker_tab}
+use Rattle.ssh_review.proofs.Imports.{◌≡◌, ◌∙◌, ◌++◌, ◌+◌, ◌&&◌, ℕ, Bool, false, List, [], ◌∷◌, map, ap, sym, refl, AllByRecursion, HasNoNewline, lines_of, numbered, lines_of-whole, key_blob, names_text, KnownEntry, known_line, KnownLine, Revoked, RevokedUnreadable, Marker, comment_part, key_text, marker_part, canonical_known_file, known_or_same, known_written, AreGood, IsGood, good, known-kept, marks_authority, Asking, HostFacts, HostFinding, revoking, trusting, has_tab_after_first, revocation_facts_of, unreadable_revocation_findings, host_entry_findings, revocation_findings, unreadable_host_findings, HostLine, Counts, RecordForm, no_counts, plus, host_counts_with, blind_record, host_entry_record, revoked_record, host_unreadable_record, host_counts_of, host_kept_of, host_line_findings, host_line_record, host_records_of, known_key_reported, HasNoMarkerTab, has_marker_tab}
 use Rattle.ssh_entries.specs.declared.known_line.KnownLine.TheVariants.{Blank, Comment}
 use Rattle.ssh_trust.proofs.CandidateLemmas.{AreBytes}
 use Rattle.std.proofs.Common.{append_assoc}
@@ -111,7 +111,7 @@ findings-are asking earlier line (Revoked bytes) = refl
 findings-are asking earlier line RevokedUnreadable = refl
 findings-are asking earlier line (Unreadable cause) = refl
 
-record-by : Form → List ℕ → ℕ → Said → List HostFinding → List ℕ
+record-by : RecordForm → List ℕ → ℕ → Said → List HostFinding → List ℕ
 record-by form name n (Blank, line, tab) found = []
 record-by form name n (Comment, line, tab) found = []
 record-by form name n (Entry e, line, tab) found = host_entry_record form name n (facts-by e tab) found
@@ -119,7 +119,7 @@ record-by form name n (Revoked bytes, line, tab) found = revoked_record form nam
 record-by form name n (RevokedUnreadable, line, tab) found = blind_record form name n (known_key_reported line) found
 record-by form name n (Unreadable cause, line, tab) found = host_unreadable_record form name n (known_key_reported line) found
 
-record-is : (form : Form) (asking : Asking) (name : List ℕ) (earlier : List HostLine) (n : ℕ) (line : List ℕ) (l : KnownLine)
+record-is : (form : RecordForm) (asking : Asking) (name : List ℕ) (earlier : List HostLine) (n : ℕ) (line : List ℕ) (l : KnownLine)
     → host_line_record form asking name earlier n line l ≡ record-by form name n (l, line-on l line, has_marker_tab l line) (host_line_findings asking earlier line l)
 unfolding record-by line-on
 record-is form asking name earlier n line Blank = refl
@@ -147,12 +147,12 @@ kept-is n line (Revoked bytes) = refl
 kept-is n line RevokedUnreadable = refl
 kept-is n line (Unreadable cause) = refl
 
-records-by : Form → Asking → List ℕ → List HostLine → ℕ → List Said → List ℕ
+records-by : RecordForm → Asking → List ℕ → List HostLine → ℕ → List Said → List ℕ
 records-by form asking name earlier n [] = []
 records-by form asking name earlier n (s ∷ more) =
     record-by form name n s (findings-by asking earlier s) ++ records-by form asking name (earlier ++ kept-by n s) (n + 1) more
 
-records-are : (form : Form) (asking : Asking) (name : List ℕ) (earlier : List HostLine) (n : ℕ) (lines : List (List ℕ))
+records-are : (form : RecordForm) (asking : Asking) (name : List ℕ) (earlier : List HostLine) (n : ℕ) (lines : List (List ℕ))
     → host_records_of form asking name earlier (numbered n lines) ≡ records-by form asking name earlier n (map said lines)
 unfolding records-by
 records-are form asking name earlier n [] = refl
@@ -185,7 +185,7 @@ counts-are asking earlier n (line ∷ lines) =
 
 -- ---- the canonical file
 
-pub known_records_alike : (form : Form) (asking : Asking) (name file : List ℕ) → AreBytes file → HasNoMarkerTab file
+pub known_records_alike : (form : RecordForm) (asking : Asking) (name file : List ℕ) → AreBytes file → HasNoMarkerTab file
     → host_records_of form asking name [] (numbered 1 (lines_of (canonical_known_file file))) ≡ host_records_of form asking name [] (numbered 1 (lines_of file))
 known_records_alike form asking name file bytes none =
     records-are form asking name [] 1 (lines_of (canonical_known_file file))

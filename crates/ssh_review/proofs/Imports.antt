@@ -131,6 +131,8 @@ pub use Rattle.ssh_review.specs.declared.end.FileFault.{FileFault}
 pub use Rattle.ssh_review.specs.declared.end.FileFault.TheVariants.{TooLong, Unread}
 pub use Rattle.ssh_review.specs.declared.end.Form.{Form}
 pub use Rattle.ssh_review.specs.declared.end.Form.TheVariants.{Json, Text}
+pub use Rattle.ssh_review.specs.declared.records.RecordForm.{RecordForm}
+pub use Rattle.ssh_review.specs.declared.records.RecordForm.TheVariants.{AsLines, AsRow}
 pub use Rattle.ssh_review.specs.declared.end.Total.{Total}
 pub use Rattle.ssh_rewriting.proofs.FileLemmas.{file-says, AreGood, IsGood, good, KeepsLines}
 pub use Rattle.ssh_rewriting.proofs.HashedFactsLemmas.{hashed-says}

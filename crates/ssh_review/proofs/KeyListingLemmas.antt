@@ -1,5 +1,5 @@
 -- The review for one key prints the records of exactly the lines that hold it.
-use Rattle.ssh_review.proofs.Imports.{◌≡◌, ◌∙◌, ◌+◌, ◌-◌, ◌++◌, ◌||◌, ℕ, zero, suc, Bool, true, false, cond, List, [], ◌∷◌, Some, ap, refl, subst, flat_map, slice_get, bytes_eq-Decides, lines_of, numbered, PublicKey, AuthEntry, auth_line, auth_line-spelled, SpellsEntry, known_line, Signed, LoginClaim, IsGrant, at-place, line-of, Asking, Held, HostLine, Form, held_by_line, host_kept_of, host_line_record, host_records_of, line_record, records_of}
+use Rattle.ssh_review.proofs.Imports.{◌≡◌, ◌∙◌, ◌+◌, ◌-◌, ◌++◌, ◌||◌, ℕ, zero, suc, Bool, true, false, cond, List, [], ◌∷◌, Some, ap, refl, subst, flat_map, slice_get, bytes_eq-Decides, lines_of, numbered, PublicKey, AuthEntry, auth_line, auth_line-spelled, SpellsEntry, known_line, Signed, LoginClaim, IsGrant, at-place, line-of, Asking, Held, HostLine, Form, RecordForm, held_by_line, host_kept_of, host_line_record, host_records_of, line_record, records_of}
 use Rattle.std.specs.Prelude.{◌↔◌}
 use Rattle.std.specs.List.{filter}
 use Rattle.ssh_keys.proofs.Blobs.{one_blob}
@@ -20,13 +20,13 @@ Apart = (ℕ × List ℕ) × List ℕ
 abbrev text_of : Apart → List ℕ
 text_of r = r.1
 
-pub all-records : (form : Form) (asking : Asking) (name : List ℕ) (earlier : List Held) (lines : List (ℕ × List ℕ))
+pub all-records : (form : RecordForm) (asking : Asking) (name : List ℕ) (earlier : List Held) (lines : List (ℕ × List ℕ))
     → records_of form asking name earlier lines ≡ flat_map text_of (records_apart form asking name earlier lines)
 all-records form asking name earlier [] = refl
 all-records form asking name earlier (line ∷ lines) =
     ap (λ rest. line_record form asking name earlier line (auth_line line.1) ++ rest) (all-records form asking name (earlier ++ held_by_line asking (line.0, auth_line line.1)) lines)
 
-pub all-host-records : (form : Form) (asking : Asking) (name : List ℕ) (earlier : List HostLine) (lines : List (ℕ × List ℕ))
+pub all-host-records : (form : RecordForm) (asking : Asking) (name : List ℕ) (earlier : List HostLine) (lines : List (ℕ × List ℕ))
     → host_records_of form asking name earlier lines ≡ flat_map text_of (host_records_apart form asking name earlier lines)
 all-host-records form asking name earlier [] = refl
 all-host-records form asking name earlier (line ∷ lines) =
@@ -39,7 +39,7 @@ one-more : (b : Bool) (line : ℕ × List ℕ) (reported rest : List ℕ) (kept 
 one-more true line reported rest kept h = ap (λ more. reported ++ more) h
 one-more false line reported rest kept h = h
 
-pub key-records : (fingerprint : List ℕ) (form : Form) (asking : Asking) (name : List ℕ) (earlier : List Held) (lines : List (ℕ × List ℕ))
+pub key-records : (fingerprint : List ℕ) (form : RecordForm) (asking : Asking) (name : List ℕ) (earlier : List Held) (lines : List (ℕ × List ℕ))
     → key_records_of fingerprint form asking name earlier lines
     ≡ flat_map text_of (filter (λ r. holds_key fingerprint (r.0).1 (auth_line (r.0).1)) (records_apart form asking name earlier lines))
 key-records fingerprint form asking name earlier [] = refl
@@ -47,7 +47,7 @@ key-records fingerprint form asking name earlier (line ∷ lines) =
     one-more (holds_key fingerprint line.1 (auth_line line.1)) line (line_record form asking name earlier line (auth_line line.1)) _ _
     (key-records fingerprint form asking name (earlier ++ held_by_line asking (line.0, auth_line line.1)) lines)
 
-pub host-key-records : (fingerprint : List ℕ) (form : Form) (asking : Asking) (name : List ℕ) (earlier : List HostLine) (lines : List (ℕ × List ℕ))
+pub host-key-records : (fingerprint : List ℕ) (form : RecordForm) (asking : Asking) (name : List ℕ) (earlier : List HostLine) (lines : List (ℕ × List ℕ))
     → host_key_records_of fingerprint form asking name earlier lines
     ≡ flat_map text_of (filter (λ r. host_holds_key fingerprint (r.0).1 (known_line (r.0).1)) (host_records_apart form asking name earlier lines))
 host-key-records fingerprint form asking name earlier [] = refl

@@ -43,3 +43,5 @@ pub mod MakingLemmas
 pub mod ShownRecordLemmas
 pub mod KeyReviewLemmas
 pub mod KeyListingLemmas
+pub mod PageRowLemmas
+pub mod PageListingLemmas

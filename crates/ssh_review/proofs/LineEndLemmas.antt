@@ -1,12 +1,12 @@
 -- Records are whole lines: each is nothing, or its last byte is an LF.
-use Rattle.ssh_review.proofs.Imports.{◌≡◌, ◌∙◌, ℕ, ℤ, Bool, true, false, List, [], ◌∷◌, ◌++◌, refl, sym, ap, subst, inl, inr, append_assoc, append-nil, codes, flat_map, Option, Some, None, AuthLine, Blank, Comment, Entry, Unreadable, KnownLine, Revoked, RevokedUnreadable, Asking, Form, Text, Json, Facts, Finding, HostFacts, RevocationFacts, HostFinding, HeldKey, FindingRow, Held, HostLine, Rights, AuthOption, auth_row, host_row, line_record, host_line_record, finding_line, host_finding_line, row_line, rows_end, rows_list, carried_inset, carried_word, place_text, held_words, escaped_text, moment_text}
+use Rattle.ssh_review.proofs.Imports.{◌≡◌, ◌∙◌, ℕ, ℤ, Bool, true, false, List, [], ◌∷◌, ◌++◌, refl, sym, ap, subst, inl, inr, append_assoc, append-nil, codes, flat_map, Option, Some, None, AuthLine, Blank, Comment, Entry, Unreadable, KnownLine, Revoked, RevokedUnreadable, Asking, RecordForm, AsLines, AsRow, Text, Json, Facts, Finding, HostFacts, RevocationFacts, HostFinding, HeldKey, FindingRow, Held, HostLine, Rights, AuthOption, auth_row, host_row, line_record, host_line_record, finding_line, host_finding_line, row_line, rows_end, rows_list, carried_inset, carried_word, place_text, held_words, escaped_text, moment_text}
 use Rattle.std.specs.Prelude.{if◌then◌else◌}
 use Rattle.ssh_entries.specs.declared.known_line.KnownLine.TheVariants as known
 use Rattle.ssh_print.specs.Texts.{text_line, word_line}
 use Rattle.ssh_review.specs.Findings.{finding_head, row_detail, row_sentence}
 use Rattle.ssh_review.specs.HostObjects.{bare_object, host_entry_object, revoked_object}
 use Rattle.ssh_review.specs.HostRecords.{bare_text, host_entry_head, host_entry_text, print_of, revoked_names, revoked_text}
-use Rattle.ssh_review.specs.Making.{AreWholeLines, EndsLine}
+use Rattle.ssh_review.specs.Making.{IsWrittenInLines, AreWholeLines, EndsLine}
 use Rattle.ssh_review.specs.Objects.{entry_object, unreadable_object}
 use Rattle.ssh_review.specs.Records.{entry_head, entry_text, fingerprint_word, flag_line, limit_lines, right_lines, rights_inset, setting_line, unreadable_text, until_line}
 use Rattle.ssh_review.specs.RightsWords.{rights_words}
@@ -143,25 +143,31 @@ bare-object-ends name n is held found = after _ (rows_end host_row found) (rows-
 
 -- ---- records
 
-pub record-lines : (form : Form) (asking : Asking) (name : List ℕ) (held : List Held) (n : ℕ) (line : List ℕ) (said : AuthLine) → AreWholeLines (line_record form asking name held (n, line) said)
-record-lines form asking name held n line Blank = inl refl
-record-lines form asking name held n line Comment = inl refl
-record-lines Text asking name held n line (Entry e) = inr (entry-text-ends name n _ _)
-record-lines Json asking name held n line (Entry e) = inr (entry-object-ends name n _ _ _ _ _)
-record-lines Text asking name held n line (Unreadable cause) = inr (unreadable-text-ends name n _ _)
-record-lines Json asking name held n line (Unreadable cause) = inr (unreadable-object-ends name n _ _)
+pub record-lines : (form : RecordForm) (asking : Asking) (name : List ℕ) (held : List Held) (n : ℕ) (line : List ℕ) (said : AuthLine) → IsWrittenInLines form → AreWholeLines (line_record form asking name held (n, line) said)
+record-lines form asking name held n line Blank lines = inl refl
+record-lines form asking name held n line Comment lines = inl refl
+record-lines (AsLines Text) asking name held n line (Entry e) lines = inr (entry-text-ends name n _ _)
+record-lines (AsLines Json) asking name held n line (Entry e) lines = inr (entry-object-ends name n _ _ _ _ _)
+record-lines (AsLines Text) asking name held n line (Unreadable cause) lines = inr (unreadable-text-ends name n _ _)
+record-lines (AsLines Json) asking name held n line (Unreadable cause) lines = inr (unreadable-object-ends name n _ _)
+record-lines (AsRow file) asking name held n line (Entry e) lines = absurd lines
+record-lines (AsRow file) asking name held n line (Unreadable cause) lines = absurd lines
 
-pub host-record-lines : (form : Form) (asking : Asking) (name : List ℕ) (earlier : List HostLine) (n : ℕ) (line : List ℕ) (said : KnownLine) → AreWholeLines (host_line_record form asking name earlier n line said)
-host-record-lines form asking name earlier n line known.Blank = inl refl
-host-record-lines form asking name earlier n line known.Comment = inl refl
-host-record-lines Text asking name earlier n line (known.Entry e) = inr (host-entry-text-ends name n _ _)
-host-record-lines Json asking name earlier n line (known.Entry e) = inr (host-entry-object-ends name n _ _)
-host-record-lines Text asking name earlier n line (Revoked bytes) = inr (revoked-text-ends name n bytes _ _)
-host-record-lines Json asking name earlier n line (Revoked bytes) = inr (revoked-object-ends name n bytes _ _)
-host-record-lines Text asking name earlier n line RevokedUnreadable = inr (bare-text-ends name n _ _ _)
-host-record-lines Json asking name earlier n line RevokedUnreadable = inr (bare-object-ends name n _ _ _)
-host-record-lines Text asking name earlier n line (known.Unreadable cause) = inr (bare-text-ends name n _ _ _)
-host-record-lines Json asking name earlier n line (known.Unreadable cause) = inr (bare-object-ends name n _ _ _)
+pub host-record-lines : (form : RecordForm) (asking : Asking) (name : List ℕ) (earlier : List HostLine) (n : ℕ) (line : List ℕ) (said : KnownLine) → IsWrittenInLines form → AreWholeLines (host_line_record form asking name earlier n line said)
+host-record-lines form asking name earlier n line known.Blank lines = inl refl
+host-record-lines form asking name earlier n line known.Comment lines = inl refl
+host-record-lines (AsLines Text) asking name earlier n line (known.Entry e) lines = inr (host-entry-text-ends name n _ _)
+host-record-lines (AsLines Json) asking name earlier n line (known.Entry e) lines = inr (host-entry-object-ends name n _ _)
+host-record-lines (AsLines Text) asking name earlier n line (Revoked bytes) lines = inr (revoked-text-ends name n bytes _ _)
+host-record-lines (AsLines Json) asking name earlier n line (Revoked bytes) lines = inr (revoked-object-ends name n bytes _ _)
+host-record-lines (AsLines Text) asking name earlier n line RevokedUnreadable lines = inr (bare-text-ends name n _ _ _)
+host-record-lines (AsLines Json) asking name earlier n line RevokedUnreadable lines = inr (bare-object-ends name n _ _ _)
+host-record-lines (AsLines Text) asking name earlier n line (known.Unreadable cause) lines = inr (bare-text-ends name n _ _ _)
+host-record-lines (AsLines Json) asking name earlier n line (known.Unreadable cause) lines = inr (bare-object-ends name n _ _ _)
+host-record-lines (AsRow file) asking name earlier n line (known.Entry e) lines = absurd lines
+host-record-lines (AsRow file) asking name earlier n line (Revoked bytes) lines = absurd lines
+host-record-lines (AsRow file) asking name earlier n line RevokedUnreadable lines = absurd lines
+host-record-lines (AsRow file) asking name earlier n line (known.Unreadable cause) lines = absurd lines
 
 pub if-lines : (b : Bool) (text : List ℕ) → AreWholeLines text → AreWholeLines (if b then text else [])
 if-lines true text lines = lines

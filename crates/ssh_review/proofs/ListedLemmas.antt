@@ -1,8 +1,8 @@
 -- The records of lines are those of the first lines and then those of the others; and a stored entry is that of a line.
-use Rattle.ssh_review.proofs.Imports.{◌≡◌, ◌∙◌, ◌++◌, ℕ, zero, suc, Bool, true, false, cond, List, [], ◌∷◌, Some, ap, sym, refl, find, slice_get, append-nil, append_assoc, AuthEntry, auth_line, AuthLine, Entry, Unreadable, Asking, Held, held_entry, Form, held_by_line, line_record, records_of, entries_of}
+use Rattle.ssh_review.proofs.Imports.{◌≡◌, ◌∙◌, ◌++◌, ℕ, zero, suc, Bool, true, false, cond, List, [], ◌∷◌, Some, ap, sym, refl, find, slice_get, append-nil, append_assoc, AuthEntry, auth_line, AuthLine, Entry, Unreadable, Asking, Held, held_entry, RecordForm, held_by_line, line_record, records_of, entries_of}
 use Rattle.ssh_entries.specs.declared.auth_line.AuthLine.TheVariants.{Blank, Comment}
 
-pub records_after : (form : Form) (asking : Asking) (name : List ℕ) (earlier : List Held) (first rest : List (ℕ × List ℕ))
+pub records_after : (form : RecordForm) (asking : Asking) (name : List ℕ) (earlier : List Held) (first rest : List (ℕ × List ℕ))
     → records_of form asking name earlier (first ++ rest)
     ≡ records_of form asking name earlier first ++ records_of form asking name (earlier ++ entries_of asking first) rest
 records_after form asking name earlier [] rest = ap (λ e. records_of form asking name e rest) (sym (append-nil earlier))

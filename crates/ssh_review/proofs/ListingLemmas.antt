@@ -1,5 +1,5 @@
 -- A granted login's line is listed, and no other line lets anybody in.
-use Rattle.ssh_review.proofs.Imports.{◌≡◌, ◌∙◌, ◌<◌, ◌+◌, ◌-◌, ◌++◌, ℕ, suc, Bool, true, false, not, cond, List, [], ◌∷◌, Option, Some, None, ap, sym, refl, subst, drop, take, arith, ℤ, pos, find, le_z, AllByRecursion, slice_get, append_assoc, TimeZone, moment_of, moment-only, lines_of, numbered, PublicKey, key_blob, AuthEntry, auth_line, Entry, Unreadable, auth_line-spelled, auth_line-spells, Signed, LoginClaim, Offer, plain, Login, LineCause, Command, ExpiryTime, setting, settings, Rights, command_of, IsUnexpired, login_verdict, Reason, Skips, le_z-decides, Decision, Granted, StandsAt, IsCandidate, IsGrant, line_verdict, at-place, line-bytes, line-of, LoginReading, login_reading, lines_of-are, Asking, Held, is_free, is_of_key, earlier, is_known_past, least_of, named, no_principals, no_sources, sha256, Form, counts_of, held_by_line, line_record, records_of, end_line, HasRecord, IsListed, entries_of}
+use Rattle.ssh_review.proofs.Imports.{◌≡◌, ◌∙◌, ◌<◌, ◌+◌, ◌-◌, ◌++◌, ℕ, suc, Bool, true, false, not, cond, List, [], ◌∷◌, Option, Some, None, ap, sym, refl, subst, drop, take, arith, ℤ, pos, find, le_z, AllByRecursion, slice_get, append_assoc, TimeZone, moment_of, moment-only, lines_of, numbered, PublicKey, key_blob, AuthEntry, auth_line, Entry, Unreadable, auth_line-spelled, auth_line-spells, Signed, LoginClaim, Offer, plain, Login, LineCause, Command, ExpiryTime, setting, settings, Rights, command_of, IsUnexpired, login_verdict, Reason, Skips, le_z-decides, Decision, Granted, StandsAt, IsCandidate, IsGrant, line_verdict, at-place, line-bytes, line-of, LoginReading, login_reading, lines_of-are, Asking, Held, is_free, is_of_key, earlier, is_known_past, least_of, named, no_principals, no_sources, sha256, Form, RecordForm, AsLines, counts_of, held_by_line, line_record, records_of, end_line, HasRecord, IsListed, entries_of}
 use Rattle.ssh_findings.specs.EntryFindings.{moment_asked, names_nobody, permits_bad}
 use Rattle.ssh_findings.specs.declared.facts.Facts.{Facts}
 use Rattle.ssh_review.specs.Lines.{lets_in}
@@ -18,7 +18,7 @@ use Rattle.ssh_review.proofs.ListedLemmas.{found_held, records_after}
 
 -- ---- the record
 
-same-record : (form : Form) (asking : Asking) (name : List ℕ) (earlier : List Held) (n k : ℕ) (line : List ℕ) (e : AuthEntry) → n ≡ 1 + k → auth_line line ≡ Entry e
+same-record : (form : RecordForm) (asking : Asking) (name : List ℕ) (earlier : List Held) (n k : ℕ) (line : List ℕ) (e : AuthEntry) → n ≡ 1 + k → auth_line line ≡ Entry e
     → line_record form asking name earlier (1 + k, line) (auth_line line) ≡ line_record form asking name earlier (n, line) (Entry e)
 same-record form asking name earlier n k line e number spells =
     ap (line_record form asking name earlier (1 + k, line)) spells
@@ -28,10 +28,11 @@ pub joined : (whole before reported after tail : List ℕ) → whole ≡ before 
 joined whole before reported after tail h =
     ap (λ text. text ++ tail) h ∙ (append_assoc before (reported ++ after) tail ∙ ap (λ rest. before ++ rest) (append_assoc reported after tail))
 
-recorded : (form : Form) (asking : Asking) (name file line : List ℕ) (n k : ℕ) (e : AuthEntry) → n ≡ 1 + k → slice_get (lines_of file) k ≡ Some line → auth_line line ≡ Entry e
-    → HasRecord form asking name file (line_record form asking name (entries_of asking (take k (numbered 1 (lines_of file)))) (n, line) (Entry e))
-unfolding whole_review
-recorded form asking name file line n k e number stands spells =
+-- the record of a line stands among those of its file
+pub stands-among : (form : RecordForm) (asking : Asking) (name file line : List ℕ) (n k : ℕ) (e : AuthEntry) → n ≡ 1 + k → slice_get (lines_of file) k ≡ Some line → auth_line line ≡ Entry e
+    → (before : List ℕ) × (after : List ℕ)
+    × (records_of form asking name [] (numbered 1 (lines_of file)) ≡ before ++ (line_record form asking name (entries_of asking (take k (numbered 1 (lines_of file)))) (n, line) (Entry e) ++ after))
+stands-among form asking name file line n k e number stands spells =
     let all = numbered 1 (lines_of file) in
     let before = records_of form asking name [] (take k all) in
     let earlier = entries_of asking (take k all) in
@@ -40,10 +41,19 @@ recorded form asking name file line n k e number stands spells =
     ap (records_of form asking name []) (split_at 1 k (lines_of file) line stands) ∙ records_after form asking name [] (take k all) ((1 + k, line) ∷ drop (suc k) all) in
     let here : records_of form asking name [] all ≡ before ++ (line_record form asking name earlier (n, line) (Entry e) ++ after) =
     parts ∙ ap (λ reported. before ++ (reported ++ after)) (same-record form asking name earlier n k line e number spells) in
+    (before, after, here)
+
+recorded : (form : Form) (asking : Asking) (name file line : List ℕ) (n k : ℕ) (e : AuthEntry) → n ≡ 1 + k → slice_get (lines_of file) k ≡ Some line → auth_line line ≡ Entry e
+    → HasRecord form asking name file (line_record (AsLines form) asking name (entries_of asking (take k (numbered 1 (lines_of file)))) (n, line) (Entry e))
+unfolding whole_review
+recorded form asking name file line n k e number stands spells =
+    let all = numbered 1 (lines_of file) in
+    let among = stands-among (AsLines form) asking name file line n k e number stands spells in
+    let end = end_line form name (counts_of asking [] all) (sha256 file) in
     record {
-      before = before;
-      after = after ++ end_line form name (counts_of asking [] all) (sha256 file);
-      stands = joined (records_of form asking name [] all) before (line_record form asking name earlier (n, line) (Entry e)) after (end_line form name (counts_of asking [] all) (sha256 file)) here;
+      before = among.0;
+      after = among.1 ++ end;
+      stands = joined (records_of (AsLines form) asking name [] all) among.0 (line_record (AsLines form) asking name (entries_of asking (take k all)) (n, line) (Entry e)) among.1 end among.2;
     }
 
 -- ---- no line before it has a free entry of its key

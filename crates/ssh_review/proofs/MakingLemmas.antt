@@ -1,5 +1,5 @@
 -- Records that are made one after the other: what was appended is the front of what was left.
-use Rattle.ssh_review.proofs.Imports.{◌≡◌, ◌∙◌, ℕ, ◌+◌, ◌≤◌, ◌<◌, ◌^◌, Bool, true, false, ◌||◌, List, [], ◌∷◌, ◌++◌, refl, sym, ap, subst, append_assoc, append-nil, add_assoc, arith, file_limit, ltb-true, nat_lt, Asking, Code, Counts, Form, no_counts, plus}
+use Rattle.ssh_review.proofs.Imports.{◌≡◌, ◌∙◌, ℕ, ◌+◌, ◌≤◌, ◌<◌, ◌^◌, Bool, true, false, ◌||◌, List, [], ◌∷◌, ◌++◌, refl, sym, ap, subst, append_assoc, append-nil, add_assoc, arith, file_limit, ltb-true, nat_lt, Asking, Code, Counts, Form, RecordForm, no_counts, plus}
 use Rattle.ssh_review.specs.KeyRecords.{no_key_counts, plus_key, plus_key_within}
 use Rattle.std.proofs.Math.Nat.{min-eq_left}
 use Rattle.ssh_findings.proofs.CodeCountLemmas.{codes-assoc, codes-none, codes-within, none-codes, number-plus}
@@ -8,12 +8,12 @@ use Rattle.ssh_findings.specs.declared.code_counts.CodeCounts.{CodeCounts}
 use Rattle.std.specs.Prelude.{if◌then◌else◌, length, take}
 use Rattle.ssh_review.specs.Counting.{plus_within}
 use Rattle.ssh_review.specs.KeyReviews.{reviewed_by}
-use Rattle.ssh_review.specs.Making.{AreCounts, AreWholeLines, HasLeft, IsAllMade, MakesFront, lines_left}
+use Rattle.ssh_review.specs.Making.{AreCounts, IsWrittenInLines, AreWholeLines, HasLeft, IsAllMade, MakesFront, lines_left}
 use Rattle.ssh_review.specs.declared.key_review.KeyCounts.{KeyCounts}
 use Rattle.ssh_review.specs.declared.records.Records.{Records}
 use Rattle.ssh_review.specs.declared.show.Show.{Show}
 use Rattle.ssh_review.specs.ShownRecords.{is_shown, shown_records}
-use Rattle.ssh_review.specs.ToldLines.{LineTold, line_told, told_counts}
+use Rattle.ssh_review.specs.LineReports.{LineReport, line_report, report_counts}
 use Rattle.std.proofs.Math.Seq.{take-append_seam}
 use Rattle.ssh_review.proofs.LineLemmas.{Within}
 
@@ -132,20 +132,20 @@ lines-left false before own made after is left whole lines = subst AreWholeLines
 -- ---- steps
 
 -- nothing was appended
-pub nothing-made : {S : Type 0} (tells : S → Form → Asking → List ℕ → List ℕ → List (ℕ × List ℕ) → List LineTold → Type 0) (show : Show) (form : Form) (asking : Asking) (name : List ℕ) (r : Records S) (out : List ℕ)
+pub nothing-made : {S : Type 0} (tells : S → RecordForm → Asking → List ℕ → List ℕ → List (ℕ × List ℕ) → List LineReport → Type 0) (show : Show) (form : RecordForm) (asking : Asking) (name : List ℕ) (r : Records S) (out : List ℕ)
     → MakesFront tells show form asking name r r out out
-nothing-made tells show form asking name r out file text all w = (text, w, refl, λ lines. lines)
+nothing-made tells show form asking name r out file text all w = (text, w, refl, λ are lines. lines)
 
 -- one step after another
-pub made-on : {S : Type 0} (tells : S → Form → Asking → List ℕ → List ℕ → List (ℕ × List ℕ) → List LineTold → Type 0) (show : Show) (form : Form) (asking : Asking) (name : List ℕ) (old mid new : Records S) (before between after : List ℕ)
+pub made-on : {S : Type 0} (tells : S → RecordForm → Asking → List ℕ → List ℕ → List (ℕ × List ℕ) → List LineReport → Type 0) (show : Show) (form : RecordForm) (asking : Asking) (name : List ℕ) (old mid new : Records S) (before between after : List ℕ)
     → MakesFront tells show form asking name old mid before between → MakesFront tells show form asking name mid new between after → MakesFront tells show form asking name old new before after
 made-on tells show form asking name old mid new before between after p q file text all w =
     let h = p file text all w in
     let k = q file h.0 all h.1 in
-    (k.0, k.1, k.2 ∙ h.2, λ lines. k.3 (h.3 lines))
+    (k.0, k.1, k.2 ∙ h.2, λ are lines. k.3 are (h.3 are lines))
 
 -- no line was left
-pub none-made : {S : Type 0} (tells : S → Form → Asking → List ℕ → List ℕ → List (ℕ × List ℕ) → List LineTold → Type 0) (show : Show) (form : Form) (asking : Asking) (name : List ℕ) (old new : Records S) (out : List ℕ)
+pub none-made : {S : Type 0} (tells : S → RecordForm → Asking → List ℕ → List ℕ → List (ℕ × List ℕ) → List LineReport → Type 0) (show : Show) (form : RecordForm) (asking : Asking) (name : List ℕ) (old new : Records S) (out : List ℕ)
     → lines_left old ≡ [] → lines_left new ≡ [] → new.earlier ≡ old.earlier → new.reported ≡ old.reported → MakesFront tells show form asking name old new out out
 none-made {S = S} tells show form asking name old new out was is same counted file text all w = (
   text,
@@ -155,68 +155,71 @@ none-made {S = S} tells show form asking name old new out was is same counted fi
         subst (λ (x : S). tells x form asking name file (lines_left new) w.more) (sym same)
         (subst (λ (l : List (ℕ × List ℕ)). tells old.earlier form asking name file l w.more) (was ∙ sym is) w.left);
     are_records = w.are_records;
-    sum = w.sum ∙ ap (λ k. plus_key k (told_counts w.more)) (sym counted);
+    sum = w.sum ∙ ap (λ k. plus_key k (report_counts w.more)) (sym counted);
     fits = w.fits;
   },
   refl,
-  λ lines. lines,
+  λ are lines. lines,
 )
 
 -- the record of one line was, and stays if it is shown
-pub next-made : {S : Type 0} (tells : S → Form → Asking → List ℕ → List ℕ → List (ℕ × List ℕ) → List LineTold → Type 0) (show : Show) (form : Form) (asking : Asking) (name : List ℕ) (old new : Records S) (item : ℕ × List ℕ) (before made after : List ℕ) (reported : KeyCounts)
+pub next-made : {S : Type 0} (tells : S → RecordForm → Asking → List ℕ → List ℕ → List (ℕ × List ℕ) → List LineReport → Type 0) (show : Show) (form : RecordForm) (asking : Asking) (name : List ℕ) (old new : Records S) (item : ℕ × List ℕ) (before made after : List ℕ) (reported : KeyCounts)
     → lines_left old ≡ item ∷ lines_left new
-    → ((file : List ℕ) (lines : List (ℕ × List ℕ)) (told : List LineTold) → tells old.earlier form asking name file (item ∷ lines) told
-    → (own : List ℕ) × (more : List LineTold) × (told ≡ line_told own reported ∷ more) × tells new.earlier form asking name file lines more × (made ≡ before ++ own) × (AreWholeLines before → AreWholeLines made))
+    → ((file : List ℕ) (lines : List (ℕ × List ℕ)) (line_reports : List LineReport) → tells old.earlier form asking name file (item ∷ lines) line_reports
+    → (own : List ℕ) × (more : List LineReport) × (line_reports ≡ line_report own reported ∷ more) × tells new.earlier form asking name file lines more × (made ≡ before ++ own) × (IsWrittenInLines form → AreWholeLines before → AreWholeLines made))
     → (is_shown show reported.counts ≡ true → after ≡ made) → (is_shown show reported.counts ≡ false → after ≡ take (length before) made)
     → new.reported ≡ plus_key_within old.reported reported
     → MakesFront tells show form asking name old new before after
 next-made tells show form asking name old new item before made after reported steps goes kept left adds file text all w =
-    let (own, more, told, tells_more, is, whole) = goes file (lines_left new) w.more (subst (λ (l : List (ℕ × List ℕ)). tells old.earlier form asking name file l w.more) steps w.left) in
-    let sums : all ≡ plus_key old.reported (plus_key reported (told_counts more)) = w.sum ∙ ap (λ (t : List LineTold). plus_key old.reported (told_counts t)) told in
-    let added : new.reported ≡ plus_key old.reported reported = adds ∙ key-within-same old.reported reported (part-fits old.reported reported (told_counts more) all w.fits sums) in
+    let (own, more, line_reports, tells_more, is, whole) = goes file (lines_left new) w.more (subst (λ (l : List (ℕ × List ℕ)). tells old.earlier form asking name file l w.more) steps w.left) in
+    let sums : all ≡ plus_key old.reported (plus_key reported (report_counts more)) = w.sum ∙ ap (λ (t : List LineReport). plus_key old.reported (report_counts t)) line_reports in
+    let added : new.reported ≡ plus_key old.reported reported = adds ∙ key-within-same old.reported reported (part-fits old.reported reported (report_counts more) all w.fits sums) in
     let shown = is_shown show reported.counts in
-    let parts : text ≡ (if shown then own else []) ++ shown_records show more = w.are_records ∙ ap (shown_records show) told in
+    let parts : text ≡ (if shown then own else []) ++ shown_records show more = w.are_records ∙ ap (shown_records show) line_reports in
     let stays : after ≡ before ++ (if shown then own else []) = shown-left shown before own made after is kept left in (
       shown_records show more,
       record {
         more = more;
         left = tells_more;
         are_records = refl;
-        sum = sums ∙ (sym (plus-key-assoc old.reported reported (told_counts more)) ∙ ap (λ k. plus_key k (told_counts more)) (sym added));
+        sum = sums ∙ (sym (plus-key-assoc old.reported reported (report_counts more)) ∙ ap (λ k. plus_key k (report_counts more)) (sym added));
         fits = w.fits;
       },
       ap (λ t. t ++ shown_records show more) stays ∙ (append_assoc before (if shown then own else []) (shown_records show more) ∙ ap (λ t. before ++ t) (sym parts)),
-      lines-left shown before own made after is stays whole,
+      λ are. lines-left shown before own made after is stays (whole are),
     )
 
 -- where no line is left, all is made
-pub all-made : {S : Type 0} (tells : S → Form → Asking → List ℕ → List ℕ → List (ℕ × List ℕ) → List LineTold → Type 0) (show : Show) (form : Form) (asking : Asking) (name : List ℕ) (r : Records S)
-    → ((x : S) (form : Form) (asking : Asking) (name file : List ℕ) (told : List LineTold) → tells x form asking name file [] told → told ≡ [])
+pub all-made : {S : Type 0} (tells : S → RecordForm → Asking → List ℕ → List ℕ → List (ℕ × List ℕ) → List LineReport → Type 0) (show : Show) (form : RecordForm) (asking : Asking) (name : List ℕ) (r : Records S)
+    → ((x : S) (form : RecordForm) (asking : Asking) (name file : List ℕ) (line_reports : List LineReport) → tells x form asking name file [] line_reports → line_reports ≡ [])
     → lines_left r ≡ [] → IsAllMade tells show form asking name r
 all-made tells show form asking name r ends none file text all w =
     let h = ends r.earlier form asking name file w.more (subst (λ (l : List (ℕ × List ℕ)). tells r.earlier form asking name file l w.more) none w.left) in
-    (w.are_records ∙ ap (shown_records show) h, sym (w.sum ∙ (ap (λ (t : List LineTold). plus_key r.reported (told_counts t)) h ∙ plus-key-none r.reported)))
+    (w.are_records ∙ ap (shown_records show) h, sym (w.sum ∙ (ap (λ (t : List LineReport). plus_key r.reported (report_counts t)) h ∙ plus-key-none r.reported)))
 
 -- before the first line
-pub first-left : {S : Type 0} (tells : S → Form → Asking → List ℕ → List ℕ → List (ℕ × List ℕ) → List LineTold → Type 0) (show : Show) (form : Form) (asking : Asking) (name file text : List ℕ) (all : KeyCounts) (earlier : S) (lines : List (ℕ × List ℕ)) (told : List LineTold) (r : Records S)
-    → r.earlier ≡ earlier → lines_left r ≡ lines → r.reported ≡ no_key_counts → AreCounts all.counts → tells earlier form asking name file lines told
-    → text ≡ shown_records show told → all ≡ told_counts told → HasLeft tells show form asking name file text all r
-first-left {S = S} tells show form asking name file text all earlier lines told r same is none fits h are sums = record {
-  more = told;
+pub first-left : {S : Type 0} (tells : S → RecordForm → Asking → List ℕ → List ℕ → List (ℕ × List ℕ) → List LineReport → Type 0) (show : Show) (form : RecordForm) (asking : Asking) (name file text : List ℕ) (all : KeyCounts) (earlier : S) (lines : List (ℕ × List ℕ)) (line_reports : List LineReport) (r : Records S)
+    → r.earlier ≡ earlier → lines_left r ≡ lines → r.reported ≡ no_key_counts → AreCounts all.counts → tells earlier form asking name file lines line_reports
+    → text ≡ shown_records show line_reports → all ≡ report_counts line_reports → HasLeft tells show form asking name file text all r
+first-left {S = S} tells show form asking name file text all earlier lines line_reports r same is none fits h are sums = record {
+  more = line_reports;
   left =
-      subst (λ (x : S). tells x form asking name file (lines_left r) told) (sym same)
-      (subst (λ (l : List (ℕ × List ℕ)). tells earlier form asking name file l told) (sym is) h);
+      subst (λ (x : S). tells x form asking name file (lines_left r) line_reports) (sym same)
+      (subst (λ (l : List (ℕ × List ℕ)). tells earlier form asking name file l line_reports) (sym is) h);
   are_records = are;
-  sum = sums ∙ (none-plus-key (told_counts told) ∙ ap (λ (k : KeyCounts). plus_key k (told_counts told)) (sym none));
+  sum = sums ∙ (none-plus-key (report_counts line_reports) ∙ ap (λ (k : KeyCounts). plus_key k (report_counts line_reports)) (sym none));
   fits = fits;
 }
 
--- all of it, and the end of the file
-pub whole-made : {S : Type 0} (tells : S → Form → Asking → List ℕ → List ℕ → List (ℕ × List ℕ) → List LineTold → Type 0) (show : Show) (form : Form) (asking : Asking) (name file text made : List ℕ) (all : KeyCounts) (old new : Records S)
-    → MakesFront tells show form asking name old new [] made → IsAllMade tells show form asking name new → HasLeft tells show form asking name file text all old
-    → reviewed_by form name file made new.reported ≡ reviewed_by form name file text all
-whole-made tells show form asking name file text made all old new p over w =
+-- all of it was appended
+pub all-appended : {S : Type 0} (tells : S → RecordForm → Asking → List ℕ → List ℕ → List (ℕ × List ℕ) → List LineReport → Type 0) (show : Show) (form : RecordForm) (asking : Asking) (name file text before after : List ℕ) (all : KeyCounts) (old new : Records S)
+    → MakesFront tells show form asking name old new before after → IsAllMade tells show form asking name new → HasLeft tells show form asking name file text all old
+    → (after ≡ before ++ text) × (new.reported ≡ all)
+all-appended tells show form asking name file text before after all old new p over w =
     let h = p file text all w in
     let e = over file h.0 all h.1 in
-    let is : made ≡ text = sym (append-nil made) ∙ (ap (λ l. made ++ l) (sym e.0) ∙ h.2) in
-    ap (λ (t : List ℕ). reviewed_by form name file t new.reported) is ∙ ap (reviewed_by form name file text) e.1
+    (sym (append-nil after) ∙ (ap (λ l. after ++ l) (sym e.0) ∙ h.2), e.1)
+
+-- and the end of the file
+pub whole-made : (form : Form) (name file text made : List ℕ) (all reported : KeyCounts) → made ≡ text → reported ≡ all → reviewed_by form name file made reported ≡ reviewed_by form name file text all
+whole-made form name file text made all reported is counted = ap (λ (t : List ℕ). reviewed_by form name file t reported) is ∙ ap (reviewed_by form name file text) counted

@@ -1,5 +1,5 @@
 -- A review is of printable bytes and LFs, in each form.
-use Rattle.ssh_review.proofs.Imports.{◌≡◌, ◌+◌, ℕ, nat_lt, Bool, true, false, cond, List, [], ◌∷◌, ◌++◌, length, refl, Option, Some, None, codes, option_map, AllByRecursion, TimeZone, file_limit, lines_of, numbered, PublicKey, key_blob, AuthLine, Blank, Comment, Entry, Unreadable, AuthEntry, auth_line, Asking, Held, held_key, AreBytes, AreBytesIfAny, pos, are_printable, Counts, FileFault, TooLong, Total, Form, Text, Json, count_text, counts_text, end_line, file_fault_line, total_line, counts_of, held_by_line, key_reported, line_findings, line_record, records_of, shadow_line, auth_review, fault_review}
+use Rattle.ssh_review.proofs.Imports.{◌≡◌, ◌+◌, ℕ, nat_lt, Bool, true, false, cond, List, [], ◌∷◌, ◌++◌, length, refl, Option, Some, None, codes, option_map, AllByRecursion, TimeZone, file_limit, lines_of, numbered, PublicKey, key_blob, AuthLine, Blank, Comment, Entry, Unreadable, AuthEntry, auth_line, Asking, Held, held_key, AreBytes, AreBytesIfAny, pos, are_printable, Counts, FileFault, TooLong, Total, Form, AsLines, Text, Json, count_text, counts_text, end_line, file_fault_line, total_line, counts_of, held_by_line, key_reported, line_findings, line_record, records_of, shadow_line, auth_review, fault_review}
 use Rattle.sha2.specs.Sha256.{sha256}
 use Rattle.ssh_keys.specs.Fingerprint.{digest_text_of, fingerprint_of}
 use Rattle.ssh_findings.specs.Facts.{facts_of}
@@ -34,7 +34,7 @@ held-printable None = tt
 held-printable (Some key) = fingerprint-printable key
 
 record-by : (form : Form) (asking : Asking) (name : List ℕ) (earlier : List Held) (n : ℕ) (line : List ℕ) (said : AuthLine)
-    → AreBytes name → AreBytes line → auth_line line ≡ said → AreShown (line_record form asking name earlier (n, line) said)
+    → AreBytes name → AreBytes line → auth_line line ≡ said → AreShown (line_record (AsLines form) asking name earlier (n, line) said)
 record-by form asking name earlier n line Blank h k is = show [] refl
 record-by form asking name earlier n line Comment h k is = show [] refl
 record-by Text asking name earlier n line (Entry e) h k is =
@@ -48,7 +48,7 @@ record-by Json asking name earlier n line (Unreadable cause) h k is =
     from-line (unreadable-line name n (key_reported line) (line_findings asking earlier (Unreadable cause)) h (held-bytes (held_key line)))
 
 records-shown : (form : Form) (asking : Asking) (name : List ℕ) (earlier : List Held) (n : ℕ) (lines : List (List ℕ))
-    → AreBytes name → AllByRecursion AreBytes lines → AreShown (records_of form asking name earlier (numbered n lines))
+    → AreBytes name → AllByRecursion AreBytes lines → AreShown (records_of (AsLines form) asking name earlier (numbered n lines))
 records-shown form asking name earlier n [] h k = show [] refl
 records-shown form asking name earlier n (line ∷ lines) h k =
     add (record-by form asking name earlier n line (auth_line line) h k.0 refl)
@@ -88,11 +88,10 @@ asked-words-printable a h = join (join (word (codes "asked at ") refl) (moment-p
 
 pub total-shown : (form : Form) (kind zone : List ℕ) (asking : Asking) (t : Total) → AreBytes kind → AreBytes zone → AreShown (total_line form kind zone asking t)
 total-shown Text kind zone asking t h k =
-    let start = add (found-shown t.counts.by_code) (seen (word (codes "total: ") refl)) in
-    let files = add start (seen (count-printable t.files (codes " files, ") refl)) in
-    let faults = add files (seen (count-printable t.faults (codes " faults, ") refl)) in
-    let counted = add (add faults (seen (counts-printable t.counts))) (seen (word (codes ", ") refl)) in
-    add (add counted (seen (asked-words-printable (asked_by zone asking) k))) (show (codes "\n") refl)
+    let files = join (word (codes "total: ") refl) (count-printable t.files (codes " files, ") refl) in
+    let faults = join files (count-printable t.faults (codes " faults, ") refl) in
+    let counted = join (join faults (counts-printable t.counts)) (word (codes ", ") refl) in
+    add (add (found-shown t.counts.by_code) (seen (join counted (asked-words-printable (asked_by zone asking) k)))) (show (codes "\n") refl)
 total-shown Json kind zone asking t h k = from-line (total-line kind zone asking t h k)
 
 -- ---- reviews

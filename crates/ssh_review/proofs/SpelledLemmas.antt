@@ -1,5 +1,5 @@
 -- The review of a file depends on what its lines are read as, so that of its canonical file is the same.
-use Rattle.ssh_review.proofs.Imports.{◌≡◌, ◌∙◌, ◌++◌, ◌+◌, ℕ, List, [], ◌∷◌, Option, None, map, ap, sym, refl, option_map, lines_of, numbered, PublicKey, auth_line, AuthLine, Entry, Unreadable, auth_or_same, auth_written, canonical_auth_file, KeepsLines, file-says, auth-kept, Asking, Held, held_key, Counts, Form, no_counts, plus, unreadable_record, counts_of, held_by_line, line_counts, line_findings, line_record, records_of}
+use Rattle.ssh_review.proofs.Imports.{◌≡◌, ◌∙◌, ◌++◌, ◌+◌, ℕ, List, [], ◌∷◌, Option, None, map, ap, sym, refl, option_map, lines_of, numbered, PublicKey, auth_line, AuthLine, Entry, Unreadable, auth_or_same, auth_written, canonical_auth_file, KeepsLines, file-says, auth-kept, Asking, Held, held_key, Counts, RecordForm, no_counts, plus, unreadable_record, counts_of, held_by_line, line_counts, line_findings, line_record, records_of}
 use Rattle.ssh_trust.proofs.CandidateLemmas.{AreBytes}
 use Rattle.ssh_entries.specs.declared.auth_line.AuthLine.TheVariants.{Blank, Comment}
 use Rattle.ssh_findings.specs.HeldKey.{held_of as reported_of}
@@ -36,14 +36,14 @@ said-kept line g =
 
 -- ---- records and counts, by what lines are read as
 
-record-by : Form → Asking → List ℕ → List Held → ℕ → Said → List ℕ
+record-by : RecordForm → Asking → List ℕ → List Held → ℕ → Said → List ℕ
 record-by form asking name earlier n (Blank, key) = []
 record-by form asking name earlier n (Comment, key) = []
 record-by form asking name earlier n (Entry e, key) = line_record form asking name earlier (n, []) (Entry e)
 record-by form asking name earlier n (Unreadable cause, key) =
     unreadable_record form name n (option_map reported_of key) (line_findings asking earlier (Unreadable cause))
 
-record-is : (form : Form) (asking : Asking) (name : List ℕ) (earlier : List Held) (n : ℕ) (line : List ℕ) (l : AuthLine)
+record-is : (form : RecordForm) (asking : Asking) (name : List ℕ) (earlier : List Held) (n : ℕ) (line : List ℕ) (l : AuthLine)
     → line_record form asking name earlier (n, line) l ≡ record-by form asking name earlier n (l, key-on l line)
 unfolding record-by key-on
 record-is form asking name earlier n line Blank = refl
@@ -51,12 +51,12 @@ record-is form asking name earlier n line Comment = refl
 record-is form asking name earlier n line (Entry e) = refl
 record-is form asking name earlier n line (Unreadable cause) = refl
 
-records-by : Form → Asking → List ℕ → List Held → ℕ → List Said → List ℕ
+records-by : RecordForm → Asking → List ℕ → List Held → ℕ → List Said → List ℕ
 records-by form asking name earlier n [] = []
 records-by form asking name earlier n (s ∷ more) =
     record-by form asking name earlier n s ++ records-by form asking name (earlier ++ held_by_line asking (n, s.0)) (n + 1) more
 
-records-are : (form : Form) (asking : Asking) (name : List ℕ) (earlier : List Held) (n : ℕ) (lines : List (List ℕ))
+records-are : (form : RecordForm) (asking : Asking) (name : List ℕ) (earlier : List Held) (n : ℕ) (lines : List (List ℕ))
     → records_of form asking name earlier (numbered n lines) ≡ records-by form asking name earlier n (map said lines)
 unfolding records-by
 records-are form asking name earlier n [] = refl
@@ -81,7 +81,7 @@ counts-are asking earlier n (line ∷ lines) =
 all-said : (file : List ℕ) → AreBytes file → map said (lines_of (canonical_auth_file file)) ≡ map said (lines_of file)
 all-said file bytes = file-says said auth_written said-kept file bytes
 
-pub records_alike : (form : Form) (asking : Asking) (name file : List ℕ) → AreBytes file
+pub records_alike : (form : RecordForm) (asking : Asking) (name file : List ℕ) → AreBytes file
     → records_of form asking name [] (numbered 1 (lines_of (canonical_auth_file file))) ≡ records_of form asking name [] (numbered 1 (lines_of file))
 records_alike form asking name file bytes =
     records-are form asking name [] 1 (lines_of (canonical_auth_file file))

@@ -35,8 +35,12 @@ fault_text name fault = escaped_text name ++ codes ": fault " ++ fault_code faul
 abbrev pub asked_by : List ℕ → Asking → Asked
 asked_by zone asking = record { now = asking.now; zone = Some zone }
 
--- how often each code was found in all files, then their total, and when it was asked
+-- the total of all files in words, and when it was asked
+abbrev pub total_words : List ℕ → Asking → Total → List ℕ
+total_words zone asking t =
+    codes "total: " ++ count_text t.files (codes " files, ") ++ count_text t.faults (codes " faults, ")
+    ++ counts_text t.counts ++ codes ", " ++ asked_words (asked_by zone asking)
+
+-- how often each code was found in all files, and the line of their total
 abbrev pub total_text : List ℕ → Asking → Total → List ℕ
-total_text zone asking t =
-    found_lines t.counts.by_code ++ codes "total: " ++ count_text t.files (codes " files, ") ++ count_text t.faults (codes " faults, ")
-    ++ counts_text t.counts ++ codes ", " ++ asked_words (asked_by zone asking) ++ codes "\n"
+total_text zone asking t = found_lines t.counts.by_code ++ total_words zone asking t ++ codes "\n"

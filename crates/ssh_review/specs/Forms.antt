@@ -1,15 +1,20 @@
--- The records, the ends and the total of a review in each output format (this project's rule).
+-- The records, the ends and the total of a review in each output format, and the records as rows of the page (this project's rule).
 use Rattle.std.specs.Prelude.{ℕ, Bool, List, Option}
 use Rattle.ssh_options.specs.AuthOption.{AuthOption}
 use Rattle.ssh_findings.specs.declared.facts.Facts.{Facts}
 use Rattle.ssh_findings.specs.declared.finding.Finding.{Finding}
 use Rattle.ssh_findings.specs.declared.recovered_key.HeldKey.{HeldKey}
+use Rattle.ssh_page.specs.Documents.{marks}
+use Rattle.ssh_page.specs.Records.{entry_row, unreadable_row}
 use Rattle.ssh_review.specs.Objects.{entry_object, unreadable_object}
 use Rattle.ssh_review.specs.declared.end.Counts.{Counts}
 use Rattle.ssh_review.specs.declared.end.FileFault.{FileFault}
 use Rattle.ssh_review.specs.declared.end.Total.{Total}
 use Rattle.ssh_review.specs.declared.end.Form.{Form}
 use Rattle.ssh_review.specs.declared.end.Form.TheVariants.{Text, Json}
+use Rattle.ssh_review.specs.declared.records.RecordForm.{RecordForm}
+use Rattle.ssh_review.specs.declared.records.RecordForm.TheVariants.{AsLines, AsRow}
+use Rattle.ssh_review.specs.RowPlaces.{row_place}
 use Rattle.ssh_review.specs.Records.{entry_text, unreadable_text}
 use Rattle.ssh_findings.specs.Asking.{Asking}
 use Rattle.ssh_review.specs.Ends.{end_text, fault_text, total_text}
@@ -17,14 +22,16 @@ use Rattle.ssh_review.specs.EndObjects.{end_object, fault_object, total_object}
 
 -- The record of an entry with these options, with the line that lets its key in first, if there is one, whether this one
 -- may let it in, and the reported findings.
-abbrev pub entry_record : Form → List ℕ → ℕ → Facts → List AuthOption → Option ℕ → Bool → List Finding → List ℕ
-entry_record Text name n f options shadowed_by lets_in found = entry_text name n f found
-entry_record Json name n f options shadowed_by lets_in found = entry_object name n f options shadowed_by lets_in found
+abbrev pub entry_record : RecordForm → List ℕ → ℕ → Facts → List AuthOption → Option ℕ → Bool → List Finding → List ℕ
+entry_record (AsLines Text) name n f options shadowed_by lets_in found = entry_text name n f found
+entry_record (AsLines Json) name n f options shadowed_by lets_in found = entry_object name n f options shadowed_by lets_in found
+entry_record (AsRow file) name n f options shadowed_by lets_in found = marks (entry_row (row_place file n) f found)
 
 -- the record of a line that cannot be read, with its recovered key (the key that OpenSSH reads there), if there is one
-abbrev pub unreadable_record : Form → List ℕ → ℕ → Option HeldKey → List Finding → List ℕ
-unreadable_record Text name n held found = unreadable_text name n held found
-unreadable_record Json name n held found = unreadable_object name n held found
+abbrev pub unreadable_record : RecordForm → List ℕ → ℕ → Option HeldKey → List Finding → List ℕ
+unreadable_record (AsLines Text) name n held found = unreadable_text name n held found
+unreadable_record (AsLines Json) name n held found = unreadable_object name n held found
+unreadable_record (AsRow file) name n held found = marks (unreadable_row (row_place file n) held found)
 
 -- the end of a file, with the SHA-256 of its bytes
 abbrev pub end_line : Form → List ℕ → Counts → List ℕ → List ℕ

@@ -6,7 +6,7 @@ use Rattle.ssh_entries.specs.declared.known_line.KnownLine.TheVariants.{Blank, C
 use Rattle.ssh_entries.specs.KnownGrammar.{known_line}
 use Rattle.ssh_findings.specs.Asking.{Asking}
 use Rattle.ssh_findings.specs.HostLines.{HostLine}
-use Rattle.ssh_review.specs.declared.end.Form.{Form}
+use Rattle.ssh_review.specs.declared.records.RecordForm.{RecordForm}
 use Rattle.ssh_review.specs.declared.key_review.KeyCounts.{KeyCounts}
 use Rattle.ssh_review.specs.Counting.{line_alone}
 use Rattle.ssh_review.specs.HostLines.{host_kept_of, host_line_counts, host_line_record, known_key_reported}
@@ -24,12 +24,12 @@ host_holds_key fingerprint line RevokedUnreadable = recovers_key fingerprint (kn
 host_holds_key fingerprint line (Unreadable cause) = recovers_key fingerprint (known_key_reported line)
 
 -- the record of a line that holds the key, as the whole review prints it; no other line has one
-abbrev pub host_key_record : List ℕ → Form → Asking → List ℕ → List HostLine → ℕ → List ℕ → KnownLine → List ℕ
+abbrev pub host_key_record : List ℕ → RecordForm → Asking → List ℕ → List HostLine → ℕ → List ℕ → KnownLine → List ℕ
 host_key_record fingerprint form asking name earlier n line said =
     if host_holds_key fingerprint line said then host_line_record form asking name earlier n line said else []
 
 -- the records of the lines that hold the key, after these lines
-abbrev pub host_key_records_of : List ℕ → Form → Asking → List ℕ → List HostLine → List (ℕ × List ℕ) → List ℕ
+abbrev pub host_key_records_of : List ℕ → RecordForm → Asking → List ℕ → List HostLine → List (ℕ × List ℕ) → List ℕ
 host_key_records_of fingerprint form asking name earlier [] = []
 host_key_records_of fingerprint form asking name earlier (line ∷ lines) =
     host_key_record fingerprint form asking name earlier line.0 line.1 (known_line line.1)

@@ -14,7 +14,7 @@ use Rattle.ssh_findings.specs.RevocationFacts.{revocation_facts_of}
 use Rattle.ssh_findings.specs.HostFindings.{unreadable_revocation_findings, host_entry_findings, revocation_findings, unreadable_host_findings}
 use Rattle.ssh_findings.specs.HostLines.{HostLine}
 use Rattle.ssh_review.specs.declared.end.Counts.{Counts}
-use Rattle.ssh_review.specs.declared.end.Form.{Form}
+use Rattle.ssh_review.specs.declared.records.RecordForm.{RecordForm}
 use Rattle.ssh_review.specs.Counting.{no_counts, plus}
 use Rattle.ssh_review.specs.HostCounting.{host_counts_with}
 use Rattle.ssh_review.specs.HostForms.{blind_record, host_entry_record, revoked_record, host_unreadable_record}
@@ -34,7 +34,7 @@ abbrev pub known_key_reported : List ℕ → Option HeldKey
 known_key_reported line = option_map reported_of (known_held_key line)
 
 -- The record of a line with this reading (an entry, for example), and its number. Blank lines and comments have none.
-abbrev pub host_line_record : Form → Asking → List ℕ → List HostLine → ℕ → List ℕ → KnownLine → List ℕ
+abbrev pub host_line_record : RecordForm → Asking → List ℕ → List HostLine → ℕ → List ℕ → KnownLine → List ℕ
 host_line_record form asking name earlier n line Blank = []
 host_line_record form asking name earlier n line Comment = []
 host_line_record form asking name earlier n line (Entry entry) =
@@ -64,7 +64,7 @@ host_kept_lines [] = []
 host_kept_lines (line ∷ lines) = host_kept_of line.0 line.1 (known_line line.1) ++ host_kept_lines lines
 
 -- the records of lines, each with its number, after these lines
-abbrev pub host_records_of : Form → Asking → List ℕ → List HostLine → List (ℕ × List ℕ) → List ℕ
+abbrev pub host_records_of : RecordForm → Asking → List ℕ → List HostLine → List (ℕ × List ℕ) → List ℕ
 host_records_of form asking name earlier [] = []
 host_records_of form asking name earlier (line ∷ lines) =
     host_line_record form asking name earlier line.0 line.1 (known_line line.1)

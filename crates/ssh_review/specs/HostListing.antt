@@ -14,6 +14,7 @@ use Rattle.ssh_findings.specs.HostLines.{HostLine}
 use Rattle.ssh_review.specs.HostLines.{host_kept_of, host_line_record}
 use Rattle.ssh_review.specs.HostReviews.{host_whole_review}
 use Rattle.ssh_review.specs.declared.end.Form.{Form}
+use Rattle.ssh_review.specs.declared.records.RecordForm.TheVariants.{AsLines}
 
 -- the facts of these lines, each with its number, that later lines need
 abbrev pub lines_kept : List (ℕ × List ℕ) → List HostLine
@@ -32,7 +33,7 @@ pub record IsHostListed (form : Form) (asking : Asking) (name file : List ℕ) (
   pub before : List ℕ
   pub after : List ℕ
   -- it has a record, of its entry
-  pub recorded : (host_whole_review form asking name file).text ≡ before ++ (host_line_record form asking name (kept_before file n) n line (Entry entry) ++ after)
+  pub recorded : (host_whole_review form asking name file).text ≡ before ++ (host_line_record (AsLines form) asking name (kept_before file n) n line (Entry entry) ++ after)
   -- it does not have F12,
   pub unrevoked : revoking_line (kept_before file n) (key_blob entry.key) ≡ None
   -- no revocation of the file has F12 for this key,

@@ -5,6 +5,7 @@ use Rattle.ssh_text.specs.Text.{file_limit, lines_of, numbered}
 use Rattle.ssh_findings.specs.Asking.{Asking}
 use Rattle.ssh_review.specs.declared.end.FileFault.TheVariants.{TooLong}
 use Rattle.ssh_review.specs.declared.end.Form.{Form}
+use Rattle.ssh_review.specs.declared.records.RecordForm.TheVariants.{AsLines}
 use Rattle.ssh_review.specs.Forms.{end_line}
 use Rattle.ssh_review.specs.Reviews.{Review, fault_review}
 use Rattle.ssh_review.specs.HostLines.{host_counts_of, host_records_of}
@@ -12,7 +13,7 @@ use Rattle.ssh_review.specs.HostLines.{host_counts_of, host_records_of}
 -- the records of the lines of a file, and its end
 unfoldable pub host_whole_review : Form → Asking → List ℕ → List ℕ → Review
 host_whole_review form asking name file = record {
-  text = host_records_of form asking name [] (numbered 1 (lines_of file))
+  text = host_records_of (AsLines form) asking name [] (numbered 1 (lines_of file))
       ++ end_line form name (host_counts_of asking [] (numbered 1 (lines_of file))) (sha256 file);
   counts = host_counts_of asking [] (numbered 1 (lines_of file));
   fault = None;

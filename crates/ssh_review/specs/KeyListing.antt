@@ -7,7 +7,7 @@ use Rattle.ssh_trust.specs.FileLines.{StandsAt}
 use Rattle.ssh_findings.specs.Asking.{Asking}
 use Rattle.ssh_findings.specs.Earlier.{Held}
 use Rattle.ssh_findings.specs.HostLines.{HostLine}
-use Rattle.ssh_review.specs.declared.end.Form.{Form}
+use Rattle.ssh_review.specs.declared.records.RecordForm.{RecordForm}
 use Rattle.ssh_review.specs.HostKeyRecords.{host_holds_key}
 use Rattle.ssh_review.specs.HostLines.{host_kept_of, host_line_record}
 use Rattle.ssh_review.specs.KeyRecords.{holds_key}
@@ -33,14 +33,14 @@ HostStandsNowhere fingerprint file = (n : ℕ) (line : List ℕ) → StandsAt fi
 -- ---- records
 
 -- each line with its number, and what the whole review prints of it, after the lines of these entries
-abbrev pub records_apart : Form → Asking → List ℕ → List Held → List (ℕ × List ℕ) → List ((ℕ × List ℕ) × List ℕ)
+abbrev pub records_apart : RecordForm → Asking → List ℕ → List Held → List (ℕ × List ℕ) → List ((ℕ × List ℕ) × List ℕ)
 records_apart form asking name earlier [] = []
 records_apart form asking name earlier (line ∷ lines) =
     (line, line_record form asking name earlier line (auth_line line.1))
     ∷ records_apart form asking name (earlier ++ held_by_line asking (line.0, auth_line line.1)) lines
 
 -- the same of a known_hosts file, after these lines
-abbrev pub host_records_apart : Form → Asking → List ℕ → List HostLine → List (ℕ × List ℕ) → List ((ℕ × List ℕ) × List ℕ)
+abbrev pub host_records_apart : RecordForm → Asking → List ℕ → List HostLine → List (ℕ × List ℕ) → List ((ℕ × List ℕ) × List ℕ)
 host_records_apart form asking name earlier [] = []
 host_records_apart form asking name earlier (line ∷ lines) =
     (line, host_line_record form asking name earlier line.0 line.1 (known_line line.1))

@@ -10,7 +10,7 @@ use Rattle.ssh_findings.specs.Asking.{Asking}
 use Rattle.ssh_findings.specs.Earlier.{Held}
 use Rattle.ssh_findings.specs.declared.recovered_key.HeldKey.{HeldKey}
 use Rattle.ssh_findings.specs.KeyRead.{key_read}
-use Rattle.ssh_review.specs.declared.end.Form.{Form}
+use Rattle.ssh_review.specs.declared.records.RecordForm.{RecordForm}
 use Rattle.ssh_review.specs.declared.key_review.KeyCounts.{KeyCounts}
 use Rattle.ssh_review.specs.Counting.{line_alone, no_counts, plus, plus_within}
 use Rattle.ssh_review.specs.Lines.{held_by_line, key_reported, line_counts, line_record}
@@ -36,12 +36,12 @@ holds_key fingerprint line (Unreadable cause) = recovers_key fingerprint (key_re
 -- ---- the records
 
 -- the record of a line that holds the key, as the whole review prints it; no other line has one
-abbrev pub key_record : List ℕ → Form → Asking → List ℕ → List Held → ℕ × List ℕ → AuthLine → List ℕ
+abbrev pub key_record : List ℕ → RecordForm → Asking → List ℕ → List Held → ℕ × List ℕ → AuthLine → List ℕ
 key_record fingerprint form asking name earlier line said =
     if holds_key fingerprint line.1 said then line_record form asking name earlier line said else []
 
 -- the records of the lines that hold the key, after the lines of these entries
-abbrev pub key_records_of : List ℕ → Form → Asking → List ℕ → List Held → List (ℕ × List ℕ) → List ℕ
+abbrev pub key_records_of : List ℕ → RecordForm → Asking → List ℕ → List Held → List (ℕ × List ℕ) → List ℕ
 key_records_of fingerprint form asking name earlier [] = []
 key_records_of fingerprint form asking name earlier (line ∷ lines) =
     key_record fingerprint form asking name earlier line (auth_line line.1)

@@ -7,6 +7,7 @@ use Rattle.ssh_findings.specs.Asking.{Asking}
 use Rattle.ssh_review.specs.declared.end.FileFault.{FileFault}
 use Rattle.ssh_review.specs.declared.end.FileFault.TheVariants.{TooLong}
 use Rattle.ssh_review.specs.declared.end.Form.{Form}
+use Rattle.ssh_review.specs.declared.records.RecordForm.TheVariants.{AsLines}
 use Rattle.ssh_review.specs.declared.key_review.KeyCounts.{KeyCounts}
 use Rattle.ssh_review.specs.declared.key_review.KeyReviewed.{KeyReviewed}
 use Rattle.ssh_review.specs.Forms.{end_line}
@@ -32,13 +33,13 @@ reviewed_by form name file records reported = record {
 -- the review of an authorized_keys file within the limit for the key with this fingerprint
 unfoldable pub whole_key_review : List ℕ → Form → Asking → List ℕ → List ℕ → KeyReview
 whole_key_review fingerprint form asking name file =
-    reviewed_by form name file (key_records_of fingerprint form asking name [] (numbered 1 (lines_of file)))
+    reviewed_by form name file (key_records_of fingerprint (AsLines form) asking name [] (numbered 1 (lines_of file)))
     (key_counts_of fingerprint asking [] (numbered 1 (lines_of file)))
 
 -- the same of a known_hosts file
 unfoldable pub host_whole_key_review : List ℕ → Form → Asking → List ℕ → List ℕ → KeyReview
 host_whole_key_review fingerprint form asking name file =
-    reviewed_by form name file (host_key_records_of fingerprint form asking name [] (numbered 1 (lines_of file)))
+    reviewed_by form name file (host_key_records_of fingerprint (AsLines form) asking name [] (numbered 1 (lines_of file)))
     (host_key_counts_of fingerprint asking [] (numbered 1 (lines_of file)))
 
 -- Of a file with a fault only the end with the fault is printed: no key is said to stand there.

@@ -3,6 +3,7 @@ pub mod Records
 pub mod Ends
 pub mod FaultCounts
 pub mod EndObjects
+pub mod RowPlaces
 pub mod Forms
 pub mod Lines
 pub mod Memory
@@ -34,6 +35,10 @@ pub mod KeyRecords
 pub mod HostKeyRecords
 pub mod KeyReviews
 pub mod KeyListing
-pub mod ToldLines
+pub mod LineReports
 pub mod ShownRecords
 pub mod Making
+pub mod Rows
+pub mod HostRows
+pub mod PageFiles
+pub mod PageListing

@@ -5,7 +5,7 @@ use Rattle.ssh_entries.specs.declared.auth_line.AuthLine.TheVariants.{Blank, Com
 use Rattle.ssh_entries.specs.AuthEntry.{AuthEntry}
 use Rattle.ssh_entries.specs.AuthGrammar.{auth_line}
 use Rattle.ssh_review.specs.declared.end.Counts.{Counts}
-use Rattle.ssh_review.specs.declared.end.Form.{Form}
+use Rattle.ssh_review.specs.declared.records.RecordForm.{RecordForm}
 use Rattle.ssh_findings.specs.declared.finding.Finding.{Finding}
 use Rattle.ssh_keys.specs.PublicKey.{key_blob}
 use Rattle.ssh_findings.specs.Asking.{Asking}
@@ -38,7 +38,7 @@ abbrev pub key_reported : List ℕ → Option HeldKey
 key_reported line = option_map reported_of (held_key line)
 
 -- The record of a line with this reading (an entry, for example), and its number. Blank lines and comments have none.
-abbrev pub line_record : Form → Asking → List ℕ → List Held → ℕ × List ℕ → AuthLine → List ℕ
+abbrev pub line_record : RecordForm → Asking → List ℕ → List Held → ℕ × List ℕ → AuthLine → List ℕ
 line_record form asking name earlier (n, line) Blank = []
 line_record form asking name earlier (n, line) Comment = []
 line_record form asking name earlier (n, line) (Entry entry) =
@@ -63,7 +63,7 @@ held_lines asking [] = []
 held_lines asking (line ∷ lines) = held_by_line asking (line.0, auth_line line.1) ++ held_lines asking lines
 
 -- the records of lines, each with its number, after the lines of these entries
-abbrev pub records_of : Form → Asking → List ℕ → List Held → List (ℕ × List ℕ) → List ℕ
+abbrev pub records_of : RecordForm → Asking → List ℕ → List Held → List (ℕ × List ℕ) → List ℕ
 records_of form asking name earlier [] = []
 records_of form asking name earlier (line ∷ lines) =
     line_record form asking name earlier line (auth_line line.1)

@@ -18,6 +18,7 @@ use Rattle.ssh_findings.specs.EntryFindings.{names_nobody, permits_bad}
 use Rattle.ssh_findings.specs.Facts.{facts_of}
 use Rattle.ssh_findings.specs.Moments.{is_known_past}
 use Rattle.ssh_review.specs.declared.end.Form.{Form}
+use Rattle.ssh_review.specs.declared.records.RecordForm.TheVariants.{AsLines}
 use Rattle.ssh_review.specs.Lines.{held_by_line, lets_in, line_record}
 use Rattle.ssh_review.specs.Reviews.{whole_review}
 
@@ -42,7 +43,7 @@ pub record IsListed (form : Form) (asking : Asking) (name file : List ℕ) (clai
   pub entry : AuthEntry
   pub spells : auth_line line ≡ Entry entry
   -- it has a record, of its entry
-  pub recorded : HasRecord form asking name file (line_record form asking name (entries_before asking file n) (n, line) (Entry entry))
+  pub recorded : HasRecord form asking name file (line_record (AsLines form) asking name (entries_before asking file n) (n, line) (Entry entry))
   -- no earlier line shadows it, so none lets its key in first
   pub unshadowed : shadow (entries_before asking file n) (key_blob entry.key) (facts_of asking.zone entry) ≡ None
   -- its from= and principals= lists each permit somebody

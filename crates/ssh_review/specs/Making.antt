@@ -13,9 +13,10 @@ use Rattle.ssh_findings.specs.declared.code.Code.{Code}
 use Rattle.ssh_findings.specs.declared.earlier.Earlier.{Earlier}
 use Rattle.ssh_findings.specs.declared.host_earlier.EarlierHosts.{EarlierHosts}
 use Rattle.ssh_review.specs.declared.end.Counts.{Counts}
-use Rattle.ssh_review.specs.declared.end.Form.{Form}
 use Rattle.ssh_review.specs.declared.key_review.KeyCounts.{KeyCounts}
 use Rattle.ssh_review.specs.declared.records.ForKey.{ForKey}
+use Rattle.ssh_review.specs.declared.records.RecordForm.{RecordForm}
+use Rattle.ssh_review.specs.declared.records.RecordForm.TheVariants.{AsLines, AsRow}
 use Rattle.ssh_review.specs.declared.records.Records.{Records}
 use Rattle.ssh_review.specs.declared.show.Show.{Show}
 use Rattle.ssh_review.specs.HostLines.{host_kept_lines}
@@ -24,7 +25,7 @@ use Rattle.ssh_review.specs.KeyRecords.{plus_key}
 use Rattle.ssh_review.specs.Lines.{counts_of, held_lines}
 use Rattle.ssh_review.specs.Memory.{lines_bytes}
 use Rattle.ssh_review.specs.ShownRecords.{shown_records}
-use Rattle.ssh_review.specs.ToldLines.{LineTold, host_key_lines_told, host_lines_told, key_lines_told, lines_told, told_counts}
+use Rattle.ssh_review.specs.LineReports.{LineReport, host_key_line_reports_of, host_line_reports_of, key_line_reports_of, line_reports_of, report_counts}
 
 -- each count fits into 64 bits
 pub record AreCounts (counts : Counts) : Type 0 where
@@ -38,6 +39,11 @@ pub record AreCounts (counts : Counts) : Type 0 where
 abbrev pub EndsLine : List ℕ → Type 0
 EndsLine text = (before : List ℕ) × (text ≡ before ++ 10 ∷ [])
 
+-- records of this form are lines
+abbrev pub IsWrittenInLines : RecordForm → Type 0
+IsWrittenInLines (AsLines form) = Unit {0}
+IsWrittenInLines (AsRow file) = ⊥
+
 -- no line is cut off
 abbrev pub AreWholeLines : List ℕ → Type 0
 AreWholeLines text = (text ≡ []) ⊎ EndsLine text
@@ -46,11 +52,11 @@ AreWholeLines text = (text ≡ []) ⊎ EndsLine text
 
 -- Of an authorized_keys file: their records and counts. What is stored then, with what these lines add, is no more than the
 -- file.
-pub record AuthTells (earlier : Earlier) (form : Form) (asking : Asking) (name file : List ℕ) (lines : List (ℕ × List ℕ)) (told : List LineTold) : Type 0 where
+pub record AuthTells (earlier : Earlier) (form : RecordForm) (asking : Asking) (name file : List ℕ) (lines : List (ℕ × List ℕ)) (line_reports : List LineReport) : Type 0 where
   -- the entries before
   pub held : List Held
   pub stored : RemembersEntries earlier held
-  pub are_told : told ≡ lines_told form asking name held lines
+  pub are_reports : line_reports ≡ line_reports_of form asking name held lines
   -- with those of these lines they are the entries of the file
   pub kept : held ++ held_lines asking lines ≡ held_lines asking (numbered 1 (lines_of file))
   -- of an entry at most its key blob and its forced command are stored
@@ -59,10 +65,10 @@ pub record AuthTells (earlier : Earlier) (form : Form) (asking : Asking) (name f
   pub file_keys : keys_kept earlier + (counts_of asking held lines).keys ≤ length file
 
 -- The same of a known_hosts file. Only of a revocation with another encoding of its key, the key's own blob is stored too.
-pub record KnownTells (earlier : EarlierHosts) (form : Form) (asking : Asking) (name file : List ℕ) (lines : List (ℕ × List ℕ)) (told : List LineTold) : Type 0 where
+pub record KnownTells (earlier : EarlierHosts) (form : RecordForm) (asking : Asking) (name file : List ℕ) (lines : List (ℕ × List ℕ)) (line_reports : List LineReport) : Type 0 where
   pub before : List HostLine
   pub stored : RemembersLines earlier before
-  pub are_told : told ≡ host_lines_told form asking name before lines
+  pub are_reports : line_reports ≡ host_line_reports_of form asking name before lines
   pub kept : before ++ host_kept_lines lines ≡ host_kept_lines (numbered 1 (lines_of file))
   -- of an entry at most its blob and its plain names are stored; here the blob is counted for each name too
   pub bytes : host_bytes_kept earlier + over_lines host_line_bytes lines ≤ over_lines host_line_bytes (numbered 1 (lines_of file))
@@ -71,15 +77,15 @@ pub record KnownTells (earlier : EarlierHosts) (form : Form) (asking : Asking) (
   pub file_bytes : host_bytes_kept earlier + over_lines host_line_bytes lines ≤ line_limit * length file + over_lines host_line_spelling (numbered 1 (lines_of file))
 
 -- the records of those that hold one key, and their counts
-pub record AuthKeyTells (x : ForKey Earlier) (form : Form) (asking : Asking) (name file : List ℕ) (lines : List (ℕ × List ℕ)) (told : List LineTold) : Type 0 where
+pub record AuthKeyTells (x : ForKey Earlier) (form : RecordForm) (asking : Asking) (name file : List ℕ) (lines : List (ℕ × List ℕ)) (line_reports : List LineReport) : Type 0 where
   pub held : List Held
   pub stored : RemembersEntries x.earlier held
-  pub are_told : told ≡ key_lines_told x.sought.now form asking name held lines
+  pub are_reports : line_reports ≡ key_line_reports_of x.sought.now form asking name held lines
 
-pub record KnownKeyTells (x : ForKey EarlierHosts) (form : Form) (asking : Asking) (name file : List ℕ) (lines : List (ℕ × List ℕ)) (told : List LineTold) : Type 0 where
+pub record KnownKeyTells (x : ForKey EarlierHosts) (form : RecordForm) (asking : Asking) (name file : List ℕ) (lines : List (ℕ × List ℕ)) (line_reports : List LineReport) : Type 0 where
   pub before : List HostLine
   pub stored : RemembersLines x.earlier before
-  pub are_told : told ≡ host_key_lines_told x.sought.now form asking name before lines
+  pub are_reports : line_reports ≡ host_key_line_reports_of x.sought.now form asking name before lines
 
 -- ---- the review
 
@@ -89,19 +95,19 @@ lines_left r = numbered (r.lines).0 (lines_of (r.lines).1)
 
 -- This text is left of the review of a file, where these records are shown, by what its lines tell; and these are the counts
 -- of the whole file.
-pub record HasLeft {S : Type 0} (tells : S → Form → Asking → List ℕ → List ℕ → List (ℕ × List ℕ) → List LineTold → Type 0) (show : Show) (form : Form) (asking : Asking) (name file text : List ℕ) (all : KeyCounts) (r : Records S) : Type 0 where
-  pub more : List LineTold
+pub record HasLeft {S : Type 0} (tells : S → RecordForm → Asking → List ℕ → List ℕ → List (ℕ × List ℕ) → List LineReport → Type 0) (show : Show) (form : RecordForm) (asking : Asking) (name file text : List ℕ) (all : KeyCounts) (r : Records S) : Type 0 where
+  pub more : List LineReport
   pub left : tells r.earlier form asking name file (lines_left r) more
   pub are_records : text ≡ shown_records show more
-  pub sum : all ≡ plus_key r.reported (told_counts more)
+  pub sum : all ≡ plus_key r.reported (report_counts more)
   pub fits : AreCounts all.counts
 
--- From one state of a review to a later one: whatever text was left, what was appended to this is its front, in whole lines,
--- and the rest of it is left.
-abbrev pub MakesFront : {S : Type 0} → (S → Form → Asking → List ℕ → List ℕ → List (ℕ × List ℕ) → List LineTold → Type 0) → Show → Form → Asking → List ℕ → Records S → Records S → List ℕ → List ℕ → Type 0
+-- From one state of a review to a later one: whatever text was left, what was appended to this is its front, in whole lines if
+-- the records are lines, and the rest of it is left.
+abbrev pub MakesFront : {S : Type 0} → (S → RecordForm → Asking → List ℕ → List ℕ → List (ℕ × List ℕ) → List LineReport → Type 0) → Show → RecordForm → Asking → List ℕ → Records S → Records S → List ℕ → List ℕ → Type 0
 MakesFront tells show form asking name old new before after = (file text : List ℕ) (all : KeyCounts) → HasLeft tells show form asking name file text all old
-    → (rest : List ℕ) × HasLeft tells show form asking name file rest all new × (after ++ rest ≡ before ++ text) × (AreWholeLines before → AreWholeLines after)
+    → (rest : List ℕ) × HasLeft tells show form asking name file rest all new × (after ++ rest ≡ before ++ text) × (IsWrittenInLines form → AreWholeLines before → AreWholeLines after)
 
 -- nothing is left, and the counts are those of the whole file
-abbrev pub IsAllMade : {S : Type 0} → (S → Form → Asking → List ℕ → List ℕ → List (ℕ × List ℕ) → List LineTold → Type 0) → Show → Form → Asking → List ℕ → Records S → Type 0
+abbrev pub IsAllMade : {S : Type 0} → (S → RecordForm → Asking → List ℕ → List ℕ → List (ℕ × List ℕ) → List LineReport → Type 0) → Show → RecordForm → Asking → List ℕ → Records S → Type 0
 IsAllMade tells show form asking name r = (file text : List ℕ) (all : KeyCounts) → HasLeft tells show form asking name file text all r → (text ≡ []) × (r.reported ≡ all)

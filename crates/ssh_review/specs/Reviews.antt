@@ -7,6 +7,7 @@ use Rattle.ssh_review.specs.declared.end.FileFault.{FileFault}
 use Rattle.ssh_review.specs.declared.end.FileFault.TheVariants.{TooLong}
 use Rattle.ssh_review.specs.declared.end.Reviewed.{Reviewed}
 use Rattle.ssh_review.specs.declared.end.Form.{Form}
+use Rattle.ssh_review.specs.declared.records.RecordForm.TheVariants.{AsLines}
 use Rattle.ssh_findings.specs.Asking.{Asking}
 use Rattle.ssh_review.specs.Counting.{no_counts}
 use Rattle.ssh_review.specs.Forms.{end_line, file_fault_line}
@@ -24,7 +25,7 @@ review r = record { text = r.text.items; counts = r.counts; fault = r.fault }
 -- the records of the lines of a file, and its end
 unfoldable pub whole_review : Form → Asking → List ℕ → List ℕ → Review
 whole_review form asking name file = record {
-  text = records_of form asking name [] (numbered 1 (lines_of file))
+  text = records_of (AsLines form) asking name [] (numbered 1 (lines_of file))
       ++ end_line form name (counts_of asking [] (numbered 1 (lines_of file))) (sha256 file);
   counts = counts_of asking [] (numbered 1 (lines_of file));
   fault = None;

@@ -9,37 +9,39 @@ ghost use Rattle.ssh_findings.specs.Asking.{Asking, asking_of};
 ghost use Rattle.ssh_findings.specs.Earlier.{Held};
 ghost use Rattle.ssh_findings.specs.Keeping.{RemembersEntries};
 ghost use Rattle.ssh_findings.specs.Memory.{bytes_kept, keys_kept};
-ghost use Rattle.ssh_review.specs.declared.end.Form.{Form as FormValue};
+ghost use Rattle.ssh_review.specs.declared.records.RecordForm.{RecordForm as RecordFormValue};
 ghost use Rattle.ssh_review.specs.declared.show.Show.{Show as ShowValue};
 ghost use Rattle.ssh_review.specs.Lines.{counts_of, held_by_line, line_counts, line_findings, line_record};
 ghost use Rattle.ssh_review.specs.Making.{AuthTells, HasLeft};
 ghost use Rattle.ssh_review.specs.Memory.{line_bytes};
+ghost use Rattle.ssh_review.specs.Ends.{total_words};
 ghost use Rattle.ssh_review.specs.Forms.{end_line, file_fault_line, total_line};
 ghost use Rattle.ssh_review.specs.Reviews.{auth_review, fault_review, review};
 ghost use Rattle.ssh_review.specs.ShownRecords.{shown_records};
-ghost use Rattle.ssh_review.specs.ToldLines.{lines_told, of_all};
+ghost use Rattle.ssh_review.specs.LineReports.{line_reports_of, of_all};
 
 use crate::end::{
     Counts, FileFault, Form, Reviewed, Total, push_end_object, push_end_text, push_fault_object,
-    push_fault_text, push_total_object, push_total_text,
+    push_fault_text, push_total_object, push_total_text, push_total_words,
 };
-use crate::json_record::{LineRef, push_entry_object, push_unreadable_object};
+use crate::json_record::{LineRef, push_entry_object, push_unreadable_object, row_place};
 use crate::key_review::KeyCounts;
 use crate::record::{push_entry_text, push_unreadable_text};
-use crate::records::{LineRecords, Records, whole_review};
+use crate::records::{LineRecords, RecordForm, Records, whole_review};
 use ssh_entries::{AuthEntryView, AuthLineView, KeyBuffer, read_auth_view};
 use ssh_findings::{
     CodeCounts, Earlier, Facts, ReviewOptions, entry_findings, held_key, may_let_in,
     unreadable_findings,
 };
 use ssh_options::LineCause;
+use ssh_page::{push_entry_row, push_unreadable_row};
 use ssh_text::FILE_LIMIT;
 use std::alloc::{AllocError, Global};
 
 /// Appends the record of an entry, and stores what later lines need of the entry.
 pub(crate) fn push_entry_line(
     alloc: Global,
-    form: Form,
+    form: RecordForm,
     asked: &ReviewOptions<'_>,
     place: &LineRef<'_>,
     entry: &AuthEntryView<'_>,
@@ -62,8 +64,8 @@ pub(crate) fn push_entry_line(
     let facts = Facts::read(alloc, asked.zone, entry)?;
     let found = entry_findings(alloc, asked, earlier, entry.blob(), &facts)?;
     match form {
-        Form::Text => push_entry_text(alloc, out, place, &facts, &found)?,
-        Form::Json => {
+        RecordForm::AsLines(Form::Text) => push_entry_text(alloc, out, place, &facts, &found)?,
+        RecordForm::AsLines(Form::Json) => {
             // These fields do not depend on which findings are asked for.
             let shadow = earlier.shadow_line(entry.blob(), &facts);
             let lets_in = shadow.is_none() && may_let_in(asked, &facts);
@@ -77,6 +79,9 @@ pub(crate) fn push_entry_line(
                 lets_in,
                 &found,
             )?;
+        }
+        RecordForm::AsRow(file) => {
+            push_entry_row(alloc, out, row_place(file, place.number), &facts, &found)?;
         }
     }
     earlier.keep(alloc, place.number, entry.blob(), facts)?;
@@ -92,7 +97,7 @@ pub(crate) fn push_entry_line(
 /// Appends the record of a line that cannot be read.
 pub(crate) fn push_unreadable_line(
     alloc: Global,
-    form: Form,
+    form: RecordForm,
     asked: &ReviewOptions<'_>,
     place: &LineRef<'_>,
     line: &[u8],
@@ -107,8 +112,15 @@ pub(crate) fn push_unreadable_line(
     let held = held_key(alloc, line)?;
     let found = unreadable_findings(alloc, asked, cause)?;
     match form {
-        Form::Text => push_unreadable_text(alloc, out, place, held, &found)?,
-        Form::Json => push_unreadable_object(alloc, out, place, held, &found)?,
+        RecordForm::AsLines(Form::Text) => {
+            push_unreadable_text(alloc, out, place, held, &found)?;
+        }
+        RecordForm::AsLines(Form::Json) => {
+            push_unreadable_object(alloc, out, place, held, &found)?;
+        }
+        RecordForm::AsRow(file) => {
+            push_unreadable_row(alloc, out, row_place(file, place.number), held, &found)?;
+        }
     }
     Ok(Counts {
         lines: 1,
@@ -122,7 +134,7 @@ pub(crate) fn push_unreadable_line(
 /// Appends the record of a line, if it has one, and returns the line's counts.
 fn push_line(
     alloc: Global,
-    form: Form,
+    form: RecordForm,
     asked: &ReviewOptions<'_>,
     place: &LineRef<'_>,
     line: &[u8],
@@ -160,7 +172,7 @@ impl LineRecords for Earlier {
     fn push_record(
         &mut self,
         alloc: Global,
-        form: Form,
+        form: RecordForm,
         asked: &ReviewOptions<'_>,
         place: &LineRef<'_>,
         line: &[u8],
@@ -175,16 +187,16 @@ impl LineRecords for Earlier {
         })
     }
 
-    ghost ends = { λ x form asking name file told h. h.are_told };
+    ghost ends = { λ x form asking name file line_reports h. h.are_reports };
 }
 
 /// The review of an `authorized_keys` file of these bytes, before its first record is made: a record
 /// for each entry and each line that cannot be read.
 pub fn auth_records(alloc: Global, file: &[u8]) -> Result<Records<'_, Earlier>, AllocError>
     requires { length file.now ≤ file_limit }
-    ensures { IfOk result (λ r. (show : ShowValue) (form : FormValue) (asking : Asking) (name : List ℕ)
+    ensures { IfOk result (λ r. (show : ShowValue) (form : RecordFormValue) (asking : Asking) (name : List ℕ)
         → HasLeft AuthTells show form asking name file.now
-        (shown_records show (lines_told form asking name [] (numbered 1 (lines_of file.now))))
+        (shown_records show (line_reports_of form asking name [] (numbered 1 (lines_of file.now))))
         (of_all (counts_of asking [] (numbered 1 (lines_of file.now)))) r) }
 {
     let earlier = Earlier::new(alloc);
@@ -287,4 +299,19 @@ pub fn total_line(
         Form::Json => push_total_object(alloc, &mut line, kind, zone, asked, total)?,
     }
     Ok(line)
+}
+
+/// The total of all files as the text format has it, without the end of the line.
+pub fn total_words(
+    alloc: Global,
+    zone: &[u8],
+    asked: &ReviewOptions<'_>,
+    total: &Total,
+) -> Result<Vec<u8>, AllocError>
+    ensures { IfOk result
+        (λ words. words.items ≡ total_words zone.now (asking_of asked.entry.now) total.now) }
+{
+    let mut words = Vec::new(alloc);
+    push_total_words(alloc, &mut words, zone, asked, total)?;
+    Ok(words)
 }

@@ -27,6 +27,7 @@ ghost use Rattle.ssh_trust.specs.declared.decision.Decision.TheVariants.{Granted
 ghost use Rattle.ssh_trust.specs.FileLines.{StandsAt};
 ghost use Rattle.ssh_findings.specs.Asking.{Asking};
 ghost use Rattle.ssh_review.specs.declared.end.Form.{Form};
+ghost use Rattle.ssh_review.specs.declared.records.RecordForm.{RecordForm};
 ghost use Rattle.ssh_review.specs.Lines.{counts_of, records_of};
 ghost use Rattle.ssh_review.specs.HostListing.{IsHostListed};
 ghost use Rattle.ssh_review.specs.HostSpelling.{HasNoMarkerTab};
@@ -169,7 +170,7 @@ fn trusted_rule()
 /// The review of a file and that of its canonical file are the same, but for the SHA-256 of the
 /// bytes.
 fn spelled_alike_rule()
-    ensures records { (form : Form) (asking : Asking) (name file : List ℕ)
+    ensures records { (form : RecordForm) (asking : Asking) (name file : List ℕ)
         → AllByRecursion (λ c. c < 256) file
         → records_of form asking name [] (numbered 1 (lines_of (canonical_auth_file file)))
         ≡ records_of form asking name [] (numbered 1 (lines_of file)) }
@@ -183,7 +184,7 @@ fn spelled_alike_rule()
 /// follows the marker of an entry. F8 reports such a tab, and a canonical line has a space there.
 /// (A revocation is in the canonical file as it is, and so is its F8.)
 fn hosts_spelled_alike_rule()
-    ensures records { (form : Form) (asking : Asking) (name file : List ℕ)
+    ensures records { (form : RecordForm) (asking : Asking) (name file : List ℕ)
         → AllByRecursion (λ c. c < 256) file
         → HasNoMarkerTab file
         → hosts.host_records_of form asking name [] (numbered 1 (lines_of (canonical_known_file file)))

@@ -5,7 +5,7 @@ ghost use Rattle.ssh_review.specs.Counting.{no_counts, plus_within};
 ghost use Rattle.std.specs.List.{flat_map};
 ghost use Rattle.ssh_findings.specs.Asking.{asking_of};
 ghost use Rattle.ssh_review.specs.Asked.{asked_of};
-ghost use Rattle.ssh_review.specs.Ends.{asked_by, count_text, counts_text, end_text, fault_code, fault_text, total_text};
+ghost use Rattle.ssh_review.specs.Ends.{asked_by, count_text, counts_text, end_text, fault_code, fault_text, total_text, total_words};
 ghost use Rattle.ssh_review.specs.EndObjects.{code_element, counts_fields, end_head, end_object, fault_object, review_fields, total_counts, total_object};
 
 use crate::asked::{AskedAt, push_asked_fields, push_asked_words, push_total_head};
@@ -173,6 +173,26 @@ fn asked_by<'a>(zone: &'a [u8], asked: &ReviewOptions<'_>) -> AskedAt<'a>
     }
 }
 
+/// Appends the total of all files in words, and when it was asked.
+pub(crate) fn push_total_words(
+    alloc: Global,
+    out: &mut Vec<u8>,
+    zone: &[u8],
+    asked: &ReviewOptions<'_>,
+    total: &Total,
+) -> Result<(), AllocError>
+    ensures { OnOk result (out.new.items
+        ≡ out.old.items ++ total_words zone.now (asking_of asked.entry.now) total.now) }
+{
+    out.extend_from_slice(b"total: ")?;
+    push_count(out, total.files, b" files, ")?;
+    push_count(out, total.faults, b" faults, ")?;
+    push_counts(out, total.counts)?;
+    out.extend_from_slice(b", ")?;
+    push_asked_words(alloc, out, &asked_by(zone, asked))?;
+    Ok(())
+}
+
 /// Appends the total of all files, as text: how often each code was found, and the line of the
 /// total.
 pub(crate) fn push_total_text(
@@ -186,12 +206,7 @@ pub(crate) fn push_total_text(
         ≡ out.old.items ++ total_text zone.now (asking_of asked.entry.now) total.now) }
 {
     push_found_lines(out, total.counts.by_code)?;
-    out.extend_from_slice(b"total: ")?;
-    push_count(out, total.files, b" files, ")?;
-    push_count(out, total.faults, b" faults, ")?;
-    push_counts(out, total.counts)?;
-    out.extend_from_slice(b", ")?;
-    push_asked_words(alloc, out, &asked_by(zone, asked))?;
+    push_total_words(alloc, out, zone, asked, total)?;
     out.push(b'\n')?;
     Ok(())
 }

@@ -9,7 +9,7 @@ ghost use Rattle.ssh_findings.specs.Asking.{Asking, asking_of};
 ghost use Rattle.ssh_findings.specs.HostFacts.{host_facts_of};
 ghost use Rattle.ssh_findings.specs.HostLines.{HostLine};
 ghost use Rattle.ssh_findings.specs.StandsFor.{RemembersLines};
-ghost use Rattle.ssh_review.specs.declared.end.Form.{Form as FormValue};
+ghost use Rattle.ssh_review.specs.declared.records.RecordForm.{RecordForm as RecordFormValue};
 ghost use Rattle.ssh_review.specs.declared.show.Show.TheVariants.{All};
 ghost use Rattle.ssh_review.specs.HostKeyRecords.{host_key_counts, host_key_counts_of, host_key_record, host_key_records_of};
 ghost use Rattle.ssh_review.specs.HostLines.{host_kept_of};
@@ -24,7 +24,7 @@ use crate::host_review::{
 };
 use crate::json_record::LineRef;
 use crate::key_review::{KeyCounts, KeyReviewed, recovers_key, review_key_fault};
-use crate::records::{ForKey, LineRecords, Records, whole_review};
+use crate::records::{ForKey, LineRecords, RecordForm, Records, whole_review};
 use ssh_entries::{KeyBuffer, KnownEntryView, KnownLineView, read_known_view};
 use ssh_findings::{EarlierHosts, HostFacts, ReviewOptions, RevocationFacts, known_held_key};
 use ssh_options::LineCause;
@@ -51,7 +51,7 @@ fn read_facts(
 /// only what later lines need is stored.
 fn push_key_entry(
     alloc: Global,
-    form: Form,
+    form: RecordForm,
     asked: &ReviewOptions<'_>,
     place: &LineRef<'_>,
     line: &[u8],
@@ -85,7 +85,7 @@ fn push_key_entry(
 /// revocation only what later lines need is stored.
 fn push_key_revoked(
     alloc: Global,
-    form: Form,
+    form: RecordForm,
     asked: &ReviewOptions<'_>,
     place: &LineRef<'_>,
     line: &[u8],
@@ -120,7 +120,7 @@ fn push_key_revoked(
 /// Appends the record of an unreadable revocation, if it holds the key.
 fn push_key_blind(
     alloc: Global,
-    form: Form,
+    form: RecordForm,
     asked: &ReviewOptions<'_>,
     place: &LineRef<'_>,
     line: &[u8],
@@ -146,7 +146,7 @@ fn push_key_blind(
 /// Appends the record of a line that cannot be read, if it holds the key.
 fn push_key_unreadable(
     alloc: Global,
-    form: Form,
+    form: RecordForm,
     asked: &ReviewOptions<'_>,
     place: &LineRef<'_>,
     line: &[u8],
@@ -173,7 +173,7 @@ fn push_key_unreadable(
 /// Appends the record of a line, if it holds the key.
 fn push_key_line(
     alloc: Global,
-    form: Form,
+    form: RecordForm,
     asked: &ReviewOptions<'_>,
     place: &LineRef<'_>,
     line: &[u8],
@@ -216,7 +216,7 @@ impl<'a> LineRecords for ForKey<'a, EarlierHosts> {
     fn push_record(
         &mut self,
         alloc: Global,
-        form: Form,
+        form: RecordForm,
         asked: &ReviewOptions<'_>,
         place: &LineRef<'_>,
         line: &[u8],
@@ -239,7 +239,7 @@ impl<'a> LineRecords for ForKey<'a, EarlierHosts> {
         Ok(reported)
     }
 
-    ghost ends = { λ x form asking name file told h. h.are_told };
+    ghost ends = { λ x form asking name file line_reports h. h.are_reports };
 }
 
 /// The review of a `known_hosts` file of these bytes for the key with this fingerprint, before its
@@ -250,7 +250,7 @@ pub fn known_key_records<'a>(
     sought: &'a [u8; 43],
 ) -> Result<Records<'a, ForKey<'a, EarlierHosts>>, AllocError>
     requires { length file.now ≤ file_limit }
-    ensures { IfOk result (λ r. (form : FormValue) (asking : Asking) (name : List ℕ)
+    ensures { IfOk result (λ r. (form : RecordFormValue) (asking : Asking) (name : List ℕ)
         → HasLeft KnownKeyTells All form asking name file.now
         (host_key_records_of sought.now form asking name [] (numbered 1 (lines_of file.now)))
         (host_key_counts_of sought.now asking [] (numbered 1 (lines_of file.now))) r) }

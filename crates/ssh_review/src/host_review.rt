@@ -9,25 +9,29 @@ ghost use Rattle.ssh_findings.specs.Asking.{Asking, asking_of};
 ghost use Rattle.ssh_findings.specs.HostLines.{HostLine};
 ghost use Rattle.ssh_findings.specs.HostFindingsMemory.{host_bytes_kept, kept_sum};
 ghost use Rattle.ssh_findings.specs.StandsFor.{RemembersLines};
-ghost use Rattle.ssh_review.specs.declared.end.Form.{Form as FormValue};
+ghost use Rattle.ssh_review.specs.declared.records.RecordForm.{RecordForm as RecordFormValue};
 ghost use Rattle.ssh_review.specs.declared.show.Show.{Show as ShowValue};
 ghost use Rattle.ssh_review.specs.HostCounting.{bare_counts};
 ghost use Rattle.ssh_review.specs.HostForms.{bare_record};
+ghost use Rattle.ssh_page.specs.Documents.{marks};
+ghost use Rattle.ssh_page.specs.HostRecords.{revoked_row};
+ghost use Rattle.ssh_review.specs.HostRecords.{print_of};
 ghost use Rattle.ssh_review.specs.HostLines.{host_counts_of, host_kept_of, host_line_counts, host_line_findings, host_line_record};
 ghost use Rattle.ssh_review.specs.HostMemory.{host_line_bytes, host_line_sum};
 ghost use Rattle.ssh_review.specs.Making.{HasLeft, KnownTells};
 ghost use Rattle.ssh_review.specs.Reviews.{review};
 ghost use Rattle.ssh_review.specs.HostReviews.{known_review};
 ghost use Rattle.ssh_review.specs.ShownRecords.{shown_records};
-ghost use Rattle.ssh_review.specs.ToldLines.{host_lines_told, of_all};
+ghost use Rattle.ssh_review.specs.LineReports.{host_line_reports_of, of_all};
 
 use crate::auth_review::review_fault;
 use crate::end::{Counts, FileFault, Form, Reviewed};
+use crate::fields::print_of;
 use crate::host_json_record::{push_bare_object, push_entry_object, push_revoked_object};
 use crate::host_record::{push_bare_text, push_entry_text, push_revoked_text};
-use crate::json_record::LineRef;
+use crate::json_record::{LineRef, row_place};
 use crate::key_review::KeyCounts;
-use crate::records::{LineRecords, Records, whole_review};
+use crate::records::{LineRecords, RecordForm, Records, whole_review};
 use ssh_entries::{KeyBuffer, KnownEntryView, KnownLineView, read_known_view};
 use ssh_findings::{
     CodeCounts, EarlierHosts, HeldKey, HostFacts, HostFinding, ReviewOptions, RevocationFacts,
@@ -35,13 +39,14 @@ use ssh_findings::{
     unreadable_revocation_findings,
 };
 use ssh_options::LineCause;
+use ssh_page::{RowPlace, push_bare_row, push_host_entry_row, push_revoked_row};
 use ssh_text::FILE_LIMIT;
 use std::alloc::{AllocError, Global};
 
 /// Appends the record of an entry, and stores what later lines need of the entry.
 pub(crate) fn push_entry_line(
     alloc: Global,
-    form: Form,
+    form: RecordForm,
     asked: &ReviewOptions<'_>,
     place: &LineRef<'_>,
     line: &[u8],
@@ -65,8 +70,11 @@ pub(crate) fn push_entry_line(
     let facts = HostFacts::read(alloc, line, entry)?;
     let found = host_entry_findings(alloc, asked, earlier, entry.blob(), &facts)?;
     match form {
-        Form::Text => push_entry_text(alloc, out, place, &facts, &found)?,
-        Form::Json => push_entry_object(alloc, out, place, &facts, &found)?,
+        RecordForm::AsLines(Form::Text) => push_entry_text(alloc, out, place, &facts, &found)?,
+        RecordForm::AsLines(Form::Json) => push_entry_object(alloc, out, place, &facts, &found)?,
+        RecordForm::AsRow(file) => {
+            push_host_entry_row(alloc, out, row_place(file, place.number), &facts, &found)?;
+        }
     }
     earlier.keep_entry(alloc, place.number, entry.blob(), &facts)?;
     Ok(Counts {
@@ -78,10 +86,26 @@ pub(crate) fn push_entry_line(
     })
 }
 
+/// Appends the row of a line that revokes these bytes.
+fn push_revoked_row_of(
+    alloc: Global,
+    out: &mut Vec<u8>,
+    place: RowPlace,
+    bytes: &[u8],
+    facts: &RevocationFacts,
+    found: &[HostFinding],
+) -> Result<(), AllocError>
+    ensures { OnOk result (out.new.items ≡ out.old.items
+        ++ marks (revoked_row place (print_of bytes.now) (facts.now).names found.now)) }
+{
+    let print = print_of(alloc, bytes)?;
+    push_revoked_row(alloc, out, place, &print, facts.names.as_slice(), found)
+}
+
 /// Appends the record of a line that revokes these bytes, and stores the revocation.
 pub(crate) fn push_revoked_line(
     alloc: Global,
-    form: Form,
+    form: RecordForm,
     asked: &ReviewOptions<'_>,
     place: &LineRef<'_>,
     line: &[u8],
@@ -105,8 +129,22 @@ pub(crate) fn push_revoked_line(
     let facts = RevocationFacts::read(alloc, line, bytes)?;
     let found = revocation_findings(alloc, asked, earlier, bytes, &facts)?;
     match form {
-        Form::Text => push_revoked_text(alloc, out, place, bytes, &facts, &found)?,
-        Form::Json => push_revoked_object(alloc, out, place, bytes, &facts, &found)?,
+        RecordForm::AsLines(Form::Text) => {
+            push_revoked_text(alloc, out, place, bytes, &facts, &found)?;
+        }
+        RecordForm::AsLines(Form::Json) => {
+            push_revoked_object(alloc, out, place, bytes, &facts, &found)?;
+        }
+        RecordForm::AsRow(file) => {
+            push_revoked_row_of(
+                alloc,
+                out,
+                row_place(file, place.number),
+                bytes,
+                &facts,
+                &found,
+            )?;
+        }
     }
     earlier.keep_revocation(alloc, place.number, bytes, &facts)?;
     Ok(Counts {
@@ -122,7 +160,7 @@ pub(crate) fn push_revoked_line(
 /// one.
 fn push_bare_line(
     alloc: Global,
-    form: Form,
+    form: RecordForm,
     place: &LineRef<'_>,
     is: &[u8],
     held: Option<HeldKey>,
@@ -134,8 +172,11 @@ fn push_bare_line(
     ensures counts { IfOk result (λ counts. counts ≡ bare_counts found.now) }
 {
     match form {
-        Form::Text => push_bare_text(alloc, out, place, is, held, found)?,
-        Form::Json => push_bare_object(alloc, out, place, is, held, found)?,
+        RecordForm::AsLines(Form::Text) => push_bare_text(alloc, out, place, is, held, found)?,
+        RecordForm::AsLines(Form::Json) => push_bare_object(alloc, out, place, is, held, found)?,
+        RecordForm::AsRow(file) => {
+            push_bare_row(alloc, out, row_place(file, place.number), is, held, found)?;
+        }
     }
     Ok(Counts {
         lines: 1,
@@ -150,7 +191,7 @@ fn push_bare_line(
 /// host.
 pub(crate) fn push_blind_line(
     alloc: Global,
-    form: Form,
+    form: RecordForm,
     asked: &ReviewOptions<'_>,
     place: &LineRef<'_>,
     line: &[u8],
@@ -177,7 +218,7 @@ pub(crate) fn push_blind_line(
 /// Appends the record of a line that cannot be read.
 pub(crate) fn push_unreadable_line(
     alloc: Global,
-    form: Form,
+    form: RecordForm,
     asked: &ReviewOptions<'_>,
     place: &LineRef<'_>,
     line: &[u8],
@@ -197,7 +238,7 @@ pub(crate) fn push_unreadable_line(
 /// Appends the record of a line, if it has one, and returns the line's counts.
 fn push_line(
     alloc: Global,
-    form: Form,
+    form: RecordForm,
     asked: &ReviewOptions<'_>,
     place: &LineRef<'_>,
     line: &[u8],
@@ -239,7 +280,7 @@ impl LineRecords for EarlierHosts {
     fn push_record(
         &mut self,
         alloc: Global,
-        form: Form,
+        form: RecordForm,
         asked: &ReviewOptions<'_>,
         place: &LineRef<'_>,
         line: &[u8],
@@ -254,7 +295,7 @@ impl LineRecords for EarlierHosts {
         })
     }
 
-    ghost ends = { λ x form asking name file told h. h.are_told };
+    ghost ends = { λ x form asking name file line_reports h. h.are_reports };
 }
 
 /// The review of a `known_hosts` file of these bytes, before its first record is made: a record for
@@ -263,9 +304,9 @@ impl LineRecords for EarlierHosts {
 /// blob.
 pub fn known_records(alloc: Global, file: &[u8]) -> Result<Records<'_, EarlierHosts>, AllocError>
     requires { length file.now ≤ file_limit }
-    ensures { IfOk result (λ r. (show : ShowValue) (form : FormValue) (asking : Asking) (name : List ℕ)
+    ensures { IfOk result (λ r. (show : ShowValue) (form : RecordFormValue) (asking : Asking) (name : List ℕ)
         → HasLeft KnownTells show form asking name file.now
-        (shown_records show (host_lines_told form asking name [] (numbered 1 (lines_of file.now))))
+        (shown_records show (host_line_reports_of form asking name [] (numbered 1 (lines_of file.now))))
         (of_all (host_counts_of asking [] (numbered 1 (lines_of file.now)))) r) }
 {
     let earlier = EarlierHosts::new(alloc);

@@ -2,6 +2,7 @@
 //! records have.
 
 ghost use Rattle.std.specs.Prelude.{◌≡◌, ◌++◌, OnOk, IfOk};
+ghost use Rattle.ssh_review.specs.RowPlaces.{row_place};
 ghost use Rattle.ssh_review.specs.Objects.{empty_fields, entry_object, fingerprint_text, grant_fields, held_fields, is_word, key_fields, no_key_fields, object_head, options_field, owner_fields, rights_field, unreadable_object};
 
 use crate::fields::{
@@ -13,6 +14,7 @@ use crate::short_text::ShortText;
 use ssh_findings::{Facts, Finding, HeldKey};
 use ssh_keys::KeyKind;
 use ssh_options::OptionsView;
+use ssh_page::RowPlace;
 use ssh_print::push_json_text;
 use ssh_rights::Rights;
 use std::alloc::{AllocError, Global};
@@ -22,6 +24,13 @@ use std::alloc::{AllocError, Global};
 pub struct LineRef<'a> {
     pub name: &'a [u8],
     pub number: u64,
+}
+
+/// The place of the row of the line with this number, in the section of the file with this number.
+pub(crate) fn row_place(file: u64, line: u64) -> RowPlace
+    ensures { result ≡ row_place file line }
+{
+    RowPlace { file, line }
 }
 
 /// Appends the first fields of a record: the file, the line, and what the line is.

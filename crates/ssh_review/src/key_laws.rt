@@ -16,6 +16,7 @@ ghost use Rattle.ssh_entries.specs.AuthEntry.{AuthEntry};
 ghost use Rattle.ssh_findings.specs.KeyRead.{key_read};
 ghost use Rattle.ssh_trust.specs.LoginDecision.{IsGrant};
 ghost use Rattle.ssh_review.specs.declared.end.Form.{Form};
+ghost use Rattle.ssh_review.specs.declared.records.RecordForm.{RecordForm};
 ghost use Rattle.ssh_review.specs.HostKeyRecords.{host_holds_key, host_key_records_of};
 ghost use Rattle.ssh_review.specs.HostLines.{host_records_of};
 ghost use Rattle.ssh_review.specs.KeyListing.{HostStands, Stands, host_records_apart, records_apart};
@@ -27,12 +28,12 @@ ghost use Rattle.ssh_review.specs.Lines.{records_of};
 /// and no others.
 fn key_rule()
     // What the whole review prints of each line, one after the other, is all of its records.
-    ensures all { (form : Form) (asking : Asking) (name : List ℕ) (earlier : List Held)
+    ensures all { (form : RecordForm) (asking : Asking) (name : List ℕ) (earlier : List Held)
         (lines : List (ℕ × List ℕ))
         → records_of form asking name earlier lines
         ≡ flat_map (λ r. r.1) (records_apart form asking name earlier lines) }
     // Those of the lines that hold the key are the records of the review for it.
-    ensures of_key { (fingerprint : List ℕ) (form : Form) (asking : Asking) (name : List ℕ)
+    ensures of_key { (fingerprint : List ℕ) (form : RecordForm) (asking : Asking) (name : List ℕ)
         (earlier : List Held) (lines : List (ℕ × List ℕ))
         → key_records_of fingerprint form asking name earlier lines
         ≡ flat_map (λ r. r.1) (filter (λ r. holds_key fingerprint (r.0).1 (auth_line (r.0).1))
@@ -51,11 +52,11 @@ fn key_rule()
 
 /// The same of a `known_hosts` file, where also a line that revokes the key holds it.
 fn host_key_rule()
-    ensures all { (form : Form) (asking : Asking) (name : List ℕ) (earlier : List HostLine)
+    ensures all { (form : RecordForm) (asking : Asking) (name : List ℕ) (earlier : List HostLine)
         (lines : List (ℕ × List ℕ))
         → host_records_of form asking name earlier lines
         ≡ flat_map (λ r. r.1) (host_records_apart form asking name earlier lines) }
-    ensures of_key { (fingerprint : List ℕ) (form : Form) (asking : Asking) (name : List ℕ)
+    ensures of_key { (fingerprint : List ℕ) (form : RecordForm) (asking : Asking) (name : List ℕ)
         (earlier : List HostLine) (lines : List (ℕ × List ℕ))
         → host_key_records_of fingerprint form asking name earlier lines
         ≡ flat_map (λ r. r.1) (filter (λ r. host_holds_key fingerprint (r.0).1 (known_line (r.0).1))

@@ -9,7 +9,7 @@ ghost use Rattle.ssh_findings.specs.Asking.{Asking, asking_of};
 ghost use Rattle.ssh_findings.specs.Earlier.{Held};
 ghost use Rattle.ssh_findings.specs.Facts.{facts_of};
 ghost use Rattle.ssh_findings.specs.Keeping.{RemembersEntries};
-ghost use Rattle.ssh_review.specs.declared.end.Form.{Form as FormValue};
+ghost use Rattle.ssh_review.specs.declared.records.RecordForm.{RecordForm as RecordFormValue};
 ghost use Rattle.ssh_review.specs.declared.show.Show.TheVariants.{All};
 ghost use Rattle.ssh_review.specs.KeyRecords.{key_counts, key_counts_of, key_record, key_records_of, lists_key, plus_key_within, recovers_key};
 ghost use Rattle.ssh_review.specs.KeyReviews.{auth_key_review, key_fault_review, key_review, reviewed_by};
@@ -19,7 +19,7 @@ ghost use Rattle.ssh_review.specs.Making.{AuthKeyTells, HasLeft};
 use crate::auth_review::{push_end, push_entry_line, push_unreadable_line, review_fault};
 use crate::end::{Counts, FileFault, Form, Reviewed};
 use crate::json_record::LineRef;
-use crate::records::{ForKey, LineRecords, Records, whole_review};
+use crate::records::{ForKey, LineRecords, RecordForm, Records, whole_review};
 use sha2::{Digest, Sha256};
 use ssh_entries::{AuthEntryView, AuthLineView, KeyBuffer, read_auth_view};
 use ssh_findings::{Earlier, Facts, HeldKey, ReviewOptions, held_key};
@@ -99,7 +99,7 @@ fn read_facts(
 /// only what later lines need is stored.
 fn push_key_entry(
     alloc: Global,
-    form: Form,
+    form: RecordForm,
     asked: &ReviewOptions<'_>,
     place: &LineRef<'_>,
     entry: &AuthEntryView<'_>,
@@ -130,7 +130,7 @@ fn push_key_entry(
 /// Appends the record of a line that cannot be read, if it holds the key.
 fn push_key_unreadable(
     alloc: Global,
-    form: Form,
+    form: RecordForm,
     asked: &ReviewOptions<'_>,
     place: &LineRef<'_>,
     line: &[u8],
@@ -157,7 +157,7 @@ fn push_key_unreadable(
 /// Appends the record of a line, if it holds the key.
 fn push_key_line(
     alloc: Global,
-    form: Form,
+    form: RecordForm,
     asked: &ReviewOptions<'_>,
     place: &LineRef<'_>,
     line: &[u8],
@@ -193,7 +193,7 @@ impl<'a> LineRecords for ForKey<'a, Earlier> {
     fn push_record(
         &mut self,
         alloc: Global,
-        form: Form,
+        form: RecordForm,
         asked: &ReviewOptions<'_>,
         place: &LineRef<'_>,
         line: &[u8],
@@ -216,7 +216,7 @@ impl<'a> LineRecords for ForKey<'a, Earlier> {
         Ok(reported)
     }
 
-    ghost ends = { λ x form asking name file told h. h.are_told };
+    ghost ends = { λ x form asking name file line_reports h. h.are_reports };
 }
 
 /// The review of an `authorized_keys` file of these bytes for the key with this fingerprint, before
@@ -227,7 +227,7 @@ pub fn auth_key_records<'a>(
     sought: &'a [u8; 43],
 ) -> Result<Records<'a, ForKey<'a, Earlier>>, AllocError>
     requires { length file.now ≤ file_limit }
-    ensures { IfOk result (λ r. (form : FormValue) (asking : Asking) (name : List ℕ)
+    ensures { IfOk result (λ r. (form : RecordFormValue) (asking : Asking) (name : List ℕ)
         → HasLeft AuthKeyTells All form asking name file.now
         (key_records_of sought.now form asking name [] (numbered 1 (lines_of file.now)))
         (key_counts_of sought.now asking [] (numbered 1 (lines_of file.now))) r) }

@@ -12,6 +12,7 @@ ghost use Rattle.ssh_review.specs.declared.end.FileFault.{FileFault};
 ghost use Rattle.ssh_review.specs.declared.end.Total.{Total};
 ghost use Rattle.ssh_review.specs.declared.end.Form.{Form};
 ghost use Rattle.ssh_review.specs.declared.end.Form.TheVariants.{Json};
+ghost use Rattle.ssh_review.specs.declared.records.RecordForm.TheVariants.{AsLines};
 ghost use Rattle.ssh_review.specs.EndObjects.{end_object, fault_object, total_object};
 ghost use Rattle.ssh_review.specs.Forms.{file_fault_line, total_line};
 ghost use Rattle.ssh_review.specs.Lines.{counts_of, line_record};
@@ -34,8 +35,8 @@ fn one_line_rule()
     ensures one { (asking : Asking) (name : List ℕ) (earlier : List Held) (n : ℕ) (line : List ℕ)
         → AreBytes name
         → AreBytes line
-        → (line_record Json asking name earlier (n, line) (auth_line line) ≡ [])
-        ⊎ (is_line (line_record Json asking name earlier (n, line) (auth_line line)) ≡ true) }
+        → (line_record (AsLines Json) asking name earlier (n, line) (auth_line line) ≡ [])
+        ⊎ (is_line (line_record (AsLines Json) asking name earlier (n, line) (auth_line line)) ≡ true) }
     ensures end { (name : List ℕ) (counts : Counts) (digest : List ℕ)
         → AreBytes name
         → AreBytes digest
@@ -97,8 +98,8 @@ fn host_one_line_rule()
     ensures { (asking : Asking) (name : List ℕ) (earlier : List HostLine) (n : ℕ) (line : List ℕ)
         → AreBytes name
         → AreBytes line
-        → (host_line_record Json asking name earlier n line (known_line line) ≡ [])
-        ⊎ (is_line (host_line_record Json asking name earlier n line (known_line line)) ≡ true) }
+        → (host_line_record (AsLines Json) asking name earlier n line (known_line line) ≡ [])
+        ⊎ (is_line (host_line_record (AsLines Json) asking name earlier n line (known_line line)) ≡ true) }
 {}
 
 /// For a `known_hosts` file too, in both formats the output is printable ASCII and the LFs at the

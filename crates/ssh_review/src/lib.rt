@@ -19,8 +19,9 @@
 //! those that are shown (`Show`) as they are made, and then the end of the file:
 //!
 //! ```
+//! let form = RecordForm::AsLines(Form::Text);
 //! let mut records = auth_records(alloc, file)?;
-//! while records.push_some(alloc, Show::All, Form::Text, &asked, name, &mut out)? {
+//! while records.push_some(alloc, Show::All, form, &asked, name, &mut out)? {
 //!     writer.write_all(&out)?;
 //!     out.clear();
 //! }
@@ -78,6 +79,8 @@ mod json_record;
 mod key_laws;
 mod key_review;
 mod laws;
+mod page_file;
+mod page_laws;
 mod readable;
 mod record;
 mod records;
@@ -86,13 +89,14 @@ mod show;
 
 pub use answer_json::{answer_object, answer_total};
 pub use asked::{AskedAt, asked_line};
-pub use auth_review::{auth_records, push_end, review_auth, review_fault, total_line};
+pub use auth_review::{auth_records, push_end, review_auth, review_fault, total_line, total_words};
 pub use end::{Counts, FileFault, Form, Reviewed, Total};
 pub use fault_counts::FaultCounts;
 pub use host_key_review::{known_key_records, review_known_key};
 pub use host_review::{known_records, review_known};
 pub use json_record::LineRef;
 pub use key_review::{KeyCounts, KeyReviewed, auth_key_records, review_auth_key, review_key_fault};
+pub use page_file::{push_page_fault, push_page_file};
 pub use readable::{left_out, readable_auth};
-pub use records::{ForKey, LineRecords, Records};
+pub use records::{ForKey, LineRecords, RecordForm, Records};
 pub use show::Show;

@@ -3,13 +3,14 @@
 
 ghost use Rattle.std.specs.Prelude.{◌≡◌, ◌++◌, ◌∷◌, ◌<◌, [], ℕ, List, IfOk, OnOk, false, length, true};
 ghost use Rattle.ssh_findings.specs.Asking.{Asking, asking_of};
-ghost use Rattle.ssh_review.specs.declared.end.Form.{Form as FormValue};
+ghost use Rattle.ssh_review.specs.declared.records.RecordForm.{RecordForm as RecordFormValue};
+ghost use Rattle.ssh_review.specs.declared.records.RecordForm.TheVariants.{AsLines};
 ghost use Rattle.ssh_review.specs.declared.key_review.KeyCounts.{KeyCounts as KeyCountsValue};
 ghost use Rattle.ssh_review.specs.declared.show.Show.TheVariants.{All};
 ghost use Rattle.ssh_review.specs.KeyRecords.{no_key_counts};
 ghost use Rattle.ssh_review.specs.KeyReviews.{key_review, reviewed_by};
-ghost use Rattle.ssh_review.specs.Making.{AreWholeLines, HasLeft, IsAllMade, MakesFront, lines_left};
-ghost use Rattle.ssh_review.specs.ToldLines.{LineTold, line_told};
+ghost use Rattle.ssh_review.specs.Making.{IsWrittenInLines, AreWholeLines, HasLeft, IsAllMade, MakesFront, lines_left};
+ghost use Rattle.ssh_review.specs.LineReports.{LineReport, line_report};
 
 use crate::end::Form;
 use crate::json_record::LineRef;
@@ -20,36 +21,45 @@ use ssh_findings::ReviewOptions;
 use ssh_text::Lines;
 use std::alloc::{AllocError, Global};
 
+/// How the record of a line is written.
+#[derive(Clone, Copy, Debug, PartialEq, Eq)]
+pub enum RecordForm {
+    /// In lines of an output format.
+    AsLines(Form),
+    /// As a row of the page, in the section of the file with this number, from 0.
+    AsRow(u64),
+}
+
 /// What is stored of the lines of a trust file whose records were made, and how the record of the
 /// next is.
 pub trait LineRecords {
     /// After the lines that were stored, these lines of the file of this name, each with its number,
     /// tell this, one after the other.
-    ghost tells: { Self → FormValue → Asking → List ℕ → List ℕ → List (ℕ × List ℕ) → List LineTold → Type 0 };
+    ghost tells: { Self → RecordFormValue → Asking → List ℕ → List ℕ → List (ℕ × List ℕ) → List LineReport → Type 0 };
 
     /// Appends the record of a line, if it has one, stores what later lines need of the line, and
     /// returns its counts. The line's key is decoded into the buffer.
     fn push_record(
         &mut self,
         alloc: Global,
-        form: Form,
+        form: RecordForm,
         asked: &ReviewOptions<'_>,
         place: &LineRef<'_>,
         line: &[u8],
         buffer: &mut KeyBuffer,
         out: &mut Vec<u8>,
     ) -> Result<KeyCounts, AllocError>
-        ensures { IfOk result (λ reported. (file : List ℕ) (lines : List (ℕ × List ℕ)) (told : List LineTold)
+        ensures { IfOk result (λ reported. (file : List ℕ) (lines : List (ℕ × List ℕ)) (line_reports : List LineReport)
             → tells self.old form (asking_of asked.entry.now) place.entry.now.name.now file
-            ((place.entry.now.number, line.now) ∷ lines) told
-            → (own : List ℕ) × (more : List LineTold) × (told ≡ line_told own reported ∷ more)
+            ((place.entry.now.number, line.now) ∷ lines) line_reports
+            → (own : List ℕ) × (more : List LineReport) × (line_reports ≡ line_report own reported ∷ more)
             × tells self.new form (asking_of asked.entry.now) place.entry.now.name.now file lines more
             × (out.new.items ≡ out.old.items ++ own)
-            × (AreWholeLines out.old.items → AreWholeLines out.new.items)) };
+            × (IsWrittenInLines form → AreWholeLines out.old.items → AreWholeLines out.new.items)) };
 
     /// No lines tell nothing.
-    ghost ends: { (x : Self) (form : FormValue) (asking : Asking) (name file : List ℕ) (told : List LineTold)
-        → tells x form asking name file [] told → told ≡ [] };
+    ghost ends: { (x : Self) (form : RecordFormValue) (asking : Asking) (name file : List ℕ) (line_reports : List LineReport)
+        → tells x form asking name file [] line_reports → line_reports ≡ [] };
 }
 
 /// What is stored of earlier lines, where only the records of the lines that hold one key are made:
@@ -104,7 +114,7 @@ impl<'a, L: LineRecords + Drop> Records<'a, L> {
         &mut self,
         alloc: Global,
         show: Show,
-        form: Form,
+        form: RecordForm,
         asked: &ReviewOptions<'_>,
         name: &[u8],
         out: &mut Vec<u8>,
@@ -138,7 +148,7 @@ impl<'a, L: LineRecords + Drop> Records<'a, L> {
         &mut self,
         alloc: Global,
         show: Show,
-        form: Form,
+        form: RecordForm,
         asked: &ReviewOptions<'_>,
         name: &[u8],
         out: &mut Vec<u8>,
@@ -159,6 +169,24 @@ impl<'a, L: LineRecords + Drop> Records<'a, L> {
     }
 }
 
+/// Appends all records of a file of which none was made, and returns their counts.
+pub(crate) fn push_all<L: LineRecords + Drop>(
+    alloc: Global,
+    form: RecordForm,
+    asked: &ReviewOptions<'_>,
+    name: &[u8],
+    begun: Records<'_, L>,
+    out: &mut Vec<u8>,
+) -> Result<KeyCounts, AllocError>
+    ensures { IfOk result (λ reported. (file text : List ℕ) (all : KeyCountsValue)
+        → HasLeft L.tells All form (asking_of asked.entry.now) name.now file text all begun.entry
+        → (out.new.items ≡ out.old.items ++ text) × (reported ≡ all)) }
+{
+    let mut records = begun;
+    while records.push_some(alloc, Show::All, form, asked, name, out)? {}
+    Ok(records.reported)
+}
+
 /// The whole review of a file, of which no record was made: all records, and the end of the file.
 pub(crate) fn whole_review<L: LineRecords + Drop>(
     alloc: Global,
@@ -169,12 +197,18 @@ pub(crate) fn whole_review<L: LineRecords + Drop>(
     begun: Records<'_, L>,
 ) -> Result<KeyReviewed, AllocError>
     ensures { IfOk result (λ r. (text : List ℕ) (all : KeyCountsValue)
-        → HasLeft L.tells All form (asking_of asked.entry.now) name.now file.now text all begun.entry
+        → HasLeft L.tells All (AsLines form) (asking_of asked.entry.now) name.now file.now text all begun.entry
         → key_review r ≡ reviewed_by form name.now file.now text all) }
 {
-    let mut records = begun;
     let mut text = Vec::new(alloc);
-    while records.push_some(alloc, Show::All, form, asked, name, &mut text)? {}
-    let reviewed = with_end(alloc, form, name, file, records.reported, text)?;
+    let reported = push_all(
+        alloc,
+        RecordForm::AsLines(form),
+        asked,
+        name,
+        begun,
+        &mut text,
+    )?;
+    let reviewed = with_end(alloc, form, name, file, reported, text)?;
     Ok(reviewed)
 }

@@ -34,6 +34,7 @@ returns-then-writer-eq0-clause-means c =
       rewrite = c.run-status.ensures.rewrite few;
       hash = c.run-status.ensures.hash few;
       review = c.run-status.ensures.review few;
+      review_page = c.run-status.ensures.review_page few;
       review_key = c.run-status.ensures.review_key few;
       review_key_none = c.run-status.ensures.review_key_none few;
     }))

@@ -1,3 +1,4 @@
+use Rattle.ssh_page.proofs.HeadTextLemmas.{header_none, mend_none}
 use Rattle.ssh_page.proofs.TextLemmas.{bare_none, entry_has, host_entry_has, revoked_has, unreadable_none}
 use Rattle.ssh_page.proofs.laws.texts_rule.Goals as goal
 
@@ -8,4 +9,6 @@ returns c = record {
   host_entry = λ place f found. (host_entry_has place f found).by;
   revoked = λ place fingerprint names found. (revoked_has place fingerprint names found).by;
   bare = λ place is held found. (bare_none place is held found).by;
+  header = λ q t. (header_none q t).by;
+  mend = λ q t found. (mend_none q t found).by;
 }

@@ -4,6 +4,7 @@ use Rattle.ssh_program.proofs.FingerprintRunLemmas.{fingerprint_admitted_run, fi
 use Rattle.ssh_program.proofs.GrantedRunLemmas.{host_denied_run, host_granted_run, login_denied_run, login_granted_run}
 use Rattle.ssh_program.proofs.KeyRunLemmas.{client_admitted_run, client_kept_out_run, host_distrusted_run, host_trusted_run}
 use Rattle.ssh_program.proofs.KeyStandingLemmas.{key_nowhere_run, key_standing_run}
+use Rattle.ssh_program.proofs.PageRunLemmas.{files_on_page_run}
 use Rattle.ssh_program.proofs.SignatureRunLemmas.{signature_unvouched_run, signature_vouched_run}
 use Rattle.ssh_program.proofs.program.run.Goals as goal
 
@@ -85,6 +86,11 @@ returns-clause-hash g c =
 pub returns-clause-review : goal.returns-clause-review
 returns-clause-review g c =
     files_reviewed_run (map g.S.AsStr.text c.args.words.now) (g.F.Files.source_state c.args.files.now) (g.F.Files.source_state c.answer.new.files)
+    (g.W.Sink.account c.args.writer.now) (g.W.Sink.account c.answer.new.writer) c.answer.result c.answer.ensures
+
+pub returns-clause-review_page : goal.returns-clause-review_page
+returns-clause-review_page g c =
+    files_on_page_run (map g.S.AsStr.text c.args.words.now) (g.F.Files.source_state c.args.files.now) (g.F.Files.source_state c.answer.new.files)
     (g.W.Sink.account c.args.writer.now) (g.W.Sink.account c.answer.new.writer) c.answer.result c.answer.ensures
 
 pub returns-clause-review_key : goal.returns-clause-review_key

@@ -1,12 +1,12 @@
-use Rattle.ssh_program.proofs.Imports.{[], asking_of, err_from_is_err_and, lines_of}
+use Rattle.ssh_program.proofs.Imports.{AsLines, [], asking_of, err_from_is_err_and, lines_of}
 use Rattle.ssh_text.specs.Text.{numbered}
 use Rattle.ssh_review.specs.HostLines.{host_counts_of}
 use Rattle.ssh_review.specs.Lines.{counts_of}
 use Rattle.ssh_review.specs.ShownRecords.{shown_records}
-use Rattle.ssh_review.specs.ToldLines.{host_lines_told, lines_told, of_all}
-use Rattle.ssh_program.specs.FileReviews.{review_kept, review_of}
-use Rattle.ssh_program.specs.declared.streaming.FileReported.{FileReported}
+use Rattle.ssh_review.specs.LineReports.{host_line_reports_of, line_reports_of, of_all}
 use Rattle.ssh_program.proofs.FileLemmas.{auth-put, known-put}
+use Rattle.ssh_program.specs.declared.streaming.FileReported.{FileReported}
+use Rattle.ssh_program.specs.FileReviews.{review_kept, review_of}
 use Rattle.ssh_program.proofs.PutLemmas.{put-nothing}
 use Rattle.ssh_program.proofs.review.put_bytes_review.Goals as goal
 
@@ -16,7 +16,7 @@ returns-in_ok-records-in-Auth-clause-put g c =
     let asking = asking_of c.args.asked.now in
     let lines = numbered 1 (lines_of file) in
     rw c.in-Auth.is (auth-put c.args.show c.args.form asking c.args.name.now file (g.W.Sink.account c.args.writer.now) (g.W.Sink.account c.put_review.new.writer) c.put_review.result c.requires.limit
-    (c.put_review.ensures.put (shown_records c.args.show (lines_told c.args.form asking c.args.name.now [] lines)) (of_all (counts_of asking [] lines)) (c.in_ok-records-in-Auth.ensures c.args.show c.args.form asking c.args.name.now)))
+    (c.put_review.ensures.put (shown_records c.args.show (line_reports_of (AsLines c.args.form) asking c.args.name.now [] lines)) (of_all (counts_of asking [] lines)) (c.in_ok-records-in-Auth.ensures c.args.show (AsLines c.args.form) asking c.args.name.now)))
 
 pub returns-in_ok-records-in-Known-clause-put : goal.returns-in_ok-records-in-Known-clause-put
 returns-in_ok-records-in-Known-clause-put g c =
@@ -24,14 +24,16 @@ returns-in_ok-records-in-Known-clause-put g c =
     let asking = asking_of c.args.asked.now in
     let lines = numbered 1 (lines_of file) in
     rw c.in-Known.is (known-put c.args.show c.args.form asking c.args.name.now file (g.W.Sink.account c.args.writer.now) (g.W.Sink.account c.put_review-in-Known.new.writer) c.put_review-in-Known.result c.requires.limit
-    (c.put_review-in-Known.ensures.put (shown_records c.args.show (host_lines_told c.args.form asking c.args.name.now [] lines)) (of_all (host_counts_of asking [] lines)) (c.in_ok-records-in-Known.ensures c.args.show c.args.form asking c.args.name.now)))
+    (c.put_review-in-Known.ensures.put (shown_records c.args.show (host_line_reports_of (AsLines c.args.form) asking c.args.name.now [] lines)) (of_all (host_counts_of asking [] lines)) (c.in_ok-records-in-Known.ensures c.args.show (AsLines c.args.form) asking c.args.name.now)))
 
 pub returns-in_err-records-in-Auth-clause-put : goal.returns-in_err-records-in-Auth-clause-put
 returns-in_err-records-in-Auth-clause-put g c =
     let p = err_from_is_err_and c.from_residual.result c.from_residual.ensures.1 in
-    rw (p.1, p.2) (put-nothing {K = FileReported} (review_of c.args.kind c.args.show c.args.form (asking_of c.args.asked.now) c.args.name.now c.args.file.now).text (review_kept (review_of c.args.kind c.args.show c.args.form (asking_of c.args.asked.now) c.args.name.now c.args.file.now)) (g.W.Sink.account c.args.writer.now))
+    let r = review_of c.args.kind c.args.show c.args.form (asking_of c.args.asked.now) c.args.name.now c.args.file.now in
+    rw (p.1, p.2) (put-nothing {K = FileReported} r.text (review_kept r) (g.W.Sink.account c.args.writer.now))
 
 pub returns-in_err-records-in-Known-clause-put : goal.returns-in_err-records-in-Known-clause-put
 returns-in_err-records-in-Known-clause-put g c =
     let p = err_from_is_err_and c.from_residual-in_err-records-in-Known.result c.from_residual-in_err-records-in-Known.ensures.1 in
-    rw (p.1, p.2) (put-nothing {K = FileReported} (review_of c.args.kind c.args.show c.args.form (asking_of c.args.asked.now) c.args.name.now c.args.file.now).text (review_kept (review_of c.args.kind c.args.show c.args.form (asking_of c.args.asked.now) c.args.name.now c.args.file.now)) (g.W.Sink.account c.args.writer.now))
+    let r = review_of c.args.kind c.args.show c.args.form (asking_of c.args.asked.now) c.args.name.now c.args.file.now in
+    rw (p.1, p.2) (put-nothing {K = FileReported} r.text (review_kept r) (g.W.Sink.account c.args.writer.now))

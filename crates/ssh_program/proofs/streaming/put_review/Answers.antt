@@ -1,4 +1,4 @@
-use Rattle.ssh_program.proofs.Imports.{◌≡◌, None, ◌∙◌, ◌++◌, List, ℕ, ap, asking_of, err_from_is_err_and, rules, subst, sym, Breaks, TakesAll}
+use Rattle.ssh_program.proofs.Imports.{◌≡◌, AsLines, None, ◌∙◌, ◌++◌, List, ℕ, ap, asking_of, err_from_is_err_and, rules, subst, sym, Breaks, TakesAll}
 use Rattle.sha2.specs.Sha256.{sha256}
 use Rattle.ssh_review.specs.Forms.{end_line}
 use Rattle.ssh_review.specs.Making.{MakesFront}
@@ -21,7 +21,7 @@ loop-out-preserved g c =
     let old = g.W.Sink.account c.args.writer.now in
     let before = g.W.Sink.account c.loop-out.writer in
     let new = g.W.Sink.account c.put_lines.new.writer in
-    let makes = subst (λ (l : List ℕ). MakesFront g.L.LineRecords.tells c.args.show c.args.form asking c.args.name.now c.loop-out.records c.push_some.new.self l c.push_some.new.out.items) c.loop-out.invariant.1 c.in_ok-push_some.ensures.made in
+    let makes = subst (λ (l : List ℕ). MakesFront g.L.LineRecords.tells c.args.show (AsLines c.args.form) asking c.args.name.now c.loop-out.records c.push_some.new.self l c.push_some.new.out.items) c.loop-out.invariant.1 c.in_ok-push_some.ensures.made in
     let taken = subst (λ (l : List ℕ). TakesAll before new l) c.deref.ensures.value c.in_ok-put_lines.ensures.ok in (
       none_failed before new c.push_some.new.out.items taken c.loop-out.invariant.0,
       search rules,
@@ -42,7 +42,7 @@ returns-in_err-put_lines-clause-put g c =
     let asking = asking_of c.args.asked.now in
     let before = g.W.Sink.account c.loop-out.writer in
     let new = g.W.Sink.account c.put_lines.new.writer in
-    let makes = subst (λ (l : List ℕ). MakesFront g.L.LineRecords.tells c.args.show c.args.form asking c.args.name.now c.loop-out.records c.push_some.new.self l c.push_some.new.out.items) c.loop-out.invariant.1 c.in_ok-push_some.ensures.made in
+    let makes = subst (λ (l : List ℕ). MakesFront g.L.LineRecords.tells c.args.show (AsLines c.args.form) asking c.args.name.now c.loop-out.records c.push_some.new.self l c.push_some.new.out.items) c.loop-out.invariant.1 c.in_ok-push_some.ensures.made in
     let breaks = subst (λ (l : List ℕ). Breaks before new l) c.deref.ensures.value c.in_err-put_lines.ensures.err in
     let p = err_from_is_err_and c.from_residual-in_err-put_lines.result c.from_residual-in_err-put_lines.ensures.1 in
     λ text all w. rw (p.1, p.2) (put-broken g.L.LineRecords.tells c.args.show c.args.form asking c.args.name.now c.args.file.now text (shown_end c.args.show (end_line c.args.form c.args.name.now all.counts (sha256 c.args.file.now))) all c.args.begun c.loop-out.records c.push_some.new.self
@@ -63,7 +63,7 @@ returns-in_err-put_lines-2-clause-put g c =
     let asking = asking_of c.args.asked.now in
     let before = g.W.Sink.account c.loop-out.writer in
     let new = g.W.Sink.account c.put_lines-2.new.writer in
-    let makes = subst (λ (l : List ℕ). MakesFront g.L.LineRecords.tells c.args.show c.args.form asking c.args.name.now c.loop-out.records c.push_some.new.self l c.push_some.new.out.items) c.loop-out.invariant.1 c.in_ok-push_some.ensures.made in
+    let makes = subst (λ (l : List ℕ). MakesFront g.L.LineRecords.tells c.args.show (AsLines c.args.form) asking c.args.name.now c.loop-out.records c.push_some.new.self l c.push_some.new.out.items) c.loop-out.invariant.1 c.in_ok-push_some.ensures.made in
     let is : c.push_shown_end.new.out.items ≡ c.push_some.new.out.items ++ shown_end c.args.show (end_line c.args.form c.args.name.now c.push_some.new.self.reported.counts (sha256 c.args.file.now)) = rw (sym c.reported-reported.ensures) c.in_ok-push_shown_end.ensures in
     let breaks = subst (λ (l : List ℕ). Breaks before new l) c.deref-2.ensures.value c.in_err-put_lines-2.ensures.err in
     let p = err_from_is_err_and c.from_residual-in_err-put_lines-2.result c.from_residual-in_err-put_lines-2.ensures.1 in
@@ -75,7 +75,7 @@ returns-clause-put g c =
     let asking = asking_of c.args.asked.now in
     let before = g.W.Sink.account c.loop-out.writer in
     let new = g.W.Sink.account c.put_lines-2.new.writer in
-    let makes = subst (λ (l : List ℕ). MakesFront g.L.LineRecords.tells c.args.show c.args.form asking c.args.name.now c.loop-out.records c.push_some.new.self l c.push_some.new.out.items) c.loop-out.invariant.1 c.in_ok-push_some.ensures.made in
+    let makes = subst (λ (l : List ℕ). MakesFront g.L.LineRecords.tells c.args.show (AsLines c.args.form) asking c.args.name.now c.loop-out.records c.push_some.new.self l c.push_some.new.out.items) c.loop-out.invariant.1 c.in_ok-push_some.ensures.made in
     let is : c.push_shown_end.new.out.items ≡ c.push_some.new.out.items ++ shown_end c.args.show (end_line c.args.form c.args.name.now c.push_some.new.self.reported.counts (sha256 c.args.file.now)) = rw (sym c.reported-reported.ensures) c.in_ok-push_shown_end.ensures in
     let taken = subst (λ (l : List ℕ). TakesAll before new l) c.deref-2.ensures.value c.in_ok-put_lines-2.ensures.ok in
     λ text all w. rw c.reported-reported.ensures (put-all g.L.LineRecords.tells c.args.show c.args.form asking c.args.name.now c.args.file.now text (sha256 c.args.file.now) all c.args.begun c.loop-out.records c.push_some.new.self

@@ -1,9 +1,9 @@
 use Rattle.ssh_review.proofs.Imports.{[], arith, ap, counts_of, lines_of, numbered, refl, AreBytes-from}
 use Rattle.ssh_review.specs.Making.{AuthTells}
 use Rattle.ssh_review.specs.ShownRecords.{shown_records}
-use Rattle.ssh_review.specs.ToldLines.{lines_told, of_all}
+use Rattle.ssh_review.specs.LineReports.{line_reports_of, of_all}
 use Rattle.ssh_review.proofs.MakingLemmas.{first-left}
-use Rattle.ssh_review.proofs.ShownRecordLemmas.{told-counts}
+use Rattle.ssh_review.proofs.ShownRecordLemmas.{report-counts}
 use Rattle.ssh_review.proofs.StepLemmas.{auth-first, auth-fits}
 use Rattle.ssh_review.proofs.auth_review.auth_records.Goals as goal
 
@@ -12,8 +12,8 @@ returns c =
     λ show form asking name.
     let file = c.args.file.now in
     let lines = numbered 1 (lines_of file) in
-    let told = lines_told form asking name [] lines in
-    first-left AuthTells show form asking name file (shown_records show told) (of_all (counts_of asking [] lines)) c.new-earlier.result lines told c.in_ok-records.records
+    let line_reports = line_reports_of form asking name [] lines in
+    first-left AuthTells show form asking name file (shown_records show line_reports) (of_all (counts_of asking [] lines)) c.new-earlier.result lines line_reports c.in_ok-records.records
     c.in_ok-records.ensures.earlier (ap (λ s. numbered s.0 (lines_of s.1)) c.in_ok-records.ensures.lines) c.in_ok-records.ensures.reported (auth-fits asking file c.requires)
     (auth-first form asking name file c.new-earlier.result (AreBytes-from file (λ i. omega (arith, c.type_inv.file i))) c.new-earlier.ensures.stands c.new-earlier.ensures.bytes c.new-earlier.ensures.keys)
-    refl (told-counts form asking name [] lines)
+    refl (report-counts form asking name [] lines)

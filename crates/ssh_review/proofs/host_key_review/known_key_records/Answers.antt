@@ -1,11 +1,11 @@
 use Rattle.ssh_review.proofs.Imports.{[], ap, lines_of, numbered, refl, sym}
 use Rattle.ssh_review.specs.HostKeyRecords.{host_key_counts_of, host_key_records_of}
 use Rattle.ssh_review.specs.Making.{KnownKeyTells}
-use Rattle.ssh_review.specs.ToldLines.{host_key_lines_told}
+use Rattle.ssh_review.specs.LineReports.{host_key_line_reports_of}
 use Rattle.ssh_review.specs.declared.show.Show.TheVariants.{All}
 use Rattle.ssh_review.proofs.HostStepLemmas.{known-key-fits}
 use Rattle.ssh_review.proofs.MakingLemmas.{first-left}
-use Rattle.ssh_review.proofs.ShownRecordLemmas.{host-key-all-shown, host-key-told-counts}
+use Rattle.ssh_review.proofs.ShownRecordLemmas.{host-key-all-shown, host-key-report-counts}
 use Rattle.ssh_review.proofs.host_key_review.known_key_records.Goals as goal
 
 pub returns : goal.returns
@@ -14,7 +14,7 @@ returns c =
     let file = c.args.file.now in
     let sought = c.args.sought.now in
     let lines = numbered 1 (lines_of file) in
-    first-left KnownKeyTells All form asking name file (host_key_records_of sought form asking name [] lines) (host_key_counts_of sought asking [] lines) _ lines (host_key_lines_told sought form asking name [] lines) c.in_ok-records.records
+    first-left KnownKeyTells All form asking name file (host_key_records_of sought form asking name [] lines) (host_key_counts_of sought asking [] lines) _ lines (host_key_line_reports_of sought form asking name [] lines) c.in_ok-records.records
     c.in_ok-records.ensures.earlier (ap (λ s. numbered s.0 (lines_of s.1)) c.in_ok-records.ensures.lines) c.in_ok-records.ensures.reported (known-key-fits sought asking file c.requires)
-    (record { before = []; stored = c.new-earlier.ensures.stands; are_told = refl })
-    (sym (host-key-all-shown sought form asking name [] lines)) (host-key-told-counts sought form asking name [] lines)
+    (record { before = []; stored = c.new-earlier.ensures.stands; are_reports = refl })
+    (sym (host-key-all-shown sought form asking name [] lines)) (host-key-report-counts sought form asking name [] lines)

@@ -1,10 +1,10 @@
 use Rattle.ssh_review.proofs.Imports.{[], arith, ap, host_counts_of, lines_of, numbered, refl, AreBytes-from}
 use Rattle.ssh_review.specs.Making.{KnownTells}
 use Rattle.ssh_review.specs.ShownRecords.{shown_records}
-use Rattle.ssh_review.specs.ToldLines.{host_lines_told, of_all}
+use Rattle.ssh_review.specs.LineReports.{host_line_reports_of, of_all}
 use Rattle.ssh_review.proofs.HostStepLemmas.{known-first, known-fits}
 use Rattle.ssh_review.proofs.MakingLemmas.{first-left}
-use Rattle.ssh_review.proofs.ShownRecordLemmas.{hosts-told-counts}
+use Rattle.ssh_review.proofs.ShownRecordLemmas.{hosts-report-counts}
 use Rattle.ssh_review.proofs.host_review.known_records.Goals as goal
 
 pub returns : goal.returns
@@ -12,8 +12,8 @@ returns c =
     λ show form asking name.
     let file = c.args.file.now in
     let lines = numbered 1 (lines_of file) in
-    let told = host_lines_told form asking name [] lines in
-    first-left KnownTells show form asking name file (shown_records show told) (of_all (host_counts_of asking [] lines)) c.new-earlier.result lines told c.in_ok-records.records
+    let line_reports = host_line_reports_of form asking name [] lines in
+    first-left KnownTells show form asking name file (shown_records show line_reports) (of_all (host_counts_of asking [] lines)) c.new-earlier.result lines line_reports c.in_ok-records.records
     c.in_ok-records.ensures.earlier (ap (λ s. numbered s.0 (lines_of s.1)) c.in_ok-records.ensures.lines) c.in_ok-records.ensures.reported (known-fits asking file c.requires)
     (known-first form asking name file c.new-earlier.result (AreBytes-from file (λ i. omega (arith, c.type_inv.file i))) c.new-earlier.ensures.stands c.new-earlier.ensures.bytes c.new-earlier.ensures.sum)
-    refl (hosts-told-counts form asking name [] lines)
+    refl (hosts-report-counts form asking name [] lines)

@@ -1,0 +1,178 @@
+-- The page of a review: what each file has on it, one after the other, and the whole.
+use Rattle.ssh_program.proofs.Imports.{◌≡◌, ◌∙◌, ◌≤◌, ◌++◌, ℕ, Bool, true, false, List, [], ◌∷◌, length, Option, Some, None, Result, Ok, Err, refl, sym, ap, subst, inl, inr, IfOk, OnOk, arith, lt-ltb, append_assoc, flat_map-append, Account, Asking, TellsFile, TellsFiles, IfTells, SourceState, bytes_at, after_whole, FailsLoad, IsLeft, IsTooLong, KeepsOthers, within_limit, ReadError, left-none, read-all, left-end, no-end, over_limit, TooLong, ReviewKind, file_limit, Leads, leads_end, leads_next, WritesResponse}
+use Rattle.std.specs.Prelude.{nat_lt, if◌then◌else◌}
+use Rattle.ssh_files.specs.declared.read.ReadError.TheVariants as read
+use Rattle.ssh_files.proofs.TurnLemmas.{leads_begin}
+use Rattle.ssh_findings.specs.declared.code.Code.{Code}
+use Rattle.ssh_page.specs.declared.file.FileKind.{FileKind}
+use Rattle.ssh_page.specs.Documents.{Document, marks}
+use Rattle.ssh_page.specs.Expanding.{mark_html, page}
+use Rattle.ssh_page.specs.Files.{register_end, register_head}
+use Rattle.ssh_page.specs.Pages.{lines_end, page_end, whole_page}
+use Rattle.ssh_page.specs.Questions.{QuestionSeen}
+use Rattle.ssh_page.specs.declared.header.PageTotals.{PageTotals}
+use Rattle.ssh_page.specs.declared.mend.CodeCount.{CodeCount}
+use Rattle.ssh_print.specs.Responses.{Response as Shown}
+use Rattle.ssh_review.specs.declared.end.FileFault.{FileFault}
+use Rattle.ssh_review.specs.declared.end.FileFault.TheVariants.{Unread}
+use Rattle.ssh_review.specs.declared.end.Total.{Total}
+use Rattle.ssh_review.specs.Ends.{total_words}
+use Rattle.ssh_review.specs.PageFiles.{unread_row, unread_section}
+use Rattle.ssh_program.specs.declared.review_page.MadePage.{MadePage}
+use Rattle.ssh_program.specs.declared.streaming.FileReported.{FileReported}
+use Rattle.ssh_program.specs.PageReviews.{FileGiven, IsReported, PageMarks, PageSofar, PageReported, ReviewsPage, fault_kept, fault_read, given_bytes, given_kept, made_response, no_page, page_kept, page_kind, page_response, page_rest, parts_response, row_by, section_by, telling_given, with_given, within}
+use Rattle.ssh_program.specs.PageFronts.{codes_found, page_front, page_question, page_totals}
+use Rattle.ssh_program.specs.Printing.{WritesAnswer}
+use Rattle.ssh_program.specs.Totals.{with_counted}
+use Rattle.ssh_program.proofs.FileLemmas.{both_in, within-false}
+
+-- ---- one file
+
+-- what was appended for a file, in one fact
+reports-of : {E : Type 0} (res : Result FileReported E) (A B : Type 0) (kept : FileReported) → OnOk res A → OnOk res B → IfOk res (λ reported. reported ≡ kept) → IfOk res (λ reported. A × B × (reported ≡ kept))
+reports-of (Ok reported) A B kept a b k = (a, b, k)
+reports-of (Err e) A B kept a b k = tt
+
+with-given : {E : Type 0} (res : Result FileReported E) (G : FileGiven → Type 0) (T : FileGiven → FileReported → Type 0) (given : FileGiven) → G given → IfOk res (T given) → IfOk res (λ reported. (f : FileGiven) × G f × T f reported)
+with-given (Ok reported) G T given g h = (given, g, h)
+with-given (Err e) G T given g h = tt
+
+abbrev as-given : List ℕ → Result (List ℕ) FileFault → FileGiven
+as-given name bytes = record { name = name; bytes = bytes }
+
+within-is : (file : List ℕ) → length file ≤ file_limit → Ok file ≡ within file
+within-is file few = ap (λ (b : Bool). if b then Err TooLong else Ok file) (sym (within-false (length file) few))
+
+-- a file that was read
+given-read : (name file bytes : List ℕ) (o t : Option SourceState) → length bytes ≤ file_limit → bytes ≡ file
+    → IfTells o (λ s. (within_limit (bytes_at s name) ≡ Some file) × IsLeft s (after_whole s name) t) → IfTells o (λ s. KeepsOthers name s t)
+    → IfTells o (λ s. TellsFile telling_given name s t (record { name = name; bytes = Ok bytes }))
+given-read name file bytes None t few is loads keeps = tt
+given-read name file bytes (Some s) t few is loads keeps = λ counts.
+    let load = loads counts in (
+      keeps counts,
+      inr (
+        left-none s (after_whole s name) t load.1,
+        left-end name s t load.1,
+        ap (as-given name) (within-is bytes few ∙ (ap within is ∙ ap given_bytes (sym (read-all (bytes_at s name) file load.0)))),
+      ),
+    )
+
+pub file-line_reports : {E : Type 0} (kind : FileKind) (number : ℕ) (asking : Asking) (name file bytes : List ℕ) (o t : Option SourceState) (res : Result FileReported E) (sections after register later : List ℕ)
+    → length bytes ≤ file_limit → bytes ≡ file → IfTells o (λ s. (within_limit (bytes_at s name) ≡ Some file) × IsLeft s (after_whole s name) t) → IfTells o (λ s. KeepsOthers name s t)
+    → OnOk res (after ≡ sections ++ marks (section_by kind number asking name (Ok bytes))) → OnOk res (later ≡ register ++ marks (row_by kind number asking name (Ok bytes)))
+    → IfOk res (λ reported. reported ≡ given_kept kind asking (Ok bytes))
+    → IfOk res (λ reported. (given : FileGiven) × IfTells o (λ s. TellsFile telling_given name s t given) × IsReported kind number asking given sections after register later reported)
+file-line_reports kind number asking name file bytes o t res sections after register later few is loads keeps section row kept =
+    with-given res (λ given. IfTells o (λ s. TellsFile telling_given name s t given)) (λ given reported. IsReported kind number asking given sections after register later reported)
+    (record { name = name; bytes = Ok bytes }) (given-read name file bytes o t few is loads keeps)
+    (reports-of res (after ≡ sections ++ marks (section_by kind number asking name (Ok bytes))) (later ≡ register ++ marks (row_by kind number asking name (Ok bytes))) (given_kept kind asking (Ok bytes)) section row kept)
+
+-- one that gives no bytes
+too-long : (bytes : Option (List ℕ)) → IsTooLong bytes → Err TooLong ≡ given_bytes bytes
+too-long None h = absurd h
+too-long (Some bytes) h = ap (λ (b : Bool). if b then Err TooLong else Ok bytes) (sym (lt-ltb file_limit (length bytes) h))
+
+given-unread : (name : List ℕ) (o t : Option SourceState) (e : ReadError) → (e ≡ read.Memory → ⊥) → IfTells o (λ s. FailsLoad name (bytes_at s name) s t e) → IfTells o (λ s. KeepsOthers name s t)
+    → IfTells o (λ s. TellsFile telling_given name s t (record { name = name; bytes = Err (fault_read e) }))
+given-unread name o t read.Memory some fails keeps = absurd (some refl)
+given-unread name o t read.TooLong some fails keeps =
+    both_in _ _ _ o (λ s f k. (k, inr (f.1, no-end name s t k (over_limit (bytes_at s name) f.0), ap (as-given name) (too-long (bytes_at s name) f.0)))) fails keeps
+given-unread name o t read.Missing some fails keeps =
+    both_in _ _ _ o (λ s f k. (k, inr (f.1, no-end name s t k (ap within_limit f.0), ap (λ (b : Option (List ℕ)). as-given name (given_bytes b)) (sym f.0)))) fails keeps
+given-unread name o t read.Failed some fails keeps = both_in _ _ _ o (λ s f k. (k, inl (f, refl))) fails keeps
+
+pub file-unread : {E : Type 0} (kind : FileKind) (number : ℕ) (asking : Asking) (name : List ℕ) (o t : Option SourceState) (e : ReadError) (res : Result FileReported E) (sections after register later : List ℕ)
+    → IfTells o (λ s. FailsLoad name (bytes_at s name) s t e) → IfTells o (λ s. KeepsOthers name s t)
+    → OnOk res (e ≡ read.Memory → ⊥) → OnOk res (after ≡ sections ++ marks (unread_section number name (fault_read e))) → OnOk res (later ≡ register ++ marks (unread_row number name (fault_read e)))
+    → IfOk res (λ reported. reported ≡ fault_kept (fault_read e))
+    → IfOk res (λ reported. (given : FileGiven) × IfTells o (λ s. TellsFile telling_given name s t given) × IsReported kind number asking given sections after register later reported)
+file-unread kind number asking name o t e (Ok reported) sections after register later fails keeps some section row kept =
+    (as-given name (Err (fault_read e)), given-unread name o t e some fails keeps, (section, row, kept))
+file-unread kind number asking name o t e (Err x) sections after register later fails keeps some section row kept = tt
+
+-- ---- all files
+
+-- the files at the front tell this, in marked text
+abbrev pub ReportedSoFar : ReviewKind → Asking → List (List ℕ) → List (List ℕ) → SourceState → Option SourceState → PageMarks → Type 0
+ReportedSoFar kind asking names left s now k = (sofar : PageSofar) × (k ≡ page_kept sofar) × Leads (with_given kind asking) telling_given no_page names s left now sofar
+
+pub reports-first : (kind : ReviewKind) (asking : Asking) (names : List (List ℕ)) (o : Option SourceState) (k : PageMarks) → k ≡ page_kept no_page → IfTells o (λ s. ReportedSoFar kind asking names names s o k)
+reports-first kind asking names None k is = tt
+reports-first kind asking names (Some s) k is = λ counts. (no_page, is, leads_begin (with_given kind asking) telling_given no_page names (Some s) counts)
+
+-- with one more file
+kept-more : (kind : ReviewKind) (asking : Asking) (sofar : PageSofar) (f : FileGiven) (k : PageMarks) (sections register : List ℕ) (reported : FileReported) → k ≡ page_kept sofar
+    → IsReported (page_kind kind) k.total.files asking f k.sections sections k.register register reported
+    → record { sections = sections; register = register; total = with_counted k.total reported.counts reported.fault } ≡ page_kept (with_given kind asking sofar f)
+kept-more kind asking sofar f k sections register reported is (section, row, kept) = rw (section, row, kept, is) refl
+
+pub reports-next : (kind : ReviewKind) (asking : Asking) (names : List (List ℕ)) (name : List ℕ) (left rest : List (List ℕ)) (o now next : Option SourceState) (k after : PageMarks) (reported : FileReported) (like : FileKind)
+    → left ≡ name ∷ rest → IfTells o (λ s. ReportedSoFar kind asking names left s now k) → like ≡ page_kind kind
+    → (given : FileGiven) × IfTells now (λ m. TellsFile telling_given name m next given) × IsReported like k.total.files asking given k.sections after.sections k.register after.register reported
+    → after.total ≡ with_counted k.total reported.counts reported.fault
+    → IfTells o (λ s. ReportedSoFar kind asking names rest s next after)
+reports-next kind asking names name left rest None now next k after reported like is h same_kind line_reports total = tt
+reports-next kind asking names name left rest (Some s) now next k after reported like is h same_kind (given, file, line_reports) total = λ counts.
+    let (sofar, same, lead) = h counts in (
+      with_given kind asking sofar given,
+      ap (λ (t : Total). record { sections = after.sections; register = after.register; total = t }) total
+          ∙ kept-more kind asking sofar given k after.sections after.register reported same
+          (subst (λ (x : FileKind). IsReported x k.total.files asking given k.sections after.sections k.register after.register reported) same_kind line_reports),
+      leads_next (with_given kind asking) telling_given no_page names name left rest (Some s) now next sofar given (with_given kind asking sofar given) is refl (λ _. lead) file counts,
+    )
+
+pub reports-last : (kind : ReviewKind) (asking : Asking) (names left : List (List ℕ)) (o now : Option SourceState) (k : PageMarks) → left ≡ []
+    → IfTells o (λ s. ReportedSoFar kind asking names left s now k) → IfTells o (λ s. PageReported kind asking names s now k)
+reports-last kind asking names left None now k none h = tt
+reports-last kind asking names left (Some s) now k none h = λ counts.
+    let (sofar, same, lead) = h counts in (
+      sofar,
+      same,
+      leads_end (with_given kind asking) telling_given no_page names left (Some s) now sofar none (λ _. lead) counts,
+    )
+
+-- ---- the whole
+
+-- the marked text of the whole page, in its two parts
+parts-are : (title : List ℕ) (q : QuestionSeen) (t : PageTotals) (found : List CodeCount) (words : List ℕ) (sections register : Document)
+    → marks (whole_page title q t found sections register words) ≡ page_front title q t found ++ (marks sections ++ page_rest (marks register) words)
+parts-are title q t found words sections register =
+    let a = page_front title q t found in
+    let b = marks sections in
+    let c = marks lines_end in
+    let g = marks register_head in
+    let r = marks register in
+    let d = marks (register_end words) in
+    let e = marks page_end in
+    let rest : c ++ g ++ r ++ d ++ e ≡ c ++ ((g ++ r ++ d) ++ e) =
+    ap (λ (x : List ℕ). x ++ d ++ e) (append_assoc c g r) ∙ (ap (λ (x : List ℕ). x ++ e) (append_assoc c (g ++ r) d) ∙ append_assoc c (g ++ r ++ d) e) in
+    append_assoc (a ++ b ++ c) (g ++ r ++ d) e
+    ∙ (append_assoc (a ++ b) c ((g ++ r ++ d) ++ e)
+    ∙ (append_assoc a b (c ++ ((g ++ r ++ d) ++ e)) ∙ ap (λ (x : List ℕ). a ++ (b ++ x)) (sym rest)))
+
+pub page-is : (failing : List Code) (title : List ℕ) (kind : ReviewKind) (rule : List ℕ) (asking : Asking) (p : PageSofar)
+    → parts_response failing title kind rule asking (page_kept p) ≡ page_response failing title kind rule asking p
+page-is failing title kind rule asking p =
+    let words = total_words rule asking p.total in
+    let body = marks p.sections ++ page_rest (marks p.register) words in
+    let q = page_question (page_kind kind) rule asking in
+    let found = codes_found p.total.counts.by_code in
+    let t = page_totals p.total found in
+    let text : page (page_front title q t found) ++ page body ≡ page (marks (whole_page title q t found p.sections p.register words)) =
+    sym (flat_map-append mark_html (page_front title q t found) body) ∙ ap page (sym (parts-are title q t found words p.sections p.register)) in
+    ap (λ (x : List ℕ). record { status = (parts_response failing title kind rule asking (page_kept p)).status; text = x }) text
+
+pub page-made : (failing : List Code) (title rule : List ℕ) (kind : ReviewKind) (asking : Asking) (names : List (List ℕ)) (o t : Option SourceState) (k : PageMarks) (m : MadePage)
+    → IfTells o (λ s. PageReported kind asking names s t k) → made_response m ≡ parts_response failing title kind rule asking k
+    → IfTells o (λ s. ReviewsPage title kind failing rule asking names s t (made_response m))
+page-made failing title rule kind asking names None t k m line_reports is = tt
+page-made failing title rule kind asking names (Some s) t k m line_reports is = λ counts.
+    let (sofar, same, files) = line_reports counts in
+    (sofar, files, is ∙ (ap (parts_response failing title kind rule asking) same ∙ page-is failing title kind rule asking sofar))
+
+-- what was made is written
+pub page-written : (P : SourceState → Shown → Type 0) (o : Option SourceState) (r : Shown) (old new : Option Account) (status : ℕ) → IfTells o (λ s. P s r) → WritesResponse old new r status
+    → IfTells o (λ s. WritesAnswer (P s) old new status)
+page-written P None r old new status h writes = tt
+page-written P (Some s) r old new status h writes = λ counts. (r, inl (h counts), writes)

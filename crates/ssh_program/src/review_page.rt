@@ -1,0 +1,346 @@
+//! The answer to `review` as a page: what each file has on it is made when the file is read, in
+//! marked text, and the page is written behind the last.
+
+ghost use Rattle.std.specs.Prelude.{◌≡◌, ◌≢◌, ◌<◌, ◌≤◌, ◌++◌, Ok, IfOk, OnErr, OnOk, length, map, take};
+ghost use Rattle.ssh_files.specs.SourceState.{IfTells};
+ghost use Rattle.ssh_files.specs.declared.read.ReadError.TheVariants as read;
+ghost use Rattle.ssh_files.specs.FilesInTurn.{TellsFile};
+ghost use Rattle.ssh_findings.specs.Asking.{asking_of};
+ghost use Rattle.ssh_page.specs.Documents.{marks};
+ghost use Rattle.ssh_page.specs.Expanding.{page};
+ghost use Rattle.ssh_review.specs.PageFiles.{unread_row, unread_section};
+ghost use Rattle.ssh_text.specs.Text.{file_limit};
+ghost use Rattle.ssh_program.specs.Account.{NoneFailed};
+ghost use Rattle.ssh_program.specs.PageReviews.{FileGiven, IsReported, PageReported, ReviewsPage, fault_kept, fault_read, given_kept, made_response, page_kind, page_rest, parts_response, parts_seen, row_by, section_by, telling_given};
+ghost use Rattle.ssh_program.specs.Printing.{Breaks, TakesAll, WritesAnswer, WritesResponse};
+
+use crate::page_front::front_of;
+use crate::printing::{put_bytes, put_no_memory};
+use crate::review::{NOTHING, ReviewKind, total_status, with_counted};
+use crate::sink::Sink;
+use crate::streaming::FileReported;
+use arrayvec::ArrayVec;
+use ssh_files::{Files, ReadError, read_whole};
+use ssh_findings::{Code, ReviewOptions};
+use ssh_page::{
+    FileKind, HtmlRoom, expand_front, first_html, push_lines_end, push_page_end, push_register_end,
+    push_register_head,
+};
+use ssh_print::FAULT;
+use ssh_review::{Counts, FileFault, Total, push_page_fault, push_page_file, total_words};
+use std::alloc::{AllocError, Global};
+use std::io;
+
+/// What the files that were read have on the page, in marked text, and their total.
+#[derive(Drop)]
+pub struct PageParts {
+    pub sections: Vec<u8>,
+    pub register: Vec<u8>,
+    pub total: Total,
+}
+
+/// A page in marked text, up to its first section and from there on, and the status.
+#[derive(Drop)]
+pub struct MadePage {
+    pub front: Vec<u8>,
+    pub body: Vec<u8>,
+    pub status: u8,
+}
+
+/// The format of the files, as the page has it.
+fn page_kind(kind: ReviewKind) -> FileKind
+    ensures { result ≡ page_kind kind }
+{
+    match kind {
+        ReviewKind::Auth => FileKind::AuthorizedKeys,
+        ReviewKind::Known => FileKind::KnownHosts,
+    }
+}
+
+/// Appends what a file of this name and these bytes has on the page. Returns what is counted.
+fn push_reviewed(
+    alloc: Global,
+    kind: FileKind,
+    number: u64,
+    asked: &ReviewOptions<'_>,
+    name: &[u8],
+    file: &[u8],
+    sections: &mut Vec<u8>,
+    register: &mut Vec<u8>,
+) -> Result<FileReported, AllocError>
+    requires { length file.now ≤ file_limit }
+    ensures section { OnOk result (sections.new.items ≡ sections.old.items
+        ++ marks (section_by kind number (asking_of asked.entry.now) name.now (Ok file.now))) }
+    ensures row { OnOk result (register.new.items ≡ register.old.items
+        ++ marks (row_by kind number (asking_of asked.entry.now) name.now (Ok file.now))) }
+    ensures kept { IfOk result
+        (λ reported. reported ≡ given_kept kind (asking_of asked.entry.now) (Ok file.now)) }
+{
+    let counts = push_page_file(alloc, kind, number, asked, name, file, sections, register)?;
+    Ok(FileReported {
+        counts,
+        stands: false,
+        fault: None,
+    })
+}
+
+/// Appends what a file with a fault has on the page. Returns what is counted.
+fn push_fault(
+    number: u64,
+    name: &[u8],
+    fault: FileFault,
+    sections: &mut Vec<u8>,
+    register: &mut Vec<u8>,
+) -> Result<FileReported, AllocError>
+    ensures section { OnOk result
+        (sections.new.items ≡ sections.old.items ++ marks (unread_section number name.now fault)) }
+    ensures row { OnOk result
+        (register.new.items ≡ register.old.items ++ marks (unread_row number name.now fault)) }
+    ensures kept { IfOk result (λ reported. reported ≡ fault_kept fault) }
+{
+    push_page_fault(number, name, fault, sections, register)?;
+    Ok(FileReported {
+        counts: Counts::NONE,
+        stands: false,
+        fault: Some(fault),
+    })
+}
+
+/// Appends what a file has on the page whose bytes could not be had. Returns what is counted.
+fn push_unread(
+    number: u64,
+    name: &[u8],
+    fault: ReadError,
+    sections: &mut Vec<u8>,
+    register: &mut Vec<u8>,
+) -> Result<FileReported, AllocError>
+    ensures memory { OnOk result (fault ≢ read.Memory) }
+    ensures section { OnOk result (sections.new.items
+        ≡ sections.old.items ++ marks (unread_section number name.now (fault_read fault))) }
+    ensures row { OnOk result (register.new.items
+        ≡ register.old.items ++ marks (unread_row number name.now (fault_read fault))) }
+    ensures kept { IfOk result (λ reported. reported ≡ fault_kept (fault_read fault)) }
+{
+    match fault {
+        ReadError::Memory => Err(AllocError),
+        ReadError::TooLong => push_fault(number, name, FileFault::TooLong, sections, register),
+        _ => push_fault(number, name, FileFault::Unread, sections, register),
+    }
+}
+
+/// Appends what the file of this name has on the page, where it has this number, counted from 0.
+/// Returns what is counted.
+fn tell_file<F: Files>(
+    alloc: Global,
+    kind: FileKind,
+    number: u64,
+    asked: &ReviewOptions<'_>,
+    name: &str,
+    files: &mut F,
+    sections: &mut Vec<u8>,
+    register: &mut Vec<u8>,
+) -> Result<FileReported, AllocError>
+    ensures { IfOk result (λ reported. (given : FileGiven)
+        × IfTells (F.source_state files.old) (λ s. TellsFile telling_given name.now s (F.source_state files.new) given)
+        × IsReported kind number (asking_of asked.entry.now) given sections.old.items sections.new.items
+        register.old.items register.new.items reported) }
+{
+    match read_whole(alloc, files, name) {
+        Ok(file) => push_reviewed(
+            alloc,
+            kind,
+            number,
+            asked,
+            name.as_bytes(),
+            &file,
+            sections,
+            register,
+        ),
+        Err(fault) => push_unread(number, name.as_bytes(), fault, sections, register),
+    }
+}
+
+/// What the files of these names have on the page, one after the other. In memory are the marked text
+/// and one file.
+fn tell_files<F: Files>(
+    alloc: Global,
+    kind: ReviewKind,
+    asked: &ReviewOptions<'_>,
+    names: &[&str],
+    files: &mut F,
+) -> Result<PageParts, AllocError>
+    ensures { IfTells (F.source_state files.old) (λ s. IfOk result (λ parts.
+        PageReported kind (asking_of asked.entry.now) (map (λ name. name.now) names.now) s
+        (F.source_state files.new) (parts_seen parts))) }
+{
+    let mut sections = Vec::new(alloc);
+    let mut register = Vec::new(alloc);
+    let mut total = NOTHING;
+    for name in names {
+        let reported = tell_file(
+            alloc,
+            page_kind(kind),
+            total.files,
+            asked,
+            name,
+            files,
+            &mut sections,
+            &mut register,
+        )?;
+        total = with_counted(total, reported.counts, reported.fault);
+    }
+    Ok(PageParts {
+        sections,
+        register,
+        total,
+    })
+}
+
+/// Appends the marked text behind the last section: the register with these rows and the total in
+/// these words, and the end of the page.
+fn push_rest(out: &mut Vec<u8>, register: &[u8], words: &[u8]) -> Result<(), AllocError>
+    ensures { OnOk result
+        (out.new.items ≡ out.old.items ++ page_rest register.now words.now) }
+{
+    push_lines_end(out)?;
+    push_register_head(out)?;
+    out.extend_from_slice(register)?;
+    push_register_end(out, words)?;
+    push_page_end(out)?;
+    Ok(())
+}
+
+/// The page of these parts.
+fn made_of(
+    alloc: Global,
+    title: &str,
+    kind: ReviewKind,
+    failing: &[Code],
+    rule: &[u8],
+    asked: &ReviewOptions<'_>,
+    parts: PageParts,
+) -> Result<MadePage, AllocError>
+    ensures { IfOk result (λ made. made_response made
+        ≡ parts_response failing.now title.now kind rule.now (asking_of asked.entry.now) (parts_seen parts)) }
+{
+    let front = front_of(alloc, title, page_kind(kind), rule, asked, &parts.total)?;
+    let words = total_words(alloc, rule, asked, &parts.total)?;
+    let status = total_status(failing, &parts.total);
+    let mut body = parts.sections;
+    push_rest(&mut body, &parts.register, &words)?;
+    Ok(MadePage {
+        front,
+        body,
+        status,
+    })
+}
+
+/// The page of the review of the files of these names.
+fn make_page<F: Files>(
+    alloc: Global,
+    title: &str,
+    kind: ReviewKind,
+    failing: &[Code],
+    rule: &[u8],
+    asked: &ReviewOptions<'_>,
+    names: &[&str],
+    files: &mut F,
+) -> Result<MadePage, AllocError>
+    ensures { IfTells (F.source_state files.old) (λ s. IfOk result (λ made.
+        ReviewsPage title.now kind failing.now rule.now (asking_of asked.entry.now) (map (λ name. name.now) names.now) s
+        (F.source_state files.new) (made_response made))) }
+{
+    let parts = tell_files(alloc, kind, asked, names, files)?;
+    let made = made_of(alloc, title, kind, failing, rule, asked, parts)?;
+    Ok(made)
+}
+
+/// Writes the HTML of some marks at the front, of which there is at least one, and returns how many
+/// these are. Does not allocate.
+fn put_front<W: Sink>(writer: &mut W, marks: &[u8]) -> io::Result<usize>
+    requires none { NoneFailed (W.account writer.old) }
+    requires some { 0 < length marks.now }
+    ensures ok { IfOk result (λ count. TakesAll (W.account writer.old) (W.account writer.new)
+        (page (take count marks.now))) }
+    ensures some { IfOk result (λ count. 0 < count) }
+    ensures within { IfOk result (λ count. count ≤ length marks.now) }
+    ensures err { OnErr result
+        (Breaks (W.account writer.old) (W.account writer.new) (page marks.now)) }
+{
+    let mut room: HtmlRoom = ArrayVec::new();
+    let count = expand_front(&mut room, marks);
+    if count == 0 {
+        put_bytes(writer, first_html(marks))?;
+        Ok(1)
+    } else {
+        put_bytes(writer, room.as_slice())?;
+        Ok(count)
+    }
+}
+
+/// Writes the HTML of a marked text. After an `Err`, by which a write failed, a front of it was taken
+/// that is not the whole.
+fn put_html<W: Sink>(writer: &mut W, marks: &[u8]) -> io::Result<()>
+    requires { NoneFailed (W.account writer.old) }
+    ensures ok { OnOk result (TakesAll (W.account writer.old) (W.account writer.new) (page marks.now)) }
+    ensures err { OnErr result (Breaks (W.account writer.old) (W.account writer.new) (page marks.now)) }
+{
+    let mut rest = marks;
+    while !rest.is_empty() {
+        let count = put_front(writer, rest)?;
+        let (_, behind) = rest.split_at(count);
+        rest = behind;
+    }
+    Ok(())
+}
+
+/// Writes the HTML of two marked texts, one behind the other.
+fn put_both<W: Sink>(writer: &mut W, front: &[u8], body: &[u8]) -> io::Result<()>
+    requires { NoneFailed (W.account writer.old) }
+    ensures ok { OnOk result (TakesAll (W.account writer.old) (W.account writer.new)
+        (page front.now ++ page body.now)) }
+    ensures err { OnErr result (Breaks (W.account writer.old) (W.account writer.new)
+        (page front.now ++ page body.now)) }
+{
+    put_html(writer, front)?;
+    put_html(writer, body)?;
+    Ok(())
+}
+
+/// Writes a page, and returns its status, or 2 if a write failed before all was written.
+fn put_page<W: Sink>(writer: &mut W, made: &MadePage) -> u8
+    requires { NoneFailed (W.account writer.old) }
+    ensures { WritesResponse (W.account writer.old) (W.account writer.new) (made_response made.now)
+        result }
+{
+    match put_both(writer, &made.front, &made.body) {
+        Ok(()) => made.status,
+        Err(_) => FAULT,
+    }
+}
+
+/// Writes the page of the review of the files of these names, and returns the status. A file that
+/// cannot be reviewed has its fault on the page, and the next is reviewed all the same. Nothing is
+/// written before the last file was read: where memory is refused, only that is line_reports.
+pub fn review_page<F: Files, W: Sink>(
+    alloc: Global,
+    title: &str,
+    kind: ReviewKind,
+    failing: &[Code],
+    rule: &[u8],
+    asked: &ReviewOptions<'_>,
+    names: &[&str],
+    files: &mut F,
+    writer: &mut W,
+) -> u8
+    requires { NoneFailed (W.account writer.old) }
+    ensures { IfTells (F.source_state files.old) (λ s. WritesAnswer
+        (ReviewsPage title.now kind failing.now rule.now (asking_of asked.entry.now)
+        (map (λ name. name.now) names.now) s (F.source_state files.new))
+        (W.account writer.old) (W.account writer.new) result) }
+{
+    match make_page(alloc, title, kind, failing, rule, asked, names, files) {
+        Ok(made) => put_page(writer, &made),
+        Err(AllocError) => put_no_memory(writer),
+    }
+}

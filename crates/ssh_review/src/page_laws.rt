@@ -1,0 +1,50 @@
+//! Laws about the rows of the page, proved of functions without a body.
+
+ghost use Rattle.std.specs.Prelude.{◌≡◌, ◌<◌, ℕ, List, Option};
+ghost use Rattle.std.specs.List.{AllByRecursion};
+ghost use Rattle.ssh_findings.specs.Asking.{Asking};
+ghost use Rattle.ssh_findings.specs.Earlier.{Held};
+ghost use Rattle.ssh_findings.specs.HostLines.{HostLine};
+ghost use Rattle.ssh_offers.specs.declared.claim.Signed.{Signed};
+ghost use Rattle.ssh_offers.specs.HostClaim.{HostClaim};
+ghost use Rattle.ssh_offers.specs.LoginClaim.{LoginClaim};
+ghost use Rattle.ssh_page.specs.Documents.{marks};
+ghost use Rattle.ssh_rights.specs.declared.rights.Rights.{Rights};
+ghost use Rattle.ssh_rules.specs.declared.reason.Reason.{Reason};
+ghost use Rattle.ssh_trust.specs.HostDecision.{host_decision};
+ghost use Rattle.ssh_trust.specs.LoginDecision.{login_decision};
+ghost use Rattle.ssh_trust.specs.declared.decision.Decision.TheVariants.{Granted};
+ghost use Rattle.ssh_review.specs.HostLines.{host_records_of};
+ghost use Rattle.ssh_review.specs.HostRows.{host_rows_of};
+ghost use Rattle.ssh_review.specs.Lines.{records_of};
+ghost use Rattle.ssh_review.specs.PageListing.{HasHostRow, HasRow};
+ghost use Rattle.ssh_review.specs.Rows.{rows_of};
+ghost use Rattle.ssh_review.specs.declared.records.RecordForm.TheVariants.{AsRow};
+
+/// Each record is one row, in the order of the lines: what is written of a file is the marked text of
+/// its rows.
+fn rows_rule()
+    ensures login { (file : ℕ) (asking : Asking) (name : List ℕ) (earlier : List Held)
+        (lines : List (ℕ × List ℕ))
+        → records_of (AsRow file) asking name earlier lines ≡ marks (rows_of file asking earlier lines) }
+    ensures host { (file : ℕ) (asking : Asking) (name : List ℕ) (earlier : List HostLine)
+        (lines : List (ℕ × List ℕ))
+        → host_records_of (AsRow file) asking name earlier lines
+        ≡ marks (host_rows_of file asking earlier lines) }
+{}
+
+/// Whoever is let in or trusted is so by a line that has a row in the file's section.
+fn row_listed_rule()
+    ensures login { (asking : Asking) (number : ℕ) (file : List ℕ) (claim : LoginClaim)
+        (vouched : List Signed) (n : ℕ) (rights : Option Rights) (reasons : List (ℕ × Reason))
+        (evidence : List Signed)
+        → AllByRecursion (λ c. c < 256) file
+        → login_decision file claim vouched ≡ Granted n rights reasons evidence
+        → HasRow asking number file n }
+    ensures host { (asking : Asking) (number : ℕ) (file : List ℕ) (claim : HostClaim)
+        (vouched : List Signed) (n : ℕ) (rights : Option Rights) (reasons : List (ℕ × Reason))
+        (evidence : List Signed)
+        → AllByRecursion (λ c. c < 256) file
+        → host_decision file claim vouched ≡ Granted n rights reasons evidence
+        → HasHostRow asking number file n }
+{}
