@@ -8,12 +8,15 @@ ghost use Rattle.ssh_findings.specs.Rows.{LeadBack, LeadToLasts};
 use std::alloc::{AllocError, Global};
 use std::hash::{FoldHasher, Hasher};
 
+/// How many bytes at the end of a text are hashed: those that differ from one key to another.
+const HASHED: usize = 64;
+
 /// The 64-bit hash of a text.
 pub(crate) fn number(text: &[u8]) -> u64
     ensures { result ≡ number text.now }
 {
     let mut hasher = FoldHasher::default();
-    hasher.write(text);
+    hasher.write(&text[text.len().saturating_sub(HASHED)..]);
     hasher.finish()
 }
 
