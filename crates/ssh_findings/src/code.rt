@@ -243,7 +243,7 @@ pub struct ReviewOptions<'a> {
 
 impl ReviewOptions<'_> {
     /// Whether findings with this code are reported.
-    pub fn tells(&self, code: Code) -> bool
+    pub fn reports(&self, code: Code) -> bool
         ensures { result ≡ is_reported (asking_of self.entry.now) code }
     {
         self.reported.contains(&code)

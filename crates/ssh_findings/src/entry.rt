@@ -9,7 +9,7 @@ ghost use Rattle.ssh_findings.specs.EntryFindings.{may_let_in, condition_finding
 use crate::code::ReviewOptions;
 use crate::earlier::Earlier;
 use crate::facts::{Facts, is_past};
-use crate::finding::{Finding, tell, tell_some};
+use crate::finding::{Finding, report_if, report_some};
 use crate::openssh::{Ground, has_ground};
 use crate::sources::{Pieces, has_short_address, is_bad_list, refuses_all};
 use ssh_keys::KeyKind;
@@ -91,7 +91,7 @@ pub fn may_let_in(asked: &ReviewOptions<'_>, facts: &Facts) -> bool
 
 /// F5 to F7: a short RSA key, an expiry time that is past, and lists that permit nobody.
 #[tactic(auto, using(crate::proofs::SpareLemmas::none_in_front, crate::proofs::SpareLemmas::none_behind))]
-fn tell_conditions(
+fn report_conditions(
     found: &mut Vec<Finding>,
     asked: &ReviewOptions<'_>,
     facts: &Facts,
@@ -103,14 +103,14 @@ fn tell_conditions(
     let (has_name, _) = names_of(&facts.principals);
     let nobody = facts.is_authority && facts.principals.is_some() && !has_name;
     let short = asked.short_size(facts.bits).map(Finding::ShortKey);
-    tell_some(found, asked, short)?;
+    report_some(found, asked, short)?;
     let is_past = is_past(moment_asked(asked.now, facts), facts.until);
     let bad = permits_bad(&facts.from);
     let refused = refuses_all_in(&facts.from);
-    tell(found, asked, is_past, Finding::Expired)?;
-    tell(found, asked, bad && refused, Finding::BadSources)?;
-    tell(found, asked, bad && !refused, Finding::SourcesHere)?;
-    tell(found, asked, nobody, Finding::NoPrincipal)?;
+    report_if(found, asked, is_past, Finding::Expired)?;
+    report_if(found, asked, bad && refused, Finding::BadSources)?;
+    report_if(found, asked, bad && !refused, Finding::SourcesHere)?;
+    report_if(found, asked, nobody, Finding::NoPrincipal)?;
     Ok(())
 }
 
@@ -122,7 +122,7 @@ fn is_security_key(kind: KeyKind) -> bool
 
 /// F8: what OpenSSH reads differently.
 #[tactic(auto, using(crate::proofs::SpareLemmas::none_in_front, crate::proofs::SpareLemmas::none_behind))]
-fn tell_readings(
+fn report_readings(
     found: &mut Vec<Finding>,
     asked: &ReviewOptions<'_>,
     facts: &Facts,
@@ -138,11 +138,11 @@ fn tell_readings(
     let other = has_short_address_in(&facts.from) && !refuses_all_in(&facts.from);
     let ignored = !facts.is_authority && facts.verify_required && !is_security_key(facts.kind);
     let local = facts.has_local_time && !asked.is_zone_given;
-    tell(found, asked, plain, Finding::PlainPrincipals)?;
-    tell(found, asked, empty, Finding::EmptyPrincipal)?;
-    tell(found, asked, ignored, Finding::VerifyIgnored)?;
-    tell(found, asked, local, Finding::LocalTime)?;
-    tell(found, asked, other, Finding::ShortAddress)?;
+    report_if(found, asked, plain, Finding::PlainPrincipals)?;
+    report_if(found, asked, empty, Finding::EmptyPrincipal)?;
+    report_if(found, asked, ignored, Finding::VerifyIgnored)?;
+    report_if(found, asked, local, Finding::LocalTime)?;
+    report_if(found, asked, other, Finding::ShortAddress)?;
     Ok(())
 }
 
@@ -168,7 +168,7 @@ fn permits_any(list: &Option<Bytes>) -> bool
 
 /// F15 to F19: what only a stricter policy objects to.
 #[tactic(auto, using(crate::proofs::SpareLemmas::none_in_front, crate::proofs::SpareLemmas::none_behind))]
-fn tell_policy(
+fn report_policy(
     found: &mut Vec<Finding>,
     asked: &ReviewOptions<'_>,
     facts: &Facts,
@@ -180,16 +180,16 @@ fn tell_policy(
     let plain = !facts.is_authority;
     let any_command = plain && facts.rights.command.is_none();
     let any_principal = facts.is_authority && facts.principals.is_none();
-    tell(
+    report_if(
         found,
         asked,
         plain && permits_any(&facts.from),
         Finding::AnyAddress,
     )?;
-    tell(found, asked, any_command, Finding::AnyCommand)?;
-    tell(found, asked, plain && !facts.has_expiry, Finding::NoExpiry)?;
-    tell(found, asked, any_principal, Finding::AnyPrincipal)?;
-    tell(
+    report_if(found, asked, any_command, Finding::AnyCommand)?;
+    report_if(found, asked, plain && !facts.has_expiry, Finding::NoExpiry)?;
+    report_if(found, asked, any_principal, Finding::AnyPrincipal)?;
+    report_if(
         found,
         asked,
         facts.comment.as_slice().is_empty(),
@@ -199,7 +199,7 @@ fn tell_policy(
 }
 
 /// F22: one reason for which OpenSSH may refuse the entry.
-fn tell_ground(
+fn report_ground(
     found: &mut Vec<Finding>,
     asked: &ReviewOptions<'_>,
     facts: &Facts,
@@ -210,13 +210,13 @@ fn tell_ground(
     ensures spare { ground_finding (asking_of asked.entry.now) facts.now which ≡ [] → IsOk result }
 {
     let holds = has_ground(facts, which);
-    tell(found, asked, holds, Finding::MayRefuse(which))?;
+    report_if(found, asked, holds, Finding::MayRefuse(which))?;
     Ok(())
 }
 
 /// F22: each reason for which OpenSSH may refuse the entry, in a fixed order.
 #[tactic(auto, using(crate::proofs::SpareLemmas::none_in_front, crate::proofs::SpareLemmas::none_behind))]
-fn tell_grounds(
+fn report_grounds(
     found: &mut Vec<Finding>,
     asked: &ReviewOptions<'_>,
     facts: &Facts,
@@ -225,13 +225,13 @@ fn tell_grounds(
         ++ ground_findings (asking_of asked.entry.now) facts.now) }
     ensures spare { ground_findings (asking_of asked.entry.now) facts.now ≡ [] → IsOk result }
 {
-    tell_ground(found, asked, facts, Ground::PermitOpen)?;
-    tell_ground(found, asked, facts, Ground::PermitListen)?;
-    tell_ground(found, asked, facts, Ground::Environment)?;
-    tell_ground(found, asked, facts, Ground::Tunnel)?;
-    tell_ground(found, asked, facts, Ground::Nul)?;
-    tell_ground(found, asked, facts, Ground::LongItem)?;
-    tell_ground(found, asked, facts, Ground::Rsa)?;
+    report_ground(found, asked, facts, Ground::PermitOpen)?;
+    report_ground(found, asked, facts, Ground::PermitListen)?;
+    report_ground(found, asked, facts, Ground::Environment)?;
+    report_ground(found, asked, facts, Ground::Tunnel)?;
+    report_ground(found, asked, facts, Ground::Nul)?;
+    report_ground(found, asked, facts, Ground::LongItem)?;
+    report_ground(found, asked, facts, Ground::Rsa)?;
     Ok(())
 }
 
@@ -257,12 +257,12 @@ pub fn entry_findings(
 {
     let mut found = Vec::new(alloc);
     let forces = !facts.is_authority && forces_but_forwards(&facts.rights);
-    tell_some(&mut found, asked, earlier.repeat(blob, facts))?;
-    tell_conditions(&mut found, asked, facts)?;
-    tell_readings(&mut found, asked, facts)?;
-    tell(&mut found, asked, forces, Finding::ForcedButForwards)?;
-    tell_policy(&mut found, asked, facts)?;
-    tell_grounds(&mut found, asked, facts)?;
+    report_some(&mut found, asked, earlier.repeat(blob, facts))?;
+    report_conditions(&mut found, asked, facts)?;
+    report_readings(&mut found, asked, facts)?;
+    report_if(&mut found, asked, forces, Finding::ForcedButForwards)?;
+    report_policy(&mut found, asked, facts)?;
+    report_grounds(&mut found, asked, facts)?;
     Ok(found)
 }
 
@@ -278,6 +278,6 @@ pub fn unreadable_findings(
     ensures spare { unreadable_findings (asking_of asked.entry.now) cause ≡ [] → IsOk result }
 {
     let mut found = Vec::new(alloc);
-    tell(&mut found, asked, true, Finding::Unreadable(cause))?;
+    report_if(&mut found, asked, true, Finding::Unreadable(cause))?;
     Ok(found)
 }

@@ -249,7 +249,7 @@ pub trait Coded: Copy {
 
 /// Adds a finding if it holds and its code is selected. On `Err` nothing is added.
 #[tactic(auto, unfolding(crate::specs::Telling::reported_if))]
-pub(crate) fn tell<F: Coded>(
+pub(crate) fn report_if<F: Coded>(
     found: &mut Vec<F>,
     asked: &ReviewOptions<'_>,
     holds: bool,
@@ -262,14 +262,14 @@ pub(crate) fn tell<F: Coded>(
     // fails.
     ensures spare { reported_if F.code (asking_of asked.entry.now) holds finding ≡ [] → IsOk result }
 {
-    if holds && asked.tells(finding.code()) {
+    if holds && asked.reports(finding.code()) {
         found.push(finding)?;
     }
     Ok(())
 }
 
 /// Adds a finding, if there is one and its code is selected. On `Err` nothing is added.
-pub(crate) fn tell_some<F: Coded>(
+pub(crate) fn report_some<F: Coded>(
     found: &mut Vec<F>,
     asked: &ReviewOptions<'_>,
     finding: Option<F>,
@@ -281,7 +281,7 @@ pub(crate) fn tell_some<F: Coded>(
     ensures spare { reported_some F.code (asking_of asked.entry.now) finding ≡ [] → IsOk result }
 {
     match finding {
-        Some(finding) => tell(found, asked, true, finding),
+        Some(finding) => report_if(found, asked, true, finding),
         None => Ok(()),
     }
 }
