@@ -274,7 +274,9 @@ def bash_rows(root, room, tally):
         tally.check(f"bash: the options of {command}", sorted(offered(command, "--")), sorted([*rows, "--help"]))
         for option in rows:
             for word in offered(command, option, "=") if option not in ("--user", "--host") else ():
-                said = ran(root / "usr/bin/ssh_audit", *given(command, rows, option, word), cwd=room)[1]
+                # A code that makes the status 1 has to be reported.
+                beside = ["--findings", "all"] if option == "--fail-on" else []
+                said = ran(root / "usr/bin/ssh_audit", *given(command, rows, option, word), *beside, cwd=room)[1]
                 tally.check(f"bash: {command} {option} {word}", f"fault value {option[2:]}\n" in said or "fault usage" in said, False)
     tally.check("bash: the codes", set(offered("explain", "")), {*codes, "usage"})
     for words, wanted in (
