@@ -44,7 +44,7 @@ seen_so name counts digest = record {
 abbrev pub file_seen : FileKind → Asking → List ℕ → List ℕ → FileSeen
 file_seen kind asking name file = seen_so name (file_counts kind asking file) (sha256 file)
 
--- the classes of a section: those that its rows have
+-- the classes of a section: an unreadable line, an authority; no codes, since no choice on the page looks for them yet
 abbrev pub classes_of : Counts → List ℕ → ClassesSeen
 classes_of counts rows = record {
   reported = [];
