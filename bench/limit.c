@@ -8,6 +8,7 @@
  *   limit known FILE                           the same of known_hosts
  *   limit hash FILE SALTS                      known_hosts: a line for each plain name, hashed with the next 20 bytes
  *   limit digest FILE..                        authorized_keys: the fingerprint of each line's key, and each file's SHA-256
+ *   limit logins BASE64 HOST ADDRESS FILE..    login, of each file in its turn
  *
  * It streams the file. Of each line it finds the end, skips blanks and comments, cuts options or names off, looks the
  * type up, decodes the base64, walks the fields of the key blob, and compares the blob with the key. Only where that is
@@ -18,7 +19,7 @@
  * 2 no such file, command or base64. Of auth and known it writes the lines as they are, each after it was looked at in
  * the same way, and nothing else; the status is 0. Of hash it writes such lines, and every other as it is; the status is
  * 2 where the salts run out. Of digest it writes "FILE:N SHA256:.." for each line with a key, looked at in the same way,
- * and "FILE HEX" at the end of a file.
+ * and "FILE HEX" at the end of a file. Of logins each line begins with "FILE: ", and the status is 0.
  */
 #include <fcntl.h>
 #include <stdint.h>
@@ -520,15 +521,51 @@ static int digest_lines(Lines *lines, const char *name) {
     return 0;
 }
 
+static int open_next(Lines *lines, const char *name) {
+    lines->from = lines->to = 0;
+    lines->at_end = 0;
+    lines->file = open(name, O_RDONLY);
+    return lines->file >= 0;
+}
+
 /* The same of each file, in its turn. */
 static int digest_files(int count, char **names, Lines *lines) {
     fill_digits();
     for (int at = 0; at < count; at++) {
-        lines->from = lines->to = 0;
-        lines->at_end = 0;
-        lines->file = open(names[at], O_RDONLY);
-        if (lines->file < 0) return 2;
+        if (!open_next(lines, names[at])) return 2;
         digest_lines(lines, names[at]);
+        close(lines->file);
+    }
+    return 0;
+}
+
+/* The first line that admits the key, and the first revocation. */
+static int find_lines(Lines *lines, const Command *command, const Sought *sought) {
+    unsigned long number = 0, first[UNREADABLE + 1] = {0}, unreadable = 0;
+    Span line;
+    while (!(command->ends_at_found && first[ADMITS]) && next_line(lines, &line)) {
+        number++;
+        Verdict verdict = verdict_of(line, command, sought);
+        if (!first[verdict]) first[verdict] = number;
+        if (verdict == UNREADABLE) unreadable++;
+    }
+    if (first[REVOKES]) printf("revoked %lu\n", first[REVOKES]);
+    else if (first[ADMITS]) printf("line %lu\n", first[ADMITS]);
+    else printf("none\n");
+    if (unreadable) printf("unreadable %lu\n", unreadable);
+    return first[REVOKES] || !first[ADMITS];
+}
+
+/* A login by each file, in its turn. */
+static int find_in_files(int argc, char **argv, uint8_t *key, Lines *lines) {
+    fill_digits();
+    long len = decode(text_of(argv[2]), key);
+    if (len < 0) return 2;
+    const Sought sought = {{key, (size_t)len}, {text_of(argv[3]), text_of(argv[4])}, 2, 0};
+    for (int at = 5; at < argc; at++) {
+        if (!open_next(lines, argv[at])) return 2;
+        printf("%s: ", argv[at]);
+        find_lines(lines, COMMANDS, &sought);
         close(lines->file);
     }
     return 0;
@@ -538,6 +575,7 @@ int main(int argc, char **argv) {
     static Lines lines;
     static uint8_t key[LINE_LIMIT];
     if (argc > 2 && strcmp(argv[1], "digest") == 0) return digest_files(argc - 2, argv + 2, &lines);
+    if (argc > 5 && strcmp(argv[1], "logins") == 0) return find_in_files(argc, argv, key, &lines);
     const Command *command = argc < 2 ? NULL : find_command(argc, argv);
     int hashes = argc == 4 && strcmp(argv[1], "hash") == 0;
     if (!command && !hashes) return 2;
@@ -550,17 +588,5 @@ int main(int argc, char **argv) {
     if (lines.file < 0 || len < 0) return 2;
     Sought sought = {{key, (size_t)len}, {{NULL, 0}}, argc - 4, command->by_authority};
     for (int i = 0; i < sought.count; i++) sought.texts[i] = text_of(argv[4 + i]);
-    unsigned long number = 0, first[UNREADABLE + 1] = {0}, unreadable = 0;
-    Span line;
-    while (!(command->ends_at_found && first[ADMITS]) && next_line(&lines, &line)) {
-        number++;
-        Verdict verdict = verdict_of(line, command, &sought);
-        if (!first[verdict]) first[verdict] = number;
-        if (verdict == UNREADABLE) unreadable++;
-    }
-    if (first[REVOKES]) printf("revoked %lu\n", first[REVOKES]);
-    else if (first[ADMITS]) printf("line %lu\n", first[ADMITS]);
-    else printf("none\n");
-    if (unreadable) printf("unreadable %lu\n", unreadable);
-    return first[REVOKES] || !first[ADMITS];
+    return find_lines(&lines, command, &sought);
 }

@@ -24,6 +24,7 @@ from run import AUDIT, BUILT, KEYGEN, LIMIT, Bench, Command, Cost, milliseconds,
 CAT = "cat"
 REVIEW_KINDS = ["ed25519", "mixed", "options"]
 NOW = "1750000000"
+FORMS = ["text", "json", "html"]
 SMALL = 5  # lines of a small file
 CACHES = pathlib.Path("/proc/sys/vm/drop_caches")  # Linux: what is written there by root empties the caches of files
 
@@ -118,19 +119,21 @@ def status_of(bench, *files):
 
 def one_file(bench, file, turns):
     status = status_of(bench, file.path)
-    text, objects, c, scan = race(bench, [review(bench, status, file.path), review(bench, status, file.path, form="json"), limit(bench, file.path), keygen(bench, file.path)], turns)
+    forms = [review(bench, status, file.path, form=form) for form in FORMS]
+    text, objects, page, c, scan = race(bench, [*forms, limit(bench, file.path), keygen(bench, file.path)], turns)
     print(f"measured: {file.kind} {file.size}", file=sys.stderr)
-    times = [f"{text.cpu / c.cpu:.2f}", f"{objects.cpu / c.cpu:.2f}", f"{scan.cpu / text.cpu:.2f}", milliseconds(text), milliseconds(c), milliseconds(scan)]
-    return [f"{file.kind} {file.size}", *times, f"{file.bytes / text.cpu / 1e6:.0f}", f"{text.peak:.1f}"]
+    ratios = [f"{form.cpu / c.cpu:.2f}" for form in (text, objects, page)]
+    times = [f"{scan.cpu / text.cpu:.2f}", milliseconds(text), milliseconds(c), milliseconds(scan)]
+    return [f"{file.kind} {file.size}", *ratios, *times, f"{file.bytes / text.cpu / 1e6:.0f}", f"{text.peak:.1f}", f"{page.peak:.1f}"]
 
 
-def write_small(folder, count):
+def write_small(folder, count, size=SMALL):
     """So many files of a few lines each, of the lines of one long file."""
-    lines = [line for line, _ in inputs.whole("options", SMALL * count)]
+    lines = [line for line, _ in inputs.whole("options", size * count)]
     names = []
     for number in range(count):
         names.append(f"{folder}/s{number}")
-        pathlib.Path(names[-1]).write_bytes(b"".join(lines[SMALL * number : SMALL * (number + 1)]))
+        pathlib.Path(names[-1]).write_bytes(b"".join(lines[size * number : size * (number + 1)]))
     return names
 
 
@@ -141,8 +144,9 @@ def many_files(bench, folder, count, turns):
         sys.exit(f"{count} small files: status {status}, or C lists other keys")
     cat = Command(CAT, "", (needed("cat", "coreutils"), *names), 0)
     ours = review(bench, status, *names)
-    text, c, read = race(bench, [ours, limit(bench, *names), cat], turns)
-    cached = [f"{text.cpu / c.cpu:.2f}", f"{text.cpu / read.cpu:.2f}", milliseconds(text), milliseconds(c), milliseconds(read), f"{text.peak:.1f}"]
+    text, page, c, read = race(bench, [ours, review(bench, status, *names, form="html"), limit(bench, *names), cat], turns)
+    ratios = [f"{text.cpu / c.cpu:.2f}", f"{page.cpu / c.cpu:.2f}", f"{text.cpu / read.cpu:.2f}"]
+    cached = [*ratios, milliseconds(text), milliseconds(c), milliseconds(read), f"{text.peak:.1f}", f"{page.peak:.1f}"]
     return [f"{count:,} of {SMALL} lines", *cached, *by_clock([ours, cat], turns)]
 
 
@@ -156,9 +160,9 @@ def run(args, folder):
     print(f"the keys of {len(files)} files are as wanted", file=sys.stderr)
     print_machine(args.binary)
     times = ["ssh_audit ms", "C ms"]
-    print_table(["file", "ssh_audit / C", "as JSON", "ssh-keygen / ssh_audit", *times, "ssh-keygen ms", "ssh_audit MB/s", "peak MiB"], [one_file(bench, file, args.turns) for file in files])
+    print_table(["file", "ssh_audit / C", "as JSON", "as a page", "ssh-keygen / ssh_audit", *times, "ssh-keygen ms", "ssh_audit MB/s", "peak MiB", "of a page"], [one_file(bench, file, args.turns) for file in files])
     clock = ["from the disk: ssh_audit / cat", "ssh_audit ms", "cat ms"]
-    print_table(["small files", "ssh_audit / C", "ssh_audit / cat", *times, "cat ms", "peak MiB", *clock], [many_files(bench, folder, count, args.turns) for count in args.files])
+    print_table(["small files", "ssh_audit / C", "as a page", "ssh_audit / cat", *times, "cat ms", "peak MiB", "of a page", *clock], [many_files(bench, folder, count, args.turns) for count in args.files])
     return 0
 
 

@@ -1,7 +1,7 @@
 #!/usr/bin/env python3
-"""Tries the wrong edits of checks/planted outside the gate: the prover has to refuse each. They are those of the largest
-crates, of which an edit takes the prover minutes: at most three of each crate stand in its must-fail/, where the gate tries them,
-and the others here. Run it after a change of a contract of such a crate.
+"""Tries the wrong edits of checks/planted outside the gate: the prover has to refuse each. Most are of the largest crates, of
+which an edit takes the prover minutes: at most three of each of these stand in its must-fail/, where the gate tries them, and
+the others here. Run it after a change of a contract of a crate that has edits here.
 
 usage: planted.py [--list] [CRATE ..]
 
