@@ -29,8 +29,8 @@ def commands(bench, folder, names):
 def faults(names, ours, limit):
     """What is wrong with the answers on these files."""
     status, text = output(ours)
-    said = [line for line in text.splitlines() if line.endswith(": does not admit: N3")]
-    if status != 1 or said != [f"{name}: does not admit: N3" for name in names]:
+    said = [line.partition(": does not admit: N3: ")[0] for line in text.splitlines() if ": does not admit: N3: " in line]
+    if status != 1 or said != names:
         yield f"ssh_audit: status {status}, or some file is not said to keep the key out"
     if output(limit) != (0, "".join(f"{name}: none\n" for name in names)):
         yield "C: some file is not said to keep the key out"
