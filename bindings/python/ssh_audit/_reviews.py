@@ -44,7 +44,7 @@ class Record:
 
 @dataclass(frozen=True)
 class FileEnd:
-    """The end of a file: its counts and the SHA-256 of its bytes in hexadecimal; or `fault`, as `A7`, and of `A9` `why`, as `not found`."""
+    """The end of a file: its counts and the SHA-256 of its bytes in hexadecimal; or `fault`, as `A7`."""
 
     file: str
     lines: Optional[int]
@@ -53,7 +53,6 @@ class FileEnd:
     findings: Optional[int]
     sha256: Optional[str]
     fault: Optional[str]
-    why: Optional[str]
 
 
 @dataclass(frozen=True)
@@ -111,7 +110,7 @@ def _record(told: Dict[str, Any], file: str) -> Record:
 
 
 def _end(told: Dict[str, Any], file: str) -> FileEnd:
-    counts = (told.get(name) for name in ("lines", "key_lines", "unreadable", "findings", "sha256", "fault", "why"))
+    counts = (told.get(name) for name in ("lines", "key_lines", "unreadable", "findings", "sha256", "fault"))
     return FileEnd(file, *counts)
 
 

@@ -56,4 +56,3 @@ pub mod PageLemmas
 mod ReviewFormLemmas
 mod PageRunLemmas
 mod PageTotalLemmas
-mod NamingLemmas

@@ -45,7 +45,6 @@ pub mod ArgsSamples
 pub mod Audits
 pub mod ChosenReads
 pub mod FileAnswers
-pub mod Namings
 pub mod NeededVouches
 pub mod OfferTexts
 pub mod OfferTextsView

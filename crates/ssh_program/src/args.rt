@@ -59,7 +59,6 @@ pub enum ArgName {
     Show,
     Form,
     Title,
-    Labels,
     FilesFrom,
 }
 
@@ -98,7 +97,6 @@ impl ArgName {
             ArgName::Show => "show",
             ArgName::Form => "form",
             ArgName::Title => "title",
-            ArgName::Labels => "labels",
             ArgName::FilesFrom => "files-from",
         }
     }

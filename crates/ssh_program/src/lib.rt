@@ -40,7 +40,6 @@ mod key_seeking;
 mod kinds;
 mod laws;
 mod name_list;
-mod naming;
 mod offer_fingerprint;
 mod page_front;
 mod pieces;

@@ -12,7 +12,6 @@ pub mod Shown
 pub mod Fields
 pub mod Found
 pub mod Asked
-pub mod FileNames
 pub mod Findings
 pub mod OptionsText
 pub mod RightsWords
